@@ -1,0 +1,42 @@
+# make          proves all crates and builds build/braildesk
+# make demo     does that, and shows the main job on a sample
+# make test     the gate: proves from nothing, tries the must-fail edits, runs the tests and the stored run
+# make bench    measures speed
+# make install  copies the program to $(DESTDIR)$(PREFIX)/bin
+
+PREFIX ?= /usr/local
+RT ?= rt
+PROGRAM := build/braildesk
+SOURCES := crates.txt HANDLES $(shell find crates -type f \( -path '*/src/*' -o -path '*/specs/*' -o -path '*/proofs/*' \) -not -path '*/out/*')
+
+.PHONY: all demo test bench install clean
+
+all: $(PROGRAM)
+
+$(PROGRAM): $(SOURCES)
+	@echo 'Proving and building braildesk. The first time every crate is proved, which takes some minutes.'
+	cd crates/braildesk && $(RT) run -- translate /dev/null < /dev/null
+	mkdir -p $(@D)
+	cp crates/braildesk/out/braildesk $@
+	@echo 'Built $@.'
+
+demo: $(PROGRAM)
+	@echo '== the first lines of the table sample/plain.utb'
+	@head -n 12 sample/plain.utb
+	@echo '== the print, sample/print.txt'
+	@cat sample/print.txt
+	@echo '== its braille: $(PROGRAM) translate sample/plain.utb < sample/print.txt'
+	@$(PROGRAM) translate sample/plain.utb < sample/print.txt
+
+test:
+	$(RT) ci
+
+bench: $(PROGRAM)
+	bench/translate.sh
+
+install: $(PROGRAM)
+	install -d '$(DESTDIR)$(PREFIX)/bin'
+	install -m 755 $(PROGRAM) '$(DESTDIR)$(PREFIX)/bin/braildesk'
+
+clean:
+	rm -rf build crates/*/out

@@ -1,0 +1,119 @@
+-- What several sends do, one after another.
+use Rattle.std.proofs.Common.{◌≡◌, ℕ, Bool, true, false, List, [], ◌++◌, Option, refl, sym, ap, subst, ◌∙◌, append_assoc}
+use Rattle.std.specs.Prelude.{Result, Ok, Err, is_ok, OnOk, OnErr}
+use Rattle.std.specs.Io.KnownBytes.{Appends, Keeps}
+use Rattle.std.proofs.KnownBytes.{Appends-nil, Appends-kept, Appends-trans}
+use Rattle.std.proofs.lemmas.Bool.{both_ways}
+use Rattle.std.proofs.lemmas.List.{append-nil}
+use Rattle.braildesk.specs.Sent.{Sent}
+
+-- what is said of an Ok, and of an Err
+pub at_ok : {T E : Type 0} (r : Result T E) (P : Type 0) → OnOk r P → is_ok r ≡ true → P
+at_ok (Ok x) P h e = h
+at_ok (Err x) P h e = absurd cc
+
+pub at_err : {T E : Type 0} (r : Result T E) (P : Type 0) → OnErr r P → is_ok r ≡ false → P
+at_err (Ok x) P h e = absurd cc
+at_err (Err x) P h e = h
+
+pub Keeps-Appends : (a b : Option (List ℕ)) → Keeps a b → Appends a b []
+Keeps-Appends a b h = Appends-kept a a b [] (Appends-nil a) h
+
+-- what went out is whole
+pub Sent-whole : (F : Type 0) (a b : Option (List ℕ)) (text : List ℕ) (ok : Bool) → Appends a b text → ok ≡ true → Sent F a b text [] ok
+Sent-whole F a b text ok h t =
+    record { out = text; rest = []; appends = h; begins = append-nil text; holds = λ _. refl; fails = λ f. absurd (both_ways ok f t) }
+
+-- nothing went out
+pub Sent-none : (F : Type 0) (a b : Option (List ℕ)) (text : List ℕ) (ok : Bool) → Keeps a b → F → ok ≡ false → Sent F a b text [] ok
+Sent-none F a b text ok h x f =
+    record { out = []; rest = text; appends = Keeps-Appends a b h; begins = refl; holds = λ t. absurd (both_ways ok f t); fails = λ _. x }
+
+-- a flush
+pub Sent-flushed : {E : Type 0} (F : Type 0) (a b : Option (List ℕ)) (r : Result (Unit {0}) E) → Keeps a b → OnErr r F → Sent F a b [] [] (is_ok r)
+Sent-flushed F a b r h e =
+    record { out = []; rest = []; appends = Keeps-Appends a b h; begins = refl; holds = λ _. refl; fails = at_err r F e }
+
+-- the text and what is held back grow by a piece
+pub Sent-push : (F : Type 0) (a b : Option (List ℕ)) (text held piece : List ℕ) (ok : Bool) → Sent F a b text held ok → Sent F a b (text ++ piece) (held ++ piece) ok
+Sent-push F a b text held piece ok s =
+    record {
+      out = s.out;
+      rest = s.rest ++ piece;
+      appends = s.appends;
+      begins = sym (append_assoc s.out s.rest piece) ∙ ap (λ (t : List ℕ). t ++ piece) s.begins;
+      holds = λ t. ap (λ (r : List ℕ). r ++ piece) (s.holds t);
+      fails = s.fails;
+    }
+
+-- what went out, the block and what is still to come are the whole
+pub record Sending (old now : Option (List ℕ)) (block rest whole : List ℕ) : Type 0 where
+  pub out : List ℕ
+  pub appends : Appends old now out
+  pub sends : out ++ (block ++ rest) ≡ whole
+
+pub Sending-none : (a : Option (List ℕ)) (block rest whole : List ℕ) → block ++ rest ≡ whole → Sending a a block rest whole
+Sending-none a block rest whole e = record { out = []; appends = Appends-nil a; sends = e }
+
+pub Sending-same : (a b : Option (List ℕ)) (block rest rest' whole : List ℕ) → Sending a b block rest whole → rest ≡ rest' → Sending a b block rest' whole
+Sending-same a b block rest rest' whole done e =
+    record { out = done.out; appends = done.appends; sends = ap (λ (t : List ℕ). done.out ++ (block ++ t)) (sym e) ∙ done.sends }
+
+module _ (F : Type 0) (a b c : Option (List ℕ)) (block held rest whole : List ℕ) (ok : Bool) (done : Sending a b block rest whole) where
+  -- the last piece is sent
+  pub Sending-last : Sent F b c (block ++ rest) held ok → Sent F a c whole held ok
+  Sending-last s =
+      record {
+        out = done.out ++ s.out;
+        rest = s.rest;
+        appends = Appends-trans a b c done.out s.out done.appends s.appends;
+        begins = append_assoc done.out s.out s.rest ∙ (ap (λ (t : List ℕ). done.out ++ t) s.begins ∙ done.sends);
+        holds = s.holds;
+        fails = s.fails;
+      }
+
+  -- the block is sent, and nothing is to come
+  pub Sending-end : rest ≡ [] → Sent F b c block held ok → Sent F a c whole held ok
+  Sending-end none s = Sending-last (subst (λ (t : List ℕ). Sent F b c t held ok) (sym (append-nil block) ∙ ap (λ (t : List ℕ). block ++ t) (sym none)) s)
+
+  module _ (piece after : List ℕ) (parts : rest ≡ piece ++ after) (s : Sent F b c (block ++ piece) held ok) where
+    joined : s.out ++ (s.rest ++ after) ≡ block ++ rest
+    joined =
+        sym (append_assoc s.out s.rest after)
+        ∙ (ap (λ (t : List ℕ). t ++ after) s.begins ∙ (append_assoc block piece after ∙ ap (λ (t : List ℕ). block ++ t) (sym parts)))
+
+    all : (done.out ++ s.out) ++ (s.rest ++ after) ≡ whole
+    all = append_assoc done.out s.out (s.rest ++ after) ∙ (ap (λ (t : List ℕ). done.out ++ t) joined ∙ done.sends)
+
+    -- a piece is sent
+    pub Sending-more : ok ≡ true → Sending a c held after whole
+    Sending-more t =
+        record {
+          out = done.out ++ s.out;
+          appends = Appends-trans a b c done.out s.out done.appends s.appends;
+          sends = ap (λ (r : List ℕ). (done.out ++ s.out) ++ (r ++ after)) (sym (s.holds t)) ∙ all;
+        }
+
+    -- a piece fails
+    pub Sending-fails : (keep : List ℕ) (ok' : Bool) → ok ≡ false → ok' ≡ false → Sent F a c whole keep ok'
+    Sending-fails keep ok' f f' =
+        record {
+          out = done.out ++ s.out;
+          rest = s.rest ++ after;
+          appends = Appends-trans a b c done.out s.out done.appends s.appends;
+          begins = all;
+          holds = λ t. absurd (both_ways ok' f' t);
+          fails = λ _. s.fails f;
+        }
+
+-- all pieces are sent
+pub Sending-done : (F : Type 0) (a b : Option (List ℕ)) (block whole : List ℕ) (ok : Bool) → Sending a b block [] whole → ok ≡ true → Sent F a b whole block ok
+Sending-done F a b block whole ok done t =
+    record {
+      out = done.out;
+      rest = block;
+      appends = done.appends;
+      begins = ap (λ (r : List ℕ). done.out ++ r) (sym (append-nil block)) ∙ done.sends;
+      holds = λ _. refl;
+      fails = λ f. absurd (both_ways ok f t);
+    }

@@ -1,0 +1,196 @@
+-- One byte of the machine, and what a run did in its words.
+use Rattle.std.proofs.Common.{◌≡◌, ℕ, ◌+◌, ◌<◌, ◌≤◌, ◌^◌, ◌⊎◌, Bool, true, false, cond, eqb, List, [], ◌∷◌, ◌++◌, length, get_or, drop, Option, None, Some, refl, sym, ap, subst, ◌∙◌, append_assoc, inl, inr, arith}
+use Rattle.std.specs.Prelude.{IfSome}
+use Rattle.std.specs.Io.KnownBytes.{Appends, Consumes, IsAtEnd, Keeps}
+use Rattle.std.proofs.KnownBytes.{Appends-nil, Appends-trans, Consumes-kept, Consumes-nil, Consumes-trans, Consumes-whole}
+use Rattle.std.proofs.lemmas.List.{append-nil, drop_more, length-append}
+use Rattle.louis_table.specs.Meaning.{Meaning}
+use Rattle.braildesk.specs.declared.translate.Ended.{Ended}
+use Rattle.braildesk.specs.declared.translate.Ended.TheVariants.{Done, Input, Output}
+use Rattle.braildesk.specs.Machine.{pushed, reply_to, after, sent, closing}
+use Rattle.braildesk.specs.Reply.{output_of}
+use Rattle.braildesk.specs.Run.{Answers, AnswersBeginning, HonestRun, IsBeginning, IsHonest, ReadsAll, Run}
+use Rattle.braildesk.specs.Sent.{Sent}
+use Rattle.braildesk.proofs.Cuts.{after-append, output_of-sent, output_of-whole_lines, sent-append, sent-IsBeginning}
+
+-- ---- one byte
+
+module _ (meaning : Meaning) (line : Option (List ℕ)) (bytes : List ℕ) (i : ℕ) (here : i < length bytes) where
+  pub sent-feed : get_or bytes i 0 ≡ 10 → sent meaning line (drop i bytes) ≡ reply_to meaning line ++ sent meaning (Some []) (drop (i + 1) bytes)
+  sent-feed e = ap (sent meaning line) (drop_more bytes i 0 here) ∙ rw e refl
+
+  pub sent-byte : eqb (get_or bytes i 0) 10 ≡ false → sent meaning line (drop i bytes) ≡ sent meaning (pushed line (get_or bytes i 0)) (drop (i + 1) bytes)
+  sent-byte e = ap (sent meaning line) (drop_more bytes i 0 here) ∙ rw e refl
+
+module _ (line : Option (List ℕ)) (bytes : List ℕ) (i : ℕ) (here : i < length bytes) where
+  pub after-feed : get_or bytes i 0 ≡ 10 → after line (drop i bytes) ≡ after (Some []) (drop (i + 1) bytes)
+  after-feed e = ap (after line) (drop_more bytes i 0 here) ∙ rw e refl
+
+  pub after-byte : eqb (get_or bytes i 0) 10 ≡ false → after line (drop i bytes) ≡ after (pushed line (get_or bytes i 0)) (drop (i + 1) bytes)
+  after-byte e =
+      ap (after line) (drop_more bytes i 0 here)
+      ∙ ap (λ (t : Bool). after (cond t (Some []) (pushed line (get_or bytes i 0))) (drop (i + 1) bytes)) e
+
+-- ---- a run
+
+IsBeginning-trans : (out text whole : List ℕ) → IsBeginning out text → IsBeginning text whole → IsBeginning out whole
+IsBeginning-trans out text whole p q =
+    (p.0 ++ q.0, sym (append_assoc out p.0 q.0) ∙ (ap (λ (t : List ℕ). t ++ q.0) p.1 ∙ q.1))
+
+-- what went out, by how a run ended; a write fails while bytes come, or at the end of the input
+abbrev pub Steps : Meaning → Ended → List ℕ → List ℕ → Option (List ℕ) → Type 0
+Steps meaning Done taken out left = IsAtEnd left × (out ≡ output_of meaning taken)
+Steps meaning Input taken out left = out ≡ sent meaning (Some []) taken
+Steps meaning Output taken out left = IsBeginning out (sent meaning (Some []) taken) ⊎ (IsAtEnd left × IsBeginning out (output_of meaning taken))
+
+pub record Stepped (meaning : Meaning) (ended : Ended) (a b v w : Option (List ℕ)) (ReadsFail WritesFail : Type 0) : Type 0 where
+  pub taken : List ℕ
+  pub out : List ℕ
+  pub consumes : Consumes a b taken
+  pub appends : Appends v w out
+  pub steps : Steps meaning ended taken out b
+  pub honest : IsHonest ended (length taken) ReadsFail WritesFail
+
+sent-begins : (meaning : Meaning) (taken : List ℕ) → IsBeginning (sent meaning (Some []) taken) (output_of meaning taken)
+sent-begins meaning taken = subst (λ (t : List ℕ). IsBeginning (sent meaning (Some []) taken) (output_of meaning t)) (append-nil taken) (sent-IsBeginning meaning taken [])
+
+answers : (meaning : Meaning) (ended : Ended) (taken out : List ℕ) (left : Option (List ℕ)) → Steps meaning ended taken out left → Answers meaning ended taken out
+answers meaning Done taken out left h = h.1
+answers meaning Input taken out left h = h ∙ sym (output_of-whole_lines meaning taken)
+answers meaning Output taken out left (inl h) = IsBeginning-trans out _ _ h (sent-begins meaning taken)
+answers meaning Output taken out left (inr h) = h.1
+
+reads_all : (meaning : Meaning) (ended : Ended) (taken out : List ℕ) (left : Option (List ℕ)) → Steps meaning ended taken out left → ReadsAll ended left
+reads_all meaning Done taken out left h = h.0
+reads_all meaning Input taken out left h = tt
+reads_all meaning Output taken out left h = tt
+
+-- what went out is a beginning of the answers, or all was taken
+begins : (meaning : Meaning) (ended : Ended) (taken out : List ℕ) (left : Option (List ℕ)) → Steps meaning ended taken out left
+    → IsBeginning out (sent meaning (Some []) taken) ⊎ (IsAtEnd left × IsBeginning out (output_of meaning taken))
+begins meaning Done taken out left h = inr (h.0, ([], append-nil out ∙ h.1))
+begins meaning Input taken out left h = inl ([], append-nil out ∙ h)
+begins meaning Output taken out left h = h
+
+-- a beginning of what was sent is one of the answers to all the input
+begins_all : (meaning : Meaning) (a b v w : Option (List ℕ)) (taken out : List ℕ) → Consumes a b taken → Appends v w out
+    → IsBeginning out (sent meaning (Some []) taken) → AnswersBeginning meaning a v w
+begins_all meaning None b v w taken out c h p = tt
+begins_all meaning (Some input) None v w taken out c h p = absurd c
+begins_all meaning (Some input) (Some left) v w taken out c h p =
+    (out, subst (λ (t : List ℕ). IsBeginning out (output_of meaning t)) (sym c) (IsBeginning-trans out _ _ p (sent-IsBeginning meaning taken left)), h)
+
+module _ {meaning : Meaning} {ended : Ended} {a b v w : Option (List ℕ)} {ReadsFail WritesFail : Type 0} (s : Stepped meaning ended a b v w ReadsFail WritesFail) where
+  pub HonestRun-Stepped : HonestRun meaning ended a b v w ReadsFail WritesFail
+  HonestRun-Stepped =
+      record {
+        run = record {
+          taken = s.taken;
+          out = s.out;
+          consumes = s.consumes;
+          appends = s.appends;
+          answers = answers meaning ended s.taken s.out b s.steps;
+          ends = reads_all meaning ended s.taken s.out b s.steps;
+        };
+        honest = s.honest;
+      }
+
+  pub AnswersBeginning-Stepped : AnswersBeginning meaning a v w
+  AnswersBeginning-Stepped =
+      elim (begins meaning ended s.taken s.out b s.steps) [
+        | inl p ↦ begins_all meaning a b v w s.taken s.out s.consumes s.appends p
+        | inr p ↦
+            Consumes-whole a b s.taken (λ input. (out : List ℕ) × IsBeginning out (output_of meaning input) × Appends v w out) s.consumes p.0 (s.out, p.1, s.appends)
+      ]
+
+-- ---- the loop
+
+-- so many bytes were taken, and what they send went out
+pub record Took (meaning : Meaning) (a b v w : Option (List ℕ)) (line : Option (List ℕ)) (total : ℕ) : Type 0 where
+  pub taken : List ℕ
+  pub consumes : Consumes a b taken
+  pub appends : Appends v w (sent meaning (Some []) taken)
+  pub line_is : line ≡ after (Some []) taken
+  pub total_is : length taken ≡ total
+
+pub Took-none : (meaning : Meaning) (a v line : Option (List ℕ)) → line ≡ Some [] → Took meaning a a v v line 0
+Took-none meaning a v line e = record { taken = []; consumes = Consumes-nil a; appends = Appends-nil v; line_is = e; total_is = refl }
+
+-- what is whole went out
+Sent-Appends : (F : Type 0) (a b : Option (List ℕ)) (text : List ℕ) (ok : Bool) → Sent F a b text [] ok → ok ≡ true → Appends a b text
+Sent-Appends F a b text ok s t =
+    subst (λ (o : List ℕ). Appends a b o) (sym (append-nil s.out) ∙ (ap (λ (r : List ℕ). s.out ++ r) (sym (s.holds t)) ∙ s.begins)) s.appends
+
+module _ (meaning : Meaning) (a b c v w x : Option (List ℕ)) (line : Option (List ℕ)) (total : ℕ) (ReadsFail WritesFail : Type 0) (took : Took meaning a b v w line total) where
+  -- one more chunk
+  pub Took-more : (bytes : List ℕ) (count : ℕ) (new : Option (List ℕ)) (ok : Bool) → Consumes b c bytes → length bytes ≡ count
+      → Sent WritesFail w x (sent meaning line bytes) [] ok → ok ≡ true → new ≡ after line bytes → Took meaning a c v x new (total + count)
+  Took-more bytes count new ok h n s t e =
+      record {
+        taken = took.taken ++ bytes;
+        consumes = Consumes-trans a b c took.taken bytes took.consumes h;
+        appends = subst (λ (o : List ℕ). Appends v x o)
+            (ap (λ (l : Option (List ℕ)). sent meaning (Some []) took.taken ++ sent meaning l bytes) took.line_is ∙ sym (sent-append meaning (Some []) took.taken bytes))
+            (Appends-trans v w x (sent meaning (Some []) took.taken) (sent meaning line bytes) took.appends (Sent-Appends WritesFail w x _ ok s t));
+        line_is = e ∙ (ap (λ (l : Option (List ℕ)). after l bytes) took.line_is ∙ sym (after-append meaning (Some []) took.taken bytes));
+        total_is = length-append took.taken bytes ∙ (ap (λ (k : ℕ). k + length bytes) took.total_is ∙ ap (λ (k : ℕ). total + k) n);
+      }
+
+  -- a chunk isn't answered
+  pub Took-fails : (bytes : List ℕ) (ok : Bool) → Consumes b c bytes → Sent WritesFail w x (sent meaning line bytes) [] ok → ok ≡ false → Stepped meaning Output a c v x ReadsFail WritesFail
+  Took-fails bytes ok h s f =
+      record {
+        taken = took.taken ++ bytes;
+        out = sent meaning (Some []) took.taken ++ s.out;
+        consumes = Consumes-trans a b c took.taken bytes took.consumes h;
+        appends = Appends-trans v w x (sent meaning (Some []) took.taken) s.out took.appends s.appends;
+        steps = inl (s.rest, joined);
+        honest = s.fails f;
+      }
+    where
+      joined : (sent meaning (Some []) took.taken ++ s.out) ++ s.rest ≡ sent meaning (Some []) (took.taken ++ bytes)
+      joined =
+          append_assoc (sent meaning (Some []) took.taken) s.out s.rest
+          ∙ (ap (λ (t : List ℕ). sent meaning (Some []) took.taken ++ t) (s.begins ∙ ap (λ (l : Option (List ℕ)). sent meaning l bytes) took.line_is)
+          ∙ sym (sent-append meaning (Some []) took.taken bytes))
+
+  closed : sent meaning (Some []) took.taken ++ closing meaning line ≡ output_of meaning (took.taken ++ [])
+  closed =
+      ap (λ (l : Option (List ℕ)). sent meaning (Some []) took.taken ++ closing meaning l) took.line_is
+      ∙ (sym (output_of-sent meaning took.taken) ∙ ap (output_of meaning) (sym (append-nil took.taken)))
+
+  -- the end of the input is answered
+  pub Took-done : (ok : Bool) → Consumes b c [] → IsAtEnd c → Sent WritesFail w x (closing meaning line) [] ok → ok ≡ true → Stepped meaning Done a c v x ReadsFail WritesFail
+  Took-done ok h e s t =
+      record {
+        taken = took.taken ++ [];
+        out = sent meaning (Some []) took.taken ++ closing meaning line;
+        consumes = Consumes-trans a b c took.taken [] took.consumes h;
+        appends = Appends-trans v w x (sent meaning (Some []) took.taken) (closing meaning line) took.appends (Sent-Appends WritesFail w x _ ok s t);
+        steps = (e, closed);
+        honest = tt;
+      }
+
+  -- the end of the input isn't answered
+  pub Took-broken : (ok : Bool) → Consumes b c [] → IsAtEnd c → Sent WritesFail w x (closing meaning line) [] ok → ok ≡ false → Stepped meaning Output a c v x ReadsFail WritesFail
+  Took-broken ok h e s f =
+      record {
+        taken = took.taken ++ [];
+        out = sent meaning (Some []) took.taken ++ s.out;
+        consumes = Consumes-trans a b c took.taken [] took.consumes h;
+        appends = Appends-trans v w x (sent meaning (Some []) took.taken) s.out took.appends s.appends;
+        steps = inr (e, (s.rest, append_assoc (sent meaning (Some []) took.taken) s.out s.rest ∙ (ap (λ (t : List ℕ). sent meaning (Some []) took.taken ++ t) s.begins ∙ closed)));
+        honest = s.fails f;
+      }
+
+  -- no more is read
+  pub Took-stops : Keeps b c → (2 ^ 62 ≤ total) ⊎ ReadsFail → Stepped meaning Input a c v w ReadsFail WritesFail
+  Took-stops h stop =
+      record {
+        taken = took.taken;
+        out = sent meaning (Some []) took.taken;
+        consumes = Consumes-kept a b c took.taken took.consumes h;
+        appends = took.appends;
+        steps = refl;
+        honest = subst (λ (k : ℕ). (2 ^ 62 ≤ k) ⊎ ReadsFail) (sym took.total_is) stop;
+      }

@@ -1,0 +1,1 @@
+use Rattle.braildesk.proofs.answer.answer_text.Goals as goal

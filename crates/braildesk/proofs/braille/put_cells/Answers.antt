@@ -1,0 +1,29 @@
+use Rattle.std.proofs.Common.{List, ℕ, ◌+◌, [], ◌∷◌, ◌++◌, length, get_or, drop, true, is_ok, refl, sym, ap, ◌∙◌}
+use Rattle.std.proofs.lemmas.List.{drop_more}
+use Rattle.std.proofs.lemmas.Result.{err_from_is_err_and}
+use Rattle.std.proofs.Math.ListN.{drop_of_length-le}
+use Rattle.std.specs.Char.{encode_utf8}
+use Rattle.cell_core.specs.Cell.{braille_character}
+use Rattle.braildesk.specs.Reply.{text_of}
+use Rattle.braildesk.proofs.Sending.{Sending-done, Sending-fails, Sending-more, Sent-push}
+use Rattle.braildesk.proofs.braille.put_cells.Goals as goal
+
+pub returns-in_err-make_room : goal.returns-in_err-make_room
+returns-in_err-make_room g c =
+    let p = err_from_is_err_and c.from_residual.result c.from_residual.ensures.1 in
+    Sending-fails g.K.Sink.can_fail _ _ _ c.loop-cell.block _ _ _ _ c.loop-cell.invariant [] _ refl
+    (Sent-push g.K.Sink.can_fail _ _ c.loop-cell.block _ [] _ c.make_room.ensures.sent) _ _ (ap is_ok c.in_err-make_room.was) (ap is_ok p.1)
+
+pub loop-cell-preserved : goal.loop-cell-preserved
+loop-cell-preserved g c =
+    let piece = encode_utf8 (braille_character c.cell-item.result) in
+    let parts = ap text_of (drop_more c.args.cells.now c.loop-cell.cell-index c.cell-item.result c.loop-cell-test.true)
+    ∙ ap (λ (t : ℕ). text_of (t ∷ drop (c.loop-cell.cell-index + 1) c.args.cells.now)) (sym c.cell-item.is) in
+    rw c.push_cell.ensures
+    (Sending-more g.K.Sink.can_fail _ _ _ c.loop-cell.block _ _ _ _ c.loop-cell.invariant piece _ parts
+    (Sent-push g.K.Sink.can_fail _ _ c.loop-cell.block _ piece _ c.make_room.ensures.sent) (ap is_ok c.in_ok-make_room.was))
+
+pub returns : goal.returns
+returns g c =
+    Sending-done g.K.Sink.can_fail _ _ c.loop-cell.block _ true
+    (rw (drop_of_length-le c.args.cells.now c.loop-cell-test.false) at c.loop-cell.invariant) refl

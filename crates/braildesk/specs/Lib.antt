@@ -1,0 +1,6 @@
+pub mod Reply
+pub mod Sent
+pub mod Refusal
+pub mod Run
+pub mod Machine
+pub mod Program

@@ -1,0 +1,11 @@
+-- Why a line has no braille.
+use Rattle.std.specs.Prelude.{ℕ, List}
+use Rattle.braildesk.specs.declared.answer.Refusal.{Refusal}
+use Rattle.braildesk.specs.declared.answer.Refusal.TheVariants.{NoText, TooLong, Undefined}
+use Rattle.braildesk.specs.Reply.{refusal, refusal_at}
+
+-- what is answered, by the reason
+abbrev pub refusal_text : Refusal → List ℕ
+refusal_text NoText = refusal 1
+refusal_text TooLong = refusal 14
+refusal_text (Undefined place) = refusal_at 7 place

@@ -1,0 +1,62 @@
+-- What a run did to the bytes that a reader has left and a writer holds.
+use Rattle.std.specs.Prelude.{◌≡◌, ℕ, ◌^◌, ◌≤◌, ◌⊎◌, ◌==◌, if◌then◌else◌, List, [], ◌∷◌, ◌++◌, Option, IfSome, length}
+use Rattle.std.specs.Io.KnownBytes.{Appends, Consumes, IsAtEnd}
+use Rattle.louis_table.specs.Meaning.{Meaning}
+use Rattle.braildesk.specs.declared.translate.Ended.{Ended}
+use Rattle.braildesk.specs.declared.translate.Ended.TheVariants.{Done, Input, Output}
+use Rattle.braildesk.specs.Reply.{output_of}
+
+-- ---- what went out
+
+-- b and the bytes after it, or none where no line feed is among them
+abbrev pub whole_from : ℕ → List ℕ → List ℕ
+whole_from b [] = if b == 10 then b ∷ [] else []
+whole_from b (c ∷ rest) = b ∷ c ∷ rest
+
+-- the bytes up to the last line feed, or none
+abbrev pub whole_lines : List ℕ → List ℕ
+whole_lines [] = []
+whole_lines (b ∷ bytes) = whole_from b (whole_lines bytes)
+
+-- the text is out and something more, or nothing more
+abbrev pub IsBeginning : List ℕ → List ℕ → Type 0
+IsBeginning out text = (rest : List ℕ) × (out ++ rest ≡ text)
+
+-- what went out answers what was taken: all its lines, those that had ended, or a beginning
+abbrev pub Answers : Meaning → Ended → List ℕ → List ℕ → Type 0
+Answers meaning Done taken out = out ≡ output_of meaning taken
+Answers meaning Input taken out = out ≡ output_of meaning (whole_lines taken)
+Answers meaning Output taken out = IsBeginning out (output_of meaning taken)
+
+-- a run that is done left nothing in the reader
+abbrev pub ReadsAll : Ended → Option (List ℕ) → Type 0
+ReadsAll Done left = IsAtEnd left
+ReadsAll Input left = Unit {0}
+ReadsAll Output left = Unit {0}
+
+-- some bytes were taken from the reader, and what went to the writer answers them
+pub record Run (meaning : Meaning) (ended : Ended) (read_old read_new write_old write_new : Option (List ℕ)) : Type 0 where
+  pub taken : List ℕ
+  pub out : List ℕ
+  pub consumes : Consumes read_old read_new taken
+  pub appends : Appends write_old write_new out
+  pub answers : Answers meaning ended taken out
+  pub ends : ReadsAll ended read_new
+
+-- where the input is known, what went out is a beginning of what is answered to it
+abbrev pub AnswersBeginning : Meaning → Option (List ℕ) → Option (List ℕ) → Option (List ℕ) → Type 0
+AnswersBeginning meaning read_old write_old write_new =
+    IfSome read_old (λ input. (out : List ℕ) × IsBeginning out (output_of meaning input) × Appends write_old write_new out)
+
+-- ---- how it ended
+
+-- a run ends early only where so many bytes were taken, or an end can fail
+abbrev pub IsHonest : Ended → ℕ → Type 0 → Type 0 → Type 0
+IsHonest Done taken ReadsFail WritesFail = Unit {0}
+IsHonest Input taken ReadsFail WritesFail = (2 ^ 62 ≤ taken) ⊎ ReadsFail
+IsHonest Output taken ReadsFail WritesFail = WritesFail
+
+-- a run with an honest end
+pub record HonestRun (meaning : Meaning) (ended : Ended) (read_old read_new write_old write_new : Option (List ℕ)) (ReadsFail WritesFail : Type 0) : Type 0 where
+  pub run : Run meaning ended read_old read_new write_old write_new
+  pub honest : IsHonest ended (length run.taken) ReadsFail WritesFail

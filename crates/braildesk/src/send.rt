@@ -1,0 +1,17 @@
+//! Sends texts to a sink without memory, and without a second try.
+ghost use Rattle.braildesk.specs.Sent.{Sent};
+ghost use Rattle.std.specs.Prelude.{[], is_ok};
+
+use super::ends::{Failed, Sink};
+
+/// Writes the whole text, or a beginning of it. A write that takes no byte has failed.
+pub fn send<K: Sink>(sink: &mut K, text: &[u8]) -> Result<(), Failed>
+    ensures { Sent K.can_fail (K.contents sink.old) (K.contents sink.new) text.now [] (is_ok result) }
+{
+    let mut rest = text;
+    while !rest.is_empty() {
+        let count = sink.put(rest)?;
+        rest = &rest[count..];
+    }
+    Ok(())
+}

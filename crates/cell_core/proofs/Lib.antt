@@ -1,0 +1,4 @@
+pub mod DigitsAreDots
+pub mod DotsLaws
+pub mod MaskLaws
+pub mod ReadCells

@@ -1,0 +1,44 @@
+-- What the reader of dots operands computes, for step-by-step proofs: `Dots` says what an operand means.
+use Rattle.std.specs.Prelude.{◌≡◌, ℕ, ◌+◌, ◌-◌, ◌/◌, ◌%◌, ◌==◌, ◌&&◌, Bool, not, nat_le, if◌then◌else◌, List, [], ◌∷◌, length, take, Option, Some, None, option_map}
+use Rattle.std.specs.List.{slice_split}
+use Rattle.std.specs.Option.{option_and_then}
+use Rattle.cell_core.specs.Cell.{dot_value}
+use Rattle.cell_core.specs.declared.dots.TheConstants.{MOST_CELLS}
+
+-- the mask with the dot of a digit, unless the digit names no dot or one that is there
+abbrev pub with_digit : ℕ → ℕ → Option ℕ
+with_digit mask digit =
+    if nat_le 49 digit && nat_le digit 56 && not (mask / dot_value (digit - 48) % 2 == 1)
+    then Some (dot_value (digit - 48) + mask)
+    else None
+
+-- the mask with the dots of the digits
+abbrev pub with_digits : ℕ → List ℕ → Option ℕ
+with_digits mask [] = Some mask
+with_digits mask (digit ∷ digits) = option_and_then (λ more. with_digits more digits) (with_digit mask digit)
+
+-- the mask of one cell
+abbrev pub cell_in : List ℕ → Option ℕ
+cell_in [] = None
+cell_in (digit ∷ []) = if digit == 48 then Some 0 else with_digits 0 (digit ∷ [])
+cell_in (digit ∷ next ∷ digits) = with_digits 0 (digit ∷ next ∷ digits)
+
+abbrev pub is_hyphen : ℕ → Bool
+is_hyphen c = c == 45
+
+-- the masks of cells that are apart
+abbrev pub cells_of : List (List ℕ) → Option (List ℕ)
+cells_of [] = Some []
+cells_of (piece ∷ pieces) =
+    option_and_then (λ cell. option_map (λ cells. cell ∷ cells) (cells_of pieces)) (cell_in piece)
+
+-- the masks of the cells of a dots operand, or nothing where the text is none
+abbrev pub cells_in : List ℕ → Option (List ℕ)
+cells_in text = cells_of (slice_split is_hyphen text)
+
+-- a text is a dots operand of so many cells, and the first of them are in the row
+pub record HasRead (text row : List ℕ) (count : ℕ) : Type 0 where
+  pub cells : List ℕ
+  pub read : cells_in text ≡ Some cells
+  pub counted : count ≡ length cells
+  pub kept : take count row ≡ take MOST_CELLS cells

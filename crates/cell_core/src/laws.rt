@@ -1,0 +1,21 @@
+//! Laws of cells and of dots operands.
+ghost use Rattle.cell_core.specs.Cell.{HasDot};
+ghost use Rattle.cell_core.specs.Dots.{Dots, ListsDots};
+ghost use Rattle.std.specs.Prelude.{◌≡◌, ◌≤◌, ◌<◌, ◌+◌, ◌^◌, ◌↔◌, ℕ, List, Contains};
+
+/// A text is the dots operand of at most one list of cells.
+pub fn one_reading()
+    ensures { (text cells others : List ℕ) → Dots text cells → Dots text others → cells ≡ others }
+{}
+
+/// Two cells with the same dots are the same.
+pub fn one_set_of_dots()
+    ensures { (mask others : ℕ) → mask < 2 ^ 8 → others < 2 ^ 8
+        → ((dot : ℕ) → 1 ≤ dot → dot ≤ 8 → (HasDot mask dot ↔ HasDot others dot)) → mask ≡ others }
+{}
+
+/// The dots of a cell are those that its digits name, in whatever order.
+pub fn digits_are_dots()
+    ensures { (text : List ℕ) (mask : ℕ) → ListsDots text mask
+        → (mask < 2 ^ 8) × ((dot : ℕ) → 1 ≤ dot → dot ≤ 8 → (HasDot mask dot ↔ Contains text (48 + dot))) }
+{}

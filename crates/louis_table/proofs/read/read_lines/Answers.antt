@@ -1,0 +1,25 @@
+use Rattle.std.proofs.Common.{◌≡◌, ℕ, Err, rules, sym, ap, ◌∙◌}
+use Rattle.std.specs.Str.{chars}
+use Rattle.louis_table.specs.Reading.{cause_number}
+use Rattle.louis_table.proofs.ReadingLaws.{ReadsOn-all, ReadsOn-fault, ReadsOn-more}
+use Rattle.louis_table.proofs.StepLaws.{nil_from_test, on_ok}
+use Rattle.louis_table.proofs.read.read_lines.Goals as goal
+
+pub returns-in-Err-Bad-clause-err : goal.returns-in-Err-Bad-clause-err
+returns-in-Err-Bad-clause-err c =
+    let characters : c.replace_characters.new.characters.items ≡ chars c.next_line.result.0.now = on_ok _ c.replace_characters.ensures (sym c.is_err.ensures.value ∙ c.if-is_err.false) in
+    ReadsOn-fault c.args.text.now c.loop-rest.before c.loop-rest.rest.now c.next_line.result.0.now c.next_line.result.1.now c.as_slice.result.now c.loop-rest.table c.loop-rest.invariant.1
+    c.next_line.ensures.line (c.as_slice.ensures.value ∙ characters) c.number.result
+    ((rw c.in-Err-Bad.field-0-is at c.in-Err-Bad.ensures) ∙ ap (λ (n : ℕ). Err n) (sym (c.number.ensures ∙ ap cause_number c.in-Err-Bad.cause-is)))
+
+pub loop-rest-preserved : goal.loop-rest-preserved
+loop-rest-preserved c =
+    let characters : c.replace_characters.new.characters.items ≡ chars c.next_line.result.0.now = on_ok _ c.replace_characters.ensures (sym c.is_err.ensures.value ∙ c.if-is_err.false) in (
+      search rules,
+      ReadsOn-more c.args.text.now c.loop-rest.before c.loop-rest.rest.now c.next_line.result.0.now c.next_line.result.1.now c.as_slice.result.now c.loop-rest.table c.loop-rest.invariant.1
+          c.next_line.ensures.line (c.as_slice.ensures.value ∙ characters) c.in-Ok.ensures.0 c.take_line.new.table c.in-Ok.ensures.1 c.in-Ok.ensures.2,
+    )
+
+pub returns-clause-ok : goal.returns-clause-ok
+returns-clause-ok c =
+    ReadsOn-all c.args.text.now c.loop-rest.before c.loop-rest.rest.now c.loop-rest.table c.loop-rest.invariant.1 (nil_from_test _ _ c.is_empty.ensures c.loop-rest-test.false)

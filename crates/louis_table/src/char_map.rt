@@ -1,0 +1,88 @@
+//! A map whose keys are characters.
+ghost use Rattle.std.specs.Prelude.{◌≡◌, ◌∷◌, ◌++◌, [], None, OnOk, OnErr, nat_eq};
+ghost use Rattle.std.specs.Map.{lookup};
+ghost use Rattle.std.specs.Option.{option_copied};
+
+use indexmap::IndexMap;
+use std::alloc::{AllocError, Global};
+use std::marker::Model;
+
+/// How many of the first characters of Unicode are found by their code, without a hash.
+const DIRECT: usize = 128;
+
+/// A map from characters to values, in the order in which they came. Contracts see the list of its entries.
+#[derive(Drop)]
+pub(crate) struct CharMap<V> {
+    entries: IndexMap<char, V>,
+    // for each character below `DIRECT`, one more than its entry's index, or 0 where it has none
+    places: [usize; DIRECT],
+}
+
+impl<V> Model for CharMap<V> {
+    ghost use Rattle.std.specs.Prelude.{List, ℕ};
+    ghost use Rattle.louis_table.specs.Places.{AreIn};
+
+    ghost Value = { List (ℕ × V) };
+
+    ghost view = { λ m. m.entries.entries };
+
+    ghost invariant = { λ m. AreIn m.places m.entries.entries };
+}
+
+impl<V: Drop> CharMap<V> {
+    /// A map without entries.
+    pub(crate) fn new(alloc: Global) -> Self
+        ensures { result ≡ [] }
+    {
+        CharMap {
+            entries: IndexMap::new(alloc),
+            places: [0; DIRECT],
+        }
+    }
+
+    /// The value of a character, if it has one.
+    pub(crate) fn get(&self, character: char) -> Option<&V>
+        ensures { option_copied result ≡ lookup (nat_eq character) self.now }
+    {
+        let code = character as usize;
+        if code >= DIRECT {
+            return self.entries.get(&character);
+        }
+        let place = self.places[code];
+        if place == 0 {
+            return None;
+        }
+        let (_, value) = self.entries.get_index(place - 1)?;
+        Some(value)
+    }
+
+    /// Puts a character that isn't there at the end.
+    pub(crate) fn insert(&mut self, character: char, value: V) -> Result<(), AllocError>
+        requires { lookup (nat_eq character) self.old ≡ None }
+        ensures ok { OnOk result (self.new ≡ self.old ++ (character, value) ∷ []) }
+        ensures err { OnErr result (self.new ≡ self.old) }
+    {
+        push(&mut self.entries, character, value)?;
+        let code = character as usize;
+        if code < DIRECT {
+            self.places[code] = self.entries.len();
+        }
+        Ok(())
+    }
+}
+
+/// Puts a character that isn't there at the end of the entries.
+fn push<V: Drop>(
+    entries: &mut IndexMap<char, V>,
+    character: char,
+    value: V,
+) -> Result<(), AllocError>
+    requires { lookup (nat_eq character) entries.old.entries ≡ None }
+    ensures ok { OnOk result (entries.new.entries ≡ entries.old.entries ++ (character, value) ∷ []) }
+    ensures err { OnErr result (entries.new.entries ≡ entries.old.entries) }
+{
+    match entries.insert(character, value) {
+        Ok(_) => Ok(()),
+        Err(_) => Err(AllocError),
+    }
+}

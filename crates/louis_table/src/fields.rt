@@ -1,0 +1,56 @@
+//! The fields of a line, with blanks and tabs around them.
+ghost use Rattle.louis_table.specs.Fields.{is_gap};
+ghost use Rattle.louis_table.specs.Reading.{field_at, field_len, two_fields_at};
+ghost use Rattle.std.specs.List.{prefix_len};
+ghost use Rattle.std.specs.Prelude.{◌≡◌, ◌≤◌, length, option_map};
+
+fn is_gap_character(character: char) -> bool
+    ensures { result ≡ is_gap character }
+{
+    character == ' ' || character == '\t'
+}
+
+fn gap_len(text: &[char]) -> usize
+    ensures within { result ≤ length text.now }
+    ensures value { result ≡ prefix_len is_gap text.now }
+{
+    for (i, character) in text.iter().enumerate() {
+        if !is_gap_character(*character) {
+            return i;
+        }
+    }
+    text.len()
+}
+
+fn front_field_len(text: &[char]) -> usize
+    ensures within { result ≤ length text.now }
+    ensures value { result ≡ field_len text.now }
+{
+    for (i, character) in text.iter().enumerate() {
+        if is_gap_character(*character) {
+            return i;
+        }
+    }
+    text.len()
+}
+
+/// The next field, which is empty where there is none, and what follows it.
+pub(crate) fn next_field(text: &[char]) -> (&[char], &[char])
+    ensures field { result.0.now ≡ (field_at text.now).0 }
+    ensures rest { result.1.now ≡ (field_at text.now).1 }
+{
+    let text = &text[gap_len(text)..];
+    text.split_at(front_field_len(text))
+}
+
+/// The next two fields, if both are there.
+pub(crate) fn next_two_fields(text: &[char]) -> Option<(&[char], &[char])>
+    ensures { option_map (λ both. (both.0.now, both.1.now)) result ≡ two_fields_at text.now }
+{
+    let (first, rest) = next_field(text);
+    let (second, _) = next_field(rest);
+    if first.is_empty() || second.is_empty() {
+        return None;
+    }
+    Some((first, second))
+}
