@@ -1,5 +1,5 @@
 //! Why the program ends before its first line.
-use louis_table::{ReadFault, TableFault};
+use louis_table::TableFault;
 use std::io::{Error as IoError, ErrorKind};
 use thiserror::Error;
 
@@ -18,16 +18,11 @@ pub enum Fault {
     File,
 }
 
-impl From<ReadFault> for Fault {
-    fn from(fault: ReadFault) -> Self {
-        match fault {
-            ReadFault::Table(fault) => Fault::Table(fault),
-            ReadFault::NoMemory => Fault::NoMemory,
-        }
-    }
-}
-
 impl From<IoError> for Fault {
+    ghost use Rattle.braildesk.specs.Fault.{IsOfFile};
+
+    ghost from_gives = { λ _ fault. IsOfFile fault };
+
     fn from(error: IoError) -> Self {
         match error.kind() {
             ErrorKind::OutOfMemory => Fault::NoMemory,

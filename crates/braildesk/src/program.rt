@@ -24,8 +24,8 @@ pub const ENDS_FAILED: u8 = 3;
 /// Does what the words behind the program's name ask, over the three given ends, and answers the exit
 /// status.
 ///
-/// `translate TABLE` answers each line of the reader on the writer by the table in the file TABLE. A
-/// table that is refused is told in one line on `errors`, and so is how to use the program where the
+/// `translate TABLE` answers each line of the reader on the writer by the table in the file TABLE,
+/// or by the supplied table where TABLE is `@en`. A table that is refused is told in one line on `errors`, and so is how to use the program where the
 /// words are others.
 pub fn program<F: Files + AllocGlobal, S: AsStr, R: Read, W: Write, E: Write>(
     rt: &F,

@@ -1,3 +1,4 @@
 pub mod Cell
 pub mod Dots
 pub mod Reading
+pub mod Ascii

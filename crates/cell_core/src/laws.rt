@@ -1,7 +1,8 @@
 //! Laws of cells and of dots operands.
+ghost use Rattle.cell_core.specs.Ascii.{ascii_cell};
 ghost use Rattle.cell_core.specs.Cell.{HasDot};
 ghost use Rattle.cell_core.specs.Dots.{Dots, ListsDots};
-ghost use Rattle.std.specs.Prelude.{◌≡◌, ◌≤◌, ◌<◌, ◌+◌, ◌^◌, ◌↔◌, ℕ, List, Contains};
+ghost use Rattle.std.specs.Prelude.{Some, ◌≡◌, ◌≤◌, ◌<◌, ◌+◌, ◌^◌, ◌↔◌, ℕ, List, Contains};
 
 /// A text is the dots operand of at most one list of cells.
 pub fn one_reading()
@@ -18,4 +19,9 @@ pub fn one_set_of_dots()
 pub fn digits_are_dots()
     ensures { (text : List ℕ) (mask : ℕ) → ListsDots text mask
         → (mask < 2 ^ 8) × ((dot : ℕ) → 1 ≤ dot → dot ≤ 8 → (HasDot mask dot ↔ Contains text (48 + dot))) }
+{}
+
+/// A cell has at most one byte in Braille ASCII, so `to_ascii` and `from_ascii` undo each other.
+pub fn one_byte()
+    ensures { (byte other mask : ℕ) → ascii_cell byte ≡ Some mask → ascii_cell other ≡ Some mask → byte ≡ other }
 {}

@@ -81,3 +81,31 @@ fn gives_cells_back(rt: HostRuntime) -> Result<(), Fail> {
     assert_eq!(rt; cells.as_slice(), [Cell::new(3), Cell::BLANK].as_slice());
     Ok(())
 }
+
+#[test]
+fn writes_braille_ascii(rt: HostRuntime) {
+    let rows = [
+        (0, b' '),
+        (1, b'A'),
+        (3, b'B'),
+        (25, b'D'),
+        (60, b'#'),
+        (63, b'='),
+        (32, b','),
+        (56, b'_'),
+        (51, b'\\'),
+    ];
+    for (mask, byte) in rows {
+        assert_eq!(rt; Cell::new(mask).to_ascii(), Some(byte), "mask {mask}");
+        assert_eq!(rt;
+            Cell::from_ascii(byte),
+            Some(Cell::new(mask)),
+            "byte {byte}"
+        );
+    }
+    assert_eq!(rt; Cell::new(0x41).to_ascii(), None);
+    assert_eq!(rt; Cell::new(0x80).to_ascii(), None);
+    for byte in [0x1F, 0x60, b'a', 0xFF] {
+        assert_eq!(rt; Cell::from_ascii(byte), None, "byte {byte}");
+    }
+}

@@ -1,56 +1,211 @@
--- The character that is read is the one that is spelled.
-use Rattle.std.proofs.Common.{◌≡◌, ℕ, Bool, true, false, cond, eqb, List, [], ◌∷◌, ◌++◌, Option, Some, None, refl, sym, ap, subst, ◌∙◌, ◌⊎◌, inl, inr}
-use Rattle.std.proofs.lemmas.Bool.{eqb-true, eqb-false, ne_eqb}
-use Rattle.louis_table.specs.Characters.{escaped, Mark, itself, escape, Spells}
-use Rattle.louis_table.specs.Reading.{with_rest, mark_at, one_character}
+-- The characters that are read are those that are spelled.
+use Rattle.std.proofs.Common.{◌≡◌, ◌≢◌, ℕ, zero, suc, ◌+◌, ◌*◌, ◌<◌, ◌≤◌, Bool, true, false, cond, eqb, ltb, List, [], ◌∷◌, ◌++◌, length, take, drop, Option, Some, None, option_map, refl, sym, ap, subst, ◌∙◌, ◌⊎◌, inl, inr, arith, append_assoc}
+use Rattle.std.specs.List.{AllByRecursion}
+use Rattle.std.specs.Option.{option_and_then}
+use Rattle.std.specs.Char.{digit_value, IsScalar}
+use lib.Utf8.{scalar}
+use Rattle.std.proofs.lemmas.Bool.{eqb-true, eqb-false, ne_eqb, ltb-true, ltb-false, lt-ltb, le-ltb}
+use Rattle.std.proofs.lemmas.List.{append-nil, take-append-drop, length-take, length-append, take_at, drop_at}
+use Rattle.louis_table.specs.Characters.{escaped, digits_behind, spelled_behind, Writes, itself, escape, number, Spells}
+use Rattle.louis_table.specs.Reading.{with_rest, hex_value, scalar_from, number_at, escape_by, escape_at, character_at, characters_within, characters_in}
 
 -- which way a test went
 pub chosen : {A : Type 0} (b : Bool) (x y z : A) → cond b x y ≡ z → ((b ≡ true) × (x ≡ z)) ⊎ ((b ≡ false) × (y ≡ z))
 chosen true x y z e = inl (refl, e)
 chosen false x y z e = inr (refl, e)
 
--- the character was read from its mark at the front
-abbrev pub ReadsMark : List ℕ → ℕ → List ℕ → Type 0
-ReadsMark text character rest = (front : List ℕ) × (text ≡ front ++ rest) × Mark front character
+-- ---- numbers
 
-pair_is : (a c : ℕ) (x y : List ℕ) → (let s : Option (ℕ × List ℕ) = Some (a, x) in s) ≡ Some (c, y) → (a ≡ c) × (x ≡ y)
-pair_is a c x y e = let q : (a, x) ≡ (c, y) = cc in (ap (λ (r : ℕ × List ℕ). r.0) q, ap (λ (r : ℕ × List ℕ). r.1) q)
+abbrev AreDigits : List ℕ → Type 0
+AreDigits = AllByRecursion (λ d. digit_value d < 16)
 
-escape_reads : (letter c : ℕ) (text rest : List ℕ) (o : Option ℕ) → escaped letter ≡ o → with_rest o text ≡ Some (c, rest) → ReadsMark (92 ∷ letter ∷ text) c rest
-escape_reads letter c text rest None e h = absurd cc
-escape_reads letter c text rest (Some d) e h =
-    let q = pair_is d c text rest h in
-    (92 ∷ letter ∷ [], ap (λ (t : List ℕ). 92 ∷ letter ∷ t) q.1, escape letter (e ∙ ap Some q.0) refl)
-
-behind_backslash : (c : ℕ) (text rest : List ℕ) → mark_at (92 ∷ text) ≡ Some (c, rest) → ReadsMark (92 ∷ text) c rest
-behind_backslash c [] rest e = absurd cc
-behind_backslash c (letter ∷ text) rest e = escape_reads letter c text rest (escaped letter) refl e
-
-pub mark_at-reads : (text : List ℕ) (c : ℕ) (rest : List ℕ) → mark_at text ≡ Some (c, rest) → ReadsMark text c rest
-mark_at-reads [] c rest e = absurd cc
-mark_at-reads (x ∷ text) c rest e =
-    elim (chosen (eqb x 92) _ _ _ e) [
-      | inl p ↦ subst (λ (y : ℕ). ReadsMark (y ∷ text) c rest) (sym (eqb-true x 92 p.0)) (behind_backslash c text rest p.1)
-      | inr p ↦
-          let q = pair_is x c text rest p.1 in
-          (x ∷ [], ap (λ (t : List ℕ). x ∷ t) q.1, itself (λ (h : c ≡ 92). eqb-false x 92 p.0 (q.0 ∙ h)) (ap (λ (y : ℕ). y ∷ []) q.0))
+hex_value-spelled : (n : ℕ) (digits : List ℕ) (v : ℕ) → hex_value n digits ≡ Some v → AreDigits digits × (spelled_behind n digits ≡ v)
+hex_value-spelled n [] v e = (tt, cc)
+hex_value-spelled n (d ∷ ds) v e =
+    elim (chosen (ltb (digit_value d) 16) _ _ _ e) [
+      | inl p ↦ let h = hex_value-spelled (16 * n + digit_value d) ds v p.1 in ((ltb-true _ _ p.0, h.0), h.1)
+      | inr p ↦ absurd cc
     ]
 
-pub mark_at-Mark : (front rest : List ℕ) (c : ℕ) → Mark front c → mark_at (front ++ rest) ≡ Some (c, rest)
-mark_at-Mark front rest c (itself ne e) = rw e (rw (ne_eqb c 92 ne) refl)
-mark_at-Mark front rest c (escape letter s e) = rw e (ap (λ (o : Option ℕ). with_rest o rest) s)
+spelled-hex_value : (n : ℕ) (digits : List ℕ) → AreDigits digits → hex_value n digits ≡ Some (spelled_behind n digits)
+spelled-hex_value n [] h = refl
+spelled-hex_value n (d ∷ ds) h = rw (lt-ltb (digit_value d) 16 h.0) (spelled-hex_value (16 * n + digit_value d) ds h.1)
 
--- ---- an operand of one character
+scalar_from-Some : (o : Option ℕ) (c : ℕ) → scalar_from o ≡ Some c → (o ≡ Some c) × (scalar c ≡ true)
+scalar_from-Some None c e = absurd cc
+scalar_from-Some (Some v) c e =
+    elim (chosen (scalar v) _ _ _ e) [
+      | inl p ↦ let same : v ≡ c = cc in (ap Some same, subst (λ (x : ℕ). scalar x ≡ true) same p.0)
+      | inr p ↦ absurd cc
+    ]
 
-only_mark : (m : Option (ℕ × List ℕ)) (c : ℕ) → one_character m ≡ Some c → m ≡ Some (c, [])
-only_mark None c e = absurd cc
-only_mark (Some (d, [])) c e = let same : d ≡ c = cc in rw same refl
-only_mark (Some (d, (x ∷ rest))) c e = absurd cc
+with_rest-Some : (o : Option ℕ) (rest : List ℕ) (c : ℕ) (back : List ℕ) → with_rest o rest ≡ Some (c, back) → (o ≡ Some c) × (rest ≡ back)
+with_rest-Some None rest c back e = absurd cc
+with_rest-Some (Some v) rest c back e =
+    let q : (v, rest) ≡ (c, back) = cc in
+    (ap (λ (r : ℕ × List ℕ). Some r.0) q, ap (λ (r : ℕ × List ℕ). r.1) q)
 
-pub one_character-Spells : (text : List ℕ) (c : ℕ) → one_character (mark_at text) ≡ Some c → Spells text (c ∷ [])
-one_character-Spells text c e = let m = mark_at-reads text c [] (only_mark (mark_at text) c e) in (m.0, [], m.1, m.2, refl)
+-- the character was read as it is written at the front
+abbrev pub ReadsFront : List ℕ → ℕ → List ℕ → Type 0
+ReadsFront text character rest = (front : List ℕ) × (text ≡ front ++ rest) × Writes front character
 
-pub Spells-one_character : (text : List ℕ) (c : ℕ) → Spells text (c ∷ []) → one_character (mark_at text) ≡ Some c
-Spells-one_character text c s =
-    let m : mark_at text ≡ Some (c, []) = rw s.2 (rw s.4 (mark_at-Mark s.0 [] c s.3)) in
-    ap one_character m
+number_at-reads : (letter count : ℕ) (text : List ℕ) (c : ℕ) (rest : List ℕ) → digits_behind letter ≡ Some count → number_at count text ≡ Some (c, rest)
+    → ReadsFront (92 ∷ letter ∷ text) c rest
+number_at-reads letter count text c rest b e =
+    elim (chosen (ltb (length text) count) _ _ _ e) [
+      | inl p ↦ absurd cc
+      | inr p ↦
+          let w = with_rest-Some (scalar_from (hex_value 0 (take count text))) (drop count text) c rest p.1 in
+          let s = scalar_from-Some (hex_value 0 (take count text)) c w.0 in
+          let h = hex_value-spelled 0 (take count text) c s.0 in
+          let long : count ≤ length text = ltb-false _ _ p.0 in
+          let same : count ≡ length (take count text) = omega (arith, length-take count text) in
+          let parts : text ≡ take count text ++ rest = sym (ap (λ (t : List ℕ). take count text ++ t) (sym w.1) ∙ take-append-drop count text) in (
+            92 ∷ letter ∷ take count text,
+            ap (λ (t : List ℕ). 92 ∷ letter ∷ t) parts,
+            number letter (take count text) (b ∙ ap Some same) h.0 h.1 s.1 refl,
+          )
+    ]
+
+escape_by-reads : (letter c : ℕ) (text rest : List ℕ) (o d : Option ℕ) → escaped letter ≡ o → digits_behind letter ≡ d → escape_by o d text ≡ Some (c, rest)
+    → ReadsFront (92 ∷ letter ∷ text) c rest
+escape_by-reads letter c text rest (Some v) d e f h =
+    let w = with_rest-Some (Some v) text c rest h in
+    (92 ∷ letter ∷ [], ap (λ (t : List ℕ). 92 ∷ letter ∷ t) w.1, escape letter (e ∙ w.0) refl)
+escape_by-reads letter c text rest None (Some count) e f h = number_at-reads letter count text c rest f h
+escape_by-reads letter c text rest None None e f h = absurd cc
+
+escape_at-reads : (c : ℕ) (text rest : List ℕ) → character_at (92 ∷ text) ≡ Some (c, rest) → ReadsFront (92 ∷ text) c rest
+escape_at-reads c [] rest e = absurd cc
+escape_at-reads c (letter ∷ text) rest e = escape_by-reads letter c text rest (escaped letter) (digits_behind letter) refl refl e
+
+pub character_at-reads : (text : List ℕ) (c : ℕ) (rest : List ℕ) → character_at text ≡ Some (c, rest) → ReadsFront text c rest
+character_at-reads [] c rest e = absurd cc
+character_at-reads (x ∷ text) c rest e =
+    elim (chosen (eqb x 92) _ _ _ e) [
+      | inl p ↦ subst (λ (y : ℕ). ReadsFront (y ∷ text) c rest) (sym (eqb-true x 92 p.0)) (escape_at-reads c text rest p.1)
+      | inr p ↦
+          let w = with_rest-Some (Some x) text c rest p.1 in
+          let same : x ≡ c = cc in
+          (x ∷ [], ap (λ (t : List ℕ). x ∷ t) w.1, itself (λ (h : c ≡ 92). eqb-false x 92 p.0 (same ∙ h)) (ap (λ (y : ℕ). y ∷ []) same))
+    ]
+
+-- an escape by number has no letter of a shorter one
+digits_behind-escaped : (letter count : ℕ) → digits_behind letter ≡ Some count → escaped letter ≡ None
+digits_behind-escaped letter count e =
+    elim (chosen (eqb letter 120) _ _ _ e) [
+      | inl p ↦ ap escaped (eqb-true letter 120 p.0)
+      | inr p ↦ elim (chosen (eqb letter 121) _ _ _ p.1) [
+        | inl q ↦ ap escaped (eqb-true letter 121 q.0)
+        | inr q ↦ elim (chosen (eqb letter 122) _ _ _ q.1) [
+          | inl r ↦ ap escaped (eqb-true letter 122 r.0)
+          | inr r ↦ absurd cc
+        ]
+      ]
+    ]
+
+pub character_at-Writes : (front rest : List ℕ) (c : ℕ) → Writes front c → character_at (front ++ rest) ≡ Some (c, rest)
+character_at-Writes front rest c (itself ne e) = rw e (rw (ne_eqb c 92 ne) refl)
+character_at-Writes front rest c (escape letter s e) = rw e (ap (λ (o : Option ℕ). escape_by o (digits_behind letter) rest) s)
+character_at-Writes front rest c (number letter digits counted are v s e) =
+    rw e
+    (ap (λ (o : Option ℕ). escape_by o (digits_behind letter) (digits ++ rest)) (digits_behind-escaped letter (length digits) counted)
+    ∙ (ap (λ (o : Option ℕ). escape_by None o (digits ++ rest)) counted ∙ whole))
+  where
+    long : length digits ≤ length (digits ++ rest)
+    long = omega (arith, length-append digits rest)
+
+    whole : number_at (length digits) (digits ++ rest) ≡ Some (c, rest)
+    whole = rw (le-ltb _ _ long, take_at digits rest (length digits) refl, drop_at digits rest (length digits) refl, spelled-hex_value 0 digits are, v) (rw s refl)
+
+-- ---- all characters of an operand
+
+Writes-some : (front : List ℕ) (c : ℕ) → Writes front c → 0 < length front
+Writes-some front c (itself ne e) = rw e (omega arith)
+Writes-some front c (escape letter s e) = rw e (omega arith)
+Writes-some front c (number letter digits counted are v s e) = rw e (omega arith)
+
+pub and_then_some : {A B : Type 0} (f : A → Option B) (o : Option A) (y : B) → option_and_then f o ≡ Some y → (x : A) × (o ≡ Some x) × (f x ≡ Some y)
+and_then_some f None y e = absurd cc
+and_then_some f (Some x) y e = (x, refl, e)
+
+pub map_some : {A B : Type 0} (f : A → B) (o : Option A) (y : B) → option_map f o ≡ Some y → (x : A) × (o ≡ Some x) × (f x ≡ y)
+map_some f None y e = absurd cc
+map_some f (Some x) y e = (x, refl, cc)
+
+characters_within-Spells : (n : ℕ) (text cs : List ℕ) → characters_within n text ≡ Some cs → Spells text cs
+characters_within-Spells n [] cs e = let none : [] ≡ cs = cc in subst (Spells []) none refl
+characters_within-Spells zero (x ∷ text) cs e = absurd cc
+characters_within-Spells (suc n) (x ∷ text) cs e =
+    let found = and_then_some (λ (f : ℕ × List ℕ). option_map (λ more. f.0 ∷ more) (characters_within n f.1)) (character_at (x ∷ text)) cs e in
+    let more = map_some (λ (rest : List ℕ). found.0.0 ∷ rest) (characters_within n found.0.1) cs found.2 in
+    let front = character_at-reads (x ∷ text) found.0.0 found.0.1 found.1 in
+    subst (Spells (x ∷ text)) more.2 (front.0, found.0.1, front.1, front.2, characters_within-Spells n found.0.1 more.0 more.1)
+
+Spells-characters_within : (n : ℕ) (text cs : List ℕ) → length text ≤ n → Spells text cs → characters_within n text ≡ Some cs
+Spells-characters_within n text [] le s = ap (characters_within n) s
+Spells-characters_within n [] (c ∷ cs) le s = let some = Writes-some s.0 c s.3 in absurd (omega (arith, length-append s.0 s.1, ap length s.2))
+Spells-characters_within zero (x ∷ text) (c ∷ cs) le s = absurd (omega arith)
+Spells-characters_within (suc n) (x ∷ text) (c ∷ cs) le s =
+    let some : 0 < length s.0 = Writes-some s.0 c s.3 in
+    let read : character_at (x ∷ text) ≡ Some (c, s.1) = ap character_at s.2 ∙ character_at-Writes s.0 s.1 c s.3 in
+    let more : characters_within n s.1 ≡ Some cs = Spells-characters_within n s.1 cs (omega (arith, length-append s.0 s.1, ap length s.2)) s.4 in
+    ap (option_and_then (λ (f : ℕ × List ℕ). option_map (λ more. f.0 ∷ more) (characters_within n f.1))) read
+    ∙ ap (option_map (λ (rest : List ℕ). c ∷ rest)) more
+
+pub characters_in-Spells : (text cs : List ℕ) → characters_in text ≡ Some cs → Spells text cs
+unfolding characters_in
+characters_in-Spells text cs e = characters_within-Spells (length text) text cs e
+
+pub Spells-characters_in : (text cs : List ℕ) → Spells text cs → characters_in text ≡ Some cs
+unfolding characters_in
+Spells-characters_in text cs s = Spells-characters_within (length text) text cs (omega arith) s
+
+-- ---- character by character
+
+-- what was read of the operand, and what the rest gives, make its characters
+pub record SpellsOn (operand front rest : List ℕ) : Type 0 where
+  pub most : ℕ
+  pub enough : length rest ≤ most
+  pub whole : characters_in operand ≡ option_map (λ more. front ++ more) (characters_within most rest)
+
+map_nothing : (o : Option (List ℕ)) → o ≡ option_map (λ more. [] ++ more) o
+map_nothing None = refl
+map_nothing (Some more) = refl
+
+pub SpellsOn-none : (operand : List ℕ) → SpellsOn operand [] operand
+unfolding characters_in
+SpellsOn-none operand = record { most = length operand; enough = omega arith; whole = map_nothing (characters_within (length operand) operand) }
+
+map_twice : (front : List ℕ) (c : ℕ) (o : Option (List ℕ)) → option_map (λ more. front ++ more) (option_map (λ more. c ∷ more) o) ≡ option_map (λ more. (front ++ c ∷ []) ++ more) o
+map_twice front c None = refl
+map_twice front c (Some more) = ap Some (sym (append_assoc front (c ∷ []) more))
+
+pub SpellsOn-more : (operand front rest after : List ℕ) (c : ℕ) → SpellsOn operand front rest → character_at rest ≡ Some (c, after) → length after < length rest → SpellsOn operand (front ++ c ∷ []) after
+SpellsOn-more operand front [] after c s e lt = absurd (omega arith)
+SpellsOn-more operand front (x ∷ rest) after c s e lt = by s.most s.enough s.whole
+  where
+    by : (n : ℕ) → length (x ∷ rest) ≤ n → characters_in operand ≡ option_map (λ more. front ++ more) (characters_within n (x ∷ rest)) → SpellsOn operand (front ++ c ∷ []) after
+    by zero le w = absurd (omega arith)
+    by (suc n) le w =
+        record {
+          most = n;
+          enough = omega arith;
+          whole = w
+              ∙ (ap (λ (o : Option (ℕ × List ℕ)). option_map (λ more. front ++ more) (option_and_then (λ (f : ℕ × List ℕ). option_map (λ more. f.0 ∷ more) (characters_within n f.1)) o)) e
+              ∙ map_twice front c (characters_within n after));
+        }
+
+pub SpellsOn-all : (operand front : List ℕ) → SpellsOn operand front [] → characters_in operand ≡ Some front
+SpellsOn-all operand front s = s.whole ∙ ap Some (append-nil front)
+
+pub SpellsOn-bad : (operand front rest : List ℕ) → SpellsOn operand front rest → rest ≢ [] → character_at rest ≡ None → characters_in operand ≡ None
+SpellsOn-bad operand front [] s ne e = absurd (ne refl)
+SpellsOn-bad operand front (x ∷ rest) s ne e = by s.most s.whole
+  where
+    by : (n : ℕ) → characters_in operand ≡ option_map (λ more. front ++ more) (characters_within n (x ∷ rest)) → characters_in operand ≡ None
+    by zero w = w
+    by (suc n) w = w ∙ ap (λ (o : Option (ℕ × List ℕ)). option_map (λ more. front ++ more) (option_and_then (λ (f : ℕ × List ℕ). option_map (λ more. f.0 ∷ more) (characters_within n f.1)) o)) e
+
+pub nothing_read : {A B : Type 0} (o : Option A) (f : A → B) (p : Option B) → option_map f o ≡ p → o ≡ None → p ≡ None
+nothing_read o f p e n = sym e ∙ ap (option_map f) n

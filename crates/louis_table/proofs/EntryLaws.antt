@@ -1,49 +1,140 @@
 -- What is read of a line is what it says.
-use Rattle.std.proofs.Common.{◌≡◌, ◌≢◌, ℕ, ◌≤◌, true, eqb, List, [], ◌∷◌, Option, Some, None, Result, Ok, Err, codes, refl, sym, ap, subst, ◌∙◌, inl, inr, lit≤}
+use Rattle.std.proofs.Common.{◌≡◌, ◌≢◌, ℕ, ◌<◌, ◌≤◌, Bool, true, false, cond, ◌||◌, eqb, ltb, List, [], ◌∷◌, length, Option, Some, None, option_map, Result, Ok, Err, codes, refl, sym, ap, subst, ◌∙◌, ◌⊎◌, inl, inr, arith, lit≤}
+use Rattle.std.specs.Prelude.{slice_index}
 use Rattle.std.specs.Str.{bytes_eq}
-use Rattle.std.proofs.lemmas.Bool.{cases_Bool, eqb-true, eqb-false, eq-eqb, ne_eqb}
+use Rattle.std.proofs.lemmas.Bool.{cases_Bool, eqb-true, eqb-false, eq-eqb, ne_eqb, lt-ltb, ltb-true}
 use Rattle.std.proofs.lemmas.Slice.Eq.{bytes_eq-Decides}
-use Rattle.cell_core.specs.Dots.{Dots}
+use Rattle.cell_core.specs.Dots.{Dots, most_cells}
 use Rattle.cell_core.specs.Reading.{cells_in}
+use Rattle.cell_core.proofs.DotsLaws.{Dots-from_cells_in, cells_in-from_Dots}
 use Rattle.louis_table.specs.declared.definition.Class.{Class}
 use Rattle.louis_table.specs.declared.definition.Class.TheVariants.{Space, Punctuation, Digit, Letter}
+use Rattle.louis_table.specs.declared.rule.RuleKind.{RuleKind}
+use Rattle.louis_table.specs.declared.rule.RuleKind.TheVariants.{Always, Word, BegWord, MidWord, EndWord}
+use Rattle.louis_table.specs.declared.opcode.Sign.{Sign}
+use Rattle.louis_table.specs.declared.opcode.Sign.TheVariants.{Number, Capital, CapitalWord}
+use Rattle.louis_table.specs.declared.opcode.Opcode.{Opcode}
+use Rattle.louis_table.specs.declared.opcode.Opcode.TheVariants.{Define, UpLow, Replace, Announce}
 use Rattle.louis_table.specs.Fields.{IsGap, IsField, Begins, HasFields}
 use Rattle.louis_table.specs.Characters.{Spells}
-use Rattle.louis_table.specs.Reading.{field_at, mark_at, one_character, class_of, definition_from, both_fields, two_fields_at, operands_give, definition_at, as_some, opcode_gives, fields_give, line_gives}
-use Rattle.louis_table.specs.Table.{Entry, opcode_of, IsComment, SaysNothing, blank, comment, Gives, definition_line, Fault, unknown_opcode, missing_operand, bad_characters, bad_dots}
+use Rattle.louis_table.specs.Opcode.{class_name, kind_name, sign_name, name_of}
+use Rattle.louis_table.specs.Reading.{field_at, characters_in, class_named, kind_named, sign_named, first_named, opcode_named, pair_in, rule_in, or_cause, entry_from, entry_with, entry_of_two, entry_of_one, entry_of_fields, entry_at, as_some, opcode_gives, fields_give, line_gives, are_many, are_many_written, is_large}
+use Rattle.louis_table.specs.Table.{Entry, Defines, Pairs, Replaces, Announces, AreCharactersFor, HasCharacters, HasDots, PairDots, RuleDots, IsDotsFor, WritesCells, most_rule_characters, IsComment, SaysNothing, blank, comment, Gives, definition_line, pair_line, rule_line, sign_line, Fault, unknown_opcode, missing_operand, bad_characters, bad_dots, long_rule, many_cells}
 use Rattle.louis_table.proofs.FieldLaws.{field_at-Begins, Begins-field_at, IsGap-field_at, field_at-gap, gap_without_field}
-use Rattle.louis_table.proofs.CharacterLaws.{chosen, one_character-Spells, Spells-one_character}
-use Rattle.cell_core.proofs.DotsLaws.{Dots-from_cells_in, cells_in-from_Dots}
+use Rattle.louis_table.proofs.CharacterLaws.{chosen, map_some, characters_in-Spells, Spells-characters_in}
+use Rattle.louis_table.proofs.OperandLaws.{pair_in-PairDots, PairDots-pair_in, rule_in-RuleDots, RuleDots-rule_in}
 
 -- ---- opcodes
 
-pub class_of-opcode_of : (class : Class) → class_of (opcode_of class) ≡ Some class
-class_of-opcode_of Space = refl
-class_of-opcode_of Punctuation = refl
-class_of-opcode_of Digit = refl
-class_of-opcode_of Letter = refl
+pub opcode_named-name_of : (opcode : Opcode) → opcode_named (name_of opcode) ≡ Some opcode
+unfolding opcode_named
+opcode_named-name_of (Define Space) = refl
+opcode_named-name_of (Define Punctuation) = refl
+opcode_named-name_of (Define Digit) = refl
+opcode_named-name_of (Define Letter) = refl
+opcode_named-name_of UpLow = refl
+opcode_named-name_of (Replace Always) = refl
+opcode_named-name_of (Replace Word) = refl
+opcode_named-name_of (Replace BegWord) = refl
+opcode_named-name_of (Replace MidWord) = refl
+opcode_named-name_of (Replace EndWord) = refl
+opcode_named-name_of (Announce Number) = refl
+opcode_named-name_of (Announce Capital) = refl
+opcode_named-name_of (Announce CapitalWord) = refl
 
-pub class_of-Some : (field : List ℕ) (class : Class) → class_of field ≡ Some class → field ≡ opcode_of class
-class_of-Some field class e =
+by_name : {A : Type 0} (name : A → List ℕ) (field : List ℕ) (this that : A) → bytes_eq field (name this) ≡ true → (let s : Option A = Some this in s) ≡ Some that → field ≡ name that
+by_name name field this that t s = let same : this ≡ that = cc in (bytes_eq-Decides field (name this)).0 t ∙ ap name same
+
+class_named-Some : (field : List ℕ) (class : Class) → class_named field ≡ Some class → field ≡ class_name class
+class_named-Some field class e =
     elim (chosen (bytes_eq field (codes "space")) _ _ _ e) [
-      | inl p ↦ named Space p.0 p.1
+      | inl p ↦ by_name class_name field Space class p.0 p.1
       | inr p ↦ elim (chosen (bytes_eq field (codes "punctuation")) _ _ _ p.1) [
-        | inl q ↦ named Punctuation q.0 q.1
+        | inl q ↦ by_name class_name field Punctuation class q.0 q.1
         | inr q ↦ elim (chosen (bytes_eq field (codes "digit")) _ _ _ q.1) [
-          | inl r ↦ named Digit r.0 r.1
+          | inl r ↦ by_name class_name field Digit class r.0 r.1
           | inr r ↦ elim (chosen (bytes_eq field (codes "letter")) _ _ _ r.1) [
-            | inl s ↦ named Letter s.0 s.1
+            | inl s ↦ by_name class_name field Letter class s.0 s.1
             | inr s ↦ absurd cc
           ]
         ]
       ]
     ]
-  where
-    named : (this : Class) → bytes_eq field (opcode_of this) ≡ true → (let s : Option Class = Some this in s) ≡ Some class → field ≡ opcode_of class
-    named this t s = let same : this ≡ class = cc in (bytes_eq-Decides field (opcode_of this)).0 t ∙ ap opcode_of same
 
-pub class_of-None : (field : List ℕ) → class_of field ≡ None → (class : Class) → field ≢ opcode_of class
-class_of-None field e class h = let s : class_of field ≡ Some class = ap class_of h ∙ class_of-opcode_of class in absurd cc
+kind_named-Some : (field : List ℕ) (kind : RuleKind) → kind_named field ≡ Some kind → field ≡ kind_name kind
+kind_named-Some field kind e =
+    elim (chosen (bytes_eq field (codes "always")) _ _ _ e) [
+      | inl p ↦ by_name kind_name field Always kind p.0 p.1
+      | inr p ↦ elim (chosen (bytes_eq field (codes "word")) _ _ _ p.1) [
+        | inl q ↦ by_name kind_name field Word kind q.0 q.1
+        | inr q ↦ elim (chosen (bytes_eq field (codes "begword")) _ _ _ q.1) [
+          | inl r ↦ by_name kind_name field BegWord kind r.0 r.1
+          | inr r ↦ elim (chosen (bytes_eq field (codes "midword")) _ _ _ r.1) [
+            | inl s ↦ by_name kind_name field MidWord kind s.0 s.1
+            | inr s ↦ elim (chosen (bytes_eq field (codes "endword")) _ _ _ s.1) [
+              | inl t ↦ by_name kind_name field EndWord kind t.0 t.1
+              | inr t ↦ absurd cc
+            ]
+          ]
+        ]
+      ]
+    ]
+
+sign_named-Some : (field : List ℕ) (sign : Sign) → sign_named field ≡ Some sign → field ≡ sign_name sign
+sign_named-Some field sign e =
+    elim (chosen (bytes_eq field (codes "numsign")) _ _ _ e) [
+      | inl p ↦ by_name sign_name field Number sign p.0 p.1
+      | inr p ↦ elim (chosen (bytes_eq field (codes "capsletter")) _ _ _ p.1) [
+        | inl q ↦ by_name sign_name field Capital sign q.0 q.1
+        | inr q ↦ elim (chosen (bytes_eq field (codes "begcapsword")) _ _ _ q.1) [
+          | inl r ↦ by_name sign_name field CapitalWord sign r.0 r.1
+          | inr r ↦ absurd cc
+        ]
+      ]
+    ]
+
+pub opcode_named-Some : (field : List ℕ) (opcode : Opcode) → opcode_named field ≡ Some opcode → field ≡ name_of opcode
+unfolding opcode_named
+opcode_named-Some field opcode e = by (class_named field) (bytes_eq field (codes "uplow")) (kind_named field) (sign_named field) refl refl refl refl e
+  where
+    by : (class : Option Class) (uplow : Bool) (kind : Option RuleKind) (sign : Option Sign) → class_named field ≡ class → bytes_eq field (codes "uplow") ≡ uplow
+        → kind_named field ≡ kind → sign_named field ≡ sign → first_named class uplow kind sign ≡ Some opcode → field ≡ name_of opcode
+    by (Some class) uplow kind sign c u k s e = let same : Define class ≡ opcode = cc in class_named-Some field class c ∙ ap name_of same
+    by None true kind sign c u k s e = let same : UpLow ≡ opcode = cc in (bytes_eq-Decides field (codes "uplow")).0 u ∙ ap name_of same
+    by None false (Some kind) sign c u k s e = let same : Replace kind ≡ opcode = cc in kind_named-Some field kind k ∙ ap name_of same
+    by None false None (Some sign) c u k s e = let same : Announce sign ≡ opcode = cc in sign_named-Some field sign s ∙ ap name_of same
+    by None false None None c u k s e = absurd cc
+
+opcode_named-None : (field : List ℕ) → opcode_named field ≡ None → (opcode : Opcode) → field ≢ name_of opcode
+opcode_named-None field e opcode h = let s : opcode_named field ≡ Some opcode = ap opcode_named h ∙ opcode_named-name_of opcode in absurd cc
+
+-- the opcode takes characters and dots
+abbrev pub TakesBoth : Opcode → Type 0
+TakesBoth (Define class) = Unit {0}
+TakesBoth UpLow = Unit {0}
+TakesBoth (Replace kind) = Unit {0}
+TakesBoth (Announce sign) = ⊥
+
+HasDots-both : (line characters dots : List ℕ) (opcode : Opcode) → TakesBoth opcode → HasFields line (name_of opcode ∷ characters ∷ dots ∷ []) → HasDots line opcode dots
+HasDots-both line characters dots (Define class) b h = (characters, h)
+HasDots-both line characters dots UpLow b h = (characters, h)
+HasDots-both line characters dots (Replace kind) b h = (characters, h)
+HasDots-both line characters dots (Announce sign) b h = absurd b
+
+both-HasDots : (line dots : List ℕ) (opcode : Opcode) → TakesBoth opcode → HasDots line opcode dots → (characters : List ℕ) × HasFields line (name_of opcode ∷ characters ∷ dots ∷ [])
+both-HasDots line dots (Define class) b h = h
+both-HasDots line dots UpLow b h = h
+both-HasDots line dots (Replace kind) b h = h
+both-HasDots line dots (Announce sign) b h = absurd b
+
+HasCharacters-both : (line characters : List ℕ) (opcode : Opcode) → TakesBoth opcode → HasFields line (name_of opcode ∷ characters ∷ []) → HasCharacters line opcode characters
+HasCharacters-both line characters (Define class) b h = h
+HasCharacters-both line characters UpLow b h = h
+HasCharacters-both line characters (Replace kind) b h = h
+HasCharacters-both line characters (Announce sign) b h = absurd b
+
+front_field : (line name characters dots : List ℕ) → HasFields line (name ∷ characters ∷ dots ∷ []) → HasFields line (name ∷ characters ∷ [])
+front_field line name characters dots h = (h.0, h.1, (h.2.0, h.2.1, tt))
 
 -- ---- what is read is said
 
@@ -53,39 +144,119 @@ Says line (Ok None) = SaysNothing line
 Says line (Ok (Some entry)) = Gives line entry
 Says line (Err cause) = (before : List (List ℕ)) → Fault before line cause
 
-definition_says : (line characters dots : List ℕ) (class : Class) (c : Option ℕ) (cells : Option (List ℕ))
-    → one_character (mark_at characters) ≡ c → cells_in dots ≡ cells → HasFields line (opcode_of class ∷ characters ∷ dots ∷ [])
-    → Says line (as_some (definition_from class c cells))
-definition_says line characters dots class None cells e f h =
-    λ before. bad_characters class characters (h.0, h.1, (h.2.0, h.2.1, tt))
-    (λ c s. let t : one_character (mark_at characters) ≡ Some c = Spells-one_character characters c s in absurd cc) refl
-definition_says line characters dots class (Some c) None e f h =
-    λ before. bad_dots class characters dots h (λ cells d. let t : cells_in dots ≡ Some cells = cells_in-from_Dots dots cells d in absurd cc) refl
-definition_says line characters dots class (Some c) (Some cells) e f h =
-    definition_line class characters dots c cells h (one_character-Spells characters c e) (Dots-from_cells_in dots cells f) refl
+map_none : {A B : Type 0} (f : A → B) (o : Option A) → option_map f o ≡ None → o ≡ None
+map_none f None e = refl
+map_none f (Some x) e = absurd cc
 
-operands_say : (line rest characters more dots end : List ℕ) (class : Class) → Begins line (opcode_of class) rest
+or_cause_says : (line : List ℕ) (cause : ℕ) (o : Option Entry) → ((entry : Entry) → o ≡ Some entry → Gives line entry) → (o ≡ None → (before : List (List ℕ)) → Fault before line cause)
+    → Says line (as_some (or_cause cause o))
+or_cause_says line cause None g f = f refl
+or_cause_says line cause (Some entry) g f = g entry refl
+
+unread : {A : Type 0} (o : Option A) (x : A) → o ≡ None → o ≡ Some x → ⊥
+unread o x e s = absurd cc
+
+-- a text of the wrong length for the opcode
+wrong_length : (opcode : Opcode) (characters text : List ℕ) → characters_in characters ≡ Some text → ¬ AreCharactersFor opcode text
+    → (other : List ℕ) → AreCharactersFor opcode other → ¬ Spells characters other
+wrong_length opcode characters text e n other a s =
+    let same : other ≡ text = let read : characters_in characters ≡ Some other = Spells-characters_in characters other s in cc in
+    n (subst (AreCharactersFor opcode) same a)
+
+module _ (line characters dots : List ℕ) where
+  wrong_says : (opcode : Opcode) (text : List ℕ) → TakesBoth opcode → HasFields line (name_of opcode ∷ characters ∷ dots ∷ []) → characters_in characters ≡ Some text
+      → ¬ AreCharactersFor opcode text → (before : List (List ℕ)) → Fault before line 3
+  wrong_says opcode text b h e n before =
+      bad_characters opcode characters (HasCharacters-both line characters opcode b (front_field line (name_of opcode) characters dots h)) (wrong_length opcode characters text e n) refl
+
+  text_says : (opcode : Opcode) (text : List ℕ) → TakesBoth opcode → HasFields line (name_of opcode ∷ characters ∷ dots ∷ []) → characters_in characters ≡ Some text
+      → Says line (as_some (entry_from opcode text dots))
+  text_says (Define class) [] b h e = wrong_says (Define class) [] tt h e (λ n. omega arith)
+  text_says (Define class) (c ∷ []) b h e =
+      or_cause_says line 4 _
+      (λ entry s. let m = map_some (λ (cells : List ℕ). Defines c (record { class = class; cells = cells })) (cells_in dots) entry s in
+      definition_line class characters dots c m.0 h (characters_in-Spells characters (c ∷ []) e) (Dots-from_cells_in dots m.0 m.1) (sym m.2))
+      (λ n before. bad_dots (Define class) dots (characters, h) (λ d. unread (cells_in dots) d.0 (map_none _ _ n) (cells_in-from_Dots dots d.0 d.1)) refl)
+  text_says (Define class) (c ∷ d ∷ text) b h e = wrong_says (Define class) (c ∷ d ∷ text) tt h e (λ n. omega arith)
+  text_says UpLow [] b h e = wrong_says UpLow [] tt h e (λ n. omega arith)
+  text_says UpLow (u ∷ []) b h e = wrong_says UpLow (u ∷ []) tt h e (λ n. omega arith)
+  text_says UpLow (u ∷ l ∷ []) b h e =
+      or_cause_says line 4 _
+      (λ entry s. let m = map_some (λ (cells : List ℕ × List ℕ). Pairs u cells.0 l cells.1) (pair_in dots) entry s in
+      pair_line characters dots u l m.0.0 m.0.1 h (characters_in-Spells characters (u ∷ l ∷ []) e) (pair_in-PairDots dots m.0.0 m.0.1 m.1) (sym m.2))
+      (λ n before. bad_dots UpLow dots (characters, h) (λ d. unread (pair_in dots) (d.0, d.1) (map_none _ _ n) (PairDots-pair_in dots d.0 d.1 d.2)) refl)
+  text_says UpLow (u ∷ l ∷ d ∷ text) b h e = wrong_says UpLow (u ∷ l ∷ d ∷ text) tt h e (λ n. omega arith)
+  text_says (Replace kind) text b h e =
+      or_cause_says line 4 _
+      (λ entry s. let m = map_some (λ (cells : Option (List ℕ)). Replaces kind text cells) (rule_in dots) entry s in
+      rule_line kind characters dots text m.0 h (characters_in-Spells characters text e) (rule_in-RuleDots dots m.0 m.1) (sym m.2))
+      (λ n before. bad_dots (Replace kind) dots (characters, h) (λ d. unread (rule_in dots) d.0 (map_none _ _ n) (RuleDots-rule_in dots d.0 d.1)) refl)
+  text_says (Announce sign) text b h e = absurd b
+
+  both_says : (opcode : Opcode) (o : Option (List ℕ)) → characters_in characters ≡ o → TakesBoth opcode → HasFields line (name_of opcode ∷ characters ∷ dots ∷ [])
+      → Says line (as_some (entry_with opcode o dots))
+  both_says opcode None e b h =
+      λ before. bad_characters opcode characters (HasCharacters-both line characters opcode b (front_field line (name_of opcode) characters dots h))
+      (λ text a s. unread (characters_in characters) text e (Spells-characters_in characters text s)) refl
+  both_says opcode (Some text) e b h = text_says opcode text b h e
+
+  sign_says : (sign : Sign) → HasFields line (name_of (Announce sign) ∷ dots ∷ []) → Says line (as_some (entry_from (Announce sign) [] dots))
+  sign_says sign h =
+      or_cause_says line 4 _
+      (λ entry s. let m = map_some (λ (cells : List ℕ). Announces sign cells) (cells_in dots) entry s in
+      sign_line sign dots m.0 h (Dots-from_cells_in dots m.0 m.1) (sym m.2))
+      (λ n before. bad_dots (Announce sign) dots h (λ d. unread (cells_in dots) d.0 (map_none _ _ n) (cells_in-from_Dots dots d.0 d.1)) refl)
+
+same_rest : (text field rest other : List ℕ) → Begins text field rest → Begins text field other → other ≡ rest
+same_rest text field rest other b d = sym (Begins-field_at text field other d).1 ∙ (Begins-field_at text field rest b).1
+
+same_rest_of : (text field rest others other : List ℕ) → Begins text field rest → Begins text others other → other ≡ rest
+same_rest_of text field rest others other b d = sym (Begins-field_at text others other d).1 ∙ (Begins-field_at text field rest b).1
+
+missing_both : (line rest : List ℕ) (opcode : Opcode) → TakesBoth opcode → Begins line (name_of opcode) rest
+    → ((characters dots : List ℕ) → ¬ HasFields rest (characters ∷ dots ∷ [])) → (dots : List ℕ) → ¬ HasDots line opcode dots
+missing_both line rest opcode two b n dots h =
+    let f = both-HasDots line dots opcode two h in
+    n f.0 dots (subst (λ (r : List ℕ). HasFields r (f.0 ∷ dots ∷ [])) (same_rest line (name_of opcode) rest f.1.0 b f.1.1) f.1.2)
+
+two_say : (line rest characters more dots end : List ℕ) (opcode : Opcode) → TakesBoth opcode → Begins line (name_of opcode) rest
     → (characters ≢ [] → Begins rest characters more) → (characters ≡ [] → IsGap rest)
     → (dots ≢ [] → Begins more dots end) → (dots ≡ [] → IsGap more)
-    → Says line (as_some (operands_give class (both_fields characters dots)))
-operands_say line rest [] more dots end class b f n g m =
-    λ before. missing_operand class rest b (λ characters dots h. gap_without_field rest characters h.0 (n refl) h.1) refl
-operands_say line rest (x ∷ characters) more [] end class b f n g m =
-    λ before. missing_operand class rest b
-    (λ others dots h. gap_without_field h.0 dots h.2.0 (subst IsGap (same others h.0 h.1) (m refl)) h.2.1) refl
-  where
-    same : (others left : List ℕ) → Begins rest others left → more ≡ left
-    same others left h = sym (Begins-field_at rest (x ∷ characters) more (f (λ e. cc))).1 ∙ (Begins-field_at rest others left h).1
-operands_say line rest (x ∷ characters) more (y ∷ dots) end class b f n g m =
-    definition_says line (x ∷ characters) (y ∷ dots) class _ _ refl refl (rest, b, (more, f (λ e. cc), (end, g (λ e. cc), tt)))
+    → Says line (as_some (entry_of_two opcode characters dots))
+two_say line rest [] more dots end opcode two b f n g m =
+    λ before. missing_operand opcode rest b (missing_both line rest opcode two b (λ characters dots h. gap_without_field rest characters h.0 (n refl) h.1)) refl
+two_say line rest (x ∷ characters) more [] end opcode two b f n g m =
+    λ before. missing_operand opcode rest b
+    (missing_both line rest opcode two b (λ others dots h. gap_without_field h.0 dots h.2.0 (subst IsGap (sym (same_rest_of rest (x ∷ characters) more others h.0 (f (λ e. cc)) h.1)) (m refl)) h.2.1)) refl
+two_say line rest (x ∷ characters) more (y ∷ dots) end opcode two b f n g m =
+    both_says line (x ∷ characters) (y ∷ dots) opcode _ refl two (rest, b, (more, f (λ e. cc), (end, g (λ e. cc), tt)))
 
-opcode_says : (line field rest : List ℕ) (class : Option Class) → class_of field ≡ class → Begins line field rest → ¬ IsComment field → Says line (opcode_gives class rest)
-unfolding definition_at two_fields_at
-opcode_says line field rest None e b n = λ before. unknown_opcode field rest b n (class_of-None field e) refl
-opcode_says line field rest (Some class) e b n =
-    operands_say line rest (field_at rest).0 (field_at rest).1 (field_at (field_at rest).1).0 (field_at (field_at rest).1).1 class
-    (subst (λ (f : List ℕ). Begins line f rest) (class_of-Some field class e) b)
-    (field_at-Begins rest) (IsGap-field_at rest) (field_at-Begins (field_at rest).1) (IsGap-field_at (field_at rest).1)
+one_say : (line rest dots more : List ℕ) (sign : Sign) → Begins line (name_of (Announce sign)) rest → (dots ≢ [] → Begins rest dots more) → (dots ≡ [] → IsGap rest)
+    → Says line (as_some (entry_of_one (Announce sign) dots))
+one_say line rest [] more sign b f n =
+    λ before. missing_operand (Announce sign) rest b
+    (λ dots h. gap_without_field h.0 dots h.2.0 (subst IsGap (sym (same_rest line (name_of (Announce sign)) rest h.0 b h.1)) (n refl)) h.2.1) refl
+one_say line rest (y ∷ dots) more sign b f n = sign_says line [] (y ∷ dots) sign (rest, b, (more, f (λ e. cc), tt))
+
+entry_says : (line rest : List ℕ) (opcode : Opcode) → Begins line (name_of opcode) rest → Says line (as_some (entry_at opcode rest))
+unfolding entry_at
+entry_says line rest opcode b = by opcode b
+  where
+    two : (opcode : Opcode) → TakesBoth opcode → Begins line (name_of opcode) rest → Says line (as_some (entry_of_fields opcode rest))
+    two opcode both b =
+        two_say line rest (field_at rest).0 (field_at rest).1 (field_at (field_at rest).1).0 (field_at (field_at rest).1).1 opcode both b
+        (field_at-Begins rest) (IsGap-field_at rest) (field_at-Begins (field_at rest).1) (IsGap-field_at (field_at rest).1)
+
+    by : (opcode : Opcode) → Begins line (name_of opcode) rest → Says line (as_some (entry_at opcode rest))
+    by (Define class) b = two (Define class) tt b
+    by UpLow b = two UpLow tt b
+    by (Replace kind) b = two (Replace kind) tt b
+    by (Announce sign) b = one_say line rest (field_at rest).0 (field_at rest).1 sign b (field_at-Begins rest) (IsGap-field_at rest)
+
+opcode_says : (line field rest : List ℕ) (opcode : Option Opcode) → opcode_named field ≡ opcode → Begins line field rest → ¬ IsComment field → Says line (opcode_gives opcode rest)
+opcode_says line field rest None e b n = λ before. unknown_opcode field rest b n (opcode_named-None field e) refl
+opcode_says line field rest (Some opcode) e b n =
+    entry_says line rest opcode (subst (λ (f : List ℕ). Begins line f rest) (opcode_named-Some field opcode e) b)
 
 fields_say : (line field rest : List ℕ) → (field ≢ [] → Begins line field rest) → (field ≡ [] → IsGap line) → Says line (fields_give field rest)
 fields_say line [] rest f n = blank (n refl)
@@ -93,7 +264,7 @@ fields_say line (x ∷ field) rest f n =
     let b : Begins line (x ∷ field) rest = f (λ e. cc) in
     elim (cases_Bool (eqb x 35)) [
       | inl t ↦ rw t (comment (x ∷ field) rest b (eqb-true x 35 t))
-      | inr u ↦ rw u (opcode_says line (x ∷ field) rest (class_of (x ∷ field)) refl b (eqb-false x 35 u))
+      | inr u ↦ rw u (opcode_says line (x ∷ field) rest (opcode_named (x ∷ field)) refl b (eqb-false x 35 u))
     ]
 
 pub line_gives-Says : (line : List ℕ) → Says line (line_gives line)
@@ -108,37 +279,79 @@ first_gives line field rest b =
     let h = Begins-field_at line field rest b in
     ap (λ (f : List ℕ). fields_give f (field_at line).1) h.0 ∙ ap (fields_give field) h.1
 
-opcode_field : (class : Class) (rest : List ℕ) → fields_give (opcode_of class) rest ≡ as_some (definition_at class rest)
-opcode_field Space rest = refl
-opcode_field Punctuation rest = refl
-opcode_field Digit rest = refl
-opcode_field Letter rest = refl
+opcode_field : (opcode : Opcode) (rest : List ℕ) → fields_give (name_of opcode) rest ≡ as_some (entry_at opcode rest)
+unfolding opcode_named
+opcode_field (Define Space) rest = refl
+opcode_field (Define Punctuation) rest = refl
+opcode_field (Define Digit) rest = refl
+opcode_field (Define Letter) rest = refl
+opcode_field UpLow rest = refl
+opcode_field (Replace Always) rest = refl
+opcode_field (Replace Word) rest = refl
+opcode_field (Replace BegWord) rest = refl
+opcode_field (Replace MidWord) rest = refl
+opcode_field (Replace EndWord) rest = refl
+opcode_field (Announce Number) rest = refl
+opcode_field (Announce Capital) rest = refl
+opcode_field (Announce CapitalWord) rest = refl
 
-operands_at : (class : Class) (rest characters more dots : List ℕ) → Begins rest characters more → (field_at more).0 ≡ dots
-    → definition_at class rest ≡ operands_give class (both_fields characters dots)
-unfolding definition_at two_fields_at
-operands_at class rest characters more dots b e =
+pub entry_at-both : (opcode : Opcode) (rest : List ℕ) → TakesBoth opcode → entry_at opcode rest ≡ entry_of_fields opcode rest
+unfolding entry_at
+entry_at-both (Define class) rest b = refl
+entry_at-both UpLow rest b = refl
+entry_at-both (Replace kind) rest b = refl
+entry_at-both (Announce sign) rest b = absurd b
+
+pub entry_at-sign : (sign : Sign) (rest : List ℕ) → entry_at (Announce sign) rest ≡ entry_of_one (Announce sign) (field_at rest).0
+unfolding entry_at
+entry_at-sign sign rest = refl
+
+operands_at : (opcode : Opcode) (rest characters more dots : List ℕ) → Begins rest characters more → (field_at more).0 ≡ dots
+    → entry_of_fields opcode rest ≡ entry_of_two opcode characters dots
+operands_at opcode rest characters more dots b e =
     let h = Begins-field_at rest characters more b in
-    ap (λ (f : List ℕ). operands_give class (both_fields f (field_at (field_at rest).1).0)) h.0
-    ∙ (ap (λ (m : List ℕ). operands_give class (both_fields characters (field_at m).0)) h.1 ∙ ap (λ (d : List ℕ). operands_give class (both_fields characters d)) e)
+    ap (λ (f : List ℕ). entry_of_two opcode f (field_at (field_at rest).1).0) h.0
+    ∙ (ap (λ (m : List ℕ). entry_of_two opcode characters (field_at m).0) h.1 ∙ ap (entry_of_two opcode characters) e)
 
-operands_both : (class : Class) (characters dots : List ℕ) → IsField characters → IsField dots
-    → operands_give class (both_fields characters dots) ≡ definition_from class (one_character (mark_at characters)) (cells_in dots)
-operands_both class [] dots f g = absurd f
-operands_both class (x ∷ characters) [] f g = absurd g
-operands_both class (x ∷ characters) (y ∷ dots) f g = refl
+operands_both : (opcode : Opcode) (characters dots : List ℕ) → IsField characters → IsField dots
+    → entry_of_two opcode characters dots ≡ entry_with opcode (characters_in characters) dots
+operands_both opcode [] dots f g = absurd f
+operands_both opcode (x ∷ characters) [] f g = absurd g
+operands_both opcode (x ∷ characters) (y ∷ dots) f g = refl
+
+operand_one : (opcode : Opcode) (dots : List ℕ) → IsField dots → entry_of_one opcode dots ≡ entry_from opcode [] dots
+operand_one opcode [] f = absurd f
+operand_one opcode (y ∷ dots) f = refl
 
 field_of : (text field rest : List ℕ) → Begins text field rest → IsField field
 field_of text field rest b = b.is_field
 
+-- a line that begins with an opcode
+opcode_line : (line rest : List ℕ) (opcode : Opcode) → Begins line (name_of opcode) rest → line_gives line ≡ as_some (entry_at opcode rest)
+opcode_line line rest opcode b = first_gives line (name_of opcode) rest b ∙ opcode_field opcode rest
+
 -- a line with both operands
-definition_gives : (line characters dots : List ℕ) (class : Class) → HasFields line (opcode_of class ∷ characters ∷ dots ∷ [])
-    → line_gives line ≡ as_some (definition_from class (one_character (mark_at characters)) (cells_in dots))
-definition_gives line characters dots class h =
-    first_gives line (opcode_of class) h.0 h.1
-    ∙ (opcode_field class h.0
-    ∙ (ap as_some (operands_at class h.0 characters h.2.0 dots h.2.1 (Begins-field_at h.2.0 dots h.2.2.0 h.2.2.1).0)
-    ∙ ap as_some (operands_both class characters dots (field_of h.0 characters h.2.0 h.2.1) (field_of h.2.0 dots h.2.2.0 h.2.2.1))))
+two_give : (line characters dots : List ℕ) (opcode : Opcode) → TakesBoth opcode → HasFields line (name_of opcode ∷ characters ∷ dots ∷ [])
+    → line_gives line ≡ as_some (entry_with opcode (characters_in characters) dots)
+two_give line characters dots opcode two h =
+    opcode_line line h.0 opcode h.1
+    ∙ ap as_some (entry_at-both opcode h.0 two
+    ∙ (operands_at opcode h.0 characters h.2.0 dots h.2.1 (Begins-field_at h.2.0 dots h.2.2.0 h.2.2.1).0
+    ∙ operands_both opcode characters dots (field_of h.0 characters h.2.0 h.2.1) (field_of h.2.0 dots h.2.2.0 h.2.2.1)))
+
+-- the same where the characters were read
+text_gives : (line characters dots text : List ℕ) (opcode : Opcode) → TakesBoth opcode → HasFields line (name_of opcode ∷ characters ∷ dots ∷ []) → Spells characters text
+    → line_gives line ≡ as_some (entry_from opcode text dots)
+text_gives line characters dots text opcode two h s =
+    two_give line characters dots opcode two h ∙ ap (λ (o : Option (List ℕ)). as_some (entry_with opcode o dots)) (Spells-characters_in characters text s)
+
+-- a line of a sign
+one_gives : (line dots : List ℕ) (sign : Sign) → HasFields line (name_of (Announce sign) ∷ dots ∷ []) → line_gives line ≡ as_some (entry_from (Announce sign) [] dots)
+one_gives line dots sign h =
+    opcode_line line h.0 (Announce sign) h.1
+    ∙ ap as_some (entry_at-sign sign h.0
+    ∙ (ap (entry_of_one (Announce sign)) (Begins-field_at h.0 dots h.2.0 h.2.1).0
+    ∙ operand_one (Announce sign) dots (field_of h.0 dots h.2.0 h.2.1)))
 
 pub line_gives-nothing : (line : List ℕ) → SaysNothing line → line_gives line ≡ Ok None
 unfolding line_gives
@@ -149,73 +362,244 @@ line_gives-nothing line (comment field rest b h) = first_gives line field rest b
     nothing [] f h = absurd f
     nothing (x ∷ field) f h = rw (eq-eqb x 35 h) refl
 
+some_entry : {A : Type 0} (f : A → Entry) (cause : ℕ) (o : Option A) (x : A) (entry : Entry) → o ≡ Some x → entry ≡ f x → as_some (or_cause cause (option_map f o)) ≡ Ok (Some entry)
+some_entry f cause o x entry e s = ap (λ p. as_some (or_cause cause (option_map f p))) e ∙ ap (λ (y : Entry). Ok (Some y)) (sym s)
+
 pub line_gives-entry : (line : List ℕ) (entry : Entry) → Gives line entry → line_gives line ≡ Ok (Some entry)
 line_gives-entry line entry (definition_line class characters dots c cells h s d e) =
-    definition_gives line characters dots class h
-    ∙ (ap (λ (o : Option ℕ). as_some (definition_from class o (cells_in dots))) (Spells-one_character characters c s)
-    ∙ (ap (λ (o : Option (List ℕ)). as_some (definition_from class (Some c) o)) (cells_in-from_Dots dots cells d)
-    ∙ ap (λ (x : Entry). Ok (Some x)) (sym e)))
+    text_gives line characters dots (c ∷ []) (Define class) tt h s
+    ∙ some_entry (λ (cells : List ℕ). Defines c (record { class = class; cells = cells })) 4 (cells_in dots) cells entry (cells_in-from_Dots dots cells d) e
+line_gives-entry line entry (pair_line characters dots upper lower upper_cells lower_cells h s d e) =
+    text_gives line characters dots (upper ∷ lower ∷ []) UpLow tt h s
+    ∙ some_entry (λ (cells : List ℕ × List ℕ). Pairs upper cells.0 lower cells.1) 4 (pair_in dots) (upper_cells, lower_cells) entry (PairDots-pair_in dots upper_cells lower_cells d) e
+line_gives-entry line entry (rule_line kind characters dots text cells h s d e) =
+    text_gives line characters dots text (Replace kind) tt h s
+    ∙ some_entry (λ (cells : Option (List ℕ)). Replaces kind text cells) 4 (rule_in dots) cells entry (RuleDots-rule_in dots cells d) e
+line_gives-entry line entry (sign_line sign dots cells h d e) =
+    one_gives line dots sign h ∙ some_entry (λ (cells : List ℕ). Announces sign cells) 4 (cells_in dots) cells entry (cells_in-from_Dots dots cells d) e
+
+-- ---- causes
 
 -- the line has a cause that is at most this one
 abbrev pub FailsBy : List ℕ → ℕ → Type 0
 FailsBy line cause = (least : ℕ) × (line_gives line ≡ Err least) × (least ≤ cause)
 
-pub unknown_fails : (line field rest : List ℕ) → Begins line field rest → ¬ IsComment field → ((class : Class) → field ≢ opcode_of class) → FailsBy line 1
+pub unknown_fails : (line field rest : List ℕ) → Begins line field rest → ¬ IsComment field → ((opcode : Opcode) → field ≢ name_of opcode) → FailsBy line 1
 unknown_fails line field rest b n u = (1, first_gives line field rest b ∙ unknown field b.is_field n u, lit≤ tt)
   where
-    no_class : (field : List ℕ) → ((class : Class) → field ≢ opcode_of class) → (o : Option Class) → class_of field ≡ o → opcode_gives o rest ≡ Err 1
-    no_class field u None e = refl
-    no_class field u (Some class) e = absurd (u class (class_of-Some field class e))
+    no_opcode : (field : List ℕ) → ((opcode : Opcode) → field ≢ name_of opcode) → (o : Option Opcode) → opcode_named field ≡ o → opcode_gives o rest ≡ Err 1
+    no_opcode field u None e = refl
+    no_opcode field u (Some opcode) e = absurd (u opcode (opcode_named-Some field opcode e))
 
-    unknown : (field : List ℕ) → IsField field → ¬ IsComment field → ((class : Class) → field ≢ opcode_of class) → fields_give field rest ≡ Err 1
+    unknown : (field : List ℕ) → IsField field → ¬ IsComment field → ((opcode : Opcode) → field ≢ name_of opcode) → fields_give field rest ≡ Err 1
     unknown [] f n u = absurd f
-    unknown (x ∷ field) f n u = rw (ne_eqb x 35 n) (no_class (x ∷ field) u (class_of (x ∷ field)) refl)
+    unknown (x ∷ field) f n u = rw (ne_eqb x 35 n) (no_opcode (x ∷ field) u (opcode_named (x ∷ field)) refl)
 
-pub missing_fails : (line rest : List ℕ) (class : Class) → Begins line (opcode_of class) rest
-    → ((characters dots : List ℕ) → ¬ HasFields rest (characters ∷ dots ∷ [])) → FailsBy line 2
-unfolding definition_at two_fields_at
-missing_fails line rest class b n = (
-  2,
-  first_gives line (opcode_of class) rest b ∙ (opcode_field class rest
-      ∙ ap as_some (missing (field_at rest).0 (field_at (field_at rest).1).0 (field_at-Begins rest) (field_at-Begins (field_at rest).1))),
-  lit≤ tt,
-)
+module _ (line rest : List ℕ) where
+  two_missing : (opcode : Opcode) (characters dots : List ℕ) → TakesBoth opcode → Begins line (name_of opcode) rest → ((dots : List ℕ) → ¬ HasDots line opcode dots)
+      → (characters ≢ [] → Begins rest characters (field_at rest).1)
+      → (dots ≢ [] → Begins (field_at rest).1 dots (field_at (field_at rest).1).1) → entry_of_two opcode characters dots ≡ Err 2
+  two_missing opcode [] dots two b n f g = refl
+  two_missing opcode (x ∷ characters) [] two b n f g = refl
+  two_missing opcode (x ∷ characters) (y ∷ dots) two b n f g =
+      absurd (n (y ∷ dots) (HasDots-both line (x ∷ characters) (y ∷ dots) opcode two (rest, b, ((field_at rest).1, f (λ e. cc), ((field_at (field_at rest).1).1, g (λ e. cc), tt)))))
+
+  one_missing : (sign : Sign) (dots : List ℕ) → Begins line (name_of (Announce sign)) rest → ((dots : List ℕ) → ¬ HasDots line (Announce sign) dots)
+      → (dots ≢ [] → Begins rest dots (field_at rest).1) → entry_of_one (Announce sign) dots ≡ Err 2
+  one_missing sign [] b n f = refl
+  one_missing sign (y ∷ dots) b n f = absurd (n (y ∷ dots) (rest, b, ((field_at rest).1, f (λ e. cc), tt)))
+
+  both_missing : (opcode : Opcode) → TakesBoth opcode → Begins line (name_of opcode) rest → ((dots : List ℕ) → ¬ HasDots line opcode dots) → entry_at opcode rest ≡ Err 2
+  both_missing opcode two b n =
+      entry_at-both opcode rest two ∙ two_missing opcode (field_at rest).0 (field_at (field_at rest).1).0 two b n (field_at-Begins rest) (field_at-Begins (field_at rest).1)
+
+  missing_at : (opcode : Opcode) → Begins line (name_of opcode) rest → ((dots : List ℕ) → ¬ HasDots line opcode dots) → entry_at opcode rest ≡ Err 2
+  missing_at (Define class) b n = both_missing (Define class) tt b n
+  missing_at UpLow b n = both_missing UpLow tt b n
+  missing_at (Replace kind) b n = both_missing (Replace kind) tt b n
+  missing_at (Announce sign) b n = entry_at-sign sign rest ∙ one_missing sign (field_at rest).0 b n (field_at-Begins rest)
+
+pub missing_fails : (line rest : List ℕ) (opcode : Opcode) → Begins line (name_of opcode) rest → ((dots : List ℕ) → ¬ HasDots line opcode dots) → FailsBy line 2
+missing_fails line rest opcode b n = (2, opcode_line line rest opcode b ∙ ap as_some (missing_at line rest opcode b n), lit≤ tt)
+
+-- an entry fails by a cause that is at most this one
+abbrev Fails : Result Entry ℕ → ℕ → Type 0
+Fails read cause = (least : ℕ) × (read ≡ Err least) × (least ≤ cause)
+
+pub wrong_entry : (opcode : Opcode) (text dots : List ℕ) → TakesBoth opcode → ¬ AreCharactersFor opcode text → entry_from opcode text dots ≡ Err 3
+wrong_entry (Define class) [] dots b n = refl
+wrong_entry (Define class) (c ∷ []) dots b n = absurd (n refl)
+wrong_entry (Define class) (c ∷ d ∷ text) dots b n = refl
+wrong_entry UpLow [] dots b n = refl
+wrong_entry UpLow (u ∷ []) dots b n = refl
+wrong_entry UpLow (u ∷ l ∷ []) dots b n = absurd (n refl)
+wrong_entry UpLow (u ∷ l ∷ d ∷ text) dots b n = refl
+wrong_entry (Replace kind) text dots b n = absurd (n tt)
+wrong_entry (Announce sign) text dots b n = absurd b
+
+-- a line with the characters operand alone, or with both
+with_characters : (line characters : List ℕ) (opcode : Opcode) → TakesBoth opcode → HasFields line (name_of opcode ∷ characters ∷ [])
+    → (line_gives line ≡ Err 2) ⊎ ((dots : List ℕ) × (line_gives line ≡ as_some (entry_with opcode (characters_in characters) dots)))
+with_characters line characters opcode two h = by characters (field_at h.2.0).0 (field_of h.0 characters h.2.0 h.2.1) refl
   where
-    missing : (characters dots : List ℕ) → (characters ≢ [] → Begins rest characters (field_at rest).1)
-        → (dots ≢ [] → Begins (field_at rest).1 dots (field_at (field_at rest).1).1) → operands_give class (both_fields characters dots) ≡ Err 2
-    missing [] dots f g = refl
-    missing (x ∷ characters) [] f g = refl
-    missing (x ∷ characters) (y ∷ dots) f g =
-        absurd (n (x ∷ characters) (y ∷ dots) ((field_at rest).1, f (λ e. cc), ((field_at (field_at rest).1).1, g (λ e. cc), tt)))
+    to : (dots : List ℕ) → (field_at h.2.0).0 ≡ dots → line_gives line ≡ as_some (entry_of_two opcode characters dots)
+    to dots e = opcode_line line h.0 opcode h.1 ∙ ap as_some (entry_at-both opcode h.0 two ∙ operands_at opcode h.0 characters h.2.0 dots h.2.1 e)
 
-bad_character : (characters : List ℕ) → ((c : ℕ) → ¬ Spells characters (c ∷ [])) → (o : Option ℕ) → one_character (mark_at characters) ≡ o → o ≡ None
-bad_character characters n None e = refl
-bad_character characters n (Some c) e = absurd (n c (one_character-Spells characters c e))
+    read : (cs dots : List ℕ) → IsField cs → characters ≡ cs → (field_at h.2.0).0 ≡ dots
+        → (line_gives line ≡ Err 2) ⊎ ((dots : List ℕ) × (line_gives line ≡ as_some (entry_with opcode (characters_in characters) dots)))
+    read [] dots f c e = absurd f
+    read (x ∷ cs) [] f c e = inl (to [] e ∙ ap (λ (t : List ℕ). as_some (entry_of_two opcode t [])) c)
+    read (x ∷ cs) (y ∷ dots) f c e =
+        inr (y ∷ dots, to (y ∷ dots) e ∙ (ap (λ (t : List ℕ). as_some (entry_of_two opcode t (y ∷ dots))) c ∙ ap (λ (t : List ℕ). as_some (entry_with opcode (characters_in t) (y ∷ dots))) (sym c)))
 
-pub characters_fail : (line characters : List ℕ) (class : Class) → HasFields line (opcode_of class ∷ characters ∷ [])
-    → ((c : ℕ) → ¬ Spells characters (c ∷ [])) → FailsBy line 3
-characters_fail line characters class h n =
-    let o = operands characters (field_at h.2.0).0 (field_of h.0 characters h.2.0 h.2.1) (bad_character characters n _ refl) in (
-      o.0,
-      first_gives line (opcode_of class) h.0 h.1 ∙ (opcode_field class h.0
-          ∙ ap as_some (operands_at class h.0 characters h.2.0 (field_at h.2.0).0 h.2.1 refl ∙ o.1)),
-      o.2,
-    )
+    by : (cs dots : List ℕ) → IsField cs → (field_at h.2.0).0 ≡ dots → (line_gives line ≡ Err 2) ⊎ ((dots : List ℕ) × (line_gives line ≡ as_some (entry_with opcode (characters_in characters) dots)))
+    by cs dots f e = read characters dots (field_of h.0 characters h.2.0 h.2.1) refl e
+
+two_characters_fail : (line characters : List ℕ) (opcode : Opcode) → TakesBoth opcode → HasFields line (name_of opcode ∷ characters ∷ [])
+    → ((text : List ℕ) → AreCharactersFor opcode text → ¬ Spells characters text) → FailsBy line 3
+two_characters_fail line characters opcode two h n =
+    elim (with_characters line characters opcode two h) [
+      | inl e ↦ (2, e, lit≤ tt)
+      | inr (dots, e) ↦ (3, e ∙ ap as_some (by dots (characters_in characters) refl), lit≤ tt)
+    ]
   where
-    operands : (characters dots : List ℕ) → IsField characters → one_character (mark_at characters) ≡ None
-        → (least : ℕ) × (operands_give class (both_fields characters dots) ≡ Err least) × (least ≤ 3)
-    operands [] dots f e = absurd f
-    operands (x ∷ characters) [] f e = (2, refl, lit≤ tt)
-    operands (x ∷ characters) (y ∷ dots) f e = (3, ap (λ (o : Option ℕ). definition_from class o (cells_in (y ∷ dots))) e, lit≤ tt)
+    by : (dots : List ℕ) (o : Option (List ℕ)) → characters_in characters ≡ o → entry_with opcode o dots ≡ Err 3
+    by dots None e = refl
+    by dots (Some text) e = wrong_entry opcode text dots two (λ a. n text a (characters_in-Spells characters text e))
 
-pub dots_fail : (line characters dots : List ℕ) (class : Class) → HasFields line (opcode_of class ∷ characters ∷ dots ∷ [])
-    → ((cells : List ℕ) → ¬ Dots dots cells) → FailsBy line 4
-dots_fail line characters dots class h n =
-    let o = from_both (one_character (mark_at characters)) (cells_in dots) refl in
-    (o.0, definition_gives line characters dots class h ∙ ap as_some o.1, o.2)
+pub characters_fail : (line characters : List ℕ) (opcode : Opcode) → HasCharacters line opcode characters
+    → ((text : List ℕ) → AreCharactersFor opcode text → ¬ Spells characters text) → FailsBy line 3
+characters_fail line characters (Define class) h n = two_characters_fail line characters (Define class) tt h n
+characters_fail line characters UpLow h n = two_characters_fail line characters UpLow tt h n
+characters_fail line characters (Replace kind) h n = two_characters_fail line characters (Replace kind) tt h n
+characters_fail line characters (Announce sign) h n = absurd h
+
+unwritten : {A : Type 0} (f : A → Entry) (o : Option A) → ((x : A) → o ≡ Some x → ⊥) → Fails (or_cause 4 (option_map f o)) 4
+unwritten f None n = (4, refl, lit≤ tt)
+unwritten f (Some x) n = absurd (n x refl)
+
+dots_entry : (opcode : Opcode) (text dots : List ℕ) → ¬ IsDotsFor opcode dots → Fails (entry_from opcode text dots) 4
+dots_entry (Define class) [] dots n = (3, refl, lit≤ tt)
+dots_entry (Define class) (c ∷ []) dots n = unwritten _ (cells_in dots) (λ cells e. n (cells, Dots-from_cells_in dots cells e))
+dots_entry (Define class) (c ∷ d ∷ text) dots n = (3, refl, lit≤ tt)
+dots_entry UpLow [] dots n = (3, refl, lit≤ tt)
+dots_entry UpLow (u ∷ []) dots n = (3, refl, lit≤ tt)
+dots_entry UpLow (u ∷ l ∷ []) dots n = unwritten _ (pair_in dots) (λ cells e. n (cells.0, cells.1, pair_in-PairDots dots cells.0 cells.1 e))
+dots_entry UpLow (u ∷ l ∷ d ∷ text) dots n = (3, refl, lit≤ tt)
+dots_entry (Replace kind) text dots n = unwritten _ (rule_in dots) (λ cells e. n (cells, rule_in-RuleDots dots cells e))
+dots_entry (Announce sign) text dots n = unwritten _ (cells_in dots) (λ cells e. n (cells, Dots-from_cells_in dots cells e))
+
+two_dots_fail : (line dots : List ℕ) (opcode : Opcode) → TakesBoth opcode → HasDots line opcode dots → ¬ IsDotsFor opcode dots → FailsBy line 4
+two_dots_fail line dots opcode two h n =
+    let f = both-HasDots line dots opcode two h in
+    let o = by (characters_in f.0) in
+    (o.0, two_give line f.0 dots opcode two f.1 ∙ ap as_some o.1, o.2)
   where
-    from_both : (c : Option ℕ) (cells : Option (List ℕ)) → cells_in dots ≡ cells
-        → (least : ℕ) × (definition_from class c cells ≡ Err least) × (least ≤ 4)
-    from_both None cells e = (3, refl, lit≤ tt)
-    from_both (Some c) None e = (4, refl, lit≤ tt)
-    from_both (Some c) (Some cells) e = absurd (n cells (Dots-from_cells_in dots cells e))
+    by : (o : Option (List ℕ)) → Fails (entry_with opcode o dots) 4
+    by None = (3, refl, lit≤ tt)
+    by (Some text) = dots_entry opcode text dots n
+
+pub dots_fail : (line dots : List ℕ) (opcode : Opcode) → HasDots line opcode dots → ¬ IsDotsFor opcode dots → FailsBy line 4
+dots_fail line dots (Define class) h n = two_dots_fail line dots (Define class) tt h n
+dots_fail line dots UpLow h n = two_dots_fail line dots UpLow tt h n
+dots_fail line dots (Replace kind) h n = two_dots_fail line dots (Replace kind) tt h n
+dots_fail line dots (Announce sign) h n =
+    let o = dots_entry (Announce sign) [] dots n in
+    (o.0, one_gives line dots sign h ∙ ap as_some o.1, o.2)
+
+-- ---- limits of operands
+
+-- an operand of the line is beyond its limit, or the line has a smaller cause
+abbrev pub IsLargeBy : List ℕ → Type 0
+IsLargeBy line = FailsBy line 8 ⊎ ((entry : Entry) × (line_gives line ≡ Ok (Some entry)) × (is_large entry ≡ true))
+
+abbrev IsLargeEntry : Result Entry ℕ → Type 0
+IsLargeEntry read = Fails read 8 ⊎ ((entry : Entry) × (read ≡ Ok entry) × (is_large entry ≡ true))
+
+large_line : (line : List ℕ) (read : Result Entry ℕ) → line_gives line ≡ as_some read → IsLargeEntry read → IsLargeBy line
+large_line line read e (inl (least, f, le)) = inl (least, e ∙ ap as_some f, le)
+large_line line read e (inr (entry, f, h)) = inr (entry, e ∙ ap as_some f, h)
+
+pub or_right : (b c : Bool) → c ≡ true → b || c ≡ true
+or_right true c e = refl
+or_right false c e = e
+
+pub or_left : (b c : Bool) → b ≡ true → b || c ≡ true
+or_left b c e = ap (λ (x : Bool). x || c) e
+
+pub or_cases : (b c : Bool) → b || c ≡ true → (b ≡ true) ⊎ (c ≡ true)
+or_cases true c e = inl refl
+or_cases false c e = inr e
+
+rule_large : (kind : RuleKind) (text : List ℕ) (o : Option (Option (List ℕ))) → most_rule_characters < length text
+    → IsLargeEntry (or_cause 4 (option_map (λ cells. Replaces kind text cells) o))
+rule_large kind text None lt = inl (4, refl, lit≤ tt)
+rule_large kind text (Some cells) lt = inr (Replaces kind text cells, refl, or_left _ _ (lt-ltb _ _ lt))
+
+pub long_rule_large : (line characters text : List ℕ) (kind : RuleKind) → HasCharacters line (Replace kind) characters → Spells characters text → most_rule_characters < length text → IsLargeBy line
+long_rule_large line characters text kind h s lt =
+    elim (with_characters line characters (Replace kind) tt h) [
+      | inl e ↦ inl (2, e, lit≤ tt)
+      | inr (dots, e) ↦
+          large_line line (entry_from (Replace kind) text dots)
+          (e ∙ ap (λ (o : Option (List ℕ)). as_some (entry_with (Replace kind) o dots)) (Spells-characters_in characters text s))
+          (rule_large kind text (rule_in dots) lt)
+    ]
+
+some_large : {A : Type 0} (f : A → Entry) (o : Option A) (x : A) → o ≡ Some x → is_large (f x) ≡ true → IsLargeEntry (or_cause 4 (option_map f o))
+some_large f o x e h = inr (f x, ap (λ p. or_cause 4 (option_map f p)) e, h)
+
+cells_large : (opcode : Opcode) (text dots cells : List ℕ) → WritesCells opcode dots cells → most_cells < length cells → IsLargeEntry (entry_from opcode text dots)
+cells_large (Define class) [] dots cells w lt = inl (3, refl, lit≤ tt)
+cells_large (Define class) (c ∷ []) dots cells w lt = some_large _ (cells_in dots) cells (cells_in-from_Dots dots cells w) (lt-ltb _ _ lt)
+cells_large (Define class) (c ∷ d ∷ text) dots cells w lt = inl (3, refl, lit≤ tt)
+cells_large UpLow [] dots cells w lt = inl (3, refl, lit≤ tt)
+cells_large UpLow (u ∷ []) dots cells w lt = inl (3, refl, lit≤ tt)
+cells_large UpLow (u ∷ l ∷ []) dots cells (upper, lower, d, which) lt =
+    some_large (λ (p : List ℕ × List ℕ). Pairs u p.0 l p.1) (pair_in dots) (upper, lower) (PairDots-pair_in dots upper lower d)
+    (elim which [
+      | inl e ↦ or_left _ _ (lt-ltb _ _ (subst (λ (x : List ℕ). most_cells < length x) e lt))
+      | inr e ↦ or_right (are_many upper) _ (lt-ltb _ _ (subst (λ (x : List ℕ). most_cells < length x) e lt))
+    ])
+cells_large UpLow (u ∷ l ∷ d ∷ text) dots cells w lt = inl (3, refl, lit≤ tt)
+cells_large (Replace kind) text dots cells w lt =
+    some_large (λ (x : Option (List ℕ)). Replaces kind text x) (rule_in dots) (Some cells) (RuleDots-rule_in dots (Some cells) w)
+    (or_right (ltb most_rule_characters (length text)) _ (lt-ltb _ _ lt))
+cells_large (Announce sign) text dots cells w lt = some_large _ (cells_in dots) cells (cells_in-from_Dots dots cells w) (lt-ltb _ _ lt)
+
+two_cells_large : (line dots cells : List ℕ) (opcode : Opcode) → TakesBoth opcode → HasDots line opcode dots → WritesCells opcode dots cells → most_cells < length cells → IsLargeBy line
+two_cells_large line dots cells opcode two h w lt =
+    let f = both-HasDots line dots opcode two h in
+    large_line line (entry_with opcode (characters_in f.0) dots) (two_give line f.0 dots opcode two f.1) (by (characters_in f.0))
+  where
+    by : (o : Option (List ℕ)) → IsLargeEntry (entry_with opcode o dots)
+    by None = inl (3, refl, lit≤ tt)
+    by (Some text) = cells_large opcode text dots cells w lt
+
+pub many_cells_large : (line dots cells : List ℕ) (opcode : Opcode) → HasDots line opcode dots → WritesCells opcode dots cells → most_cells < length cells → IsLargeBy line
+many_cells_large line dots cells (Define class) h w lt = two_cells_large line dots cells (Define class) tt h w lt
+many_cells_large line dots cells UpLow h w lt = two_cells_large line dots cells UpLow tt h w lt
+many_cells_large line dots cells (Replace kind) h w lt = two_cells_large line dots cells (Replace kind) tt h w lt
+many_cells_large line dots cells (Announce sign) h w lt =
+    large_line line (entry_from (Announce sign) [] dots) (one_gives line dots sign h) (cells_large (Announce sign) [] dots cells w lt)
+
+-- an entry with an operand beyond its limit is a fault
+pub large_fault : (before : List (List ℕ)) (line : List ℕ) (entry : Entry) → Gives line entry → is_large entry ≡ true → Fault before line 8
+large_fault before line entry (definition_line class characters dots c cells h s d e) t =
+    many_cells (Define class) dots cells (characters, h) d (ltb-true _ _ (sym (ap is_large e) ∙ t)) refl
+large_fault before line entry (pair_line characters dots upper lower upper_cells lower_cells h s d e) t =
+    elim (or_cases (are_many upper_cells) (are_many lower_cells) (sym (ap is_large e) ∙ t)) [
+      | inl m ↦ many_cells UpLow dots upper_cells (characters, h) (upper_cells, lower_cells, d, inl refl) (ltb-true _ _ m) refl
+      | inr m ↦ many_cells UpLow dots lower_cells (characters, h) (upper_cells, lower_cells, d, inr refl) (ltb-true _ _ m) refl
+    ]
+large_fault before line entry (rule_line kind characters dots text cells h s d e) t =
+    elim (or_cases (ltb most_rule_characters (length text)) (are_many_written cells) (sym (ap is_large e) ∙ t)) [
+      | inl m ↦ long_rule kind characters text (front_field line (kind_name kind) characters dots h) s (ltb-true _ _ m) refl
+      | inr m ↦ written cells d m
+    ]
+  where
+    written : (cells : Option (List ℕ)) → RuleDots dots cells → are_many_written cells ≡ true → Fault before line 8
+    written None d m = absurd cc
+    written (Some cells) d m = many_cells (Replace kind) dots cells (characters, h) d (ltb-true _ _ m) refl
+large_fault before line entry (sign_line sign dots cells h d e) t =
+    many_cells (Announce sign) dots cells h d (ltb-true _ _ (sym (ap is_large e) ∙ t)) refl

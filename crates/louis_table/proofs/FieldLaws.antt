@@ -11,15 +11,15 @@ abbrev pub Stops : (ℕ → Bool) → List ℕ → Type 0
 Stops p [] = Unit {0}
 Stops p (c ∷ cs) = p c ≡ false
 
-front_passes : (p : ℕ → Bool) (text : List ℕ) → AllByRecursion (λ c. p c ≡ true) (take (prefix_len p text) text)
+pub front_passes : (p : ℕ → Bool) (text : List ℕ) → AllByRecursion (λ c. p c ≡ true) (take (prefix_len p text) text)
 front_passes p [] = tt
 front_passes p (c ∷ text) = elim (cases_Bool (p c)) [ inl t ↦ rw t (rw one-add (t, front_passes p text)) | inr f ↦ rw f tt ]
 
-rest_stops : (p : ℕ → Bool) (text : List ℕ) → Stops p (drop (prefix_len p text) text)
+pub rest_stops : (p : ℕ → Bool) (text : List ℕ) → Stops p (drop (prefix_len p text) text)
 rest_stops p [] = tt
 rest_stops p (c ∷ text) = elim (cases_Bool (p c)) [ inl t ↦ rw t (rw one-add (rest_stops p text)) | inr f ↦ rw f f ]
 
-prefix_at : (p : ℕ → Bool) (front rest : List ℕ) → AllByRecursion (λ c. p c ≡ true) front → Stops p rest → prefix_len p (front ++ rest) ≡ length front
+pub prefix_at : (p : ℕ → Bool) (front rest : List ℕ) → AllByRecursion (λ c. p c ≡ true) front → Stops p rest → prefix_len p (front ++ rest) ≡ length front
 prefix_at p [] [] h s = refl
 prefix_at p [] (c ∷ rest) h s = rw s refl
 prefix_at p (c ∷ front) rest h s = rw h.0 (rw one-add (ap (λ n. suc n) (prefix_at p front rest h.1 s)))

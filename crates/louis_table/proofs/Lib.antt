@@ -2,9 +2,12 @@ pub mod LineLaws
 mod ReturnLaws
 mod FieldLaws
 mod CharacterLaws
+mod OperandLaws
 mod EntryLaws
 mod VerdictLaws
 mod ReadingLaws
-mod StepLaws
+mod RuleLaws
 mod OneMeaning
-pub mod PlaceLaws
+mod StepLaws
+mod MeaningLaws
+mod PlaceLaws

@@ -1,48 +1,106 @@
 -- Line by line, the text is read as it means.
-use Rattle.std.proofs.Common.{◌≡◌, ◌≢◌, ℕ, ◌+◌, ◌<◌, ◌≤◌, List, [], ◌∷◌, ◌++◌, length, Option, Some, None, Ok, Err, refl, sym, ap, subst, ◌∙◌, ◌⊎◌, append_assoc, inl, inr, arith, lit≤}
-use Rattle.std.specs.List.{flat_map}
+use Rattle.std.proofs.Common.{◌≡◌, ◌≢◌, ℕ, suc, ◌+◌, ◌<◌, ◌≤◌, Bool, true, false, cond, ◌||◌, eqb, List, [], ◌∷◌, ◌++◌, length, Option, Some, None, Result, Ok, Err, is_some, refl, sym, ap, subst, ◌∙◌, ◌⊎◌, append_assoc, inl, inr, arith, lit≤}
+use Rattle.std.specs.List.{flat_map, Contains}
+use Rattle.std.specs.Map.{lookup}
+use Rattle.std.specs.Prelude.{map, nat_eq}
+use Rattle.std.specs.Str.{chars}
 use Rattle.std.proofs.lemmas.List.{append-nil, length_push, length-append}
 use Rattle.std.proofs.lemmas.Bool.{cases_lt}
 use Rattle.std.proofs.lemmas.Grind.{flat_map-append}
+use Rattle.louis_table.specs.declared.definition.Class.TheVariants.{Letter}
 use Rattle.louis_table.specs.declared.definition.Definition.{Definition}
-use Rattle.std.specs.Prelude.{map}
-use Rattle.std.specs.Str.{chars, IsUtf8}
-use Rattle.louis_table.specs.Table.{most_lines}
+use Rattle.louis_table.specs.declared.draft.Draft.{Draft}
+use Rattle.louis_table.specs.declared.written.WrittenRule.{WrittenRule}
 use Rattle.louis_table.specs.Lines.{lines_of}
-use Rattle.louis_table.specs.Meaning.{Meaning}
-use Rattle.louis_table.specs.Reading.{Gathers, LinesMean, IsTold, LinesTell, given_definitions, judge}
-use Rattle.louis_table.specs.Table.{Entry, SaysNothing, Gives, Give, definitions_in, Fault, HasCause, on_line, IsToldFirst, without_mark, text_lines, Bad, bad_line, Means}
-use Rattle.louis_table.specs.Tells.{Tells}
-use Rattle.louis_table.specs.declared.fault.ReadFault.{ReadFault}
-use Rattle.louis_table.specs.declared.fault.ReadFault.TheVariants as faults
+use Rattle.louis_table.specs.Meaning.{Meaning, definition_of, partner_of}
+use Rattle.louis_table.specs.Reading.{no_meaning, Gathers, LinesGive, IsTold, Adds, HasDefinedPartners, with_given, written_in, rules_written, judge}
+use Rattle.louis_table.specs.Table.{most_lines, Entry, Defines, Pairs, Replaces, Announces, SaysNothing, Gives, GiveFrom, definitions_in, partners_in, numsign_in, capsletter_in, begcapsword_in, Fault, HasCause, on_line, IsToldNoLater}
 use Rattle.louis_table.proofs.EntryLaws.{Says}
-use Rattle.louis_table.proofs.VerdictLaws.{judge-Fault, Fault-judge, judge-few, judge-given}
+use Rattle.louis_table.proofs.VerdictLaws.{any_gives, lookup-flat_map, judge-Fault, Fault-judge, judge-few, judge-given}
 
 -- ---- one more line
 
-Give-nothing : (lines : List (List ℕ)) (line : List ℕ) (entries : List Entry) → Give lines entries → SaysNothing line → Give (lines ++ line ∷ []) entries
-Give-nothing [] line entries g s = inl (s, g)
-Give-nothing (l ∷ lines) line entries (inl (n, g)) s = inl (n, Give-nothing lines line entries g s)
-Give-nothing (l ∷ lines) line entries (inr (entry, rest, gives, e, g)) s = inr (entry, rest, gives, e, Give-nothing lines line rest g s)
+GiveFrom-nothing : (n : ℕ) (lines : List (List ℕ)) (line : List ℕ) (entries : List (ℕ × Entry)) → GiveFrom n lines entries → SaysNothing line → GiveFrom n (lines ++ line ∷ []) entries
+GiveFrom-nothing n [] line entries g s = inl (s, g)
+GiveFrom-nothing n (l ∷ lines) line entries (inl (t, g)) s = inl (t, GiveFrom-nothing (n + 1) lines line entries g s)
+GiveFrom-nothing n (l ∷ lines) line entries (inr (entry, rest, gives, e, g)) s = inr (entry, rest, gives, e, GiveFrom-nothing (n + 1) lines line rest g s)
 
-Give-entry : (lines : List (List ℕ)) (line : List ℕ) (entries : List Entry) (entry : Entry) → Give lines entries → Gives line entry → Give (lines ++ line ∷ []) (entries ++ entry ∷ [])
-Give-entry [] line entries entry g s = inr (entry, [], s, ap (λ (es : List Entry). es ++ entry ∷ []) g, refl)
-Give-entry (l ∷ lines) line entries entry (inl (n, g)) s = inl (n, Give-entry lines line entries entry g s)
-Give-entry (l ∷ lines) line entries entry (inr (other, rest, gives, e, g)) s =
-    inr (other, rest ++ entry ∷ [], gives, ap (λ (es : List Entry). es ++ entry ∷ []) e, Give-entry lines line rest entry g s)
+GiveFrom-entry : (n k : ℕ) (lines : List (List ℕ)) (line : List ℕ) (entries : List (ℕ × Entry)) (entry : Entry) → k ≡ n + length lines → GiveFrom n lines entries → Gives line entry
+    → GiveFrom n (lines ++ line ∷ []) (entries ++ (k, entry) ∷ [])
+GiveFrom-entry n k [] line entries entry at g s =
+    let same : k ≡ n = omega arith in
+    inr (entry, [], s, ap (λ (es : List (ℕ × Entry)). es ++ (k, entry) ∷ []) g ∙ ap (λ (m : ℕ). (m, entry) ∷ []) same, refl)
+GiveFrom-entry n k (l ∷ lines) line entries entry at (inl (t, g)) s = inl (t, GiveFrom-entry (n + 1) k lines line entries entry (omega arith) g s)
+GiveFrom-entry n k (l ∷ lines) line entries entry at (inr (other, rest, gives, e, g)) s =
+    inr (other, rest ++ (k, entry) ∷ [], gives, ap (λ (es : List (ℕ × Entry)). es ++ (k, entry) ∷ []) e, GiveFrom-entry (n + 1) k lines line rest entry (omega arith) g s)
 
-Gathers-more : (before : List (List ℕ)) (line : List ℕ) (old new : Meaning) (given : Option Entry) → Gathers before old → Says line (Ok given)
-    → new.definitions ≡ old.definitions ++ given_definitions given → Gathers (before ++ line ∷ []) new
-Gathers-more before line old new None g s e =
-    record { entries = g.entries; given = Give-nothing before line g.entries g.given s; definitions = e ∙ (append-nil old.definitions ∙ g.definitions) }
-Gathers-more before line old new (Some entry) g s e =
+flat_map-push : {X A : Type 0} (f : X → List A) (xs : List X) (x : X) (old : List A) → old ≡ flat_map f xs → old ++ f x ≡ flat_map f (xs ++ x ∷ [])
+flat_map-push {A = A} f xs x old e =
+    ap (λ (ys : List A). ys ++ f x) e ∙ (ap (λ (ys : List A). flat_map f xs ++ ys) (sym (append-nil (f x))) ∙ sym (flat_map-append f xs (x ∷ [])))
+
+-- what the line gives is gathered with the rest
+Gathers-more : (before : List (List ℕ)) (line : List ℕ) (old new : Meaning) (rules all : List WrittenRule) (given : Option Entry) → Gathers before old rules → Says line (Ok given)
+    → new ≡ with_given old given → all ≡ rules ++ written_in (length before + 1) given → Gathers (before ++ line ∷ []) new all
+Gathers-more before line old new rules all None g s e w =
     record {
-      entries = g.entries ++ entry ∷ [];
-      given = Give-entry before line g.entries entry g.given s;
-      definitions = e ∙ (ap (λ (ds : List (ℕ × Definition)). ds ++ definitions_in entry) g.definitions
-          ∙ (ap (λ (ds : List (ℕ × Definition)). flat_map definitions_in g.entries ++ ds) (sym (append-nil (definitions_in entry)))
-          ∙ sym (flat_map-append definitions_in g.entries (entry ∷ []))));
+      entries = g.entries;
+      given = GiveFrom-nothing 1 before line g.entries g.given s;
+      definitions = ap (λ (m : Meaning). m.definitions) e ∙ g.definitions;
+      partners = ap (λ (m : Meaning). m.partners) e ∙ g.partners;
+      numsign = ap (λ (m : Meaning). m.numsign) e ∙ g.numsign;
+      capsletter = ap (λ (m : Meaning). m.capsletter) e ∙ g.capsletter;
+      begcapsword = ap (λ (m : Meaning). m.begcapsword) e ∙ g.begcapsword;
+      rules = w ∙ (append-nil rules ∙ g.rules);
     }
+Gathers-more before line old new rules all (Some entry) g s e w =
+    record {
+      entries = g.entries ++ (length before + 1, entry) ∷ [];
+      given = GiveFrom-entry 1 (length before + 1) before line g.entries entry (omega arith) g.given s;
+      definitions = ap (λ (m : Meaning). m.definitions) e ∙ flat_map-push (λ (x : ℕ × Entry). definitions_in x.1) g.entries (length before + 1, entry) old.definitions g.definitions;
+      partners = ap (λ (m : Meaning). m.partners) e ∙ flat_map-push (λ (x : ℕ × Entry). partners_in x.1) g.entries (length before + 1, entry) old.partners g.partners;
+      numsign = ap (λ (m : Meaning). m.numsign) e ∙ flat_map-push (λ (x : ℕ × Entry). numsign_in x.1) g.entries (length before + 1, entry) old.numsign g.numsign;
+      capsletter = ap (λ (m : Meaning). m.capsletter) e ∙ flat_map-push (λ (x : ℕ × Entry). capsletter_in x.1) g.entries (length before + 1, entry) old.capsletter g.capsletter;
+      begcapsword = ap (λ (m : Meaning). m.begcapsword) e ∙ flat_map-push (λ (x : ℕ × Entry). begcapsword_in x.1) g.entries (length before + 1, entry) old.begcapsword g.begcapsword;
+      rules = w ∙ flat_map-push (λ (x : ℕ × Entry). rules_written x.0 x.1) g.entries (length before + 1, entry) rules g.rules;
+    }
+
+-- an entry that makes a capital defines it
+partners_defined : (c : ℕ) (entry : Entry) → is_some (lookup (nat_eq c) (definitions_in entry)) ≡ false → is_some (lookup (nat_eq c) (partners_in entry)) ≡ false
+partners_defined c (Defines k definition) h = refl
+partners_defined c (Pairs u uc l lc) h = by (nat_eq c u) h
+  where
+    by : (b : Bool) → is_some {T = Definition} (cond b (Some (record { class = Letter; cells = uc })) (cond (nat_eq c l) (Some (record { class = Letter; cells = lc })) None)) ≡ false
+        → is_some (let found : Option ℕ = cond b (Some l) None in found) ≡ false
+    by true h = absurd cc
+    by false h = refl
+partners_defined c (Replaces kind text cells) h = refl
+partners_defined c (Announces sign cells) h = refl
+
+none_from : {X : Type 0} (o : Option X) → is_some o ≡ false → o ≡ None
+none_from None e = refl
+none_from (Some x) e = absurd cc
+
+or_parts : (b c : Bool) → b || c ≡ false → (b ≡ false) × (c ≡ false)
+or_parts true c e = absurd cc
+or_parts false c e = (refl, e)
+
+undefined_partner : (c : ℕ) (entries : List (ℕ × Entry)) → any_gives (λ entry. is_some (lookup (nat_eq c) (definitions_in entry))) entries ≡ false
+    → any_gives (λ entry. is_some (lookup (nat_eq c) (partners_in entry))) entries ≡ false
+undefined_partner c [] h = refl
+undefined_partner c (e ∷ entries) h =
+    let both = or_parts (is_some (lookup (nat_eq c) (definitions_in e.1))) (any_gives (λ entry. is_some (lookup (nat_eq c) (definitions_in entry))) entries) h in
+    ap (λ (b : Bool). b || any_gives (λ entry. is_some (lookup (nat_eq c) (partners_in entry))) entries) (partners_defined c e.1 both.0)
+    ∙ undefined_partner c entries both.1
+
+-- each capital that is gathered is defined
+pub Gathers-HasDefinedPartners : (lines : List (List ℕ)) (meaning : Meaning) (rules : List WrittenRule) → Gathers lines meaning rules → HasDefinedPartners meaning
+Gathers-HasDefinedPartners lines meaning rules g c n =
+    none_from _
+    (ap (λ (ps : List (ℕ × ℕ)). is_some (lookup (nat_eq c) ps)) g.partners
+    ∙ (lookup-flat_map (nat_eq c) partners_in g.entries
+    ∙ undefined_partner c g.entries
+    (sym (lookup-flat_map (nat_eq c) definitions_in g.entries)
+    ∙ (sym (ap (λ (ds : List (ℕ × Definition)). is_some (lookup (nat_eq c) ds)) g.definitions) ∙ ap is_some n))))
 
 same_place : (xs ys : List (List ℕ)) (x y : List ℕ) (after rest : List (List ℕ)) → xs ++ x ∷ after ≡ ys ++ y ∷ rest → length xs ≡ length ys → (xs ≡ ys) × (x ≡ y)
 same_place [] [] x y after rest e l = (refl, cc)
@@ -57,36 +115,50 @@ same_place (w ∷ xs) (z ∷ ys) x y after rest e l =
 
 -- ---- how far the lines were read
 
--- these lines stand before the rest, have no fault, and mean this
-pub record Reached (lines before rest : List (List ℕ)) (meaning : Meaning) : Type 0 where
+-- these lines stand before the rest, have no fault, and give this
+pub record Reached (lines before rest : List (List ℕ)) (meaning : Meaning) (rules : List WrittenRule) : Type 0 where
   pub parts : lines ≡ before ++ rest
   pub sound : (n cause : ℕ) → HasCause lines n cause → length before < n
-  pub gathered : Gathers before meaning
+  pub gathered : Gathers before meaning rules
 
-pub Reached-none : (lines : List (List ℕ)) (meaning : Meaning) → meaning.definitions ≡ [] → Reached lines [] lines meaning
-Reached-none lines meaning e = record { parts = refl; sound = λ n cause h. from_one n cause h; gathered = record { entries = []; given = refl; definitions = e } }
+pub Reached-none : (lines : List (List ℕ)) (meaning : Meaning) (rules : List WrittenRule) → meaning ≡ no_meaning → rules ≡ [] → Reached lines [] lines meaning rules
+Reached-none lines meaning rules e w =
+    record {
+      parts = refl;
+      sound = λ n cause h. from_one n cause h;
+      gathered = record {
+        entries = [];
+        given = refl;
+        definitions = ap (λ (m : Meaning). m.definitions) e;
+        partners = ap (λ (m : Meaning). m.partners) e;
+        numsign = ap (λ (m : Meaning). m.numsign) e;
+        capsletter = ap (λ (m : Meaning). m.capsletter) e;
+        begcapsword = ap (λ (m : Meaning). m.begcapsword) e;
+        rules = w;
+      };
+    }
   where
     from_one : (n cause : ℕ) → HasCause lines n cause → 0 < n
     from_one n cause (on_line before line after e at f) = omega arith
 
-module _ (lines before rest : List (List ℕ)) (line : List ℕ) (meaning : Meaning) (r : Reached lines before (line ∷ rest) meaning) where
+module _ (lines before rest : List (List ℕ)) (line : List ℕ) (meaning : Meaning) (rules : List WrittenRule) (r : Reached lines before (line ∷ rest) meaning rules) where
   -- a fault of the line that comes next
   here : (n cause : ℕ) → HasCause lines n cause → n ≡ length before + 1 → Fault before line cause
   here n cause (on_line front other after e at f) h =
       let same = same_place front before other line after rest (sym e ∙ r.parts) (omega arith) in
       subst (λ (b : List (List ℕ)). Fault b line cause) same.0 (subst (λ (l : List ℕ). Fault front l cause) same.1 f)
 
-  pub Reached-more : (given : Option Entry) (new : Meaning) → judge meaning (length before) line ≡ Ok given
-      → new.definitions ≡ meaning.definitions ++ given_definitions given → Reached lines (before ++ line ∷ []) rest new
-  Reached-more given new j e =
+  pub Reached-more : (given : Option Entry) (new : Meaning) (all : List WrittenRule) → judge meaning (length before) line ≡ Ok given
+      → new ≡ with_given meaning given → all ≡ rules ++ written_in (length before + 1) given → Reached lines (before ++ line ∷ []) rest new all
+  Reached-more given new all j e w =
       record {
         parts = r.parts ∙ sym (append_assoc before (line ∷ []) rest);
         sound = λ n cause h. beyond n cause h;
-        gathered = Gathers-more before line meaning new given r.gathered (judge-given meaning (length before) line given j) e;
+        gathered = Gathers-more before line meaning new rules all given r.gathered (judge-given meaning (length before) line given j) e w;
       }
     where
       no_fault : (cause : ℕ) → ¬ Fault before line cause
-      no_fault cause f = let k = Fault-judge before line meaning r.gathered cause f in let bad : judge meaning (length before) line ≡ Err k.0 = k.1 in cc
+      no_fault cause f = let k = Fault-judge before line meaning rules r.gathered cause f in let bad : judge meaning (length before) line ≡ Err k.0 = k.1 in cc
 
       beyond : (n cause : ℕ) → HasCause lines n cause → length (before ++ line ∷ []) < n
       beyond n cause h =
@@ -97,30 +169,30 @@ module _ (lines before rest : List (List ℕ)) (line : List ℕ) (meaning : Mean
   pub Reached-fault : (cause : ℕ) → judge meaning (length before) line ≡ Err cause → IsTold lines (length before + 1) cause
   Reached-fault cause j =
       record {
-        has = on_line before line rest r.parts refl (judge-Fault before line meaning r.gathered cause j);
+        has = on_line before line rest r.parts refl (judge-Fault before line meaning rules r.gathered cause j);
         first = λ m other h. told m other h;
       }
     where
       least : (other : ℕ) → Fault before line other → cause ≤ other
       least other f =
-          let k = Fault-judge before line meaning r.gathered other f in
+          let k = Fault-judge before line meaning rules r.gathered other f in
           let same : cause ≡ k.0 = let bad : judge meaning (length before) line ≡ Err k.0 = k.1 in cc in
           let le : k.0 ≤ other = k.2 in
           omega arith
 
-      by : (m other : ℕ) → HasCause lines m other → (m ≡ length before + 1) ⊎ (length before + 1 < m) → IsToldFirst (length before + 1) cause m other
+      by : (m other : ℕ) → HasCause lines m other → (m ≡ length before + 1) ⊎ (length before + 1 < m) → IsToldNoLater (length before + 1) cause m other
       by m other h (inl e) = inr (sym e, least other (here m other h e))
       by m other h (inr lt) = inl lt
 
-      told : (m other : ℕ) → HasCause lines m other → IsToldFirst (length before + 1) cause m other
+      told : (m other : ℕ) → HasCause lines m other → IsToldNoLater (length before + 1) cause m other
       told m other h =
           let past : length before < m = r.sound m other h in
           by m other h (elim (cases_lt (length before + 1) m) [ inl lt ↦ inr lt | inr le ↦ inl (omega arith) ])
 
-pub Reached-all : (lines before : List (List ℕ)) (meaning : Meaning) → Reached lines before [] meaning → LinesMean lines meaning
-Reached-all lines before meaning r =
+pub Reached-all : (lines before : List (List ℕ)) (meaning : Meaning) (rules : List WrittenRule) → Reached lines before [] meaning rules → LinesGive lines meaning rules
+Reached-all lines before meaning rules r =
     let whole : lines ≡ before = r.parts ∙ append-nil before in
-    record { is_sound = λ n cause h. sound n cause whole h; gathered = subst (λ (ls : List (List ℕ)). Gathers ls meaning) (sym whole) r.gathered }
+    record { is_sound = λ n cause h. sound n cause whole h; gathered = subst (λ (ls : List (List ℕ)). Gathers ls meaning rules) (sym whole) r.gathered }
   where
     sound : (n cause : ℕ) → lines ≡ before → ¬ HasCause lines n cause
     sound n cause whole (on_line front line after e at f) =
@@ -129,55 +201,44 @@ Reached-all lines before meaning r =
         absurd (omega (arith, length-append front (line ∷ after)))
 
 -- the lines that were read, so many, and those of the rest
-pub record ReadsOn (text : List ℕ) (count : ℕ) (rest : List ℕ) (meaning : Meaning) : Type 0 where
+pub record ReadsOn (text : List ℕ) (count : ℕ) (rest : List ℕ) (meaning : Meaning) (rules : List WrittenRule) : Type 0 where
   pub before : List (List ℕ)
   pub counted : count ≡ length before
   pub few : count ≤ most_lines
-  pub reached : Reached (map chars (lines_of text)) before (map chars (lines_of rest)) meaning
+  pub reached : Reached (map chars (lines_of text)) before (map chars (lines_of rest)) meaning rules
 
-pub ReadsOn-none : (text : List ℕ) (meaning : Meaning) → meaning.definitions ≡ [] → ReadsOn text 0 text meaning
-ReadsOn-none text meaning e = record { before = []; counted = refl; few = lit≤ tt; reached = Reached-none (map chars (lines_of text)) meaning e }
+pub ReadsOn-none : (text : List ℕ) (meaning : Meaning) (rules : List WrittenRule) → meaning ≡ no_meaning → rules ≡ [] → ReadsOn text 0 text meaning rules
+ReadsOn-none text meaning rules e w = record { before = []; counted = refl; few = lit≤ tt; reached = Reached-none (map chars (lines_of text)) meaning rules e w }
 
-pub ReadsOn-all : (text : List ℕ) (count : ℕ) (rest : List ℕ) (meaning : Meaning) → ReadsOn text count rest meaning → rest ≡ [] → LinesMean (map chars (lines_of text)) meaning
-ReadsOn-all text count rest meaning r e =
-    Reached-all (map chars (lines_of text)) r.before meaning
-    (subst (λ (t : List ℕ). Reached (map chars (lines_of text)) r.before (map chars (lines_of t)) meaning) e r.reached)
+pub ReadsOn-HasDefinedPartners : (text : List ℕ) (count : ℕ) (rest : List ℕ) (meaning : Meaning) (rules : List WrittenRule) → ReadsOn text count rest meaning rules → HasDefinedPartners meaning
+ReadsOn-HasDefinedPartners text count rest meaning rules r = Gathers-HasDefinedPartners r.before meaning rules r.reached.gathered
 
-module _ (text : List ℕ) (count : ℕ) (rest line next characters : List ℕ) (meaning : Meaning) (r : ReadsOn text count rest meaning)
+pub ReadsOn-all : (text : List ℕ) (count : ℕ) (rest : List ℕ) (meaning : Meaning) (rules : List WrittenRule) → ReadsOn text count rest meaning rules → rest ≡ []
+    → LinesGive (map chars (lines_of text)) meaning rules
+ReadsOn-all text count rest meaning rules r e =
+    Reached-all (map chars (lines_of text)) r.before meaning rules
+    (subst (λ (t : List ℕ). Reached (map chars (lines_of text)) r.before (map chars (lines_of t)) meaning rules) e r.reached)
+
+module _ (text : List ℕ) (count : ℕ) (rest line next characters : List ℕ) (meaning : Meaning) (rules : List WrittenRule) (r : ReadsOn text count rest meaning rules)
     (l : lines_of rest ≡ line ∷ lines_of next) (c : characters ≡ chars line) where
-  reached_line : Reached (map chars (lines_of text)) r.before (characters ∷ map chars (lines_of next)) meaning
-  reached_line = subst (λ (ls : List (List ℕ)). Reached (map chars (lines_of text)) r.before ls meaning) (ap (map chars) l ∙ ap (λ (x : List ℕ). x ∷ map chars (lines_of next)) (sym c)) r.reached
+  reached_line : Reached (map chars (lines_of text)) r.before (characters ∷ map chars (lines_of next)) meaning rules
+  reached_line = subst (λ (ls : List (List ℕ)). Reached (map chars (lines_of text)) r.before ls meaning rules) (ap (map chars) l ∙ ap (λ (x : List ℕ). x ∷ map chars (lines_of next)) (sym c)) r.reached
 
   pub ReadsOn-fault : (cause : ℕ) → judge meaning count characters ≡ Err cause → IsTold (map chars (lines_of text)) (count + 1) cause
   ReadsOn-fault cause j =
       subst (λ (n : ℕ). IsTold (map chars (lines_of text)) (n + 1) cause) (sym r.counted)
-      (Reached-fault (map chars (lines_of text)) r.before (map chars (lines_of next)) characters meaning reached_line cause
+      (Reached-fault (map chars (lines_of text)) r.before (map chars (lines_of next)) characters meaning rules reached_line cause
       (ap (λ (n : ℕ). judge meaning n characters) (sym r.counted) ∙ j))
 
-  pub ReadsOn-more : (given : Option Entry) (new : Meaning) → judge meaning count characters ≡ Ok given
-      → new.definitions ≡ meaning.definitions ++ given_definitions given → ReadsOn text (count + 1) next new
-  ReadsOn-more given new j e =
+  pub ReadsOn-more : (given : Option Entry) (new : Meaning) (all : List WrittenRule) → judge meaning count characters ≡ Ok given
+      → new ≡ with_given meaning given → all ≡ rules ++ written_in (count + 1) given → ReadsOn text (count + 1) next new all
+  ReadsOn-more given new all j e w =
       let few : count < most_lines = judge-few meaning count characters given j in
       record {
         before = r.before ++ characters ∷ [];
         counted = ap (λ (n : ℕ). n + 1) r.counted ∙ sym (length_push r.before characters);
         few = omega arith;
-        reached = Reached-more (map chars (lines_of text)) r.before (map chars (lines_of next)) characters meaning reached_line given new
-            (ap (λ (n : ℕ). judge meaning n characters) (sym r.counted) ∙ j) e;
+        reached = Reached-more (map chars (lines_of text)) r.before (map chars (lines_of next)) characters meaning rules reached_line given new all
+            (ap (λ (n : ℕ). judge meaning n characters) (sym r.counted) ∙ j) e
+            (w ∙ ap (λ (n : ℕ). rules ++ written_in (n + 1) given) r.counted);
       }
-
--- ---- the whole text
-
-pub LinesMean-Means : (bytes rest : List ℕ) (meaning : Meaning) → IsUtf8 bytes → rest ≡ without_mark bytes → LinesMean (map chars (lines_of rest)) meaning → Means bytes meaning
-LinesMean-Means bytes rest meaning u e m =
-    let lines : LinesMean (text_lines bytes) meaning = subst (λ (t : List ℕ). LinesMean (map chars (lines_of t)) meaning) e m in
-    record { is_text = u; is_sound = lines.is_sound; entries = lines.gathered.entries; given = lines.gathered.given; definitions = lines.gathered.definitions }
-
-pub IsTold-Bad : (bytes rest : List ℕ) (n cause : ℕ) → IsUtf8 bytes → rest ≡ without_mark bytes → IsTold (map chars (lines_of rest)) n cause → Bad bytes n cause
-IsTold-Bad bytes rest n cause u e t =
-    let told : IsTold (text_lines bytes) n cause = subst (λ (r : List ℕ). IsTold (map chars (lines_of r)) n cause) e t in
-    bad_line u told.has told.first
-
-pub LinesTell-Tells : (bytes rest : List ℕ) (fault : ReadFault) → IsUtf8 bytes → rest ≡ without_mark bytes → LinesTell (map chars (lines_of rest)) fault → Tells bytes fault
-LinesTell-Tells bytes rest (faults.Table fault) u e t = IsTold-Bad bytes rest fault.line fault.cause u e t
-LinesTell-Tells bytes rest faults.NoMemory u e t = tt

@@ -1,21 +1,27 @@
 -- What the steps of reading a line come to.
-use Rattle.std.proofs.Common.{◌≡◌, ◌≢◌, ℕ, Bool, true, false, cond, eqb, ltb, List, [], ◌∷◌, length, get_or, Option, Some, None, Result, Ok, Err, Bor, is_some, refl, sym, ap, subst, ◌∙◌, ◌⊎◌, inl, inr, true≢false}
-use Rattle.std.specs.Option.{option_copied}
+use Rattle.std.proofs.Common.{◌≡◌, ◌≢◌, ℕ, ◌<◌, ◌≤◌, Bool, true, false, not, cond, ◌||◌, eqb, ltb, List, [], ◌∷◌, length, get_or, Option, Some, None, option_map, Result, Ok, Err, Bor, is_some, codes, refl, sym, ap, subst, ◌∙◌, ◌⊎◌, inl, inr, arith, true≢false}
+use Rattle.std.specs.Option.{option_copied, option_zip}
 use Rattle.std.specs.Result.{OnOk, is_err}
-use Rattle.std.specs.Str.{encode_utf8_all}
-use Rattle.std.proofs.lemmas.Bool.{eq-eqb, ne_eqb, eqb-true, lt-ltb, le-ltb}
+use Rattle.std.specs.Str.{encode_utf8_all, bytes_eq}
+use Rattle.std.proofs.lemmas.Bool.{cases_Bool, eq-eqb, ne_eqb, eqb-true, eqb-false, lt-ltb, le-ltb, cond-true, cond-false}
 use Rattle.std.proofs.lemmas.List.{nil_from_length}
-use Rattle.cell_core.specs.Dots.{Dots}
+use Rattle.cell_core.specs.Dots.{Dots, most_cells}
 use Rattle.cell_core.specs.Reading.{cells_in}
-use Rattle.cell_core.specs.Dots.{most_cells}
 use Rattle.cell_core.proofs.DotsLaws.{Dots-from_cells_in, cells_in-from_Dots, Dots-encoded}
 use Rattle.louis_table.specs.declared.definition.Class.{Class}
+use Rattle.louis_table.specs.declared.definition.Definition.{Definition}
+use Rattle.louis_table.specs.declared.rule.RuleKind.{RuleKind}
+use Rattle.louis_table.specs.declared.opcode.Sign.{Sign}
+use Rattle.louis_table.specs.declared.opcode.Opcode.{Opcode}
+use Rattle.louis_table.specs.declared.opcode.Opcode.TheVariants.{Define, UpLow, Replace, Announce}
 use Rattle.louis_table.specs.declared.fault.LineFault.{LineFault}
 use Rattle.louis_table.specs.declared.fault.LineFault.TheVariants as line_faults
 use Rattle.louis_table.specs.declared.fault.Cause.{Cause}
 use Rattle.louis_table.specs.Meaning.{Meaning, definition_of}
-use Rattle.louis_table.specs.Reading.{field_at, mark_at, one_character, class_of, both_fields, two_fields_at, definition_from, operands_give, definition_at, as_some, opcode_gives, fields_give, line_gives, entry_verdict, line_verdict, judge_line, judge, cause_number, IsVerdict, ReadsCells, TakesLine}
-use Rattle.louis_table.specs.Table.{Entry, Defines}
+use Rattle.louis_table.specs.Table.{Entry, Defines, Pairs, Replaces, Announces, AreCharactersFor}
+use Rattle.louis_table.specs.Reading.{field_at, only_character, only_pair, characters_in, opcode_named, pair_parts, pair_in, Fits, FitsPair, rule_in, both_of, or_cause, entry_from, entry_with, entry_of_two, entry_of_one, entry_at, both_from, both_at, with_dots, as_some, opcode_gives, fields_give, line_gives, is_taken, is_known, sign_cells, repeats, announces, are_many, are_many_written, is_large, verdict_by, entry_verdict, line_verdict, judge_opcode, judge_line, judge, cause_number, class_named, kind_named, sign_named, first_named, FailsOperands, IsVerdict, ReadsCells, ReadsPair, ReadsRule, TakesLine}
+use Rattle.louis_table.specs.declared.draft.Draft.{Draft}
+use Rattle.louis_table.proofs.EntryLaws.{TakesBoth, or_left, or_right, entry_at-both, entry_at-sign, wrong_entry}
 use Rattle.louis_table.proofs.VerdictLaws.{judge-from_line}
 
 -- ---- lists and tests
@@ -46,79 +52,217 @@ cells_in-unread dots text e n = by (cells_in dots) refl
     by None h = refl
     by (Some cells) h = absurd (n cells (subst (λ (t : List ℕ). Dots t cells) (sym e) ((Dots-encoded dots cells).1 (Dots-from_cells_in dots cells h))))
 
--- ---- the operands of a definition
+-- ---- the cells of an upper and a lower character
 
-both_fields-read : (text first rest second : List ℕ) → first ≡ (field_at text).0 → rest ≡ (field_at text).1 → second ≡ (field_at rest).0 → two_fields_at text ≡ both_fields first second
-unfolding two_fields_at
-both_fields-read text first rest second f r s =
-    ap (λ (m : List ℕ). both_fields (field_at text).0 (field_at m).0) (sym r) ∙ (ap (λ (x : List ℕ). both_fields x (field_at rest).0) (sym f) ∙ ap (both_fields first) (sym s))
+pub pair_in-read : (dots first second : List ℕ) → first ≡ (pair_parts dots).0 → second ≡ (pair_parts dots).1 → pair_in dots ≡ both_of (cells_in first) (cells_in second)
+unfolding pair_in
+pair_in-read dots first second e f = ap (λ (t : List ℕ). both_of (cells_in t) (cells_in (pair_parts dots).1)) (sym e) ∙ ap (λ (t : List ℕ). both_of (cells_in first) (cells_in t)) (sym f)
 
-pub two_fields_at-missing : (text first rest second : List ℕ) → first ≡ (field_at text).0 → rest ≡ (field_at text).1 → second ≡ (field_at rest).0
-    → (first ≡ []) ⊎ (second ≡ []) → two_fields_at text ≡ None
-two_fields_at-missing text first rest second f r s h = both_fields-read text first rest second f r s ∙ by first second h
+pub first_fault : (fault : LineFault) (o p : Option (List ℕ)) → ReadsCells (Err fault) o → ReadsPair (Err fault) (both_of o p)
+first_fault (line_faults.Bad cause) o p h = (ap (λ (x : Option (List ℕ)). both_of x p) h.0, h.1)
+first_fault line_faults.NoMemory o p h = tt
+
+pub second_fault : (fault : LineFault) (told : Option (List ℕ)) (o p : Option (List ℕ)) → ReadsCells (Ok told) o → ReadsCells (Err fault) p → ReadsPair (Err fault) (both_of o p)
+second_fault (line_faults.Bad cause) told o p g h = (ap (λ (x : Option (List ℕ)). both_of x p) g.1 ∙ ap (both_of (Some g.0)) h.0, h.1)
+second_fault line_faults.NoMemory told o p g h = tt
+
+pub neither : (b c : Bool) → b ≡ false → c ≡ false → b || c ≡ false
+neither true c e f = e
+neither false c e f = f
+
+pub both_told : (a b o p : Option (List ℕ)) → ReadsCells (Ok a) o → ReadsCells (Ok b) p → ReadsPair (Ok (option_zip a b)) (both_of o p)
+both_told a b o p (upper, e, g) (lower, f, h) =
+    (upper, lower, ap (λ (x : Option (List ℕ)). both_of x p) e ∙ ap (both_of (Some upper)) f, fits a b g h)
   where
-    by : (first second : List ℕ) → (first ≡ []) ⊎ (second ≡ []) → both_fields first second ≡ None
-    by [] second h = refl
-    by (x ∷ first) [] h = refl
-    by (x ∷ first) (y ∷ second) (inl e) = absurd cc
-    by (x ∷ first) (y ∷ second) (inr e) = absurd cc
+    fits : (a b : Option (List ℕ)) → Fits a upper → Fits b lower → FitsPair (option_zip a b) upper lower
+    fits None b g h = or_left _ _ g
+    fits (Some x) None g h = or_right (are_many upper) _ h
+    fits (Some x) (Some y) g h = (g.0, h.0, neither _ _ g.1 h.1)
 
-pub two_fields_at-both : (text first rest second : List ℕ) → first ≡ (field_at text).0 → rest ≡ (field_at text).1 → second ≡ (field_at rest).0
-    → first ≢ [] → second ≢ [] → two_fields_at text ≡ Some (first, second)
-two_fields_at-both text first rest second f r s n m = both_fields-read text first rest second f r s ∙ by first second n m
+-- ---- the cells of a rule
+
+pub rule_in-equals : (dots : List ℕ) → bytes_eq dots (codes "=") ≡ true → rule_in dots ≡ Some None
+unfolding rule_in
+rule_in-equals dots t = cond-true _ _ _ t
+
+rule_in-cells : (dots : List ℕ) → bytes_eq dots (codes "=") ≡ false → rule_in dots ≡ option_map Some (cells_in dots)
+unfolding rule_in
+rule_in-cells dots f = cond-false _ _ _ f
+
+pub rule_fault : (dots : List ℕ) (fault : LineFault) → bytes_eq dots (codes "=") ≡ false → ReadsCells (Err fault) (cells_in dots) → ReadsRule (Err fault) (rule_in dots)
+rule_fault dots (line_faults.Bad cause) f h = (rule_in-cells dots f ∙ ap (option_map Some) h.0, h.1)
+rule_fault dots line_faults.NoMemory f h = tt
+
+pub rule_told : (dots told : List ℕ) → bytes_eq dots (codes "=") ≡ false → ReadsCells (Ok (Some told)) (cells_in dots) → ReadsRule (Ok (Some (Some told))) (rule_in dots)
+rule_told dots told f (cells, e, h) = (Some cells, rule_in-cells dots f ∙ ap (option_map Some) e, (ap Some h.0, h.1))
+
+pub rule_untold : (dots : List ℕ) → bytes_eq dots (codes "=") ≡ false → ReadsCells (Ok None) (cells_in dots) → ReadsRule (Ok None) (rule_in dots)
+rule_untold dots f (cells, e, h) = (Some cells, rule_in-cells dots f ∙ ap (option_map Some) e, h)
+
+-- ---- opcodes
+
+module _ (name : List ℕ) where
+  opcode_by : (class : Option Class) (uplow : Bool) (kind : Option RuleKind) (sign : Option Sign) → class_named name ≡ class → bytes_eq name (codes "uplow") ≡ uplow
+      → kind_named name ≡ kind → sign_named name ≡ sign → opcode_named name ≡ first_named class uplow kind sign
+  unfolding opcode_named
+  opcode_by class uplow kind sign c u k s =
+      ap (λ (x : Option Class). first_named x (bytes_eq name (codes "uplow")) (kind_named name) (sign_named name)) c
+      ∙ (ap (λ (x : Bool). first_named class x (kind_named name) (sign_named name)) u
+      ∙ (ap (λ (x : Option RuleKind). first_named class uplow x (sign_named name)) k
+      ∙ ap (first_named class uplow kind) s))
+
+  pub opcode_named-class : (class : Class) → Some class ≡ class_named name → Some (Define class) ≡ opcode_named name
+  opcode_named-class class c = sym (opcode_by (Some class) _ _ _ (sym c) refl refl refl)
+
+  pub opcode_named-uplow : None ≡ class_named name → bytes_eq name (codes "uplow") ≡ true → Some UpLow ≡ opcode_named name
+  opcode_named-uplow c u = sym (opcode_by None true _ _ (sym c) u refl refl)
+
+  pub opcode_named-kind : (kind : RuleKind) → None ≡ class_named name → bytes_eq name (codes "uplow") ≡ false → Some kind ≡ kind_named name → Some (Replace kind) ≡ opcode_named name
+  opcode_named-kind kind c u k = sym (opcode_by None false (Some kind) _ (sym c) u (sym k) refl)
+
+  pub opcode_named-sign : (sign : Sign) → None ≡ class_named name → bytes_eq name (codes "uplow") ≡ false → None ≡ kind_named name → Some sign ≡ sign_named name → Some (Announce sign) ≡ opcode_named name
+  opcode_named-sign sign c u k s = sym (opcode_by None false None (Some sign) (sym c) u (sym k) (sym s))
+
+  pub opcode_named-nothing : None ≡ class_named name → bytes_eq name (codes "uplow") ≡ false → None ≡ kind_named name → None ≡ sign_named name → (let o : Option Opcode = None in o) ≡ opcode_named name
+  opcode_named-nothing c u k s = sym (opcode_by None false None None (sym c) u (sym k) (sym s))
+
+-- ---- two operands
+
+both_read : (operands characters rest dots : List ℕ) → characters ≡ (field_at operands).0 → rest ≡ (field_at operands).1 → dots ≡ (field_at rest).0
+    → both_at operands ≡ both_from characters dots
+both_read operands characters rest dots c r d =
+    ap (λ (m : List ℕ). both_from (field_at operands).0 (field_at m).0) (sym r)
+    ∙ (ap (λ (f : List ℕ). both_from f (field_at rest).0) (sym c) ∙ ap (both_from characters) (sym d))
+
+pub both_from-missing : (operands characters rest dots : List ℕ) → characters ≡ (field_at operands).0 → rest ≡ (field_at operands).1 → dots ≡ (field_at rest).0
+    → (characters ≡ []) ⊎ (dots ≡ []) → both_at operands ≡ Err 2
+both_from-missing operands characters rest dots c r d h = both_read operands characters rest dots c r d ∙ by characters dots h
   where
-    by : (first second : List ℕ) → first ≢ [] → second ≢ [] → both_fields first second ≡ Some (first, second)
-    by [] second n m = absurd (n refl)
-    by (x ∷ first) [] n m = absurd (m refl)
-    by (x ∷ first) (y ∷ second) n m = refl
+    by : (characters dots : List ℕ) → (characters ≡ []) ⊎ (dots ≡ []) → both_from characters dots ≡ Err 2
+    by [] dots h = refl
+    by (x ∷ characters) [] h = refl
+    by (x ∷ characters) (y ∷ dots) (inl e) = absurd cc
+    by (x ∷ characters) (y ∷ dots) (inr e) = absurd cc
 
-module _ (meaning : Meaning) (class : Class) (operands : List ℕ) where
-  -- the verdict on a definition with these operands
-  abbrev pub operands_verdict : Result (Option Entry) ℕ
-  operands_verdict = line_verdict meaning (as_some (definition_at class operands))
+pub both_from-read : (operands characters rest dots : List ℕ) → characters ≡ (field_at operands).0 → rest ≡ (field_at operands).1 → dots ≡ (field_at rest).0
+    → characters ≢ [] → dots ≢ [] → (o : Option (List ℕ)) → o ≡ characters_in characters → both_at operands ≡ with_dots o dots
+both_from-read operands characters rest dots c r d m n o e = both_read operands characters rest dots c r d ∙ (by characters dots m n ∙ ap (λ (p : Option (List ℕ)). with_dots p dots) (sym e))
+  where
+    by : (characters dots : List ℕ) → characters ≢ [] → dots ≢ [] → both_from characters dots ≡ with_dots (characters_in characters) dots
+    by [] dots m n = absurd (m refl)
+    by (x ∷ characters) [] m n = absurd (n refl)
+    by (x ∷ characters) (y ∷ dots) m n = refl
 
-  pub operands_missing : None ≡ two_fields_at operands → operands_verdict ≡ Err 2
-  unfolding definition_at
-  operands_missing e = ap (λ (o : Option (List ℕ × List ℕ)). line_verdict meaning (as_some (operands_give class o))) (sym e)
+-- the entry of both operands, or the cause that keeps them from being read
+abbrev pub then_entry : Opcode → Result (List ℕ × List ℕ) ℕ → Result Entry ℕ
+then_entry opcode (Ok both) = entry_from opcode both.0 both.1
+then_entry opcode (Err cause) = Err cause
 
-  module _ (characters dots : List ℕ) (both : (let o : Option (List ℕ × List ℕ) = Some (characters, dots) in o) ≡ two_fields_at operands) where
-    by_character : (o : Option ℕ) → o ≡ one_character (mark_at characters) → operands_verdict ≡ line_verdict meaning (as_some (definition_from class o (cells_in dots)))
-    unfolding definition_at
-    by_character o e =
-        ap (λ (p : Option (List ℕ × List ℕ)). line_verdict meaning (as_some (operands_give class p))) (sym both)
-        ∙ ap (λ (p : Option ℕ). line_verdict meaning (as_some (definition_from class p (cells_in dots)))) (sym e)
+two_then : (opcode : Opcode) (characters dots : List ℕ) → entry_of_two opcode characters dots ≡ then_entry opcode (both_from characters dots)
+two_then opcode [] dots = refl
+two_then opcode (x ∷ characters) [] = refl
+two_then opcode (x ∷ characters) (y ∷ dots) = by (characters_in (x ∷ characters))
+  where
+    by : (o : Option (List ℕ)) → entry_with opcode o (y ∷ dots) ≡ then_entry opcode (with_dots o (y ∷ dots))
+    by None = refl
+    by (Some text) = refl
 
-    pub characters_fault : None ≡ one_character (mark_at characters) → operands_verdict ≡ Err 3
-    characters_fault e = by_character None e
+entry_then : (opcode : Opcode) (operands : List ℕ) (both : Result (List ℕ × List ℕ) ℕ) → TakesBoth opcode → both_at operands ≡ both → entry_at opcode operands ≡ then_entry opcode both
+entry_then opcode operands both two e = entry_at-both opcode operands two ∙ (two_then opcode _ _ ∙ ap (then_entry opcode) e)
 
-    module _ (character : ℕ) (one : Some character ≡ one_character (mark_at characters)) where
-      by_cells : (cells : Option (List ℕ)) → cells_in dots ≡ cells → operands_verdict ≡ line_verdict meaning (as_some (definition_from class (Some character) cells))
-      by_cells cells e = by_character (Some character) one ∙ ap (λ (r : Option (List ℕ)). line_verdict meaning (as_some (definition_from class (Some character) r))) e
+judge_by : (meaning : Meaning) (opcode : Opcode) (operands : List ℕ) (read : Result Entry ℕ) → entry_at opcode operands ≡ read → judge_opcode meaning opcode operands ≡ line_verdict meaning (as_some read)
+unfolding judge_opcode
+judge_by meaning opcode operands read e = ap (λ (r : Result Entry ℕ). line_verdict meaning (as_some r)) e
 
-      pub cells_fault : (fault : LineFault) → ReadsCells (Err fault) (cells_in dots) → IsVerdict (Err fault) operands_verdict
-      cells_fault (line_faults.Bad cause) h = by_cells None h.0 ∙ ap (λ (x : Cause). Err (cause_number x)) (sym h.1)
-      cells_fault line_faults.NoMemory h = tt
+-- operands that weren't read
+pub operands_fault : (meaning : Meaning) (opcode : Opcode) (operands : List ℕ) (fault : LineFault) → TakesBoth opcode → FailsOperands (both_at operands) fault
+    → IsVerdict (Err fault) (judge_opcode meaning opcode operands)
+operands_fault meaning opcode operands (line_faults.Bad cause) two h = judge_by meaning opcode operands _ (entry_then opcode operands _ two h)
+operands_fault meaning opcode operands line_faults.NoMemory two h = tt
 
-      by_tests : (cells : List ℕ) (known many : Bool) → cells_in dots ≡ Some cells → is_some (definition_of meaning character) ≡ known → ltb most_cells (length cells) ≡ many
-          → operands_verdict ≡ as_some (cond known (Err 5) (cond many (Err 8) (Ok (Defines character (record { class = class; cells = cells })))))
-      unfolding entry_verdict
-      by_tests cells known many e k m =
-          by_cells (Some cells) e
-          ∙ (ap (λ (b : Bool). as_some (cond b (Err 5) (cond (ltb most_cells (length cells)) (Err 8) (Ok (Defines character (record { class = class; cells = cells })))))) k
-          ∙ ap (λ (b : Bool). as_some (cond known (Err 5) (cond b (Err 8) (Ok (Defines character (record { class = class; cells = cells })))))) m)
+-- too many characters, or too few
+pub characters_fault : (meaning : Meaning) (opcode : Opcode) (operands text dots : List ℕ) → TakesBoth opcode → both_at operands ≡ Ok (text, dots) → ¬ AreCharactersFor opcode text
+    → judge_opcode meaning opcode operands ≡ Err 3
+characters_fault meaning opcode operands text dots two e n =
+    judge_by meaning opcode operands _ (entry_then opcode operands _ two e ∙ wrong_entry opcode text dots two n)
 
-      pub character_known : (cells : Option (List ℕ)) → ReadsCells (Ok cells) (cells_in dots) → is_some (definition_of meaning character) ≡ true → operands_verdict ≡ Err 5
-      character_known None h t = by_tests h.0 true _ h.1 t refl
-      character_known (Some cells) h t = by_tests cells true _ h.0 t refl
+-- a verdict on an entry, by its tests
+pub judged : (meaning : Meaning) (opcode : Opcode) (operands : List ℕ) (entry : Entry) (r a l : Bool) → entry_at opcode operands ≡ Ok entry → repeats meaning entry ≡ r → announces meaning entry ≡ a → is_large entry ≡ l
+    → judge_opcode meaning opcode operands ≡ as_some (verdict_by r a l entry)
+unfolding entry_verdict
+judged meaning opcode operands entry r a l e x y z =
+    judge_by meaning opcode operands _ e
+    ∙ (ap (λ (b : Bool). as_some (verdict_by b (announces meaning entry) (is_large entry) entry)) x
+    ∙ (ap (λ (b : Bool). as_some (verdict_by r b (is_large entry) entry)) y
+    ∙ ap (λ (b : Bool). as_some (verdict_by r a b entry)) z))
 
-      pub cells_beyond : ReadsCells (Ok None) (cells_in dots) → is_some (definition_of meaning character) ≡ false → operands_verdict ≡ Err 8
-      cells_beyond h f = by_tests h.0 false true h.1 f (lt-ltb _ _ h.2)
+-- ---- definitions
 
-      pub definition_new : (cells : List ℕ) → ReadsCells (Ok (Some cells)) (cells_in dots) → is_some (definition_of meaning character) ≡ false
-          → operands_verdict ≡ Ok (Some (Defines character (record { class = class; cells = cells })))
-      definition_new cells h f = by_tests cells false false h.0 f (le-ltb _ _ h.1)
+module _ (class : Class) (operands dots : List ℕ) (character : ℕ) (b : both_at operands ≡ Ok (character ∷ [], dots)) where
+  definition_read : (o : Option (List ℕ)) → cells_in dots ≡ o
+      → entry_at (Define class) operands ≡ or_cause 4 (option_map (λ cells. Defines character (record { class = class; cells = cells })) o)
+  definition_read o e =
+      entry_then (Define class) operands _ tt b
+      ∙ ap (λ (p : Option (List ℕ)). or_cause 4 (option_map (λ cells. Defines character (record { class = class; cells = cells })) p)) e
 
--- ---- the opcode
+  pub definition_fault : (meaning : Meaning) (fault : LineFault) → ReadsCells (Err fault) (cells_in dots) → IsVerdict (Err fault) (judge_opcode meaning (Define class) operands)
+  definition_fault meaning (line_faults.Bad cause) h =
+      judge_by meaning (Define class) operands _ (definition_read None h.0) ∙ ap (λ (x : Cause). Err (cause_number x)) (sym h.1)
+  definition_fault meaning line_faults.NoMemory h = tt
+
+  pub definition_at : (cells : List ℕ) → cells_in dots ≡ Some cells → entry_at (Define class) operands ≡ Ok (Defines character (record { class = class; cells = cells }))
+  definition_at cells e = definition_read (Some cells) e
+
+-- ---- upper and lower characters
+
+module _ (operands dots : List ℕ) (upper lower : ℕ) (b : both_at operands ≡ Ok (upper ∷ lower ∷ [], dots)) where
+  pair_read : (o : Option (List ℕ × List ℕ)) → pair_in dots ≡ o → entry_at UpLow operands ≡ or_cause 4 (option_map (λ cells. Pairs upper cells.0 lower cells.1) o)
+  pair_read o e = entry_then UpLow operands _ tt b ∙ ap (λ (p : Option (List ℕ × List ℕ)). or_cause 4 (option_map (λ cells. Pairs upper cells.0 lower cells.1) p)) e
+
+  pub pair_fault : (meaning : Meaning) (fault : LineFault) → ReadsPair (Err fault) (pair_in dots) → IsVerdict (Err fault) (judge_opcode meaning UpLow operands)
+  pair_fault meaning (line_faults.Bad cause) h = judge_by meaning UpLow operands _ (pair_read None h.0) ∙ ap (λ (x : Cause). Err (cause_number x)) (sym h.1)
+  pair_fault meaning line_faults.NoMemory h = tt
+
+  pub pair_at : (upper_cells lower_cells : List ℕ) → pair_in dots ≡ Some (upper_cells, lower_cells) → entry_at UpLow operands ≡ Ok (Pairs upper upper_cells lower lower_cells)
+  pair_at upper_cells lower_cells e = pair_read (Some (upper_cells, lower_cells)) e
+
+-- ---- rules
+
+module _ (kind : RuleKind) (operands text dots : List ℕ) (b : both_at operands ≡ Ok (text, dots)) where
+  rule_read : (o : Option (Option (List ℕ))) → rule_in dots ≡ o → entry_at (Replace kind) operands ≡ or_cause 4 (option_map (λ cells. Replaces kind text cells) o)
+  rule_read o e = entry_then (Replace kind) operands _ tt b ∙ ap (λ (p : Option (Option (List ℕ))). or_cause 4 (option_map (λ cells. Replaces kind text cells) p)) e
+
+  pub rule_bad : (meaning : Meaning) (fault : LineFault) → ReadsRule (Err fault) (rule_in dots) → IsVerdict (Err fault) (judge_opcode meaning (Replace kind) operands)
+  rule_bad meaning (line_faults.Bad cause) h = judge_by meaning (Replace kind) operands _ (rule_read None h.0) ∙ ap (λ (x : Cause). Err (cause_number x)) (sym h.1)
+  rule_bad meaning line_faults.NoMemory h = tt
+
+  pub rule_at : (cells : Option (List ℕ)) → rule_in dots ≡ Some cells → entry_at (Replace kind) operands ≡ Ok (Replaces kind text cells)
+  rule_at cells e = rule_read (Some cells) e
+
+-- ---- signs
+
+module _ (sign : Sign) (operands dots : List ℕ) (d : dots ≡ (field_at operands).0) where
+  one_read : entry_at (Announce sign) operands ≡ entry_of_one (Announce sign) dots
+  one_read = entry_at-sign sign operands ∙ ap (entry_of_one (Announce sign)) (sym d)
+
+  pub sign_missing : (meaning : Meaning) → dots ≡ [] → judge_opcode meaning (Announce sign) operands ≡ Err 2
+  sign_missing meaning e = judge_by meaning (Announce sign) operands _ (one_read ∙ ap (entry_of_one (Announce sign)) e)
+
+  sign_read : (o : Option (List ℕ)) → dots ≢ [] → cells_in dots ≡ o → entry_at (Announce sign) operands ≡ or_cause 4 (option_map (λ cells. Announces sign cells) o)
+  sign_read o n e = one_read ∙ (by dots n ∙ ap (λ (p : Option (List ℕ)). or_cause 4 (option_map (λ cells. Announces sign cells) p)) e)
+    where
+      by : (dots : List ℕ) → dots ≢ [] → entry_of_one (Announce sign) dots ≡ entry_from (Announce sign) [] dots
+      by [] n = absurd (n refl)
+      by (y ∷ dots) n = refl
+
+  pub sign_fault : (meaning : Meaning) (fault : LineFault) → dots ≢ [] → ReadsCells (Err fault) (cells_in dots) → IsVerdict (Err fault) (judge_opcode meaning (Announce sign) operands)
+  sign_fault meaning (line_faults.Bad cause) n h = judge_by meaning (Announce sign) operands _ (sign_read None n h.0) ∙ ap (λ (x : Cause). Err (cause_number x)) (sym h.1)
+  sign_fault meaning line_faults.NoMemory n h = tt
+
+  pub sign_at : (cells : List ℕ) → dots ≢ [] → cells_in dots ≡ Some cells → entry_at (Announce sign) operands ≡ Ok (Announces sign cells)
+  sign_at cells n e = sign_read (Some cells) n e
+
+-- ---- the line
 
 module _ (meaning : Meaning) (line opcode operands : List ℕ) (o : opcode ≡ (field_at line).0) (r : operands ≡ (field_at line).1) where
   line_at : line_gives line ≡ fields_give opcode operands
@@ -134,17 +278,49 @@ module _ (meaning : Meaning) (line opcode operands : List ℕ) (o : opcode ≡ (
       by (x ∷ opcode) (inl e) = absurd cc
       by (x ∷ opcode) (inr (first, e, c)) = rw (eq-eqb x 35 (sym e ∙ c)) refl
 
-  pub judge_line-opcode : opcode ≢ [] → (first : ℕ) → first ≡ get_or opcode 0 first → first ≢ 35 → (class : Option Class) → class ≡ class_of opcode
-      → judge_line meaning line ≡ line_verdict meaning (opcode_gives class operands)
+  judge_line-opcode : opcode ≢ [] → (first : ℕ) → first ≡ get_or opcode 0 first → first ≢ 35 → (named : Option Opcode) → named ≡ opcode_named opcode
+      → judge_line meaning line ≡ line_verdict meaning (opcode_gives named operands)
   unfolding judge_line
-  judge_line-opcode n first e c class k = ap (line_verdict meaning) (line_at ∙ (by opcode n e ∙ ap (λ (x : Option Class). opcode_gives x operands) (sym k)))
+  judge_line-opcode n first e c named k = ap (line_verdict meaning) (line_at ∙ (by opcode n e ∙ ap (λ (x : Option Opcode). opcode_gives x operands) (sym k)))
     where
-      by : (opcode : List ℕ) → opcode ≢ [] → first ≡ get_or opcode 0 first → fields_give opcode operands ≡ opcode_gives (class_of opcode) operands
+      by : (opcode : List ℕ) → opcode ≢ [] → first ≡ get_or opcode 0 first → fields_give opcode operands ≡ opcode_gives (opcode_named opcode) operands
       by [] n e = absurd (n refl)
       by (x ∷ opcode) n e = rw (ne_eqb x 35 (λ (h : x ≡ 35). c (e ∙ h))) refl
 
+  pub judge_line-unknown : opcode ≢ [] → (first : ℕ) → first ≡ get_or opcode 0 first → first ≢ 35 → None ≡ opcode_named opcode → judge_line meaning line ≡ Err 1
+  judge_line-unknown n first e c k = judge_line-opcode n first e c None k
+
+  pub judge_line-known : opcode ≢ [] → (first : ℕ) → first ≡ get_or opcode 0 first → first ≢ 35 → (named : Opcode) → Some named ≡ opcode_named opcode
+      → judge_line meaning line ≡ judge_opcode meaning named operands
+  unfolding judge_opcode
+  judge_line-known n first e c named k = judge_line-opcode n first e c (Some named) k
+
 -- ---- a fault of the line is one of its place
 
-pub IsVerdict-TakesLine : (old new : Meaning) (before : ℕ) (line : List ℕ) (fault : LineFault) → IsVerdict (Err fault) (judge_line old line) → TakesLine (Err fault) old new (judge old before line)
-IsVerdict-TakesLine old new before line (line_faults.Bad cause) h = judge-from_line old before line (cause_number cause) h
+pub IsVerdict-TakesLine : (old new : Draft) (before : ℕ) (line : List ℕ) (fault : LineFault) → IsVerdict (Err fault) (judge_line old.table line) → TakesLine (Err fault) before old new (judge old.table before line)
+IsVerdict-TakesLine old new before line (line_faults.Bad cause) h = judge-from_line old.table before line (cause_number cause) h
 IsVerdict-TakesLine old new before line line_faults.NoMemory h = tt
+
+-- ---- texts of one and two
+
+pub only_character-Some : (text : List ℕ) (c : ℕ) → Some c ≡ only_character text → text ≡ c ∷ []
+only_character-Some [] c e = absurd cc
+only_character-Some (d ∷ []) c e = let same : c ≡ d = cc in ap (λ (x : ℕ). x ∷ []) (sym same)
+only_character-Some (d ∷ x ∷ text) c e = absurd cc
+
+pub only_character-None : (text : List ℕ) → None ≡ only_character text → length text ≢ 1
+only_character-None [] e = λ n. omega arith
+only_character-None (d ∷ []) e = absurd cc
+only_character-None (d ∷ x ∷ text) e = λ n. omega arith
+
+pub only_pair-Some : (text : List ℕ) (p : ℕ × ℕ) → Some p ≡ only_pair text → text ≡ p.0 ∷ p.1 ∷ []
+only_pair-Some [] p e = absurd cc
+only_pair-Some (c ∷ []) p e = absurd cc
+only_pair-Some (c ∷ d ∷ []) p e = let same : p ≡ (c, d) = cc in sym (ap (λ (q : ℕ × ℕ). q.0 ∷ q.1 ∷ []) same)
+only_pair-Some (c ∷ d ∷ x ∷ text) p e = absurd cc
+
+pub only_pair-None : (text : List ℕ) → None ≡ only_pair text → length text ≢ 2
+only_pair-None [] e = λ n. omega arith
+only_pair-None (c ∷ []) e = λ n. omega arith
+only_pair-None (c ∷ d ∷ []) e = absurd cc
+only_pair-None (c ∷ d ∷ x ∷ text) e = λ n. omega arith

@@ -1,20 +1,24 @@
 -- The verdict on a line behind others tells its smallest cause.
-use Rattle.std.proofs.Common.{◌≡◌, ℕ, ◌<◌, ◌≤◌, Bool, true, false, cond, ◌||◌, eqb, ltb, leb, List, [], ◌∷◌, length, Option, Some, None, Result, Ok, Err, is_some, Contains, refl, sym, ap, subst, ◌∙◌, ◌⊎◌, inl, inr, arith, lit≤, true≢false}
-use Rattle.std.specs.Prelude.{nat_eq}
+use Rattle.std.proofs.Common.{◌≡◌, ◌≢◌, ℕ, ◌+◌, ◌<◌, ◌≤◌, Bool, true, false, not, cond, ◌||◌, eqb, ltb, leb, List, [], ◌∷◌, ◌++◌, length, Option, Some, None, Result, Ok, Err, is_some, Contains, refl, sym, ap, subst, ◌∙◌, ◌⊎◌, inl, inr, arith, lit≤, true≢false}
+use Rattle.std.specs.Prelude.{nat_eq, map}
 use Rattle.std.specs.Map.{lookup}
-use Rattle.std.specs.List.{flat_map}
-use Rattle.std.proofs.lemmas.Bool.{cases_Bool, cases_lt, eqb-true, eq-eqb, ltb-true, leb-true, lt-ltb, le-leb}
-use Rattle.std.proofs.lemmas.List.Elements.{Contains-append_right, Contains-push_cases, Contains-append_cases}
-use Rattle.cell_core.specs.Dots.{most_cells}
+use Rattle.std.specs.List.{flat_map, list_any}
+use Rattle.std.proofs.lemmas.Bool.{cases_Bool, cases_lt, eqb-true, eqb-false, eq-eqb, ne_eqb, ltb-true, leb-true, lt-ltb, le-leb, ltb-false, leb-false, not-false, not-true}
+use Rattle.std.proofs.lemmas.List.{nil_from_length, length-append}
+use Rattle.std.proofs.lemmas.List.Elements.{Contains-append_left, Contains-append_right, Contains-push_cases, Contains-append_cases}
+use Rattle.cell_core.specs.Dots.{Dots}
 use Rattle.louis_table.specs.declared.definition.Definition.{Definition}
-use Rattle.louis_table.specs.Table.{most_lines, most_line_characters}
-use Rattle.louis_table.specs.Meaning.{Meaning, definition_of}
-use Rattle.louis_table.specs.Reading.{Gathers, as_some, entry_verdict, line_verdict, line_gives, judge_line, within_limits, judge}
-use Rattle.louis_table.specs.Table.{Entry, Defines, SaysNothing, Gives, Give, definitions_in, AreDefining, Fault, unknown_opcode, missing_operand, bad_characters, bad_dots, defined_before, long_line, line_too_many, many_cells}
+use Rattle.louis_table.specs.declared.opcode.Sign.{Sign}
+use Rattle.louis_table.specs.declared.opcode.Sign.TheVariants.{Number, Capital, CapitalWord}
+use Rattle.louis_table.specs.declared.opcode.Opcode.{Opcode}
+use Rattle.louis_table.specs.declared.written.WrittenRule.{WrittenRule}
+use Rattle.louis_table.specs.Meaning.{Meaning, definition_of, partner_of}
+use Rattle.louis_table.specs.Reading.{Gathers, as_some, is_known, is_taken, sign_cells, repeats, announces, is_large, verdict_by, entry_verdict, line_verdict, line_gives, entry_at, judge_opcode, judge_line, within_limits, judge, IsNewFor, CanTake, HasDefinedPartners}
+use Rattle.louis_table.specs.Table.{most_lines, most_line_characters, Entry, Defines, Pairs, Replaces, Announces, SaysNothing, Gives, definition_line, pair_line, rule_line, sign_line, GiveFrom, definitions_in, partners_in, numsign_in, capsletter_in, begcapsword_in, IsDefinedIn, SomeGives, Fault, unknown_opcode, missing_operand, bad_characters, bad_dots, defined_before, defined_twice, announced_before, long_line, line_too_many, long_rule, many_cells}
 use Rattle.louis_table.proofs.CharacterLaws.{chosen}
-use Rattle.louis_table.proofs.EntryLaws.{Says, FailsBy, line_gives-Says, line_gives-nothing, line_gives-entry, unknown_fails, missing_fails, characters_fail, dots_fail}
+use Rattle.louis_table.proofs.EntryLaws.{Says, FailsBy, IsLargeBy, or_right, or_left, or_cases, line_gives-Says, line_gives-nothing, line_gives-entry, unknown_fails, missing_fails, characters_fail, dots_fail, long_rule_large, many_cells_large, large_fault}
 
--- ---- the characters that lines define
+-- ---- lines and entries
 
 pub one_entry : (line : List ℕ) (e f : Entry) → Gives line e → Gives line f → e ≡ f
 one_entry line e f g h =
@@ -28,50 +32,174 @@ nothing_or_entry line e s g =
     let other : line_gives line ≡ Ok (Some e) = line_gives-entry line e g in
     cc
 
--- a definition of the character is among those of the entries
-abbrev pub is_among : List Entry → ℕ → Bool
-is_among entries c = is_some (lookup (nat_eq c) (flat_map definitions_in entries))
+-- one of the entries passes the test
+abbrev pub any_gives : (Entry → Bool) → List (ℕ × Entry) → Bool
+any_gives p entries = list_any (λ e. p e.1) entries
 
-pub is_among-AreDefining : (lines : List (List ℕ)) (entries : List Entry) (c : ℕ) → Give lines entries → is_among entries c ≡ true → AreDefining lines c
-is_among-AreDefining [] entries c g h = let none : is_among entries c ≡ false = ap (λ (es : List Entry). is_among es c) g in absurd cc
-is_among-AreDefining (line ∷ lines) entries c (inl (s, g)) h =
-    let d = is_among-AreDefining lines entries c g h in
-    (d.0, d.1, Contains-append_right (line ∷ []) lines d.0 d.2, d.3)
-is_among-AreDefining (line ∷ lines) entries c (inr (Defines k definition, rest, gives, e, g)) h =
-    by (nat_eq c k) refl (sym (ap (λ (es : List Entry). is_among es c) e) ∙ h) (λ t. is_among-AreDefining lines rest c g t)
+pub any_gives-SomeGives : (p : Entry → Bool) (n : ℕ) (lines : List (List ℕ)) (entries : List (ℕ × Entry)) → GiveFrom n lines entries → any_gives p entries ≡ true
+    → SomeGives lines (λ entry. p entry ≡ true)
+any_gives-SomeGives p n [] entries g h = let none : any_gives p entries ≡ false = ap (any_gives p) g in absurd cc
+any_gives-SomeGives p n (line ∷ lines) entries (inl (s, g)) h =
+    let d = any_gives-SomeGives p (n + 1) lines entries g h in
+    (d.0, d.1, Contains-append_right (line ∷ []) lines d.0 d.2, d.3, d.4)
+any_gives-SomeGives p n (line ∷ lines) entries (inr (entry, rest, gives, e, g)) h =
+    by (p entry) refl (sym (ap (any_gives p) e) ∙ h) (λ t. any_gives-SomeGives p (n + 1) lines rest g t)
   where
-    by : (b : Bool) → nat_eq c k ≡ b → is_some (cond b (Some definition) (lookup (nat_eq c) (flat_map definitions_in rest))) ≡ true
-        → (is_among rest c ≡ true → AreDefining lines c) → AreDefining (line ∷ lines) c
-    by true t h rec = (line, definition, (0, omega arith, refl), subst (λ (x : ℕ). Gives line (Defines x definition)) (sym (eqb-true c k t)) gives)
-    by false f h rec = let d = rec h in (d.0, d.1, Contains-append_right (line ∷ []) lines d.0 d.2, d.3)
+    by : (b : Bool) → p entry ≡ b → b || any_gives p rest ≡ true → (any_gives p rest ≡ true → SomeGives lines (λ entry. p entry ≡ true)) → SomeGives (line ∷ lines) (λ entry. p entry ≡ true)
+    by true t h rec = (line, entry, (0, omega arith, refl), gives, t)
+    by false f h rec = let d = rec h in (d.0, d.1, Contains-append_right (line ∷ []) lines d.0 d.2, d.3, d.4)
 
-only_one : (x y : List ℕ) → Contains (x ∷ []) y → x ≡ y
+pub only_one : {X : Type 0} (x y : X) → Contains (x ∷ []) y → x ≡ y
 only_one x y m = elim (Contains-push_cases [] x y m) [ inl (k, lt, e) ↦ absurd (omega arith) | inr e ↦ e ]
 
-pub AreDefining-is_among : (lines : List (List ℕ)) (entries : List Entry) (c : ℕ) → Give lines entries → AreDefining lines c → is_among entries c ≡ true
-AreDefining-is_among [] entries c g (l, definition, (k, lt, e), gives) = absurd (omega arith)
-AreDefining-is_among (line ∷ lines) entries c (inl (s, g)) (l, definition, m, gives) =
+pub SomeGives-any_gives : (p : Entry → Bool) (n : ℕ) (lines : List (List ℕ)) (entries : List (ℕ × Entry)) → GiveFrom n lines entries → SomeGives lines (λ entry. p entry ≡ true)
+    → any_gives p entries ≡ true
+SomeGives-any_gives p n [] entries g (l, entry, (k, lt, e), gives, t) = absurd (omega arith)
+SomeGives-any_gives p n (line ∷ lines) entries (inl (s, g)) (l, entry, m, gives, t) =
     elim (Contains-append_cases (line ∷ []) lines l m) [
-      | inl here ↦ absurd (nothing_or_entry line (Defines c definition) s (subst (λ (x : List ℕ). Gives x (Defines c definition)) (sym (only_one line l here)) gives))
-      | inr there ↦ AreDefining-is_among lines entries c g (l, definition, there, gives)
+      | inl here ↦ absurd (nothing_or_entry line entry s (subst (λ (x : List ℕ). Gives x entry) (sym (only_one line l here)) gives))
+      | inr there ↦ SomeGives-any_gives p (n + 1) lines entries g (l, entry, there, gives, t)
     ]
-AreDefining-is_among (line ∷ lines) entries c (inr (Defines k other, rest, given, e, g)) (l, definition, m, gives) =
-    ap (λ (es : List Entry). is_among es c) e ∙ by (nat_eq c k) refl (λ d. AreDefining-is_among lines rest c g d)
+SomeGives-any_gives p n (line ∷ lines) entries (inr (given, rest, i, e, g)) (l, entry, m, gives, t) =
+    ap (any_gives p) e ∙
+    elim (Contains-append_cases (line ∷ []) lines l m) [
+      | inl here ↦
+          let same : entry ≡ given = one_entry line entry given (subst (λ (x : List ℕ). Gives x entry) (sym (only_one line l here)) gives) i in
+          or_left (p given) (any_gives p rest) (sym (ap p same) ∙ t)
+      | inr there ↦ or_right (p given) (any_gives p rest) (SomeGives-any_gives p (n + 1) lines rest g (l, entry, there, gives, t))
+    ]
+
+map_SomeGives : (lines : List (List ℕ)) (P Q : Entry → Type 0) → SomeGives lines P → ((line : List ℕ) (entry : Entry) → Gives line entry → P entry → Q entry) → SomeGives lines Q
+map_SomeGives lines P Q (line, entry, m, gives, h) f = (line, entry, m, gives, f line entry gives h)
+
+-- ---- the characters that entries define
+
+lookup-append : {X : Type 0} (p : ℕ → Bool) (xs ys : List (ℕ × X)) → is_some (lookup p (xs ++ ys)) ≡ (is_some (lookup p xs) || is_some (lookup p ys))
+lookup-append p [] ys = refl
+lookup-append p ((k, x) ∷ xs) ys = by (p k) (lookup-append p xs ys)
   where
-    same : line ≡ l → c ≡ k
-    same e = let s : Defines k other ≡ Defines c definition = one_entry line (Defines k other) (Defines c definition) given (subst (λ (x : List ℕ). Gives x (Defines c definition)) (sym e) gives) in cc
+    by : (b : Bool) → is_some (lookup p (xs ++ ys)) ≡ (is_some (lookup p xs) || is_some (lookup p ys))
+        → is_some (cond b (Some x) (lookup p (xs ++ ys))) ≡ (is_some (cond b (Some x) (lookup p xs)) || is_some (lookup p ys))
+    by true e = refl
+    by false e = e
 
-    by : (b : Bool) → nat_eq c k ≡ b → (AreDefining lines c → is_among rest c ≡ true)
-        → is_some (cond b (Some other) (lookup (nat_eq c) (flat_map definitions_in rest))) ≡ true
-    by true t rec = refl
-    by false f rec =
-        elim (Contains-append_cases (line ∷ []) lines l m) [
-          | inl here ↦ let t : eqb c k ≡ true = eq-eqb c k (same (only_one line l here)) in absurd cc
-          | inr there ↦ rec (l, definition, there, gives)
-        ]
+pub lookup-flat_map : {X : Type 0} (p : ℕ → Bool) (f : Entry → List (ℕ × X)) (entries : List (ℕ × Entry))
+    → is_some (lookup p (flat_map (λ e. f e.1) entries)) ≡ any_gives (λ entry. is_some (lookup p (f entry))) entries
+lookup-flat_map p f [] = refl
+lookup-flat_map p f (e ∷ entries) = lookup-append p (f e.1) (flat_map (λ e. f e.1) entries) ∙ ap (λ (b : Bool). is_some (lookup p (f e.1)) || b) (lookup-flat_map p f entries)
 
-gathered_among : (lines : List (List ℕ)) (meaning : Meaning) (g : Gathers lines meaning) (c : ℕ) → is_some (definition_of meaning c) ≡ is_among g.entries c
-gathered_among lines meaning g c = ap (λ (ds : List (ℕ × Definition)). is_some (lookup (nat_eq c) ds)) g.definitions
+lookup-Contains : {X : Type 0} (c : ℕ) (xs : List (ℕ × X)) → is_some (lookup (nat_eq c) xs) ≡ true → Contains (map (λ x. x.0) xs) c
+lookup-Contains c [] h = absurd cc
+lookup-Contains c ((k, x) ∷ xs) h = by (nat_eq c k) refl h (lookup-Contains c xs)
+  where
+    by : (b : Bool) → nat_eq c k ≡ b → is_some (cond b (Some x) (lookup (nat_eq c) xs)) ≡ true → (is_some (lookup (nat_eq c) xs) ≡ true → Contains (map (λ x. x.0) xs) c)
+        → Contains (k ∷ map (λ x. x.0) xs) c
+    by true t h rec = Contains-append_left (k ∷ []) (map (λ x. x.0) xs) c (0, omega arith, sym (eqb-true c k t))
+    by false f h rec = Contains-append_right (k ∷ []) (map (λ x. x.0) xs) c (rec h)
+
+Contains-lookup : {X : Type 0} (c : ℕ) (xs : List (ℕ × X)) → Contains (map (λ x. x.0) xs) c → is_some (lookup (nat_eq c) xs) ≡ true
+Contains-lookup c [] (k, lt, e) = absurd (omega arith)
+Contains-lookup c ((k, x) ∷ xs) m =
+    elim (Contains-append_cases (k ∷ []) (map (λ x. x.0) xs) c m) [
+      | inl here ↦ by (nat_eq c k) (inl (eq-eqb c k (sym (only_one k c here))))
+      | inr there ↦ by (nat_eq c k) (inr (Contains-lookup c xs there))
+    ]
+  where
+    by : (b : Bool) → (b ≡ true) ⊎ (is_some (lookup (nat_eq c) xs) ≡ true) → is_some (cond b (Some x) (lookup (nat_eq c) xs)) ≡ true
+    by true h = refl
+    by false (inl e) = absurd cc
+    by false (inr h) = h
+
+-- the entry defines the character
+abbrev defines : ℕ → Entry → Bool
+defines c entry = is_some (lookup (nat_eq c) (definitions_in entry))
+
+module _ (lines : List (List ℕ)) (meaning : Meaning) (written : List WrittenRule) (g : Gathers lines meaning written) where
+  is_known-any : (c : ℕ) → is_known meaning c ≡ any_gives (defines c) g.entries
+  is_known-any c = ap (λ (ds : List (ℕ × Definition)). is_some (lookup (nat_eq c) ds)) g.definitions ∙ lookup-flat_map (nat_eq c) definitions_in g.entries
+
+  pub is_known-SomeGives : (c : ℕ) → is_known meaning c ≡ true → SomeGives lines (IsDefinedIn c)
+  is_known-SomeGives c t =
+      map_SomeGives lines (λ entry. defines c entry ≡ true) (IsDefinedIn c) (any_gives-SomeGives (defines c) 1 lines g.entries g.given (sym (is_known-any c) ∙ t))
+      (λ line entry gives h. lookup-Contains c (definitions_in entry) h)
+
+  pub SomeGives-is_known : (c : ℕ) → SomeGives lines (IsDefinedIn c) → is_known meaning c ≡ true
+  SomeGives-is_known c s =
+      is_known-any c
+      ∙ SomeGives-any_gives (defines c) 1 lines g.entries g.given
+      (map_SomeGives lines (IsDefinedIn c) (λ entry. defines c entry ≡ true) s (λ line entry gives h. Contains-lookup c (definitions_in entry) h))
+
+-- ---- the signs that entries give
+
+abbrev cells_for : Sign → Entry → List ℕ
+cells_for Number entry = numsign_in entry
+cells_for Capital entry = capsletter_in entry
+cells_for CapitalWord entry = begcapsword_in entry
+
+abbrev are_some : List ℕ → Bool
+are_some cells = not (eqb (length cells) 0)
+
+are_some-append : (xs ys : List ℕ) → are_some (xs ++ ys) ≡ (are_some xs || are_some ys)
+are_some-append [] ys = refl
+are_some-append (x ∷ xs) ys =
+    let one : eqb (length (x ∷ xs ++ ys)) 0 ≡ false = ne_eqb _ _ (λ e. omega arith) in
+    let other : eqb (length (x ∷ xs)) 0 ≡ false = ne_eqb _ _ (λ e. omega arith) in
+    ap not one ∙ sym (or_left _ _ (ap not other))
+
+are_some-flat_map : (f : Entry → List ℕ) (entries : List (ℕ × Entry)) → are_some (flat_map (λ e. f e.1) entries) ≡ any_gives (λ entry. are_some (f entry)) entries
+are_some-flat_map f [] = refl
+are_some-flat_map f (e ∷ entries) = are_some-append (f e.1) (flat_map (λ e. f e.1) entries) ∙ ap (λ (b : Bool). are_some (f e.1) || b) (are_some-flat_map f entries)
+
+cells_for-Announces : (sign : Sign) (entry : Entry) → are_some (cells_for sign entry) ≡ true → (cells : List ℕ) × (entry ≡ Announces sign cells)
+cells_for-Announces Number (Announces Number cells) h = (cells, refl)
+cells_for-Announces Number entry h = absurd cc
+cells_for-Announces Capital (Announces Capital cells) h = (cells, refl)
+cells_for-Announces Capital entry h = absurd cc
+cells_for-Announces CapitalWord (Announces CapitalWord cells) h = (cells, refl)
+cells_for-Announces CapitalWord entry h = absurd cc
+
+cells_for-own : (sign : Sign) (cells : List ℕ) → cells_for sign (Announces sign cells) ≡ cells
+cells_for-own Number cells = refl
+cells_for-own Capital cells = refl
+cells_for-own CapitalWord cells = refl
+
+Dots-some : (dots cells : List ℕ) → Dots dots cells → are_some cells ≡ true
+Dots-some dots [] d = absurd d
+Dots-some dots (cell ∷ cells) d = ap not (ne_eqb _ _ (λ e. omega arith))
+
+Gives-some : (line : List ℕ) (entry : Entry) (sign : Sign) (cells : List ℕ) → Gives line entry → entry ≡ Announces sign cells → are_some cells ≡ true
+Gives-some line entry sign cells (definition_line class characters dots c others h s d e) same = absurd cc
+Gives-some line entry sign cells (pair_line characters dots upper lower upper_cells lower_cells h s d e) same = absurd cc
+Gives-some line entry sign cells (rule_line kind characters dots text others h s d e) same = absurd cc
+Gives-some line entry sign cells (sign_line other dots others h d e) same =
+    let equal : others ≡ cells = cc in
+    ap are_some (sym equal) ∙ Dots-some dots others d
+
+module _ (lines : List (List ℕ)) (meaning : Meaning) (written : List WrittenRule) (g : Gathers lines meaning written) where
+  sign_cells-flat_map : (sign : Sign) → sign_cells meaning sign ≡ flat_map (λ e. cells_for sign e.1) g.entries
+  sign_cells-flat_map Number = g.numsign
+  sign_cells-flat_map Capital = g.capsletter
+  sign_cells-flat_map CapitalWord = g.begcapsword
+
+  -- an earlier line gives the sign
+  abbrev IsAnnounced : Sign → Type 0
+  IsAnnounced sign = SomeGives lines (λ entry. (others : List ℕ) × (entry ≡ Announces sign others))
+
+  sign_cells-any : (sign : Sign) → are_some (sign_cells meaning sign) ≡ any_gives (λ entry. are_some (cells_for sign entry)) g.entries
+  sign_cells-any sign = ap are_some (sign_cells-flat_map sign) ∙ are_some-flat_map (cells_for sign) g.entries
+
+  pub sign_cells-IsAnnounced : (sign : Sign) → are_some (sign_cells meaning sign) ≡ true → IsAnnounced sign
+  sign_cells-IsAnnounced sign t =
+      map_SomeGives lines (λ entry. are_some (cells_for sign entry) ≡ true) (λ entry. (others : List ℕ) × (entry ≡ Announces sign others))
+      (any_gives-SomeGives (λ entry. are_some (cells_for sign entry)) 1 lines g.entries g.given (sym (sign_cells-any sign) ∙ t))
+      (λ line entry gives h. cells_for-Announces sign entry h)
+
+  pub IsAnnounced-sign_cells : (sign : Sign) → IsAnnounced sign → are_some (sign_cells meaning sign) ≡ true
+  IsAnnounced-sign_cells sign s =
+      sign_cells-any sign
+      ∙ SomeGives-any_gives (λ entry. are_some (cells_for sign entry)) 1 lines g.entries g.given
+      (map_SomeGives lines (λ entry. (others : List ℕ) × (entry ≡ Announces sign others)) (λ entry. are_some (cells_for sign entry) ≡ true) s
+      (λ line entry gives h. ap (λ (x : Entry). are_some (cells_for sign x)) h.1 ∙ (ap are_some (cells_for-own sign h.0) ∙ Gives-some line entry sign h.0 gives h.1)))
 
 -- ---- a verdict against a line is a fault
 
@@ -79,47 +207,62 @@ gathered_among lines meaning g c = ap (λ (ds : List (ℕ × Definition)). is_so
 abbrev IsLong : ℕ → List ℕ → Type 0
 IsLong before line = (most_line_characters < length line) ⊎ (most_lines ≤ before)
 
-long_from : (before : ℕ) (line : List ℕ) → ltb most_line_characters (length line) || leb most_lines before ≡ true → IsLong before line
-long_from before line e =
-    elim (cases_Bool (ltb most_line_characters (length line))) [
-      | inl t ↦ inl (ltb-true _ _ t)
-      | inr f ↦ inr (leb-true _ _ (sym (ap (λ (b : Bool). b || leb most_lines before) f) ∙ e))
-    ]
+abbrev is_long : ℕ → List ℕ → Bool
+is_long before line = ltb most_line_characters (length line) || leb most_lines before
 
-is_long : (before : ℕ) (line : List ℕ) → IsLong before line → ltb most_line_characters (length line) || leb most_lines before ≡ true
-is_long before line (inl h) = ap (λ (b : Bool). b || leb most_lines before) (lt-ltb _ _ h)
-is_long before line (inr h) = elim (cases_Bool (ltb most_line_characters (length line))) [
-  | inl t ↦ ap (λ (b : Bool). b || leb most_lines before) t
-  | inr f ↦ ap (λ (b : Bool). b || leb most_lines before) f ∙ le-leb _ _ h
-]
+is_long-IsLong : (before : ℕ) (line : List ℕ) → is_long before line ≡ true → IsLong before line
+is_long-IsLong before line e =
+    elim (or_cases (ltb most_line_characters (length line)) (leb most_lines before) e) [ inl t ↦ inl (ltb-true _ _ t) | inr t ↦ inr (leb-true _ _ t) ]
+
+IsLong-is_long : (before : ℕ) (line : List ℕ) → IsLong before line → is_long before line ≡ true
+IsLong-is_long before line (inl h) = or_left _ _ (lt-ltb _ _ h)
+IsLong-is_long before line (inr h) = or_right (ltb most_line_characters (length line)) _ (le-leb _ _ h)
 
 err_is : (a c : ℕ) → (let r : Result (Option Entry) ℕ = Err a in r) ≡ Err c → c ≡ a
 err_is a c e = cc
 
-module _ (before : List (List ℕ)) (line : List ℕ) (meaning : Meaning) (gathered : Gathers before meaning) where
+module _ (before : List (List ℕ)) (line : List ℕ) (meaning : Meaning) (written : List WrittenRule) (gathered : Gathers before meaning written) where
   limits_fault : (given : Option Entry) (c : ℕ) → within_limits (length before) line (Ok given) ≡ Err c → Fault before line c
   limits_fault given c e =
-      elim (chosen (ltb most_line_characters (length line) || leb most_lines (length before)) _ _ _ e) [
-        | inl p ↦ elim (long_from (length before) line p.0) [
+      elim (chosen (is_long (length before) line) _ _ _ e) [
+        | inl p ↦ elim (is_long-IsLong (length before) line p.0) [
           | inl long ↦ long_line long (err_is 8 c p.1)
           | inr many ↦ line_too_many many (err_is 8 c p.1)
         ]
         | inr p ↦ absurd cc
       ]
 
-  entry_fault : (k : ℕ) (definition : Definition) (c : ℕ) → Gives line (Defines k definition) → (known many : Bool)
-      → is_some (definition_of meaning k) ≡ known → ltb most_cells (length definition.cells) ≡ many
-      → within_limits (length before) line (as_some (cond known (Err 5) (cond many (Err 8) (Ok (Defines k definition))))) ≡ Err c
-      → Fault before line c
-  entry_fault k definition c g true many t m e =
-      defined_before k definition g (is_among-AreDefining before gathered.entries k gathered.given (sym (gathered_among before meaning gathered k) ∙ t)) (err_is 5 c e)
-  entry_fault k definition c g false true f m e = many_cells k definition g (ltb-true _ _ m) (err_is 8 c e)
-  entry_fault k definition c g false false f m e = limits_fault (Some (Defines k definition)) c e
+  repeats_fault : (entry : Entry) → Gives line entry → repeats meaning entry ≡ true → Fault before line 5
+  repeats_fault (Defines k definition) g t =
+      defined_before (Defines k definition) k g (0, omega arith, refl) (is_known-SomeGives before meaning written gathered k t) refl
+  repeats_fault (Pairs u uc l lc) g t =
+      elim (or_cases (eqb u l || is_known meaning u) (is_known meaning l) t) [
+        | inl p ↦ elim (or_cases (eqb u l) (is_known meaning u) p) [
+          | inl q ↦ defined_twice u uc lc (subst (λ (x : ℕ). Gives line (Pairs u uc x lc)) (sym (eqb-true u l q)) g) refl
+          | inr q ↦ defined_before (Pairs u uc l lc) u g (0, omega arith, refl) (is_known-SomeGives before meaning written gathered u q) refl
+        ]
+        | inr p ↦ defined_before (Pairs u uc l lc) l g (1, omega arith, refl) (is_known-SomeGives before meaning written gathered l p) refl
+      ]
+  repeats_fault (Replaces kind text cells) g t = absurd cc
+  repeats_fault (Announces sign cells) g t = absurd cc
+
+  announces_fault : (entry : Entry) → Gives line entry → announces meaning entry ≡ true → Fault before line 6
+  announces_fault (Defines k definition) g t = absurd cc
+  announces_fault (Pairs u uc l lc) g t = absurd cc
+  announces_fault (Replaces kind text cells) g t = absurd cc
+  announces_fault (Announces sign cells) g t = announced_before sign cells g (sign_cells-IsAnnounced before meaning written gathered sign t) refl
+
+  entry_fault : (entry : Entry) (c : ℕ) → Gives line entry → (r a l : Bool) → repeats meaning entry ≡ r → announces meaning entry ≡ a → is_large entry ≡ l
+      → within_limits (length before) line (as_some (verdict_by r a l entry)) ≡ Err c → Fault before line c
+  entry_fault entry c g true a l x y z e = subst (Fault before line) (sym (err_is 5 c e)) (repeats_fault entry g x)
+  entry_fault entry c g false true l x y z e = subst (Fault before line) (sym (err_is 6 c e)) (announces_fault entry g y)
+  entry_fault entry c g false false true x y z e = subst (Fault before line) (sym (err_is 8 c e)) (large_fault before line entry g z)
+  entry_fault entry c g false false false x y z e = limits_fault (Some entry) c e
 
   verdict_fault : (v : Result (Option Entry) ℕ) (c : ℕ) → Says line v → within_limits (length before) line (line_verdict meaning v) ≡ Err c → Fault before line c
   unfolding entry_verdict
   verdict_fault (Ok None) c s e = limits_fault None c e
-  verdict_fault (Ok (Some (Defines k definition))) c s e = entry_fault k definition c s _ _ refl refl e
+  verdict_fault (Ok (Some entry)) c s e = entry_fault entry c s _ _ _ refl refl refl e
   verdict_fault (Err a) c s e = subst (λ (x : ℕ). Fault before line x) (sym (err_is a c e)) (s before)
 
   -- the cause that is told is one
@@ -137,93 +280,126 @@ module _ (before : List (List ℕ)) (line : List ℕ) (meaning : Meaning) (gathe
   unfolding judge judge_line
   fails_judged cause (least, e, le) = (least, ap (λ (v : Result (Option Entry) ℕ). within_limits (length before) line (line_verdict meaning v)) e, le)
 
-  entry_judged : (k : ℕ) (definition : Definition) → Gives line (Defines k definition)
-      → judge meaning (length before) line ≡ within_limits (length before) line (as_some (entry_verdict meaning (Defines k definition)))
-  unfolding judge judge_line
-  entry_judged k definition g = ap (λ (v : Result (Option Entry) ℕ). within_limits (length before) line (line_verdict meaning v)) (line_gives-entry line (Defines k definition) g)
+  entry_judged : (entry : Entry) → line_gives line ≡ Ok (Some entry)
+      → judge meaning (length before) line ≡ within_limits (length before) line (as_some (verdict_by (repeats meaning entry) (announces meaning entry) (is_large entry) entry))
+  unfolding judge judge_line entry_verdict
+  entry_judged entry e = ap (λ (v : Result (Option Entry) ℕ). within_limits (length before) line (line_verdict meaning v)) e
 
-  many_judged : (k : ℕ) (definition : Definition) (known many : Bool) → many ≡ true
-      → (least : ℕ) × (within_limits (length before) line (as_some (cond known (Err 5) (cond many (Err 8) (Ok (Defines k definition))))) ≡ Err least) × (least ≤ 8)
-  many_judged k definition true many t = (5, refl, lit≤ tt)
-  many_judged k definition false true t = (8, refl, lit≤ tt)
-  many_judged k definition false false t = absurd cc
+  repeats_judged : (entry : Entry) → Gives line entry → repeats meaning entry ≡ true → IsJudged 5
+  repeats_judged entry g t = (5, entry_judged entry (line_gives-entry line entry g) ∙ by (repeats meaning entry) t, lit≤ tt)
+    where
+      by : (r : Bool) → r ≡ true → within_limits (length before) line (as_some (verdict_by r (announces meaning entry) (is_large entry) entry)) ≡ Err 5
+      by true t = refl
+      by false t = absurd cc
 
-  known_judged : (k : ℕ) (definition : Definition) (known many : Bool) → known ≡ true
-      → within_limits (length before) line (as_some (cond known (Err 5) (cond many (Err 8) (Ok (Defines k definition))))) ≡ Err 5
-  known_judged k definition true many t = refl
-  known_judged k definition false many t = absurd cc
+  announces_judged : (entry : Entry) → Gives line entry → announces meaning entry ≡ true → IsJudged 6
+  announces_judged entry g t =
+      let b = by (repeats meaning entry) (announces meaning entry) t in
+      (b.0, entry_judged entry (line_gives-entry line entry g) ∙ b.1, b.2)
+    where
+      by : (r a : Bool) → a ≡ true → (least : ℕ) × (within_limits (length before) line (as_some (verdict_by r a (is_large entry) entry)) ≡ Err least) × (least ≤ 6)
+      by true a t = (5, refl, lit≤ tt)
+      by false true t = (6, refl, lit≤ tt)
+      by false false t = absurd cc
+
+  large_judged : IsLargeBy line → IsJudged 8
+  large_judged (inl f) = fails_judged 8 f
+  large_judged (inr (entry, e, t)) =
+      let b = by (repeats meaning entry) (announces meaning entry) (is_large entry) t in
+      (b.0, entry_judged entry e ∙ b.1, b.2)
+    where
+      by : (r a l : Bool) → l ≡ true → (least : ℕ) × (within_limits (length before) line (as_some (verdict_by r a l entry)) ≡ Err least) × (least ≤ 8)
+      by true a l t = (5, refl, lit≤ tt)
+      by false true l t = (6, refl, lit≤ tt)
+      by false false true t = (8, refl, lit≤ tt)
+      by false false false t = absurd cc
 
   fault_small : (c : ℕ) → Fault before line c → c ≤ 8
   fault_small c (unknown_opcode field rest b n u e) = rw e (lit≤ tt)
-  fault_small c (missing_operand class rest b n e) = rw e (lit≤ tt)
-  fault_small c (bad_characters class characters h n e) = rw e (lit≤ tt)
-  fault_small c (bad_dots class characters dots h n e) = rw e (lit≤ tt)
-  fault_small c (defined_before k definition g d e) = rw e (lit≤ tt)
+  fault_small c (missing_operand opcode rest b n e) = rw e (lit≤ tt)
+  fault_small c (bad_characters opcode characters h n e) = rw e (lit≤ tt)
+  fault_small c (bad_dots opcode dots h n e) = rw e (lit≤ tt)
+  fault_small c (defined_before entry k g i s e) = rw e (lit≤ tt)
+  fault_small c (defined_twice k uc lc g e) = rw e (lit≤ tt)
+  fault_small c (announced_before sign cells g s e) = rw e (lit≤ tt)
   fault_small c (long_line h e) = rw e (lit≤ tt)
   fault_small c (line_too_many h e) = rw e (lit≤ tt)
-  fault_small c (many_cells k definition g h e) = rw e (lit≤ tt)
+  fault_small c (long_rule kind characters text h s lt e) = rw e (lit≤ tt)
+  fault_small c (many_cells opcode dots cells h w lt e) = rw e (lit≤ tt)
 
   long_judged : (v : Result (Option Entry) ℕ) → judge_line meaning line ≡ v → IsLong (length before) line → IsJudged 8
   unfolding judge
   long_judged (Ok given) e h =
-      (8, ap (within_limits (length before) line) e ∙ ap (λ (b : Bool). cond b (Err 8) (Ok given)) (is_long (length before) line h), lit≤ tt)
+      (8, ap (within_limits (length before) line) e ∙ ap (λ (b : Bool). cond b (Err 8) (Ok given)) (IsLong-is_long (length before) line h), lit≤ tt)
   long_judged (Err c) e h =
       let j : judge meaning (length before) line ≡ Err c = ap (within_limits (length before) line) e in
       (c, j, fault_small c (judge-Fault c j))
 
+  repeats-defined : (entry : Entry) (c : ℕ) → IsDefinedIn c entry → is_known meaning c ≡ true → repeats meaning entry ≡ true
+  repeats-defined (Defines k definition) c m t = ap (is_known meaning) (only_one k c m) ∙ t
+  repeats-defined (Pairs u uc l lc) c m t =
+      elim (Contains-append_cases (u ∷ []) (l ∷ []) c m) [
+        | inl here ↦ or_left _ _ (or_right (eqb u l) _ (ap (is_known meaning) (only_one u c here) ∙ t))
+        | inr there ↦ or_right (eqb u l || is_known meaning u) _ (ap (is_known meaning) (only_one l c there) ∙ t)
+      ]
+  repeats-defined (Replaces kind text cells) c (k, lt, e) t = absurd (omega arith)
+  repeats-defined (Announces sign cells) c (k, lt, e) t = absurd (omega arith)
+
   pub Fault-judge : (cause : ℕ) → Fault before line cause → IsJudged cause
-  unfolding entry_verdict
   Fault-judge cause (unknown_opcode field rest b n u e) = rw e (fails_judged 1 (unknown_fails line field rest b n u))
-  Fault-judge cause (missing_operand class rest b n e) = rw e (fails_judged 2 (missing_fails line rest class b n))
-  Fault-judge cause (bad_characters class characters h n e) = rw e (fails_judged 3 (characters_fail line characters class h n))
-  Fault-judge cause (bad_dots class characters dots h n e) = rw e (fails_judged 4 (dots_fail line characters dots class h n))
-  Fault-judge cause (defined_before k definition g d e) =
-      let known : is_some (definition_of meaning k) ≡ true = gathered_among before meaning gathered k ∙ AreDefining-is_among before gathered.entries k gathered.given d in
-      rw e (5, entry_judged k definition g ∙ known_judged k definition _ _ known, lit≤ tt)
+  Fault-judge cause (missing_operand opcode rest b n e) = rw e (fails_judged 2 (missing_fails line rest opcode b n))
+  Fault-judge cause (bad_characters opcode characters h n e) = rw e (fails_judged 3 (characters_fail line characters opcode h n))
+  Fault-judge cause (bad_dots opcode dots h n e) = rw e (fails_judged 4 (dots_fail line dots opcode h n))
+  Fault-judge cause (defined_before entry k g i s e) =
+      rw e (repeats_judged entry g (repeats-defined entry k i (SomeGives-is_known before meaning written gathered k s)))
+  Fault-judge cause (defined_twice k uc lc g e) =
+      rw e (repeats_judged (Pairs k uc k lc) g (or_left _ _ (or_left _ _ (eq-eqb k k refl))))
+  Fault-judge cause (announced_before sign cells g s e) =
+      rw e (announces_judged (Announces sign cells) g (IsAnnounced-sign_cells before meaning written gathered sign s))
   Fault-judge cause (long_line h e) = rw e (long_judged (judge_line meaning line) refl (inl h))
   Fault-judge cause (line_too_many h e) = rw e (long_judged (judge_line meaning line) refl (inr h))
-  Fault-judge cause (many_cells k definition g h e) =
-      let m = many_judged k definition (is_some (definition_of meaning k)) _ (lt-ltb _ _ h) in
-      rw e (m.0, entry_judged k definition g ∙ m.1, m.2)
+  Fault-judge cause (long_rule kind characters text h s lt e) = rw e (large_judged (long_rule_large line characters text kind h s lt))
+  Fault-judge cause (many_cells opcode dots cells h w lt e) = rw e (large_judged (many_cells_large line dots cells opcode h w lt))
 
 -- ---- a line that is taken
 
-limits_given : (before : ℕ) (line : List ℕ) (x y : Option Entry) → within_limits before line (Ok x) ≡ Ok y → x ≡ y
-limits_given before line x y e = elim (chosen (ltb most_line_characters (length line) || leb most_lines before) _ _ _ e) [ inl p ↦ absurd cc | inr p ↦ let q = p.1 in cc ]
+pub verdict_by-Ok : (r a l : Bool) (entry other : Entry) → verdict_by r a l entry ≡ Ok other → (entry ≡ other) × (r ≡ false) × (a ≡ false) × (l ≡ false)
+verdict_by-Ok true a l entry other e = absurd cc
+verdict_by-Ok false true l entry other e = absurd cc
+verdict_by-Ok false false true entry other e = absurd cc
+verdict_by-Ok false false false entry other e = (cc, refl, refl, refl)
 
-entry_given : (before : ℕ) (line : List ℕ) (entry : Entry) (given : Option Entry) (known many : Bool)
-    → within_limits before line (as_some (cond known (Err 5) (cond many (Err 8) (Ok entry)))) ≡ Ok given → (known ≡ false) × (Some entry ≡ given)
-entry_given before line entry given true many e = absurd cc
-entry_given before line entry given false true e = absurd cc
-entry_given before line entry given false false e = (refl, limits_given before line (Some entry) given e)
+as_some-Ok : (r : Result Entry ℕ) (given : Option Entry) → as_some r ≡ Ok given → (entry : Entry) × (r ≡ Ok entry) × (given ≡ Some entry)
+as_some-Ok (Ok entry) given e = (entry, refl, cc)
+as_some-Ok (Err c) given e = absurd cc
 
-verdict_given : (meaning : Meaning) (before : ℕ) (line : List ℕ) (v : Result (Option Entry) ℕ) (given : Option Entry)
-    → within_limits before line (line_verdict meaning v) ≡ Ok given → v ≡ Ok given
+-- a verdict gives what the line says
+line_verdict-Ok : (meaning : Meaning) (v : Result (Option Entry) ℕ) (given : Option Entry) → line_verdict meaning v ≡ Ok given → v ≡ Ok given
 unfolding entry_verdict
-verdict_given meaning before line (Ok None) given e = ap (λ (o : Option Entry). Ok o) (limits_given before line None given e)
-verdict_given meaning before line (Ok (Some (Defines k definition))) given e =
-    ap (λ (o : Option Entry). Ok o) (entry_given before line (Defines k definition) given (is_some (definition_of meaning k)) (ltb most_cells (length definition.cells)) e).1
-verdict_given meaning before line (Err c) given e = absurd cc
+line_verdict-Ok meaning (Ok None) given e = e
+line_verdict-Ok meaning (Ok (Some entry)) given e =
+    let s = as_some-Ok (verdict_by (repeats meaning entry) (announces meaning entry) (is_large entry) entry) given e in
+    ap (λ (x : Entry). Ok (Some x)) (verdict_by-Ok _ _ _ entry s.0 s.1).0 ∙ ap (λ (o : Option Entry). Ok o) (sym s.2)
+line_verdict-Ok meaning (Err c) given e = absurd cc
+
+within_limits-Ok : (before : ℕ) (line : List ℕ) (v : Result (Option Entry) ℕ) (given : Option Entry) → within_limits before line v ≡ Ok given → (v ≡ Ok given) × (is_long before line ≡ false)
+within_limits-Ok before line (Ok other) given e =
+    elim (chosen (is_long before line) _ _ _ e) [ inl p ↦ absurd cc | inr p ↦ (p.1, p.0) ]
+within_limits-Ok before line (Err c) given e = absurd cc
 
 pub judge-given : (meaning : Meaning) (before : ℕ) (line : List ℕ) (given : Option Entry) → judge meaning before line ≡ Ok given → Says line (Ok given)
 unfolding judge judge_line
-judge-given meaning before line given e = subst (Says line) (verdict_given meaning before line (line_gives line) given e) (line_gives-Says line)
+judge-given meaning before line given e =
+    subst (Says line) (line_verdict-Ok meaning (line_gives line) given (within_limits-Ok before line (judge_line meaning line) given e).0) (line_gives-Says line)
 
 -- a line that is taken is not one too many
 pub judge-few : (meaning : Meaning) (before : ℕ) (line : List ℕ) (given : Option Entry) → judge meaning before line ≡ Ok given → before < most_lines
 unfolding judge
-judge-few meaning before line given e = by (judge_line meaning line) e
-  where
-    by : (v : Result (Option Entry) ℕ) → within_limits before line v ≡ Ok given → before < most_lines
-    by (Ok other) e =
-        elim (chosen (ltb most_line_characters (length line) || leb most_lines before) _ _ _ e) [
-          | inl p ↦ absurd cc
-          | inr p ↦ elim (cases_lt before most_lines) [
-            | inl lt ↦ lt
-            | inr le ↦ let t : ltb most_line_characters (length line) || leb most_lines before ≡ true = is_long before line (inr le) in absurd (true≢false (sym t ∙ p.0))
-          ]
-        ]
-    by (Err c) e = absurd cc
+judge-few meaning before line given e =
+    elim (cases_lt before most_lines) [
+      | inl lt ↦ lt
+      | inr le ↦ absurd (true≢false (sym (IsLong-is_long before line (inr le)) ∙ (within_limits-Ok before line (judge_line meaning line) given e).1))
+    ]
 
 -- ---- steps of the code
 
@@ -234,34 +410,50 @@ judge-from_line meaning before line c e = ap (within_limits before line) e
 pub judge-beyond : (meaning : Meaning) (before : ℕ) (line : List ℕ) (given : Option Entry) → judge_line meaning line ≡ Ok given
     → (most_line_characters < length line) ⊎ (most_lines ≤ before) → judge meaning before line ≡ Err 8
 unfolding judge
-judge-beyond meaning before line given e h = ap (within_limits before line) e ∙ ap (λ (b : Bool). cond b (Err 8) (Ok given)) (is_long before line h)
+judge-beyond meaning before line given e h = ap (within_limits before line) e ∙ ap (λ (b : Bool). cond b (Err 8) (Ok given)) (IsLong-is_long before line h)
 
 pub judge-within : (meaning : Meaning) (before : ℕ) (line : List ℕ) (given : Option Entry) → judge_line meaning line ≡ Ok given
     → length line ≤ most_line_characters → before < most_lines → judge meaning before line ≡ Ok given
 unfolding judge
 judge-within meaning before line given e short few =
-    ap (within_limits before line) e ∙ by (ltb most_line_characters (length line) || leb most_lines before) refl
+    ap (within_limits before line) e ∙ by (is_long before line) refl
   where
-    by : (b : Bool) → ltb most_line_characters (length line) || leb most_lines before ≡ b → (let r : Result (Option Entry) ℕ = cond b (Err 8) (Ok given) in r) ≡ Ok given
-    by true t = elim (long_from before line t) [ inl h ↦ absurd (omega arith) | inr h ↦ absurd (omega arith) ]
+    by : (b : Bool) → is_long before line ≡ b → (let r : Result (Option Entry) ℕ = cond b (Err 8) (Ok given) in r) ≡ Ok given
+    by true t = elim (is_long-IsLong before line t) [ inl h ↦ absurd (omega arith) | inr h ↦ absurd (omega arith) ]
     by false f = refl
 
-none_from : (o : Option Definition) → is_some o ≡ false → o ≡ None
+none_from : {X : Type 0} (o : Option X) → is_some o ≡ false → o ≡ None
 none_from None e = refl
 none_from (Some d) e = absurd cc
 
--- a definition that is given is new
-pub judge_line-new : (meaning : Meaning) (line : List ℕ) (k : ℕ) (definition : Definition) → judge_line meaning line ≡ Ok (Some (Defines k definition)) → definition_of meaning k ≡ None
-unfolding judge_line entry_verdict
-judge_line-new meaning line k definition e = by (line_gives line) e
-  where
-    from_tests : (j : ℕ) (other : Definition) (known many : Bool) → is_some (definition_of meaning j) ≡ known
-        → as_some (cond known (Err 5) (cond many (Err 8) (Ok (Defines j other)))) ≡ Ok (Some (Defines k definition)) → definition_of meaning k ≡ None
-    from_tests j other true many t e = absurd cc
-    from_tests j other false true t e = absurd cc
-    from_tests j other false false t e = let same : j ≡ k = cc in subst (λ (x : ℕ). definition_of meaning x ≡ None) same (none_from _ t)
+or_false : (b c : Bool) → b || c ≡ false → (b ≡ false) × (c ≡ false)
+or_false true c e = absurd cc
+or_false false c e = (refl, e)
 
-    by : (v : Result (Option Entry) ℕ) → line_verdict meaning v ≡ Ok (Some (Defines k definition)) → definition_of meaning k ≡ None
+IsNewFor-tests : (meaning : Meaning) (entry : Entry) → HasDefinedPartners meaning → repeats meaning entry ≡ false → announces meaning entry ≡ false → IsNewFor meaning entry
+IsNewFor-tests meaning (Defines k definition) p r a = none_from _ r
+IsNewFor-tests meaning (Pairs u uc l lc) p r a =
+    let both = or_false (eqb u l || is_known meaning u) (is_known meaning l) r in
+    let upper = or_false (eqb u l) (is_known meaning u) both.0 in
+    let absent : definition_of meaning u ≡ None = none_from _ upper.1 in
+    (absent, none_from _ both.1, eqb-false u l upper.0, p u absent)
+IsNewFor-tests meaning (Replaces kind text cells) p r a = tt
+IsNewFor-tests meaning (Announces sign cells) p r a = nil_from_length _ (eqb-true _ _ (not-false _ a))
+
+-- what is given is new
+pub judge_line-new : (meaning : Meaning) (line : List ℕ) (entry : Entry) → HasDefinedPartners meaning → judge_line meaning line ≡ Ok (Some entry) → IsNewFor meaning entry
+unfolding judge_line entry_verdict
+judge_line-new meaning line entry p e = by (line_gives line) e
+  where
+    by : (v : Result (Option Entry) ℕ) → line_verdict meaning v ≡ Ok (Some entry) → IsNewFor meaning entry
     by (Ok None) e = absurd cc
-    by (Ok (Some (Defines j other))) e = from_tests j other _ _ refl e
+    by (Ok (Some other)) e =
+        let s = as_some-Ok (verdict_by (repeats meaning other) (announces meaning other) (is_large other) other) (Some entry) e in
+        let v = verdict_by-Ok _ _ _ other s.0 s.1 in
+        let same : other ≡ entry = v.0 ∙ (let t : Some s.0 ≡ Some entry = sym s.2 in cc) in
+        subst (IsNewFor meaning) same (IsNewFor-tests meaning other p v.1 v.2)
     by (Err c) e = absurd cc
+
+pub judge_line-CanTake : (meaning : Meaning) (line : List ℕ) (given : Option Entry) → HasDefinedPartners meaning → judge_line meaning line ≡ Ok given → CanTake meaning given
+judge_line-CanTake meaning line None p e = tt
+judge_line-CanTake meaning line (Some entry) p e = judge_line-new meaning line entry p e

@@ -1,12 +1,25 @@
 -- How a table text is read, step by step. Only proofs need these words: `Table` says what a text means.
-use Rattle.std.specs.Prelude.{◌≡◌, ℕ, ◌<◌, ◌≤◌, not, ◌||◌, ◌==◌, nat_lt, nat_le, if◌then◌else◌, List, [], ◌∷◌, ◌++◌, length, take, drop, Option, Some, None, Result, Ok, Err, codes, is_some}
+use Rattle.std.specs.Prelude.{◌≡◌, ◌≢◌, ℕ, zero, suc, ◌+◌, ◌*◌, ◌<◌, ◌≤◌, Bool, not, ◌||◌, ◌⊎◌, ◌==◌, nat_lt, nat_le, nat_eq, true, false, if◌then◌else◌, List, [], ◌∷◌, ◌++◌, length, take, drop, map, Option, Some, None, option_map, Result, Ok, Err, codes, is_some, Vec}
 use Rattle.std.specs.List.{prefix_len, flat_map}
+use Rattle.std.specs.Char.{digit_value}
+use Rattle.std.specs.Option.{option_and_then}
 use Rattle.std.specs.Str.{bytes_eq}
+use lib.Utf8.{scalar}
+use Rattle.std.specs.declared.alloc.Global.{Global}
 use Rattle.cell_core.specs.Reading.{cells_in}
 use Rattle.cell_core.specs.Dots.{most_cells}
 use Rattle.louis_table.specs.declared.definition.Class.{Class}
 use Rattle.louis_table.specs.declared.definition.Class.TheVariants.{Space, Punctuation, Digit, Letter}
 use Rattle.louis_table.specs.declared.definition.Definition.{Definition}
+use Rattle.louis_table.specs.declared.rule.RuleKind.{RuleKind}
+use Rattle.louis_table.specs.declared.rule.RuleKind.TheVariants.{Always, Word, BegWord, MidWord, EndWord}
+use Rattle.louis_table.specs.declared.rule.Rule.{Rule}
+use Rattle.louis_table.specs.declared.opcode.Sign.{Sign}
+use Rattle.louis_table.specs.declared.opcode.Sign.TheVariants.{Number, Capital, CapitalWord}
+use Rattle.louis_table.specs.declared.opcode.Opcode.{Opcode}
+use Rattle.louis_table.specs.declared.opcode.Opcode.TheVariants.{Define, UpLow, Replace, Announce}
+use Rattle.louis_table.specs.declared.written.WrittenRule.{WrittenRule}
+use Rattle.louis_table.specs.declared.draft.Draft.{Draft}
 use Rattle.louis_table.specs.declared.fault.Cause.{Cause}
 use Rattle.louis_table.specs.declared.fault.Cause.TheVariants as causes
 use Rattle.louis_table.specs.declared.fault.LineFault.{LineFault}
@@ -15,11 +28,10 @@ use Rattle.louis_table.specs.declared.fault.ReadFault.{ReadFault}
 use Rattle.louis_table.specs.declared.fault.ReadFault.TheVariants as faults
 use Rattle.louis_table.specs.declared.line.Given.{Given}
 use Rattle.louis_table.specs.declared.line.Given.TheVariants as givens
-use Rattle.louis_table.specs.Table.{most_lines, most_line_characters}
 use Rattle.louis_table.specs.Fields.{is_gap}
-use Rattle.louis_table.specs.Characters.{escaped}
-use Rattle.louis_table.specs.Meaning.{Meaning, definition_of}
-use Rattle.louis_table.specs.Table.{Entry, Defines, Give, HasCause, IsToldFirst, definitions_in}
+use Rattle.louis_table.specs.Characters.{digits_behind, escaped}
+use Rattle.louis_table.specs.Meaning.{Meaning, definition_of, folded, partner_of}
+use Rattle.louis_table.specs.Table.{most_lines, most_line_characters, most_rule_characters, Entry, Defines, Pairs, Replaces, Announces, GiveFrom, HasCause, IsToldNoLater, cells_in_definition, rule_cells, definitions_in, partners_in, numsign_in, capsletter_in, begcapsword_in}
 
 -- ---- fields
 
@@ -35,71 +47,175 @@ field_len text = prefix_len (λ c. not (is_gap c)) text
 abbrev pub field_at : List ℕ → List ℕ × List ℕ
 field_at text = (take (field_len (behind_gap text)) (behind_gap text), drop (field_len (behind_gap text)) (behind_gap text))
 
-abbrev pub both_fields : List ℕ → List ℕ → Option (List ℕ × List ℕ)
-both_fields [] second = None
-both_fields (x ∷ first) [] = None
-both_fields (x ∷ first) (y ∷ second) = Some (x ∷ first, y ∷ second)
-
--- the next two fields, if both are there
-unfoldable pub two_fields_at : List ℕ → Option (List ℕ × List ℕ)
-two_fields_at text = both_fields (field_at text).0 (field_at (field_at text).1).0
-
 -- ---- characters
 
 abbrev pub with_rest : Option ℕ → List ℕ → Option (ℕ × List ℕ)
 with_rest None rest = None
 with_rest (Some character) rest = Some (character, rest)
 
+-- the number that hexadecimal digits spell behind others, unless one is no digit
+abbrev pub hex_value : ℕ → List ℕ → Option ℕ
+hex_value n [] = Some n
+hex_value n (digit ∷ digits) = if nat_lt (digit_value digit) 16 then hex_value (16 * n + digit_value digit) digits else None
+
+abbrev pub scalar_from : Option ℕ → Option ℕ
+scalar_from None = None
+scalar_from (Some number) = if scalar number then Some number else None
+
+-- the character that so many digits at the front number, and what follows them
+abbrev pub number_at : ℕ → List ℕ → Option (ℕ × List ℕ)
+number_at count text = if nat_lt (length text) count then None else with_rest (scalar_from (hex_value 0 (take count text))) (drop count text)
+
+abbrev pub escape_by : Option ℕ → Option ℕ → List ℕ → Option (ℕ × List ℕ)
+escape_by (Some character) digits rest = Some (character, rest)
+escape_by None (Some count) rest = number_at count rest
+escape_by None None rest = None
+
 abbrev pub escape_at : List ℕ → Option (ℕ × List ℕ)
 escape_at [] = None
-escape_at (letter ∷ rest) = with_rest (escaped letter) rest
+escape_at (letter ∷ rest) = escape_by (escaped letter) (digits_behind letter) rest
 
 -- the character at the front and what follows it
-abbrev pub mark_at : List ℕ → Option (ℕ × List ℕ)
-mark_at [] = None
-mark_at (c ∷ rest) = if c == 92 then escape_at rest else Some (c, rest)
+abbrev pub character_at : List ℕ → Option (ℕ × List ℕ)
+character_at [] = None
+character_at (c ∷ rest) = if c == 92 then escape_at rest else Some (c, rest)
 
--- the character, if nothing follows it
-abbrev pub one_character : Option (ℕ × List ℕ) → Option ℕ
-one_character None = None
-one_character (Some (character, [])) = Some character
-one_character (Some (character, (x ∷ rest))) = None
+-- the characters of an operand, of which there are at most so many
+abbrev pub characters_within : ℕ → List ℕ → Option (List ℕ)
+characters_within n [] = Some []
+characters_within zero (c ∷ text) = None
+characters_within (suc n) (c ∷ text) =
+    option_and_then (λ found. option_map (λ more. found.0 ∷ more) (characters_within n found.1)) (character_at (c ∷ text))
+
+unfoldable pub characters_in : List ℕ → Option (List ℕ)
+characters_in text = characters_within (length text) text
+
+-- the character of a text of one
+abbrev pub only_character : List ℕ → Option ℕ
+only_character [] = None
+only_character (c ∷ []) = Some c
+only_character (c ∷ d ∷ text) = None
+
+-- the characters of a text of two
+abbrev pub only_pair : List ℕ → Option (ℕ × ℕ)
+only_pair [] = None
+only_pair (c ∷ []) = None
+only_pair (c ∷ d ∷ []) = Some (c, d)
+only_pair (c ∷ d ∷ e ∷ text) = None
+
+-- ---- opcodes
+
+abbrev pub class_named : List ℕ → Option Class
+class_named name =
+    if bytes_eq name (codes "space") then Some Space
+    else if bytes_eq name (codes "punctuation") then Some Punctuation
+    else if bytes_eq name (codes "digit") then Some Digit
+    else if bytes_eq name (codes "letter") then Some Letter
+    else None
+
+abbrev pub kind_named : List ℕ → Option RuleKind
+kind_named name =
+    if bytes_eq name (codes "always") then Some Always
+    else if bytes_eq name (codes "word") then Some Word
+    else if bytes_eq name (codes "begword") then Some BegWord
+    else if bytes_eq name (codes "midword") then Some MidWord
+    else if bytes_eq name (codes "endword") then Some EndWord
+    else None
+
+abbrev pub sign_named : List ℕ → Option Sign
+sign_named name =
+    if bytes_eq name (codes "numsign") then Some Number
+    else if bytes_eq name (codes "capsletter") then Some Capital
+    else if bytes_eq name (codes "begcapsword") then Some CapitalWord
+    else None
+
+abbrev pub first_named : Option Class → Bool → Option RuleKind → Option Sign → Option Opcode
+first_named (Some class) uplow kind sign = Some (Define class)
+first_named None true kind sign = Some UpLow
+first_named None false (Some kind) sign = Some (Replace kind)
+first_named None false None sign = option_map Announce sign
+
+unfoldable pub opcode_named : List ℕ → Option Opcode
+opcode_named name = first_named (class_named name) (bytes_eq name (codes "uplow")) (kind_named name) (sign_named name)
+
+-- ---- dots operands
+
+-- how many characters stand before the first comma, or in all
+abbrev pub part_len : List ℕ → ℕ
+part_len dots = prefix_len (λ c. not (c == 44)) dots
+
+-- the parts round the first comma, or the whole twice
+abbrev pub pair_parts : List ℕ → List ℕ × List ℕ
+pair_parts dots =
+    if part_len dots == length dots then (dots, dots) else (take (part_len dots) dots, drop (part_len dots + 1) dots)
+
+abbrev pub both_of : Option (List ℕ) → Option (List ℕ) → Option (List ℕ × List ℕ)
+both_of (Some upper) (Some lower) = Some (upper, lower)
+both_of (Some upper) None = None
+both_of None lower = None
+
+-- the cells of an upper and a lower character
+unfoldable pub pair_in : List ℕ → Option (List ℕ × List ℕ)
+pair_in dots = both_of (cells_in (pair_parts dots).0) (cells_in (pair_parts dots).1)
+
+-- the cells of a rule, none for an equals sign
+unfoldable pub rule_in : List ℕ → Option (Option (List ℕ))
+rule_in dots = if bytes_eq dots (codes "=") then Some None else option_map Some (cells_in dots)
 
 -- ---- a line
 
--- the class of an opcode
-abbrev pub class_of : List ℕ → Option Class
-class_of field =
-    if bytes_eq field (codes "space") then Some Space
-    else if bytes_eq field (codes "punctuation") then Some Punctuation
-    else if bytes_eq field (codes "digit") then Some Digit
-    else if bytes_eq field (codes "letter") then Some Letter
-    else None
+abbrev pub or_cause : ℕ → Option Entry → Result Entry ℕ
+or_cause cause None = Err cause
+or_cause cause (Some entry) = Ok entry
 
-abbrev pub definition_from : Class → Option ℕ → Option (List ℕ) → Result Entry ℕ
-definition_from class None cells = Err 3
-definition_from class (Some character) None = Err 4
-definition_from class (Some character) (Some cells) = Ok (Defines character (record { class = class; cells = cells }))
+-- what the characters and the dots operand give to the opcode
+abbrev pub entry_from : Opcode → List ℕ → List ℕ → Result Entry ℕ
+entry_from (Define class) [] dots = Err 3
+entry_from (Define class) (character ∷ []) dots = or_cause 4 (option_map (λ cells. Defines character (record { class = class; cells = cells })) (cells_in dots))
+entry_from (Define class) (character ∷ other ∷ text) dots = Err 3
+entry_from UpLow [] dots = Err 3
+entry_from UpLow (upper ∷ []) dots = Err 3
+entry_from UpLow (upper ∷ lower ∷ []) dots = or_cause 4 (option_map (λ cells. Pairs upper cells.0 lower cells.1) (pair_in dots))
+entry_from UpLow (upper ∷ lower ∷ other ∷ text) dots = Err 3
+entry_from (Replace kind) text dots = or_cause 4 (option_map (λ cells. Replaces kind text cells) (rule_in dots))
+entry_from (Announce sign) text dots = or_cause 4 (option_map (λ cells. Announces sign cells) (cells_in dots))
 
-abbrev pub operands_give : Class → Option (List ℕ × List ℕ) → Result Entry ℕ
-operands_give class None = Err 2
-operands_give class (Some operands) = definition_from class (one_character (mark_at operands.0)) (cells_in operands.1)
+abbrev pub entry_with : Opcode → Option (List ℕ) → List ℕ → Result Entry ℕ
+entry_with opcode None dots = Err 3
+entry_with opcode (Some text) dots = entry_from opcode text dots
 
--- what the two fields at the front give, or the cause
-unfoldable pub definition_at : Class → List ℕ → Result Entry ℕ
-definition_at class rest = operands_give class (two_fields_at rest)
+-- the entry of an opcode with a characters and a dots operand, either of which may be missing
+abbrev pub entry_of_two : Opcode → List ℕ → List ℕ → Result Entry ℕ
+entry_of_two opcode [] dots = Err 2
+entry_of_two opcode (c ∷ characters) [] = Err 2
+entry_of_two opcode (c ∷ characters) (d ∷ dots) = entry_with opcode (characters_in (c ∷ characters)) (d ∷ dots)
+
+-- the entry of an opcode with a dots operand, which may be missing
+abbrev pub entry_of_one : Opcode → List ℕ → Result Entry ℕ
+entry_of_one opcode [] = Err 2
+entry_of_one opcode (d ∷ dots) = entry_from opcode [] (d ∷ dots)
+
+abbrev pub entry_of_fields : Opcode → List ℕ → Result Entry ℕ
+entry_of_fields opcode rest = entry_of_two opcode (field_at rest).0 (field_at (field_at rest).1).0
+
+-- what the opcode and what follows it give, or the cause
+unfoldable pub entry_at : Opcode → List ℕ → Result Entry ℕ
+entry_at (Define class) rest = entry_of_fields (Define class) rest
+entry_at UpLow rest = entry_of_fields UpLow rest
+entry_at (Replace kind) rest = entry_of_fields (Replace kind) rest
+entry_at (Announce sign) rest = entry_of_one (Announce sign) (field_at rest).0
 
 abbrev pub as_some : Result Entry ℕ → Result (Option Entry) ℕ
 as_some (Ok entry) = Ok (Some entry)
 as_some (Err cause) = Err cause
 
-abbrev pub opcode_gives : Option Class → List ℕ → Result (Option Entry) ℕ
+abbrev pub opcode_gives : Option Opcode → List ℕ → Result (Option Entry) ℕ
 opcode_gives None rest = Err 1
-opcode_gives (Some class) rest = as_some (definition_at class rest)
+opcode_gives (Some opcode) rest = as_some (entry_at opcode rest)
 
 abbrev pub fields_give : List ℕ → List ℕ → Result (Option Entry) ℕ
 fields_give [] rest = Ok None
-fields_give (x ∷ field) rest = if x == 35 then Ok None else opcode_gives (class_of (x ∷ field)) rest
+fields_give (c ∷ field) rest = if c == 35 then Ok None else opcode_gives (opcode_named (c ∷ field)) rest
 
 -- what a line gives, or a cause from 1 to 4
 unfoldable pub line_gives : List ℕ → Result (Option Entry) ℕ
@@ -107,17 +223,61 @@ line_gives line = fields_give (field_at line).0 (field_at line).1
 
 -- ---- a line behind others
 
+abbrev pub is_known : Meaning → ℕ → Bool
+is_known meaning character = is_some (definition_of meaning character)
+
+abbrev pub is_taken : Meaning → ℕ → ℕ → Bool
+is_taken meaning upper lower = (upper == lower) || is_known meaning upper || is_known meaning lower
+
+abbrev pub sign_cells : Meaning → Sign → List ℕ
+sign_cells meaning Number = meaning.numsign
+sign_cells meaning Capital = meaning.capsletter
+sign_cells meaning CapitalWord = meaning.begcapsword
+
+-- the entry defines a character that is defined
+abbrev pub repeats : Meaning → Entry → Bool
+repeats meaning (Defines character definition) = is_known meaning character
+repeats meaning (Pairs upper upper_cells lower lower_cells) = is_taken meaning upper lower
+repeats meaning (Replaces kind text cells) = false
+repeats meaning (Announces sign cells) = false
+
+-- the entry gives a sign that is given
+abbrev pub announces : Meaning → Entry → Bool
+announces meaning (Defines character definition) = false
+announces meaning (Pairs upper upper_cells lower lower_cells) = false
+announces meaning (Replaces kind text cells) = false
+announces meaning (Announces sign cells) = not (length (sign_cells meaning sign) == 0)
+
+abbrev pub are_many : List ℕ → Bool
+are_many cells = nat_lt most_cells (length cells)
+
+abbrev pub are_many_written : Option (List ℕ) → Bool
+are_many_written None = false
+are_many_written (Some cells) = are_many cells
+
+-- an operand of the entry is beyond its limit
+abbrev pub is_large : Entry → Bool
+is_large (Defines character definition) = are_many definition.cells
+is_large (Pairs upper upper_cells lower lower_cells) = are_many upper_cells || are_many lower_cells
+is_large (Replaces kind text cells) = nat_lt most_rule_characters (length text) || are_many_written cells
+is_large (Announces sign cells) = are_many cells
+
+abbrev pub verdict_by : Bool → Bool → Bool → Entry → Result Entry ℕ
+verdict_by repeated announced large entry =
+    if repeated then Err 5 else if announced then Err 6 else if large then Err 8 else Ok entry
+
 -- an entry, or the cause that stands against it in a table
 unfoldable pub entry_verdict : Meaning → Entry → Result Entry ℕ
-entry_verdict meaning (Defines character definition) =
-    if is_some (definition_of meaning character) then Err 5
-    else if nat_lt most_cells (length definition.cells) then Err 8
-    else Ok (Defines character definition)
+entry_verdict meaning entry = verdict_by (repeats meaning entry) (announces meaning entry) (is_large entry) entry
 
 abbrev pub line_verdict : Meaning → Result (Option Entry) ℕ → Result (Option Entry) ℕ
 line_verdict meaning (Ok None) = Ok None
 line_verdict meaning (Ok (Some entry)) = as_some (entry_verdict meaning entry)
 line_verdict meaning (Err cause) = Err cause
+
+-- what an opcode and what follows it give to a table, or a cause, but for the limits on lines
+unfoldable pub judge_opcode : Meaning → Opcode → List ℕ → Result (Option Entry) ℕ
+judge_opcode meaning opcode rest = line_verdict meaning (as_some (entry_at opcode rest))
 
 -- what a line gives to a table, or a cause, but for the limits on lines
 unfoldable pub judge_line : Meaning → List ℕ → Result (Option Entry) ℕ
@@ -131,14 +291,97 @@ within_limits before line (Err cause) = Err cause
 unfoldable pub judge : Meaning → ℕ → List ℕ → Result (Option Entry) ℕ
 judge meaning before line = within_limits before line (judge_line meaning line)
 
+-- ---- a table that grows
+
+abbrev pub no_meaning : Meaning
+no_meaning = record { definitions = []; partners = []; rules = []; numsign = []; capsletter = []; begcapsword = [] }
+
+abbrev pub with_definition : Meaning → ℕ → Definition → Meaning
+with_definition meaning character definition = record meaning { definitions = meaning.definitions ++ (character, definition) ∷ [] }
+
+abbrev pub with_partner : Meaning → ℕ → ℕ → Meaning
+with_partner meaning upper lower = record meaning { partners = meaning.partners ++ (upper, lower) ∷ [] }
+
+-- the meaning with what an entry gives to it, but for rules
+abbrev pub with_entry : Meaning → Entry → Meaning
+with_entry meaning entry = record {
+  definitions = meaning.definitions ++ definitions_in entry;
+  partners = meaning.partners ++ partners_in entry;
+  rules = meaning.rules;
+  numsign = meaning.numsign ++ numsign_in entry;
+  capsletter = meaning.capsletter ++ capsletter_in entry;
+  begcapsword = meaning.begcapsword ++ begcapsword_in entry;
+}
+
+abbrev pub with_given : Meaning → Option Entry → Meaning
+with_given meaning None = meaning
+with_given meaning (Some entry) = with_entry meaning entry
+
+-- the rule of an entry as it is written
+abbrev pub rules_written : ℕ → Entry → List WrittenRule
+rules_written n (Defines character definition) = []
+rules_written n (Pairs upper upper_cells lower lower_cells) = []
+rules_written n (Replaces kind text cells) = record { line = n; kind = kind; characters = text; cells = cells } ∷ []
+rules_written n (Announces sign cells) = []
+
+abbrev pub written_in : ℕ → Option Entry → List WrittenRule
+written_in n None = []
+written_in n (Some entry) = rules_written n entry
+
+-- what the entry gives isn't in the meaning yet
+abbrev pub IsNewFor : Meaning → Entry → Type 0
+IsNewFor meaning (Defines character definition) = definition_of meaning character ≡ None
+IsNewFor meaning (Pairs upper upper_cells lower lower_cells) =
+    (definition_of meaning upper ≡ None) × (definition_of meaning lower ≡ None) × (upper ≢ lower) × (partner_of meaning upper ≡ None)
+IsNewFor meaning (Replaces kind text cells) = Unit {0}
+IsNewFor meaning (Announces sign cells) = sign_cells meaning sign ≡ []
+
+abbrev pub CanTake : Meaning → Option Entry → Type 0
+CanTake meaning None = Unit {0}
+CanTake meaning (Some entry) = IsNewFor meaning entry
+
+-- each capital is defined
+abbrev pub HasDefinedPartners : Meaning → Type 0
+HasDefinedPartners meaning = (character : ℕ) → definition_of meaning character ≡ None → partner_of meaning character ≡ None
+
+-- ---- rules
+
+-- the meaning defines each of the characters
+abbrev pub are_defined : Meaning → List ℕ → Bool
+are_defined meaning [] = true
+are_defined meaning (character ∷ characters) = if is_known meaning character then are_defined meaning characters else false
+
+-- the cells of the definitions of the characters
+abbrev pub cells_of_all : Meaning → List ℕ → List ℕ
+cells_of_all meaning characters = flat_map (λ c. cells_in_definition (definition_of meaning c)) characters
+
+abbrev pub is_complete : Meaning → WrittenRule → Bool
+is_complete meaning written = are_defined meaning (map (folded meaning) written.characters)
+
+-- the rule with folded characters and all its cells
+abbrev pub finished : Meaning → WrittenRule → Rule
+finished meaning written = record {
+  line = written.line;
+  kind = written.kind;
+  chars = map (folded meaning) written.characters;
+  cells = rule_cells meaning (map (folded meaning) written.characters) written.cells;
+}
+
+-- the line of the first rule with a character that is not defined
+abbrev pub first_lacking : Meaning → List WrittenRule → Option ℕ
+first_lacking meaning [] = None
+first_lacking meaning (written ∷ more) = if is_complete meaning written then first_lacking meaning more else Some written.line
+
 -- ---- what is said of the code
 
 abbrev pub cause_number : Cause → ℕ
 cause_number causes.UnknownOpcode = 1
 cause_number causes.MissingOperand = 2
-cause_number causes.NotOneCharacter = 3
+cause_number causes.BadCharacters = 3
 cause_number causes.BadDots = 4
 cause_number causes.DefinedBefore = 5
+cause_number causes.AnnouncedBefore = 6
+cause_number causes.UndefinedCharacter = 7
 cause_number causes.BeyondLimit = 8
 cause_number causes.NotText = 9
 
@@ -146,6 +389,9 @@ cause_number causes.NotText = 9
 abbrev pub entry_in : Given → Option Entry
 entry_in givens.Nothing = None
 entry_in (givens.Defines character definition) = Some (Defines character definition)
+entry_in (givens.Pairs upper upper_cells lower lower_cells) = Some (Pairs upper upper_cells lower lower_cells)
+entry_in (givens.Replaces kind text cells) = Some (Replaces kind text cells)
+entry_in (givens.Announces sign cells) = Some (Announces sign cells)
 
 -- the result is the verdict, unless memory was wanting
 abbrev pub IsVerdict : Result Given LineFault → Result (Option Entry) ℕ → Type 0
@@ -153,41 +399,115 @@ IsVerdict (Ok given) verdict = verdict ≡ Ok (entry_in given)
 IsVerdict (Err (line_faults.Bad cause)) verdict = verdict ≡ Err (cause_number cause)
 IsVerdict (Err line_faults.NoMemory) verdict = Unit {0}
 
+-- the characters and the dots operand, or the cause
+abbrev pub with_dots : Option (List ℕ) → List ℕ → Result (List ℕ × List ℕ) ℕ
+with_dots None dots = Err 3
+with_dots (Some text) dots = Ok (text, dots)
+
+abbrev pub both_from : List ℕ → List ℕ → Result (List ℕ × List ℕ) ℕ
+both_from [] dots = Err 2
+both_from (c ∷ characters) [] = Err 2
+both_from (c ∷ characters) (d ∷ dots) = with_dots (characters_in (c ∷ characters)) (d ∷ dots)
+
+abbrev pub both_at : List ℕ → Result (List ℕ × List ℕ) ℕ
+both_at rest = both_from (field_at rest).0 (field_at (field_at rest).1).0
+
+-- the cause that keeps two operands from being read, unless memory was wanting
+abbrev pub FailsOperands : Result (List ℕ × List ℕ) ℕ → LineFault → Type 0
+FailsOperands read (line_faults.Bad cause) = read ≡ Err (cause_number cause)
+FailsOperands read line_faults.NoMemory = Unit {0}
+
+-- the cells are these, or they are not told, being too many
+abbrev pub Fits : Option (List ℕ) → List ℕ → Type 0
+Fits (Some told) cells = (cells ≡ told) × (are_many cells ≡ false)
+Fits None cells = are_many cells ≡ true
+
 -- the cells of an operand were read, or nothing where they are too many
 abbrev pub ReadsCells : Result (Option (List ℕ)) LineFault → Option (List ℕ) → Type 0
-ReadsCells (Ok (Some cells)) read = (read ≡ Some cells) × (length cells ≤ most_cells)
-ReadsCells (Ok None) read = (cells : List ℕ) × (read ≡ Some cells) × (most_cells < length cells)
+ReadsCells (Ok told) read = (cells : List ℕ) × (read ≡ Some cells) × Fits told cells
 ReadsCells (Err (line_faults.Bad cause)) read = (read ≡ None) × (cause ≡ causes.BadDots)
 ReadsCells (Err line_faults.NoMemory) read = Unit {0}
 
--- the table has what the line gives besides
-abbrev pub given_definitions : Option Entry → List (ℕ × Definition)
-given_definitions None = []
-given_definitions (Some entry) = definitions_in entry
+abbrev pub FitsPair : Option (List ℕ × List ℕ) → List ℕ → List ℕ → Type 0
+FitsPair (Some told) upper lower = (upper ≡ told.0) × (lower ≡ told.1) × (are_many upper || are_many lower ≡ false)
+FitsPair None upper lower = are_many upper || are_many lower ≡ true
 
--- a line was taken into a table, or has this fault
-abbrev pub TakesLine : Result (Unit {0}) LineFault → Meaning → Meaning → Result (Option Entry) ℕ → Type 0
-TakesLine (Ok _) old new verdict =
-    (given : Option Entry) × (verdict ≡ Ok given) × (new.definitions ≡ old.definitions ++ given_definitions given)
-TakesLine (Err (line_faults.Bad cause)) old new verdict = verdict ≡ Err (cause_number cause)
-TakesLine (Err line_faults.NoMemory) old new verdict = Unit {0}
+abbrev pub ReadsPair : Result (Option (List ℕ × List ℕ)) LineFault → Option (List ℕ × List ℕ) → Type 0
+ReadsPair (Ok told) read = (upper : List ℕ) × (lower : List ℕ) × (read ≡ Some (upper, lower)) × FitsPair told upper lower
+ReadsPair (Err (line_faults.Bad cause)) read = (read ≡ None) × (cause ≡ causes.BadDots)
+ReadsPair (Err line_faults.NoMemory) read = Unit {0}
 
--- the meaning is made of the entries that the lines give
-pub record Gathers (lines : List (List ℕ)) (meaning : Meaning) : Type 0 where
-  pub entries : List Entry
-  pub given : Give lines entries
-  pub definitions : meaning.definitions ≡ flat_map definitions_in entries
+abbrev pub FitsRule : Option (Option (List ℕ)) → Option (List ℕ) → Type 0
+FitsRule (Some told) cells = (cells ≡ told) × (are_many_written cells ≡ false)
+FitsRule None cells = are_many_written cells ≡ true
 
--- lines without a fault that mean this
-pub record LinesMean (lines : List (List ℕ)) (meaning : Meaning) : Type 0 where
+abbrev pub ReadsRule : Result (Option (Option (List ℕ))) LineFault → Option (Option (List ℕ)) → Type 0
+ReadsRule (Ok told) read = (cells : Option (List ℕ)) × (read ≡ Some cells) × FitsRule told cells
+ReadsRule (Err (line_faults.Bad cause)) read = (read ≡ None) × (cause ≡ causes.BadDots)
+ReadsRule (Err line_faults.NoMemory) read = Unit {0}
+
+-- the draft has what the line gives besides
+pub record Adds (old new : Draft) (n : ℕ) (given : Option Entry) : Type 0 where
+  pub table : new.table ≡ with_given old.table given
+  pub rules : new.rules.items ≡ old.rules.items ++ written_in n given
+
+-- a line was taken into a draft, or has this fault
+abbrev pub TakesLine : Result (Unit {0}) LineFault → ℕ → Draft → Draft → Result (Option Entry) ℕ → Type 0
+TakesLine (Ok _) before old new verdict = (given : Option Entry) × (verdict ≡ Ok given) × Adds old new (before + 1) given
+TakesLine (Err (line_faults.Bad cause)) before old new verdict = verdict ≡ Err (cause_number cause)
+TakesLine (Err line_faults.NoMemory) before old new verdict = Unit {0}
+
+-- a rule was finished, or has a character that is not defined
+abbrev pub FinishesRule : Result Rule ReadFault → Meaning → WrittenRule → Type 0
+FinishesRule (Ok rule) meaning written = (is_complete meaning written ≡ true) × (rule ≡ finished meaning written)
+FinishesRule (Err (faults.Table fault)) meaning written =
+    (is_complete meaning written ≡ false) × (fault.line ≡ written.line) × (fault.cause ≡ 7)
+FinishesRule (Err faults.NoMemory) meaning written = Unit {0}
+
+abbrev pub FinishesAll : Result (Vec Rule Global) ReadFault → Meaning → List WrittenRule → Type 0
+FinishesAll (Ok rules) meaning written = (first_lacking meaning written ≡ None) × (rules.items ≡ map (finished meaning) written)
+FinishesAll (Err (faults.Table fault)) meaning written = (first_lacking meaning written ≡ Some fault.line) × (fault.cause ≡ 7)
+FinishesAll (Err faults.NoMemory) meaning written = Unit {0}
+
+-- a table without rules and the rules as they are written are what the lines give
+pub record Gathers (lines : List (List ℕ)) (meaning : Meaning) (written : List WrittenRule) : Type 0 where
+  pub entries : List (ℕ × Entry)
+  pub given : GiveFrom 1 lines entries
+  pub definitions : meaning.definitions ≡ flat_map (λ e. definitions_in e.1) entries
+  pub partners : meaning.partners ≡ flat_map (λ e. partners_in e.1) entries
+  pub numsign : meaning.numsign ≡ flat_map (λ e. numsign_in e.1) entries
+  pub capsletter : meaning.capsletter ≡ flat_map (λ e. capsletter_in e.1) entries
+  pub begcapsword : meaning.begcapsword ≡ flat_map (λ e. begcapsword_in e.1) entries
+  pub rules : written ≡ flat_map (λ e. rules_written e.0 e.1) entries
+
+-- lines without a fault that give this
+pub record LinesGive (lines : List (List ℕ)) (meaning : Meaning) (written : List WrittenRule) : Type 0 where
   pub is_sound : (n cause : ℕ) → ¬ HasCause lines n cause
-  pub gathered : Gathers lines meaning
+  pub gathered : Gathers lines meaning written
+
+-- lines without a fault, in whose rules every character is defined, mean this
+pub record LinesMean (lines : List (List ℕ)) (meaning : Meaning) : Type 0 where
+  pub written : List WrittenRule
+  pub gives : LinesGive lines meaning written
+  pub complete : first_lacking meaning written ≡ None
+  pub rules : meaning.rules ≡ map (finished meaning) written
 
 -- this fault of the lines is told
 pub record IsTold (lines : List (List ℕ)) (n cause : ℕ) : Type 0 where
   pub has : HasCause lines n cause
-  pub first : (m other : ℕ) → HasCause lines m other → IsToldFirst n cause m other
+  pub first : (m other : ℕ) → HasCause lines m other → IsToldNoLater n cause m other
+
+-- a rule of lines without a fault lacks a definition
+pub record IsLackingIn (lines : List (List ℕ)) (n : ℕ) : Type 0 where
+  pub meaning : Meaning
+  pub written : List WrittenRule
+  pub gives : LinesGive lines meaning written
+  pub lacking : first_lacking meaning written ≡ Some n
+
+abbrev pub LinesTellEarly : List (List ℕ) → ReadFault → Type 0
+LinesTellEarly lines (faults.Table fault) = IsTold lines fault.line fault.cause
+LinesTellEarly lines faults.NoMemory = Unit {0}
 
 abbrev pub LinesTell : List (List ℕ) → ReadFault → Type 0
-LinesTell lines (faults.Table fault) = IsTold lines fault.line fault.cause
+LinesTell lines (faults.Table fault) = IsTold lines fault.line fault.cause ⊎ (IsLackingIn lines fault.line × (fault.cause ≡ 7))
 LinesTell lines faults.NoMemory = Unit {0}

@@ -11,13 +11,17 @@ pub(crate) enum Cause {
     UnknownOpcode = 1,
     /// An operand is missing.
     MissingOperand = 2,
-    /// A characters operand isn't one character.
-    NotOneCharacter = 3,
-    /// A dots operand is none.
+    /// A characters operand has a bad escape, or too many or too few characters for its opcode.
+    BadCharacters = 3,
+    /// A dots operand is none for its opcode.
     BadDots = 4,
-    /// An earlier line defines the character.
+    /// An earlier line defines the character, or this line defines it twice.
     DefinedBefore = 5,
-    /// A line is too long, or one too many, or an operand has too many cells.
+    /// An earlier line gives the sign.
+    AnnouncedBefore = 6,
+    /// No line defines a character of a rule.
+    UndefinedCharacter = 7,
+    /// A line is too long, or one too many, or an operand has too many characters or cells.
     BeyondLimit = 8,
     /// The text isn't UTF-8.
     NotText = 9,
@@ -39,14 +43,15 @@ pub(crate) enum LineFault {
     NoMemory,
 }
 
-/// The first line of a text that can't be taken into its table, and why.
+/// The line of a text that keeps it from being a table, and why.
 #[derive(Clone, Copy, Debug, PartialEq, Eq, Error)]
 #[error("line {line}: cause {cause}")]
 pub struct TableFault {
     /// The number of the line, from 1.
     pub line: usize,
-    /// The cause: 1 unknown opcode, 2 missing operand, 3 not one character, 4 bad dots, 5 a character
-    /// that an earlier line defines, 8 beyond a limit, 9 not UTF-8.
+    /// The cause: 1 unknown opcode, 2 missing operand, 3 bad characters, 4 bad dots, 5 a character that is
+    /// defined before, 6 a sign that is given before, 7 a rule with a character that is not defined, 8 beyond a
+    /// limit, 9 not UTF-8.
     pub cause: u8,
 }
 

@@ -1,8 +1,8 @@
 //! The fields of a line, with blanks and tabs around them.
 ghost use Rattle.louis_table.specs.Fields.{is_gap};
-ghost use Rattle.louis_table.specs.Reading.{field_at, field_len, two_fields_at};
+ghost use Rattle.louis_table.specs.Reading.{field_at, field_len};
 ghost use Rattle.std.specs.List.{prefix_len};
-ghost use Rattle.std.specs.Prelude.{◌≡◌, ◌≤◌, length, option_map};
+ghost use Rattle.std.specs.Prelude.{◌≡◌, ◌≤◌, length};
 
 fn is_gap_character(character: char) -> bool
     ensures { result ≡ is_gap character }
@@ -41,16 +41,4 @@ pub(crate) fn next_field(text: &[char]) -> (&[char], &[char])
 {
     let text = &text[gap_len(text)..];
     text.split_at(front_field_len(text))
-}
-
-/// The next two fields, if both are there.
-pub(crate) fn next_two_fields(text: &[char]) -> Option<(&[char], &[char])>
-    ensures { option_map (λ both. (both.0.now, both.1.now)) result ≡ two_fields_at text.now }
-{
-    let (first, rest) = next_field(text);
-    let (second, _) = next_field(rest);
-    if first.is_empty() || second.is_empty() {
-        return None;
-    }
-    Some((first, second))
 }

@@ -13,17 +13,27 @@
 mod char_map;
 mod characters;
 mod definition;
+mod dots;
+mod draft;
+mod en;
 mod fault;
 mod fields;
 pub mod laws;
 mod line;
 mod lines;
+mod opcode;
 mod read;
+mod rule;
 mod table;
-#[cfg(test)]
-mod tests;
+mod written;
 
 pub use definition::{Class, Definition};
+pub use en::EN;
 pub use fault::{ReadFault, TableFault};
+pub use line::MOST_RULE_CHARACTERS;
 pub use read::{MOST_LINE_CHARACTERS, MOST_LINES};
+pub use rule::{Characters, Rule, RuleKind};
 pub use table::Table;
+
+#[cfg(test)]
+mod tests;

@@ -1,20 +1,25 @@
 //! What one line gives to its table.
-ghost use Rattle.louis_table.specs.Reading.{IsVerdict, ReadsCells, as_some, definition_at, judge_line, line_verdict};
-ghost use Rattle.cell_core.specs.Reading.{cells_in};
-ghost use Rattle.std.specs.Prelude.{◌≡◌, IfOk};
-ghost use Rattle.std.specs.Str.{encode_utf8_all};
-ghost use Rattle.std.specs.String.{string_bytes};
+ghost use Rattle.louis_table.specs.Meaning.{Meaning};
+ghost use Rattle.louis_table.specs.Reading.{FailsOperands, IsVerdict, both_at, judge_line, judge_opcode, is_taken};
+ghost use Rattle.louis_table.specs.declared.opcode.Opcode.TheVariants as opcodes;
+ghost use Rattle.std.specs.Prelude.{◌≡◌, IfErr, IfOk, Ok};
 
-use super::characters::only_character;
+use super::characters::{only_character, only_pair, read_characters};
 use super::definition::{Class, Definition};
+use super::dots::{read_cells, read_pair_cells, read_rule_cells};
 use super::fault::{Cause, LineFault};
-use super::fields::{next_field, next_two_fields};
+use super::fields::next_field;
+use super::opcode::{Opcode, Sign};
+use super::rule::{Characters, RuleKind};
 use super::table::Table;
-use cell_core::{Cells, DotsFault, read_dots};
-use std::alloc::{AllocError, Global};
+use cell_core::Cells;
+use std::alloc::Global;
 
-/// The mark at the front of a comment.
+/// The sign at the front of a comment.
 const COMMENT: char = '#';
+
+/// How many characters a rule may have.
+pub const MOST_RULE_CHARACTERS: usize = 60;
 
 /// What a line gives to its table.
 #[derive(Debug, Drop)]
@@ -23,47 +28,46 @@ pub(crate) enum Given {
     Nothing,
     /// The definition of a character.
     Defines(char, Definition),
+    /// An upper character and its cells, and the lower one with its own.
+    Pairs(char, Cells, char, Cells),
+    /// A rule, with no cells where an equals sign stands for those of its characters' definitions.
+    Replaces(RuleKind, Characters, Option<Cells>),
+    /// The cells of a sign.
+    Announces(Sign, Cells),
 }
 
-/// Characters as a text.
-fn text_of(alloc: Global, characters: &[char]) -> Result<String, AllocError>
-    ensures { IfOk result (λ text. string_bytes text ≡ encode_utf8_all characters.now) }
+/// The characters of the first operand, and the second one.
+fn read_operands(alloc: Global, operands: &[char]) -> Result<(Vec<char>, &[char]), LineFault>
+    ensures ok { IfOk result (λ read. both_at operands.now ≡ Ok (read.0.items, read.1.now)) }
+    ensures err { IfErr result (FailsOperands (both_at operands.now)) }
 {
-    characters.iter().copied().collect(alloc)
-}
-
-/// The cells of a dots operand, or nothing where it has more than an operand may have.
-fn read_cells(alloc: Global, dots: &[char]) -> Result<Option<Cells>, LineFault>
-    ensures { ReadsCells result (cells_in dots.now) }
-{
-    let Ok(text) = text_of(alloc, dots) else {
-        return Err(LineFault::NoMemory);
-    };
-    match read_dots(alloc, text.as_str()) {
-        Ok(cells) => Ok(Some(Cells::from_vec(cells))),
-        Err(DotsFault::Bad) => Err(LineFault::Bad(Cause::BadDots)),
-        Err(DotsFault::TooMany) => Ok(None),
-        Err(DotsFault::NoMemory) => Err(LineFault::NoMemory),
+    let (characters, rest) = next_field(operands);
+    let (dots, _) = next_field(rest);
+    if characters.is_empty() || dots.is_empty() {
+        return Err(LineFault::Bad(Cause::MissingOperand));
+    }
+    match read_characters(alloc, characters) {
+        Ok(Some(characters)) => Ok((characters, dots)),
+        Ok(None) => Err(LineFault::Bad(Cause::BadCharacters)),
+        Err(_) => Err(LineFault::NoMemory),
     }
 }
 
-/// The definition of this class that the operands make, for a table that doesn't define its character yet.
+/// The definition of a character of this class, for a table that doesn't define it yet.
 fn read_definition(
     alloc: Global,
     table: &Table,
     class: Class,
     operands: &[char],
 ) -> Result<Given, LineFault>
-    ensures { IsVerdict result (line_verdict table.now (as_some (definition_at class operands.now))) }
+    ensures { IsVerdict result (judge_opcode table.now (opcodes.Define class) operands.now) }
 {
-    let Some((characters, dots)) = next_two_fields(operands) else {
-        return Err(LineFault::Bad(Cause::MissingOperand));
-    };
-    let Some(character) = only_character(characters) else {
-        return Err(LineFault::Bad(Cause::NotOneCharacter));
+    let (characters, dots) = read_operands(alloc, operands)?;
+    let Some(character) = only_character(characters.as_slice()) else {
+        return Err(LineFault::Bad(Cause::BadCharacters));
     };
     let cells = read_cells(alloc, dots)?;
-    if table.definition(character).is_some() {
+    if table.defines(character) {
         return Err(LineFault::Bad(Cause::DefinedBefore));
     }
     let Some(cells) = cells else {
@@ -72,16 +76,84 @@ fn read_definition(
     Ok(Given::Defines(character, Definition { class, cells }))
 }
 
+/// Whether one of two characters is defined already, or the other.
+fn is_taken(table: &Table, upper: char, lower: char) -> bool
+    ensures { result ≡ is_taken table.now upper lower }
+{
+    upper == lower || table.defines(upper) || table.defines(lower)
+}
+
+/// An upper and a lower character, for a table that defines neither yet.
+fn read_pair(alloc: Global, table: &Table, operands: &[char]) -> Result<Given, LineFault>
+    ensures { IsVerdict result (judge_opcode table.now opcodes.UpLow operands.now) }
+{
+    let (characters, dots) = read_operands(alloc, operands)?;
+    let Some((upper, lower)) = only_pair(characters.as_slice()) else {
+        return Err(LineFault::Bad(Cause::BadCharacters));
+    };
+    let cells = read_pair_cells(alloc, dots)?;
+    if is_taken(table, upper, lower) {
+        return Err(LineFault::Bad(Cause::DefinedBefore));
+    }
+    let Some((upper_cells, lower_cells)) = cells else {
+        return Err(LineFault::Bad(Cause::BeyondLimit));
+    };
+    Ok(Given::Pairs(upper, upper_cells, lower, lower_cells))
+}
+
+/// A rule of this kind.
+fn read_rule(alloc: Global, kind: RuleKind, operands: &[char]) -> Result<Given, LineFault>
+    ensures { (meaning : Meaning) → IsVerdict result (judge_opcode meaning (opcodes.Replace kind) operands.now) }
+{
+    let (characters, dots) = read_operands(alloc, operands)?;
+    let cells = read_rule_cells(alloc, dots)?;
+    if characters.len() > MOST_RULE_CHARACTERS {
+        return Err(LineFault::Bad(Cause::BeyondLimit));
+    }
+    let Some(cells) = cells else {
+        return Err(LineFault::Bad(Cause::BeyondLimit));
+    };
+    Ok(Given::Replaces(kind, Characters::from_vec(characters), cells))
+}
+
+/// The cells of a sign, for a table that has none for it yet.
+fn read_sign(
+    alloc: Global,
+    table: &Table,
+    sign: Sign,
+    operands: &[char],
+) -> Result<Given, LineFault>
+    ensures { IsVerdict result (judge_opcode table.now (opcodes.Announce sign) operands.now) }
+{
+    let (dots, _) = next_field(operands);
+    if dots.is_empty() {
+        return Err(LineFault::Bad(Cause::MissingOperand));
+    }
+    let cells = read_cells(alloc, dots)?;
+    if !table.sign(sign).is_empty() {
+        return Err(LineFault::Bad(Cause::AnnouncedBefore));
+    }
+    let Some(cells) = cells else {
+        return Err(LineFault::Bad(Cause::BeyondLimit));
+    };
+    Ok(Given::Announces(sign, cells))
+}
+
 /// What a line gives to the table that the lines before it make.
 pub(crate) fn read_line(alloc: Global, table: &Table, line: &[char]) -> Result<Given, LineFault>
     ensures { IsVerdict result (judge_line table.now line.now) }
 {
-    let (opcode, operands) = next_field(line);
-    if opcode.is_empty() || opcode[0] == COMMENT {
+    let (name, operands) = next_field(line);
+    if name.is_empty() || name[0] == COMMENT {
         return Ok(Given::Nothing);
     }
-    let Some(class) = Class::from_opcode(opcode) else {
+    let Some(opcode) = Opcode::named(name) else {
         return Err(LineFault::Bad(Cause::UnknownOpcode));
     };
-    read_definition(alloc, table, class, operands)
+    match opcode {
+        Opcode::Define(class) => read_definition(alloc, table, class, operands),
+        Opcode::UpLow => read_pair(alloc, table, operands),
+        Opcode::Replace(kind) => read_rule(alloc, kind, operands),
+        Opcode::Announce(sign) => read_sign(alloc, table, sign, operands),
+    }
 }

@@ -1,6 +1,6 @@
 //! The lines of a text.
 ghost use Rattle.louis_table.specs.Lines.{lines_of};
-ghost use Rattle.louis_table.specs.Table.{without_mark};
+ghost use Rattle.louis_table.specs.Table.{without_byte_order_mark};
 ghost use Rattle.std.specs.Io.BufRead.{strip_last};
 ghost use Rattle.std.specs.List.{after_first, before_first};
 ghost use Rattle.std.specs.Prelude.{◌==◌, ◌≡◌, ◌≢◌, ◌<◌, ◌∷◌, [], length, OnOk};
@@ -11,8 +11,8 @@ use std::alloc::AllocError;
 const BYTE_ORDER_MARK: &str = "\u{FEFF}";
 
 /// The text behind one byte order mark at its front, if it has one.
-pub(crate) fn behind_mark(text: &str) -> &str
-    ensures { result.now ≡ without_mark text.now }
+pub(crate) fn behind_byte_order_mark(text: &str) -> &str
+    ensures { result.now ≡ without_byte_order_mark text.now }
 {
     text.strip_prefix(BYTE_ORDER_MARK).unwrap_or(text)
 }

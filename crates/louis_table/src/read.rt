@@ -1,15 +1,18 @@
 //! Reads a table text, line by line.
 ghost use Rattle.louis_table.specs.Lines.{lines_of};
-ghost use Rattle.louis_table.specs.Reading.{LinesMean, LinesTell, TakesLine, judge};
-ghost use Rattle.louis_table.specs.Table.{Means};
+ghost use Rattle.louis_table.specs.Reading.{HasDefinedPartners, LinesGive, LinesMean, LinesTell, LinesTellEarly, TakesLine, judge};
+ghost use Rattle.louis_table.specs.Table.{Means, line_of_stop};
 ghost use Rattle.louis_table.specs.Tells.{Tells};
 ghost use Rattle.std.specs.Prelude.{◌≡◌, ◌+◌, ◌==◌, ◌≤◌, count_by, length, map, take, IfOk, IfErr};
 ghost use Rattle.std.specs.Str.{chars};
+ghost use Rattle.std.specs.Str.Lossy.{utf8_valid_len};
 
+use super::draft::Draft;
 use super::fault::{Cause, LineFault, ReadFault, TableFault};
-use super::line::{Given, read_line};
-use super::lines::{behind_mark, next_line, replace_characters};
+use super::line::read_line;
+use super::lines::{behind_byte_order_mark, next_line, replace_characters};
 use super::table::Table;
+use super::written::finish_rules;
 use std::alloc::Global;
 
 /// How many lines a table text may have.
@@ -26,34 +29,32 @@ fn line_of_byte(bytes: &[u8], at: usize) -> usize
     bytes[..at].iter().filter(|byte| **byte == b'\n').count() + 1
 }
 
-/// Takes a line into the table that the lines before it made.
+/// Takes a line into the draft that the lines before it made.
 fn take_line(
     alloc: Global,
-    table: &mut Table,
+    draft: &mut Draft,
     before: usize,
     line: &[char],
 ) -> Result<(), LineFault>
-    ensures { TakesLine result table.old table.new (judge table.old before line.now) }
+    requires { HasDefinedPartners draft.old.table }
+    ensures { TakesLine result before draft.old draft.new (judge draft.old.table before line.now) }
 {
-    let given = read_line(alloc, table, line)?;
+    let given = read_line(alloc, &draft.table, line)?;
     if line.len() > MOST_LINE_CHARACTERS || before >= MOST_LINES {
         return Err(LineFault::Bad(Cause::BeyondLimit));
     }
-    match given {
-        Given::Nothing => Ok(()),
-        Given::Defines(character, definition) => match table.define(character, definition) {
-            Ok(()) => Ok(()),
-            Err(_) => Err(LineFault::NoMemory),
-        },
+    match draft.take(before + 1, given) {
+        Ok(()) => Ok(()),
+        Err(_) => Err(LineFault::NoMemory),
     }
 }
 
-/// Reads the lines of a text.
-fn read_lines(alloc: Global, text: &str) -> Result<Table, ReadFault>
-    ensures ok { IfOk result (LinesMean (map chars (lines_of text.now))) }
-    ensures err { IfErr result (LinesTell (map chars (lines_of text.now))) }
+/// What the lines of a text give.
+fn read_lines(alloc: Global, text: &str) -> Result<Draft, ReadFault>
+    ensures ok { IfOk result (λ draft. LinesGive (map chars (lines_of text.now)) draft.table draft.rules.items) }
+    ensures err { IfErr result (LinesTellEarly (map chars (lines_of text.now))) }
 {
-    let mut table = Table::new(alloc);
+    let mut draft = Draft::new(alloc);
     let mut characters = Vec::new(alloc);
     let mut before = 0;
     let mut rest = text;
@@ -62,7 +63,7 @@ fn read_lines(alloc: Global, text: &str) -> Result<Table, ReadFault>
         if replace_characters(&mut characters, line).is_err() {
             return Err(ReadFault::NoMemory);
         }
-        match take_line(alloc, &mut table, before, characters.as_slice()) {
+        match take_line(alloc, &mut draft, before, characters.as_slice()) {
             Ok(()) => {}
             Err(LineFault::Bad(cause)) => {
                 return Err(ReadFault::Table(TableFault {
@@ -75,22 +76,36 @@ fn read_lines(alloc: Global, text: &str) -> Result<Table, ReadFault>
         before += 1;
         rest = after;
     }
-    Ok(table)
+    Ok(draft)
+}
+
+/// Reads a text without a byte order mark.
+fn read_text(alloc: Global, text: &str) -> Result<Table, ReadFault>
+    ensures ok { IfOk result (LinesMean (map chars (lines_of text.now))) }
+    ensures err { IfErr result (LinesTell (map chars (lines_of text.now))) }
+{
+    let draft = read_lines(alloc, text)?;
+    let written = draft.rules;
+    let rules = finish_rules(alloc, &draft.table, written)?;
+    Ok(draft.table.with_rules(rules))
 }
 
 impl Table {
-    /// Reads a table text: each line gives the definition of a character, is a comment, or has no field.
+    /// Reads a table text.
+    ///
+    /// Each line defines a character or an upper and a lower one, gives a rule or the cells of a sign, is a comment,
+    /// or has no field. Definitions may stand before or after the rules that use them.
     ///
     /// # Errors
     ///
-    /// `Table` tells the first line that has a fault, with its smallest cause, and `NoMemory` says that
-    /// a growth was refused.
+    /// `Table` tells the first line that has a fault, with its smallest cause, and where no line has one, the first
+    /// rule with a character that no line defines. `NoMemory` says that a growth was refused.
     pub fn read(alloc: Global, text: &[u8]) -> Result<Table, ReadFault>
         ensures ok { IfOk result (Means text.now) }
         ensures err { IfErr result (Tells text.now) }
     {
         match str::from_utf8(text) {
-            Ok(text) => read_lines(alloc, behind_mark(text)),
+            Ok(text) => read_text(alloc, behind_byte_order_mark(text)),
             Err(stop) => Err(ReadFault::Table(TableFault {
                 line: line_of_byte(text, stop.valid_up_to()),
                 cause: Cause::NotText.number(),

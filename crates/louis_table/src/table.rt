@@ -1,10 +1,15 @@
 //! A table that was read.
-ghost use Rattle.std.specs.Prelude.{◌≡◌, ◌∷◌, ◌++◌, [], OnOk};
-ghost use Rattle.louis_table.specs.Meaning.{definition_of};
+ghost use Rattle.std.specs.Prelude.{◌≡◌, ◌≢◌, ◌∷◌, ◌++◌, [], None, Some, OnOk, option_map, is_some};
+ghost use Rattle.louis_table.specs.Meaning.{definition_of, folded, partner_of};
+ghost use Rattle.louis_table.specs.Reading.{CanTake, is_known, no_meaning, sign_cells, with_definition, with_given, with_partner};
+ghost use Rattle.louis_table.specs.Table.{Announces, Pairs};
 ghost use Rattle.std.specs.Option.{option_copied};
 
 use super::char_map::CharMap;
-use super::definition::Definition;
+use super::definition::{Class, Definition};
+use super::opcode::Sign;
+use super::rule::Rule;
+use cell_core::{Cell, Cells};
 use std::alloc::{AllocError, Global};
 use std::marker::Model;
 
@@ -12,6 +17,11 @@ use std::marker::Model;
 #[derive(Drop)]
 pub struct Table {
     definitions: CharMap<Definition>,
+    partners: CharMap<char>,
+    rules: Vec<Rule>,
+    numsign: Cells,
+    capsletter: Cells,
+    begcapsword: Cells,
 }
 
 impl Model for Table {
@@ -19,16 +29,28 @@ impl Model for Table {
 
     ghost Value = { Meaning };
 
-    ghost view = { λ t. record { definitions = t.definitions } };
+    ghost view = { λ t. record {
+      definitions = t.definitions;
+      partners = t.partners;
+      rules = t.rules.items;
+      numsign = t.numsign;
+      capsletter = t.capsletter;
+      begcapsword = t.begcapsword;
+    } };
 }
 
 impl Table {
-    /// A table that defines nothing.
+    /// A table that says nothing.
     pub(crate) fn new(alloc: Global) -> Self
-        ensures { result.definitions ≡ [] }
+        ensures { result ≡ no_meaning }
     {
         Table {
             definitions: CharMap::new(alloc),
+            partners: CharMap::new(alloc),
+            rules: Vec::new(alloc),
+            numsign: Cells::from_vec(Vec::new(alloc)),
+            capsletter: Cells::from_vec(Vec::new(alloc)),
+            begcapsword: Cells::from_vec(Vec::new(alloc)),
         }
     }
 
@@ -39,9 +61,82 @@ impl Table {
         definition: Definition,
     ) -> Result<(), AllocError>
         requires { definition_of self.old character ≡ None }
-        ensures { OnOk result (self.new.definitions ≡ self.old.definitions ++ (character, definition) ∷ []) }
+        ensures { OnOk result (self.new ≡ with_definition self.old character definition) }
     {
         self.definitions.insert(character, definition)
+    }
+
+    /// Makes a character that is no capital yet the capital of a lower one.
+    fn join(&mut self, upper: char, lower: char) -> Result<(), AllocError>
+        requires { partner_of self.old upper ≡ None }
+        ensures { OnOk result (self.new ≡ with_partner self.old upper lower) }
+    {
+        self.partners.insert(upper, lower)
+    }
+
+    /// Defines an upper and its lower character, of which neither has a definition yet.
+    pub(crate) fn pair(
+        &mut self,
+        upper: char,
+        upper_cells: Cells,
+        lower: char,
+        lower_cells: Cells,
+    ) -> Result<(), AllocError>
+        requires { CanTake self.old (Some (Pairs upper upper_cells lower lower_cells)) }
+        ensures { OnOk result (self.new ≡ with_given self.old (Some (Pairs upper upper_cells lower lower_cells))) }
+    {
+        self.join(upper, lower)?;
+        self.define(
+            upper,
+            Definition {
+                class: Class::Letter,
+                cells: upper_cells,
+            },
+        )?;
+        self.define(
+            lower,
+            Definition {
+                class: Class::Letter,
+                cells: lower_cells,
+            },
+        )
+    }
+
+    /// Gives a sign that has no cells yet its cells.
+    pub(crate) fn announce(&mut self, sign: Sign, cells: Cells)
+        requires { sign_cells self.old sign ≡ [] }
+        ensures { self.new ≡ with_given self.old (Some (Announces sign cells)) }
+    {
+        match sign {
+            Sign::Number => self.numsign = cells,
+            Sign::Capital => self.capsletter = cells,
+            Sign::CapitalWord => self.begcapsword = cells,
+        }
+    }
+
+    /// The table with these rules in place of its own.
+    pub(crate) fn with_rules(self, rules: Vec<Rule>) -> Self
+        ensures { result ≡ record self { rules = rules.items } }
+    {
+        Table { rules, ..self }
+    }
+
+    /// Whether the table defines the character.
+    pub(crate) fn defines(&self, character: char) -> bool
+        ensures { result ≡ is_known self.now character }
+    {
+        self.definition(character).is_some()
+    }
+
+    /// The cells of a sign, empty where the table lacks it.
+    pub(crate) fn sign(&self, sign: Sign) -> &[Cell]
+        ensures { result.now ≡ sign_cells self.now sign }
+    {
+        match sign {
+            Sign::Number => self.numsign(),
+            Sign::Capital => self.capsletter(),
+            Sign::CapitalWord => self.begcapsword(),
+        }
     }
 
     /// The definition of a character, if the table has one.
@@ -49,5 +144,54 @@ impl Table {
         ensures { option_copied result ≡ definition_of self.now character }
     {
         self.definitions.get(character)
+    }
+
+    /// The class of a character, if the table defines it.
+    pub fn class(&self, character: char) -> Option<Class>
+        ensures { result ≡ option_map (λ defined. defined.class) (definition_of self.now character) }
+    {
+        Some(self.definition(character)?.class)
+    }
+
+    /// The lower character of a capital, and every other character itself.
+    pub fn fold(&self, character: char) -> char
+        ensures { result ≡ folded self.now character }
+    {
+        self.partners.get(character).copied().unwrap_or(character)
+    }
+
+    /// Whether the character is the upper character of an `uplow` line.
+    pub fn capital(&self, character: char) -> bool
+        ensures { result ≡ is_some (partner_of self.now character) }
+    {
+        self.partners.get(character).is_some()
+    }
+
+    /// The rules in the order of their lines, with folded characters.
+    pub fn rules(&self) -> &[Rule]
+        ensures { result.now ≡ self.now.rules }
+    {
+        self.rules.as_slice()
+    }
+
+    /// The sign before a number, empty where the table lacks it.
+    pub fn numsign(&self) -> &[Cell]
+        ensures { result.now ≡ self.now.numsign }
+    {
+        self.numsign.as_slice()
+    }
+
+    /// The sign before one capital, empty where the table lacks it.
+    pub fn capsletter(&self) -> &[Cell]
+        ensures { result.now ≡ self.now.capsletter }
+    {
+        self.capsletter.as_slice()
+    }
+
+    /// The sign before a run of capitals, empty where the table lacks it.
+    pub fn begcapsword(&self) -> &[Cell]
+        ensures { result.now ≡ self.now.begcapsword }
+    {
+        self.begcapsword.as_slice()
     }
 }

@@ -1,98 +1,129 @@
-//! Values from outside: the rules of the table format, by example.
-use super::{Class, Definition, ReadFault, Table, TableFault};
-use std::alloc::{AllocError, Global};
+//! Table texts and what they mean, or the line and the cause that is told of them.
+use super::{Class, EN, ReadFault, RuleKind, Table, TableFault};
 use std::test::Fail;
 
-/// A text of one piece, so many times.
-fn repeated(alloc: Global, piece: &str, count: usize) -> Result<String, AllocError> {
-    let mut text = String::new(alloc);
-    for _ in 0..count {
-        text.push_str(piece)?;
-    }
-    Ok(text)
-}
-
-fn told(line: usize, cause: u8) -> Option<ReadFault> {
-    Some(ReadFault::Table(TableFault { line, cause }))
-}
-
-fn has_mask(definition: &Definition, mask: u8) -> bool {
-    match definition.cells.as_slice() {
-        [cell] => cell.mask() == mask,
-        _ => false,
+/// The masks of a character's cells.
+fn masks_of(table: &Table, character: char, masks: &[u8]) -> bool {
+    match table.definition(character) {
+        Some(definition) => {
+            let cells = definition.cells.as_slice();
+            cells.len() == masks.len()
+                && cells
+                    .iter()
+                    .zip(masks)
+                    .all(|(cell, mask)| cell.mask() == *mask)
+        }
+        None => false,
     }
 }
 
 #[test]
-fn reads_definitions(rt: HostRuntime) {
-    let rows: [(&[u8], char, Class, u8); 11] = [
-        (b"letter a 1", 'a', Class::Letter, 1),
-        (b"letter a 1 the first", 'a', Class::Letter, 1),
-        (b"space \\s 0\n", ' ', Class::Space, 0),
-        (b"letter \\\\ 1", '\\', Class::Letter, 1),
-        (
-            b"digit 1 2\r\npunctuation , 2\r\n",
-            ',',
-            Class::Punctuation,
-            2,
-        ),
-        (b"digit 1 2\r\npunctuation , 2\r\n", '1', Class::Digit, 2),
-        (b"\xEF\xBB\xBFletter a 1", 'a', Class::Letter, 1),
-        (b"letter\ta\t12", 'a', Class::Letter, 3),
-        (b" \t letter  a  1", 'a', Class::Letter, 1),
-        (b"letter \xC2\xA0 1", '\u{A0}', Class::Letter, 1),
-        (b"# none\n\n  # none\nletter a 1", 'a', Class::Letter, 1),
-    ];
-    for (text, character, class, mask) in rows {
-        let table = Table::read(rt.alloc(), text).expect(&rt, "a table");
-        let definition = table.definition(character).expect(&rt, "a definition");
-        assert_eq!(rt; definition.class, class, "the class of {character}");
-        assert!(rt; has_mask(definition, mask), "the cells of {character}");
-        assert!(rt; table.definition('z').is_none());
-    }
-    assert!(rt; Table::read(rt.alloc(), b"").is_ok());
+fn supplies_uncontracted_english(rt: HostRuntime) -> Result<(), Fail> {
+    let table = Table::read(rt.alloc(), EN.as_bytes())?;
+    let defined = (0..0x3000)
+        .filter_map(char::from_u32)
+        .filter(|character| table.definition(*character).is_some())
+        .count();
+    assert_eq!(rt; defined, 80);
+    assert_eq!(rt; EN.lines().count(), 58);
+    assert!(rt; table.rules().is_empty());
+    assert_eq!(rt; table.numsign().len(), 1);
+    assert_eq!(rt; table.capsletter().len(), 1);
+    assert_eq!(rt; table.begcapsword().len(), 2);
+    assert!(rt; masks_of(&table, '"', &[32, 54]));
+    assert_eq!(rt; table.class('5'), Some(Class::Digit));
+    Ok(())
+}
+
+#[test]
+fn pairs_and_folds(rt: HostRuntime) -> Result<(), Fail> {
+    let table = Table::read(rt.alloc(), b"uplow Aa 1,4\nletter b 12\nalways Ab =")?;
+    assert!(rt; masks_of(&table, 'A', &[1]));
+    assert!(rt; masks_of(&table, 'a', &[8]));
+    assert_eq!(rt; table.fold('A'), 'a');
+    assert_eq!(rt; table.fold('b'), 'b');
+    assert!(rt; table.capital('A'));
+    assert!(rt; !table.capital('a'));
+    assert_eq!(rt; table.rules().len(), 1);
+    let rule = &table.rules()[0];
+    assert_eq!(rt; rule.line, 3);
+    assert_eq!(rt; rule.kind, RuleKind::Always);
+    assert_eq!(rt; rule.chars.as_slice(), ['a', 'b'].as_slice());
+    assert_eq!(rt; rule.cells.as_slice().len(), 2);
+    Ok(())
 }
 
 #[test]
 fn tells_the_first_fault(rt: HostRuntime) {
-    let rows: [(&[u8], usize, u8); 15] = [
+    let rows: [(&[u8], usize, u8); 27] = [
         (b"foo", 1, 1),
-        (b"letters a 1", 1, 1),
-        (b"\xEF\xBB\xBF\xEF\xBB\xBFletter a 1", 1, 1),
-        (b"letter a", 1, 2),
+        (b"letter", 1, 2),
         (b"letter ab", 1, 2),
-        (b"letter ab 1", 1, 3),
-        (b"letter ab =", 1, 3),
+        (b"numsign", 1, 2),
         (b"letter \\q 1", 1, 3),
-        (b"letter \\ 1", 1, 3),
-        (b"letter a 14-19", 1, 4),
+        (b"letter \\xD800 1", 1, 3),
+        (b"letter \\z00110000 1", 1, 3),
+        (b"letter \\x41 1", 1, 3),
+        (b"letter ab 1", 1, 3),
+        (b"uplow a 1", 1, 3),
         (b"letter a =", 1, 4),
-        (b"letter a 1\nletter a 1", 2, 5),
-        (b"letter a 1\n\n#\ndigit a 2\nfoo", 4, 5),
+        (b"numsign =", 1, 4),
+        (b"uplow Aa 1,", 1, 4),
+        (b"uplow Aa ,1", 1, 4),
+        (b"uplow Aa 1,2,3", 1, 4),
+        (b"uplow aa 1", 1, 5),
+        (b"letter a 1\nuplow Aa 1", 2, 5),
+        (b"\xEF\xBB\xBFletter a 1\r\n#\n \t\r\nletter a 2", 4, 5),
+        (b"numsign 1\nnumsign 1", 2, 6),
+        (b"uplow Aa 1,4\nletter b 12\nalways AB =", 3, 7),
+        (b"always c 1\nfoo", 2, 1),
+        (b"always c 1\nalways d 1", 1, 7),
         (b"letter a 1-1-1-1-1-1-1-1-1-1-1-1-1-1-1-1-1-1-1-1-1", 1, 8),
-        (b"foo\n\xFF", 2, 9),
+        (
+            b"uplow Aa 1,1-1-1-1-1-1-1-1-1-1-1-1-1-1-1-1-1-1-1-1-1",
+            1,
+            8,
+        ),
+        (
+            b"letter a 1\nletter a 1-1-1-1-1-1-1-1-1-1-1-1-1-1-1-1-1-1-1-1-1",
+            2,
+            5,
+        ),
+        (
+            b"always aaaaaaaaaaaaaaaaaaaaaaaaaaaaaaaaaaaaaaaaaaaaaaaaaaaaaaaaaaaaa 1",
+            1,
+            8,
+        ),
+        (b"letter a 1\n\xFF", 2, 9),
     ];
     for (text, line, cause) in rows {
-        assert_eq!(rt; Table::read(rt.alloc(), text).err(), told(line, cause));
+        assert_eq!(rt;
+            Table::read(rt.alloc(), text).err(),
+            Some(ReadFault::Table(TableFault { line, cause })),
+            "line {line} cause {cause}"
+        );
     }
 }
 
 #[test]
-fn keeps_limits(rt: HostRuntime) -> Result<(), Fail> {
-    let rows = [
-        ("#", "x", 999, "\r\n", None),
-        ("#", "x", 1_000, "", told(1, 8)),
-        ("#", "ä", 999, "", None),
-        ("\u{FEFF}", " ", 1_000, "", None),
-        ("", "x", 1_001, "", told(1, 1)),
-        ("", "\n", 20_000, "", None),
-        ("", "\n", 20_001, "", told(20_001, 8)),
-        ("", "\n", 20_000, "foo", told(20_001, 1)),
-    ];
-    for (front, piece, count, end, fault) in rows {
-        let middle = repeated(rt.alloc(), piece, count)?;
-        let text = format!(in rt.alloc(); "{front}{middle}{end}")?;
-        assert_eq!(rt; Table::read(rt.alloc(), text.as_bytes()).err(), fault);
+fn reads_every_form(rt: HostRuntime) -> Result<(), Fail> {
+    let text =
+        b"space \\t 0\nspace \\f 0\nspace \\n 0\nspace \\r 0\nspace \\v 0\npunctuation \\e 1\npunctuation \\\\ 1\nletter \\x00e9 1\nletter \\y1f600 1\nletter \\z0001F601 1 what follows\nword a\\s 1\nletter a 1\nspace \\s 0\nbegword a 1\nmidword a 1\nendword a 1";
+    let table = Table::read(rt.alloc(), text)?;
+    for character in [
+        '\t',
+        '\u{C}',
+        '\n',
+        '\r',
+        '\u{B}',
+        '\u{1B}',
+        '\\',
+        '\u{E9}',
+        '\u{1F600}',
+        '\u{1F601}',
+    ] {
+        assert!(rt; table.definition(character).is_some());
     }
+    assert_eq!(rt; table.rules().len(), 4);
     Ok(())
 }

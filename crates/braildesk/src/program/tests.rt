@@ -135,3 +135,16 @@ fn says_nothing_of_failed_ends(rt: HostRuntime) -> std::result::Result<(), Fail>
     fs::remove_file(&rt, path.as_path())?;
     Ok(())
 }
+
+#[test]
+fn translates_by_the_supplied_table(rt: HostRuntime) -> std::result::Result<(), Fail> {
+    let mut reader: &[u8] = "ab 1.\n’\nø\n".as_bytes();
+    let (mut writer, mut errors) = (Vec::new(rt.alloc()), Vec::new(rt.alloc()));
+    let words = ["translate", "@en"];
+    assert_eq!(rt;
+        program(&rt, &words, &mut reader, &mut writer, &mut errors),
+        DONE
+    );
+    assert_eq!(rt; writer.as_slice(), "⠁⠃⠀⠁⠲\n⠄\nno 7 0\n".as_bytes());
+    Ok(())
+}

@@ -12,7 +12,7 @@ loop-character-preserved g c =
     let step = c.in-Some.ensures.steps.0 in
     let cells = ap cells_of (sym c.in-Some-definition.ensures) ∙ sym c.as_slice.ensures in
     record {
-      sending = Sending-more g.K.Sink.can_fail _ _ _ c.loop-character.block _ _ _ _ inv.sending _ _ (text_of-braille-past_char _ _ _ _ _ inv.is_text step cells) c.put_cells.ensures (ap is_ok c.in_ok-put_cells.was);
+      sending = Sending-more g.K.Sink.can_fail _ _ _ c.loop-character.block _ _ _ _ inv.sending _ _ (text_of-braille-past_char c.args.table.now _ _ _ _ inv.is_text step cells) c.put_cells.ensures (ap is_ok c.in_ok-put_cells.was);
       is_text = IsUtf8-past_char _ _ _ inv.is_text step;
     }
 
@@ -22,18 +22,18 @@ returns-in_err-put_cells g c =
     let step = c.in-Some.ensures.steps.0 in
     let cells = ap cells_of (sym c.in-Some-definition.ensures) ∙ sym c.as_slice.ensures in
     let p = err_from_is_err_and c.from_residual.result c.from_residual.ensures.1 in
-    Sending-fails g.K.Sink.can_fail _ _ _ c.loop-character.block _ _ _ _ inv.sending _ _ (text_of-braille-past_char _ _ _ _ _ inv.is_text step cells) c.put_cells.ensures _ _ (ap is_ok c.in_err-put_cells.was) (ap is_ok p.1)
+    Sending-fails g.K.Sink.can_fail _ _ _ c.loop-character.block _ _ _ _ inv.sending _ _ (text_of-braille-past_char c.args.table.now _ _ _ _ inv.is_text step cells) c.put_cells.ensures _ _ (ap is_ok c.in_err-put_cells.was) (ap is_ok p.1)
 
 pub loop-character-preserved-in_default : goal.loop-character-preserved-in_default
 loop-character-preserved-in_default g c =
     let inv = c.loop-character.invariant in
     let step = c.in-Some.ensures.steps.0 in
     record {
-      sending = Sending-same _ _ c.loop-character.block _ _ _ inv.sending (text_of-braille-past_char _ _ _ _ [] inv.is_text step (ap cells_of (sym c.in_default.ensures)));
+      sending = Sending-same _ _ c.loop-character.block _ _ _ inv.sending (text_of-braille-past_char c.args.table.now _ _ _ [] inv.is_text step (ap cells_of (sym c.in_default.ensures)));
       is_text = IsUtf8-past_char _ _ _ inv.is_text step;
     }
 
 pub returns : goal.returns
 returns g c =
     Sending-done g.K.Sink.can_fail _ _ c.loop-character.block _ true
-    (Sending-same _ _ c.loop-character.block _ _ _ c.loop-character.invariant.sending (text_of-braille-nil _ _ c.in-None.ensures.steps.0.0)) refl
+    (Sending-same _ _ c.loop-character.block _ _ _ c.loop-character.invariant.sending (text_of-braille-nil c.args.table.now _ c.in-None.ensures.steps.0.0)) refl

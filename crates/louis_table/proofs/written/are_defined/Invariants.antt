@@ -1,0 +1,8 @@
+use Rattle.std.proofs.Common.{◌≡◌, ◌++◌, map, take, drop}
+use Rattle.louis_table.specs.Meaning.{folded}
+use Rattle.louis_table.specs.Reading.{are_defined, cells_of_all}
+use Rattle.louis_table.proofs.written.are_defined.Given as goal
+
+-- the characters that are left decide
+abbrev pub invariant-loop-character : goal.invariant-loop-character
+invariant-loop-character l = are_defined l.table (drop l.character-index l.characters) ≡ are_defined l.table l.characters

@@ -1,0 +1,8 @@
+use Rattle.std.proofs.Common.{◌≡◌, ◌++◌, map, take, drop}
+use Rattle.louis_table.specs.Meaning.{folded}
+use Rattle.louis_table.specs.Reading.{are_defined, cells_of_all}
+use Rattle.louis_table.proofs.written.joined_cells.Given as goal
+
+-- the cells of the characters so far
+abbrev pub invariant-loop-character : goal.invariant-loop-character
+invariant-loop-character l = l.cells.items ≡ cells_of_all l.table (take l.character-index l.characters)

@@ -1,0 +1,72 @@
+-- The longest front of a tiling that fits in a room.
+use Rattle.std.proofs.Common.{◌≡◌, ℕ, ◌+◌, ◌<◌, ◌≤◌, List, [], ◌∷◌, ◌++◌, length, refl, sym, ap, subst, arith, inl, inr}
+use Rattle.std.specs.List.{flat_map}
+use Rattle.std.proofs.lemmas.Bool.{cases_order}
+use Rattle.std.proofs.lemmas.List.{append-nil, length-append}
+use Rattle.louis_table.specs.Meaning.{Meaning}
+use Rattle.louis_translate.specs.declared.choices.Choice.{Choice}
+use Rattle.louis_translate.specs.Tiling.{Covers, IsChoiceAt}
+use Rattle.louis_translate.specs.Braille.{cells_of, braille, IsPart}
+use Rattle.louis_translate.proofs.Spans.{span-fits}
+use Rattle.louis_translate.proofs.Tilings.{Covers-append, some_cover}
+
+-- a longer front of the same choices has the cells of the next choice too
+longer_has_more : (f : Choice → List ℕ) (t more less rest : List Choice) (c : Choice) → t ++ c ∷ rest ≡ more ++ less → length t < length more → length (flat_map f t) + length (f c) ≤ length (flat_map f more)
+longer_has_more f [] [] less rest c e lt = absurd (omega arith)
+longer_has_more f [] (x ∷ more) less rest c e lt =
+    let same : c ≡ x = cc in
+    let both = length-append (f x) (flat_map f more) in
+    let here = ap (λ (y : Choice). length (f y)) same in
+    omega arith
+longer_has_more f (y ∷ t) [] less rest c e lt = absurd (omega arith)
+longer_has_more f (y ∷ t) (x ∷ more) less rest c e lt =
+    let same : y ≡ x = cc in
+    let tail : t ++ c ∷ rest ≡ more ++ less = cc in
+    let after = longer_has_more f t more less rest c tail (omega arith) in
+    let first = length-append (f y) (flat_map f t) in
+    let second = length-append (f x) (flat_map f more) in
+    let here = ap (λ (z : Choice). length (f z)) same in
+    omega arith
+
+-- all choices fit
+pub IsPart-whole : (meaning : Meaning) (print : List ℕ) (room i used : ℕ) (t : List Choice) (cells : List ℕ) → Covers meaning print 0 t i → i ≡ length print → used ≡ i → cells ≡ braille meaning print t → length cells ≤ room → IsPart meaning print room cells used
+IsPart-whole meaning print room i used t cells covers whole end made fits = record {
+  choices = t;
+  front = t;
+  tiles = subst (λ (n : ℕ). Covers meaning print 0 t n) whole covers;
+  longest = record {
+    others = [];
+    parts = sym (append-nil t);
+    fits = subst (λ (xs : List ℕ). length xs ≤ room) made fits;
+    longest = λ more less e h. let both = length-append more less in let all = ap length e in omega arith;
+  };
+  covers = subst (λ (n : ℕ). Covers meaning print 0 t n) (sym end) covers;
+  cells_are = made;
+}
+
+-- the next choice doesn't fit
+pub IsPart-cut : (meaning : Meaning) (print : List ℕ) (room i used : ℕ) (t : List Choice) (c : Choice) (cells : List ℕ) → Covers meaning print 0 t i → i < length print → IsChoiceAt meaning print i c → used ≡ i → cells ≡ braille meaning print t → length cells ≤ room → room < length cells + length (cells_of meaning print c) → IsPart meaning print room cells used
+IsPart-cut meaning print room i used t c cells covers lt next end made fits over =
+    let within = span-fits meaning print i c.rule lt next.chosen.candidate in
+    let last = next.end in
+    let rest = some_cover meaning print (length print) c.end (omega arith) (omega arith) in
+    let many : length cells ≡ length (braille meaning print t) = ap length made in
+    record {
+      choices = t ++ c ∷ rest.0;
+      front = t;
+      tiles = Covers-append meaning print 0 i (length print) t (c ∷ rest.0) covers (lt, next, rest.1);
+      longest = record {
+        others = c ∷ rest.0;
+        parts = refl;
+        fits = omega arith;
+        longest = λ more less e h. elim (cases_order (length more) (length t)) [
+          | inl same ↦ omega arith
+          | inr other ↦ elim other [
+            | inl less ↦ omega arith
+            | inr longer ↦ let has = longer_has_more (cells_of meaning print) t more less rest.0 c e longer in absurd (omega arith)
+          ]
+        ];
+      };
+      covers = subst (λ (n : ℕ). Covers meaning print 0 t n) (sym end) covers;
+      cells_are = made;
+    }

@@ -1,0 +1,75 @@
+-- Runs of elements that pass a test.
+use Rattle.std.proofs.Common.{◌≡◌, ℕ, zero, suc, ◌+◌, ◌-◌, ◌<◌, ◌≤◌, Bool, true, false, cond, List, [], ◌∷◌, length, take, drop, get_or, refl, ap, ◌∙◌, arith, inl, inr}
+use Rattle.std.specs.Prelude.{slice_get, nat_lt, map, Some}
+use Rattle.std.specs.List.{prefix_len}
+use Rattle.std.specs.Option.{option_map_or}
+use Rattle.std.proofs.Math.Seq.{drop-cons}
+use Rattle.std.proofs.lemmas.Bool.{cases_Bool}
+use Rattle.std.proofs.lemmas.Bool.Decides.{nat_tests}
+use Rattle.std.proofs.lemmas.List.{drop-drop}
+use Rattle.louis_table.specs.Meaning.{Meaning}
+use Rattle.louis_translate.specs.Position.{class_at, is_digit}
+use Rattle.louis_translate.specs.Sign.{is_capital, is_capital_at, run_end, capital_sign, sign_at}
+
+-- a run begins where an element passes
+passes_at : {X : Type 0} (p : X → Bool) (xs : List X) (i : ℕ) → option_map_or p (slice_get xs i) false ≡ nat_lt 0 (prefix_len p (drop i xs))
+passes_at p [] zero = refl
+passes_at p [] (suc i) = refl
+passes_at p (x ∷ xs) zero = elim (cases_Bool (p x)) [ inl e ↦ rw e (grind (arith, nat_tests)) | inr e ↦ rw e refl ]
+passes_at p (x ∷ xs) (suc i) = passes_at p xs i
+
+-- inside a run, the rest of it is the run
+prefix_len-drop_inside : {X : Type 0} (p : X → Bool) (xs : List X) (j : ℕ) → j ≤ prefix_len p xs → prefix_len p (drop j xs) + j ≡ prefix_len p xs
+prefix_len-drop_inside p xs zero h = omega arith
+prefix_len-drop_inside p [] (suc j) h = absurd (omega arith)
+prefix_len-drop_inside p (x ∷ xs) (suc j) h =
+    elim (cases_Bool (p x)) [
+      | inl e ↦
+          let here = rw e at h in
+          let rest = prefix_len-drop_inside p xs j (omega arith) in
+          rw e (omega arith)
+      | inr e ↦ let here = rw e at h in absurd (omega arith)
+    ]
+
+-- a capital stands where a run goes on
+pub is_capital_at-run : (meaning : Meaning) (print : List ℕ) (i : ℕ) → is_capital_at meaning print i ≡ nat_lt i (run_end meaning print i)
+is_capital_at-run meaning print i =
+    passes_at (is_capital meaning) print i ∙ grind (arith, nat_tests)
+
+-- each place of a run has its end
+pub run_end-inside : (meaning : Meaning) (print : List ℕ) (i k : ℕ) → i ≤ k → k < run_end meaning print i → run_end meaning print k ≡ run_end meaning print i
+run_end-inside meaning print i k le lt =
+    let p = is_capital meaning in
+    let there : drop (k - i) (drop i print) ≡ drop k print = drop-drop (k - i) i print ∙ ap (λ (n : ℕ). drop n print) (omega arith) in
+    let inside = prefix_len-drop_inside p (drop i print) (k - i) (omega arith) in
+    let same : prefix_len p (drop (k - i) (drop i print)) ≡ prefix_len p (drop k print) = ap (prefix_len p) there in
+    omega arith
+
+-- no capital stands at the end of a run
+pub run_end-end : (meaning : Meaning) (print : List ℕ) (i : ℕ) → run_end meaning print (run_end meaning print i) ≡ run_end meaning print i
+run_end-end meaning print i =
+    let n = prefix_len (is_capital meaning) (drop i print) in
+    let inside = prefix_len-drop_inside (is_capital meaning) (drop i print) n (omega arith) in
+    let same : prefix_len (is_capital meaning) (drop n (drop i print)) ≡ prefix_len (is_capital meaning) (drop (i + n) print) = ap (prefix_len (is_capital meaning)) (drop-drop n i print) in
+    omega arith
+
+second : {A : Type 0} (b c : Bool) (x y z : A) → b ≡ false → c ≡ true → cond b x (cond c y z) ≡ y
+second b c x y z p q = rw (p, q) refl
+
+third : {A : Type 0} (b c : Bool) (x y z : A) → b ≡ false → c ≡ false → cond b x (cond c y z) ≡ z
+third b c x y z p q = rw (p, q) refl
+
+pub sign_at-capital : (meaning : Meaning) (print : List ℕ) (i : ℕ) → is_digit (class_at meaning print i) ≡ false → i < run_end meaning print i → sign_at meaning print i ≡ capital_sign meaning print i
+sign_at-capital meaning print i digit lt =
+    second (is_digit (class_at meaning print i)) (is_capital_at meaning print i) _ _ _ digit (is_capital_at-run meaning print i ∙ grind (arith, nat_tests))
+
+pub sign_at-other : (meaning : Meaning) (print : List ℕ) (i : ℕ) → is_digit (class_at meaning print i) ≡ false → run_end meaning print i ≤ i → sign_at meaning print i ≡ []
+sign_at-other meaning print i digit le =
+    third (is_digit (class_at meaning print i)) (is_capital_at meaning print i) _ _ _ digit (is_capital_at-run meaning print i ∙ grind (arith, nat_tests))
+
+-- characters that a folded print has from a place on begin with the character there
+pub first_folded : (fold : ℕ → ℕ) (print : List ℕ) (i : ℕ) (chars : List ℕ) → i < length print → map fold (take (length chars) (drop i print)) ≡ chars → 0 < length chars → slice_get chars 0 ≡ Some (fold (get_or print i 0))
+first_folded fold print i [] lt e h = absurd (omega arith)
+first_folded fold print i (c ∷ chars) lt e h =
+    let there : fold (get_or print i 0) ∷ map fold (take (length chars) (drop (suc i) print)) ≡ c ∷ chars = rw (drop-cons print i 0) at e in
+    cc

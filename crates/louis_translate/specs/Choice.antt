@@ -1,0 +1,38 @@
+-- Which rule is chosen at a place of a print. A choice is the index of a rule, or none for the definition of the character there.
+use Rattle.std.specs.Prelude.{◌≡◌, ℕ, ◌+◌, ◌<◌, ◌≤◌, ◌⊎◌, true, List, [], length, take, drop, map, slice_get, Option, Some, None, IsSomeAnd}
+use Rattle.std.specs.Option.{option_map_or}
+use Rattle.louis_table.specs.Meaning.{Meaning, folded}
+use Rattle.louis_table.specs.declared.rule.Rule.{Rule}
+use Rattle.louis_translate.specs.Position.{fits}
+use Rattle.louis_translate.specs.Sign.{sign_at}
+
+-- the rule may be used at place i: its characters are the folded print's, its position test holds, and no sign stands inside it
+pub record Matches (meaning : Meaning) (print : List ℕ) (i : ℕ) (rule : Rule) : Type 0 where
+  pub characters : map (folded meaning) (take (length rule.chars) (drop i print)) ≡ rule.chars
+  pub position : fits meaning print rule.kind i (i + length rule.chars) ≡ true
+  pub unsigned : (k : ℕ) → i < k → k < i + length rule.chars → sign_at meaning print k ≡ []
+
+-- the definition of a character may always be used
+abbrev pub IsCandidate : Meaning → List ℕ → ℕ → Option ℕ → Type 0
+IsCandidate meaning print i None = Unit {0}
+IsCandidate meaning print i (Some k) = IsSomeAnd (slice_get meaning.rules k) (Matches meaning print i)
+
+-- how many characters a choice covers
+abbrev pub span : Meaning → Option ℕ → ℕ
+span meaning None = 1
+span meaning (Some k) = option_map_or (λ rule. length rule.chars) (slice_get meaning.rules k) 0
+
+-- its place among choices of one length: rules by line, then the definition
+abbrev pub rank : Meaning → Option ℕ → ℕ
+rank meaning None = length meaning.rules
+rank meaning (Some k) = k
+
+-- d is shorter than c, or as long and not earlier
+abbrev pub YieldsTo : Meaning → Option ℕ → Option ℕ → Type 0
+YieldsTo meaning d c =
+    (span meaning d < span meaning c) ⊎ ((span meaning d ≡ span meaning c) × (rank meaning c ≤ rank meaning d))
+
+-- c is a candidate, and each candidate yields to it
+pub record IsChosen (meaning : Meaning) (print : List ℕ) (i : ℕ) (c : Option ℕ) : Type 0 where
+  pub candidate : IsCandidate meaning print i c
+  pub first : (d : Option ℕ) → IsCandidate meaning print i d → YieldsTo meaning d c

@@ -1,0 +1,7 @@
+pub mod Position
+pub mod Sign
+pub mod Choice
+pub mod Remainder
+pub mod Tiling
+pub mod Braille
+pub mod Reading

@@ -1,0 +1,88 @@
+//! The choices that cover a print.
+ghost use Rattle.louis_translate.specs.Choice.{span as span_lem};
+ghost use Rattle.std.specs.Option.{ForSome};
+ghost use Rattle.std.specs.Prelude.{◌≡◌, ◌<◌, length};
+
+use super::rule_book::RuleBook;
+use louis_table::Table;
+use std::marker::Model;
+
+/// What stands for some characters of a print.
+#[derive(Clone, Copy, Debug, PartialEq, Eq)]
+pub struct Choice {
+    /// The index of the rule in the table's rules, or `None` for the definition of one character.
+    pub rule: Option<usize>,
+    /// The first place of the print that it covers, from 0.
+    pub start: usize,
+    /// The place after the last one that it covers.
+    pub end: usize,
+}
+
+/// The choices that cover a print from its front to its end, each chosen at its start. It takes no memory.
+#[derive(Drop)]
+pub struct Choices<'a, B: RuleBook> {
+    book: &'a B,
+    print: &'a [char],
+    at: usize,
+}
+
+impl<'a, B: RuleBook> Model for Choices<'a, B> {
+    ghost use Rattle.louis_translate.specs.Position.{AreDefined};
+    ghost use Rattle.louis_translate.specs.Remainder.{Remainder};
+    ghost use Rattle.std.specs.Prelude.{◌≤◌, length};
+
+    ghost Value = { Remainder };
+
+    ghost view = { λ c. record { meaning = B.meaning c.book.now; print = c.print.now; at = c.at } };
+
+    ghost invariant = { λ c. (c.at ≤ length c.print.now) × AreDefined (B.meaning c.book.now) c.print.now };
+}
+
+impl<'a, B: RuleBook> Choices<'a, B> {
+    ghost use Rattle.louis_translate.specs.Position.{AreDefined};
+    ghost use Rattle.std.specs.Prelude.{◌≡◌};
+
+    /// The choices of a print whose characters the table defines.
+    pub fn new(book: &'a B, print: &'a [char]) -> Self
+        requires { AreDefined (B.meaning book.now) print.now }
+        ensures { result ≡ record { meaning = B.meaning book.now; print = print.now; at = 0 } }
+    {
+        Choices { book, print, at: 0 }
+    }
+}
+
+impl<'a, B: RuleBook> Iterator for Choices<'a, B> {
+    ghost use Rattle.louis_translate.specs.Tiling.{IsChoiceAt};
+    ghost use Rattle.std.specs.Iterator.{at_most};
+    ghost use Rattle.std.specs.Prelude.{◌≡◌, ◌-◌, ◌<◌, length, MatchOption};
+
+    type Item = Choice;
+
+    ghost next_gives = { λ s r t. MatchOption r ((s.at ≡ length s.print) × (t ≡ s))
+        (λ choice. (s.at < length s.print) × IsChoiceAt s.meaning s.print s.at choice
+        × (t ≡ record s { at = choice.end })) };
+
+    ghost remaining = { λ s. at_most (length s.print - s.at) };
+
+    fn next(&mut self) -> Option<Choice> {
+        if self.at == self.print.len() {
+            return None;
+        }
+        let start = self.at;
+        let rule = self.book.best(self.print, start);
+        let end = start + span(self.book.table(), rule);
+        self.at = end;
+        Some(Choice { rule, start, end })
+    }
+}
+
+/// How many characters of a print a choice covers.
+fn span(table: &Table, rule: Option<usize>) -> usize
+    requires { ForSome rule (λ k. k < length table.now.rules) }
+    ensures { result ≡ span_lem table.now rule }
+{
+    match rule {
+        None => 1,
+        Some(index) => table.rules()[index].chars.as_slice().len(),
+    }
+}

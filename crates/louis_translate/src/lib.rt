@@ -1,0 +1,38 @@
+//! Translates print to braille by a table: which rules and definitions stand for the characters of a print,
+//! which cells they make, and which places of print and cells belong together.
+//!
+//! At each place the longest rule or definition that may be used there is chosen, and the next choice begins
+//! where it ends. The choices so cover the print without gap or overlap; their cells, each with the sign
+//! before its start, are the braille.
+//!
+//! ```rust
+//! use louis_table::{EN, Table};
+//! use louis_translate::{PlainRules, translate, translate_string};
+//!
+//! let book = PlainRules::new(Table::read(alloc, EN.as_bytes())?);
+//! let translation = translate(alloc, &book, "Hello")?;
+//! assert_eq!(rt; translation.cells.as_slice()[1].to_unicode(), '⠓');
+//! let part = translate_string(alloc, &book, "Hello", 3)?;
+//! assert_eq!(rt; part.used, 2);
+//! ```
+//!
+//! A rule book is a table with a way to find the chosen rule: all else is proved once over [`RuleBook`].
+//! Reading tables is left to `louis_table`; lines, books and pages to the crates above.
+#![tactic(auto)]
+
+mod choices;
+pub mod laws;
+mod places;
+mod plain_rules;
+mod position;
+mod print;
+mod rule_book;
+mod sign;
+mod translation;
+
+pub use choices::{Choice, Choices};
+pub use places::Places;
+pub use plain_rules::PlainRules;
+pub use print::Fault;
+pub use rule_book::RuleBook;
+pub use translation::{Part, Translation, translate, translate_string};

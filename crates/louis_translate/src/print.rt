@@ -1,0 +1,61 @@
+//! The characters of a text, all defined by a table.
+ghost use Rattle.louis_translate.specs.Position.{AreDefined, IsFirstUndefined};
+ghost use Rattle.std.specs.Prelude.{◌≡◌, ◌↔◌, ℕ, Err, IfNone, IfOk, IfSome, OnOk};
+ghost use Rattle.std.specs.Str.{chars};
+
+use louis_table::Table;
+use std::alloc::{AllocError, Global};
+use thiserror::Error;
+
+/// Why a print was not translated.
+#[derive(Clone, Copy, Debug, PartialEq, Eq, Error)]
+pub enum Fault {
+    /// The table doesn't define a character of the print.
+    #[error("the character at place {place} is not defined")]
+    Undefined {
+        /// The smallest place of such a character, from 0.
+        place: usize,
+    },
+    /// An allocation was refused.
+    #[error("out of memory")]
+    NoMemory,
+}
+
+/// The first place whose character the table doesn't define.
+fn first_undefined(table: &Table, text: &str) -> Option<usize>
+    ensures none { IfNone result (AreDefined table.now (chars text.now)) }
+    ensures some { IfSome result (IsFirstUndefined table.now (chars text.now)) }
+{
+    let mut place = 0;
+    for character in text.chars() {
+        if table.definition(character).is_none() {
+            return Some(place);
+        }
+        place += 1;
+    }
+    None
+}
+
+/// The characters of a text.
+fn characters(alloc: Global, text: &str) -> Result<Vec<char>, AllocError>
+    ensures { IfOk result (λ print. print.items ≡ chars text.now) }
+{
+    text.chars().collect(alloc)
+}
+
+/// The characters of a text, judged before any memory is asked for.
+pub(crate) fn defined_characters(
+    alloc: Global,
+    table: &Table,
+    text: &str,
+) -> Result<Vec<char>, Fault>
+    ensures characters { IfOk result (λ print. print.items ≡ chars text.now) }
+    ensures defined { OnOk result (AreDefined table.now (chars text.now)) }
+    ensures undefined { (place : ℕ)
+        → (result ≡ Err (Fault.Undefined place)) ↔ IsFirstUndefined table.now (chars text.now) place }
+{
+    if let Some(place) = first_undefined(table, text) {
+        return Err(Fault::Undefined { place });
+    }
+    characters(alloc, text).map_err(|_| Fault::NoMemory)
+}
