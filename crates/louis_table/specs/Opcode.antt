@@ -1,4 +1,4 @@
--- The opcodes, their names, and how many operands they take.
+-- The opcodes and their names.
 use Rattle.std.specs.Prelude.{ℕ, List, codes}
 use Rattle.louis_table.specs.declared.definition.Class.{Class}
 use Rattle.louis_table.specs.declared.definition.Class.TheVariants.{Space, Punctuation, Digit, Letter}

@@ -1,4 +1,4 @@
-//! Rules that replace several characters of print by cells of their own.
+//! Rules that replace characters of print by cells of their own.
 use cell_core::Cells;
 use std::marker::Model;
 
