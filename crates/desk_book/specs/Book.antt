@@ -1,0 +1,57 @@
+-- A book: what was typed, corrected and marked, and nothing that follows from that.
+use Rattle.std.specs.Prelude.{ℕ, nat_eq, Bool, List, [], Option}
+use Rattle.std.specs.Map.{lookup}
+use Rattle.std.specs.List.{find}
+use Rattle.std.specs.Cmp.Lexicographic.{pointwise}
+use Rattle.desk_book.specs.declared.style.Style.{Style}
+
+-- so many characters of a print, from a place on, become a text
+pub record Replacement : Type 0 where
+  pub start : ℕ
+  pub count : ℕ
+  pub text : List ℕ
+
+-- an entry of a paragraph's history: a correction, or the undo of the correction with this number
+pub data Entry : Type 0 where
+  Corrects : Replacement → Entry
+  Undoes : ℕ → Entry
+
+-- the original is the text as it was typed; the entries of the history have the numbers 1, 2, ..
+pub record Paragraph : Type 0 where
+  pub id : ℕ
+  pub table : List ℕ
+  pub original : List ℕ
+  pub history : List Entry
+  pub style : Style
+  pub begins_volume : Bool
+  pub struck : Bool
+
+-- a proofreader's note on the places from start up to end of a paragraph's print
+pub record Mark : Type 0 where
+  pub id : ℕ
+  pub paragraph : ℕ
+  pub start : ℕ
+  pub end : ℕ
+  pub note : List ℕ
+  pub touched : Bool
+  pub resolved : Bool
+
+-- the texts of the tables stand in the order of their names, the paragraphs in the order of the book, the marks in
+-- the order of their ids
+pub record Book : Type 0 where
+  pub version : ℕ
+  pub tables : List (List ℕ × List ℕ)
+  pub paragraphs : List Paragraph
+  pub marks : List Mark
+
+-- the text of the table with this name, if there is one
+abbrev pub text_of : Book → List ℕ → Option (List ℕ)
+text_of book name = lookup (pointwise nat_eq name) book.tables
+
+-- the paragraph with this id, if there is one
+abbrev pub paragraph_of : Book → ℕ → Option Paragraph
+paragraph_of book id = find (λ paragraph. nat_eq paragraph.id id) book.paragraphs
+
+-- a book without anything
+abbrev pub empty_book : Book
+empty_book = record { version = 0; tables = []; paragraphs = []; marks = [] }

@@ -1,0 +1,9 @@
+pub mod Book
+pub mod Print
+pub mod Marks
+pub mod Stored
+pub mod Sound
+pub mod Refusals
+pub mod Step
+pub mod After
+pub mod Shown

@@ -1,0 +1,24 @@
+-- How marks move with the print that they stand on.
+use Rattle.std.specs.Prelude.{ℕ, ◌+◌, ◌-◌, nat_le, true, if◌then◌else◌, length, min, max}
+use Rattle.desk_book.specs.Book.{Replacement, Mark}
+
+-- the mark after so many characters from a place on gave way to others: a mark before them stays; one behind them
+-- moves with the print behind them; any other then covers what it covered and all that came, and is touched for good
+abbrev pub moved_by : (start removed added : ℕ) → Mark → Mark
+moved_by start removed added mark =
+    if nat_le mark.end start then mark
+    else (if nat_le (start + removed) mark.start
+    then record mark { start = mark.start - removed + added; end = mark.end - removed + added }
+    else record mark {
+      start = min mark.start start;
+      end = max mark.end (start + removed) - removed + added;
+      touched = true;
+    })
+
+-- the mark after a replacement
+abbrev pub moved : Replacement → Mark → Mark
+moved r = moved_by r.start r.count (length r.text)
+
+-- the mark after the replacement was taken back
+abbrev pub moved_back : Replacement → Mark → Mark
+moved_back r = moved_by r.start (length r.text) r.count

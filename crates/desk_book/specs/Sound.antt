@@ -1,0 +1,96 @@
+-- What is true of each book that the commands can make.
+use Rattle.std.specs.Prelude.{◌≡◌, ℕ, ◌+◌, ◌<◌, ◌≤◌, Bool, List, length, map, take, slice_get, Option, Some, None}
+use Rattle.std.specs.Ordering.{nat_cmp}
+use Rattle.std.specs.List.{All, last_or, range_with_len}
+use Rattle.std.specs.List.Sorted.{IsPermutation, IsStrictlySortedBy}
+use Rattle.std.specs.Cmp.Lexicographic.{slice_cmp}
+use Rattle.louis_table.specs.Meaning.{Meaning}
+use Rattle.louis_table.specs.Table.{Means}
+use Rattle.louis_translate.specs.Position.{AreDefined}
+use Rattle.desk_book.specs.Book.{Replacement, Entry, Corrects, Undoes, Paragraph, Mark, Book, text_of, paragraph_of}
+use Rattle.desk_book.specs.Print.{corrected, print_of, replaced, stack}
+use Rattle.desk_book.specs.Stored.{IsClean, IsTableName}
+
+-- ---- the limits
+
+abbrev pub most_version : ℕ
+most_version = 9007199254740992
+
+abbrev pub most_tables : ℕ
+most_tables = 16
+
+-- struck ones counted
+abbrev pub most_paragraphs : ℕ
+most_paragraphs = 20000
+
+-- characters of a print
+abbrev pub most_print : ℕ
+most_print = 4000
+
+-- entries of a paragraph's history
+abbrev pub most_entries : ℕ
+most_entries = 10000
+
+abbrev pub most_marks : ℕ
+most_marks = 100000
+
+-- characters of a note
+abbrev pub most_note : ℕ
+most_note = 500
+
+-- ---- histories
+
+-- the number of the newest correction in force, if there is one
+abbrev pub newest : List Entry → Option ℕ
+newest history = last_or None (map (λ correction. correction.0) (stack history))
+
+-- after the entries before it, a correction replaces characters that are there by a clean text, and an undo names the
+-- newest correction then in force
+abbrev pub IsSoundEntry : List ℕ → List Entry → Entry → Type 0
+IsSoundEntry original before (Corrects r) = (r.start + r.count ≤ length (corrected original before)) × IsClean r.text
+IsSoundEntry original before (Undoes n) = newest before ≡ Some n
+
+pub record IsSoundHistory (original : List ℕ) (history : List Entry) : Type 0 where
+  pub few : length history ≤ most_entries
+  pub entries : (i : ℕ) (entry : Entry) → slice_get history i ≡ Some entry → IsSoundEntry original (take i history) entry
+  pub short : (i : ℕ) → i ≤ length history → length (corrected original (take i history)) ≤ most_print
+
+-- ---- the parts of a book
+
+-- a table has a name and a text with a meaning
+pub record IsSoundTable (entry : List ℕ × List ℕ) : Type 0 where
+  pub named : IsTableName entry.0
+  pub meaning : Meaning
+  pub means : Means entry.1 meaning
+
+-- the paragraph's table is one of the book's, and defines its print
+pub record IsSoundParagraph (book : Book) (paragraph : Paragraph) : Type 0 where
+  pub clean : IsClean paragraph.original
+  pub history : IsSoundHistory paragraph.original paragraph.history
+  pub text : List ℕ
+  pub meaning : Meaning
+  pub found : text_of book paragraph.table ≡ Some text
+  pub means : Means text meaning
+  pub defined : AreDefined meaning (print_of paragraph)
+
+-- the mark stands on places of a print of the book
+pub record IsSoundMark (book : Book) (mark : Mark) : Type 0 where
+  pub paragraph : Paragraph
+  pub found : paragraph_of book mark.paragraph ≡ Some paragraph
+  pub ordered : mark.start ≤ mark.end
+  pub within : mark.end ≤ length (print_of paragraph)
+  pub clean : IsClean mark.note
+  pub short : length mark.note ≤ most_note
+
+-- the ids of paragraphs are 1, 2, .. in some order, those of marks in this order
+pub record IsSound (book : Book) : Type 0 where
+  pub version : book.version ≤ most_version
+  pub few_tables : length book.tables ≤ most_tables
+  pub few_paragraphs : length book.paragraphs ≤ most_paragraphs
+  pub few_marks : length book.marks ≤ most_marks
+  pub names : IsStrictlySortedBy (slice_cmp nat_cmp) (map (λ entry. entry.0) book.tables)
+  pub tables : All IsSoundTable book.tables
+  pub ids : IsPermutation (range_with_len 1 (length book.paragraphs)) (map (λ paragraph. paragraph.id) book.paragraphs)
+  pub paragraphs : All (IsSoundParagraph book) book.paragraphs
+  pub numbers : map (λ mark. mark.id) book.marks ≡ range_with_len 1 (length book.marks)
+  pub marks : All (IsSoundMark book) book.marks

@@ -1,0 +1,88 @@
+//! Why a command or a query is refused.
+use louis_table::TableFault;
+use thiserror::Error;
+
+/// What a book holds at most: a command that would add to it is refused.
+#[derive(Clone, Copy, Debug, PartialEq, Eq)]
+pub enum Limit {
+    /// 16 tables.
+    Tables,
+    /// 20,000 paragraphs, struck ones counted.
+    Paragraphs,
+    /// 10,000 entries in a paragraph's history.
+    Entries,
+    /// 100,000 marks.
+    Marks,
+    /// Version 2^53.
+    Version,
+}
+
+/// Why a command or a query is refused. A refusal changes nothing.
+#[derive(Clone, Copy, Debug, PartialEq, Eq, Error)]
+pub enum Refusal {
+    /// The book has another version than the one that was expected.
+    #[error("the book is at version {version}")]
+    Moved {
+        /// The book's version.
+        version: u64,
+    },
+    /// The name of a table has other characters than `a` to `z`, `0` to `9`, `_` and `-`, or not 1 to 32 of them.
+    #[error("this is no name of a table")]
+    BadName,
+    /// A text has a line feed, a carriage return or U+0000.
+    #[error("the text has a barred character at place {place}")]
+    BadText {
+        /// The first place of one in the text as it was given, from 0.
+        place: usize,
+    },
+    /// The book has no such paragraph.
+    #[error("there is no such paragraph")]
+    NoParagraph,
+    /// The book has no such table.
+    #[error("there is no such table")]
+    NoTable,
+    /// The book has no such mark.
+    #[error("there is no such mark")]
+    NoMark,
+    /// The paragraph is struck.
+    #[error("the paragraph is struck")]
+    Struck,
+    /// The paragraph is not struck.
+    #[error("the paragraph is not struck")]
+    NotStruck,
+    /// The mark is resolved.
+    #[error("the mark is resolved")]
+    Resolved,
+    /// The places or cells are not all there.
+    #[error("the places are not all there")]
+    BadSpan,
+    /// No correction of the paragraph is in force.
+    #[error("no correction is in force")]
+    NothingToUndo,
+    /// A print would have over 4,000 characters, or a note over 500.
+    #[error("the text is too long")]
+    TooLong,
+    /// The book is at a limit.
+    #[error("the book is full")]
+    Full(Limit),
+    /// The table's text is refused.
+    #[error("the table is refused")]
+    BadTable(TableFault),
+    /// The paragraph's table doesn't define a character of its print.
+    #[error("the character at place {place} is not defined")]
+    Undefined {
+        /// The first place of one, from 0.
+        place: usize,
+    },
+    /// A new text of a table doesn't define a character of the print of a paragraph that uses the table.
+    #[error("the character at place {place} of paragraph {paragraph} is not defined")]
+    Untranslatable {
+        /// The first such paragraph in the order of the book.
+        paragraph: u64,
+        /// The first place of one, from 0.
+        place: usize,
+    },
+    /// An allocation was refused.
+    #[error("out of memory")]
+    NoMemory,
+}
