@@ -3,6 +3,7 @@
 #![tactic(auto)]
 
 mod command;
+pub mod laws;
 mod refusal;
 mod style;
 mod text;
