@@ -4,6 +4,7 @@ pub mod Marks
 pub mod Stored
 pub mod Sound
 pub mod Refusals
+pub mod Judging
 pub mod Step
 pub mod After
 pub mod Shown
