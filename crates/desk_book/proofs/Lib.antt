@@ -1,2 +1,9 @@
 pub mod Histories
 pub mod Judging
+pub mod Members
+pub mod Numbering
+pub mod TableEntries
+pub mod ParagraphLists
+pub mod FirstUndefined
+pub mod SoundBooks
+pub mod Accepted
