@@ -1,10 +1,9 @@
 -- What is true of a command because no refusal holds of it.
-use Rattle.std.proofs.Common.{◌≡◌, ◌⊎◌, ℕ, ◌+◌, ◌<◌, ◌≤◌, Bool, true, false, List, [], ◌∷◌, length, get_or, Option, Some, None, Contains, refl, sym, ap, subst, ◌∙◌, arith, inl, inr}
+use Rattle.std.proofs.Common.{◌≡◌, ℕ, ◌<◌, ◌≤◌, List, length, get_or, Option, Some, None, Contains, refl, arith, inl, inr}
 use Rattle.std.specs.List.{All}
 use Rattle.std.proofs.lemmas.Bool.{cases_lt, true_from_ne_false, both_ways}
 use Rattle.louis_table.specs.Meaning.{Meaning}
 use Rattle.louis_table.specs.Table.{Means}
-use Rattle.louis_table.specs.declared.fault.TableFault.{TableFault}
 use Rattle.louis_table.proofs.OneMeaning.{some_meaning}
 use Rattle.louis_translate.specs.Position.{AreDefined}
 use Rattle.desk_book.specs.declared.command.Command.{Command}

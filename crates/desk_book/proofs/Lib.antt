@@ -7,3 +7,5 @@ pub mod ParagraphLists
 pub mod FirstUndefined
 pub mod SoundBooks
 pub mod Accepted
+pub mod SoundParagraphs
+pub mod SoundSteps

@@ -1,7 +1,7 @@
 -- Elements of lists, and the first that passes a test.
-use Rattle.std.proofs.Common.{◌≡◌, ◌⊎◌, ℕ, zero, suc, ◌<◌, Bool, true, false, cond, List, [], ◌∷◌, length, map, get_or, Option, Some, None, Contains, refl, sym, ap, ◌∙◌, arith, inl, inr}
-use Rattle.std.specs.List.{find, filter}
-use Rattle.std.specs.Prelude.{option_map, not}
+use Rattle.std.proofs.Common.{◌≡◌, ◌⊎◌, zero, suc, Bool, true, List, [], ◌∷◌, map, Some, Contains, refl, sym, ap, ◌∙◌, arith, inl, inr}
+use Rattle.std.specs.List.{find}
+use Rattle.std.specs.Prelude.{option_map}
 use Rattle.std.proofs.lemmas.Bool.{cases_Bool, cond-true, cond-false}
 use Rattle.std.proofs.lemmas.List.{length-map, get_or-map}
 
@@ -39,7 +39,7 @@ module _ {X : Type 0} where
           | inr h ↦ Contains-behind y x xs (Contains-find xs x (sym (cond-false (test y) (Some y) (find test xs) h) ∙ e))
         ]
 
-    -- what holds of an element that passes, the first that passes is found
+    -- where an element passes, one is found
     pub find-some : (xs : List X) (x : X) → Contains xs x → test x ≡ true → (first : X) × (find test xs ≡ Some first)
     find-some [] x c h = absurd (Contains-none x c)
     find-some (y ∷ xs) x c h =

@@ -1,21 +1,20 @@
 -- Paragraphs in a list, found by their ids.
-use Rattle.std.proofs.Common.{◌≡◌, ◌⊎◌, ℕ, zero, suc, ◌+◌, ◌<◌, ◌≤◌, Bool, true, false, cond, List, [], ◌∷◌, ◌++◌, length, map, Option, Some, None, Contains, refl, sym, ap, subst, ◌∙◌, arith, inl, inr, append-nil}
-use Rattle.std.specs.List.{All, find, filter, flat_map, IsDistinct, range_with_len}
+use Rattle.std.proofs.Common.{◌≡◌, ℕ, false, cond, List, [], ◌∷◌, ◌++◌, map, Option, Some, None, Contains, refl, sym, ap, subst, ◌∙◌, inl, inr}
+use Rattle.std.specs.List.{All, find, IsDistinct}
 use Rattle.std.specs.List.Sorted.{IsPermutation}
-use Rattle.std.specs.Prelude.{nat_eq, not, option_map, ◌≢◌, if◌then◌else◌, ◌==◌}
-use Rattle.std.specs.Cmp.{IsEquivalence}
-use Rattle.std.proofs.lemmas.Bool.{cases_Bool, cond-true, cond-false, cond_both, eqb-true, eq-eqb, ne_eqb}
+use Rattle.std.specs.Prelude.{nat_eq, not, option_map, ◌≢◌}
+use Rattle.std.specs.Option.{option_map_or}
+use Rattle.std.proofs.lemmas.Bool.{cases_Bool, cond-true, cond-false, cond_both, eqb-true, eqb-false, eq-eqb, ne_eqb}
 use Rattle.std.proofs.lemmas.Cmp.{nat_eq_equiv}
-use Rattle.std.proofs.lemmas.List.{length-map}
 use Rattle.std.proofs.lemmas.List.Elements.{All-from_recursion, All-contains, All-nil, All-cons, All-head, All-tail}
 use Rattle.std.proofs.lemmas.List.Sorted.{Contains-permutation, IsPermutation-refl, IsPermutation-sym, IsPermutation-trans, IsPermutation-cons, IsPermutation-map, IsPermutation-middle, IsPermutation-to_front}
 use Rattle.std.proofs.lemmas.Map.Keys.{IsDistinct-head, IsDistinct-tail, IsDistinct-IsPermutation}
 use Rattle.desk_book.specs.declared.command.After.{After}
 use Rattle.desk_book.specs.declared.command.After.TheVariants.{Front, End, Paragraph as Behind}
-use Rattle.desk_book.specs.Book.{Paragraph}
+use Rattle.desk_book.specs.Book.{Book, Paragraph, paragraph_of}
 use Rattle.desk_book.specs.Refusals.{paragraph_before}
-use Rattle.desk_book.specs.Step.{with_paragraph, without_paragraph, with_change}
-use Rattle.desk_book.proofs.Members.{Contains-here, Contains-behind, Contains-cases, Contains-none, Contains-map, find-passes, Contains-find, find-some, find-map}
+use Rattle.desk_book.specs.Step.{with_paragraph, without_paragraph, with_change, is_behind, moved_to}
+use Rattle.desk_book.proofs.Members.{Contains-here, Contains-behind, Contains-cases, Contains-none, Contains-map, find-passes, Contains-find, find-map}
 
 -- ---- the ids
 
@@ -199,3 +198,61 @@ IsPermutation-without_paragraph id p (q ∷ ps) apart e =
           (IsPermutation-cons q ps (p ∷ without_paragraph id ps) rest)
           (IsPermutation-middle (q ∷ []) p (without_paragraph id ps)))
     ]
+
+-- a paragraph more among the others, which have other ids
+module _ (after : After) (new : Paragraph) (ps : List Paragraph) (apart : AreApart (new ∷ ps)) (there : (id : ℕ) → Contains (paragraph_before after) id → Contains (ids_of ps) id) where
+  found-with_paragraph : (id : ℕ) → found id (with_paragraph after new ps) ≡ found id (new ∷ ps)
+  found-with_paragraph id =
+      found-permutation id (new ∷ ps) (with_paragraph after new ps) (IsPermutation-with_paragraph after new ps (AreApart-rest new ps apart) there) apart
+
+  pub found-new : found new.id (with_paragraph after new ps) ≡ Some new
+  found-new = found-with_paragraph new.id ∙ cond-true (nat_eq new.id new.id) (Some new) (found new.id ps) (eq-eqb new.id new.id refl)
+
+  pub found-old : (id : ℕ) → id ≢ new.id → found id (with_paragraph after new ps) ≡ found id ps
+  found-old id other = found-with_paragraph id ∙ cond-false (nat_eq new.id id) (Some new) (found id ps) (ne_eqb new.id id (λ same. other (sym same)))
+
+-- ---- a paragraph moved
+
+-- what a paragraph is to stand behind is among the others
+behind_others : (id : ℕ) (after : After) (p : Paragraph) (ps : List Paragraph) → AreApart ps → found id ps ≡ Some p → is_behind id after ≡ false
+    → ((other : ℕ) → Contains (paragraph_before after) other → (q : Paragraph) × (found other ps ≡ Some q))
+    → (other : ℕ) → Contains (paragraph_before after) other → Contains (ids_of (without_paragraph id ps)) other
+behind_others id Front p ps apart e elsewhere there other c = absurd (Contains-none other c)
+behind_others id End p ps apart e elsewhere there other c = absurd (Contains-none other c)
+behind_others id (Behind place) p ps apart e elsewhere there other c =
+    let q = there other c in
+    let is : q.0.id ≡ other = id-found other ps q.0 q.1 in
+    let among = Contains-permutation ps (p ∷ without_paragraph id ps) q.0 (IsPermutation-without_paragraph id p ps apart e) (Contains-found other ps q.0 q.1) in
+    elim (Contains-cases p q.0 (without_paragraph id ps) among) [
+      | inr rest ↦ subst (Contains (ids_of (without_paragraph id ps))) is (Contains-map (λ (r : Paragraph). r.id) (without_paragraph id ps) q.0 rest)
+      | inl same ↦ elim (Contains-cases place other [] c) [
+        | inr none ↦ absurd (Contains-none other none)
+        | inl at ↦ absurd (eqb-false place id elsewhere (at ∙ (sym is ∙ (ap (λ (r : Paragraph). r.id) (sym same) ∙ id-found id ps p e))))
+      ]
+    ]
+
+-- a paragraph that is moved behind one that is there, or to an end, changes its place alone
+pub IsPermutation-moved_to : (book : Book) (id : ℕ) (after : After) (p : Paragraph) → AreApart book.paragraphs → paragraph_of book id ≡ Some p
+    → ((other : ℕ) → Contains (paragraph_before after) other → (q : Paragraph) × (paragraph_of book other ≡ Some q))
+    → IsPermutation book.paragraphs (moved_to id after book)
+IsPermutation-moved_to book id after p apart e there =
+    let ps : List Paragraph = book.paragraphs in
+    let others : List Paragraph = without_paragraph id ps in
+    let put : Paragraph → List Paragraph = λ q. with_paragraph after q others in
+    let out = IsPermutation-without_paragraph id p ps apart e in
+    elim (cases_Bool (is_behind id after)) [
+      | inl same ↦ subst (IsPermutation ps) (sym (cond-true (is_behind id after) ps (option_map_or put (paragraph_of book id) ps) same)) (IsPermutation-refl ps)
+      | inr elsewhere ↦
+          let at : moved_to id after book ≡ put p =
+          cond-false (is_behind id after) ps (option_map_or put (paragraph_of book id) ps) elsewhere ∙ ap (λ (x : Option Paragraph). option_map_or put x ps) e in
+          subst (IsPermutation ps) (sym at)
+          (IsPermutation-trans ps (p ∷ others) (put p) out
+          (IsPermutation-with_paragraph after p others (AreApart-rest p others (AreApart-permutation ps (p ∷ others) out apart)) (behind_others id after p ps apart e elsewhere there)))
+    ]
+
+-- all paragraphs are found as before
+pub found-moved_to : (book : Book) (id : ℕ) (after : After) (p : Paragraph) → AreApart book.paragraphs → paragraph_of book id ≡ Some p
+    → ((other : ℕ) → Contains (paragraph_before after) other → (q : Paragraph) × (paragraph_of book other ≡ Some q))
+    → (other : ℕ) → found other (moved_to id after book) ≡ paragraph_of book other
+found-moved_to book id after p apart e there other =
+    found-permutation other book.paragraphs (moved_to id after book) (IsPermutation-moved_to book id after p apart e there) apart

@@ -1,12 +1,11 @@
 -- What is found in a sound book.
-use Rattle.std.proofs.Common.{◌≡◌, ℕ, ◌+◌, ◌≤◌, List, length, Option, Some, None, Contains, refl, sym, subst, ◌∙◌, arith}
-use Rattle.std.specs.List.{All}
+use Rattle.std.proofs.Common.{◌≡◌, ℕ, ◌≤◌, List, length, Option, Some, None, Contains, refl, subst}
 use Rattle.std.proofs.lemmas.List.Elements.{All-contains}
 use Rattle.desk_book.specs.Book.{Book, Paragraph, text_of, paragraph_of}
 use Rattle.desk_book.specs.Sound.{IsSound, IsSoundTable, IsSoundParagraph}
 use Rattle.desk_book.proofs.Members.{Contains-map}
 use Rattle.desk_book.proofs.Numbering.{IsDistinct-numbers, Contains-numbers, within-numbers}
-use Rattle.desk_book.proofs.ParagraphLists.{AreApart, ids_of, found, id-found, Contains-found, found-some, found-own}
+use Rattle.desk_book.proofs.ParagraphLists.{AreApart, ids_of, id-found, Contains-found, found-some, found-own}
 use Rattle.desk_book.proofs.TableEntries.{Contains-text}
 
 module _ (book : Book) (sound : IsSound book) where

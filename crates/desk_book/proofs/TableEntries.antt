@@ -1,5 +1,5 @@
 -- Entries in the order of their keys: what is found among them, and what they are after one is put.
-use Rattle.std.proofs.Common.{◌≡◌, ℕ, ◌+◌, Bool, true, false, cond, List, [], ◌∷◌, length, map, Option, Some, None, Ordering, Contains, refl, sym, ap, subst, ◌∙◌, arith}
+use Rattle.std.proofs.Common.{◌≡◌, ℕ, ◌+◌, Bool, true, false, cond, List, [], ◌∷◌, length, Option, Some, None, Ordering, Contains, refl, sym, ap, subst, ◌∙◌}
 use Rattle.std.specs.Prelude.{T, ◌&&◌, ◌≢◌, nat_eq, is_some}
 use Rattle.std.specs.Bool.{Decides}
 use Rattle.std.specs.Cmp.{IsTotalOrder, unsigned_ties, unsigned_Decides}
@@ -13,7 +13,7 @@ use Rattle.std.specs.Ordering.{nat_cmp, is_lt, eq_by_cmp}
 use Rattle.std.specs.declared.cmp.Ordering.TheVariants.{Less, Equal, Greater}
 use Rattle.std.proofs.lemmas.Bool.{cond-true, cond-false, false_from_ne_true}
 use Rattle.std.proofs.lemmas.Cmp.{nat_list_cmp_total}
-use Rattle.std.proofs.lemmas.List.Elements.{All-nil, All-cons, All-head, All-tail}
+use Rattle.std.proofs.lemmas.List.Elements.{All-cons, All-head, All-tail}
 use Rattle.std.proofs.lemmas.Map.Views.{Contains-from_lookup}
 
 -- ---- entries in order
