@@ -2,12 +2,18 @@
 //! what is shown of them.
 #![tactic(auto)]
 
+mod book;
+mod change;
 mod command;
+mod paragraphs;
 mod refusal;
 mod style;
+mod tables;
 mod text;
 
-pub use command::{After, Command};
+pub use book::Book;
+pub use change::Change;
+pub use command::{Anchor, Command};
 pub use refusal::{Limit, Refusal};
 pub use style::Style;
 pub use text::{Bytes, Text};
