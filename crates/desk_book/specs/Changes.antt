@@ -29,8 +29,8 @@ AreCellsOf meaning print cells = (choices : List Choice) × Tiles meaning print 
 abbrev pub AreRenewed : Book → List ℕ → Meaning → List (Option (List ℕ)) → Type 0
 AreRenewed book name meaning cells =
     All (λ paragraph. MatchOption (new_cells cells paragraph.id)
-      (paragraph.table ≢ name)
-      (λ new. (paragraph.table ≡ name) × AreCellsOf meaning (print_of paragraph) new)) book.paragraphs
+    (paragraph.table ≢ name)
+    (λ new. (paragraph.table ≡ name) × AreCellsOf meaning (print_of paragraph) new)) book.paragraphs
 
 -- a paragraph as it is kept when it was just typed
 pub record IsKeptTyped (book : Book) (table text : List ℕ) (kept : KeptParagraph) : Type 0 where
@@ -65,7 +65,7 @@ Does book command next (AddParagraph paragraph room order) =
     × (order ≡ map (λ other. other.id) next.paragraphs)
 Does book command next (SetFlags id style begins struck) =
     next ≡ next_with_paragraphs book
-      (with_change id (λ p. record p { style = style; begins_volume = begins; struck = struck }) book.paragraphs)
+    (with_change id (λ p. record p { style = style; begins_volume = begins; struck = struck }) book.paragraphs)
 Does book command next (ChangeTable id table cells) = (command ≡ Retable id table) × AreCellsByTable book id table cells
 Does book command next (Reorder order) =
     (id : ℕ) × (anchor : Anchor) × (command ≡ Move id anchor) × (order ≡ map (λ other. other.id) next.paragraphs)

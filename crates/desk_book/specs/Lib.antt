@@ -11,3 +11,5 @@ pub mod After
 pub mod Translated
 pub mod Kept
 pub mod Changes
+pub mod Planned
+pub mod Listed

@@ -26,7 +26,7 @@ pub enum Command {
     /// Types a new paragraph.
     TypeIn {
         /// Where it is put.
-        after: Anchor,
+        anchor: Anchor,
         /// The name of its table.
         table: Text,
         /// What is typed; the print is its Unicode normal form C.
@@ -68,6 +68,6 @@ pub enum Command {
         /// The paragraph.
         paragraph: u64,
         /// Where it is put.
-        after: Anchor,
+        anchor: Anchor,
     },
 }

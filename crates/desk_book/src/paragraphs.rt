@@ -166,7 +166,12 @@ impl Paragraphs {
     }
 
     /// The order with a paragraph taken out and put where a command says; behind itself it stays.
-    pub(crate) fn order_with_move(&self, alloc: Global, id: u64, after: Anchor) -> Result<Order, AllocError>
+    pub(crate) fn order_with_move(
+        &self,
+        alloc: Global,
+        id: u64,
+        after: Anchor,
+    ) -> Result<Order, AllocError>
         requires { 0 < id }
         ensures { IfOk result (λ order. order ≡ with_id_moved after id (ids self.now)) }
     {
