@@ -6,6 +6,7 @@ pub mod Name
 pub mod Stored
 pub mod Sound
 pub mod Refusals
+pub mod Judging
 pub mod Step
 pub mod After
 pub mod Translated

@@ -22,6 +22,7 @@ mod book;
 mod braille;
 mod change;
 mod command;
+pub mod laws;
 mod limits;
 mod list;
 mod paragraphs;
