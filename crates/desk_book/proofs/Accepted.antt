@@ -1,5 +1,5 @@
 -- What is true of a command because no refusal holds of it.
-use Rattle.std.proofs.Common.{◌≡◌, ℕ, ◌<◌, ◌≤◌, List, length, get_or, Option, Some, None, Contains, refl, arith, inl, inr}
+use Rattle.std.proofs.Common.{◌≡◌, ℕ, ◌<◌, ◌≤◌, List, length, get_or, Option, Some, None, Contains, true, refl, arith, inl, inr}
 use Rattle.std.specs.List.{All}
 use Rattle.std.proofs.lemmas.Bool.{cases_lt, true_from_ne_false, both_ways}
 use Rattle.louis_table.specs.Meaning.{Meaning}
@@ -10,20 +10,20 @@ use Rattle.desk_book.specs.declared.command.Command.{Command}
 use Rattle.desk_book.specs.declared.refusal.Limit.TheVariants.{Tables, Paragraphs, Version}
 use Rattle.desk_book.specs.declared.refusal.Refusal.TheVariants.{BadName, NoParagraph, NoTable, TooLong, Full, BadTable, Undefined, Untranslatable}
 use Rattle.desk_book.specs.Book.{Book, Paragraph, text_of, paragraph_of}
-use Rattle.desk_book.specs.Refusals.{IsAccepted, table_given, text_given, paragraphs_named, table_named, print_shown}
-use Rattle.desk_book.specs.Sound.{most_version, most_tables, most_paragraphs, most_print}
-use Rattle.desk_book.specs.Stored.{IsTableName, is_name_character, most_name_characters, stored}
+use Rattle.desk_book.specs.Limits.{most_version, most_tables, most_name, most_paragraphs, most_print}
+use Rattle.desk_book.specs.Name.{IsTableName, is_name_character}
+use Rattle.desk_book.specs.Refusals.{IsAccepted, table_given, adds_paragraph, paragraphs_named, table_named, new_print, print_to_translate}
 use Rattle.desk_book.proofs.FirstUndefined.{DefinesUser, defined_or_first, all_or_first_user}
 
 -- a name that isn't none is one
 IsTableName-stable : (name : List ℕ) → ¬ (¬ IsTableName name) → IsTableName name
 IsTableName-stable name twice = record {
-  some = elim (cases_lt 0 (length name)) [
+  nonempty = elim (cases_lt 0 (length name)) [
     | inl h ↦ h
-    | inr h ↦ absurd (twice (λ named. let some = named.some in omega arith))
+    | inr h ↦ absurd (twice (λ named. let nonempty = named.nonempty in omega arith))
   ];
-  few = elim (cases_lt most_name_characters (length name)) [
-    | inl h ↦ absurd (twice (λ named. let few = named.few in omega arith))
+  short = elim (cases_lt most_name (length name)) [
+    | inl h ↦ absurd (twice (λ named. let short = named.short in omega arith))
     | inr h ↦ h
   ];
   characters = λ k d within. true_from_ne_false (is_name_character (get_or name k d)) (λ e. twice (λ named. both_ways (is_name_character (get_or name k d)) e (named.characters k d within)));
@@ -54,48 +54,46 @@ module _ (book : Book) (expect : Option ℕ) (command : Command) (accepted : IsA
       by None e = absurd (accepted NoTable (record { name = name; named = named; missing = e }))
 
   -- the print that it gives to a paragraph is defined
-  pub shown_defined : (print name text : List ℕ) (meaning : Meaning) → print_shown book command ≡ Some (print, name) → text_of book name ≡ Some text → Means text meaning → AreDefined meaning print
+  pub shown_defined : (print name text : List ℕ) (meaning : Meaning) → print_to_translate book command ≡ Some (print, name) → text_of book name ≡ Some text → Means text meaning → AreDefined meaning print
   shown_defined print name text meaning shown found means =
       elim (defined_or_first meaning print) [
         | inl defined ↦ defined
-        | inr first ↦ absurd (accepted (Undefined first.0) (record { print = print; name = name; shown = shown; text = text; meaning = meaning; found = found; means = means; first = first.1 }))
+        | inr first ↦ absurd (accepted (Undefined first.0) (record { print = print; name = name; print_is = shown; text = text; meaning = meaning; found = found; means = means; first = first.1 }))
       ]
 
-  -- ---- a text that is typed
+  -- the print that it gives to a paragraph is short
+  pub short_print : (print : List ℕ) → new_print book command ≡ Some print → length print ≤ most_print
+  short_print print made =
+      elim (cases_lt most_print (length print)) [
+        | inl long ↦ absurd (accepted TooLong (record { print = print; made = made; long = long }))
+        | inr h ↦ h
+      ]
 
-  module _ (text : List ℕ) (given : text_given command ≡ Some text) where
-    pub short_text : length (stored text) ≤ most_print
-    short_text =
-        elim (cases_lt most_print (length (stored text))) [
-          | inl long ↦ absurd (accepted TooLong (record { text = text; given = given; long = long }))
-          | inr h ↦ h
-        ]
-
-    pub room_for_paragraph : length book.paragraphs < most_paragraphs
-    room_for_paragraph =
-        elim (cases_lt (length book.paragraphs) most_paragraphs) [
-          | inl h ↦ h
-          | inr full ↦ absurd (accepted (Full Paragraphs) (record { text = text; given = given; full = full }))
-        ]
+  pub room_for_paragraph : adds_paragraph command ≡ true → length book.paragraphs < most_paragraphs
+  room_for_paragraph adds =
+      elim (cases_lt (length book.paragraphs) most_paragraphs) [
+        | inl h ↦ h
+        | inr full ↦ absurd (accepted (Full Paragraphs) (record { adds = adds; full = full }))
+      ]
 
   -- ---- the text of a table
 
   module _ (name text : List ℕ) (given : table_given command ≡ Some (name, text)) where
     pub given_name : IsTableName name
-    given_name = IsTableName-stable name (λ bad. accepted BadName (record { table = (name, text); given = given; bad = bad }))
+    given_name = IsTableName-stable name (λ bad. accepted BadName (record { name = name; text = text; given = given; bad = bad }))
 
     pub given_meaning : (meaning : Meaning) × Means text meaning
     given_meaning =
         elim (some_meaning text) [
           | inl h ↦ h
-          | inr bad ↦ absurd (accepted (BadTable (record { line = bad.0; cause = bad.1 })) (record { table = (name, text); given = given; bad = bad.2 }))
+          | inr bad ↦ absurd (accepted (BadTable (record { line = bad.0; cause = bad.1 })) (record { name = name; text = text; given = given; bad = bad.2 }))
         ]
 
     pub room_for_table : text_of book name ≡ None → length book.tables < most_tables
     room_for_table new =
         elim (cases_lt (length book.tables) most_tables) [
           | inl h ↦ h
-          | inr full ↦ absurd (accepted (Full Tables) (record { table = (name, text); given = given; new = new; full = full }))
+          | inr full ↦ absurd (accepted (Full Tables) (record { name = name; text = text; given = given; new = new; full = full }))
         ]
 
     -- by its new text the table defines the print of each paragraph that uses it
@@ -104,7 +102,8 @@ module _ (book : Book) (expect : Option ℕ) (command : Command) (accepted : IsA
         elim (all_or_first_user meaning name book.paragraphs) [
           | inl all ↦ all
           | inr found ↦ absurd (accepted (Untranslatable found.paragraph.id found.place) (record {
-            table = (name, text);
+            name = name;
+            text = text;
             given = given;
             meaning = meaning;
             means = means;

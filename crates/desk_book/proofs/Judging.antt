@@ -14,7 +14,7 @@ use Rattle.desk_book.specs.declared.refusal.Refusal.TheVariants.{Moved, BadName,
 use Rattle.louis_table.specs.declared.fault.TableFault.{TableFault}
 use Rattle.desk_book.specs.Book.{Book}
 use Rattle.desk_book.specs.Judging.{Passes}
-use Rattle.desk_book.specs.Refusals.{Holds, turn, IsRefused, IsAccepted, IsMoved, IsBadName, IsBadText, IsNoParagraph, IsNoTable, IsStruck, IsNotStruck, IsTooLong, IsFull, IsFullOfTables, IsFullOfParagraphs, IsBadTable, IsUndefined, IsUntranslatable}
+use Rattle.desk_book.specs.Refusals.{Holds, turn, IsRefused, IsAccepted, IsMoved, IsBadName, IsBadText, LacksParagraph, LacksTable, IsStruck, IsNotStruck, IsTooLong, IsFull, IsFullOfTables, IsFullOfParagraphs, IsBadTable, IsUndefined, IsUntranslatable}
 
 -- ---- limits
 
@@ -82,11 +82,11 @@ module _ (book : Book) (expect : Option ℕ) (command : Command) where
   Passes-bad_text p none (BadText place) h = absurd (none place h)
   Passes-bad_text p none other h = let after = p other h in omega arith
 
-  pub Passes-no_paragraph : Passes book expect command 3 → ¬ IsNoParagraph book command → Passes book expect command 4
+  pub Passes-no_paragraph : Passes book expect command 3 → ¬ LacksParagraph book command → Passes book expect command 4
   Passes-no_paragraph p none NoParagraph h = absurd (none h)
   Passes-no_paragraph p none other h = let after = p other h in omega arith
 
-  pub Passes-no_table : Passes book expect command 4 → ¬ IsNoTable book command → Passes book expect command 5
+  pub Passes-no_table : Passes book expect command 4 → ¬ LacksTable book command → Passes book expect command 5
   Passes-no_table p none NoTable h = absurd (none h)
   Passes-no_table p none other h = let after = p other h in omega arith
 
@@ -98,7 +98,7 @@ module _ (book : Book) (expect : Option ℕ) (command : Command) where
   Passes-not_struck p none NotStruck h = absurd (none h)
   Passes-not_struck p none other h = let after = p other h in omega arith
 
-  pub Passes-too_long : Passes book expect command 11 → ¬ IsTooLong command → Passes book expect command 12
+  pub Passes-too_long : Passes book expect command 11 → ¬ IsTooLong book command → Passes book expect command 12
   Passes-too_long p none TooLong h = absurd (none h)
   Passes-too_long p none (Full limit) h = let turns = limit_turn limit in omega arith
   Passes-too_long p none other h = let after = p other h in omega arith
@@ -130,13 +130,13 @@ module _ (book : Book) (expect : Option ℕ) (command : Command) where
 -- the turns of the refusals that can hold of the command
 abbrev pub turns : Command → List ℕ
 turns (Table name text) = 0 ∷ 1 ∷ 12 ∷ 16 ∷ 17 ∷ 19 ∷ []
-turns (TypeIn after table text) = 0 ∷ 2 ∷ 3 ∷ 4 ∷ 11 ∷ 13 ∷ 16 ∷ 18 ∷ []
+turns (TypeIn anchor table text) = 0 ∷ 2 ∷ 3 ∷ 4 ∷ 11 ∷ 13 ∷ 16 ∷ 18 ∷ []
 turns (Strike id) = 0 ∷ 3 ∷ 6 ∷ 16 ∷ []
 turns (Restore id) = 0 ∷ 3 ∷ 7 ∷ 16 ∷ []
 turns (Style id style) = 0 ∷ 3 ∷ 16 ∷ []
 turns (Volume id begins) = 0 ∷ 3 ∷ 16 ∷ []
 turns (Retable id table) = 0 ∷ 3 ∷ 4 ∷ 6 ∷ 16 ∷ 18 ∷ []
-turns (Move id after) = 0 ∷ 3 ∷ 16 ∷ []
+turns (Move id anchor) = 0 ∷ 3 ∷ 16 ∷ []
 
 -- it is one of the turns of the command
 abbrev is_turn : Command → ℕ → Bool
@@ -152,15 +152,15 @@ module _ (book : Book) (expect : Option ℕ) where
   name_turn command h = cc h.given
 
   text_turn : (command : Command) (place : ℕ) → IsBadText command place → is_turn command 2 ≡ true
-  text_turn (TypeIn after table text) place h = refl
+  text_turn (TypeIn anchor table text) place h = refl
   text_turn command place h = cc h.given
 
-  paragraph_turn : (command : Command) → IsNoParagraph book command → is_turn command 3 ≡ true
+  paragraph_turn : (command : Command) → LacksParagraph book command → is_turn command 3 ≡ true
   paragraph_turn (Table name text) h = let none = h.named.1 in absurd (omega arith)
   paragraph_turn command h = refl
 
-  table_turn : (command : Command) → IsNoTable book command → is_turn command 4 ≡ true
-  table_turn (TypeIn after table text) h = refl
+  table_turn : (command : Command) → LacksTable book command → is_turn command 4 ≡ true
+  table_turn (TypeIn anchor table text) h = refl
   table_turn (Retable id table) h = refl
   table_turn command h = cc h.named
 
@@ -173,17 +173,17 @@ module _ (book : Book) (expect : Option ℕ) where
   not_struck_turn (Restore id) h = refl
   not_struck_turn command h = cc h.named
 
-  long_turn : (command : Command) → IsTooLong command → is_turn command 11 ≡ true
-  long_turn (TypeIn after table text) h = refl
-  long_turn command h = cc h.given
+  long_turn : (command : Command) → IsTooLong book command → is_turn command 11 ≡ true
+  long_turn (TypeIn anchor table text) h = refl
+  long_turn command h = cc h.made
 
   tables_turn : (command : Command) → IsFullOfTables book command → is_turn command 12 ≡ true
   tables_turn (Table name text) h = refl
   tables_turn command h = cc h.given
 
   paragraphs_turn : (command : Command) → IsFullOfParagraphs book command → is_turn command 13 ≡ true
-  paragraphs_turn (TypeIn after table text) h = refl
-  paragraphs_turn command h = cc h.given
+  paragraphs_turn (TypeIn anchor table text) h = refl
+  paragraphs_turn command h = cc h.adds
 
   first_turn : (command : Command) → is_turn command 0 ≡ true
   first_turn (Table name text) = refl
@@ -198,9 +198,9 @@ module _ (book : Book) (expect : Option ℕ) where
   fault_turn command fault h = cc h.given
 
   shown_turn : (command : Command) (place : ℕ) → IsUndefined book command place → is_turn command 18 ≡ true
-  shown_turn (TypeIn after table text) place h = refl
+  shown_turn (TypeIn anchor table text) place h = refl
   shown_turn (Retable id table) place h = refl
-  shown_turn command place h = cc h.shown
+  shown_turn command place h = cc h.print_is
 
   user_turn : (command : Command) (id place : ℕ) → IsUntranslatable book command id place → is_turn command 19 ≡ true
   user_turn (Table name text) id place h = refl

@@ -9,11 +9,11 @@ use Rattle.std.proofs.lemmas.Cmp.{nat_eq_equiv}
 use Rattle.std.proofs.lemmas.List.Elements.{All-from_recursion, All-contains, All-nil, All-cons, All-head, All-tail}
 use Rattle.std.proofs.lemmas.List.Sorted.{Contains-permutation, IsPermutation-refl, IsPermutation-sym, IsPermutation-trans, IsPermutation-cons, IsPermutation-map, IsPermutation-middle, IsPermutation-to_front}
 use Rattle.std.proofs.lemmas.Map.Keys.{IsDistinct-head, IsDistinct-tail, IsDistinct-IsPermutation}
-use Rattle.desk_book.specs.declared.command.After.{After}
-use Rattle.desk_book.specs.declared.command.After.TheVariants.{Front, End, Paragraph as Behind}
+use Rattle.desk_book.specs.declared.command.Anchor.{Anchor}
+use Rattle.desk_book.specs.declared.command.Anchor.TheVariants.{Front, End, Behind}
 use Rattle.desk_book.specs.Book.{Book, Paragraph, paragraph_of}
 use Rattle.desk_book.specs.Refusals.{paragraph_before}
-use Rattle.desk_book.specs.Step.{with_paragraph, without_paragraph, with_change, is_behind, moved_to}
+use Rattle.desk_book.specs.Step.{with_paragraph, without_paragraph, with_change, is_behind, with_move}
 use Rattle.desk_book.proofs.Members.{Contains-here, Contains-behind, Contains-cases, Contains-none, Contains-map, find-passes, Contains-find, find-map}
 
 -- ---- the ids
@@ -174,7 +174,7 @@ put-behind id new (p ∷ ps) apart c =
     ]
 
 -- a new paragraph is put among the others wherever the command says, if it is put behind one that is there
-pub IsPermutation-with_paragraph : (after : After) (new : Paragraph) (ps : List Paragraph) → AreApart ps → ((id : ℕ) → Contains (paragraph_before after) id → Contains (ids_of ps) id) → IsPermutation (new ∷ ps) (with_paragraph after new ps)
+pub IsPermutation-with_paragraph : (anchor : Anchor) (new : Paragraph) (ps : List Paragraph) → AreApart ps → ((id : ℕ) → Contains (paragraph_before anchor) id → Contains (ids_of ps) id) → IsPermutation (new ∷ ps) (with_paragraph anchor new ps)
 IsPermutation-with_paragraph Front new ps apart there = IsPermutation-refl (new ∷ ps)
 IsPermutation-with_paragraph End new ps apart there = IsPermutation-sym (ps ++ new ∷ []) (new ∷ ps) (IsPermutation-to_front ps new)
 IsPermutation-with_paragraph (Behind id) new ps apart there = put-behind id new ps apart (there id (Contains-here id []))
@@ -200,23 +200,23 @@ IsPermutation-without_paragraph id p (q ∷ ps) apart e =
     ]
 
 -- a paragraph more among the others, which have other ids
-module _ (after : After) (new : Paragraph) (ps : List Paragraph) (apart : AreApart (new ∷ ps)) (there : (id : ℕ) → Contains (paragraph_before after) id → Contains (ids_of ps) id) where
-  found-with_paragraph : (id : ℕ) → found id (with_paragraph after new ps) ≡ found id (new ∷ ps)
+module _ (anchor : Anchor) (new : Paragraph) (ps : List Paragraph) (apart : AreApart (new ∷ ps)) (there : (id : ℕ) → Contains (paragraph_before anchor) id → Contains (ids_of ps) id) where
+  found-with_paragraph : (id : ℕ) → found id (with_paragraph anchor new ps) ≡ found id (new ∷ ps)
   found-with_paragraph id =
-      found-permutation id (new ∷ ps) (with_paragraph after new ps) (IsPermutation-with_paragraph after new ps (AreApart-rest new ps apart) there) apart
+      found-permutation id (new ∷ ps) (with_paragraph anchor new ps) (IsPermutation-with_paragraph anchor new ps (AreApart-rest new ps apart) there) apart
 
-  pub found-new : found new.id (with_paragraph after new ps) ≡ Some new
+  pub found-new : found new.id (with_paragraph anchor new ps) ≡ Some new
   found-new = found-with_paragraph new.id ∙ cond-true (nat_eq new.id new.id) (Some new) (found new.id ps) (eq-eqb new.id new.id refl)
 
-  pub found-old : (id : ℕ) → id ≢ new.id → found id (with_paragraph after new ps) ≡ found id ps
+  pub found-old : (id : ℕ) → id ≢ new.id → found id (with_paragraph anchor new ps) ≡ found id ps
   found-old id other = found-with_paragraph id ∙ cond-false (nat_eq new.id id) (Some new) (found id ps) (ne_eqb new.id id (λ same. other (sym same)))
 
 -- ---- a paragraph moved
 
 -- what a paragraph is to stand behind is among the others
-behind_others : (id : ℕ) (after : After) (p : Paragraph) (ps : List Paragraph) → AreApart ps → found id ps ≡ Some p → is_behind id after ≡ false
-    → ((other : ℕ) → Contains (paragraph_before after) other → (q : Paragraph) × (found other ps ≡ Some q))
-    → (other : ℕ) → Contains (paragraph_before after) other → Contains (ids_of (without_paragraph id ps)) other
+behind_others : (id : ℕ) (anchor : Anchor) (p : Paragraph) (ps : List Paragraph) → AreApart ps → found id ps ≡ Some p → is_behind id anchor ≡ false
+    → ((other : ℕ) → Contains (paragraph_before anchor) other → (q : Paragraph) × (found other ps ≡ Some q))
+    → (other : ℕ) → Contains (paragraph_before anchor) other → Contains (ids_of (without_paragraph id ps)) other
 behind_others id Front p ps apart e elsewhere there other c = absurd (Contains-none other c)
 behind_others id End p ps apart e elsewhere there other c = absurd (Contains-none other c)
 behind_others id (Behind place) p ps apart e elsewhere there other c =
@@ -232,27 +232,27 @@ behind_others id (Behind place) p ps apart e elsewhere there other c =
     ]
 
 -- a paragraph that is moved behind one that is there, or to an end, changes its place alone
-pub IsPermutation-moved_to : (book : Book) (id : ℕ) (after : After) (p : Paragraph) → AreApart book.paragraphs → paragraph_of book id ≡ Some p
-    → ((other : ℕ) → Contains (paragraph_before after) other → (q : Paragraph) × (paragraph_of book other ≡ Some q))
-    → IsPermutation book.paragraphs (moved_to id after book)
-IsPermutation-moved_to book id after p apart e there =
+pub IsPermutation-with_move : (book : Book) (id : ℕ) (anchor : Anchor) (p : Paragraph) → AreApart book.paragraphs → paragraph_of book id ≡ Some p
+    → ((other : ℕ) → Contains (paragraph_before anchor) other → (q : Paragraph) × (paragraph_of book other ≡ Some q))
+    → IsPermutation book.paragraphs (with_move id anchor book)
+IsPermutation-with_move book id anchor p apart e there =
     let ps : List Paragraph = book.paragraphs in
     let others : List Paragraph = without_paragraph id ps in
-    let put : Paragraph → List Paragraph = λ q. with_paragraph after q others in
+    let put : Paragraph → List Paragraph = λ q. with_paragraph anchor q others in
     let out = IsPermutation-without_paragraph id p ps apart e in
-    elim (cases_Bool (is_behind id after)) [
-      | inl same ↦ subst (IsPermutation ps) (sym (cond-true (is_behind id after) ps (option_map_or put (paragraph_of book id) ps) same)) (IsPermutation-refl ps)
+    elim (cases_Bool (is_behind id anchor)) [
+      | inl same ↦ subst (IsPermutation ps) (sym (cond-true (is_behind id anchor) ps (option_map_or put (paragraph_of book id) ps) same)) (IsPermutation-refl ps)
       | inr elsewhere ↦
-          let at : moved_to id after book ≡ put p =
-          cond-false (is_behind id after) ps (option_map_or put (paragraph_of book id) ps) elsewhere ∙ ap (λ (x : Option Paragraph). option_map_or put x ps) e in
+          let at : with_move id anchor book ≡ put p =
+          cond-false (is_behind id anchor) ps (option_map_or put (paragraph_of book id) ps) elsewhere ∙ ap (λ (x : Option Paragraph). option_map_or put x ps) e in
           subst (IsPermutation ps) (sym at)
           (IsPermutation-trans ps (p ∷ others) (put p) out
-          (IsPermutation-with_paragraph after p others (AreApart-rest p others (AreApart-permutation ps (p ∷ others) out apart)) (behind_others id after p ps apart e elsewhere there)))
+          (IsPermutation-with_paragraph anchor p others (AreApart-rest p others (AreApart-permutation ps (p ∷ others) out apart)) (behind_others id anchor p ps apart e elsewhere there)))
     ]
 
 -- all paragraphs are found as before
-pub found-moved_to : (book : Book) (id : ℕ) (after : After) (p : Paragraph) → AreApart book.paragraphs → paragraph_of book id ≡ Some p
-    → ((other : ℕ) → Contains (paragraph_before after) other → (q : Paragraph) × (paragraph_of book other ≡ Some q))
-    → (other : ℕ) → found other (moved_to id after book) ≡ paragraph_of book other
-found-moved_to book id after p apart e there other =
-    found-permutation other book.paragraphs (moved_to id after book) (IsPermutation-moved_to book id after p apart e there) apart
+pub found-with_move : (book : Book) (id : ℕ) (anchor : Anchor) (p : Paragraph) → AreApart book.paragraphs → paragraph_of book id ≡ Some p
+    → ((other : ℕ) → Contains (paragraph_before anchor) other → (q : Paragraph) × (paragraph_of book other ≡ Some q))
+    → (other : ℕ) → found other (with_move id anchor book) ≡ paragraph_of book other
+found-with_move book id anchor p apart e there other =
+    found-permutation other book.paragraphs (with_move id anchor book) (IsPermutation-with_move book id anchor p apart e there) apart

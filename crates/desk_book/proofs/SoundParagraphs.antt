@@ -8,12 +8,13 @@ use Rattle.std.proofs.lemmas.List.{length-map}
 use Rattle.std.proofs.lemmas.List.Elements.{All-cons, All-weaker}
 use Rattle.std.proofs.lemmas.List.Sorted.{All-permutation, IsPermutation-map, IsPermutation-trans, length_permutation}
 use Rattle.louis_translate.specs.Position.{AreDefined}
-use Rattle.desk_book.specs.declared.command.After.{After}
+use Rattle.desk_book.specs.declared.command.Anchor.{Anchor}
 use Rattle.desk_book.specs.Book.{Book, Paragraph, Mark, text_of, paragraph_of}
 use Rattle.desk_book.specs.Print.{corrected, print_of}
 use Rattle.desk_book.specs.Refusals.{paragraph_before}
-use Rattle.desk_book.specs.Sound.{most_version, most_paragraphs, IsSoundHistory, IsSoundParagraph, IsSoundMark, IsSound}
-use Rattle.desk_book.specs.Step.{with_paragraph, with_change, next_id}
+use Rattle.desk_book.specs.Limits.{most_version, most_paragraphs}
+use Rattle.desk_book.specs.Sound.{IsSoundHistory, IsSoundParagraph, IsSoundMark, IsSound}
+use Rattle.desk_book.specs.Step.{with_paragraph, with_change, next_id, next_with_paragraphs}
 use Rattle.desk_book.specs.Stored.{IsClean}
 use Rattle.desk_book.proofs.Numbering.{next-number, IsDistinct-numbers}
 use Rattle.desk_book.proofs.ParagraphLists.{ids_of, AreApart, found, changed, id-found, found-permutation, ids-with_change, found-with_change, All-with_change, IsPermutation-with_paragraph}
@@ -32,10 +33,6 @@ IsSoundMark-kept book other kept mark sound =
       short = sound.short;
     }
 
--- the next version of the book, with these paragraphs
-abbrev pub with_paragraphs : List Paragraph → Book → Book
-with_paragraphs paragraphs book = record book { version = book.version + 1; paragraphs = paragraphs }
-
 -- each paragraph of the book is among these, with its print
 abbrev pub KeepsPrints : Book → List Paragraph → Type 0
 KeepsPrints book paragraphs =
@@ -43,9 +40,9 @@ KeepsPrints book paragraphs =
 
 pub IsSound-with_paragraphs : (book : Book) (paragraphs : List Paragraph) → IsSound book → book.version < most_version → length paragraphs ≤ most_paragraphs
     → IsPermutation (range_with_len 1 (length paragraphs)) (ids_of paragraphs) → All (IsSoundParagraph book) paragraphs → KeepsPrints book paragraphs
-    → IsSound (with_paragraphs paragraphs book)
+    → IsSound (next_with_paragraphs book paragraphs)
 IsSound-with_paragraphs book paragraphs sound room few ids all kept =
-    let next : Book = with_paragraphs paragraphs book in
+    let next : Book = next_with_paragraphs book paragraphs in
     record {
       version = omega arith;
       few_tables = sound.few_tables;
@@ -71,7 +68,7 @@ IsSound-with_paragraphs book paragraphs sound room few ids all kept =
 
 pub IsSound-changed : (book : Book) (id : ℕ) (change : Paragraph → Paragraph) → IsSound book → book.version < most_version → ((p : Paragraph) → (change p).id ≡ p.id)
     → ((p : Paragraph) → paragraph_of book id ≡ Some p → IsSoundParagraph book (change p) × (print_of (change p) ≡ print_of p))
-    → IsSound (with_paragraphs (with_change id change book.paragraphs) book)
+    → IsSound (next_with_paragraphs book (with_change id change book.paragraphs))
 IsSound-changed book id change sound room keeps here =
     let ps : List Paragraph = with_change id change book.paragraphs in
     let long : length ps ≡ length book.paragraphs = length-map book.paragraphs (changed id change) in
@@ -94,7 +91,7 @@ pub record KeepsText (change : Paragraph → Paragraph) : Type 0 where
   pub original : (p : Paragraph) → (change p).original ≡ p.original
   pub history : (p : Paragraph) → (change p).history ≡ p.history
 
-pub IsSound-kept_text : (book : Book) (id : ℕ) (change : Paragraph → Paragraph) → IsSound book → book.version < most_version → KeepsText change → IsSound (with_paragraphs (with_change id change book.paragraphs) book)
+pub IsSound-kept_text : (book : Book) (id : ℕ) (change : Paragraph → Paragraph) → IsSound book → book.version < most_version → KeepsText change → IsSound (next_with_paragraphs book (with_change id change book.paragraphs))
 IsSound-kept_text book id change sound room keeps =
     IsSound-changed book id change sound room keeps.id (λ p e.
     let s = IsSoundParagraph-found book sound id p e in
@@ -113,7 +110,7 @@ IsSound-kept_text book id change sound room keeps =
 
 -- ---- the order of the paragraphs
 
-pub IsSound-reordered : (book : Book) (ps : List Paragraph) → IsSound book → book.version < most_version → IsPermutation book.paragraphs ps → IsSound (with_paragraphs ps book)
+pub IsSound-reordered : (book : Book) (ps : List Paragraph) → IsSound book → book.version < most_version → IsPermutation book.paragraphs ps → IsSound (next_with_paragraphs book ps)
 IsSound-reordered book ps sound room moved =
     let long : length ps ≡ length book.paragraphs = length_permutation book.paragraphs ps moved in
     IsSound-with_paragraphs book ps sound room (subst (λ (n : ℕ). n ≤ most_paragraphs) (sym long) sound.few_paragraphs)
@@ -125,13 +122,13 @@ IsSound-reordered book ps sound room moved =
 -- ---- a new paragraph
 
 -- a paragraph more, with the next id
-pub IsSound-with_paragraph : (book : Book) (after : After) (new : Paragraph) → IsSound book → book.version < most_version → length book.paragraphs < most_paragraphs
-    → new.id ≡ next_id book → IsSoundParagraph book new → ((other : ℕ) → Contains (paragraph_before after) other → Contains (ids_of book.paragraphs) other)
-    → IsSound (with_paragraphs (with_paragraph after new book.paragraphs) book)
-IsSound-with_paragraph book after new sound room more numbered new_sound there =
+pub IsSound-with_paragraph : (book : Book) (anchor : Anchor) (new : Paragraph) → IsSound book → book.version < most_version → length book.paragraphs < most_paragraphs
+    → new.id ≡ next_id book → IsSoundParagraph book new → ((other : ℕ) → Contains (paragraph_before anchor) other → Contains (ids_of book.paragraphs) other)
+    → IsSound (next_with_paragraphs book (with_paragraph anchor new book.paragraphs))
+IsSound-with_paragraph book anchor new sound room more numbered new_sound there =
     let old : List Paragraph = book.paragraphs in
-    let ps : List Paragraph = with_paragraph after new old in
-    let moved = IsPermutation-with_paragraph after new old (paragraphs-apart book sound) there in
+    let ps : List Paragraph = with_paragraph anchor new old in
+    let moved = IsPermutation-with_paragraph anchor new old (paragraphs-apart book sound) there in
     let front : IsPermutation (range_with_len 1 (length old + 1)) (ids_of (new ∷ old)) =
     subst (λ (n : ℕ). IsPermutation (range_with_len 1 (length old + 1)) (n ∷ ids_of old)) (sym numbered) (next-number (length old) (ids_of old) sound.ids) in
     let apart : AreApart (new ∷ old) = IsDistinct-numbers (length old + 1) (ids_of (new ∷ old)) front in

@@ -9,30 +9,31 @@ use Rattle.std.proofs.lemmas.List.Sorted.{IsPermutation-refl}
 use Rattle.louis_table.specs.Meaning.{Meaning}
 use Rattle.louis_table.specs.Table.{Means}
 use Rattle.unicode_normalization.specs.Forms.{nfc}
-use Rattle.desk_book.specs.declared.command.After.{After}
+use Rattle.desk_book.specs.declared.command.Anchor.{Anchor}
 use Rattle.desk_book.specs.declared.command.Command.{Command}
 use Rattle.desk_book.specs.declared.command.Command.TheVariants.{Table, TypeIn, Strike, Restore, Style, Volume, Retable, Move}
-use Rattle.desk_book.specs.After.{After as History}
+use Rattle.desk_book.specs.After.{After}
 use Rattle.desk_book.specs.Book.{Book, Paragraph, text_of, empty_book}
 use Rattle.desk_book.specs.Print.{corrected, print_of}
 use Rattle.desk_book.specs.Refusals.{IsAccepted, paragraph_before}
-use Rattle.desk_book.specs.Sound.{most_tables, most_print, IsSoundHistory, IsSoundTable, IsSoundParagraph, IsSoundMark, IsSound}
-use Rattle.desk_book.specs.Step.{typed, moved_to, next_id, after_command}
+use Rattle.desk_book.specs.Limits.{most_tables, most_print}
+use Rattle.desk_book.specs.Sound.{IsSoundHistory, IsSoundTable, IsSoundParagraph, IsSoundMark, IsSound}
+use Rattle.desk_book.specs.Step.{typed, with_change, with_paragraph, with_move, next_id, next_with_paragraphs, next_with_tables, Makes}
 use Rattle.desk_book.specs.Stored.{is_barred, IsClean, stored}
-use Rattle.desk_book.proofs.Accepted.{room_for_version, named_paragraph, named_table, shown_defined, short_text, room_for_paragraph, given_name, given_meaning, room_for_table, users_defined}
+use Rattle.desk_book.proofs.Accepted.{room_for_version, named_paragraph, named_table, shown_defined, short_print, room_for_paragraph, given_name, given_meaning, room_for_table, users_defined}
 use Rattle.desk_book.proofs.FirstUndefined.{DefinesUser}
 use Rattle.desk_book.proofs.Members.{Contains-here, Contains-behind, Contains-map}
-use Rattle.desk_book.proofs.SoundParagraphs.{IsSoundMark-kept, IsSound-changed, IsSound-kept_text, IsSound-reordered, IsSound-with_paragraph}
-use Rattle.desk_book.proofs.ParagraphLists.{IsPermutation-moved_to, ids_of, id-found, Contains-found}
+use Rattle.desk_book.proofs.SoundParagraphs.{KeepsText, IsSoundMark-kept, IsSound-changed, IsSound-kept_text, IsSound-reordered, IsSound-with_paragraph}
+use Rattle.desk_book.proofs.ParagraphLists.{IsPermutation-with_move, ids_of, id-found, Contains-found}
 use Rattle.desk_book.proofs.SoundBooks.{paragraphs-apart, IsSoundParagraph-found, IsSoundTable-found}
 use Rattle.desk_book.proofs.TableEntries.{keys-is_sorted, Decides-name, with_text, text-put_same, text-put_other, names-put, All-text, count-put_new, count-put_old}
 
 -- ---- the text of a table
 
-sound_table : (book : Book) (expect : Option ℕ) (name text : List ℕ) → IsSound book → IsAccepted book expect (Table name text) → IsSound (after_command (Table name text) book)
+sound_table : (book : Book) (expect : Option ℕ) (name text : List ℕ) → IsSound book → IsAccepted book expect (Table name text) → IsSound (next_with_tables book (with_text name text book.tables))
 sound_table book expect name text sound accepted =
     let command : Command = Table name text in
-    let next : Book = after_command command book in
+    let next : Book = next_with_tables book (with_text name text book.tables) in
     let named = given_name book expect command accepted name text refl in
     let given = given_meaning book expect command accepted name text refl in
     let users = users_defined book expect command accepted name text refl given.0 given.1 in
@@ -56,7 +57,7 @@ sound_table book expect name text sound accepted =
         omega (arith, room, count-put_new name text book.tables sound.names e)
     few (Some old) e = subst (λ (n : ℕ). n ≤ most_tables) (sym (count-put_old name text old book.tables sound.names e)) sound.few_tables
 
-    shown : (meaning : Meaning) → Means text meaning → (p : Paragraph) → IsSoundParagraph book p → DefinesUser meaning name p → IsSoundParagraph (after_command (Table name text) book) p
+    shown : (meaning : Meaning) → Means text meaning → (p : Paragraph) → IsSoundParagraph book p → DefinesUser meaning name p → IsSoundParagraph (next_with_tables book (with_text name text book.tables)) p
     shown meaning means p s user =
         elim (cases_Bool (pointwise nat_eq p.table name)) [
           | inl e ↦
@@ -98,16 +99,16 @@ IsSoundHistory-none original short = record {
   short = short_start original short;
 }
 
-sound_type : (book : Book) (expect : Option ℕ) (after : After) (table text : List ℕ) → IsSound book → IsAccepted book expect (TypeIn after table text) → IsSound (after_command (TypeIn after table text) book)
-sound_type book expect after table text sound accepted =
-    let command : Command = TypeIn after table text in
+sound_type : (book : Book) (expect : Option ℕ) (anchor : Anchor) (table text : List ℕ) → IsSound book → IsAccepted book expect (TypeIn anchor table text) → IsSound (next_with_paragraphs book (with_paragraph anchor (typed (next_id book) table text) book.paragraphs))
+sound_type book expect anchor table text sound accepted =
+    let command : Command = TypeIn anchor table text in
     let named = named_table book expect command accepted table refl in
     let shown = IsSoundTable-found book sound table named.0 named.1 in
     let new : Paragraph = typed (next_id book) table text in
-    IsSound-with_paragraph book after new sound (room_for_version book expect command accepted) (room_for_paragraph book expect command accepted text refl) refl
+    IsSound-with_paragraph book anchor new sound (room_for_version book expect command accepted) (room_for_paragraph book expect command accepted refl) refl
     (record {
       clean = IsClean-stored text;
-      history = IsSoundHistory-none (stored text) (short_text book expect command accepted text refl);
+      history = IsSoundHistory-none (stored text) (short_print book expect command accepted (stored text) refl);
       text = named.0;
       meaning = shown.meaning;
       found = named.1;
@@ -120,7 +121,7 @@ sound_type book expect after table text sound accepted =
 
 -- ---- another table
 
-sound_retable : (book : Book) (expect : Option ℕ) (id : ℕ) (table : List ℕ) → IsSound book → IsAccepted book expect (Retable id table) → IsSound (after_command (Retable id table) book)
+sound_retable : (book : Book) (expect : Option ℕ) (id : ℕ) (table : List ℕ) → IsSound book → IsAccepted book expect (Retable id table) → IsSound (next_with_paragraphs book (with_change id (λ p. record p { table = table }) book.paragraphs))
 sound_retable book expect id table sound accepted =
     let command : Command = Retable id table in
     let named = named_table book expect command accepted table refl in
@@ -141,29 +142,34 @@ sound_retable book expect id table sound accepted =
 
 -- ---- another place
 
-sound_move : (book : Book) (expect : Option ℕ) (id : ℕ) (after : After) → IsSound book → IsAccepted book expect (Move id after) → IsSound (after_command (Move id after) book)
-sound_move book expect id after sound accepted =
-    let command : Command = Move id after in
+sound_move : (book : Book) (expect : Option ℕ) (id : ℕ) (anchor : Anchor) → IsSound book → IsAccepted book expect (Move id anchor) → IsSound (next_with_paragraphs book (with_move id anchor book))
+sound_move book expect id anchor sound accepted =
+    let command : Command = Move id anchor in
     let named = named_paragraph book expect command accepted in
-    let p = named id (Contains-here id (paragraph_before after)) in
-    IsSound-reordered book (moved_to id after book) sound (room_for_version book expect command accepted)
-    (IsPermutation-moved_to book id after p.0 (paragraphs-apart book sound) p.1 (λ other c. named other (Contains-behind id other (paragraph_before after) c)))
+    let p = named id (Contains-here id (paragraph_before anchor)) in
+    IsSound-reordered book (with_move id anchor book) sound (room_for_version book expect command accepted)
+    (IsPermutation-with_move book id anchor p.0 (paragraphs-apart book sound) p.1 (λ other c. named other (Contains-behind id other (paragraph_before anchor) c)))
 
 -- ---- each command
 
-pub IsSound-after_command : (book : Book) (expect : Option ℕ) (command : Command) → IsSound book → IsAccepted book expect command → IsSound (after_command command book)
-IsSound-after_command book expect (Table name text) sound accepted = sound_table book expect name text sound accepted
-IsSound-after_command book expect (TypeIn after table text) sound accepted = sound_type book expect after table text sound accepted
-IsSound-after_command book expect (Strike id) sound accepted =
-    IsSound-kept_text book id (λ p. record p { struck = true }) sound (room_for_version book expect (Strike id) accepted) (record { id = λ p. refl; table = λ p. refl; original = λ p. refl; history = λ p. refl })
-IsSound-after_command book expect (Restore id) sound accepted =
-    IsSound-kept_text book id (λ p. record p { struck = false }) sound (room_for_version book expect (Restore id) accepted) (record { id = λ p. refl; table = λ p. refl; original = λ p. refl; history = λ p. refl })
-IsSound-after_command book expect (Style id style) sound accepted =
-    IsSound-kept_text book id (λ p. record p { style = style }) sound (room_for_version book expect (Style id style) accepted) (record { id = λ p. refl; table = λ p. refl; original = λ p. refl; history = λ p. refl })
-IsSound-after_command book expect (Volume id begins) sound accepted =
-    IsSound-kept_text book id (λ p. record p { begins_volume = begins }) sound (room_for_version book expect (Volume id begins) accepted) (record { id = λ p. refl; table = λ p. refl; original = λ p. refl; history = λ p. refl })
-IsSound-after_command book expect (Retable id table) sound accepted = sound_retable book expect id table sound accepted
-IsSound-after_command book expect (Move id after) sound accepted = sound_move book expect id after sound accepted
+-- the change of a flag, or of the style
+keeps_text : (book : Book) (expect : Option ℕ) (command : Command) (id : ℕ) (change : Paragraph → Paragraph) → KeepsText change → IsSound book → IsAccepted book expect command
+    → IsSound (next_with_paragraphs book (with_change id change book.paragraphs))
+keeps_text book expect command id change keeps sound accepted = IsSound-kept_text book id change sound (room_for_version book expect command accepted) keeps
+
+pub IsSound-makes : (book next : Book) (expect : Option ℕ) (command : Command) → IsSound book → IsAccepted book expect command → Makes book command next → IsSound next
+IsSound-makes book next expect (Table name text) sound accepted e = subst IsSound (sym e) (sound_table book expect name text sound accepted)
+IsSound-makes book next expect (TypeIn anchor table text) sound accepted e = subst IsSound (sym e) (sound_type book expect anchor table text sound accepted)
+IsSound-makes book next expect (Strike id) sound accepted e =
+    subst IsSound (sym e) (keeps_text book expect (Strike id) id (λ p. record p { struck = true }) (record { id = λ p. refl; table = λ p. refl; original = λ p. refl; history = λ p. refl }) sound accepted)
+IsSound-makes book next expect (Restore id) sound accepted e =
+    subst IsSound (sym e) (keeps_text book expect (Restore id) id (λ p. record p { struck = false }) (record { id = λ p. refl; table = λ p. refl; original = λ p. refl; history = λ p. refl }) sound accepted)
+IsSound-makes book next expect (Style id style) sound accepted e =
+    subst IsSound (sym e) (keeps_text book expect (Style id style) id (λ p. record p { style = style }) (record { id = λ p. refl; table = λ p. refl; original = λ p. refl; history = λ p. refl }) sound accepted)
+IsSound-makes book next expect (Volume id begins) sound accepted e =
+    subst IsSound (sym e) (keeps_text book expect (Volume id begins) id (λ p. record p { begins_volume = begins }) (record { id = λ p. refl; table = λ p. refl; original = λ p. refl; history = λ p. refl }) sound accepted)
+IsSound-makes book next expect (Retable id table) sound accepted e = subst IsSound (sym e) (sound_retable book expect id table sound accepted)
+IsSound-makes book next expect (Move id anchor) sound accepted e = subst IsSound (sym e) (sound_move book expect id anchor sound accepted)
 
 -- ---- whole histories
 
@@ -181,6 +187,8 @@ IsSound-empty = record {
   marks = All-nil (IsSoundMark empty_book);
 }
 
-pub IsSound-history : (commands : List Command) (book last : Book) → IsSound book → History book commands last → IsSound last
-IsSound-history [] book last sound e = subst IsSound (sym e) sound
-IsSound-history (command ∷ commands) book last sound h = IsSound-history commands (after_command command book) last (IsSound-after_command book None command sound h.0) h.1
+-- commands, accepted one after the other, make a sound book of a sound book
+pub IsSound-after : (commands : List Command) (book last : Book) → IsSound book → After book commands last → IsSound last
+IsSound-after [] book last sound e = subst IsSound (sym e) sound
+IsSound-after (command ∷ commands) book last sound (accepted, (next, makes, later)) =
+    IsSound-after commands next last (IsSound-makes book next None command sound accepted makes) later

@@ -1,11 +1,12 @@
--- Books after many commands.
+-- Books after commands.
 use Rattle.std.specs.Prelude.{◌≡◌, List, [], ◌∷◌, None}
 use Rattle.desk_book.specs.declared.command.Command.{Command}
 use Rattle.desk_book.specs.Book.{Book}
 use Rattle.desk_book.specs.Refusals.{IsAccepted}
-use Rattle.desk_book.specs.Step.{after_command}
+use Rattle.desk_book.specs.Step.{Makes}
 
--- the commands are accepted one after the other, the first on this book, and the last makes the other book
+-- the commands, accepted one after the other from this book on, lead to the other book
 abbrev pub After : Book → List Command → Book → Type 0
 After book [] last = last ≡ book
-After book (command ∷ commands) last = IsAccepted book None command × After (after_command command book) commands last
+After book (command ∷ commands) last =
+    IsAccepted book None command × ((next : Book) × Makes book command next × After next commands last)

@@ -16,7 +16,7 @@ pub data Entry : Type 0 where
   Corrects : Replacement → Entry
   Undoes : ℕ → Entry
 
--- the original is the text as it was typed; the entries of the history have the numbers 1, 2, ..
+-- the original is the typed text as it is stored; the entries of the history have the numbers 1, 2, ..
 pub record Paragraph : Type 0 where
   pub id : ℕ
   pub table : List ℕ
@@ -26,7 +26,7 @@ pub record Paragraph : Type 0 where
   pub begins_volume : Bool
   pub struck : Bool
 
--- a proofreader's note on the places from start up to end of a paragraph's print
+-- a proofreader's note on the places of a paragraph's print from start up to but not including end
 pub record Mark : Type 0 where
   pub id : ℕ
   pub paragraph : ℕ

@@ -1,10 +1,16 @@
 pub mod Book
 pub mod Print
 pub mod Marks
+pub mod Limits
+pub mod Name
 pub mod Stored
 pub mod Sound
 pub mod Refusals
 pub mod Judging
 pub mod Step
 pub mod After
-pub mod Shown
+pub mod Translated
+pub mod Kept
+pub mod Changes
+pub mod Planned
+pub mod Listed

@@ -4,8 +4,8 @@ use Rattle.desk_book.specs.Book.{Replacement, Mark}
 
 -- the mark after so many characters from a place on gave way to others: a mark before them stays; one behind them
 -- moves with the print behind them; any other then covers what it covered and all that came, and is touched for good
-abbrev pub moved_by : (start removed added : ℕ) → Mark → Mark
-moved_by start removed added mark =
+abbrev pub mark_moved_by : (start removed added : ℕ) → Mark → Mark
+mark_moved_by start removed added mark =
     if nat_le mark.end start then mark
     else (if nat_le (start + removed) mark.start
     then record mark { start = mark.start - removed + added; end = mark.end - removed + added }
@@ -16,9 +16,9 @@ moved_by start removed added mark =
     })
 
 -- the mark after a replacement
-abbrev pub moved : Replacement → Mark → Mark
-moved r = moved_by r.start r.count (length r.text)
+abbrev pub mark_moved : Replacement → Mark → Mark
+mark_moved r = mark_moved_by r.start r.count (length r.text)
 
 -- the mark after the replacement was taken back
-abbrev pub moved_back : Replacement → Mark → Mark
-moved_back r = moved_by r.start (length r.text) r.count
+abbrev pub mark_moved_back : Replacement → Mark → Mark
+mark_moved_back r = mark_moved_by r.start (length r.text) r.count

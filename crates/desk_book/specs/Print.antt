@@ -1,5 +1,5 @@
 -- The print of a paragraph: its original with the corrections in force applied.
-use Rattle.std.specs.Prelude.{◌≡◌, ℕ, ◌+◌, ◌==◌, Bool, false, if◌then◌else◌, List, [], ◌∷◌, ◌++◌, take, drop, map}
+use Rattle.std.specs.Prelude.{ℕ, ◌+◌, ◌==◌, Bool, false, if◌then◌else◌, List, [], ◌∷◌, ◌++◌, take, drop, map}
 use Rattle.std.specs.List.{flat_map, fold, enumerate_from, list_any}
 use Rattle.desk_book.specs.Book.{Replacement, Entry, Corrects, Undoes, Paragraph}
 

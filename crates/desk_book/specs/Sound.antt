@@ -1,5 +1,5 @@
 -- What is true of each book that the commands can make.
-use Rattle.std.specs.Prelude.{◌≡◌, ℕ, ◌+◌, ◌<◌, ◌≤◌, Bool, List, length, map, take, slice_get, Option, Some, None}
+use Rattle.std.specs.Prelude.{◌≡◌, ℕ, ◌+◌, ◌≤◌, List, length, map, take, slice_get, Option, Some, None, option_map}
 use Rattle.std.specs.Ordering.{nat_cmp}
 use Rattle.std.specs.List.{All, last_or, range_with_len}
 use Rattle.std.specs.List.Sorted.{IsPermutation, IsStrictlySortedBy}
@@ -8,47 +8,22 @@ use Rattle.louis_table.specs.Meaning.{Meaning}
 use Rattle.louis_table.specs.Table.{Means}
 use Rattle.louis_translate.specs.Position.{AreDefined}
 use Rattle.desk_book.specs.Book.{Replacement, Entry, Corrects, Undoes, Paragraph, Mark, Book, text_of, paragraph_of}
-use Rattle.desk_book.specs.Print.{corrected, print_of, replaced, stack}
-use Rattle.desk_book.specs.Stored.{IsClean, IsTableName}
-
--- ---- the limits
-
-abbrev pub most_version : ℕ
-most_version = 9007199254740992
-
-abbrev pub most_tables : ℕ
-most_tables = 16
-
--- struck ones counted
-abbrev pub most_paragraphs : ℕ
-most_paragraphs = 20000
-
--- characters of a print
-abbrev pub most_print : ℕ
-most_print = 4000
-
--- entries of a paragraph's history
-abbrev pub most_entries : ℕ
-most_entries = 10000
-
-abbrev pub most_marks : ℕ
-most_marks = 100000
-
--- characters of a note
-abbrev pub most_note : ℕ
-most_note = 500
+use Rattle.desk_book.specs.Print.{corrected, print_of, stack}
+use Rattle.desk_book.specs.Limits.{most_entries, most_marks, most_note, most_paragraphs, most_print, most_tables, most_version}
+use Rattle.desk_book.specs.Stored.{IsClean}
+use Rattle.desk_book.specs.Name.{IsTableName}
 
 -- ---- histories
 
--- the number of the newest correction in force, if there is one
-abbrev pub newest : List Entry → Option ℕ
-newest history = last_or None (map (λ correction. correction.0) (stack history))
+-- the newest correction in force, with its number, if there is one
+abbrev pub newest : List Entry → Option (ℕ × Replacement)
+newest history = last_or None (stack history)
 
 -- after the entries before it, a correction replaces characters that are there by a clean text, and an undo names the
 -- newest correction then in force
 abbrev pub IsSoundEntry : List ℕ → List Entry → Entry → Type 0
 IsSoundEntry original before (Corrects r) = (r.start + r.count ≤ length (corrected original before)) × IsClean r.text
-IsSoundEntry original before (Undoes n) = newest before ≡ Some n
+IsSoundEntry original before (Undoes n) = option_map (λ correction. correction.0) (newest before) ≡ Some n
 
 pub record IsSoundHistory (original : List ℕ) (history : List Entry) : Type 0 where
   pub few : length history ≤ most_entries
@@ -63,7 +38,7 @@ pub record IsSoundTable (entry : List ℕ × List ℕ) : Type 0 where
   pub meaning : Meaning
   pub means : Means entry.1 meaning
 
--- the paragraph's table is one of the book's, and defines its print
+-- the original is clean and the history sound; the paragraph's table is one of the book's, and defines its print
 pub record IsSoundParagraph (book : Book) (paragraph : Paragraph) : Type 0 where
   pub clean : IsClean paragraph.original
   pub history : IsSoundHistory paragraph.original paragraph.history
@@ -73,7 +48,7 @@ pub record IsSoundParagraph (book : Book) (paragraph : Paragraph) : Type 0 where
   pub means : Means text meaning
   pub defined : AreDefined meaning (print_of paragraph)
 
--- the mark stands on places of a print of the book
+-- the mark stands on places of a print of the book, and has a short and clean note
 pub record IsSoundMark (book : Book) (mark : Mark) : Type 0 where
   pub paragraph : Paragraph
   pub found : paragraph_of book mark.paragraph ≡ Some paragraph
@@ -82,7 +57,8 @@ pub record IsSoundMark (book : Book) (mark : Mark) : Type 0 where
   pub clean : IsClean mark.note
   pub short : length mark.note ≤ most_note
 
--- the ids of paragraphs are 1, 2, .. in some order, those of marks in this order
+-- all is within its limit; tables have names that differ and stand in order; the ids of paragraphs are 1, 2, .. in
+-- some order, those of marks in this order; and each part is sound
 pub record IsSound (book : Book) : Type 0 where
   pub version : book.version ≤ most_version
   pub few_tables : length book.tables ≤ most_tables

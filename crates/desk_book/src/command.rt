@@ -4,13 +4,13 @@ use super::text::{Bytes, Text};
 
 /// Where a paragraph is put.
 #[derive(Clone, Copy, Debug, PartialEq, Eq)]
-pub enum After {
+pub enum Anchor {
     /// Before all others.
     Front,
     /// Behind all others.
     End,
     /// Behind the paragraph with this id.
-    Paragraph(u64),
+    Behind(u64),
 }
 
 /// A command over a book. Paragraphs are named by their ids.
@@ -26,10 +26,10 @@ pub enum Command {
     /// Types a new paragraph.
     TypeIn {
         /// Where it is put.
-        after: After,
+        anchor: Anchor,
         /// The name of its table.
         table: Text,
-        /// The print.
+        /// What is typed; the print is its Unicode normal form C.
         text: Text,
     },
     /// Takes a paragraph out of the volumes.
@@ -68,6 +68,6 @@ pub enum Command {
         /// The paragraph.
         paragraph: u64,
         /// Where it is put.
-        after: After,
+        anchor: Anchor,
     },
 }

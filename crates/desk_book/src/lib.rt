@@ -1,14 +1,44 @@
 //! The book that a transcriber works on: its tables, paragraphs and marks, the commands that change them, and
 //! what is shown of them.
+//!
+//! A command is planned on a book first: it is refused, and all stays as it was, or it gives a change, which has room
+//! for all that it adds. The change is then put in, and this can't fail. So a change can be written to a file between
+//! the two.
+//!
+//! ```rust
+//! use desk_book::{Anchor, Book, Command, Text, Bytes};
+//!
+//! let book = Book::new(alloc)?;
+//! let command = Command::Table { name, text };
+//! let change = book.plan(alloc, &command, None)?;
+//! let book = book.settle(change);
+//! assert_eq!(rt; book.version(), 1);
+//! ```
+//!
+//! Files are left to `desk_store`, pages to `desk_brf`, and the lines of requests and replies to `desk_line`.
 #![tactic(auto)]
 
+mod book;
+mod braille;
+mod change;
 mod command;
 pub mod laws;
+mod limits;
+mod list;
+mod paragraphs;
+mod plan;
+mod queries;
 mod refusal;
+mod settle;
+mod stored;
 mod style;
+mod tables;
 mod text;
 
-pub use command::{After, Command};
+pub use book::Book;
+pub use change::Change;
+pub use command::{Anchor, Command};
+pub use list::{List, Listed};
 pub use refusal::{Limit, Refusal};
 pub use style::Style;
 pub use text::{Bytes, Text};

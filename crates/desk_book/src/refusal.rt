@@ -53,7 +53,7 @@ pub enum Refusal {
     /// The mark is resolved.
     #[error("the mark is resolved")]
     Resolved,
-    /// The places or cells are not all there.
+    /// The places or cells are not all there, or a mark is put on no cell.
     #[error("the places are not all there")]
     BadSpan,
     /// No correction of the paragraph is in force.
@@ -62,8 +62,8 @@ pub enum Refusal {
     /// A print would have over 4,000 characters, or a note over 500.
     #[error("the text is too long")]
     TooLong,
-    /// The book is at a limit.
-    #[error("the book is full")]
+    /// The command would add to what is at its limit.
+    #[error("a limit is reached")]
     Full(Limit),
     /// The table's text is refused.
     #[error("the table is refused")]

@@ -1,0 +1,79 @@
+-- What a change has in it, so that nothing is left to be asked for when it is put into its book.
+use Rattle.std.specs.Prelude.{◌≡◌, ◌≢◌, ℕ, ◌+◌, ◌-◌, ◌<◌, List, [], ◌∷◌, ◌++◌, length, map, slice_get, Option, Some, None, IsSome, MatchOption}
+use Rattle.std.specs.List.{All}
+use Rattle.std.specs.Option.{option_and_then}
+use Rattle.louis_table.specs.Meaning.{Meaning}
+use Rattle.louis_table.specs.Table.{Means}
+use Rattle.louis_translate.specs.declared.choices.Choice.{Choice}
+use Rattle.louis_translate.specs.Tiling.{Tiles}
+use Rattle.louis_translate.specs.Braille.{braille}
+use Rattle.desk_book.specs.declared.change.Effect.{Effect}
+use Rattle.desk_book.specs.declared.change.Effect.TheVariants.{AddTable, ReplaceTable, AddParagraph, SetFlags, ChangeTable, Reorder}
+use Rattle.desk_book.specs.declared.change.Change.{Change}
+use Rattle.desk_book.specs.declared.command.Anchor.{Anchor}
+use Rattle.desk_book.specs.declared.command.Command.{Command}
+use Rattle.desk_book.specs.declared.command.Command.TheVariants.{Table, TypeIn, Retable, Move}
+use Rattle.desk_book.specs.declared.paragraphs.Paragraph.{Paragraph as KeptParagraph}
+use Rattle.desk_book.specs.Book.{Book, Paragraph, text_of, paragraph_of}
+use Rattle.desk_book.specs.Kept.{new_cells, paragraph_kept}
+use Rattle.desk_book.specs.Print.{print_of}
+use Rattle.desk_book.specs.Refusals.{IsAccepted}
+use Rattle.desk_book.specs.Step.{Makes, next_id, next_with_paragraphs, number_of, typed, with_change}
+use Rattle.desk_book.specs.Stored.{stored}
+
+-- the cells are the braille of the print by this meaning
+abbrev pub AreCellsOf : Meaning → (print cells : List ℕ) → Type 0
+AreCellsOf meaning print cells = (choices : List Choice) × Tiles meaning print choices × (cells ≡ braille meaning print choices)
+
+-- each paragraph that uses the table has new cells by the meaning, and no other has any
+abbrev pub AreRenewed : Book → List ℕ → Meaning → List (Option (List ℕ)) → Type 0
+AreRenewed book name meaning cells =
+    All (λ paragraph. MatchOption (new_cells cells paragraph.id)
+    (paragraph.table ≢ name)
+    (λ new. (paragraph.table ≡ name) × AreCellsOf meaning (print_of paragraph) new)) book.paragraphs
+
+-- a paragraph as it is kept when it was just typed
+pub record IsKeptTyped (book : Book) (table text : List ℕ) (kept : KeptParagraph) : Type 0 where
+  pub kept_is : paragraph_kept (next_id book, kept) ≡ typed (next_id book) table text
+  pub print : kept.print ≡ stored text
+  pub source : List ℕ
+  pub meaning : Meaning
+  pub found : text_of book table ≡ Some source
+  pub means : Means source meaning
+  pub cells : AreCellsOf meaning kept.print kept.cells
+
+-- the cells are those of the paragraph's print by the table with this name
+pub record AreCellsByTable (book : Book) (id : ℕ) (table cells : List ℕ) : Type 0 where
+  pub paragraph : Paragraph
+  pub there : paragraph_of book id ≡ Some paragraph
+  pub source : List ℕ
+  pub meaning : Meaning
+  pub found : text_of book table ≡ Some source
+  pub means : Means source meaning
+  pub cells_are : AreCellsOf meaning (print_of paragraph) cells
+
+-- the effect makes the next book by the command, with room for all that it adds
+abbrev pub Does : Book → Command → Book → Effect → Type 0
+Does book command next (AddTable name table room) =
+    (command ≡ Table name table.text) × (text_of book name ≡ None) × (length book.tables < room) × Means table.text table.rules
+Does book command next (ReplaceTable name table cells) =
+    (command ≡ Table name table.text) × IsSome (text_of book name) × Means table.text table.rules
+    × AreRenewed book name table.rules cells.items
+Does book command next (AddParagraph paragraph room order) =
+    (anchor : Anchor) × (text : List ℕ) × (command ≡ TypeIn anchor paragraph.table text)
+    × IsKeptTyped book paragraph.table text paragraph × (length book.paragraphs < room)
+    × (order ≡ map (λ other. other.id) next.paragraphs)
+Does book command next (SetFlags id style begins struck) =
+    next ≡ next_with_paragraphs book
+    (with_change id (λ p. record p { style = style; begins_volume = begins; struck = struck }) book.paragraphs)
+Does book command next (ChangeTable id table cells) = (command ≡ Retable id table) × AreCellsByTable book id table cells
+Does book command next (Reorder order) =
+    (id : ℕ) × (anchor : Anchor) × (command ≡ Move id anchor) × (order ≡ map (λ other. other.id) next.paragraphs)
+
+-- the change makes the next book of this one by the command, which is accepted
+pub record Carries (book : Book) (command : Command) (next : Book) (change : Change) : Type 0 where
+  pub accepted : IsAccepted book None command
+  pub makes : Makes book command next
+  pub version : change.version ≡ next.version
+  pub number : change.number ≡ number_of book command
+  pub does : Does book command next change.effect

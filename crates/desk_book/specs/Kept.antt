@@ -1,0 +1,109 @@
+-- How a book is kept: its tables with their rules, its paragraphs with their prints and cells.
+use Rattle.std.specs.Prelude.{◌≡◌, ℕ, ◌-◌, nat_eq, not, ◌==◌, if◌then◌else◌, List, [], ◌∷◌, ◌++◌, map, slice_get, Option, Some, option_to_list, option_map}
+use Rattle.std.specs.List.{All, filter, flat_map, fold}
+use Rattle.std.specs.Str.{chars}
+use Rattle.std.specs.Prelude.{String, string_bytes}
+use Rattle.std.specs.Option.{option_and_then, option_map_or}
+use Rattle.std.specs.Map.{lookup}
+use Rattle.std.specs.Ordering.{nat_cmp}
+use Rattle.std.specs.Cmp.Lexicographic.{pointwise, slice_cmp}
+use Rattle.std.specs.FinMap.Entries.{put}
+use Rattle.louis_table.specs.Table.{Means}
+use Rattle.louis_translate.specs.declared.choices.Choice.{Choice}
+use Rattle.louis_translate.specs.Tiling.{Tiles}
+use Rattle.louis_translate.specs.Braille.{braille}
+use Rattle.desk_book.specs.declared.command.Anchor.{Anchor}
+use Rattle.desk_book.specs.declared.command.Anchor.TheVariants.{Front, End, Behind}
+use Rattle.desk_book.specs.declared.tables.BookTable.{BookTable}
+use Rattle.desk_book.specs.declared.paragraphs.Paragraph.{Paragraph as KeptParagraph}
+use Rattle.desk_book.specs.Book.{Book, Paragraph}
+use Rattle.desk_book.specs.Print.{print_of}
+use Rattle.desk_book.specs.Sound.{IsSound}
+use Rattle.desk_book.specs.Step.{is_behind}
+
+-- tables by name, in the order of the names
+abbrev pub KeptTables : Type 0
+KeptTables = List (List ℕ × BookTable)
+
+-- paragraphs with their ids, in the order of the book
+abbrev pub KeptParagraphs : Type 0
+KeptParagraphs = List (ℕ × KeptParagraph)
+
+-- the tables with this one under its name
+abbrev pub with_table : List ℕ → BookTable → KeptTables → KeptTables
+with_table = put (slice_cmp nat_cmp)
+
+-- entries in any order, by their names
+abbrev pub by_name : {Z : Type 0} → List (String Z × BookTable) → KeptTables
+by_name entries = fold (λ sorted entry. with_table (chars (string_bytes entry.0)) entry.1 sorted) [] entries
+
+-- the ids in the order of the book
+abbrev pub ids : KeptParagraphs → List ℕ
+ids kept = map (λ entry. entry.0) kept
+
+-- the paragraph with an id, from 1, of a list in the order of ids, beside that id
+abbrev pub numbered : List KeptParagraph → ℕ → KeptParagraphs
+numbered items id = option_to_list (option_map (λ kept. (id, kept)) (slice_get items (id - 1)))
+
+-- these paragraphs in the order of their ids here
+abbrev pub arranged : List ℕ → KeptParagraphs → KeptParagraphs
+arranged order kept = flat_map (λ id. option_to_list (option_map (λ paragraph. (id, paragraph)) (lookup (nat_eq id) kept))) order
+
+-- the order with one id more, put where the command says
+abbrev pub with_id : Anchor → ℕ → List ℕ → List ℕ
+with_id Front new order = new ∷ order
+with_id End new order = order ++ new ∷ []
+with_id (Behind id) new order = flat_map (λ other. if other == id then other ∷ new ∷ [] else other ∷ []) order
+
+-- the order with one id taken out and put elsewhere; behind itself it stays
+abbrev pub with_id_moved : Anchor → ℕ → List ℕ → List ℕ
+with_id_moved anchor id order = if is_behind id anchor then order else with_id anchor id (filter (λ other. not (other == id)) order)
+
+-- the paragraph's new cells, where it has any: by its id, from 1
+abbrev pub new_cells : List (Option (List ℕ)) → ℕ → Option (List ℕ)
+new_cells cells id = option_and_then (λ found. found) (slice_get cells (id - 1))
+
+-- the paragraph with its new cells, where it has any
+abbrev pub renewed : List (Option (List ℕ)) → ℕ × KeptParagraph → ℕ × KeptParagraph
+renewed cells (id, kept) = (id, option_map_or (λ new. record kept { cells = new }) (new_cells cells id) kept)
+
+-- the paragraphs with a change of the one with this id
+abbrev pub with_kept_change : ℕ → (KeptParagraph → KeptParagraph) → KeptParagraphs → KeptParagraphs
+with_kept_change id change kept = map (λ entry. if entry.0 == id then (entry.0, change entry.1) else entry) kept
+
+-- what a kept paragraph stands for
+abbrev pub paragraph_kept : ℕ × KeptParagraph → Paragraph
+paragraph_kept (id, kept) = record {
+  id = id;
+  table = kept.table;
+  original = kept.original;
+  history = [];
+  style = kept.style;
+  begins_volume = kept.begins_volume;
+  struck = kept.struck;
+}
+
+-- what kept tables and paragraphs stand for
+abbrev pub book_kept : ℕ → KeptTables → KeptParagraphs → Book
+book_kept version tables paragraphs = record {
+  version = version;
+  tables = map (λ entry. (entry.0, entry.1.text)) tables;
+  paragraphs = map paragraph_kept paragraphs;
+  marks = [];
+}
+
+-- the kept paragraph has its print, and the cells of that print's braille by the rules of its table
+pub record IsKeptParagraph (tables : KeptTables) (entry : ℕ × KeptParagraph) : Type 0 where
+  pub print : entry.1.print ≡ print_of (paragraph_kept entry)
+  pub table : BookTable
+  pub found : lookup (pointwise nat_eq entry.1.table) tables ≡ Some table
+  pub choices : List Choice
+  pub tiles : Tiles table.rules entry.1.print choices
+  pub cells : entry.1.cells ≡ braille table.rules entry.1.print choices
+
+-- what is true of a book as it is kept: it stands for a sound book, each table has the rules that its text means, and
+-- each paragraph has its print and its braille
+pub record IsKept (version : ℕ) (tables : KeptTables) (paragraphs : KeptParagraphs) : Type 0 where
+  pub sound : IsSound (book_kept version tables paragraphs)
+  pub means : All (λ entry. Means entry.1.text entry.1.rules) tables
+  pub translated : All (IsKeptParagraph tables) paragraphs

@@ -1,0 +1,15 @@
+-- The line of a paragraph in the list of a book.
+use Rattle.std.specs.Prelude.{◌≡◌, List, length}
+use Rattle.std.specs.Str.{chars}
+use Rattle.desk_book.specs.declared.list.Listed.{Listed}
+use Rattle.desk_book.specs.Book.{Paragraph}
+use Rattle.desk_book.specs.Print.{print_of}
+
+-- the item tells of this paragraph
+pub record IsListed (paragraph : Paragraph) (item : Listed) : Type 0 where
+  pub id : item.id ≡ paragraph.id
+  pub table : chars item.table.now ≡ paragraph.table
+  pub style : item.style ≡ paragraph.style
+  pub begins_volume : item.begins_volume ≡ paragraph.begins_volume
+  pub struck : item.struck ≡ paragraph.struck
+  pub length_is : item.length ≡ length (print_of paragraph)

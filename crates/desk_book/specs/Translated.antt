@@ -1,0 +1,35 @@
+-- The braille of a book's paragraphs.
+use Rattle.std.specs.Prelude.{◌≡◌, ℕ, ◌<◌, List, length, Some}
+use Rattle.louis_table.specs.Meaning.{Meaning}
+use Rattle.louis_table.specs.Table.{Means}
+use Rattle.louis_translate.specs.declared.choices.Choice.{Choice}
+use Rattle.louis_translate.specs.Tiling.{Tiles}
+use Rattle.louis_translate.specs.Braille.{braille, output_place, print_place}
+use Rattle.desk_book.specs.Book.{Book, Paragraph, text_of}
+use Rattle.desk_book.specs.Print.{print_of}
+
+-- by the meaning of the text of its table, these choices cover the paragraph's print
+pub record IsTranslatedBy (book : Book) (paragraph : Paragraph) (meaning : Meaning) (choices : List Choice) : Type 0 where
+  pub text : List ℕ
+  pub found : text_of book paragraph.table ≡ Some text
+  pub means : Means text meaning
+  pub tiles : Tiles meaning (print_of paragraph) choices
+
+-- the cells are the paragraph's braille
+abbrev pub IsBraille : Book → Paragraph → List ℕ → Type 0
+IsBraille book paragraph cells =
+    (meaning : Meaning) × (choices : List Choice) × IsTranslatedBy book paragraph meaning choices
+    × (cells ≡ braille meaning (print_of paragraph) choices)
+
+-- the place of the print is there, and so many cells stand before those of the choice that covers it
+abbrev pub IsOutputPlace : Book → Paragraph → (place cell : ℕ) → Type 0
+IsOutputPlace book paragraph place cell =
+    (meaning : Meaning) × (choices : List Choice) × IsTranslatedBy book paragraph meaning choices
+    × (place < length (print_of paragraph)) × (cell ≡ output_place meaning (print_of paragraph) choices place)
+
+-- the cell is there, and the choice that made it begins at this place of the print
+abbrev pub IsPrintPlace : Book → Paragraph → (cell place : ℕ) → Type 0
+IsPrintPlace book paragraph cell place =
+    (meaning : Meaning) × (choices : List Choice) × IsTranslatedBy book paragraph meaning choices
+    × (cell < length (braille meaning (print_of paragraph) choices))
+    × (place ≡ print_place meaning (print_of paragraph) choices cell)

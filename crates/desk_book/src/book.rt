@@ -1,0 +1,56 @@
+//! A book.
+ghost use Rattle.desk_book.specs.Book.{empty_book, paragraph_of, text_of};
+ghost use Rattle.desk_book.specs.Print.{print_of};
+ghost use Rattle.desk_book.specs.Translated.{IsBraille, IsOutputPlace, IsPrintPlace};
+ghost use Rattle.std.specs.Prelude.{◌≡◌, None, Some, IfErr, IfOk, Err};
+
+use super::paragraphs::{Paragraph, Paragraphs};
+use super::refusal::Refusal;
+use super::tables::Tables;
+use cell_core::Cell;
+use std::alloc::{AllocError, Global};
+use std::marker::Model;
+
+/// A book: its tables, its paragraphs with their prints and their braille, and its version, which each command
+/// raises by one. Contracts see what was typed; that the cells are those of the prints is true of every book.
+#[derive(Drop)]
+pub struct Book {
+    pub(crate) version: u64,
+    pub(crate) tables: Tables,
+    pub(crate) paragraphs: Paragraphs,
+}
+
+impl Model for Book {
+    ghost use Rattle.desk_book.specs.Book.{Book};
+    ghost use Rattle.desk_book.specs.Kept.{IsKept, book_kept};
+
+    ghost Value = { Book };
+
+    ghost view = { λ b. book_kept b.version b.tables b.paragraphs };
+
+    ghost invariant = { λ b. IsKept b.version b.tables b.paragraphs };
+}
+
+impl Book {
+    /// A book without anything, at version 0.
+    ///
+    /// # Errors
+    ///
+    /// Where an allocation was refused.
+    pub fn new(alloc: Global) -> Result<Self, AllocError>
+        ensures { IfOk result (λ book. book ≡ empty_book) }
+    {
+        Ok(Book {
+            version: 0,
+            tables: Tables::new(alloc),
+            paragraphs: Paragraphs::new(alloc),
+        })
+    }
+
+    /// The version: how many commands were accepted.
+    pub fn version(&self) -> u64
+        ensures { result ≡ self.now.version }
+    {
+        self.version
+    }
+}

@@ -1,0 +1,16 @@
+//! How much a book may hold.
+
+/// The greatest version: 2^53.
+pub(crate) const MOST_VERSION: u64 = 1 << 53;
+
+/// Tables of a book.
+pub(crate) const MOST_TABLES: usize = 16;
+
+/// Characters of a table's name.
+pub(crate) const MOST_NAME: usize = 32;
+
+/// Paragraphs of a book, struck ones counted.
+pub(crate) const MOST_PARAGRAPHS: usize = 20_000;
+
+/// Characters of a print.
+pub(crate) const MOST_PRINT: usize = 4_000;

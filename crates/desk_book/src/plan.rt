@@ -1,0 +1,353 @@
+//! Which change a command makes, or why it is refused.
+ghost use Rattle.desk_book.specs.Changes.{Carries};
+ghost use Rattle.desk_book.specs.Planned.{IsPlanned, IsTurnedDown};
+ghost use Rattle.desk_book.specs.Refusals.{IsAccepted, IsRefused};
+ghost use Rattle.std.specs.Prelude.{◌≡◌, ◌⊎◌, IfErr, IfOk};
+
+use super::book::Book;
+use super::braille::cells_of;
+use super::change::{Change, Effect};
+use super::command::{Anchor, Command};
+use super::limits::{MOST_PARAGRAPHS, MOST_PRINT, MOST_TABLES, MOST_VERSION};
+use super::paragraphs::{Paragraph, ParagraphsRoom};
+use super::refusal::{Limit, Refusal};
+use super::stored::{first_barred, is_table_name, stored};
+use super::style::Style;
+use super::tables::{BookTable, TablesRoom};
+use super::text::{Bytes, Text};
+use cell_core::Cells;
+use louis_table::{Characters, ReadFault};
+use louis_translate::{RuleBook, undefined_place};
+use std::alloc::{AllocError, Global};
+
+impl From<AllocError> for Refusal {
+    fn from(_: AllocError) -> Self {
+        Refusal::NoMemory
+    }
+}
+
+/// A copy of a text.
+fn copy(alloc: Global, text: &str) -> Result<Text, AllocError> {
+    Ok(Text::from_string(String::from_str(alloc, text)?))
+}
+
+impl Book {
+    /// The change that a command makes, if it is accepted, with room for all that it adds. The book stays as it is.
+    ///
+    /// # Errors
+    ///
+    /// The first refusal that holds, in this order: another version than the expected one; a bad name; a barred
+    /// character; no such paragraph, table or mark; a struck paragraph, or one that isn't, a resolved mark; places
+    /// that are not all there; nothing to undo; a text that is too long; a limit; a bad table; an undefined
+    /// character; a paragraph that a table no longer defines. Where an allocation was refused, `NoMemory` may stand
+    /// in its place.
+    pub fn plan(
+        &self,
+        alloc: Global,
+        command: &Command,
+        expect: Option<u64>,
+    ) -> Result<Change, Refusal>
+        ensures accepted { IfOk result (λ change. IsAccepted self.now expect command.now
+            × ((next : _) × Carries self.now command.now next change)) }
+        ensures refused { IfErr result (λ refusal.
+            IsRefused self.now expect command.now refusal ⊎ (refusal ≡ Refusal.NoMemory)) }
+    {
+        if let Some(expected) = expect {
+            if expected != self.version {
+                return Err(Refusal::Moved {
+                    version: self.version,
+                });
+            }
+        }
+        let effect = self.effect(alloc, command)?;
+        Ok(Change {
+            version: self.version + 1,
+            number: self.number(command),
+            effect,
+        })
+    }
+
+    /// The number that a command answers.
+    fn number(&self, command: &Command) -> Option<u64> {
+        match command {
+            Command::TypeIn { .. } => Some(self.paragraphs.len() as u64 + 1),
+            _ => None,
+        }
+    }
+
+    /// What a command does, whichever version is expected.
+    fn effect(&self, alloc: Global, command: &Command) -> Result<Effect, Refusal>
+        ensures planned { IfOk result (IsPlanned self.now command.now) }
+        ensures refused { IfErr result (IsTurnedDown self.now command.now) }
+    {
+        match command {
+            Command::Table { name, text } => self.plan_table(alloc, name, text),
+            Command::TypeIn {
+                anchor,
+                table,
+                text,
+            } => self.plan_type(alloc, *anchor, table, text),
+            Command::Strike { paragraph } => self.plan_strike(*paragraph),
+            Command::Restore { paragraph } => self.plan_restore(*paragraph),
+            Command::Style { paragraph, style } => self.plan_style(*paragraph, *style),
+            Command::Volume { paragraph, begins } => self.plan_volume(*paragraph, *begins),
+            Command::Retable { paragraph, table } => self.plan_retable(alloc, *paragraph, table),
+            Command::Move { paragraph, anchor } => self.plan_move(alloc, *paragraph, *anchor),
+        }
+    }
+
+    /// The paragraph that a command names.
+    fn named(&self, id: u64) -> Result<&Paragraph, Refusal> {
+        self.paragraphs.get(id).ok_or(Refusal::NoParagraph)
+    }
+
+    /// The paragraph that a command puts something behind is there.
+    fn check_anchor(&self, anchor: Anchor) -> Result<(), Refusal> {
+        if let Anchor::Behind(id) = anchor {
+            self.named(id)?;
+        }
+        Ok(())
+    }
+
+    /// The table that a command names.
+    fn table_named(&self, name: &Text) -> Result<&BookTable, Refusal> {
+        self.tables.get(name.as_str()).ok_or(Refusal::NoTable)
+    }
+
+    /// A version is left.
+    fn check_version(&self) -> Result<(), Refusal> {
+        if self.version >= MOST_VERSION {
+            return Err(Refusal::Full(Limit::Version));
+        }
+        Ok(())
+    }
+
+    fn plan_strike(&self, id: u64) -> Result<Effect, Refusal>
+        ensures planned { IfOk result (IsPlanned self.now (Command.Strike id)) }
+        ensures refused { IfErr result (IsTurnedDown self.now (Command.Strike id)) }
+    {
+        let paragraph = self.named(id)?;
+        if paragraph.struck {
+            return Err(Refusal::Struck);
+        }
+        self.check_version()?;
+        Ok(Effect::SetFlags {
+            id,
+            style: paragraph.style,
+            begins_volume: paragraph.begins_volume,
+            struck: true,
+        })
+    }
+
+    fn plan_restore(&self, id: u64) -> Result<Effect, Refusal>
+        ensures planned { IfOk result (IsPlanned self.now (Command.Restore id)) }
+        ensures refused { IfErr result (IsTurnedDown self.now (Command.Restore id)) }
+    {
+        let paragraph = self.named(id)?;
+        if !paragraph.struck {
+            return Err(Refusal::NotStruck);
+        }
+        self.check_version()?;
+        Ok(Effect::SetFlags {
+            id,
+            style: paragraph.style,
+            begins_volume: paragraph.begins_volume,
+            struck: false,
+        })
+    }
+
+    fn plan_style(&self, id: u64, style: Style) -> Result<Effect, Refusal>
+        ensures planned { IfOk result (IsPlanned self.now (Command.Style id style)) }
+        ensures refused { IfErr result (IsTurnedDown self.now (Command.Style id style)) }
+    {
+        let paragraph = self.named(id)?;
+        self.check_version()?;
+        Ok(Effect::SetFlags {
+            id,
+            style,
+            begins_volume: paragraph.begins_volume,
+            struck: paragraph.struck,
+        })
+    }
+
+    fn plan_volume(&self, id: u64, begins: bool) -> Result<Effect, Refusal>
+        ensures planned { IfOk result (IsPlanned self.now (Command.Volume id begins)) }
+        ensures refused { IfErr result (IsTurnedDown self.now (Command.Volume id begins)) }
+    {
+        let paragraph = self.named(id)?;
+        self.check_version()?;
+        Ok(Effect::SetFlags {
+            id,
+            style: paragraph.style,
+            begins_volume: begins,
+            struck: paragraph.struck,
+        })
+    }
+
+    fn plan_move(&self, alloc: Global, id: u64, anchor: Anchor) -> Result<Effect, Refusal>
+        ensures planned { IfOk result (IsPlanned self.now (Command.Move id anchor)) }
+        ensures refused { IfErr result (IsTurnedDown self.now (Command.Move id anchor)) }
+    {
+        self.named(id)?;
+        self.check_anchor(anchor)?;
+        self.check_version()?;
+        Ok(Effect::Reorder {
+            order: self.paragraphs.order_with_move(alloc, id, anchor)?,
+        })
+    }
+
+    fn plan_retable(&self, alloc: Global, id: u64, table: &Text) -> Result<Effect, Refusal>
+        ensures planned { IfOk result (IsPlanned self.now (Command.Retable id table.now)) }
+        ensures refused { IfErr result (IsTurnedDown self.now (Command.Retable id table.now)) }
+    {
+        let paragraph = self.named(id)?;
+        let kept = self.table_named(table)?;
+        if paragraph.struck {
+            return Err(Refusal::Struck);
+        }
+        self.check_version()?;
+        let print = paragraph.print.as_slice();
+        if let Some(place) = undefined_place(kept.rules.table(), print) {
+            return Err(Refusal::Undefined { place });
+        }
+        Ok(Effect::ChangeTable {
+            id,
+            table: copy(alloc, table.as_str())?,
+            cells: cells_of(alloc, &kept.rules, print)?,
+        })
+    }
+
+    fn plan_type(
+        &self,
+        alloc: Global,
+        anchor: Anchor,
+        table: &Text,
+        text: &Text,
+    ) -> Result<Effect, Refusal>
+        ensures planned { IfOk result (IsPlanned self.now (Command.TypeIn anchor table.now text.now)) }
+        ensures refused { IfErr result (IsTurnedDown self.now (Command.TypeIn anchor table.now text.now)) }
+    {
+        if let Some(place) = first_barred(text.as_str()) {
+            return Err(Refusal::BadText { place });
+        }
+        self.check_anchor(anchor)?;
+        let kept = self.table_named(table)?;
+        let print = stored(alloc, text.as_str())?;
+        if print.len() > MOST_PRINT {
+            return Err(Refusal::TooLong);
+        }
+        if self.paragraphs.len() >= MOST_PARAGRAPHS {
+            return Err(Refusal::Full(Limit::Paragraphs));
+        }
+        self.check_version()?;
+        if let Some(place) = undefined_place(kept.rules.table(), print.as_slice()) {
+            return Err(Refusal::Undefined { place });
+        }
+        let cells = cells_of(alloc, &kept.rules, print.as_slice())?;
+        Ok(Effect::AddParagraph {
+            paragraph: typed(alloc, table, print, cells)?,
+            room: ParagraphsRoom::new(alloc, self.paragraphs.len() + 1)?,
+            order: self.paragraphs.order_with_next(alloc, anchor)?,
+        })
+    }
+
+    fn plan_table(&self, alloc: Global, name: &Text, text: &Bytes) -> Result<Effect, Refusal>
+        ensures planned { IfOk result (IsPlanned self.now (Command.Table name.now text.now)) }
+        ensures refused { IfErr result (IsTurnedDown self.now (Command.Table name.now text.now)) }
+    {
+        if !is_table_name(name.as_str()) {
+            return Err(Refusal::BadName);
+        }
+        let is_new = self.tables.get(name.as_str()).is_none();
+        if is_new && self.tables.len() >= MOST_TABLES {
+            return Err(Refusal::Full(Limit::Tables));
+        }
+        self.check_version()?;
+        let table = read_table(alloc, text)?;
+        let name = copy(alloc, name.as_str())?;
+        if is_new {
+            return Ok(Effect::AddTable {
+                name,
+                table,
+                room: TablesRoom::new(alloc, self.tables.len() + 1)?,
+            });
+        }
+        self.check_users(&name, &table)?;
+        let cells = self.cells_by(alloc, &name, &table)?;
+        Ok(Effect::ReplaceTable { name, table, cells })
+    }
+
+    /// The table defines the print of each paragraph that uses the name.
+    fn check_users(&self, name: &Text, table: &BookTable) -> Result<(), Refusal> {
+        for place in 0..self.paragraphs.len() {
+            if let Some((id, paragraph)) = self.paragraphs.at(place) {
+                if paragraph.table.as_str() == name.as_str() {
+                    check_print(id, paragraph, table)?;
+                }
+            }
+        }
+        Ok(())
+    }
+
+    /// For each paragraph in the order of ids its cells by the table, where it uses the name.
+    fn cells_by(
+        &self,
+        alloc: Global,
+        name: &Text,
+        table: &BookTable,
+    ) -> Result<Vec<Option<Cells>>, AllocError> {
+        let mut all = Vec::with_capacity(alloc, self.paragraphs.len())?;
+        for index in 0..self.paragraphs.len() {
+            let mut new = None;
+            if let Some(paragraph) = self.paragraphs.get(index as u64 + 1) {
+                if paragraph.table.as_str() == name.as_str() {
+                    new = Some(cells_of(alloc, &table.rules, paragraph.print.as_slice())?);
+                }
+            }
+            all.push(new)?;
+        }
+        Ok(all)
+    }
+}
+
+/// The table defines the paragraph's print.
+fn check_print(id: u64, paragraph: &Paragraph, table: &BookTable) -> Result<(), Refusal> {
+    match undefined_place(table.rules.table(), paragraph.print.as_slice()) {
+        Some(place) => Err(Refusal::Untranslatable {
+            paragraph: id,
+            place,
+        }),
+        None => Ok(()),
+    }
+}
+
+/// A table of a text.
+fn read_table(alloc: Global, text: &Bytes) -> Result<BookTable, Refusal> {
+    match BookTable::read(alloc, text.as_slice()) {
+        Ok(table) => Ok(table),
+        Err(ReadFault::Table(fault)) => Err(Refusal::BadTable(fault)),
+        Err(ReadFault::NoMemory) => Err(Refusal::NoMemory),
+    }
+}
+
+/// A paragraph that was just typed.
+fn typed(
+    alloc: Global,
+    table: &Text,
+    print: Vec<char>,
+    cells: Cells,
+) -> Result<Paragraph, AllocError> {
+    let mut original = String::new(alloc);
+    for character in print.iter() {
+        original.push(*character)?;
+    }
+    Ok(Paragraph {
+        table: copy(alloc, table.as_str())?,
+        original: Text::from_string(original),
+        style: Style::Body,
+        begins_volume: false,
+        struck: false,
+        print: Characters::from_vec(print),
+        cells,
+    })
+}

@@ -1,0 +1,135 @@
+//! The tables of a book.
+ghost use Rattle.louis_table.specs.Table.{Means};
+ghost use Rattle.louis_table.specs.Tells.{Tells};
+ghost use Rattle.std.specs.Cmp.Lexicographic.{pointwise};
+ghost use Rattle.std.specs.Map.{lookup};
+ghost use Rattle.std.specs.Option.{option_copied};
+ghost use Rattle.std.specs.Prelude.{◌≡◌, ◌<◌, ◌≤◌, [], None, IfErr, IfOk, IsSome, length, nat_eq};
+ghost use Rattle.std.specs.Str.{chars};
+
+use super::text::{Bytes, Text};
+use indexmap::IndexMap;
+use louis_table::{ReadFault, Table};
+use louis_translate::PlainRules;
+use std::alloc::{AllocError, Global};
+use std::marker::Model;
+
+/// A table of a book: its text, and its rules.
+#[derive(Drop)]
+pub(crate) struct BookTable {
+    /// The text.
+    pub(crate) text: Bytes,
+    /// What it says.
+    pub(crate) rules: PlainRules,
+}
+
+impl BookTable {
+    /// Reads the text of a table, of which it keeps a copy.
+    pub(crate) fn read(alloc: Global, text: &[u8]) -> Result<Self, ReadFault>
+        ensures text { IfOk result (λ table. table.text ≡ text.now) }
+        ensures means { IfOk result (λ table. Means text.now table.rules) }
+        ensures bad { IfErr result (Tells text.now) }
+    {
+        let rules = PlainRules::new(Table::read(alloc, text)?);
+        let mut copy = Vec::new(alloc);
+        copy.extend_from_slice(text)
+            .map_err(|_| ReadFault::NoMemory)?;
+        Ok(BookTable {
+            text: Bytes::from_vec(copy),
+            rules,
+        })
+    }
+}
+
+/// Room for so many tables.
+#[derive(Drop)]
+pub(crate) struct TablesRoom {
+    entries: IndexMap<String, BookTable>,
+}
+
+impl Model for TablesRoom {
+    ghost use Rattle.indexmap.specs.IndexMap.{spare};
+    ghost use Rattle.std.specs.Prelude.{◌≡◌, ℕ, []};
+
+    ghost Value = { ℕ };
+
+    ghost view = { λ r. spare r.entries };
+
+    ghost invariant = { λ r. r.entries.entries ≡ [] };
+}
+
+impl TablesRoom {
+    /// Room for at least so many tables.
+    pub(crate) fn new(alloc: Global, count: usize) -> Result<Self, AllocError>
+        ensures { IfOk result (λ room. count ≤ room) }
+    {
+        Ok(TablesRoom {
+            entries: IndexMap::with_capacity(alloc, count)?,
+        })
+    }
+}
+
+/// Tables by name.
+#[derive(Drop)]
+pub(crate) struct Tables {
+    entries: IndexMap<String, BookTable>,
+}
+
+impl Model for Tables {
+    ghost use Rattle.desk_book.specs.Kept.{KeptTables, by_name};
+
+    ghost Value = { KeptTables };
+
+    ghost view = { λ t. by_name t.entries.entries };
+}
+
+impl Tables {
+    ghost use Rattle.desk_book.specs.Kept.{with_table};
+
+    /// No tables.
+    pub(crate) fn new(alloc: Global) -> Self
+        ensures { result ≡ [] }
+    {
+        Tables {
+            entries: IndexMap::new(alloc),
+        }
+    }
+
+    /// How many there are.
+    pub(crate) fn len(&self) -> usize
+        ensures { result ≡ length self.now }
+    {
+        self.entries.len()
+    }
+
+    /// The table with a name, if there is one.
+    pub(crate) fn get(&self, name: &str) -> Option<&BookTable>
+        ensures { option_copied result ≡ lookup (pointwise nat_eq (chars name.now)) self.now }
+    {
+        self.entries.get(name)
+    }
+
+    /// Puts a table in the place of the one with the name, if there is one.
+    pub(crate) fn replace(&mut self, name: &str, table: BookTable)
+        requires { IsSome (lookup (pointwise nat_eq (chars name.now)) self.old) }
+        ensures { self.new ≡ with_table (chars name.now) table self.old }
+    {
+        if let Some(old) = self.entries.get_mut(name) {
+            *old = table;
+        }
+    }
+
+    /// These tables and a new one. It takes no memory.
+    pub(crate) fn joined(self, name: Text, table: BookTable, room: TablesRoom) -> Self
+        requires room { length self < room }
+        requires new { lookup (pointwise nat_eq name) self ≡ None }
+        ensures { result ≡ with_table name table self }
+    {
+        let mut entries = room.entries;
+        for (old_name, old) in self.entries {
+            let _ = entries.insert(old_name, old);
+        }
+        let _ = entries.insert(name.into_string(), table);
+        Tables { entries }
+    }
+}
