@@ -32,7 +32,8 @@ impl BookTable {
     {
         let rules = PlainRules::new(Table::read(alloc, text)?);
         let mut copy = Vec::new(alloc);
-        copy.extend_from_slice(text).map_err(|_| ReadFault::NoMemory)?;
+        copy.extend_from_slice(text)
+            .map_err(|_| ReadFault::NoMemory)?;
         Ok(BookTable {
             text: Bytes::from_vec(copy),
             rules,
