@@ -1,2 +1,3 @@
 pub mod Arranging
+pub mod ByName
 pub mod Renewing

@@ -77,10 +77,14 @@ pub(crate) struct Tables {
 
 impl Model for Tables {
     ghost use Rattle.desk_book.specs.Kept.{KeptTables, by_name};
+    ghost use Rattle.indexmap.specs.IndexMap.{IsUnique};
+    ghost use Rattle.std.specs.String.{string_eq};
 
     ghost Value = { KeptTables };
 
     ghost view = { λ t. by_name t.entries.entries };
+
+    ghost invariant = { λ t. IsUnique string_eq t.entries };
 }
 
 impl Tables {
@@ -114,9 +118,10 @@ impl Tables {
         requires { IsSome (lookup (pointwise nat_eq (chars name.now)) self.old) }
         ensures { self.new ≡ with_table (chars name.now) table self.old }
     {
-        if let Some(old) = self.entries.get_mut(name) {
-            *old = table;
-        }
+        let Some(old) = self.entries.get_mut(name) else {
+            unreachable!()
+        };
+        *old = table;
     }
 
     /// These tables and a new one. It takes no memory.
@@ -126,10 +131,9 @@ impl Tables {
         ensures { result ≡ with_table name table self }
     {
         let mut entries = room.entries;
-        for (old_name, old) in self.entries {
-            let _ = entries.insert(old_name, old);
-        }
-        let _ = entries.insert(name.into_string(), table);
+        let mut old = self.entries;
+        entries.append(&mut old).unwrap();
+        entries.insert(name.into_string(), table).unwrap();
         Tables { entries }
     }
 }
