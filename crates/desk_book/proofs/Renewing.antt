@@ -1,12 +1,12 @@
 -- Paragraphs whose cells are made anew.
-use Rattle.std.proofs.Common.{◌≡◌, ℕ, zero, suc, ◌+◌, ◌-◌, ◌<◌, ◌≤◌, List, [], ◌∷◌, ◌++◌, map, length, set, take, drop, slice_get, Option, Some, None, MatchOption, option_map, option_and_then, IsPermutation, flat_map, refl, sym, ap, ◌∙◌, arith}
+use Rattle.std.proofs.Common.{◌≡◌, ℕ, zero, suc, ◌+◌, ◌-◌, ◌≤◌, List, [], ◌∷◌, ◌++◌, map, length, set, take, drop, slice_get, Option, Some, None, MatchOption, option_map, option_and_then, IsPermutation, flat_map, refl, sym, ap, ◌∙◌, arith}
 use Rattle.std.specs.List.{range_with_len}
 use Rattle.std.specs.Option.{option_flatten, option_map_or}
 use Rattle.std.specs.Vec.Iter.{into_iter_items, into_iter_steps}
 use Rattle.std.specs.declared.vec.IntoIter.{IntoIter}
 use Rattle.std.proofs.lemmas.List.{nil_from_length}
 use Rattle.std.proofs.lemmas.Option.{none-some, same_Some}
-use Rattle.desk_book.specs.Kept.{KeptParagraphs, new_cells, numbered, renewed}
+use Rattle.desk_book.specs.Kept.{new_cells, numbered, renewed}
 use Rattle.desk_book.specs.declared.paragraphs.Paragraph.{Paragraph as KeptParagraph}
 use Rattle.desk_book.proofs.Arranging.{IsUpTo, entry_of, map-in_order, numbered-there}
 

@@ -1,4 +1,4 @@
-use Rattle.std.proofs.Common.{◌≡◌, ℕ, ◌+◌, ◌-◌, ◌<◌, ◌≤◌, length, slice_get, Option, Some, None, refl, sym, ap, ◌∙◌, arith}
+use Rattle.std.proofs.Common.{◌≡◌, ◌-◌, length, slice_get, Some, None, refl, sym, ap, ◌∙◌, arith}
 use Rattle.std.proofs.lemmas.Option.{slice_get_read}
 use Rattle.desk_book.proofs.Arranging.{AreUpTo-order, All-slice_get, IsUpTo, option_copied-item, permutes_items, slice_get_none-in_order, slice_get_some-in_order}
 use Rattle.desk_book.proofs.paragraphs.Paragraphs.at.Goals as goal

@@ -1,7 +1,6 @@
-use Rattle.std.proofs.Common.{◌≡◌, ℕ, ◌+◌, ◌-◌, ◌<◌, ◌≤◌, nat_eq, length, Option, Some, None, sym, ap, ◌∙◌, arith}
+use Rattle.std.proofs.Common.{◌≡◌, nat_eq, length, sym, ap, ◌∙◌, arith}
 use Rattle.std.specs.Map.{lookup}
 use Rattle.std.proofs.lemmas.Option.{slice_get_past}
-use Rattle.desk_book.specs.Kept.{KeptParagraphs}
 use Rattle.desk_book.proofs.Arranging.{length-in_order, lookup_index-in_order, lookup_zero-in_order, permutes_items}
 use Rattle.desk_book.proofs.paragraphs.Paragraphs.index_of.Goals as goal
 

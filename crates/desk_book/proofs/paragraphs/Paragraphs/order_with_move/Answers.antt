@@ -1,6 +1,6 @@
 use Rattle.std.proofs.Common.{◌≡◌, ◌==◌, cond, false, true, not, sym, ap, ◌∙◌}
 use Rattle.std.specs.List.{filter}
-use Rattle.desk_book.specs.Kept.{ids, with_id, with_id_moved}
+use Rattle.desk_book.specs.Kept.{ids, with_id}
 use Rattle.desk_book.specs.Step.{is_behind}
 use Rattle.desk_book.proofs.Arranging.{ids-shown}
 use Rattle.desk_book.proofs.paragraphs.Paragraphs.order_with_move.Goals as goal

@@ -1,4 +1,4 @@
-use Rattle.std.proofs.Common.{◌≡◌, ℕ, ◌+◌, ◌<◌, ◌≤◌, List, [], ◌∷◌, drop, get_or, length, map, refl, subst, sym, ap, ◌∙◌, arith, MatchOption, Option}
+use Rattle.std.proofs.Common.{◌≡◌, [], ◌∷◌, get_or, length, map, refl, subst, sym, ap, ◌∙◌, arith, MatchOption}
 use Rattle.std.proofs.lemmas.List.{with_items_is}
 use Rattle.std.proofs.lemmas.Option.{slice_get_read}
 use Rattle.std.specs.List.{flat_map}

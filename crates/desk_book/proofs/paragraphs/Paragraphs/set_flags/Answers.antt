@@ -1,4 +1,4 @@
-use Rattle.std.proofs.Common.{◌<◌, length, refl, sym, ap, ◌∙◌, arith}
+use Rattle.std.proofs.Common.{length, refl, sym, ap, ◌∙◌, arith}
 use Rattle.std.proofs.lemmas.Option.{slice_get_read}
 use Rattle.desk_book.specs.Kept.{with_kept_change}
 use Rattle.desk_book.specs.declared.paragraphs.Paragraph.{Paragraph as KeptParagraph}

@@ -1,7 +1,7 @@
-use Rattle.std.proofs.Common.{◌≡◌, ℕ, ◌+◌, ◌<◌, ◌≤◌, List, [], ◌∷◌, ◌++◌, true, is_ok, length, vec_len, subst, sym, ap, ap₂, ◌∙◌, arith}
+use Rattle.std.proofs.Common.{◌≡◌, ◌+◌, [], ◌∷◌, ◌++◌, true, is_ok, length, vec_len, subst, sym, ap, ap₂, ◌∙◌, arith}
 use Rattle.std.specs.List.{flat_map, range_with_len}
 use Rattle.std.specs.List.Sorted.{IsPermutation}
-use Rattle.desk_book.specs.Kept.{KeptParagraphs, arranged, numbered}
+use Rattle.desk_book.specs.Kept.{arranged, numbered}
 use Rattle.desk_book.proofs.Arranging.{arranged-pushed, length-shown, permutes_items}
 use Rattle.desk_book.proofs.paragraphs.Paragraphs.typed.Goals as goal
 
