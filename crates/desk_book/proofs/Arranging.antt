@@ -237,21 +237,26 @@ module _ (items : List KeptParagraph) where
         changed : ℕ × KeptParagraph → ℕ × KeptParagraph
         changed entry = if entry.0 == id then (entry.0, change entry.1) else entry
 
+        here : (other : ℕ) (found : KeptParagraph) → other ≡ id → other - 1 ≡ index → slice_get items (other - 1) ≡ Some found
+            → map changed (entry_of other (Some found)) ≡ numbered (set items index (change kept)) other
+        here other found same place there =
+            ap (λ t. cond t (other, change found) (other, found) ∷ []) (eq-eqb other id same)
+            ∙ (ap (λ k. (other, change k) ∷ []) (same_Some found kept (sym there ∙ (ap (slice_get items) place ∙ is)))
+            ∙ sym (ap (entry_of other) (ap (slice_get (set items index (change kept))) place ∙ slice_get-set_same items index (change kept) (slice_get_within items index kept is))))
+
+        elsewhere : (other : ℕ) (found : KeptParagraph) → other ≢ id → other - 1 ≢ index → slice_get items (other - 1) ≡ Some found
+            → map changed (entry_of other (Some found)) ≡ numbered (set items index (change kept)) other
+        elsewhere other found apart away there =
+            ap (λ t. cond t (other, change found) (other, found) ∷ []) (ne_eqb other id apart)
+            ∙ sym (ap (entry_of other) (slice_get-set_other items index (other - 1) (change kept) away ∙ there))
+
         each : (other : ℕ) → IsUpTo (length items) other → map changed (numbered items other) ≡ numbered (set items index (change kept)) other
         each other up =
             let found = numbered-there items other up in
             ap (λ o. map changed (entry_of other o)) found.1
             ∙ elim (cases_eq other id) [
-              | inl same ↦
-                  let place : other - 1 ≡ index = omega (arith, at, same) in
-                  let this : found.0 ≡ kept = same_Some found.0 kept (sym found.1 ∙ (ap (slice_get items) place ∙ is)) in
-                  ap (λ t. cond t (other, change found.0) (other, found.0) ∷ []) (eq-eqb other id same)
-                  ∙ (ap (λ k. (other, change k) ∷ []) this
-                  ∙ sym (ap (entry_of other) (ap (slice_get (set items index (change kept))) place ∙ slice_get-set_same items index (change kept) (slice_get_within items index kept is))))
-              | inr apart ↦
-                  let elsewhere : other - 1 ≢ index = λ same. apart (omega (arith, at, same, up.0)) in
-                  ap (λ t. cond t (other, change found.0) (other, found.0) ∷ []) (ne_eqb other id apart)
-                  ∙ sym (ap (entry_of other) (slice_get-set_other items index (other - 1) (change kept) elsewhere ∙ found.1))
+              | inl same ↦ here other found.0 same (omega (arith, at, same)) found.1
+              | inr apart ↦ elsewhere other found.0 apart (λ same. apart (omega (arith, at, same, up.0))) found.1
             ]
 
     -- these paragraphs and one more

@@ -91,7 +91,7 @@ impl ParagraphsRoom {
 pub(crate) struct Paragraphs {
     // the paragraph with id n has index n - 1
     items: Vec<Paragraph>,
-    // ids
+    // the ids as the paragraphs stand
     order: Vec<u64>,
 }
 
@@ -150,7 +150,7 @@ fn without(alloc: Global, ids: &[u64], id: u64) -> Result<Vec<u64>, AllocError>
         .collect(alloc)
 }
 
-/// Whether something is put behind the paragraph with this id.
+/// Whether a paragraph with this id would be put behind itself.
 fn stays_behind(id: u64, after: Anchor) -> bool
     ensures { result ≡ is_behind id after }
 {
@@ -237,6 +237,7 @@ impl Paragraphs {
         requires order { IsPermutation (range_with_len 1 (length self + 1)) order }
         ensures { result ≡ arranged order (self ++ (length self + 1, paragraph) ∷ []) }
     {
+        // the room is for all of them, so nothing is asked for here
         let mut items = room.items;
         let mut old = self.items;
         items.append(&mut old).unwrap();

@@ -24,16 +24,15 @@ pub(crate) struct BookTable {
 }
 
 impl BookTable {
-    /// Reads the text of a table, of which it keeps a copy.
+    /// Reads the text of a table, of which it keeps a copy. The fault is that which is told of the text, or that an
+    /// allocation was refused.
     pub(crate) fn read(alloc: Global, text: &[u8]) -> Result<Self, ReadFault>
         ensures text { IfOk result (λ table. table.text ≡ text.now) }
         ensures means { IfOk result (λ table. Means text.now table.rules) }
         ensures bad { IfErr result (Tells text.now) }
     {
         let rules = PlainRules::new(Table::read(alloc, text)?);
-        let mut copy = Vec::new(alloc);
-        copy.extend_from_slice(text)
-            .map_err(|_| ReadFault::NoMemory)?;
+        let copy = Vec::from_slice(alloc, text).map_err(|_| ReadFault::NoMemory)?;
         Ok(BookTable {
             text: Bytes::from_vec(copy),
             rules,
@@ -130,6 +129,7 @@ impl Tables {
         requires new { lookup (pointwise nat_eq name) self ≡ None }
         ensures { result ≡ with_table name table self }
     {
+        // the room is for all of them, so nothing is asked for here
         let mut entries = room.entries;
         let mut old = self.entries;
         entries.append(&mut old).unwrap();
