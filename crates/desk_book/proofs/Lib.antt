@@ -1,11 +1,14 @@
+pub mod Accepted
+pub mod Arranging
+pub mod ByName
+pub mod FirstUndefined
 pub mod Histories
 pub mod Judging
 pub mod Members
 pub mod Numbering
-pub mod TableEntries
 pub mod ParagraphLists
-pub mod FirstUndefined
+pub mod Renewing
 pub mod SoundBooks
-pub mod Accepted
 pub mod SoundParagraphs
 pub mod SoundSteps
+pub mod TableEntries
