@@ -1,12 +1,13 @@
 -- What is found in a book as it is kept, and in the book that it stands for.
-use Rattle.std.proofs.Common.{◌≡◌, ℕ, List, [], ◌∷◌, length, map, Option, Some, None, Contains, refl, sym, ap, subst, ◌∙◌, cond, inl, inr}
+use Rattle.std.proofs.Common.{◌≡◌, ℕ, zero, suc, ◌+◌, ◌<◌, drop, arith, List, [], ◌∷◌, length, map, Option, Some, None, Contains, refl, sym, ap, subst, ◌∙◌, cond, inl, inr}
 use Rattle.std.specs.List.{All, find}
 use Rattle.std.specs.Map.{lookup}
-use Rattle.std.specs.Prelude.{Bool, nat_eq, option_map}
+use Rattle.std.specs.Prelude.{Bool, nat_eq, option_map, slice_get}
 use Rattle.std.specs.Cmp.{unsigned_Decides}
 use Rattle.std.specs.Cmp.Lexicographic.{pointwise, pointwise_decides}
 use Rattle.std.proofs.lemmas.Bool.{cases_Bool, cond-true, cond-false, eqb-true, eq-eqb, ne_eqb, eqb-false}
-use Rattle.std.proofs.lemmas.List.Elements.{All-contains, All-nil, All-cons, All-head, All-tail}
+use Rattle.std.proofs.lemmas.List.Elements.{All-contains, All-weaker, All-nil, All-cons, All-head, All-tail}
+use Rattle.std.proofs.lemmas.List.{length-map}
 use Rattle.std.proofs.lemmas.Map.Views.{Contains-from_lookup}
 use Rattle.louis_table.specs.Meaning.{Meaning}
 use Rattle.louis_table.specs.Table.{Means}
@@ -18,10 +19,11 @@ use Rattle.louis_translate.specs.Braille.{braille}
 use Rattle.desk_book.specs.declared.tables.BookTable.{BookTable}
 use Rattle.desk_book.specs.declared.paragraphs.Paragraph.{Paragraph as KeptParagraph}
 use Rattle.desk_book.specs.Book.{Book, Paragraph, paragraph_of, text_of}
-use Rattle.desk_book.specs.Kept.{KeptTables, KeptParagraphs, paragraph_kept, book_kept, IsKeptParagraph, IsKept}
+use Rattle.desk_book.specs.Kept.{KeptTables, KeptParagraphs, paragraph_kept, book_kept, HavePrints, IsKeptParagraph, IsKept}
 use Rattle.desk_book.specs.Print.{print_of}
 use Rattle.desk_book.specs.Sound.{IsSoundParagraph}
 use Rattle.desk_book.specs.Shown.{IsShown}
+use Rattle.desk_book.proofs.SoundStepsGiven.{IsSound-empty}
 
 -- ---- entries
 
@@ -35,7 +37,7 @@ lookup-map test f (e ∷ es) =
     ]
 
 -- what holds of each image holds, of its image, of each element
-All-from_map : {X Y : Type 0} (P : Y → Type 0) (f : X → Y) (xs : List X) → All P (map f xs) → All (λ x. P (f x)) xs
+pub All-from_map : {X Y : Type 0} (P : Y → Type 0) (f : X → Y) (xs : List X) → All P (map f xs) → All (λ x. P (f x)) xs
 All-from_map P f [] all = All-nil (λ x. P (f x))
 All-from_map P f (x ∷ xs) all = All-cons (λ x. P (f x)) x xs (All-head P (f x) (map f xs) all) (All-from_map P f xs (All-tail P (f x) (map f xs) all))
 
@@ -108,3 +110,37 @@ module _ (version : ℕ) (tables : KeptTables) (paragraphs : KeptParagraphs) (is
   -- the table of a paragraph that is there is there
   pub table-kept : (id : ℕ) (kept : KeptParagraph) → lookup (nat_eq id) paragraphs ≡ Some kept → (table : BookTable) × (lookup (pointwise nat_eq kept.table) tables ≡ Some table)
   table-kept id kept e = let own = All-found (IsKeptParagraph tables) id kept paragraphs is.translated e in (own.table, own.found)
+
+-- nothing is kept of an empty book
+pub IsKept-empty : IsKept 0 [] []
+IsKept-empty = record {
+  sound = IsSound-empty;
+  means = All-nil (λ (entry : List ℕ × BookTable). Means entry.1.text entry.1.rules);
+  translated = All-nil (IsKeptParagraph []);
+}
+
+-- ---- paragraphs from a place on
+
+pub drop-there : {X : Type 0} (xs : List X) (i : ℕ) (x : X) → slice_get xs i ≡ Some x → (drop i xs ≡ x ∷ drop (i + 1) xs) × (i < length xs)
+drop-there [] i x e = absurd (cc)
+drop-there (y ∷ xs) zero x e = let same : y ≡ x = cc in (ap (λ z. z ∷ xs) same, omega arith)
+drop-there (y ∷ xs) (suc i) x e =
+    let rest = drop-there xs i x e in
+    (rest.0 ∙ ap (λ k. x ∷ drop k (y ∷ xs)) (let next : suc (i + 1) ≡ suc i + 1 = omega arith in next), omega arith)
+
+pub drop-past : {X : Type 0} (xs : List X) (i : ℕ) → slice_get xs i ≡ None → drop i xs ≡ []
+drop-past [] zero e = refl
+drop-past [] (suc i) e = refl
+drop-past (y ∷ xs) zero e = absurd (cc)
+drop-past (y ∷ xs) (suc i) e = drop-past xs i e
+
+pub Contains-there : {X : Type 0} (xs : List X) (i : ℕ) (x : X) → slice_get xs i ≡ Some x → Contains xs x
+Contains-there [] i x e = absurd (cc)
+Contains-there (y ∷ xs) zero x e = (0, omega arith, (let same : y ≡ x = cc in same))
+Contains-there (y ∷ xs) (suc i) x e = let rest = Contains-there xs i x e in (suc rest.0, (let lt = rest.1 in omega arith), rest.2)
+
+pub HavePrints-kept : (version : ℕ) (tables : KeptTables) (paragraphs : KeptParagraphs) → IsKept version tables paragraphs → HavePrints paragraphs
+HavePrints-kept version tables paragraphs is =
+    let few = is.sound.few_paragraphs in
+    let many = length-map paragraphs paragraph_kept in
+    (omega arith, All-weaker (IsKeptParagraph tables) (λ entry. entry.1.print ≡ print_of (paragraph_kept entry)) (λ entry kept. kept.print) paragraphs is.translated)

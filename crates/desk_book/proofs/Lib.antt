@@ -1,3 +1,5 @@
 pub mod Histories
 pub mod Judging
 pub mod KeptBooks
+pub mod SoundStepsGiven
+pub mod Settled
