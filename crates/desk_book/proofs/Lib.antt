@@ -4,11 +4,14 @@ pub mod ByName
 pub mod FirstUndefined
 pub mod Histories
 pub mod Judging
+pub mod KeptBooks
 pub mod Members
 pub mod Numbering
 pub mod ParagraphLists
 pub mod Renewing
+pub mod Settled
 pub mod SoundBooks
 pub mod SoundParagraphs
 pub mod SoundSteps
+pub mod SoundStepsGiven
 pub mod TableEntries

@@ -77,3 +77,8 @@ pub record Carries (book : Book) (command : Command) (next : Book) (change : Cha
   pub version : change.version ≡ next.version
   pub number : change.number ≡ number_of book command
   pub does : Does book command next change.effect
+
+-- some accepted command makes the next book of this one, at the version given, by the effect
+abbrev pub Puts : Book → ℕ → Effect → Book → Type 0
+Puts book version effect next =
+    (command : Command) × IsAccepted book None command × Makes book command next × (version ≡ next.version) × Does book command next effect
