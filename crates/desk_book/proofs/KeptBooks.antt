@@ -23,7 +23,7 @@ use Rattle.desk_book.specs.Kept.{KeptTables, KeptParagraphs, paragraph_kept, boo
 use Rattle.desk_book.specs.Print.{print_of}
 use Rattle.desk_book.specs.Sound.{IsSoundParagraph}
 use Rattle.desk_book.specs.Shown.{IsShown}
-use Rattle.desk_book.proofs.SoundStepsGiven.{IsSound-empty}
+use Rattle.desk_book.proofs.SoundSteps.{IsSound-empty}
 
 -- ---- entries
 

@@ -13,5 +13,4 @@ pub mod Settled
 pub mod SoundBooks
 pub mod SoundParagraphs
 pub mod SoundSteps
-pub mod SoundStepsGiven
 pub mod TableEntries

@@ -39,7 +39,12 @@ use Rattle.desk_book.specs.Refusals.{IsAccepted, paragraph_before}
 use Rattle.desk_book.specs.Sound.{IsSound}
 use Rattle.desk_book.specs.Step.{Makes, typed, next_id, next_with_tables, next_with_paragraphs, with_paragraph, with_move, with_change}
 use Rattle.desk_book.proofs.KeptBooks.{lookup-map, found-kept, All-found, All-from_map, means-kept}
-use Rattle.desk_book.proofs.SoundStepsGiven.{IsSound-makes, ids_of, AreApart, found, paragraphs-apart, AreApart-permutation, id-found, Contains-found, found-own, named_paragraph, IsPermutation-with_paragraph, IsPermutation-with_move, Contains-here, Contains-behind, Contains-map, All-put, lookup-put}
+use Rattle.desk_book.proofs.Accepted.{named_paragraph}
+use Rattle.desk_book.proofs.Members.{Contains-here, Contains-behind, Contains-map}
+use Rattle.desk_book.proofs.ParagraphLists.{ids_of, AreApart, found, AreApart-permutation, id-found, Contains-found, found-own, IsPermutation-with_paragraph, IsPermutation-with_move}
+use Rattle.desk_book.proofs.SoundBooks.{paragraphs-apart}
+use Rattle.desk_book.proofs.SoundSteps.{IsSound-makes}
+use Rattle.desk_book.proofs.TableEntries.{All-put, lookup-put}
 
 -- ---- tables
 
