@@ -1,2 +1,4 @@
 pub mod Histories
 pub mod Judging
+pub mod PieceLists
+pub mod TextTests
