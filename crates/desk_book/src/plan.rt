@@ -1,8 +1,10 @@
 //! Which change a command makes, or why it is refused.
+ghost use Rattle.desk_book.specs.Book.{paragraph_of, text_of};
 ghost use Rattle.desk_book.specs.Changes.{Carries};
-ghost use Rattle.desk_book.specs.Planned.{IsPlanned, IsTurnedDown};
-ghost use Rattle.desk_book.specs.Refusals.{IsAccepted, IsRefused};
-ghost use Rattle.std.specs.Prelude.{◌≡◌, ◌⊎◌, IfErr, IfOk};
+ghost use Rattle.desk_book.specs.Limits.{most_version};
+ghost use Rattle.desk_book.specs.Planned.{AreNotAllThere, AreThere, IsKeptFor, IsPlanned, IsTableFor, IsTurnedDown};
+ghost use Rattle.desk_book.specs.Refusals.{IsAccepted, IsRefused, paragraph_before};
+ghost use Rattle.std.specs.Prelude.{◌≡◌, ◌⊎◌, ◌<◌, ◌≤◌, IfErr, IfOk, None, OnOk};
 
 use super::book::Book;
 use super::braille::cells_of;
@@ -21,6 +23,11 @@ use louis_translate::{RuleBook, undefined_place};
 use std::alloc::{AllocError, Global};
 
 impl From<AllocError> for Refusal {
+    ghost use Rattle.desk_book.specs.declared.refusal.Refusal.{Refusal};
+    ghost use Rattle.desk_book.specs.declared.refusal.Refusal.TheVariants.{NoMemory};
+
+    ghost from_gives = { λ _ refusal. refusal ≡ NoMemory };
+
     fn from(_: AllocError) -> Self {
         Refusal::NoMemory
     }
@@ -29,6 +36,42 @@ impl From<AllocError> for Refusal {
 /// A copy of a text.
 fn copy(alloc: Global, text: &str) -> Result<Text, AllocError> {
     Ok(Text::from_string(String::from_str(alloc, text)?))
+}
+
+/// A paragraph is struck, or isn't; its other flags stay.
+fn with_struck(id: u64, paragraph: &Paragraph, struck: bool) -> Effect
+    ensures { result ≡ Effect.SetFlags id paragraph.now.style paragraph.now.begins_volume struck }
+{
+    Effect::SetFlags {
+        id,
+        style: paragraph.style,
+        begins_volume: paragraph.begins_volume,
+        struck,
+    }
+}
+
+/// A paragraph gets a style; its flags stay.
+fn with_style(id: u64, paragraph: &Paragraph, style: Style) -> Effect
+    ensures { result ≡ Effect.SetFlags id style paragraph.now.begins_volume paragraph.now.struck }
+{
+    Effect::SetFlags {
+        id,
+        style,
+        begins_volume: paragraph.begins_volume,
+        struck: paragraph.struck,
+    }
+}
+
+/// A paragraph begins a volume, or doesn't; its style and other flag stay.
+fn with_volume(id: u64, paragraph: &Paragraph, begins: bool) -> Effect
+    ensures { result ≡ Effect.SetFlags id paragraph.now.style begins paragraph.now.struck }
+{
+    Effect::SetFlags {
+        id,
+        style: paragraph.style,
+        begins_volume: begins,
+        struck: paragraph.struck,
+    }
 }
 
 impl Book {
@@ -97,12 +140,20 @@ impl Book {
     }
 
     /// The paragraph that a command names.
-    fn named(&self, id: u64) -> Result<&Paragraph, Refusal> {
+    fn named(&self, id: u64) -> Result<&Paragraph, Refusal>
+        ensures found { IfOk result (λ kept. IsKeptFor self.now id kept.now) }
+        ensures missing { IfErr result (λ refusal.
+            (refusal ≡ Refusal.NoParagraph) × (paragraph_of self.now id ≡ None)) }
+    {
         self.paragraphs.get(id).ok_or(Refusal::NoParagraph)
     }
 
     /// The paragraph that a command puts something behind is there.
-    fn check_anchor(&self, anchor: Anchor) -> Result<(), Refusal> {
+    fn check_anchor(&self, anchor: Anchor) -> Result<(), Refusal>
+        ensures there { OnOk result (AreThere self.now (paragraph_before anchor)) }
+        ensures missing { IfErr result (λ refusal.
+            (refusal ≡ Refusal.NoParagraph) × AreNotAllThere self.now (paragraph_before anchor)) }
+    {
         if let Anchor::Behind(id) = anchor {
             self.named(id)?;
         }
@@ -110,12 +161,20 @@ impl Book {
     }
 
     /// The table that a command names.
-    fn table_named(&self, name: &Text) -> Result<&BookTable, Refusal> {
+    fn table_named(&self, name: &Text) -> Result<&BookTable, Refusal>
+        ensures found { IfOk result (λ table. IsTableFor self.now name.now table.now) }
+        ensures missing { IfErr result (λ refusal.
+            (refusal ≡ Refusal.NoTable) × (text_of self.now name.now ≡ None)) }
+    {
         self.tables.get(name.as_str()).ok_or(Refusal::NoTable)
     }
 
     /// A version is left.
-    fn check_version(&self) -> Result<(), Refusal> {
+    fn check_version(&self) -> Result<(), Refusal>
+        ensures left { OnOk result (self.now.version < most_version) }
+        ensures full { IfErr result (λ refusal.
+            (refusal ≡ Refusal.Full Limit.Version) × (most_version ≤ self.now.version)) }
+    {
         if self.version >= MOST_VERSION {
             return Err(Refusal::Full(Limit::Version));
         }
@@ -131,12 +190,7 @@ impl Book {
             return Err(Refusal::Struck);
         }
         self.check_version()?;
-        Ok(Effect::SetFlags {
-            id,
-            style: paragraph.style,
-            begins_volume: paragraph.begins_volume,
-            struck: true,
-        })
+        Ok(with_struck(id, paragraph, true))
     }
 
     fn plan_restore(&self, id: u64) -> Result<Effect, Refusal>
@@ -148,12 +202,7 @@ impl Book {
             return Err(Refusal::NotStruck);
         }
         self.check_version()?;
-        Ok(Effect::SetFlags {
-            id,
-            style: paragraph.style,
-            begins_volume: paragraph.begins_volume,
-            struck: false,
-        })
+        Ok(with_struck(id, paragraph, false))
     }
 
     fn plan_style(&self, id: u64, style: Style) -> Result<Effect, Refusal>
@@ -162,12 +211,7 @@ impl Book {
     {
         let paragraph = self.named(id)?;
         self.check_version()?;
-        Ok(Effect::SetFlags {
-            id,
-            style,
-            begins_volume: paragraph.begins_volume,
-            struck: paragraph.struck,
-        })
+        Ok(with_style(id, paragraph, style))
     }
 
     fn plan_volume(&self, id: u64, begins: bool) -> Result<Effect, Refusal>
@@ -176,12 +220,7 @@ impl Book {
     {
         let paragraph = self.named(id)?;
         self.check_version()?;
-        Ok(Effect::SetFlags {
-            id,
-            style: paragraph.style,
-            begins_volume: begins,
-            struck: paragraph.struck,
-        })
+        Ok(with_volume(id, paragraph, begins))
     }
 
     fn plan_move(&self, alloc: Global, id: u64, anchor: Anchor) -> Result<Effect, Refusal>
