@@ -4,19 +4,24 @@ use Rattle.std.specs.List.{All, Contains}
 use Rattle.std.specs.Prelude.{IsSome, is_some, nat_eq}
 use Rattle.std.proofs.lemmas.Bool.{both_ways, cases_Bool, eqb-true}
 use Rattle.std.proofs.lemmas.List.Elements.{All-head, All-tail}
+use Rattle.louis_table.specs.Meaning.{Meaning}
+use Rattle.louis_table.specs.Table.{Means}
+use Rattle.louis_table.proofs.OneMeaning.{one_meaning}
+use Rattle.louis_translate.specs.Position.{AreDefined, IsFirstUndefined}
 use Rattle.desk_book.specs.declared.command.Command.{Command}
 use Rattle.desk_book.specs.declared.paragraphs.Paragraph.{Paragraph as KeptParagraph}
+use Rattle.desk_book.specs.declared.tables.BookTable.{BookTable}
 use Rattle.desk_book.specs.declared.refusal.Limit.TheVariants.{Version}
 use Rattle.desk_book.specs.declared.refusal.Refusal.{Refusal}
-use Rattle.desk_book.specs.declared.refusal.Refusal.TheVariants.{NoParagraph, NoTable, Full}
+use Rattle.desk_book.specs.declared.refusal.Refusal.TheVariants.{NoParagraph, NoTable, Full, Undefined}
 use Rattle.desk_book.specs.Book.{Book, Paragraph, paragraph_of, text_of}
 use Rattle.desk_book.specs.Judging.{Passes}
 use Rattle.desk_book.specs.Kept.{paragraph_kept}
 use Rattle.desk_book.specs.Limits.{most_version}
-use Rattle.desk_book.specs.Planned.{AreNotAllThere, AreThere, IsKeptFor, IsTurnedDown}
-use Rattle.desk_book.specs.Refusals.{Holds, turn, IsAccepted, LacksParagraph, LacksTable, IsStruck, IsNotStruck, live_paragraph, struck_paragraph, paragraphs_named, table_named}
+use Rattle.desk_book.specs.Planned.{AreNotAllThere, AreThere, IsKeptFor, IsTableFor, IsTurnedDown}
+use Rattle.desk_book.specs.Refusals.{Holds, turn, IsAccepted, LacksParagraph, LacksTable, IsStruck, IsNotStruck, IsUndefined, live_paragraph, print_to_translate, struck_paragraph, paragraphs_named, table_named}
 use Rattle.desk_book.specs.Step.{with_change}
-use Rattle.desk_book.proofs.Judging.{IsAccepted-passes, IsRefused-passes, Passes-full, Passes-moved, Passes-no_paragraph, Passes-no_table, Passes-not_struck, Passes-skip, Passes-struck, skips}
+use Rattle.desk_book.proofs.Judging.{IsAccepted-passes, IsRefused-passes, Passes-full, Passes-moved, Passes-no_paragraph, Passes-no_table, Passes-not_struck, Passes-skip, Passes-struck, Passes-undefined, skips}
 
 -- ---- paragraphs that are named
 
@@ -33,6 +38,13 @@ module _ (book : Book) where
   pub AreThere-cons : (id : ℕ) (kept : KeptParagraph) (ids : List ℕ) → IsKeptFor book id kept → AreThere book ids → AreThere book (id ∷ ids)
   AreThere-cons id kept ids k rest other (zero, within, at) = subst (λ (n : ℕ). IsSome (paragraph_of book n)) at (ap is_some k.found)
   AreThere-cons id kept ids k rest other (suc i, within, at) = rest other (i, omega arith, at)
+
+same_some : {X : Type 0} (x y : X) → Some x ≡ Some y → x ≡ y
+same_some x y e = cc
+
+-- a table that defines a print leaves no first character of it undefined
+pub defined_not_first : (meaning : Meaning) (print : List ℕ) (place : ℕ) → AreDefined meaning print → ¬ IsFirstUndefined meaning print place
+defined_not_first meaning print place defined first = let there = defined place first.within in let none = first.undefined in cc (ap is_some none)
 
 -- ---- turns
 
@@ -69,6 +81,26 @@ module _ (book : Book) (command : Command) where
 
   pub accepted_after : (n : ℕ) → Passes book None command n → skips command n 20 ≡ true → IsAccepted book None command
   accepted_after n passes skip = IsAccepted-passes book None command (Passes-skip book None command n 20 skip passes)
+
+  -- ---- a print by a table
+
+  module _ (name print : List ℕ) (table : BookTable) (given : print_to_translate book command ≡ Some (print, name)) (found : IsTableFor book name table) where
+    pub undefined : (told : Refusal) (place : ℕ) → Passes book None command 18 → told ≡ Undefined place → IsFirstUndefined table.rules print place → IsTurnedDown book command told
+    undefined told place passes is first =
+        turned_down 18 (Undefined place) told passes refl
+        (record { print = print; name = name; print_is = given; text = table.text; meaning = table.rules; found = found.found; means = found.means; first = first }) is
+
+    pub past_print : Passes book None command 18 → AreDefined table.rules print → Passes book None command 19
+    past_print passes defined = Passes-undefined book None command passes none
+      where
+        none : (place : ℕ) → ¬ IsUndefined book command place
+        none place u =
+            let pair = same_some (u.print, u.name) (print, name) (sym u.print_is ∙ given) in
+            let same_print : u.print ≡ print = ap (λ (p : List ℕ × List ℕ). p.0) pair in
+            let same_name : u.name ≡ name = ap (λ (p : List ℕ × List ℕ). p.1) pair in
+            let text : u.text ≡ table.text = same_some u.text table.text (sym u.found ∙ (ap (text_of book) same_name ∙ found.found)) in
+            let meaning = one_meaning table.text u.meaning table.rules (subst (λ (t : List ℕ). Means t u.meaning) text u.means) found.means in
+            defined_not_first table.rules print place defined (rw (meaning, same_print) at u.first)
 
   -- ---- a paragraph that is named first
 

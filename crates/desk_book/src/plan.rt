@@ -4,6 +4,8 @@ ghost use Rattle.desk_book.specs.Changes.{Carries};
 ghost use Rattle.desk_book.specs.Limits.{most_version};
 ghost use Rattle.desk_book.specs.Planned.{AreNotAllThere, AreThere, IsKeptFor, IsPlanned, IsTableFor, IsTurnedDown};
 ghost use Rattle.desk_book.specs.Refusals.{IsAccepted, IsRefused, paragraph_before};
+ghost use Rattle.louis_translate.specs.Position.{AreDefined, IsFirstUndefined};
+ghost use Rattle.std.specs.Str.{chars};
 ghost use Rattle.std.specs.Prelude.{◌≡◌, ◌⊎◌, ◌<◌, ◌≤◌, IfErr, IfOk, None, OnOk};
 
 use super::book::Book;
@@ -34,8 +36,22 @@ impl From<AllocError> for Refusal {
 }
 
 /// A copy of a text.
-fn copy(alloc: Global, text: &str) -> Result<Text, AllocError> {
+fn copy(alloc: Global, text: &str) -> Result<Text, AllocError>
+    ensures { IfOk result (λ copied. copied ≡ chars text.now) }
+{
     Ok(Text::from_string(String::from_str(alloc, text)?))
+}
+
+/// A table defines a print.
+fn check_print(table: &BookTable, print: &[char]) -> Result<(), Refusal>
+    ensures defined { OnOk result (AreDefined table.now.rules print.now) }
+    ensures undefined { IfErr result (λ refusal. (place : _) × (refusal ≡ Refusal.Undefined place)
+        × IsFirstUndefined table.now.rules print.now place) }
+{
+    match undefined_place(table.rules.table(), print) {
+        Some(place) => Err(Refusal::Undefined { place }),
+        None => Ok(()),
+    }
 }
 
 /// A paragraph is struck, or isn't; its other flags stay.
@@ -246,9 +262,7 @@ impl Book {
         }
         self.check_version()?;
         let print = paragraph.print.as_slice();
-        if let Some(place) = undefined_place(kept.rules.table(), print) {
-            return Err(Refusal::Undefined { place });
-        }
+        check_print(kept, print)?;
         Ok(Effect::ChangeTable {
             id,
             table: copy(alloc, table.as_str())?,
@@ -279,9 +293,7 @@ impl Book {
             return Err(Refusal::Full(Limit::Paragraphs));
         }
         self.check_version()?;
-        if let Some(place) = undefined_place(kept.rules.table(), print.as_slice()) {
-            return Err(Refusal::Undefined { place });
-        }
+        check_print(kept, print.as_slice())?;
         let cells = cells_of(alloc, &kept.rules, print.as_slice())?;
         Ok(Effect::AddParagraph {
             paragraph: typed(alloc, table, print, cells)?,
@@ -321,7 +333,7 @@ impl Book {
         for place in 0..self.paragraphs.len() {
             if let Some((id, paragraph)) = self.paragraphs.at(place) {
                 if paragraph.table.as_str() == name.as_str() {
-                    check_print(id, paragraph, table)?;
+                    check_user(id, paragraph, table)?;
                 }
             }
         }
@@ -349,8 +361,8 @@ impl Book {
     }
 }
 
-/// The table defines the paragraph's print.
-fn check_print(id: u64, paragraph: &Paragraph, table: &BookTable) -> Result<(), Refusal> {
+/// The table defines the print of a paragraph that uses it.
+fn check_user(id: u64, paragraph: &Paragraph, table: &BookTable) -> Result<(), Refusal> {
     match undefined_place(table.rules.table(), paragraph.print.as_slice()) {
         Some(place) => Err(Refusal::Untranslatable {
             paragraph: id,

@@ -7,7 +7,7 @@ mod EntryLaws
 mod VerdictLaws
 mod ReadingLaws
 mod RuleLaws
-mod OneMeaning
+pub mod OneMeaning
 mod StepLaws
 mod MeaningLaws
 mod PlaceLaws
