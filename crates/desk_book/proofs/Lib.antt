@@ -1,6 +1,7 @@
 pub mod Histories
 pub mod Judging
 pub mod KeptLookups
+pub mod NewParagraphs
 pub mod Numbering
 pub mod OrderLists
 pub mod PieceLists

@@ -1,5 +1,5 @@
 -- How a command is judged while no version is expected, by what was found in the book.
-use Rattle.std.proofs.Common.{◌≡◌, ℕ, zero, suc, ◌+◌, ◌<◌, ◌≤◌, Bool, true, false, List, [], ◌∷◌, map, Option, Some, None, refl, sym, ap, subst, ◌∙◌, arith, inl, inr}
+use Rattle.std.proofs.Common.{◌≡◌, ℕ, zero, suc, ◌+◌, ◌<◌, ◌≤◌, Bool, true, false, List, [], ◌∷◌, map, length, Option, Some, None, refl, sym, ap, subst, ◌∙◌, arith, inl, inr}
 use Rattle.std.specs.List.{All, Contains}
 use Rattle.std.specs.Prelude.{IsSome, is_some, nat_eq}
 use Rattle.std.proofs.lemmas.Bool.{both_ways, cases_Bool, eqb-true}
@@ -11,17 +11,19 @@ use Rattle.louis_translate.specs.Position.{AreDefined, IsFirstUndefined}
 use Rattle.desk_book.specs.declared.command.Command.{Command}
 use Rattle.desk_book.specs.declared.paragraphs.Paragraph.{Paragraph as KeptParagraph}
 use Rattle.desk_book.specs.declared.tables.BookTable.{BookTable}
-use Rattle.desk_book.specs.declared.refusal.Limit.TheVariants.{Version}
+use Rattle.desk_book.specs.declared.refusal.Limit.TheVariants.{Paragraphs, Version}
 use Rattle.desk_book.specs.declared.refusal.Refusal.{Refusal}
-use Rattle.desk_book.specs.declared.refusal.Refusal.TheVariants.{NoParagraph, NoTable, Full, Undefined}
+use Rattle.desk_book.specs.declared.refusal.Refusal.TheVariants.{BadText, NoParagraph, NoTable, TooLong, Full, Undefined}
 use Rattle.desk_book.specs.Book.{Book, Paragraph, paragraph_of, text_of}
 use Rattle.desk_book.specs.Judging.{Passes}
 use Rattle.desk_book.specs.Kept.{paragraph_kept}
-use Rattle.desk_book.specs.Limits.{most_version}
+use Rattle.desk_book.specs.Limits.{most_paragraphs, most_print, most_version}
 use Rattle.desk_book.specs.Planned.{AreNotAllThere, AreThere, IsKeptFor, IsTableFor, IsTurnedDown}
-use Rattle.desk_book.specs.Refusals.{Holds, turn, IsAccepted, LacksParagraph, LacksTable, IsStruck, IsNotStruck, IsUndefined, live_paragraph, print_to_translate, struck_paragraph, paragraphs_named, table_named}
+use Rattle.desk_book.specs.Refusals.{Holds, turn, IsAccepted, LacksParagraph, LacksTable, IsStruck, IsNotStruck, IsUndefined, adds_paragraph, live_paragraph, new_print, print_to_translate, text_given, struck_paragraph, paragraphs_named, table_named}
 use Rattle.desk_book.specs.Step.{with_change}
-use Rattle.desk_book.proofs.Judging.{IsAccepted-passes, IsRefused-passes, Passes-full, Passes-moved, Passes-no_paragraph, Passes-no_table, Passes-not_struck, Passes-skip, Passes-struck, Passes-undefined, skips}
+use Rattle.desk_book.specs.Stored.{IsClean, IsFirstBarred}
+use Rattle.desk_book.proofs.Judging.{IsAccepted-passes, IsRefused-passes, Passes-full, Passes-bad_text, Passes-moved, Passes-no_paragraph, Passes-no_table, Passes-not_struck, Passes-skip, Passes-struck, Passes-too_long, Passes-undefined, skips}
+use Rattle.desk_book.proofs.TextTests.{IsClean-none}
 
 -- ---- paragraphs that are named
 
@@ -72,6 +74,28 @@ module _ (book : Book) (command : Command) where
   past_table name text passes named found =
       Passes-no_table book None command passes
       (λ lacks. let given = lacks.named in let missing = lacks.missing in let same : name ≡ lacks.name = cc in cc (ap (text_of book) same))
+
+  pub bad_text : (told : Refusal) (text : List ℕ) (place : ℕ) → Passes book None command 2 → text_given command ≡ Some text → told ≡ BadText place → IsFirstBarred text place → IsTurnedDown book command told
+  bad_text told text place passes given is first = turned_down 2 (BadText place) told passes refl (record { text = text; given = given; first = first }) is
+
+  pub past_text : (text : List ℕ) → Passes book None command 2 → text_given command ≡ Some text → IsClean text → Passes book None command 3
+  past_text text passes given clean =
+      Passes-bad_text book None command passes
+      (λ place b. IsClean-none text place clean (subst (λ (t : List ℕ). IsFirstBarred t place) (same_some b.text text (sym b.given ∙ given)) b.first))
+
+  pub too_long : (told : Refusal) (print : List ℕ) → Passes book None command 11 → new_print book command ≡ Some print → most_print < length print → told ≡ TooLong → IsTurnedDown book command told
+  too_long told print passes made long = turned_down 11 TooLong told passes refl (record { print = print; made = made; long = long })
+
+  pub past_length : (print : List ℕ) → Passes book None command 11 → new_print book command ≡ Some print → length print ≤ most_print → Passes book None command 12
+  past_length print passes made short =
+      Passes-too_long book None command passes
+      (λ l. let same = ap length (same_some l.print print (sym l.made ∙ made)) in let long = l.long in omega arith)
+
+  pub full_paragraphs : (told : Refusal) → Passes book None command 13 → adds_paragraph command ≡ true → most_paragraphs ≤ length book.paragraphs → told ≡ Full Paragraphs → IsTurnedDown book command told
+  full_paragraphs told passes adds full = turned_down 13 (Full Paragraphs) told passes refl (record { adds = adds; full = full })
+
+  pub past_room : Passes book None command 13 → length book.paragraphs < most_paragraphs → Passes book None command 14
+  past_room passes left = Passes-full book None command Paragraphs passes (λ full. let most = full.full in omega arith)
 
   pub full_version : (n : ℕ) (told : Refusal) → Passes book None command n → skips command n 16 ≡ true → most_version ≤ book.version → told ≡ Full Version → IsTurnedDown book command told
   full_version n told passes skip full = turned_down 16 (Full Version) told (Passes-skip book None command n 16 skip passes) refl full

@@ -1,6 +1,6 @@
 -- What a search for a barred character finds.
 use Rattle.std.proofs.Common.{◌≡◌, ℕ, ◌<◌, ◌≤◌, Bool, true, false, List, [], ◌∷◌, Option, Some, None, length, get_or, arith, inl, inr}
-use Rattle.std.specs.Prelude.{nat_lt}
+use Rattle.std.specs.Prelude.{not}
 use Rattle.std.specs.List.{position, position_or_len}
 use Rattle.std.proofs.lemmas.Bool.{cases_lt, lt-ltb, both_ways, not-true}
 use Rattle.std.proofs.lemmas.List.Quantifiers.{position-Some}
@@ -16,7 +16,7 @@ pub IsClean-position : (text : List ℕ) → position is_barred text ≡ None �
 IsClean-position text e =
     elim (cases_lt (position_or_len is_barred text) (length text)) [
       | inl within ↦ absurd (let here = lt-ltb _ _ within in cc (rw here at e))
-      | inr past ↦ λ k d lt. not-true _ (prefix_len_passes _ text k d (omega arith))
+      | inr past ↦ λ k d lt. not-true _ (prefix_len_passes (λ character. not (is_barred character)) text k d (omega arith))
     ]
 
 -- a clean text has no first barred character

@@ -1,15 +1,17 @@
 -- What is said of a command, its expected version aside, and of what it names.
-use Rattle.std.specs.Prelude.{◌≡◌, ◌⊎◌, ℕ, List, Some, None, IsSome}
+use Rattle.std.specs.Prelude.{◌≡◌, ◌⊎◌, ℕ, false, List, Some, None, IsSome}
 use Rattle.std.specs.List.{All, Contains}
+use Rattle.louis_table.specs.Meaning.{Meaning}
 use Rattle.louis_table.specs.Table.{Means}
 use Rattle.desk_book.specs.declared.change.Effect.{Effect}
 use Rattle.desk_book.specs.declared.command.Command.{Command}
 use Rattle.desk_book.specs.declared.refusal.Refusal.{Refusal}
 use Rattle.desk_book.specs.declared.refusal.Refusal.TheVariants.{NoMemory}
 use Rattle.desk_book.specs.declared.paragraphs.Paragraph.{Paragraph as KeptParagraph}
+use Rattle.desk_book.specs.declared.style.Style.TheVariants.{Body}
 use Rattle.desk_book.specs.declared.tables.BookTable.{BookTable}
 use Rattle.desk_book.specs.Book.{Book, paragraph_of, text_of}
-use Rattle.desk_book.specs.Changes.{Does}
+use Rattle.desk_book.specs.Changes.{AreCellsOf, Does}
 use Rattle.desk_book.specs.Kept.{paragraph_kept}
 use Rattle.desk_book.specs.Print.{print_of}
 use Rattle.desk_book.specs.Refusals.{IsAccepted, IsRefused}
@@ -42,3 +44,13 @@ pub record IsKeptFor (book : Book) (id : ℕ) (kept : KeptParagraph) : Type 0 wh
 pub record IsTableFor (book : Book) (name : List ℕ) (table : BookTable) : Type 0 where
   pub found : text_of book name ≡ Some table.text
   pub means : Means table.text table.rules
+
+-- the kept paragraph was just typed: it uses this table, has this print and the cells by this meaning
+pub record IsNewParagraph (table print : List ℕ) (meaning : Meaning) (kept : KeptParagraph) : Type 0 where
+  pub table_is : kept.table ≡ table
+  pub original : kept.original ≡ print
+  pub style : kept.style ≡ Body
+  pub begins_volume : kept.begins_volume ≡ false
+  pub struck : kept.struck ≡ false
+  pub print_is : kept.print ≡ print
+  pub cells : AreCellsOf meaning print kept.cells

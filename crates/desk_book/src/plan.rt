@@ -1,12 +1,13 @@
 //! Which change a command makes, or why it is refused.
 ghost use Rattle.desk_book.specs.Book.{paragraph_of, text_of};
 ghost use Rattle.desk_book.specs.Changes.{Carries};
-ghost use Rattle.desk_book.specs.Limits.{most_version};
-ghost use Rattle.desk_book.specs.Planned.{AreNotAllThere, AreThere, IsKeptFor, IsPlanned, IsTableFor, IsTurnedDown};
+ghost use Rattle.desk_book.specs.Limits.{most_paragraphs, most_print, most_version};
+ghost use Rattle.desk_book.specs.Planned.{AreNotAllThere, AreThere, IsKeptFor, IsNewParagraph, IsPlanned, IsTableFor, IsTurnedDown};
 ghost use Rattle.desk_book.specs.Refusals.{IsAccepted, IsRefused, paragraph_before};
+ghost use Rattle.desk_book.specs.Stored.{IsClean, IsFirstBarred};
 ghost use Rattle.louis_translate.specs.Position.{AreDefined, IsFirstUndefined};
 ghost use Rattle.std.specs.Str.{chars};
-ghost use Rattle.std.specs.Prelude.{◌≡◌, ◌⊎◌, ◌<◌, ◌≤◌, IfErr, IfOk, None, OnOk};
+ghost use Rattle.std.specs.Prelude.{◌≡◌, ◌⊎◌, ◌<◌, ◌≤◌, IfErr, IfOk, None, OnOk, length};
 
 use super::book::Book;
 use super::braille::cells_of;
@@ -21,7 +22,7 @@ use super::tables::{BookTable, TablesRoom};
 use super::text::{Bytes, Text};
 use cell_core::Cells;
 use louis_table::{Characters, ReadFault};
-use louis_translate::{RuleBook, undefined_place};
+use louis_translate::{PlainRules, RuleBook, undefined_place};
 use std::alloc::{AllocError, Global};
 
 impl From<AllocError> for Refusal {
@@ -40,6 +41,60 @@ fn copy(alloc: Global, text: &str) -> Result<Text, AllocError>
     ensures { IfOk result (λ copied. copied ≡ chars text.now) }
 {
     Ok(Text::from_string(String::from_str(alloc, text)?))
+}
+
+/// The text of a print.
+fn text_of_print(alloc: Global, print: &[char]) -> Result<Text, AllocError>
+    ensures { IfOk result (λ text. text ≡ print.now) }
+{
+    let string: String = print.iter().copied().collect(alloc)?;
+    Ok(Text::from_string(string))
+}
+
+/// A paragraph that was just typed.
+fn new_paragraph(
+    alloc: Global,
+    table: &Text,
+    rules: &PlainRules,
+    print: Vec<char>,
+) -> Result<Paragraph, AllocError>
+    requires { AreDefined rules.now print.items }
+    ensures { IfOk result (IsNewParagraph table.now print.items rules.now) }
+{
+    let cells = cells_of(alloc, rules, &print)?;
+    let original = text_of_print(alloc, &print)?;
+    Ok(Paragraph {
+        table: copy(alloc, table.as_str())?,
+        original,
+        style: Style::Body,
+        begins_volume: false,
+        struck: false,
+        print: Characters::from_vec(print),
+        cells,
+    })
+}
+
+/// A text that is given has no barred character.
+fn check_text(text: &Text) -> Result<(), Refusal>
+    ensures clean { OnOk result (IsClean text.now) }
+    ensures barred { IfErr result (λ refusal. (place : _) × (refusal ≡ Refusal.BadText place)
+        × IsFirstBarred text.now place) }
+{
+    match first_barred(text.as_str()) {
+        Some(place) => Err(Refusal::BadText { place }),
+        None => Ok(()),
+    }
+}
+
+/// A print is within its limit.
+fn check_length(print: &[char]) -> Result<(), Refusal>
+    ensures short { OnOk result (length print.now ≤ most_print) }
+    ensures long { IfErr result (λ refusal. (refusal ≡ Refusal.TooLong) × (most_print < length print.now)) }
+{
+    if print.len() > MOST_PRINT {
+        return Err(Refusal::TooLong);
+    }
+    Ok(())
 }
 
 /// A table defines a print.
@@ -197,6 +252,18 @@ impl Book {
         Ok(())
     }
 
+    /// One more paragraph may come.
+    fn check_room(&self) -> Result<(), Refusal>
+        ensures left { OnOk result (length self.now.paragraphs < most_paragraphs) }
+        ensures full { IfErr result (λ refusal.
+            (refusal ≡ Refusal.Full Limit.Paragraphs) × (most_paragraphs ≤ length self.now.paragraphs)) }
+    {
+        if self.paragraphs.len() >= MOST_PARAGRAPHS {
+            return Err(Refusal::Full(Limit::Paragraphs));
+        }
+        Ok(())
+    }
+
     fn plan_strike(&self, id: u64) -> Result<Effect, Refusal>
         ensures planned { IfOk result (IsPlanned self.now (Command.Strike id)) }
         ensures refused { IfErr result (IsTurnedDown self.now (Command.Strike id)) }
@@ -280,23 +347,16 @@ impl Book {
         ensures planned { IfOk result (IsPlanned self.now (Command.TypeIn anchor table.now text.now)) }
         ensures refused { IfErr result (IsTurnedDown self.now (Command.TypeIn anchor table.now text.now)) }
     {
-        if let Some(place) = first_barred(text.as_str()) {
-            return Err(Refusal::BadText { place });
-        }
+        check_text(text)?;
         self.check_anchor(anchor)?;
         let kept = self.table_named(table)?;
         let print = stored(alloc, text.as_str())?;
-        if print.len() > MOST_PRINT {
-            return Err(Refusal::TooLong);
-        }
-        if self.paragraphs.len() >= MOST_PARAGRAPHS {
-            return Err(Refusal::Full(Limit::Paragraphs));
-        }
+        check_length(&print)?;
+        self.check_room()?;
         self.check_version()?;
-        check_print(kept, print.as_slice())?;
-        let cells = cells_of(alloc, &kept.rules, print.as_slice())?;
+        check_print(kept, &print)?;
         Ok(Effect::AddParagraph {
-            paragraph: typed(alloc, table, print, cells)?,
+            paragraph: new_paragraph(alloc, table, &kept.rules, print)?,
             room: ParagraphsRoom::new(alloc, self.paragraphs.len() + 1)?,
             order: self.paragraphs.order_with_next(alloc, anchor)?,
         })
@@ -379,26 +439,4 @@ fn read_table(alloc: Global, text: &Bytes) -> Result<BookTable, Refusal> {
         Err(ReadFault::Table(fault)) => Err(Refusal::BadTable(fault)),
         Err(ReadFault::NoMemory) => Err(Refusal::NoMemory),
     }
-}
-
-/// A paragraph that was just typed.
-fn typed(
-    alloc: Global,
-    table: &Text,
-    print: Vec<char>,
-    cells: Cells,
-) -> Result<Paragraph, AllocError> {
-    let mut original = String::new(alloc);
-    for character in print.iter() {
-        original.push(*character)?;
-    }
-    Ok(Paragraph {
-        table: copy(alloc, table.as_str())?,
-        original: Text::from_string(original),
-        style: Style::Body,
-        begins_volume: false,
-        struck: false,
-        print: Characters::from_vec(print),
-        cells,
-    })
 }
