@@ -1,27 +1,27 @@
 -- What is found among kept tables and paragraphs, against what the book that they stand for has.
-use Rattle.std.proofs.Common.{◌≡◌, ℕ, Bool, true, false, List, [], ◌∷◌, map, length, get_or, Option, Some, None, Result, Ok, Err, refl, sym, ap, subst, ◌∙◌, arith, inl, inr}
+use Rattle.std.proofs.Common.{◌≡◌, ℕ, Bool, true, false, List, [], ◌∷◌, map, length, get_or, Option, Some, None, Result, Ok, Err, refl, sym, ap, subst, ◌∙◌, inl, inr}
 use Rattle.std.specs.Cmp.Lexicographic.{pointwise}
-use Rattle.std.specs.List.{All, IsDistinct, find, range_with_len}
-use Rattle.std.specs.List.Sorted.{IsPermutation}
+use Rattle.std.specs.List.{All, find}
 use Rattle.std.specs.Map.{lookup}
 use Rattle.std.specs.Option.{ok_or, option_copied}
 use Rattle.std.specs.Prelude.{nat_eq, option_map, IfErr, IfOk, IfSome}
-use Rattle.std.proofs.lemmas.Bool.{cases_Bool, both_ways, eq-eqb, eqb-false, eqb-true}
+use Rattle.std.proofs.lemmas.Bool.{cases_Bool, eqb-true}
 use Rattle.std.proofs.lemmas.Cmp.{nat_eq_equiv}
-use Rattle.std.proofs.lemmas.List.Elements.{All-cons, All-contains, All-from_recursion, All-nil}
-use Rattle.std.proofs.lemmas.List.{get_or-map, length-map}
+use Rattle.std.proofs.lemmas.List.Elements.{All-contains, Contains-get_or}
+use Rattle.std.proofs.lemmas.List.{length-map}
 use Rattle.std.proofs.lemmas.Map.Entries.{All-lookup}
-use Rattle.std.proofs.lemmas.Map.Keys.{IsDistinct-head, IsDistinct-tail}
 use Rattle.std.proofs.lemmas.Map.Views.{Contains-from_lookup}
 use denote.Bor.{Bor}
 use Rattle.louis_table.specs.Table.{Means}
 use Rattle.desk_book.specs.declared.paragraphs.Paragraph.{Paragraph as KeptParagraph}
 use Rattle.desk_book.specs.declared.tables.BookTable.{BookTable}
-use Rattle.desk_book.specs.Book.{Book, Paragraph, paragraph_of, text_of}
+use Rattle.desk_book.specs.Book.{Book, paragraph_of, text_of}
 use Rattle.desk_book.specs.Kept.{KeptTables, KeptParagraphs, IsKept, IsKeptParagraph, book_kept, ids, paragraph_kept}
+use Rattle.desk_book.specs.Sound.{IsSound}
 use Rattle.desk_book.specs.Planned.{IsKeptFor, IsTableFor}
-use Rattle.desk_book.proofs.Numbering.{IsDistinct-numbers}
-use Rattle.desk_book.proofs.OrderLists.{ids_of, ids_of-kept}
+use Rattle.desk_book.proofs.OrderLists.{ids_of-kept}
+use Rattle.desk_book.proofs.ParagraphLists.{ids_of}
+use Rattle.desk_book.proofs.SoundBooks.{paragraph_of-own}
 
 -- ---- what `ok_or` gives
 
@@ -52,23 +52,6 @@ lookup-texts test ((name, table) ∷ tables) =
       | inr e ↦ rw e (lookup-texts test tables)
     ]
 
--- ---- one paragraph for each id
-
--- of paragraphs with ids that differ, the one that is found is the only one with its id
-only_found : (id : ℕ) (p : Paragraph) (ps : List Paragraph) → IsDistinct nat_eq (map (λ q. q.id) ps) → find (λ q. nat_eq q.id id) ps ≡ Some p → All (λ q. q.id ≡ id → q ≡ p) ps
-only_found id p [] d e = All-nil (λ (r : Paragraph). r.id ≡ id → r ≡ p)
-only_found id p (q ∷ ps) d e =
-    elim (cases_Bool (nat_eq q.id id)) [
-      | inl h ↦ All-cons (λ (r : Paragraph). r.id ≡ id → r ≡ p) q ps (λ _. let first = rw h at e in cc)
-        (λ k r lt same. absurd (let apart = others k r lt in both_ways _ apart (eq-eqb q.id (get_or ps k r).id (eqb-true q.id id h ∙ sym same))))
-      | inr h ↦ All-cons (λ (r : Paragraph). r.id ≡ id → r ≡ p) q ps (λ same. absurd (eqb-false q.id id h same)) (only_found id p ps (IsDistinct-tail nat_eq q.id (map (λ q. q.id) ps) d) (rw h at e))
-    ]
-  where
-    others : All (λ (r : Paragraph). nat_eq q.id r.id ≡ false) ps
-    others k r lt =
-        rw (← get_or-map (λ (q : Paragraph). q.id) ps k r r.id lt)
-        (All-from_recursion (λ n. nat_eq q.id n ≡ false) (map (λ q. q.id) ps) (IsDistinct-head nat_eq q.id (map (λ q. q.id) ps) d) k r.id (omega (arith, length-map ps (λ (q : Paragraph). q.id))))
-
 -- ---- in a book
 
 module _ (version : ℕ) (tables : KeptTables) (kept : KeptParagraphs) (book : Book) (is : book_kept version tables kept ≡ book) where
@@ -88,18 +71,20 @@ module _ (version : ℕ) (tables : KeptTables) (kept : KeptParagraphs) (book : B
   count-tables = rw (← is) (length-map tables (λ (entry : List ℕ × BookTable). (entry.0, entry.1.text)))
 
   module _ (facts : IsKept version tables kept) where
+    pub sound : IsSound book
+    sound = subst IsSound is facts.sound
+
     pub IsKeptFor-lookup : (id : ℕ) (p : KeptParagraph) → lookup (nat_eq id) kept ≡ Some p → IsKeptFor book id p
     IsKeptFor-lookup id p found = record {
       found = there;
-      alone = only_found id (paragraph_kept (id, p)) book.paragraphs (IsDistinct-numbers _ _ numbered) there;
+      alone = λ k d lt same.
+          let own = paragraph_of-own book sound (get_or book.paragraphs k d) (Contains-get_or book.paragraphs k d lt) in
+          cc (ap (paragraph_of book) same, there);
       print = (All-contains (IsKeptParagraph tables) kept (id, p) facts.translated (Contains-from_lookup (λ x y. eqb-true x y) id p kept found)).print;
     }
       where
         there : paragraph_of book id ≡ Some (paragraph_kept (id, p))
         there = paragraph_of-kept id ∙ ap (option_map (λ p. paragraph_kept (id, p))) found
-
-        numbered : IsPermutation (range_with_len 1 (length book.paragraphs)) (ids_of book.paragraphs)
-        numbered = subst (λ (b : Book). IsPermutation (range_with_len 1 (length b.paragraphs)) (ids_of b.paragraphs)) is facts.sound.ids
 
     pub IsTableFor-lookup : (name : List ℕ) (table : BookTable) → lookup (pointwise nat_eq name) tables ≡ Some table → IsTableFor book name table
     IsTableFor-lookup name table found = record {

@@ -8,11 +8,8 @@ use Rattle.desk_book.specs.declared.command.Anchor.{Anchor}
 use Rattle.desk_book.specs.declared.command.Anchor.TheVariants.{Front, End, Behind}
 use Rattle.desk_book.specs.Book.{Book, Paragraph, paragraph_of}
 use Rattle.desk_book.specs.Kept.{KeptParagraphs, ids, paragraph_kept, with_id, with_id_moved}
+use Rattle.desk_book.proofs.ParagraphLists.{ids_of}
 use Rattle.desk_book.specs.Step.{is_behind, with_move, with_paragraph, without_paragraph}
-
--- the ids of paragraphs
-abbrev pub ids_of : List Paragraph → List ℕ
-ids_of ps = map (λ p. p.id) ps
 
 pub ids_of-kept : (kept : KeptParagraphs) → ids_of (map paragraph_kept kept) ≡ ids kept
 ids_of-kept [] = refl

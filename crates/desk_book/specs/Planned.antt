@@ -1,8 +1,9 @@
 -- What is said of a command, its expected version aside, and of what it names.
-use Rattle.std.specs.Prelude.{◌≡◌, ◌⊎◌, ℕ, false, List, Some, None, IsSome}
+use Rattle.std.specs.Prelude.{◌≡◌, ◌⊎◌, ℕ, false, List, ◌∷◌, ◌++◌, Some, None, IsSome}
 use Rattle.std.specs.List.{All, Contains}
 use Rattle.louis_table.specs.Meaning.{Meaning}
 use Rattle.louis_table.specs.Table.{Means}
+use Rattle.louis_translate.specs.Position.{AreDefined, IsFirstUndefined}
 use Rattle.desk_book.specs.declared.change.Effect.{Effect}
 use Rattle.desk_book.specs.declared.command.Command.{Command}
 use Rattle.desk_book.specs.declared.refusal.Refusal.{Refusal}
@@ -10,7 +11,7 @@ use Rattle.desk_book.specs.declared.refusal.Refusal.TheVariants.{NoMemory}
 use Rattle.desk_book.specs.declared.paragraphs.Paragraph.{Paragraph as KeptParagraph}
 use Rattle.desk_book.specs.declared.style.Style.TheVariants.{Body}
 use Rattle.desk_book.specs.declared.tables.BookTable.{BookTable}
-use Rattle.desk_book.specs.Book.{Book, paragraph_of, text_of}
+use Rattle.desk_book.specs.Book.{Book, Paragraph, paragraph_of, text_of}
 use Rattle.desk_book.specs.Changes.{AreCellsOf, Does}
 use Rattle.desk_book.specs.Kept.{paragraph_kept}
 use Rattle.desk_book.specs.Print.{print_of}
@@ -54,3 +55,18 @@ pub record IsNewParagraph (table print : List ℕ) (meaning : Meaning) (kept : K
   pub struck : kept.struck ≡ false
   pub print_is : kept.print ≡ print
   pub cells : AreCellsOf meaning print kept.cells
+
+-- the table with this name, by this meaning, defines the paragraph's print, if the paragraph uses the table
+abbrev pub DefinesUser : Meaning → List ℕ → Paragraph → Type 0
+DefinesUser meaning name paragraph = paragraph.table ≡ name → AreDefined meaning (print_of paragraph)
+
+-- the first paragraph that uses the table and has a character that it doesn't define, and the first place of one
+pub record IsFirstUser (meaning : Meaning) (name : List ℕ) (paragraphs : List Paragraph) (id place : ℕ) : Type 0 where
+  pub before : List Paragraph
+  pub paragraph : Paragraph
+  pub after : List Paragraph
+  pub parts : paragraphs ≡ before ++ paragraph ∷ after
+  pub uses : paragraph.table ≡ name
+  pub told : id ≡ paragraph.id
+  pub first : IsFirstUndefined meaning (print_of paragraph) place
+  pub others : All (DefinesUser meaning name) before

@@ -1,13 +1,16 @@
 //! Which change a command makes, or why it is refused.
 ghost use Rattle.desk_book.specs.Book.{paragraph_of, text_of};
-ghost use Rattle.desk_book.specs.Changes.{Carries};
-ghost use Rattle.desk_book.specs.Limits.{most_paragraphs, most_print, most_version};
-ghost use Rattle.desk_book.specs.Planned.{AreNotAllThere, AreThere, IsKeptFor, IsNewParagraph, IsPlanned, IsTableFor, IsTurnedDown};
+ghost use Rattle.desk_book.specs.Changes.{AreCellsOf, AreRenewed, Carries};
+ghost use Rattle.desk_book.specs.Limits.{most_paragraphs, most_print, most_tables, most_version};
+ghost use Rattle.desk_book.specs.Name.{IsTableName};
+ghost use Rattle.desk_book.specs.Planned.{AreNotAllThere, AreThere, DefinesUser, IsFirstUser, IsKeptFor, IsNewParagraph, IsPlanned, IsTableFor, IsTurnedDown};
 ghost use Rattle.desk_book.specs.Refusals.{IsAccepted, IsRefused, paragraph_before};
 ghost use Rattle.desk_book.specs.Stored.{IsClean, IsFirstBarred};
+ghost use Rattle.louis_table.specs.Table.{Bad, Means};
 ghost use Rattle.louis_translate.specs.Position.{AreDefined, IsFirstUndefined};
 ghost use Rattle.std.specs.Str.{chars};
-ghost use Rattle.std.specs.Prelude.{◌≡◌, ◌⊎◌, ◌<◌, ◌≤◌, IfErr, IfOk, None, OnOk, length};
+ghost use Rattle.std.specs.List.{All};
+ghost use Rattle.std.specs.Prelude.{◌≡◌, ◌≢◌, ◌↔◌, ◌⊎◌, ◌<◌, ◌≤◌, IfErr, IfOk, IsSome, IsTrue, MatchOption, None, OnOk, length};
 
 use super::book::Book;
 use super::braille::cells_of;
@@ -366,64 +369,122 @@ impl Book {
         ensures planned { IfOk result (IsPlanned self.now (Command.Table name.now text.now)) }
         ensures refused { IfErr result (IsTurnedDown self.now (Command.Table name.now text.now)) }
     {
-        if !is_table_name(name.as_str()) {
-            return Err(Refusal::BadName);
+        check_name(name)?;
+        match self.table_named(name) {
+            Ok(_) => self.plan_replacement(alloc, name, text),
+            Err(_) => self.plan_addition(alloc, name, text),
         }
-        let is_new = self.tables.get(name.as_str()).is_none();
-        if is_new && self.tables.len() >= MOST_TABLES {
-            return Err(Refusal::Full(Limit::Tables));
-        }
-        self.check_version()?;
-        let table = read_table(alloc, text)?;
-        let name = copy(alloc, name.as_str())?;
-        if is_new {
-            return Ok(Effect::AddTable {
-                name,
-                table,
-                room: TablesRoom::new(alloc, self.tables.len() + 1)?,
-            });
-        }
-        self.check_users(&name, &table)?;
-        let cells = self.cells_by(alloc, &name, &table)?;
-        Ok(Effect::ReplaceTable { name, table, cells })
     }
 
-    /// The table defines the print of each paragraph that uses the name.
-    fn check_users(&self, name: &Text, table: &BookTable) -> Result<(), Refusal> {
+    /// One more table may come.
+    fn check_tables(&self) -> Result<(), Refusal>
+        ensures left { OnOk result (length self.now.tables < most_tables) }
+        ensures full { IfErr result (λ refusal.
+            (refusal ≡ Refusal.Full Limit.Tables) × (most_tables ≤ length self.now.tables)) }
+    {
+        if self.tables.len() >= MOST_TABLES {
+            return Err(Refusal::Full(Limit::Tables));
+        }
+        Ok(())
+    }
+
+    fn plan_addition(&self, alloc: Global, name: &Text, text: &Bytes) -> Result<Effect, Refusal>
+        requires name { IsTableName name.now }
+        requires new { text_of self.now name.now ≡ None }
+        ensures planned { IfOk result (IsPlanned self.now (Command.Table name.now text.now)) }
+        ensures refused { IfErr result (IsTurnedDown self.now (Command.Table name.now text.now)) }
+    {
+        self.check_tables()?;
+        self.check_version()?;
+        Ok(Effect::AddTable {
+            table: read_table(alloc, text)?,
+            name: copy(alloc, name.as_str())?,
+            room: TablesRoom::new(alloc, self.tables.len() + 1)?,
+        })
+    }
+
+    fn plan_replacement(
+        &self,
+        alloc: Global,
+        name: &Text,
+        text: &Bytes,
+    ) -> Result<Effect, Refusal>
+        requires name { IsTableName name.now }
+        requires old { IsSome (text_of self.now name.now) }
+        ensures planned { IfOk result (IsPlanned self.now (Command.Table name.now text.now)) }
+        ensures refused { IfErr result (IsTurnedDown self.now (Command.Table name.now text.now)) }
+    {
+        self.check_version()?;
+        let table = read_table(alloc, text)?;
+        self.check_users(name, &table.rules)?;
+        let cells = self.cells_by(alloc, name, &table.rules)?;
+        Ok(Effect::ReplaceTable {
+            name: copy(alloc, name.as_str())?,
+            table,
+            cells,
+        })
+    }
+
+    /// A table of these rules defines the print of each paragraph that uses its name.
+    fn check_users(&self, name: &Text, rules: &PlainRules) -> Result<(), Refusal>
+        ensures defined { OnOk result (All (DefinesUser rules.now name.now) self.now.paragraphs) }
+        ensures undefined { IfErr result (λ refusal. (id : _) × (place : _)
+            × (refusal ≡ Refusal.Untranslatable id place)
+            × IsFirstUser rules.now name.now self.now.paragraphs id place) }
+    {
         for place in 0..self.paragraphs.len() {
             if let Some((id, paragraph)) = self.paragraphs.at(place) {
-                if paragraph.table.as_str() == name.as_str() {
-                    check_user(id, paragraph, table)?;
-                }
+                check_user(id, paragraph, name, rules)?;
             }
         }
         Ok(())
     }
 
-    /// For each paragraph in the order of ids its cells by the table, where it uses the name.
+    /// For each paragraph in the order of ids its cells by the rules, where it uses the name.
     fn cells_by(
         &self,
         alloc: Global,
         name: &Text,
-        table: &BookTable,
-    ) -> Result<Vec<Option<Cells>>, AllocError> {
+        rules: &PlainRules,
+    ) -> Result<Vec<Option<Cells>>, AllocError>
+        requires { All (DefinesUser rules.now name.now) self.now.paragraphs }
+        ensures { IfOk result (λ cells. AreRenewed self.now name.now rules.now cells.items) }
+    {
         let mut all = Vec::with_capacity(alloc, self.paragraphs.len())?;
         for index in 0..self.paragraphs.len() {
-            let mut new = None;
-            if let Some(paragraph) = self.paragraphs.get(index as u64 + 1) {
-                if paragraph.table.as_str() == name.as_str() {
-                    new = Some(cells_of(alloc, &table.rules, paragraph.print.as_slice())?);
-                }
-            }
+            let new = match self.paragraphs.get(index as u64 + 1) {
+                Some(paragraph) => user_cells(alloc, paragraph, name, rules)?,
+                None => None,
+            };
             all.push(new)?;
         }
         Ok(all)
     }
 }
 
-/// The table defines the print of a paragraph that uses it.
-fn check_user(id: u64, paragraph: &Paragraph, table: &BookTable) -> Result<(), Refusal> {
-    match undefined_place(table.rules.table(), paragraph.print.as_slice()) {
+/// Whether a paragraph uses the table with this name.
+fn uses(paragraph: &Paragraph, name: &Text) -> bool
+    ensures { IsTrue result ↔ (paragraph.now.table ≡ name.now) }
+{
+    paragraph.table.as_str() == name.as_str()
+}
+
+/// The rules define the print of a paragraph, if it uses their table's name.
+fn check_user(
+    id: u64,
+    paragraph: &Paragraph,
+    name: &Text,
+    rules: &PlainRules,
+) -> Result<(), Refusal>
+    ensures defined { OnOk result
+        (paragraph.now.table ≡ name.now → AreDefined rules.now paragraph.now.print) }
+    ensures undefined { IfErr result (λ refusal. (place : _) × (refusal ≡ Refusal.Untranslatable id place)
+        × (paragraph.now.table ≡ name.now) × IsFirstUndefined rules.now paragraph.now.print place) }
+{
+    if !uses(paragraph, name) {
+        return Ok(());
+    }
+    match undefined_place(rules.table(), paragraph.print.as_slice()) {
         Some(place) => Err(Refusal::Untranslatable {
             paragraph: id,
             place,
@@ -432,8 +493,43 @@ fn check_user(id: u64, paragraph: &Paragraph, table: &BookTable) -> Result<(), R
     }
 }
 
+/// The cells of a paragraph by the rules, if it uses their table's name.
+fn user_cells(
+    alloc: Global,
+    paragraph: &Paragraph,
+    name: &Text,
+    rules: &PlainRules,
+) -> Result<Option<Cells>, AllocError>
+    requires { paragraph.now.table ≡ name.now → AreDefined rules.now paragraph.now.print }
+    ensures { IfOk result (λ cells. MatchOption cells
+        (paragraph.now.table ≢ name.now)
+        (λ new. (paragraph.now.table ≡ name.now) × AreCellsOf rules.now paragraph.now.print new)) }
+{
+    if !uses(paragraph, name) {
+        return Ok(None);
+    }
+    let cells = cells_of(alloc, rules, paragraph.print.as_slice())?;
+    Ok(Some(cells))
+}
+
+/// The name of a table is one.
+fn check_name(name: &Text) -> Result<(), Refusal>
+    ensures name { OnOk result (IsTableName name.now) }
+    ensures bad { IfErr result (λ refusal. (refusal ≡ Refusal.BadName) × ¬ IsTableName name.now) }
+{
+    if !is_table_name(name.as_str()) {
+        return Err(Refusal::BadName);
+    }
+    Ok(())
+}
+
 /// A table of a text.
-fn read_table(alloc: Global, text: &Bytes) -> Result<BookTable, Refusal> {
+fn read_table(alloc: Global, text: &Bytes) -> Result<BookTable, Refusal>
+    ensures text { IfOk result (λ table. table.text ≡ text.now) }
+    ensures means { IfOk result (λ table. Means text.now table.rules) }
+    ensures bad { IfErr result (λ refusal. ((fault : _) × (refusal ≡ Refusal.BadTable fault)
+        × Bad text.now fault.line fault.cause) ⊎ (refusal ≡ Refusal.NoMemory)) }
+{
     match BookTable::read(alloc, text.as_slice()) {
         Ok(table) => Ok(table),
         Err(ReadFault::Table(fault)) => Err(Refusal::BadTable(fault)),

@@ -10,7 +10,8 @@ use Rattle.desk_book.specs.Planned.{AreThere, IsKeptFor}
 use Rattle.desk_book.specs.Refusals.{paragraph_before}
 use Rattle.desk_book.specs.Step.{with_move}
 use Rattle.desk_book.proofs.KeptLookups.{ids_of-book}
-use Rattle.desk_book.proofs.OrderLists.{ids_of, ids_of-with_move}
+use Rattle.desk_book.proofs.OrderLists.{ids_of-with_move}
+use Rattle.desk_book.proofs.ParagraphLists.{ids_of}
 use Rattle.desk_book.proofs.Planning.{AreNotAllThere-cons, AreThere-cons, accepted_after, full_version, no_paragraph, passes_to, past_paragraphs, past_version, unnamed}
 use Rattle.desk_book.proofs.book.Book.plan_move.Goals as goal
 

@@ -14,7 +14,8 @@ use Rattle.desk_book.specs.Step.{next_id, typed, with_paragraph}
 use Rattle.desk_book.specs.Stored.{IsClean, stored}
 use Rattle.desk_book.proofs.KeptLookups.{count-paragraphs, ids_of-book}
 use Rattle.desk_book.proofs.NewParagraphs.{IsKeptTyped-new}
-use Rattle.desk_book.proofs.OrderLists.{ids_of, ids_of-with_paragraph}
+use Rattle.desk_book.proofs.OrderLists.{ids_of-with_paragraph}
+use Rattle.desk_book.proofs.ParagraphLists.{ids_of}
 use Rattle.desk_book.proofs.Planning.{accepted_after, bad_text, full_paragraphs, full_version, no_paragraph, no_table, passes_to, past_length, past_paragraphs, past_print, past_room, past_table, past_text, past_version, to_turn, too_long, undefined}
 use Rattle.desk_book.proofs.book.Book.plan_type.Goals as goal
 
