@@ -1,11 +1,20 @@
--- What is said of a command, its expected version aside.
-use Rattle.std.specs.Prelude.{◌≡◌, ◌⊎◌, None}
+-- What is said of a command, its expected version aside, and of what it names.
+use Rattle.std.specs.Prelude.{◌≡◌, ◌⊎◌, ℕ, false, List, ◌∷◌, ◌++◌, Some, None, IsSome}
+use Rattle.std.specs.List.{All, Contains}
+use Rattle.louis_table.specs.Meaning.{Meaning}
+use Rattle.louis_table.specs.Table.{Means}
+use Rattle.louis_translate.specs.Position.{AreDefined, IsFirstUndefined}
 use Rattle.desk_book.specs.declared.change.Effect.{Effect}
 use Rattle.desk_book.specs.declared.command.Command.{Command}
 use Rattle.desk_book.specs.declared.refusal.Refusal.{Refusal}
 use Rattle.desk_book.specs.declared.refusal.Refusal.TheVariants.{NoMemory}
-use Rattle.desk_book.specs.Book.{Book}
-use Rattle.desk_book.specs.Changes.{Does}
+use Rattle.desk_book.specs.declared.paragraphs.Paragraph.{Paragraph as KeptParagraph}
+use Rattle.desk_book.specs.declared.style.Style.TheVariants.{Body}
+use Rattle.desk_book.specs.declared.tables.BookTable.{BookTable}
+use Rattle.desk_book.specs.Book.{Book, Paragraph, paragraph_of, text_of}
+use Rattle.desk_book.specs.Changes.{AreCellsOf, Does}
+use Rattle.desk_book.specs.Kept.{paragraph_kept}
+use Rattle.desk_book.specs.Print.{print_of}
 use Rattle.desk_book.specs.Refusals.{IsAccepted, IsRefused}
 use Rattle.desk_book.specs.Step.{Makes}
 
@@ -17,3 +26,47 @@ IsPlanned book command effect =
 -- the command is refused with the first refusal that holds, or memory was
 abbrev pub IsTurnedDown : Book → Command → Refusal → Type 0
 IsTurnedDown book command refusal = IsRefused book None command refusal ⊎ (refusal ≡ NoMemory)
+
+-- the book has paragraphs with these ids
+abbrev pub AreThere : Book → List ℕ → Type 0
+AreThere book ids = (id : ℕ) → Contains ids id → IsSome (paragraph_of book id)
+
+-- the book has no paragraph with one of these ids
+abbrev pub AreNotAllThere : Book → List ℕ → Type 0
+AreNotAllThere book ids = (id : ℕ) × Contains ids id × (paragraph_of book id ≡ None)
+
+-- the kept paragraph is the only one of the book with this id, and has its print
+pub record IsKeptFor (book : Book) (id : ℕ) (kept : KeptParagraph) : Type 0 where
+  pub found : paragraph_of book id ≡ Some (paragraph_kept (id, kept))
+  pub alone : All (λ paragraph. paragraph.id ≡ id → paragraph ≡ paragraph_kept (id, kept)) book.paragraphs
+  pub print : kept.print ≡ print_of (paragraph_kept (id, kept))
+
+-- the kept table is the book's with this name, and has the rules that its text means
+pub record IsTableFor (book : Book) (name : List ℕ) (table : BookTable) : Type 0 where
+  pub found : text_of book name ≡ Some table.text
+  pub means : Means table.text table.rules
+
+-- the kept paragraph was just typed: it uses this table, has this print and the cells by this meaning
+pub record IsNewParagraph (table print : List ℕ) (meaning : Meaning) (kept : KeptParagraph) : Type 0 where
+  pub table_is : kept.table ≡ table
+  pub original : kept.original ≡ print
+  pub style : kept.style ≡ Body
+  pub begins_volume : kept.begins_volume ≡ false
+  pub struck : kept.struck ≡ false
+  pub print_is : kept.print ≡ print
+  pub cells : AreCellsOf meaning print kept.cells
+
+-- the table with this name, by this meaning, defines the paragraph's print, if the paragraph uses the table
+abbrev pub DefinesUser : Meaning → List ℕ → Paragraph → Type 0
+DefinesUser meaning name paragraph = paragraph.table ≡ name → AreDefined meaning (print_of paragraph)
+
+-- the first paragraph that uses the table and has a character that it doesn't define, and the first place of one
+pub record IsFirstUser (meaning : Meaning) (name : List ℕ) (paragraphs : List Paragraph) (id place : ℕ) : Type 0 where
+  pub before : List Paragraph
+  pub paragraph : Paragraph
+  pub after : List Paragraph
+  pub parts : paragraphs ≡ before ++ paragraph ∷ after
+  pub uses : paragraph.table ≡ name
+  pub told : id ≡ paragraph.id
+  pub first : IsFirstUndefined meaning (print_of paragraph) place
+  pub others : All (DefinesUser meaning name) before

@@ -1,8 +1,16 @@
 //! Which change a command makes, or why it is refused.
-ghost use Rattle.desk_book.specs.Changes.{Carries};
-ghost use Rattle.desk_book.specs.Planned.{IsPlanned, IsTurnedDown};
-ghost use Rattle.desk_book.specs.Refusals.{IsAccepted, IsRefused};
-ghost use Rattle.std.specs.Prelude.{◌≡◌, ◌⊎◌, IfErr, IfOk};
+ghost use Rattle.desk_book.specs.Book.{paragraph_of, text_of};
+ghost use Rattle.desk_book.specs.Changes.{AreCellsOf, AreRenewed, Carries};
+ghost use Rattle.desk_book.specs.Limits.{most_paragraphs, most_print, most_tables, most_version};
+ghost use Rattle.desk_book.specs.Name.{IsTableName};
+ghost use Rattle.desk_book.specs.Planned.{AreNotAllThere, AreThere, DefinesUser, IsFirstUser, IsKeptFor, IsNewParagraph, IsPlanned, IsTableFor, IsTurnedDown};
+ghost use Rattle.desk_book.specs.Refusals.{IsAccepted, IsRefused, paragraph_before};
+ghost use Rattle.desk_book.specs.Stored.{IsClean, IsFirstBarred};
+ghost use Rattle.louis_table.specs.Table.{Bad, Means};
+ghost use Rattle.louis_translate.specs.Position.{AreDefined, IsFirstUndefined};
+ghost use Rattle.std.specs.Str.{chars};
+ghost use Rattle.std.specs.List.{All};
+ghost use Rattle.std.specs.Prelude.{◌≡◌, ◌≢◌, ◌↔◌, ◌⊎◌, ◌<◌, ◌≤◌, IfErr, IfOk, IsSome, IsTrue, MatchOption, None, OnOk, length};
 
 use super::book::Book;
 use super::braille::cells_of;
@@ -17,18 +25,127 @@ use super::tables::{BookTable, TablesRoom};
 use super::text::{Bytes, Text};
 use cell_core::Cells;
 use louis_table::{Characters, ReadFault};
-use louis_translate::{RuleBook, undefined_place};
+use louis_translate::{PlainRules, RuleBook, undefined_place};
 use std::alloc::{AllocError, Global};
 
 impl From<AllocError> for Refusal {
+    ghost use Rattle.desk_book.specs.declared.refusal.Refusal.{Refusal};
+    ghost use Rattle.desk_book.specs.declared.refusal.Refusal.TheVariants.{NoMemory};
+
+    ghost from_gives = { λ _ refusal. refusal ≡ NoMemory };
+
     fn from(_: AllocError) -> Self {
         Refusal::NoMemory
     }
 }
 
 /// A copy of a text.
-fn copy(alloc: Global, text: &str) -> Result<Text, AllocError> {
+fn copy(alloc: Global, text: &str) -> Result<Text, AllocError>
+    ensures { IfOk result (λ copied. copied ≡ chars text.now) }
+{
     Ok(Text::from_string(String::from_str(alloc, text)?))
+}
+
+/// The text of a print.
+fn text_of_print(alloc: Global, print: &[char]) -> Result<Text, AllocError>
+    ensures { IfOk result (λ text. text ≡ print.now) }
+{
+    let string: String = print.iter().copied().collect(alloc)?;
+    Ok(Text::from_string(string))
+}
+
+/// A paragraph that was just typed.
+fn new_paragraph(
+    alloc: Global,
+    table: &Text,
+    rules: &PlainRules,
+    print: Vec<char>,
+) -> Result<Paragraph, AllocError>
+    requires { AreDefined rules.now print.items }
+    ensures { IfOk result (IsNewParagraph table.now print.items rules.now) }
+{
+    let cells = cells_of(alloc, rules, &print)?;
+    let original = text_of_print(alloc, &print)?;
+    Ok(Paragraph {
+        table: copy(alloc, table.as_str())?,
+        original,
+        style: Style::Body,
+        begins_volume: false,
+        struck: false,
+        print: Characters::from_vec(print),
+        cells,
+    })
+}
+
+/// A text that is given has no barred character.
+fn check_text(text: &Text) -> Result<(), Refusal>
+    ensures clean { OnOk result (IsClean text.now) }
+    ensures barred { IfErr result (λ refusal. (place : _) × (refusal ≡ Refusal.BadText place)
+        × IsFirstBarred text.now place) }
+{
+    match first_barred(text.as_str()) {
+        Some(place) => Err(Refusal::BadText { place }),
+        None => Ok(()),
+    }
+}
+
+/// A print is within its limit.
+fn check_length(print: &[char]) -> Result<(), Refusal>
+    ensures short { OnOk result (length print.now ≤ most_print) }
+    ensures long { IfErr result (λ refusal. (refusal ≡ Refusal.TooLong) × (most_print < length print.now)) }
+{
+    if print.len() > MOST_PRINT {
+        return Err(Refusal::TooLong);
+    }
+    Ok(())
+}
+
+/// A table defines a print.
+fn check_print(table: &BookTable, print: &[char]) -> Result<(), Refusal>
+    ensures defined { OnOk result (AreDefined table.now.rules print.now) }
+    ensures undefined { IfErr result (λ refusal. (place : _) × (refusal ≡ Refusal.Undefined place)
+        × IsFirstUndefined table.now.rules print.now place) }
+{
+    match undefined_place(table.rules.table(), print) {
+        Some(place) => Err(Refusal::Undefined { place }),
+        None => Ok(()),
+    }
+}
+
+/// A paragraph is struck, or isn't; its other flags stay.
+fn with_struck(id: u64, paragraph: &Paragraph, struck: bool) -> Effect
+    ensures { result ≡ Effect.SetFlags id paragraph.now.style paragraph.now.begins_volume struck }
+{
+    Effect::SetFlags {
+        id,
+        style: paragraph.style,
+        begins_volume: paragraph.begins_volume,
+        struck,
+    }
+}
+
+/// A paragraph gets a style; its flags stay.
+fn with_style(id: u64, paragraph: &Paragraph, style: Style) -> Effect
+    ensures { result ≡ Effect.SetFlags id style paragraph.now.begins_volume paragraph.now.struck }
+{
+    Effect::SetFlags {
+        id,
+        style,
+        begins_volume: paragraph.begins_volume,
+        struck: paragraph.struck,
+    }
+}
+
+/// A paragraph begins a volume, or doesn't; its style and other flag stay.
+fn with_volume(id: u64, paragraph: &Paragraph, begins: bool) -> Effect
+    ensures { result ≡ Effect.SetFlags id paragraph.now.style begins paragraph.now.struck }
+{
+    Effect::SetFlags {
+        id,
+        style: paragraph.style,
+        begins_volume: begins,
+        struck: paragraph.struck,
+    }
 }
 
 impl Book {
@@ -97,12 +214,20 @@ impl Book {
     }
 
     /// The paragraph that a command names.
-    fn named(&self, id: u64) -> Result<&Paragraph, Refusal> {
+    fn named(&self, id: u64) -> Result<&Paragraph, Refusal>
+        ensures found { IfOk result (λ kept. IsKeptFor self.now id kept.now) }
+        ensures missing { IfErr result (λ refusal.
+            (refusal ≡ Refusal.NoParagraph) × (paragraph_of self.now id ≡ None)) }
+    {
         self.paragraphs.get(id).ok_or(Refusal::NoParagraph)
     }
 
     /// The paragraph that a command puts something behind is there.
-    fn check_anchor(&self, anchor: Anchor) -> Result<(), Refusal> {
+    fn check_anchor(&self, anchor: Anchor) -> Result<(), Refusal>
+        ensures there { OnOk result (AreThere self.now (paragraph_before anchor)) }
+        ensures missing { IfErr result (λ refusal.
+            (refusal ≡ Refusal.NoParagraph) × AreNotAllThere self.now (paragraph_before anchor)) }
+    {
         if let Anchor::Behind(id) = anchor {
             self.named(id)?;
         }
@@ -110,14 +235,34 @@ impl Book {
     }
 
     /// The table that a command names.
-    fn table_named(&self, name: &Text) -> Result<&BookTable, Refusal> {
+    fn table_named(&self, name: &Text) -> Result<&BookTable, Refusal>
+        ensures found { IfOk result (λ table. IsTableFor self.now name.now table.now) }
+        ensures missing { IfErr result (λ refusal.
+            (refusal ≡ Refusal.NoTable) × (text_of self.now name.now ≡ None)) }
+    {
         self.tables.get(name.as_str()).ok_or(Refusal::NoTable)
     }
 
     /// A version is left.
-    fn check_version(&self) -> Result<(), Refusal> {
+    fn check_version(&self) -> Result<(), Refusal>
+        ensures left { OnOk result (self.now.version < most_version) }
+        ensures full { IfErr result (λ refusal.
+            (refusal ≡ Refusal.Full Limit.Version) × (most_version ≤ self.now.version)) }
+    {
         if self.version >= MOST_VERSION {
             return Err(Refusal::Full(Limit::Version));
+        }
+        Ok(())
+    }
+
+    /// One more paragraph may come.
+    fn check_room(&self) -> Result<(), Refusal>
+        ensures left { OnOk result (length self.now.paragraphs < most_paragraphs) }
+        ensures full { IfErr result (λ refusal.
+            (refusal ≡ Refusal.Full Limit.Paragraphs) × (most_paragraphs ≤ length self.now.paragraphs)) }
+    {
+        if self.paragraphs.len() >= MOST_PARAGRAPHS {
+            return Err(Refusal::Full(Limit::Paragraphs));
         }
         Ok(())
     }
@@ -131,12 +276,7 @@ impl Book {
             return Err(Refusal::Struck);
         }
         self.check_version()?;
-        Ok(Effect::SetFlags {
-            id,
-            style: paragraph.style,
-            begins_volume: paragraph.begins_volume,
-            struck: true,
-        })
+        Ok(with_struck(id, paragraph, true))
     }
 
     fn plan_restore(&self, id: u64) -> Result<Effect, Refusal>
@@ -148,12 +288,7 @@ impl Book {
             return Err(Refusal::NotStruck);
         }
         self.check_version()?;
-        Ok(Effect::SetFlags {
-            id,
-            style: paragraph.style,
-            begins_volume: paragraph.begins_volume,
-            struck: false,
-        })
+        Ok(with_struck(id, paragraph, false))
     }
 
     fn plan_style(&self, id: u64, style: Style) -> Result<Effect, Refusal>
@@ -162,12 +297,7 @@ impl Book {
     {
         let paragraph = self.named(id)?;
         self.check_version()?;
-        Ok(Effect::SetFlags {
-            id,
-            style,
-            begins_volume: paragraph.begins_volume,
-            struck: paragraph.struck,
-        })
+        Ok(with_style(id, paragraph, style))
     }
 
     fn plan_volume(&self, id: u64, begins: bool) -> Result<Effect, Refusal>
@@ -176,12 +306,7 @@ impl Book {
     {
         let paragraph = self.named(id)?;
         self.check_version()?;
-        Ok(Effect::SetFlags {
-            id,
-            style: paragraph.style,
-            begins_volume: begins,
-            struck: paragraph.struck,
-        })
+        Ok(with_volume(id, paragraph, begins))
     }
 
     fn plan_move(&self, alloc: Global, id: u64, anchor: Anchor) -> Result<Effect, Refusal>
@@ -207,9 +332,7 @@ impl Book {
         }
         self.check_version()?;
         let print = paragraph.print.as_slice();
-        if let Some(place) = undefined_place(kept.rules.table(), print) {
-            return Err(Refusal::Undefined { place });
-        }
+        check_print(kept, print)?;
         Ok(Effect::ChangeTable {
             id,
             table: copy(alloc, table.as_str())?,
@@ -227,25 +350,16 @@ impl Book {
         ensures planned { IfOk result (IsPlanned self.now (Command.TypeIn anchor table.now text.now)) }
         ensures refused { IfErr result (IsTurnedDown self.now (Command.TypeIn anchor table.now text.now)) }
     {
-        if let Some(place) = first_barred(text.as_str()) {
-            return Err(Refusal::BadText { place });
-        }
+        check_text(text)?;
         self.check_anchor(anchor)?;
         let kept = self.table_named(table)?;
         let print = stored(alloc, text.as_str())?;
-        if print.len() > MOST_PRINT {
-            return Err(Refusal::TooLong);
-        }
-        if self.paragraphs.len() >= MOST_PARAGRAPHS {
-            return Err(Refusal::Full(Limit::Paragraphs));
-        }
+        check_length(&print)?;
+        self.check_room()?;
         self.check_version()?;
-        if let Some(place) = undefined_place(kept.rules.table(), print.as_slice()) {
-            return Err(Refusal::Undefined { place });
-        }
-        let cells = cells_of(alloc, &kept.rules, print.as_slice())?;
+        check_print(kept, &print)?;
         Ok(Effect::AddParagraph {
-            paragraph: typed(alloc, table, print, cells)?,
+            paragraph: new_paragraph(alloc, table, &kept.rules, print)?,
             room: ParagraphsRoom::new(alloc, self.paragraphs.len() + 1)?,
             order: self.paragraphs.order_with_next(alloc, anchor)?,
         })
@@ -255,64 +369,122 @@ impl Book {
         ensures planned { IfOk result (IsPlanned self.now (Command.Table name.now text.now)) }
         ensures refused { IfErr result (IsTurnedDown self.now (Command.Table name.now text.now)) }
     {
-        if !is_table_name(name.as_str()) {
-            return Err(Refusal::BadName);
+        check_name(name)?;
+        match self.table_named(name) {
+            Ok(_) => self.plan_replacement(alloc, name, text),
+            Err(_) => self.plan_addition(alloc, name, text),
         }
-        let is_new = self.tables.get(name.as_str()).is_none();
-        if is_new && self.tables.len() >= MOST_TABLES {
-            return Err(Refusal::Full(Limit::Tables));
-        }
-        self.check_version()?;
-        let table = read_table(alloc, text)?;
-        let name = copy(alloc, name.as_str())?;
-        if is_new {
-            return Ok(Effect::AddTable {
-                name,
-                table,
-                room: TablesRoom::new(alloc, self.tables.len() + 1)?,
-            });
-        }
-        self.check_users(&name, &table)?;
-        let cells = self.cells_by(alloc, &name, &table)?;
-        Ok(Effect::ReplaceTable { name, table, cells })
     }
 
-    /// The table defines the print of each paragraph that uses the name.
-    fn check_users(&self, name: &Text, table: &BookTable) -> Result<(), Refusal> {
+    /// One more table may come.
+    fn check_tables(&self) -> Result<(), Refusal>
+        ensures left { OnOk result (length self.now.tables < most_tables) }
+        ensures full { IfErr result (λ refusal.
+            (refusal ≡ Refusal.Full Limit.Tables) × (most_tables ≤ length self.now.tables)) }
+    {
+        if self.tables.len() >= MOST_TABLES {
+            return Err(Refusal::Full(Limit::Tables));
+        }
+        Ok(())
+    }
+
+    fn plan_addition(&self, alloc: Global, name: &Text, text: &Bytes) -> Result<Effect, Refusal>
+        requires name { IsTableName name.now }
+        requires new { text_of self.now name.now ≡ None }
+        ensures planned { IfOk result (IsPlanned self.now (Command.Table name.now text.now)) }
+        ensures refused { IfErr result (IsTurnedDown self.now (Command.Table name.now text.now)) }
+    {
+        self.check_tables()?;
+        self.check_version()?;
+        Ok(Effect::AddTable {
+            table: read_table(alloc, text)?,
+            name: copy(alloc, name.as_str())?,
+            room: TablesRoom::new(alloc, self.tables.len() + 1)?,
+        })
+    }
+
+    fn plan_replacement(
+        &self,
+        alloc: Global,
+        name: &Text,
+        text: &Bytes,
+    ) -> Result<Effect, Refusal>
+        requires name { IsTableName name.now }
+        requires old { IsSome (text_of self.now name.now) }
+        ensures planned { IfOk result (IsPlanned self.now (Command.Table name.now text.now)) }
+        ensures refused { IfErr result (IsTurnedDown self.now (Command.Table name.now text.now)) }
+    {
+        self.check_version()?;
+        let table = read_table(alloc, text)?;
+        self.check_users(name, &table.rules)?;
+        let cells = self.cells_by(alloc, name, &table.rules)?;
+        Ok(Effect::ReplaceTable {
+            name: copy(alloc, name.as_str())?,
+            table,
+            cells,
+        })
+    }
+
+    /// A table of these rules defines the print of each paragraph that uses its name.
+    fn check_users(&self, name: &Text, rules: &PlainRules) -> Result<(), Refusal>
+        ensures defined { OnOk result (All (DefinesUser rules.now name.now) self.now.paragraphs) }
+        ensures undefined { IfErr result (λ refusal. (id : _) × (place : _)
+            × (refusal ≡ Refusal.Untranslatable id place)
+            × IsFirstUser rules.now name.now self.now.paragraphs id place) }
+    {
         for place in 0..self.paragraphs.len() {
             if let Some((id, paragraph)) = self.paragraphs.at(place) {
-                if paragraph.table.as_str() == name.as_str() {
-                    check_print(id, paragraph, table)?;
-                }
+                check_user(id, paragraph, name, rules)?;
             }
         }
         Ok(())
     }
 
-    /// For each paragraph in the order of ids its cells by the table, where it uses the name.
+    /// For each paragraph in the order of ids its cells by the rules, where it uses the name.
     fn cells_by(
         &self,
         alloc: Global,
         name: &Text,
-        table: &BookTable,
-    ) -> Result<Vec<Option<Cells>>, AllocError> {
+        rules: &PlainRules,
+    ) -> Result<Vec<Option<Cells>>, AllocError>
+        requires { All (DefinesUser rules.now name.now) self.now.paragraphs }
+        ensures { IfOk result (λ cells. AreRenewed self.now name.now rules.now cells.items) }
+    {
         let mut all = Vec::with_capacity(alloc, self.paragraphs.len())?;
         for index in 0..self.paragraphs.len() {
-            let mut new = None;
-            if let Some(paragraph) = self.paragraphs.get(index as u64 + 1) {
-                if paragraph.table.as_str() == name.as_str() {
-                    new = Some(cells_of(alloc, &table.rules, paragraph.print.as_slice())?);
-                }
-            }
+            let new = match self.paragraphs.get(index as u64 + 1) {
+                Some(paragraph) => user_cells(alloc, paragraph, name, rules)?,
+                None => None,
+            };
             all.push(new)?;
         }
         Ok(all)
     }
 }
 
-/// The table defines the paragraph's print.
-fn check_print(id: u64, paragraph: &Paragraph, table: &BookTable) -> Result<(), Refusal> {
-    match undefined_place(table.rules.table(), paragraph.print.as_slice()) {
+/// Whether a paragraph uses the table with this name.
+fn uses(paragraph: &Paragraph, name: &Text) -> bool
+    ensures { IsTrue result ↔ (paragraph.now.table ≡ name.now) }
+{
+    paragraph.table.as_str() == name.as_str()
+}
+
+/// The rules define the print of a paragraph, if it uses their table's name.
+fn check_user(
+    id: u64,
+    paragraph: &Paragraph,
+    name: &Text,
+    rules: &PlainRules,
+) -> Result<(), Refusal>
+    ensures defined { OnOk result
+        (paragraph.now.table ≡ name.now → AreDefined rules.now paragraph.now.print) }
+    ensures undefined { IfErr result (λ refusal. (place : _) × (refusal ≡ Refusal.Untranslatable id place)
+        × (paragraph.now.table ≡ name.now) × IsFirstUndefined rules.now paragraph.now.print place) }
+{
+    if !uses(paragraph, name) {
+        return Ok(());
+    }
+    match undefined_place(rules.table(), paragraph.print.as_slice()) {
         Some(place) => Err(Refusal::Untranslatable {
             paragraph: id,
             place,
@@ -321,33 +493,46 @@ fn check_print(id: u64, paragraph: &Paragraph, table: &BookTable) -> Result<(), 
     }
 }
 
+/// The cells of a paragraph by the rules, if it uses their table's name.
+fn user_cells(
+    alloc: Global,
+    paragraph: &Paragraph,
+    name: &Text,
+    rules: &PlainRules,
+) -> Result<Option<Cells>, AllocError>
+    requires { paragraph.now.table ≡ name.now → AreDefined rules.now paragraph.now.print }
+    ensures { IfOk result (λ cells. MatchOption cells
+        (paragraph.now.table ≢ name.now)
+        (λ new. (paragraph.now.table ≡ name.now) × AreCellsOf rules.now paragraph.now.print new)) }
+{
+    if !uses(paragraph, name) {
+        return Ok(None);
+    }
+    let cells = cells_of(alloc, rules, paragraph.print.as_slice())?;
+    Ok(Some(cells))
+}
+
+/// The name of a table is one.
+fn check_name(name: &Text) -> Result<(), Refusal>
+    ensures name { OnOk result (IsTableName name.now) }
+    ensures bad { IfErr result (λ refusal. (refusal ≡ Refusal.BadName) × ¬ IsTableName name.now) }
+{
+    if !is_table_name(name.as_str()) {
+        return Err(Refusal::BadName);
+    }
+    Ok(())
+}
+
 /// A table of a text.
-fn read_table(alloc: Global, text: &Bytes) -> Result<BookTable, Refusal> {
+fn read_table(alloc: Global, text: &Bytes) -> Result<BookTable, Refusal>
+    ensures text { IfOk result (λ table. table.text ≡ text.now) }
+    ensures means { IfOk result (λ table. Means text.now table.rules) }
+    ensures bad { IfErr result (λ refusal. ((fault : _) × (refusal ≡ Refusal.BadTable fault)
+        × Bad text.now fault.line fault.cause) ⊎ (refusal ≡ Refusal.NoMemory)) }
+{
     match BookTable::read(alloc, text.as_slice()) {
         Ok(table) => Ok(table),
         Err(ReadFault::Table(fault)) => Err(Refusal::BadTable(fault)),
         Err(ReadFault::NoMemory) => Err(Refusal::NoMemory),
     }
-}
-
-/// A paragraph that was just typed.
-fn typed(
-    alloc: Global,
-    table: &Text,
-    print: Vec<char>,
-    cells: Cells,
-) -> Result<Paragraph, AllocError> {
-    let mut original = String::new(alloc);
-    for character in print.iter() {
-        original.push(*character)?;
-    }
-    Ok(Paragraph {
-        table: copy(alloc, table.as_str())?,
-        original: Text::from_string(original),
-        style: Style::Body,
-        begins_volume: false,
-        struck: false,
-        print: Characters::from_vec(print),
-        cells,
-    })
 }

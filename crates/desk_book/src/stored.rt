@@ -1,7 +1,8 @@
 //! Texts as a book keeps them, and the names of its tables.
-ghost use Rattle.desk_book.specs.Name.{IsTableName};
-ghost use Rattle.desk_book.specs.Stored.{IsClean, IsFirstBarred, is_barred, stored};
-ghost use Rattle.std.specs.Prelude.{◌≡◌, ◌↔◌, IfNone, IfOk, IfSome, IsTrue};
+ghost use Rattle.desk_book.specs.Name.{IsTableName, is_name_character};
+ghost use Rattle.desk_book.specs.Stored.{is_barred, stored};
+ghost use Rattle.std.specs.List.{filter, list_all, position};
+ghost use Rattle.std.specs.Prelude.{◌≡◌, ◌↔◌, IfOk, IsTrue, length, not};
 ghost use Rattle.std.specs.Str.{chars};
 
 use super::limits::MOST_NAME;
@@ -17,15 +18,16 @@ fn is_barred(character: char) -> bool
 
 /// The first place of a barred character.
 pub(crate) fn first_barred(text: &str) -> Option<usize>
-    ensures none { IfNone result (IsClean (chars text.now)) }
-    ensures some { IfSome result (IsFirstBarred (chars text.now)) }
+    ensures { result ≡ position is_barred (chars text.now) }
 {
-    for (place, character) in text.chars().enumerate() {
-        if is_barred(character) {
-            return Some(place);
-        }
-    }
-    None
+    text.chars().position(is_barred)
+}
+
+/// Takes the barred characters out of a text.
+fn drop_barred(text: &mut Vec<char>)
+    ensures { text.new.items ≡ filter (λ character. not (is_barred character)) text.old.items }
+{
+    text.retain(|character| !is_barred(*character));
 }
 
 /// The characters of a text in Unicode's normal form C, without barred ones.
@@ -33,27 +35,37 @@ pub(crate) fn stored(alloc: Global, text: &str) -> Result<Vec<char>, AllocError>
     ensures { IfOk result (λ print. print.items ≡ stored (chars text.now)) }
 {
     let given: Vec<char> = text.chars().collect(alloc)?;
-    let mut normal = Vec::new(alloc);
-    extend_nfc(&mut normal, given.as_slice())?;
-    let mut print = Vec::with_capacity(alloc, normal.len())?;
-    for character in normal {
-        if !is_barred(character) {
-            print.push(character)?;
-        }
-    }
+    let mut print = Vec::new(alloc);
+    extend_nfc(&mut print, given.as_slice())?;
+    drop_barred(&mut print);
     Ok(print)
+}
+
+/// Whether the name of a table may hold the character: `a` to `z`, `0` to `9`, `_` or `-`.
+fn is_name_character(character: char) -> bool
+    ensures { result ≡ is_name_character character }
+{
+    matches!(character, 'a'..='z' | '0'..='9' | '_' | '-')
+}
+
+/// How many characters a text has.
+fn count_of(text: &str) -> usize
+    ensures { result ≡ length (chars text.now) }
+{
+    text.chars().count()
+}
+
+/// Whether each character of a text may stand in the name of a table.
+fn has_name_characters(text: &str) -> bool
+    ensures { result ≡ list_all is_name_character (chars text.now) }
+{
+    text.chars().all(is_name_character)
 }
 
 /// Whether the text is the name of a table: 1 to 32 of `a` to `z`, `0` to `9`, `_` and `-`.
 pub(crate) fn is_table_name(name: &str) -> bool
     ensures { IsTrue result ↔ IsTableName (chars name.now) }
 {
-    let mut count = 0;
-    for character in name.chars() {
-        if count == MOST_NAME || !matches!(character, 'a'..='z' | '0'..='9' | '_' | '-') {
-            return false;
-        }
-        count += 1;
-    }
-    count > 0
+    let count = count_of(name);
+    0 < count && count <= MOST_NAME && has_name_characters(name)
 }

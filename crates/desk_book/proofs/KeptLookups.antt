@@ -1,0 +1,93 @@
+-- What is found among kept tables and paragraphs, against what the book that they stand for has.
+use Rattle.std.proofs.Common.{◌≡◌, ℕ, Bool, true, false, List, [], ◌∷◌, map, length, get_or, Option, Some, None, Result, Ok, Err, refl, sym, ap, subst, ◌∙◌, inl, inr}
+use Rattle.std.specs.Cmp.Lexicographic.{pointwise}
+use Rattle.std.specs.List.{All, find}
+use Rattle.std.specs.Map.{lookup}
+use Rattle.std.specs.Option.{ok_or, option_copied}
+use Rattle.std.specs.Prelude.{nat_eq, option_map, IfErr, IfOk, IfSome}
+use Rattle.std.proofs.lemmas.Bool.{cases_Bool, eqb-true}
+use Rattle.std.proofs.lemmas.Cmp.{nat_eq_equiv}
+use Rattle.std.proofs.lemmas.List.Elements.{All-contains, Contains-get_or}
+use Rattle.std.proofs.lemmas.List.{length-map}
+use Rattle.std.proofs.lemmas.Map.Entries.{All-lookup}
+use Rattle.std.proofs.lemmas.Map.Views.{Contains-from_lookup}
+use denote.Bor.{Bor}
+use Rattle.louis_table.specs.Table.{Means}
+use Rattle.desk_book.specs.declared.paragraphs.Paragraph.{Paragraph as KeptParagraph}
+use Rattle.desk_book.specs.declared.tables.BookTable.{BookTable}
+use Rattle.desk_book.specs.Book.{Book, paragraph_of, text_of}
+use Rattle.desk_book.specs.Kept.{KeptTables, KeptParagraphs, IsKept, IsKeptParagraph, book_kept, ids, paragraph_kept}
+use Rattle.desk_book.specs.Sound.{IsSound}
+use Rattle.desk_book.specs.Planned.{IsKeptFor, IsTableFor}
+use Rattle.desk_book.proofs.OrderLists.{ids_of-kept}
+use Rattle.desk_book.proofs.ParagraphLists.{ids_of}
+use Rattle.desk_book.proofs.SoundBooks.{paragraph_of-own}
+
+-- ---- what `ok_or` gives
+
+module _ {X E : Type 0} where
+  pub IfOk-ok_or : (o : Option X) (d : E) (r : Result X E) → r ≡ ok_or o d → (P : X → Type 0) → ((x : X) → o ≡ Some x → P x) → IfOk r P
+  IfOk-ok_or None d r is P h = rw is tt
+  IfOk-ok_or (Some x) d r is P h = rw is (h x refl)
+
+  pub IfErr-ok_or : (o : Option X) (d : E) (r : Result X E) → r ≡ ok_or o d → (P : E → Type 0) → (o ≡ None → P d) → IfErr r P
+  IfErr-ok_or None d r is P h = rw is (h refl)
+  IfErr-ok_or (Some x) d r is P h = rw is tt
+
+-- ---- lookups
+
+find-kept : (id : ℕ) (kept : KeptParagraphs) → find (λ paragraph. nat_eq paragraph.id id) (map paragraph_kept kept) ≡ option_map (λ p. paragraph_kept (id, p)) (lookup (nat_eq id) kept)
+find-kept id [] = refl
+find-kept id ((i, p) ∷ kept) =
+    elim (cases_Bool (nat_eq i id)) [
+      | inl e ↦ let flip : nat_eq id i ≡ true = nat_eq_equiv.symm id i ∙ e in rw (e, flip) (ap (λ (n : ℕ). Some (paragraph_kept (n, p))) (eqb-true i id e))
+      | inr e ↦ let flip : nat_eq id i ≡ false = nat_eq_equiv.symm id i ∙ e in rw (e, flip) (find-kept id kept)
+    ]
+
+lookup-texts : (test : List ℕ → Bool) (tables : KeptTables) → lookup test (map (λ entry. (entry.0, entry.1.text)) tables) ≡ option_map (λ table. table.text) (lookup test tables)
+lookup-texts test [] = refl
+lookup-texts test ((name, table) ∷ tables) =
+    elim (cases_Bool (test name)) [
+      | inl e ↦ rw e refl
+      | inr e ↦ rw e (lookup-texts test tables)
+    ]
+
+-- ---- in a book
+
+module _ (version : ℕ) (tables : KeptTables) (kept : KeptParagraphs) (book : Book) (is : book_kept version tables kept ≡ book) where
+  pub paragraph_of-kept : (id : ℕ) → paragraph_of book id ≡ option_map (λ p. paragraph_kept (id, p)) (lookup (nat_eq id) kept)
+  paragraph_of-kept id = rw (← is) (find-kept id kept)
+
+  pub text_of-kept : (name : List ℕ) → text_of book name ≡ option_map (λ table. table.text) (lookup (pointwise nat_eq name) tables)
+  text_of-kept name = rw (← is) (lookup-texts (pointwise nat_eq name) tables)
+
+  pub ids_of-book : ids_of book.paragraphs ≡ ids kept
+  ids_of-book = rw (← is) (ids_of-kept kept)
+
+  pub count-paragraphs : length book.paragraphs ≡ length kept
+  count-paragraphs = rw (← is) (length-map kept paragraph_kept)
+
+  pub count-tables : length book.tables ≡ length tables
+  count-tables = rw (← is) (length-map tables (λ (entry : List ℕ × BookTable). (entry.0, entry.1.text)))
+
+  module _ (facts : IsKept version tables kept) where
+    pub sound : IsSound book
+    sound = subst IsSound is facts.sound
+
+    pub IsKeptFor-lookup : (id : ℕ) (p : KeptParagraph) → lookup (nat_eq id) kept ≡ Some p → IsKeptFor book id p
+    IsKeptFor-lookup id p found = record {
+      found = there;
+      alone = λ k d lt same.
+          let own = paragraph_of-own book sound (get_or book.paragraphs k d) (Contains-get_or book.paragraphs k d lt) in
+          cc (ap (paragraph_of book) same, there);
+      print = (All-contains (IsKeptParagraph tables) kept (id, p) facts.translated (Contains-from_lookup (λ x y. eqb-true x y) id p kept found)).print;
+    }
+      where
+        there : paragraph_of book id ≡ Some (paragraph_kept (id, p))
+        there = paragraph_of-kept id ∙ ap (option_map (λ p. paragraph_kept (id, p))) found
+
+    pub IsTableFor-lookup : (name : List ℕ) (table : BookTable) → lookup (pointwise nat_eq name) tables ≡ Some table → IsTableFor book name table
+    IsTableFor-lookup name table found = record {
+      found = text_of-kept name ∙ ap (option_map (λ table. table.text)) found;
+      means = subst (λ (o : Option BookTable). IfSome o (λ t. Means t.text t.rules)) found (All-lookup (λ t. Means t.text t.rules) (pointwise nat_eq name) tables facts.means);
+    }

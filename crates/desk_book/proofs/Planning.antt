@@ -1,0 +1,165 @@
+-- How a command is judged while no version is expected, by what was found in the book.
+use Rattle.std.proofs.Common.{◌≡◌, ℕ, zero, suc, ◌+◌, ◌<◌, ◌≤◌, Bool, true, false, List, [], ◌∷◌, map, length, Option, Some, None, refl, sym, ap, subst, ◌∙◌, arith, inl, inr}
+use Rattle.std.specs.List.{All, Contains}
+use Rattle.std.specs.Prelude.{IsSome, is_some, nat_eq}
+use Rattle.std.proofs.lemmas.Bool.{both_ways, cases_Bool, eqb-true}
+use Rattle.std.proofs.lemmas.List.Elements.{All-head, All-tail}
+use Rattle.louis_table.specs.Meaning.{Meaning}
+use Rattle.louis_table.specs.Table.{Means}
+use Rattle.louis_table.proofs.OneMeaning.{one_meaning}
+use Rattle.louis_translate.specs.Position.{AreDefined, IsFirstUndefined}
+use Rattle.desk_book.specs.declared.command.Command.{Command}
+use Rattle.desk_book.specs.declared.paragraphs.Paragraph.{Paragraph as KeptParagraph}
+use Rattle.desk_book.specs.declared.tables.BookTable.{BookTable}
+use Rattle.desk_book.specs.declared.refusal.Limit.TheVariants.{Paragraphs, Version}
+use Rattle.desk_book.specs.declared.refusal.Refusal.{Refusal}
+use Rattle.desk_book.specs.declared.refusal.Refusal.TheVariants.{BadText, NoParagraph, NoTable, TooLong, Full, Undefined}
+use Rattle.desk_book.specs.Book.{Book, Paragraph, paragraph_of, text_of}
+use Rattle.desk_book.specs.Judging.{Passes}
+use Rattle.desk_book.specs.Kept.{paragraph_kept}
+use Rattle.desk_book.specs.Limits.{most_paragraphs, most_print, most_version}
+use Rattle.desk_book.specs.Planned.{AreNotAllThere, AreThere, IsKeptFor, IsTableFor, IsTurnedDown}
+use Rattle.desk_book.specs.Refusals.{Holds, turn, IsAccepted, LacksParagraph, LacksTable, IsStruck, IsNotStruck, IsUndefined, adds_paragraph, live_paragraph, new_print, print_to_translate, text_given, struck_paragraph, paragraphs_named, table_named}
+use Rattle.desk_book.specs.Step.{with_change}
+use Rattle.desk_book.specs.Stored.{IsClean, IsFirstBarred}
+use Rattle.desk_book.proofs.Judging.{IsAccepted-passes, IsRefused-passes, Passes-full, Passes-bad_text, Passes-moved, Passes-no_paragraph, Passes-no_table, Passes-not_struck, Passes-skip, Passes-struck, Passes-too_long, Passes-undefined, skips}
+use Rattle.desk_book.proofs.TextTests.{IsClean-none}
+
+-- ---- paragraphs that are named
+
+module _ (book : Book) where
+  pub AreNotAllThere-first : (id : ℕ) (ids : List ℕ) → paragraph_of book id ≡ None → AreNotAllThere book (id ∷ ids)
+  AreNotAllThere-first id ids missing = (id, (0, omega arith, refl), missing)
+
+  pub AreNotAllThere-cons : (id : ℕ) (ids : List ℕ) → AreNotAllThere book ids → AreNotAllThere book (id ∷ ids)
+  AreNotAllThere-cons id ids (other, (k, within, at), missing) = (other, (suc k, omega arith, at), missing)
+
+  pub AreThere-none : AreThere book []
+  AreThere-none id (k, within, at) = absurd (omega arith)
+
+  pub AreThere-cons : (id : ℕ) (kept : KeptParagraph) (ids : List ℕ) → IsKeptFor book id kept → AreThere book ids → AreThere book (id ∷ ids)
+  AreThere-cons id kept ids k rest other (zero, within, at) = subst (λ (n : ℕ). IsSome (paragraph_of book n)) at (ap is_some k.found)
+  AreThere-cons id kept ids k rest other (suc i, within, at) = rest other (i, omega arith, at)
+
+same_some : {X : Type 0} (x y : X) → Some x ≡ Some y → x ≡ y
+same_some x y e = cc
+
+-- a table that defines a print leaves no first character of it undefined
+pub defined_not_first : (meaning : Meaning) (print : List ℕ) (place : ℕ) → AreDefined meaning print → ¬ IsFirstUndefined meaning print place
+defined_not_first meaning print place defined first = let there = defined place first.within in let none = first.undefined in cc (ap is_some none)
+
+-- ---- turns
+
+module _ (book : Book) (command : Command) where
+  -- the turns before the first that it doesn't skip
+  pub passes_to : (n : ℕ) → skips command 1 n ≡ true → Passes book None command n
+  passes_to n skip = Passes-skip book None command 1 n skip (Passes-moved book None command (λ version moved. let given = moved.given in cc))
+
+  pub to_turn : (n m : ℕ) → skips command n m ≡ true → Passes book None command n → Passes book None command m
+  to_turn n m skip = Passes-skip book None command n m skip
+
+  pub turned_down : (n : ℕ) (refusal told : Refusal) → Passes book None command n → turn refusal ≡ n → Holds book None command refusal → told ≡ refusal → IsTurnedDown book command told
+  turned_down n refusal told passes at holds same = subst (IsTurnedDown book command) (sym same) (inl (IsRefused-passes book None command n refusal passes at holds))
+
+  pub no_paragraph : (told : Refusal) → Passes book None command 3 → AreNotAllThere book (paragraphs_named command) → told ≡ NoParagraph → IsTurnedDown book command told
+  no_paragraph told passes lacks = turned_down 3 NoParagraph told passes refl (record { id = lacks.0; named = lacks.1; missing = lacks.2 })
+
+  pub past_paragraphs : Passes book None command 3 → AreThere book (paragraphs_named command) → Passes book None command 4
+  past_paragraphs passes there = Passes-no_paragraph book None command passes (λ lacks. let found = there lacks.id lacks.named in let missing = lacks.missing in cc (ap is_some missing))
+
+  pub no_table : (told : Refusal) (name : List ℕ) → Passes book None command 4 → table_named command ≡ Some name → text_of book name ≡ None → told ≡ NoTable → IsTurnedDown book command told
+  no_table told name passes named missing = turned_down 4 NoTable told passes refl (record { name = name; named = named; missing = missing })
+
+  pub past_table : (name text : List ℕ) → Passes book None command 4 → table_named command ≡ Some name → text_of book name ≡ Some text → Passes book None command 5
+  past_table name text passes named found =
+      Passes-no_table book None command passes
+      (λ lacks. let given = lacks.named in let missing = lacks.missing in let same : name ≡ lacks.name = cc in cc (ap (text_of book) same))
+
+  pub bad_text : (told : Refusal) (text : List ℕ) (place : ℕ) → Passes book None command 2 → text_given command ≡ Some text → told ≡ BadText place → IsFirstBarred text place → IsTurnedDown book command told
+  bad_text told text place passes given is first = turned_down 2 (BadText place) told passes refl (record { text = text; given = given; first = first }) is
+
+  pub past_text : (text : List ℕ) → Passes book None command 2 → text_given command ≡ Some text → IsClean text → Passes book None command 3
+  past_text text passes given clean =
+      Passes-bad_text book None command passes
+      (λ place b. IsClean-none text place clean (subst (λ (t : List ℕ). IsFirstBarred t place) (same_some b.text text (sym b.given ∙ given)) b.first))
+
+  pub too_long : (told : Refusal) (print : List ℕ) → Passes book None command 11 → new_print book command ≡ Some print → most_print < length print → told ≡ TooLong → IsTurnedDown book command told
+  too_long told print passes made long = turned_down 11 TooLong told passes refl (record { print = print; made = made; long = long })
+
+  pub past_length : (print : List ℕ) → Passes book None command 11 → new_print book command ≡ Some print → length print ≤ most_print → Passes book None command 12
+  past_length print passes made short =
+      Passes-too_long book None command passes
+      (λ l. let same = ap length (same_some l.print print (sym l.made ∙ made)) in let long = l.long in omega arith)
+
+  pub full_paragraphs : (told : Refusal) → Passes book None command 13 → adds_paragraph command ≡ true → most_paragraphs ≤ length book.paragraphs → told ≡ Full Paragraphs → IsTurnedDown book command told
+  full_paragraphs told passes adds full = turned_down 13 (Full Paragraphs) told passes refl (record { adds = adds; full = full })
+
+  pub past_room : Passes book None command 13 → length book.paragraphs < most_paragraphs → Passes book None command 14
+  past_room passes left = Passes-full book None command Paragraphs passes (λ full. let most = full.full in omega arith)
+
+  pub full_version : (n : ℕ) (told : Refusal) → Passes book None command n → skips command n 16 ≡ true → most_version ≤ book.version → told ≡ Full Version → IsTurnedDown book command told
+  full_version n told passes skip full = turned_down 16 (Full Version) told (Passes-skip book None command n 16 skip passes) refl full
+
+  pub past_version : (n : ℕ) → Passes book None command n → skips command n 16 ≡ true → book.version < most_version → Passes book None command 17
+  past_version n passes skip left = Passes-full book None command Version (Passes-skip book None command n 16 skip passes) (λ full. omega arith)
+
+  pub accepted_after : (n : ℕ) → Passes book None command n → skips command n 20 ≡ true → IsAccepted book None command
+  accepted_after n passes skip = IsAccepted-passes book None command (Passes-skip book None command n 20 skip passes)
+
+  -- ---- a print by a table
+
+  module _ (name print : List ℕ) (table : BookTable) (given : print_to_translate book command ≡ Some (print, name)) (found : IsTableFor book name table) where
+    pub undefined : (told : Refusal) (place : ℕ) → Passes book None command 18 → told ≡ Undefined place → IsFirstUndefined table.rules print place → IsTurnedDown book command told
+    undefined told place passes is first =
+        turned_down 18 (Undefined place) told passes refl
+        (record { print = print; name = name; print_is = given; text = table.text; meaning = table.rules; found = found.found; means = found.means; first = first }) is
+
+    pub past_print : Passes book None command 18 → AreDefined table.rules print → Passes book None command 19
+    past_print passes defined = Passes-undefined book None command passes none
+      where
+        none : (place : ℕ) → ¬ IsUndefined book command place
+        none place u =
+            let pair = same_some (u.print, u.name) (print, name) (sym u.print_is ∙ given) in
+            let same_print : u.print ≡ print = ap (λ (p : List ℕ × List ℕ). p.0) pair in
+            let same_name : u.name ≡ name = ap (λ (p : List ℕ × List ℕ). p.1) pair in
+            let text : u.text ≡ table.text = same_some u.text table.text (sym u.found ∙ (ap (text_of book) same_name ∙ found.found)) in
+            let meaning = one_meaning table.text u.meaning table.rules (subst (λ (t : List ℕ). Means t u.meaning) text u.means) found.means in
+            defined_not_first table.rules print place defined (rw (meaning, same_print) at u.first)
+
+  -- ---- a paragraph that is named first
+
+  pub unnamed : (told : Refusal) (id : ℕ) (ids : List ℕ) → skips command 1 3 ≡ true → paragraphs_named command ≡ id ∷ ids → (told ≡ NoParagraph) × (paragraph_of book id ≡ None) → IsTurnedDown book command told
+  unnamed told id ids skip named (is, missing) = no_paragraph told (passes_to 3 skip) (subst (AreNotAllThere book) (sym named) (AreNotAllThere-first book id ids missing)) is
+
+  module _ (id : ℕ) (kept : KeptParagraph) (k : IsKeptFor book id kept) where
+    pub past_named : skips command 1 3 ≡ true → paragraphs_named command ≡ id ∷ [] → Passes book None command 4
+    past_named skip named = past_paragraphs (passes_to 3 skip) (subst (AreThere book) (sym named) (AreThere-cons book id kept [] k (AreThere-none book)))
+
+    pub past_struck : Passes book None command 6 → live_paragraph command ≡ Some id → kept.struck ≡ false → Passes book None command 7
+    past_struck passes named live =
+        Passes-struck book None command passes
+        (λ s. let given = s.named in let found = s.found in let same : id ≡ s.id = cc in
+        let is : paragraph_kept (id, kept) ≡ s.paragraph = cc (ap (paragraph_of book) same, k.found) in
+        both_ways kept.struck live (ap (λ (p : Paragraph). p.struck) is ∙ s.struck))
+
+    pub past_live : Passes book None command 7 → struck_paragraph command ≡ Some id → kept.struck ≡ true → Passes book None command 8
+    past_live passes named struck =
+        Passes-not_struck book None command passes
+        (λ s. let given = s.named in let found = s.found in let same : id ≡ s.id = cc in
+        let is : paragraph_kept (id, kept) ≡ s.paragraph = cc (ap (paragraph_of book) same, k.found) in
+        both_ways kept.struck (ap (λ (p : Paragraph). p.struck) is ∙ s.live) struck)
+
+-- ---- flags
+
+-- changes that agree on the paragraph with the id make the same paragraphs
+pub with_change-same : (id : ℕ) (one : Paragraph) (f g : Paragraph → Paragraph) (ps : List Paragraph) → All (λ p. p.id ≡ id → p ≡ one) ps → f one ≡ g one → with_change id f ps ≡ with_change id g ps
+with_change-same id one f g [] alone same = refl
+with_change-same id one f g (p ∷ ps) alone same =
+    let rest = with_change-same id one f g ps (All-tail (λ (q : Paragraph). q.id ≡ id → q ≡ one) p ps alone) same in
+    elim (cases_Bool (nat_eq p.id id)) [
+      | inl e ↦
+          let is : p ≡ one = All-head (λ (q : Paragraph). q.id ≡ id → q ≡ one) p ps alone (eqb-true p.id id e) in
+          let head : f p ≡ g p = ap f is ∙ (same ∙ ap g (sym is)) in
+          rw (e, head, rest) refl
+      | inr e ↦ rw (e, rest) refl
+    ]

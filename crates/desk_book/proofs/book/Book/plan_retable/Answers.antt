@@ -1,0 +1,111 @@
+use Rattle.std.proofs.Common.{◌≡◌, ℕ, ◌<◌, Bool, false, List, [], Some, None, refl, sym, ap, subst, ◌∙◌, inr}
+use Rattle.std.specs.Prelude.{option_map}
+use Rattle.std.proofs.lemmas.Result.{err_from_is_err_and}
+use Rattle.louis_translate.specs.Position.{AreDefined, IsFirstUndefined}
+use Rattle.desk_book.specs.declared.command.Command.TheVariants.{Retable}
+use Rattle.desk_book.specs.declared.paragraphs.Paragraph.{Paragraph as KeptParagraph}
+use Rattle.desk_book.specs.declared.tables.BookTable.{BookTable}
+use Rattle.desk_book.specs.declared.refusal.Refusal.TheVariants.{Struck}
+use Rattle.desk_book.specs.Book.{Book}
+use Rattle.desk_book.specs.Changes.{AreCellsOf}
+use Rattle.desk_book.specs.Judging.{Passes}
+use Rattle.desk_book.specs.Kept.{paragraph_kept}
+use Rattle.desk_book.specs.Limits.{most_version}
+use Rattle.desk_book.specs.Planned.{IsKeptFor, IsTableFor}
+use Rattle.desk_book.specs.Print.{print_of}
+use Rattle.desk_book.specs.Refusals.{print_to_translate}
+use Rattle.desk_book.proofs.Planning.{accepted_after, full_version, no_table, past_named, past_print, past_struck, past_table, past_version, to_turn, turned_down, undefined, unnamed}
+use Rattle.desk_book.proofs.book.Book.plan_retable.Goals as goal
+
+module _ (book : Book) (id : ℕ) (name : List ℕ) (kept : KeptParagraph) (found : IsKeptFor book id kept) where
+  named : Passes book None (Retable id name) 4
+  named = past_named book (Retable id name) id kept found refl refl
+
+  print : List ℕ
+  print = print_of (paragraph_kept (id, kept))
+
+  given : print_to_translate book (Retable id name) ≡ Some (print, name)
+  unfolding print
+  given = ap (option_map (λ p. (print_of p, name))) found.found
+
+  print_is : (shown : List ℕ) → shown ≡ kept.print → shown ≡ print
+  unfolding print
+  print_is shown same = same ∙ found.print
+
+  module _ (table : BookTable) (there : IsTableFor book name table) where
+    tabled : Passes book None (Retable id name) 6
+    tabled = to_turn book (Retable id name) 5 6 refl (past_table book (Retable id name) name table.text named refl there.found)
+
+    live : kept.struck ≡ false → Passes book None (Retable id name) 7
+    live = past_struck book (Retable id name) id kept found tabled refl
+
+    left : kept.struck ≡ false → book.version < most_version → Passes book None (Retable id name) 18
+    left unstruck room = to_turn book (Retable id name) 17 18 refl (past_version book (Retable id name) 7 (live unstruck) refl room)
+
+pub returns-in_err-paragraph : goal.returns-in_err-paragraph
+returns-in_err-paragraph c =
+    let p = err_from_is_err_and c.from_residual.result c.from_residual.ensures.1 in
+    rw (p.1, p.2) (record { planned = tt; refused = unnamed c.args.self.now (Retable c.args.id c.args.table.now) _ c.args.id [] refl refl c.in_err-paragraph.ensures.missing })
+
+pub returns-in_err-kept : goal.returns-in_err-kept
+returns-in_err-kept c =
+    let p = err_from_is_err_and c.from_residual-in_err-kept.result c.from_residual-in_err-kept.ensures.1 in
+    let passes = named c.args.self.now c.args.id c.args.table.now _ c.in_ok-paragraph.ensures.found in
+    let told = c.in_err-kept.ensures.missing in
+    rw (p.1, p.2) (record { planned = tt; refused = no_table c.args.self.now (Retable c.args.id c.args.table.now) _ c.args.table.now passes refl told.1 told.0 })
+
+pub returns-then-paragraph : goal.returns-then-paragraph
+returns-then-paragraph c =
+    let kept = c.in_ok-paragraph.ensures.found in
+    let passes = tabled c.args.self.now c.args.id c.args.table.now _ kept _ c.in_ok-kept.ensures.found in
+    record {
+      planned = tt;
+      refused = turned_down c.args.self.now (Retable c.args.id c.args.table.now) 6 Struck Struck passes refl
+          (record { id = c.args.id; paragraph = _; named = refl; found = kept.found; struck = c.if-paragraph.true }) refl;
+    }
+
+pub returns-in_err-check_version : goal.returns-in_err-check_version
+returns-in_err-check_version c =
+    let p = err_from_is_err_and c.from_residual-in_err-check_version.result c.from_residual-in_err-check_version.ensures.1 in
+    let passes = live c.args.self.now c.args.id c.args.table.now _ c.in_ok-paragraph.ensures.found _ c.in_ok-kept.ensures.found c.if-paragraph.false in
+    let told = c.in_err-check_version.ensures.full in
+    rw (p.1, p.2) (record { planned = tt; refused = full_version c.args.self.now (Retable c.args.id c.args.table.now) 7 _ passes refl told.1 told.0 })
+
+pub returns-in_err-check_print : goal.returns-in_err-check_print
+returns-in_err-check_print c =
+    let p = err_from_is_err_and c.from_residual-in_err-check_print.result c.from_residual-in_err-check_print.ensures.1 in
+    let kept = c.in_ok-paragraph.ensures.found in
+    let table = c.in_ok-kept.ensures.found in
+    let passes = left c.args.self.now c.args.id c.args.table.now _ kept _ table c.if-paragraph.false c.in_ok-check_version.ensures.left in
+    let told = c.in_err-check_print.ensures.undefined in
+    let shown = print_is c.args.self.now c.args.id c.args.table.now _ kept _ c.as_slice-print.ensures in
+    let first = subst (λ (t : List ℕ). IsFirstUndefined c.in_ok-kept.kept.now.rules t told.0) shown told.2 in
+    rw (p.1, p.2) (record {
+      planned = tt;
+      refused = undefined c.args.self.now (Retable c.args.id c.args.table.now) c.args.table.now _ _ (given c.args.self.now c.args.id c.args.table.now _ kept) table _ told.0 passes told.1 first;
+    })
+
+pub returns-in_err-copy : goal.returns-in_err-copy
+returns-in_err-copy c =
+    let p = err_from_is_err_and c.from_residual-in_err-copy.result c.from_residual-in_err-copy.ensures.1 in
+    rw p.1 (record { planned = tt; refused = inr p.2 })
+
+pub returns-in_err-cells_of : goal.returns-in_err-cells_of
+returns-in_err-cells_of c =
+    let p = err_from_is_err_and c.from_residual-in_err-cells_of.result c.from_residual-in_err-cells_of.ensures.1 in
+    rw p.1 (record { planned = tt; refused = inr p.2 })
+
+pub returns-clause-planned : goal.returns-clause-planned
+returns-clause-planned c =
+    let book = c.args.self.now in
+    let kept = c.in_ok-paragraph.ensures.found in
+    let table = c.in_ok-kept.ensures.found in
+    let rules = c.in_ok-kept.kept.now.rules in
+    let passes = left book c.args.id c.args.table.now _ kept _ table c.if-paragraph.false c.in_ok-check_version.ensures.left in
+    let shown = c.as_slice-print.ensures ∙ kept.print in
+    let defined = subst (AreDefined rules) (print_is book c.args.id c.args.table.now _ kept _ c.as_slice-print.ensures) c.in_ok-check_print.ensures.defined in
+    let judged = past_print book (Retable c.args.id c.args.table.now) c.args.table.now _ _ (given book c.args.id c.args.table.now _ kept) table passes defined in
+    let copied = c.in_ok-copy.ensures ∙ c.as_str.ensures in
+    let cells = subst (λ (t : List ℕ). AreCellsOf rules t c.in_ok-cells_of.field-0) shown c.in_ok-cells_of.ensures in
+    (accepted_after book (Retable c.args.id c.args.table.now) 19 judged refl,
+    (_, refl, rw copied (refl, record { paragraph = _; there = kept.found; source = _; meaning = rules; found = table.found; means = table.means; cells_are = cells })))
