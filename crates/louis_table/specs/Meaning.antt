@@ -1,5 +1,5 @@
 -- What a table says.
-use Rattle.std.specs.Prelude.{ℕ, List, Option, nat_eq, unwrap_or, Bool, is_some}
+use Rattle.std.specs.Prelude.{ℕ, List, Option, nat_eq, unwrap_or}
 use Rattle.std.specs.Map.{lookup}
 use Rattle.louis_table.specs.declared.definition.Definition.{Definition}
 use Rattle.louis_table.specs.declared.rule.Rule.{Rule}
