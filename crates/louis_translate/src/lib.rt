@@ -36,3 +36,6 @@ pub use plain_rules::PlainRules;
 pub use print::Fault;
 pub use rule_book::RuleBook;
 pub use translation::{Part, Translation, translate, translate_string};
+
+#[cfg(test)]
+mod tests;
