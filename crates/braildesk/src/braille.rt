@@ -57,6 +57,7 @@ fn put_print<K: Sink, B: RuleBook>(
 }
 
 /// Puts the cells behind the block.
+#[inline(always)]
 fn put_cells<K: Sink>(sink: &mut K, block: &mut Block, cells: &[Cell]) -> Result<(), Failed>
     ensures { Sent K.can_fail (K.contents sink.old) (K.contents sink.new) (block.old ++ text_of cells.now) block.new (is_ok result) }
 {
@@ -68,6 +69,7 @@ fn put_cells<K: Sink>(sink: &mut K, block: &mut Block, cells: &[Cell]) -> Result
 }
 
 /// Sends the block if it has no room for one more cell.
+#[inline(always)]
 fn make_room<K: Sink>(sink: &mut K, block: &mut Block) -> Result<(), Failed>
     ensures sent { Sent K.can_fail (K.contents sink.old) (K.contents sink.new) block.old block.new (is_ok result) }
     ensures room { OnOk result (length block.new + CELL_BYTES ≤ BLOCK_BYTES) }

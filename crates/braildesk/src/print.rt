@@ -49,14 +49,15 @@ impl Print {
         ensures few { OnTrue result (length (chars text.now) ≤ most_characters) }
         ensures many { OnFalse result (most_characters < length (chars text.now)) }
     {
-        self.len = 0;
+        let mut len = 0;
         for character in text.chars() {
-            if self.len == MOST_CHARACTERS {
+            if len == MOST_CHARACTERS {
                 return false;
             }
-            self.characters[self.len] = character;
-            self.len += 1;
+            self.characters[len] = character;
+            len += 1;
         }
+        self.len = len;
         true
     }
 }

@@ -73,10 +73,8 @@ impl<'a, B: RuleBook> Iterator for Pieces<'a, B> {
 
     fn next(&mut self) -> Option<Piece<'a>> {
         let choice = self.choices.next()?;
-        Some(Piece {
-            choice,
-            sign: self.signs.at(choice.start),
-            own: chosen_cells(self.book.table(), self.print, choice),
-        })
+        let own = chosen_cells(self.book.table(), self.print, choice);
+        let sign = self.signs.at(choice.start);
+        Some(Piece { choice, sign, own })
     }
 }

@@ -8,6 +8,7 @@ use louis_table::Table;
 
 /// The place after the last capital of the run around a place, and the place itself where no capital
 /// stands there.
+#[inline(never)]
 fn end_of_run(table: &Table, print: &[char], place: usize) -> usize
     requires { place ≤ length print.now }
     ensures end { result ≡ run_end table.now print.now place }
@@ -30,6 +31,7 @@ fn follows_capital(table: &Table, print: &[char], place: usize) -> bool
 }
 
 /// The sign before a capital, of a run that ends at `end`.
+#[inline(never)]
 fn capital_sign<'a>(table: &'a Table, print: &[char], place: usize, end: usize) -> &'a [Cell]
     requires run { end ≡ run_end table.now print.now place }
     requires capital { place < end }
@@ -49,6 +51,7 @@ fn capital_sign<'a>(table: &'a Table, print: &[char], place: usize, end: usize) 
 }
 
 /// The sign before a digit.
+#[inline(never)]
 fn number_sign<'a>(table: &'a Table, print: &[char], place: usize) -> &'a [Cell]
     ensures { result.now ≡ number_sign_lem table.now print.now place }
 {
@@ -60,6 +63,7 @@ fn number_sign<'a>(table: &'a Table, print: &[char], place: usize) -> &'a [Cell]
 }
 
 /// The sign before a place, around which a run ends at `end`.
+#[inline(always)]
 fn sign<'a>(table: &'a Table, print: &[char], place: usize, end: usize) -> &'a [Cell]
     requires run { end ≡ run_end table.now print.now place }
     requires within { end ≤ length print.now }
@@ -100,6 +104,7 @@ impl<'a> Signs<'a> {
     }
 
     /// The end of the run around a place.
+    #[inline(always)]
     fn end_at(&mut self, place: usize) -> usize
         requires { place ≤ length self.old.print.now }
         ensures end { result ≡ run_end self.old.table.now self.old.print.now place }
@@ -116,13 +121,18 @@ impl<'a> Signs<'a> {
     }
 
     /// The sign before a place, empty where there is none.
+    #[inline(always)]
     pub(crate) fn at(&mut self, place: usize) -> &'a [Cell]
         requires { place < length self.old.print.now }
         ensures sign { result.now ≡ sign_at self.old.table.now self.old.print.now place }
         ensures table { self.new.table.now ≡ self.old.table.now }
         ensures print { self.new.print.now ≡ self.old.print.now }
     {
-        let end = self.end_at(place);
+        let end = if self.table.capital(self.print[place]) {
+            self.end_at(place)
+        } else {
+            place
+        };
         sign(self.table, self.print, place, end)
     }
 }
