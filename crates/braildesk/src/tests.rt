@@ -3,7 +3,7 @@ ghost use Rattle.std.specs.Prelude.{Some};
 
 use super::ends::Memory;
 use super::translate::{Ended, MOST_BYTES, MOST_CHARACTERS, run, translate_lines};
-use louis_table::Table;
+use louis_table::{EN, Table};
 use louis_translate::PlainRules;
 use std::io::{Error, ErrorKind, Read, Result, Write};
 use std::test::Fail;
@@ -73,6 +73,39 @@ fn answers_each_line(rt: HostRuntime) -> std::result::Result<(), Fail> {
         assert_eq!(rt; translate_lines(&mut reader, &mut out, &book), Ended::Done);
         assert_eq!(rt; out.as_slice(), want.as_bytes(), "{input:?}");
     }
+    Ok(())
+}
+
+#[test]
+fn shows_signs(rt: HostRuntime) -> std::result::Result<(), Fail> {
+    let book = PlainRules::new(Table::read(rt.alloc(), EN.as_bytes())?);
+    let mut reader: &[u8] = b"Hello\nTV\n3.14 5a\n";
+    let mut out = Vec::new(rt.alloc());
+    assert_eq!(rt; translate_lines(&mut reader, &mut out, &book), Ended::Done);
+    assert_eq!(rt; out.as_slice(), "⠠⠓⠑⠇⠇⠕\n⠠⠠⠞⠧\n⠼⠉⠲⠼⠁⠙⠀⠼⠑⠁\n".as_bytes());
+    Ok(())
+}
+
+#[test]
+fn shows_rules(rt: HostRuntime) -> std::result::Result<(), Fail> {
+    let table = b"space \\s 0\nletter a 1\nword a 123456\n";
+    let book = PlainRules::new(Table::read(rt.alloc(), table)?);
+    let mut reader: &[u8] = b"a aa\n";
+    let mut out = Vec::new(rt.alloc());
+    assert_eq!(rt; translate_lines(&mut reader, &mut out, &book), Ended::Done);
+    assert_eq!(rt; out.as_slice(), "⠿⠀⠁⠁\n".as_bytes());
+    Ok(())
+}
+
+#[test]
+fn sends_more_cells_than_a_block_has(rt: HostRuntime) -> std::result::Result<(), Fail> {
+    let book = PlainRules::new(Table::read(rt.alloc(), b"letter a 1-2-3\n")?);
+    let input = vec![in rt.alloc(); b'a'; MOST_CHARACTERS]?;
+    let mut reader = input.as_slice();
+    let mut out = Vec::new(rt.alloc());
+    assert_eq!(rt; translate_lines(&mut reader, &mut out, &book), Ended::Done);
+    assert_eq!(rt; out.len(), 9 * MOST_CHARACTERS + 1);
+    assert!(rt; out.as_slice().ends_with("⠁⠂⠄\n".as_bytes()));
     Ok(())
 }
 

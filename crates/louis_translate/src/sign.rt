@@ -1,10 +1,11 @@
 //! The signs before numbers and capitals.
+ghost use Rattle.louis_translate.specs.Position.{class_at as class_at_lem};
 ghost use Rattle.louis_translate.specs.Sign.{capital_sign as capital_sign_lem, number_sign as number_sign_lem, run_end, run_start, sign_at};
 ghost use Rattle.std.specs.Prelude.{◌≡◌, ◌≤◌, ◌<◌, ◌↔◌, ℕ, length, IsTrue};
 
 use super::position::{class_at, class_before, is_digit, is_letter};
 use cell_core::Cell;
-use louis_table::Table;
+use louis_table::{Class, Table};
 
 /// The place after the last capital of the run around a place, and the place itself where no capital
 /// stands there.
@@ -62,14 +63,21 @@ fn number_sign<'a>(table: &'a Table, print: &[char], place: usize) -> &'a [Cell]
     }
 }
 
-/// The sign before a place, around which a run ends at `end`.
+/// The sign before a place whose character has this class, and around which a run ends at `end`.
 #[inline(always)]
-fn sign<'a>(table: &'a Table, print: &[char], place: usize, end: usize) -> &'a [Cell]
+fn sign<'a>(
+    table: &'a Table,
+    print: &[char],
+    place: usize,
+    class: Option<Class>,
+    end: usize,
+) -> &'a [Cell]
+    requires class { class ≡ class_at_lem table.now print.now place }
     requires run { end ≡ run_end table.now print.now place }
     requires within { end ≤ length print.now }
     ensures { result.now ≡ sign_at table.now print.now place }
 {
-    if is_digit(class_at(table, print, place)) {
+    if is_digit(class) {
         number_sign(table, print, place)
     } else if place < end {
         capital_sign(table, print, place, end)
@@ -121,9 +129,20 @@ impl<'a> Signs<'a> {
     }
 
     /// The sign before a place, empty where there is none.
-    #[inline(always)]
     pub(crate) fn at(&mut self, place: usize) -> &'a [Cell]
         requires { place < length self.old.print.now }
+        ensures sign { result.now ≡ sign_at self.old.table.now self.old.print.now place }
+        ensures table { self.new.table.now ≡ self.old.table.now }
+        ensures print { self.new.print.now ≡ self.old.print.now }
+    {
+        self.at_class(place, class_at(self.table, self.print, place))
+    }
+
+    /// The sign before a place whose character has this class. Only at a capital is there a run to look for.
+    #[inline(always)]
+    pub(crate) fn at_class(&mut self, place: usize, class: Option<Class>) -> &'a [Cell]
+        requires within { place < length self.old.print.now }
+        requires class { class ≡ class_at_lem self.old.table.now self.old.print.now place }
         ensures sign { result.now ≡ sign_at self.old.table.now self.old.print.now place }
         ensures table { self.new.table.now ≡ self.old.table.now }
         ensures print { self.new.print.now ≡ self.old.print.now }
@@ -133,6 +152,6 @@ impl<'a> Signs<'a> {
         } else {
             place
         };
-        sign(self.table, self.print, place, end)
+        sign(self.table, self.print, place, class, end)
     }
 }

@@ -37,7 +37,7 @@ pub struct Part {
 }
 
 /// The cells that the table gives for a choice, without a sign.
-pub(crate) fn chosen_cells<'a>(table: &'a Table, print: &[char], choice: Choice) -> &'a [Cell]
+fn chosen_cells<'a>(table: &'a Table, print: &[char], choice: Choice) -> &'a [Cell]
     requires rule { ForSome choice.rule (λ k. k < length table.now.rules) }
     requires start { choice.start < length print.now }
     ensures { result.now ≡ chosen_cells_lem table.now print.now choice.start choice.rule }
