@@ -50,6 +50,13 @@ one_cover meaning print i (c ∷ t) (d ∷ u) h k =
     let rest : Covers meaning print c.end u (length print) = subst (λ (x : Choice). Covers meaning print x.end u (length print)) (sym same) k.2 in
     ap (λ (x : Choice). x ∷ t) same ∙ ap (λ (xs : List Choice). d ∷ xs) (one_cover meaning print c.end t u h.2 rest)
 
+-- the chosen one stands at the front of what covers the rest of the print
+pub Covers-next : (meaning : Meaning) (print : List ℕ) (i : ℕ) (t : List Choice) (c : Choice) → Covers meaning print i t (length print) → i < length print → IsChoiceAt meaning print i c → (u : List Choice) × (t ≡ c ∷ u) × Covers meaning print c.end u (length print)
+Covers-next meaning print i [] c h lt d = absurd (omega arith)
+Covers-next meaning print i (x ∷ t) c h lt d =
+    let same : x ≡ c = same_choice meaning print i x c h.1 d in
+    (t, ap (λ (y : Choice). y ∷ t) same, subst (λ (y : Choice). Covers meaning print y.end t (length print)) same h.2)
+
 -- ---- what choices cover
 
 pub Covers-push : (meaning : Meaning) (print : List ℕ) (i j : ℕ) (t : List Choice) (c : Choice) → Covers meaning print i t j → j < length print → IsChoiceAt meaning print j c → Covers meaning print i (t ++ c ∷ []) c.end

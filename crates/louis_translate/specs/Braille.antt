@@ -3,15 +3,19 @@ use Rattle.std.specs.Prelude.{◌≡◌, ℕ, ◌+◌, ◌-◌, ◌≤◌, nat_l
 use Rattle.std.specs.List.{flat_map, range_with_len}
 use Rattle.std.specs.Option.{option_and_then, option_map_or}
 use Rattle.louis_table.specs.Meaning.{Meaning, definition_of}
+use Rattle.louis_table.specs.declared.definition.Definition.{Definition}
 use Rattle.louis_translate.specs.declared.choices.Choice.{Choice}
 use Rattle.louis_translate.specs.Sign.{sign_at}
 use Rattle.louis_translate.specs.Tiling.{Covers, Tiles}
 
+-- the cells of a definition, or of a rule
+abbrev pub own_cells : Meaning → Option Definition → Option ℕ → List ℕ
+own_cells meaning definition None = option_map_or (λ defined. defined.cells) definition []
+own_cells meaning definition (Some k) = option_map_or (λ rule. rule.cells) (slice_get meaning.rules k) []
+
 -- the cells that the table gives for the definition of the character at a place, or for a rule
 abbrev pub chosen_cells : Meaning → List ℕ → ℕ → Option ℕ → List ℕ
-chosen_cells meaning print i None =
-    option_map_or (λ defined. defined.cells) (option_and_then (definition_of meaning) (slice_get print i)) []
-chosen_cells meaning print i (Some k) = option_map_or (λ rule. rule.cells) (slice_get meaning.rules k) []
+chosen_cells meaning print i choice = own_cells meaning (option_and_then (definition_of meaning) (slice_get print i)) choice
 
 -- the cells of a choice: the sign at its start, then its own
 abbrev pub cells_of : Meaning → List ℕ → Choice → List ℕ

@@ -4,4 +4,5 @@ pub mod Choice
 pub mod Remainder
 pub mod Tiling
 pub mod Braille
+pub mod Piece
 pub mod Reading

@@ -22,6 +22,7 @@
 
 mod choices;
 pub mod laws;
+mod pieces;
 mod places;
 mod plain_rules;
 mod position;
@@ -31,9 +32,10 @@ mod sign;
 mod translation;
 
 pub use choices::{Choice, Choices};
+pub use pieces::{Piece, Pieces};
 pub use places::Places;
 pub use plain_rules::PlainRules;
-pub use print::Fault;
+pub use print::{Fault, undefined_place};
 pub use rule_book::RuleBook;
 pub use translation::{Part, Translation, translate, translate_string};
 

@@ -107,13 +107,11 @@ fn is_better(len: usize, most: usize, found: Option<usize>) -> bool
 }
 
 /// The rule that is chosen at a place, found by a look at each rule.
+#[inline(never)]
 fn best_rule(table: &Table, print: &[char], at: usize) -> Option<usize>
     requires { at < length print.now }
     ensures { IsChosen table.now print.now at result }
 {
-    if table.rules().is_empty() {
-        return None;
-    }
     let first = table.fold(print[at]);
     let mut found = None;
     let mut most = 1;
@@ -138,6 +136,9 @@ impl RuleBook for PlainRules {
     }
 
     fn best(&self, print: &[char], at: usize) -> Option<usize> {
+        if self.table.rules().is_empty() {
+            return None;
+        }
         best_rule(&self.table, print, at)
     }
 }

@@ -21,7 +21,17 @@ pub enum Fault {
     NoMemory,
 }
 
-/// The first place whose character the table doesn't define.
+/// The first place, from 0, whose character the table doesn't define. It takes no memory.
+pub fn undefined_place(table: &Table, print: &[char]) -> Option<usize>
+    ensures none { IfNone result (AreDefined table.now print.now) }
+    ensures some { IfSome result (IsFirstUndefined table.now print.now) }
+{
+    print
+        .iter()
+        .position(|character| table.definition(*character).is_none())
+}
+
+/// The first place of a text whose character the table doesn't define.
 fn first_undefined(table: &Table, text: &str) -> Option<usize>
     ensures none { IfNone result (AreDefined table.now (chars text.now)) }
     ensures some { IfSome result (IsFirstUndefined table.now (chars text.now)) }

@@ -1,0 +1,110 @@
+//! The cells that the choices of a print make, choice after choice.
+ghost use Rattle.louis_translate.specs.Braille.{own_cells as own_cells_lem};
+ghost use Rattle.std.specs.Option.{ForSome, option_copied};
+ghost use Rattle.std.specs.Prelude.{length, option_map, ◌<◌, ◌≡◌};
+
+use super::choices::{Choice, Choices};
+use super::rule_book::RuleBook;
+use super::sign::Signs;
+use cell_core::Cell;
+use louis_table::{Class, Definition, Table};
+use std::marker::Model;
+
+/// The cells that one choice makes: the sign before its start, and then its own.
+#[derive(Clone, Copy, Debug)]
+pub struct Piece<'a> {
+    /// The choice.
+    pub choice: Choice,
+    /// The sign before its start, empty where there is none.
+    pub sign: &'a [Cell],
+    /// The cells of its rule, or of its character's definition.
+    pub own: &'a [Cell],
+}
+
+/// The pieces of a print's braille from its front to its end, one for each choice. It takes no memory.
+#[derive(Drop)]
+pub struct Pieces<'a, B: RuleBook> {
+    book: &'a B,
+    print: &'a [char],
+    choices: Choices<'a, B>,
+    signs: Signs<'a>,
+}
+
+impl<'a, B: RuleBook> Model for Pieces<'a, B> {
+    ghost use Rattle.louis_translate.specs.Remainder.{Remainder};
+    ghost use Rattle.std.specs.Prelude.{◌≡◌};
+
+    ghost Value = { Remainder };
+
+    ghost view = { λ p. p.choices };
+
+    ghost invariant = { λ p.
+        (p.choices.meaning ≡ B.meaning p.book.now) × (p.choices.print ≡ p.print.now)
+        × (p.signs.table.now ≡ B.meaning p.book.now) × (p.signs.print.now ≡ p.print.now) };
+}
+
+impl<'a, B: RuleBook> Pieces<'a, B> {
+    ghost use Rattle.louis_translate.specs.Position.{AreDefined};
+    ghost use Rattle.std.specs.Prelude.{◌≡◌};
+
+    /// The pieces of a print whose characters the table defines.
+    pub fn new(book: &'a B, print: &'a [char]) -> Self
+        requires { AreDefined (B.meaning book.now) print.now }
+        ensures { result ≡ record { meaning = B.meaning book.now; print = print.now; at = 0 } }
+    {
+        Pieces {
+            book,
+            print,
+            choices: Choices::new(book, print),
+            signs: Signs::new(book.table(), print),
+        }
+    }
+}
+
+/// The class in a definition.
+fn class_of(definition: Option<&Definition>) -> Option<Class>
+    ensures { result ≡ option_map (λ defined. defined.class) (option_copied definition.entry) }
+{
+    Some(definition?.class)
+}
+
+/// The cells of a rule, or of a definition where there is no rule.
+fn own_cells<'a>(
+    table: &'a Table,
+    definition: Option<&'a Definition>,
+    rule: Option<usize>,
+) -> &'a [Cell]
+    requires { ForSome rule (λ k. k < length table.now.rules) }
+    ensures { result.now ≡ own_cells_lem table.now (option_copied definition.entry) rule }
+{
+    match (rule, definition) {
+        (Some(index), _) => table.rules()[index].cells.as_slice(),
+        (None, Some(definition)) => definition.cells.as_slice(),
+        (None, None) => &[],
+    }
+}
+
+impl<'a, B: RuleBook> Iterator for Pieces<'a, B> {
+    ghost use Rattle.louis_translate.specs.Piece.{IsPieceAt};
+    ghost use Rattle.std.specs.Iterator.{at_most};
+    ghost use Rattle.std.specs.Prelude.{◌≡◌, ◌-◌, ◌<◌, length, MatchOption};
+
+    type Item = Piece<'a>;
+
+    ghost next_gives = { λ s r t. MatchOption r ((s.at ≡ length s.print) × (t ≡ s))
+        (λ piece. (s.at < length s.print) × IsPieceAt s.meaning s.print s.at piece
+        × (t ≡ record s { at = piece.choice.end })) };
+
+    ghost remaining = { λ s. at_most (length s.print - s.at) };
+
+    fn next(&mut self) -> Option<Piece<'a>> {
+        let choice = self.choices.next()?;
+        let table = self.book.table();
+        let definition = table.definition(self.print[choice.start]);
+        Some(Piece {
+            choice,
+            sign: self.signs.at_class(choice.start, class_of(definition)),
+            own: own_cells(table, definition, choice.rule),
+        })
+    }
+}
