@@ -64,7 +64,7 @@ fn begins_with(characters: &[char], first: char) -> bool
 }
 
 /// Whether no sign stands between the places `start` and `end`, without these two.
-fn is_unsigned(table: &Table, print: &[char], start: usize, end: usize) -> bool
+fn has_no_sign_inside(table: &Table, print: &[char], start: usize, end: usize) -> bool
     requires order { start < end }
     requires within { end ≤ length print.now }
     ensures { IsTrue result ↔ ((k : ℕ) → start < k → k < end → sign_at table.now print.now k ≡ []) }
@@ -94,7 +94,7 @@ fn matches(table: &Table, rule: &Rule, print: &[char], at: usize, first: char) -
         return false;
     }
     let end = at + wanted.len();
-    fits(table, print, rule.kind, at, end) && is_unsigned(table, print, at, end)
+    fits(table, print, rule.kind, at, end) && has_no_sign_inside(table, print, at, end)
 }
 
 /// Whether a rule of `len` characters goes before the choice that was found, of `most` characters.
