@@ -129,7 +129,7 @@ const CHOICES: &[Row] = &[(
     "[Choice { rule: Some(1), start: 0, end: 3 }, Choice { rule: None, start: 3, end: 4 }]",
 )];
 
-/// Cells by a small table and more lines, which lacks one sign or all of them.
+/// Cells by a small table and more lines, which lacks one sign or more.
 const SMALL: &[Row] = &[
     (Asked::Cells, "always ab 4\n", "aab a", "⠁⠈⠀⠁"),
     (Asked::Cells, "always a 4\n", "aA b", "⠈⠈⠀⠃"),
