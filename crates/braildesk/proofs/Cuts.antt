@@ -1,15 +1,14 @@
 -- The machine of specs/Machine.antt answers the lines.
-use Rattle.std.proofs.Common.{◌≡◌, ℕ, ◌-◌, ◌<◌, true, false, Bool, cond, eqb, ltb, leb, List, [], ◌∷◌, ◌++◌, length, Option, Some, None, refl, sym, ap, ◌∙◌, append_assoc, arith, inl, inr}
+use Rattle.std.proofs.Common.{◌≡◌, ℕ, ◌-◌, ◌<◌, true, false, cond, eqb, ltb, leb, List, [], ◌∷◌, ◌++◌, length, Option, Some, None, refl, sym, ap, ◌∙◌, append_assoc, arith, inl, inr}
 use Rattle.std.specs.Prelude.{map}
 use Rattle.std.specs.List.{flat_map, onto_first}
 use Rattle.std.specs.Io.BufRead.{strip_last, ends_with_byte}
 use Rattle.std.proofs.lemmas.Bool.{eqb-true, le-leb, lt-leb, lt-ltb, le-ltb, cases_Bool, cases_lt}
 use Rattle.std.proofs.lemmas.List.{append-nil, length-take, length_push}
 use Rattle.louis_table.specs.Lines.{pieces_of}
-use Rattle.louis_table.specs.Meaning.{Meaning}
-use Rattle.braildesk.specs.Machine.{pushed, reply_to, after, sent, closing}
-use Rattle.braildesk.specs.Reply.{answer_to, output_of, refusal}
+use Rattle.braildesk.specs.Machine.{output_of, pushed, reply_to, after, sent, closing}
 use Rattle.braildesk.specs.Run.{IsBeginning, whole_from, whole_lines}
+use Rattle.braildesk.specs.Reply.{refusal}
 
 -- no line feed is among the bytes
 abbrev pub IsOneLine : List ℕ → Type 0
@@ -57,72 +56,69 @@ long_strip line h =
       | inr e ↦ rw e (omega arith)
     ]
 
-module _ (meaning : Meaning) where
+module _ (answers : List ℕ → List ℕ) (over : (line : List ℕ) → 65536 < length line → answers line ≡ refusal 1) where
   -- one line that is answered
   abbrev line_answer : List ℕ → List ℕ
-  line_answer line = answer_to meaning line ++ 10 ∷ []
+  line_answer line = answers line ++ 10 ∷ []
 
-  output_of-feed : (front rest : List ℕ) → IsOneLine front → output_of meaning (front ++ 10 ∷ rest) ≡ line_answer (strip_last 13 front) ++ output_of meaning rest
+  output_of-feed : (front rest : List ℕ) → IsOneLine front → output_of answers (front ++ 10 ∷ rest) ≡ line_answer (strip_last 13 front) ++ output_of answers rest
   output_of-feed front rest h = ap (λ (ls : List (List ℕ)). flat_map line_answer (map (strip_last 13) ls)) (pieces_of-feed front rest h)
 
-  answer_to-over : (line : List ℕ) → 65536 < length line → answer_to meaning line ≡ refusal 1
-  answer_to-over line h = rw (lt-ltb 65536 (length line) h) refl
-
-  reply_to-kept : (line : List ℕ) → reply_to meaning (kept line) ≡ line_answer (strip_last 13 line)
+  reply_to-kept : (line : List ℕ) → reply_to answers (kept line) ≡ line_answer (strip_last 13 line)
   reply_to-kept line =
       elim (cases_lt 65537 (length line)) [
-        | inl lt ↦ rw (lt-leb (length line) 65537 lt) (ap (λ (t : List ℕ). t ++ 10 ∷ []) (sym (answer_to-over (strip_last 13 line) (long_strip line lt))))
+        | inl lt ↦ rw (lt-leb (length line) 65537 lt) (ap (λ (t : List ℕ). t ++ 10 ∷ []) (sym (over (strip_last 13 line) (long_strip line lt))))
         | inr le ↦ rw (le-leb (length line) 65537 le) refl
       ]
 
   -- ---- the machine
 
-  pub sent-append : (line : Option (List ℕ)) (xs ys : List ℕ) → sent meaning line (xs ++ ys) ≡ sent meaning line xs ++ sent meaning (after line xs) ys
+  pub sent-append : (line : Option (List ℕ)) (xs ys : List ℕ) → sent answers line (xs ++ ys) ≡ sent answers line xs ++ sent answers (after line xs) ys
   sent-append line [] ys = refl
   sent-append line (x ∷ xs) ys =
       let next = cond (eqb x 10) (Some []) (pushed line x) in
-      let reply = cond (eqb x 10) (reply_to meaning line) [] in
-      ap (λ (t : List ℕ). reply ++ t) (sent-append next xs ys) ∙ sym (append_assoc reply (sent meaning next xs) (sent meaning (after next xs) ys))
+      let reply = cond (eqb x 10) (reply_to answers line) [] in
+      ap (λ (t : List ℕ). reply ++ t) (sent-append next xs ys) ∙ sym (append_assoc reply (sent answers next xs) (sent answers (after next xs) ys))
 
   pub after-append : (line : Option (List ℕ)) (xs ys : List ℕ) → after line (xs ++ ys) ≡ after (after line xs) ys
   after-append line [] ys = refl
   after-append line (x ∷ xs) ys = after-append (cond (eqb x 10) (Some []) (pushed line x)) xs ys
 
-  closing-kept : (front : List ℕ) → IsOneLine front → output_of meaning front ≡ closing meaning (kept front)
+  closing-kept : (front : List ℕ) → IsOneLine front → output_of answers front ≡ closing answers (kept front)
   closing-kept [] h = refl
   closing-kept (x ∷ front) h =
       ap (λ (ls : List (List ℕ)). flat_map line_answer (map (strip_last 13) ls)) (pieces_of-last x front h)
       ∙ (append-nil (line_answer (strip_last 13 (x ∷ front))) ∙ (sym (reply_to-kept (x ∷ front)) ∙ closes))
     where
-      closes : reply_to meaning (kept (x ∷ front)) ≡ closing meaning (kept (x ∷ front))
+      closes : reply_to answers (kept (x ∷ front)) ≡ closing answers (kept (x ∷ front))
       closes = elim (cases_Bool (leb (length (x ∷ front)) 65537)) [ inl e ↦ rw e refl | inr e ↦ rw e refl ]
 
-  output_of-from : (front bytes : List ℕ) → IsOneLine front → output_of meaning (front ++ bytes) ≡ sent meaning (kept front) bytes ++ closing meaning (after (kept front) bytes)
-  output_of-from front [] h = ap (output_of meaning) (append-nil front) ∙ closing-kept front h
+  output_of-from : (front bytes : List ℕ) → IsOneLine front → output_of answers (front ++ bytes) ≡ sent answers (kept front) bytes ++ closing answers (after (kept front) bytes)
+  output_of-from front [] h = ap (output_of answers) (append-nil front) ∙ closing-kept front h
   output_of-from front (b ∷ bytes) h =
       elim (cases_Bool (eqb b 10)) [
         | inl e ↦
             rw e (rw (eqb-true b 10 e)
             (output_of-feed front bytes h
             ∙ (ap (λ (t : List ℕ). line_answer (strip_last 13 front) ++ t) (output_of-from [] bytes tt)
-            ∙ (sym (append_assoc (line_answer (strip_last 13 front)) (sent meaning (Some []) bytes) (closing meaning (after (Some []) bytes)))
-            ∙ ap (λ (t : List ℕ). (t ++ sent meaning (Some []) bytes) ++ closing meaning (after (Some []) bytes)) (sym (reply_to-kept front))))))
+            ∙ (sym (append_assoc (line_answer (strip_last 13 front)) (sent answers (Some []) bytes) (closing answers (after (Some []) bytes)))
+            ∙ ap (λ (t : List ℕ). (t ++ sent answers (Some []) bytes) ++ closing answers (after (Some []) bytes)) (sym (reply_to-kept front))))))
         | inr e ↦
             rw e (rw (kept-push front b)
-            (ap (output_of meaning) (sym (append_assoc front (b ∷ []) bytes)) ∙ output_of-from (front ++ b ∷ []) bytes (IsOneLine-push front b h e)))
+            (ap (output_of answers) (sym (append_assoc front (b ∷ []) bytes)) ∙ output_of-from (front ++ b ∷ []) bytes (IsOneLine-push front b h e)))
       ]
 
   -- the output is what is sent while the bytes come, and at the end
-  pub output_of-sent : (taken : List ℕ) → output_of meaning taken ≡ sent meaning (Some []) taken ++ closing meaning (after (Some []) taken)
+  pub output_of-sent : (taken : List ℕ) → output_of answers taken ≡ sent answers (Some []) taken ++ closing answers (after (Some []) taken)
   output_of-sent taken = output_of-from [] taken tt
 
   -- what is sent while the first bytes come is a beginning
-  pub sent-IsBeginning : (taken more : List ℕ) → IsBeginning (sent meaning (Some []) taken) (output_of meaning (taken ++ more))
+  pub sent-IsBeginning : (taken more : List ℕ) → IsBeginning (sent answers (Some []) taken) (output_of answers (taken ++ more))
   sent-IsBeginning taken more =
-      let rest = sent meaning (after (Some []) taken) more in
-      let last = closing meaning (after (Some []) (taken ++ more)) in (
+      let rest = sent answers (after (Some []) taken) more in
+      let last = closing answers (after (Some []) (taken ++ more)) in (
         rest ++ last,
-        sym (append_assoc (sent meaning (Some []) taken) rest last)
+        sym (append_assoc (sent answers (Some []) taken) rest last)
             ∙ (ap (λ (t : List ℕ). t ++ last) (sym (sent-append (Some []) taken more)) ∙ sym (output_of-sent (taken ++ more))),
       )
 
@@ -141,22 +137,22 @@ module _ (meaning : Meaning) where
   whole_lines-feed (x ∷ []) rest h = ap (whole_from x) (whole_from-feed (whole_lines rest))
   whole_lines-feed (x ∷ y ∷ front) rest h = ap (whole_from x) (whole_lines-feed (y ∷ front) rest h.1)
 
-  whole_lines-from : (front bytes : List ℕ) → IsOneLine front → output_of meaning (whole_lines (front ++ bytes)) ≡ sent meaning (kept front) bytes
+  whole_lines-from : (front bytes : List ℕ) → IsOneLine front → output_of answers (whole_lines (front ++ bytes)) ≡ sent answers (kept front) bytes
   whole_lines-from front [] h =
-      ap (λ (t : List ℕ). output_of meaning (whole_lines t)) (append-nil front) ∙ ap (output_of meaning) (whole_lines-open front h)
+      ap (λ (t : List ℕ). output_of answers (whole_lines t)) (append-nil front) ∙ ap (output_of answers) (whole_lines-open front h)
   whole_lines-from front (b ∷ bytes) h =
       elim (cases_Bool (eqb b 10)) [
         | inl e ↦
             rw e (rw (eqb-true b 10 e)
-            (ap (output_of meaning) (whole_lines-feed front bytes h)
+            (ap (output_of answers) (whole_lines-feed front bytes h)
             ∙ (output_of-feed front (whole_lines bytes) h
             ∙ (ap (λ (t : List ℕ). line_answer (strip_last 13 front) ++ t) (whole_lines-from [] bytes tt)
-            ∙ ap (λ (t : List ℕ). t ++ sent meaning (Some []) bytes) (sym (reply_to-kept front))))))
+            ∙ ap (λ (t : List ℕ). t ++ sent answers (Some []) bytes) (sym (reply_to-kept front))))))
         | inr e ↦
             rw e (rw (kept-push front b)
-            (ap (λ (t : List ℕ). output_of meaning (whole_lines t)) (sym (append_assoc front (b ∷ []) bytes)) ∙ whole_lines-from (front ++ b ∷ []) bytes (IsOneLine-push front b h e)))
+            (ap (λ (t : List ℕ). output_of answers (whole_lines t)) (sym (append_assoc front (b ∷ []) bytes)) ∙ whole_lines-from (front ++ b ∷ []) bytes (IsOneLine-push front b h e)))
       ]
 
   -- what is sent while bytes come answers the lines that have ended
-  pub output_of-whole_lines : (taken : List ℕ) → output_of meaning (whole_lines taken) ≡ sent meaning (Some []) taken
+  pub output_of-whole_lines : (taken : List ℕ) → output_of answers (whole_lines taken) ≡ sent answers (Some []) taken
   output_of-whole_lines taken = whole_lines-from [] taken tt

@@ -1,6 +1,7 @@
+pub mod Answering
 pub mod Sending
+pub mod Putting
 pub mod Encoding
-pub mod Judging
 pub mod Numerals
 pub mod Cuts
 pub mod Stepping

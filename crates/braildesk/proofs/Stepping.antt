@@ -1,26 +1,28 @@
--- One byte of the machine, and what a run did in its words.
-use Rattle.std.proofs.Common.{◌≡◌, ℕ, ◌+◌, ◌<◌, ◌≤◌, ◌^◌, ◌⊎◌, Bool, true, false, cond, eqb, List, [], ◌∷◌, ◌++◌, length, get_or, drop, Option, None, Some, refl, sym, ap, subst, ◌∙◌, append_assoc, inl, inr, arith}
-use Rattle.std.specs.Prelude.{IfSome}
+-- One byte and one line of the machine, and what a run did in its words.
+use Rattle.std.proofs.Common.{◌≡◌, ℕ, ◌+◌, ◌<◌, ◌≤◌, ◌^◌, ◌⊎◌, Bool, true, false, cond, eqb, List, [], ◌∷◌, ◌++◌, length, get_or, drop, Option, None, Some, refl, sym, ap, subst, ◌∙◌, append_assoc, inl, inr}
+use Rattle.std.specs.Io.BufRead.{strip_last}
+use Rattle.std.specs.Option.{option_map}
 use Rattle.std.specs.Io.KnownBytes.{Appends, Consumes, IsAtEnd, Keeps}
 use Rattle.std.proofs.KnownBytes.{Appends-nil, Appends-trans, Consumes-kept, Consumes-nil, Consumes-trans, Consumes-whole}
 use Rattle.std.proofs.lemmas.List.{append-nil, drop_more, length-append}
 use Rattle.louis_table.specs.Meaning.{Meaning}
 use Rattle.braildesk.specs.declared.translate.Ended.{Ended}
 use Rattle.braildesk.specs.declared.translate.Ended.TheVariants.{Done, Input, Output}
-use Rattle.braildesk.specs.Machine.{pushed, reply_to, after, sent, closing}
-use Rattle.braildesk.specs.Reply.{output_of}
-use Rattle.braildesk.specs.Run.{Answers, AnswersBeginning, HonestRun, IsBeginning, IsHonest, ReadsAll, Run}
+use Rattle.braildesk.specs.Machine.{output_of, pushed, reply_to, after, sent, closing}
+use Rattle.braildesk.specs.Reply.{IsOutput}
+use Rattle.braildesk.specs.Run.{Answers, AnswersBeginning, HonestRun, IsBeginning, IsHonest, ReadsAll, whole_lines}
 use Rattle.braildesk.specs.Sent.{Sent}
+use Rattle.braildesk.proofs.Answering.{answer_to, answer_to-over, IsOutput-output_of}
 use Rattle.braildesk.proofs.Cuts.{after-append, output_of-sent, output_of-whole_lines, sent-append, sent-IsBeginning}
 
 -- ---- one byte
 
-module _ (meaning : Meaning) (line : Option (List ℕ)) (bytes : List ℕ) (i : ℕ) (here : i < length bytes) where
-  pub sent-feed : get_or bytes i 0 ≡ 10 → sent meaning line (drop i bytes) ≡ reply_to meaning line ++ sent meaning (Some []) (drop (i + 1) bytes)
-  sent-feed e = ap (sent meaning line) (drop_more bytes i 0 here) ∙ rw e refl
+module _ (answers : List ℕ → List ℕ) (line : Option (List ℕ)) (bytes : List ℕ) (i : ℕ) (here : i < length bytes) where
+  pub sent-feed : get_or bytes i 0 ≡ 10 → sent answers line (drop i bytes) ≡ reply_to answers line ++ sent answers (Some []) (drop (i + 1) bytes)
+  sent-feed e = ap (sent answers line) (drop_more bytes i 0 here) ∙ rw e refl
 
-  pub sent-byte : eqb (get_or bytes i 0) 10 ≡ false → sent meaning line (drop i bytes) ≡ sent meaning (pushed line (get_or bytes i 0)) (drop (i + 1) bytes)
-  sent-byte e = ap (sent meaning line) (drop_more bytes i 0 here) ∙ rw e refl
+  pub sent-byte : eqb (get_or bytes i 0) 10 ≡ false → sent answers line (drop i bytes) ≡ sent answers (pushed line (get_or bytes i 0)) (drop (i + 1) bytes)
+  sent-byte e = ap (sent answers line) (drop_more bytes i 0 here) ∙ rw e refl
 
 module _ (line : Option (List ℕ)) (bytes : List ℕ) (i : ℕ) (here : i < length bytes) where
   pub after-feed : get_or bytes i 0 ≡ 10 → after line (drop i bytes) ≡ after (Some []) (drop (i + 1) bytes)
@@ -31,6 +33,17 @@ module _ (line : Option (List ℕ)) (bytes : List ℕ) (i : ℕ) (here : i < len
       ap (after line) (drop_more bytes i 0 here)
       ∙ ap (λ (t : Bool). after (cond t (Some []) (pushed line (get_or bytes i 0))) (drop (i + 1) bytes)) e
 
+-- ---- one line
+
+pub reply_to-Some : (answers : List ℕ → List ℕ) (line : Option (List ℕ)) (text : List ℕ) → Some text ≡ option_map (strip_last 13) line → reply_to answers line ≡ answers text ++ 10 ∷ []
+reply_to-Some answers None text e = cc
+reply_to-Some answers (Some line) text e = let same : strip_last 13 line ≡ text = cc in ap (λ (t : List ℕ). answers t ++ 10 ∷ []) same
+
+pub closing-some : (answers : List ℕ → List ℕ) (line : Option (List ℕ)) → (line ≡ Some [] → ⊥) → closing answers line ≡ reply_to answers line
+closing-some answers None h = refl
+closing-some answers (Some []) h = absurd (h refl)
+closing-some answers (Some (b ∷ line)) h = refl
+
 -- ---- a run
 
 IsBeginning-trans : (out text whole : List ℕ) → IsBeginning out text → IsBeginning text whole → IsBeginning out whole
@@ -39,9 +52,9 @@ IsBeginning-trans out text whole p q =
 
 -- what went out, by how a run ended; a write fails while bytes come, or at the end of the input
 abbrev pub Steps : Meaning → Ended → List ℕ → List ℕ → Option (List ℕ) → Type 0
-Steps meaning Done taken out left = IsAtEnd left × (out ≡ output_of meaning taken)
-Steps meaning Input taken out left = out ≡ sent meaning (Some []) taken
-Steps meaning Output taken out left = IsBeginning out (sent meaning (Some []) taken) ⊎ (IsAtEnd left × IsBeginning out (output_of meaning taken))
+Steps meaning Done taken out left = IsAtEnd left × (out ≡ output_of (answer_to meaning) taken)
+Steps meaning Input taken out left = out ≡ sent (answer_to meaning) (Some []) taken
+Steps meaning Output taken out left = IsBeginning out (sent (answer_to meaning) (Some []) taken) ⊎ (IsAtEnd left × IsBeginning out (output_of (answer_to meaning) taken))
 
 pub record Stepped (meaning : Meaning) (ended : Ended) (a b v w : Option (List ℕ)) (ReadsFail WritesFail : Type 0) : Type 0 where
   pub taken : List ℕ
@@ -51,14 +64,17 @@ pub record Stepped (meaning : Meaning) (ended : Ended) (a b v w : Option (List �
   pub steps : Steps meaning ended taken out b
   pub honest : IsHonest ended (length taken) ReadsFail WritesFail
 
-sent-begins : (meaning : Meaning) (taken : List ℕ) → IsBeginning (sent meaning (Some []) taken) (output_of meaning taken)
-sent-begins meaning taken = subst (λ (t : List ℕ). IsBeginning (sent meaning (Some []) taken) (output_of meaning t)) (append-nil taken) (sent-IsBeginning meaning taken [])
+sent-begins : (meaning : Meaning) (taken : List ℕ) → IsBeginning (sent (answer_to meaning) (Some []) taken) (output_of (answer_to meaning) taken)
+sent-begins meaning taken = subst (λ (t : List ℕ). IsBeginning (sent (answer_to meaning) (Some []) taken) (output_of (answer_to meaning) t)) (append-nil taken) (sent-IsBeginning (answer_to meaning) (answer_to-over meaning) taken [])
+
+is_output : (meaning : Meaning) (input output : List ℕ) → output ≡ output_of (answer_to meaning) input → IsOutput meaning input output
+is_output meaning input output e = subst (λ (t : List ℕ). IsOutput meaning input t) (sym e) (IsOutput-output_of meaning input)
 
 answers : (meaning : Meaning) (ended : Ended) (taken out : List ℕ) (left : Option (List ℕ)) → Steps meaning ended taken out left → Answers meaning ended taken out
-answers meaning Done taken out left h = h.1
-answers meaning Input taken out left h = h ∙ sym (output_of-whole_lines meaning taken)
-answers meaning Output taken out left (inl h) = IsBeginning-trans out _ _ h (sent-begins meaning taken)
-answers meaning Output taken out left (inr h) = h.1
+answers meaning Done taken out left h = is_output meaning taken out h.1
+answers meaning Input taken out left h = is_output meaning (whole_lines taken) out (h ∙ sym (output_of-whole_lines (answer_to meaning) (answer_to-over meaning) taken))
+answers meaning Output taken out left (inl h) = (output_of (answer_to meaning) taken, IsOutput-output_of meaning taken, IsBeginning-trans out _ _ h (sent-begins meaning taken))
+answers meaning Output taken out left (inr h) = (output_of (answer_to meaning) taken, IsOutput-output_of meaning taken, h.1)
 
 reads_all : (meaning : Meaning) (ended : Ended) (taken out : List ℕ) (left : Option (List ℕ)) → Steps meaning ended taken out left → ReadsAll ended left
 reads_all meaning Done taken out left h = h.0
@@ -67,18 +83,18 @@ reads_all meaning Output taken out left h = tt
 
 -- what went out is a beginning of the answers, or all was taken
 begins : (meaning : Meaning) (ended : Ended) (taken out : List ℕ) (left : Option (List ℕ)) → Steps meaning ended taken out left
-    → IsBeginning out (sent meaning (Some []) taken) ⊎ (IsAtEnd left × IsBeginning out (output_of meaning taken))
+    → IsBeginning out (sent (answer_to meaning) (Some []) taken) ⊎ (IsAtEnd left × IsBeginning out (output_of (answer_to meaning) taken))
 begins meaning Done taken out left h = inr (h.0, ([], append-nil out ∙ h.1))
 begins meaning Input taken out left h = inl ([], append-nil out ∙ h)
 begins meaning Output taken out left h = h
 
 -- a beginning of what was sent is one of the answers to all the input
 begins_all : (meaning : Meaning) (a b v w : Option (List ℕ)) (taken out : List ℕ) → Consumes a b taken → Appends v w out
-    → IsBeginning out (sent meaning (Some []) taken) → AnswersBeginning meaning a v w
+    → IsBeginning out (sent (answer_to meaning) (Some []) taken) → AnswersBeginning meaning a v w
 begins_all meaning None b v w taken out c h p = tt
 begins_all meaning (Some input) None v w taken out c h p = absurd c
 begins_all meaning (Some input) (Some left) v w taken out c h p =
-    (out, subst (λ (t : List ℕ). IsBeginning out (output_of meaning t)) (sym c) (IsBeginning-trans out _ _ p (sent-IsBeginning meaning taken left)), h)
+    (output_of (answer_to meaning) input, out, IsOutput-output_of meaning input, subst (λ (t : List ℕ). IsBeginning out (output_of (answer_to meaning) t)) (sym c) (IsBeginning-trans out _ _ p (sent-IsBeginning (answer_to meaning) (answer_to-over meaning) taken left)), h)
 
 module _ {meaning : Meaning} {ended : Ended} {a b v w : Option (List ℕ)} {ReadsFail WritesFail : Type 0} (s : Stepped meaning ended a b v w ReadsFail WritesFail) where
   pub HonestRun-Stepped : HonestRun meaning ended a b v w ReadsFail WritesFail
@@ -100,7 +116,8 @@ module _ {meaning : Meaning} {ended : Ended} {a b v w : Option (List ℕ)} {Read
       elim (begins meaning ended s.taken s.out b s.steps) [
         | inl p ↦ begins_all meaning a b v w s.taken s.out s.consumes s.appends p
         | inr p ↦
-            Consumes-whole a b s.taken (λ input. (out : List ℕ) × IsBeginning out (output_of meaning input) × Appends v w out) s.consumes p.0 (s.out, p.1, s.appends)
+            Consumes-whole a b s.taken (λ input. (output : List ℕ) × (out : List ℕ) × IsOutput meaning input output × IsBeginning out output × Appends v w out) s.consumes p.0
+            (output_of (answer_to meaning) s.taken, s.out, IsOutput-output_of meaning s.taken, p.1, s.appends)
       ]
 
 -- ---- the loop
@@ -109,7 +126,7 @@ module _ {meaning : Meaning} {ended : Ended} {a b v w : Option (List ℕ)} {Read
 pub record Took (meaning : Meaning) (a b v w : Option (List ℕ)) (line : Option (List ℕ)) (total : ℕ) : Type 0 where
   pub taken : List ℕ
   pub consumes : Consumes a b taken
-  pub appends : Appends v w (sent meaning (Some []) taken)
+  pub appends : Appends v w (sent (answer_to meaning) (Some []) taken)
   pub line_is : line ≡ after (Some []) taken
   pub total_is : length taken ≡ total
 
@@ -124,62 +141,62 @@ Sent-Appends F a b text ok s t =
 module _ (meaning : Meaning) (a b c v w x : Option (List ℕ)) (line : Option (List ℕ)) (total : ℕ) (ReadsFail WritesFail : Type 0) (took : Took meaning a b v w line total) where
   -- one more chunk
   pub Took-more : (bytes : List ℕ) (count : ℕ) (new : Option (List ℕ)) (ok : Bool) → Consumes b c bytes → length bytes ≡ count
-      → Sent WritesFail w x (sent meaning line bytes) [] ok → ok ≡ true → new ≡ after line bytes → Took meaning a c v x new (total + count)
+      → Sent WritesFail w x (sent (answer_to meaning) line bytes) [] ok → ok ≡ true → new ≡ after line bytes → Took meaning a c v x new (total + count)
   Took-more bytes count new ok h n s t e =
       record {
         taken = took.taken ++ bytes;
         consumes = Consumes-trans a b c took.taken bytes took.consumes h;
         appends = subst (λ (o : List ℕ). Appends v x o)
-            (ap (λ (l : Option (List ℕ)). sent meaning (Some []) took.taken ++ sent meaning l bytes) took.line_is ∙ sym (sent-append meaning (Some []) took.taken bytes))
-            (Appends-trans v w x (sent meaning (Some []) took.taken) (sent meaning line bytes) took.appends (Sent-Appends WritesFail w x _ ok s t));
-        line_is = e ∙ (ap (λ (l : Option (List ℕ)). after l bytes) took.line_is ∙ sym (after-append meaning (Some []) took.taken bytes));
+            (ap (λ (l : Option (List ℕ)). sent (answer_to meaning) (Some []) took.taken ++ sent (answer_to meaning) l bytes) took.line_is ∙ sym (sent-append (answer_to meaning) (answer_to-over meaning) (Some []) took.taken bytes))
+            (Appends-trans v w x (sent (answer_to meaning) (Some []) took.taken) (sent (answer_to meaning) line bytes) took.appends (Sent-Appends WritesFail w x _ ok s t));
+        line_is = e ∙ (ap (λ (l : Option (List ℕ)). after l bytes) took.line_is ∙ sym (after-append (answer_to meaning) (answer_to-over meaning) (Some []) took.taken bytes));
         total_is = length-append took.taken bytes ∙ (ap (λ (k : ℕ). k + length bytes) took.total_is ∙ ap (λ (k : ℕ). total + k) n);
       }
 
   -- a chunk isn't answered
-  pub Took-fails : (bytes : List ℕ) (ok : Bool) → Consumes b c bytes → Sent WritesFail w x (sent meaning line bytes) [] ok → ok ≡ false → Stepped meaning Output a c v x ReadsFail WritesFail
+  pub Took-fails : (bytes : List ℕ) (ok : Bool) → Consumes b c bytes → Sent WritesFail w x (sent (answer_to meaning) line bytes) [] ok → ok ≡ false → Stepped meaning Output a c v x ReadsFail WritesFail
   Took-fails bytes ok h s f =
       record {
         taken = took.taken ++ bytes;
-        out = sent meaning (Some []) took.taken ++ s.out;
+        out = sent (answer_to meaning) (Some []) took.taken ++ s.out;
         consumes = Consumes-trans a b c took.taken bytes took.consumes h;
-        appends = Appends-trans v w x (sent meaning (Some []) took.taken) s.out took.appends s.appends;
+        appends = Appends-trans v w x (sent (answer_to meaning) (Some []) took.taken) s.out took.appends s.appends;
         steps = inl (s.rest, joined);
         honest = s.fails f;
       }
     where
-      joined : (sent meaning (Some []) took.taken ++ s.out) ++ s.rest ≡ sent meaning (Some []) (took.taken ++ bytes)
+      joined : (sent (answer_to meaning) (Some []) took.taken ++ s.out) ++ s.rest ≡ sent (answer_to meaning) (Some []) (took.taken ++ bytes)
       joined =
-          append_assoc (sent meaning (Some []) took.taken) s.out s.rest
-          ∙ (ap (λ (t : List ℕ). sent meaning (Some []) took.taken ++ t) (s.begins ∙ ap (λ (l : Option (List ℕ)). sent meaning l bytes) took.line_is)
-          ∙ sym (sent-append meaning (Some []) took.taken bytes))
+          append_assoc (sent (answer_to meaning) (Some []) took.taken) s.out s.rest
+          ∙ (ap (λ (t : List ℕ). sent (answer_to meaning) (Some []) took.taken ++ t) (s.begins ∙ ap (λ (l : Option (List ℕ)). sent (answer_to meaning) l bytes) took.line_is)
+          ∙ sym (sent-append (answer_to meaning) (answer_to-over meaning) (Some []) took.taken bytes))
 
-  closed : sent meaning (Some []) took.taken ++ closing meaning line ≡ output_of meaning (took.taken ++ [])
+  closed : sent (answer_to meaning) (Some []) took.taken ++ closing (answer_to meaning) line ≡ output_of (answer_to meaning) (took.taken ++ [])
   closed =
-      ap (λ (l : Option (List ℕ)). sent meaning (Some []) took.taken ++ closing meaning l) took.line_is
-      ∙ (sym (output_of-sent meaning took.taken) ∙ ap (output_of meaning) (sym (append-nil took.taken)))
+      ap (λ (l : Option (List ℕ)). sent (answer_to meaning) (Some []) took.taken ++ closing (answer_to meaning) l) took.line_is
+      ∙ (sym (output_of-sent (answer_to meaning) (answer_to-over meaning) took.taken) ∙ ap (output_of (answer_to meaning)) (sym (append-nil took.taken)))
 
   -- the end of the input is answered
-  pub Took-done : (ok : Bool) → Consumes b c [] → IsAtEnd c → Sent WritesFail w x (closing meaning line) [] ok → ok ≡ true → Stepped meaning Done a c v x ReadsFail WritesFail
+  pub Took-done : (ok : Bool) → Consumes b c [] → IsAtEnd c → Sent WritesFail w x (closing (answer_to meaning) line) [] ok → ok ≡ true → Stepped meaning Done a c v x ReadsFail WritesFail
   Took-done ok h e s t =
       record {
         taken = took.taken ++ [];
-        out = sent meaning (Some []) took.taken ++ closing meaning line;
+        out = sent (answer_to meaning) (Some []) took.taken ++ closing (answer_to meaning) line;
         consumes = Consumes-trans a b c took.taken [] took.consumes h;
-        appends = Appends-trans v w x (sent meaning (Some []) took.taken) (closing meaning line) took.appends (Sent-Appends WritesFail w x _ ok s t);
+        appends = Appends-trans v w x (sent (answer_to meaning) (Some []) took.taken) (closing (answer_to meaning) line) took.appends (Sent-Appends WritesFail w x _ ok s t);
         steps = (e, closed);
         honest = tt;
       }
 
   -- the end of the input isn't answered
-  pub Took-broken : (ok : Bool) → Consumes b c [] → IsAtEnd c → Sent WritesFail w x (closing meaning line) [] ok → ok ≡ false → Stepped meaning Output a c v x ReadsFail WritesFail
+  pub Took-broken : (ok : Bool) → Consumes b c [] → IsAtEnd c → Sent WritesFail w x (closing (answer_to meaning) line) [] ok → ok ≡ false → Stepped meaning Output a c v x ReadsFail WritesFail
   Took-broken ok h e s f =
       record {
         taken = took.taken ++ [];
-        out = sent meaning (Some []) took.taken ++ s.out;
+        out = sent (answer_to meaning) (Some []) took.taken ++ s.out;
         consumes = Consumes-trans a b c took.taken [] took.consumes h;
-        appends = Appends-trans v w x (sent meaning (Some []) took.taken) s.out took.appends s.appends;
-        steps = inr (e, (s.rest, append_assoc (sent meaning (Some []) took.taken) s.out s.rest ∙ (ap (λ (t : List ℕ). sent meaning (Some []) took.taken ++ t) s.begins ∙ closed)));
+        appends = Appends-trans v w x (sent (answer_to meaning) (Some []) took.taken) s.out took.appends s.appends;
+        steps = inr (e, (s.rest, append_assoc (sent (answer_to meaning) (Some []) took.taken) s.out s.rest ∙ (ap (λ (t : List ℕ). sent (answer_to meaning) (Some []) took.taken ++ t) s.begins ∙ closed)));
         honest = s.fails f;
       }
 
@@ -188,7 +205,7 @@ module _ (meaning : Meaning) (a b c v w x : Option (List ℕ)) (line : Option (L
   Took-stops h stop =
       record {
         taken = took.taken;
-        out = sent meaning (Some []) took.taken;
+        out = sent (answer_to meaning) (Some []) took.taken;
         consumes = Consumes-kept a b c took.taken took.consumes h;
         appends = took.appends;
         steps = refl;

@@ -1,11 +1,13 @@
 -- What is written for an input line.
-use Rattle.std.specs.Prelude.{ℕ, Bool, not, ◌||◌, ◌++◌, ◌∷◌, [], List, Option, Some, None, length, map, nat_lt, if◌then◌else◌, codes, decimal, is_some}
-use Rattle.std.specs.List.{flat_map, position}
-use Rattle.std.specs.Str.{chars, is_utf8, encode_utf8_all}
+use Rattle.std.specs.Prelude.{◌≡◌, ℕ, ◌<◌, ◌≤◌, ◌++◌, ◌∷◌, [], List, length, map, codes, decimal}
+use Rattle.std.specs.Str.{chars, IsUtf8, encode_utf8_all}
 use Rattle.cell_core.specs.Cell.{braille_character}
-use Rattle.louis_table.specs.declared.definition.Definition.{Definition}
 use Rattle.louis_table.specs.Lines.{lines_of}
-use Rattle.louis_table.specs.Meaning.{Meaning, definition_of}
+use Rattle.louis_table.specs.Meaning.{Meaning}
+use Rattle.louis_translate.specs.declared.choices.Choice.{Choice}
+use Rattle.louis_translate.specs.Position.{AreDefined, IsFirstUndefined}
+use Rattle.louis_translate.specs.Tiling.{Tiles}
+use Rattle.louis_translate.specs.Braille.{braille}
 
 -- ---- the limits of a line
 
@@ -17,23 +19,7 @@ most_bytes = 65536
 abbrev pub most_characters : ℕ
 most_characters = 4000
 
--- ---- the braille of a print
-
--- no cells where there is no definition
-
-abbrev pub cells_of : Option Definition → List ℕ
-cells_of None = []
-cells_of (Some definition) = definition.cells
-
--- the cells of each character's definition, joined in order
-abbrev pub braille : Meaning → List ℕ → List ℕ
-braille meaning print = flat_map (λ c. cells_of (definition_of meaning c)) print
-
--- the smallest place whose character the table doesn't define
-abbrev pub undefined_place : Meaning → List ℕ → Option ℕ
-undefined_place meaning print = position (λ c. not (is_some (definition_of meaning c))) print
-
--- ---- the answer
+-- ---- the texts that are written
 
 -- cells as characters of the block Braille Patterns, in UTF-8
 abbrev pub text_of : List ℕ → List ℕ
@@ -47,18 +33,30 @@ refusal code = codes "no " ++ decimal code
 abbrev pub refusal_at : ℕ → ℕ → List ℕ
 refusal_at code place = refusal code ++ 32 ∷ decimal place
 
--- what is answered to a print that isn't too long: its braille, or its first undefined place
-abbrev pub answer_by : Meaning → List ℕ → Option ℕ → List ℕ
-answer_by meaning print None = text_of (braille meaning print)
-answer_by meaning print (Some place) = refusal_at 7 place
+-- ---- the answer
 
--- what is answered to a line: the first of its faults, or its braille
-abbrev pub answer_to : Meaning → List ℕ → List ℕ
-answer_to meaning line =
-    if nat_lt most_bytes (length line) || not (is_utf8 line) then refusal 1
-    else if nat_lt most_characters (length (chars line)) then refusal 14
-    else answer_by meaning (chars line) (undefined_place meaning (chars line))
+-- what is answered to a print: no 7 with its first undefined place, or else the cells, as characters, of choices that tile it
+pub data AnswersPrint (meaning : Meaning) (print answer : List ℕ) : Type 0 where
+  undefined : (place : ℕ) → IsFirstUndefined meaning print place → answer ≡ refusal_at 7 place → AnswersPrint meaning print answer
+  shown : AreDefined meaning print → (choices : List Choice) → Tiles meaning print choices
+      → answer ≡ text_of (braille meaning print choices) → AnswersPrint meaning print answer
 
--- each line of the input is answered by one line, in order
-abbrev pub output_of : Meaning → List ℕ → List ℕ
-output_of meaning input = flat_map (λ line. answer_to meaning line ++ 10 ∷ []) (lines_of input)
+-- the line is UTF-8, and no longer than a line may be
+abbrev pub IsText : List ℕ → Type 0
+IsText line = (length line ≤ most_bytes) × IsUtf8 line
+
+-- what is answered to a line: no 1 where it is no text, else no 14 where its characters are too many, else what is answered to its print
+pub data IsAnswer (meaning : Meaning) (line answer : List ℕ) : Type 0 where
+  no_text : ¬ IsText line → answer ≡ refusal 1 → IsAnswer meaning line answer
+  too_long : IsText line → most_characters < length (chars line) → answer ≡ refusal 14 → IsAnswer meaning line answer
+  a_print : IsText line → length (chars line) ≤ most_characters → AnswersPrint meaning (chars line) answer → IsAnswer meaning line answer
+
+-- the output has the answer to each line, in order, each ended by a line feed, and nothing else
+abbrev pub AreAnswers : Meaning → List (List ℕ) → List ℕ → Type 0
+AreAnswers meaning [] output = output ≡ []
+AreAnswers meaning (line ∷ lines) output =
+    (answer : List ℕ) × (rest : List ℕ) × IsAnswer meaning line answer × AreAnswers meaning lines rest × (output ≡ answer ++ 10 ∷ rest)
+
+-- the output answers each line of the input
+abbrev pub IsOutput : Meaning → List ℕ → List ℕ → Type 0
+IsOutput meaning input output = AreAnswers meaning (lines_of input) output

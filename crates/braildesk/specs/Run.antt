@@ -4,7 +4,7 @@ use Rattle.std.specs.Io.KnownBytes.{Appends, Consumes, IsAtEnd}
 use Rattle.louis_table.specs.Meaning.{Meaning}
 use Rattle.braildesk.specs.declared.translate.Ended.{Ended}
 use Rattle.braildesk.specs.declared.translate.Ended.TheVariants.{Done, Input, Output}
-use Rattle.braildesk.specs.Reply.{output_of}
+use Rattle.braildesk.specs.Reply.{IsOutput}
 
 -- ---- what went out
 
@@ -24,9 +24,9 @@ IsBeginning out text = (rest : List ℕ) × (out ++ rest ≡ text)
 
 -- what went out answers what was taken: all its lines, those that had ended, or a beginning
 abbrev pub Answers : Meaning → Ended → List ℕ → List ℕ → Type 0
-Answers meaning Done taken out = out ≡ output_of meaning taken
-Answers meaning Input taken out = out ≡ output_of meaning (whole_lines taken)
-Answers meaning Output taken out = IsBeginning out (output_of meaning taken)
+Answers meaning Done taken out = IsOutput meaning taken out
+Answers meaning Input taken out = IsOutput meaning (whole_lines taken) out
+Answers meaning Output taken out = (output : List ℕ) × IsOutput meaning taken output × IsBeginning out output
 
 -- a run that is done left nothing in the reader
 abbrev pub ReadsAll : Ended → Option (List ℕ) → Type 0
@@ -46,7 +46,7 @@ pub record Run (meaning : Meaning) (ended : Ended) (read_old read_new write_old 
 -- where the input is known, what went out is a beginning of what is answered to it
 abbrev pub AnswersBeginning : Meaning → Option (List ℕ) → Option (List ℕ) → Option (List ℕ) → Type 0
 AnswersBeginning meaning read_old write_old write_new =
-    IfSome read_old (λ input. (out : List ℕ) × IsBeginning out (output_of meaning input) × Appends write_old write_new out)
+    IfSome read_old (λ input. (output : List ℕ) × (out : List ℕ) × IsOutput meaning input output × IsBeginning out output × Appends write_old write_new out)
 
 -- ---- how it ended
 

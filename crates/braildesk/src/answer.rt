@@ -1,20 +1,20 @@
 //! What is answered to one line.
-ghost use Rattle.braildesk.specs.Machine.{closing, reply_to};
-ghost use Rattle.braildesk.specs.Refusal.{refusal_text};
-ghost use Rattle.braildesk.specs.Reply.{answer_by, answer_to, undefined_place};
+ghost use Rattle.braildesk.specs.Machine.{AnswersLines, closing, reply_to};
+ghost use Rattle.braildesk.specs.Refusal.{IsRefused, refusal_text};
+ghost use Rattle.braildesk.specs.Reply.{AnswersPrint, IsAnswer, IsText, most_characters};
 ghost use Rattle.braildesk.specs.Sent.{Sent};
-ghost use Rattle.louis_table.specs.Meaning.{Meaning};
-ghost use Rattle.std.specs.Prelude.{MatchResult, [], is_ok, ◌++◌, ◌≡◌, ◌∷◌};
+ghost use Rattle.std.specs.Prelude.{List, MatchResult, [], is_ok, length, ◌++◌, ◌≡◌, ◌≤◌, ◌∷◌, ℕ};
 ghost use Rattle.std.specs.Str.{chars};
 
 use super::block::Block;
-use super::braille::{fill, send_block, send_braille};
+use super::braille::send_braille;
 use super::ends::{Failed, Sink};
 use super::line::Line;
+use super::print::Print;
 use super::send::send;
-use super::translate::{MOST_BYTES, MOST_CHARACTERS};
+use super::translate::MOST_BYTES;
 use itoa::Buffer;
-use louis_table::Table;
+use louis_translate::{RuleBook, undefined_place};
 
 /// Why a line has no braille.
 #[derive(Clone, Copy, Debug, PartialEq, Eq)]
@@ -27,96 +27,95 @@ pub enum Refusal {
     Undefined(usize),
 }
 
-/// Answers a line, if it has a byte. The block is room to work in.
-pub fn answer_last<K: Sink>(
+/// Room to answer lines in, one after another.
+#[derive(Drop)]
+pub struct Workspace {
+    /// The print of the line.
+    pub print: Print,
+    /// The braille that waits to be sent.
+    pub block: Block,
+}
+
+/// Answers a line, if it has a byte.
+pub fn answer_last<K: Sink, B: RuleBook>(
     sink: &mut K,
-    block: &mut Block,
-    table: &Table,
+    space: &mut Workspace,
+    book: &B,
     line: &Line,
 ) -> Result<(), Failed>
-    ensures { Sent K.can_fail (K.contents sink.old) (K.contents sink.new) (closing table.now line.now) [] (is_ok result) }
+    ensures { (answers : List ℕ → List ℕ) → AnswersLines (B.meaning book.now) answers
+        → Sent K.can_fail (K.contents sink.old) (K.contents sink.new) (closing answers line.now) [] (is_ok result) }
 {
     if line.is_empty() {
         return Ok(());
     }
-    answer(sink, block, table, line)
+    answer(sink, space, book, line)
 }
 
-/// Answers a line. The block is room to work in.
-pub fn answer<K: Sink>(
+/// Answers a line.
+pub fn answer<K: Sink, B: RuleBook>(
     sink: &mut K,
-    block: &mut Block,
-    table: &Table,
+    space: &mut Workspace,
+    book: &B,
     line: &Line,
 ) -> Result<(), Failed>
-    ensures { Sent K.can_fail (K.contents sink.old) (K.contents sink.new) (reply_to table.now line.now) [] (is_ok result) }
+    ensures { (answers : List ℕ → List ℕ) → AnswersLines (B.meaning book.now) answers
+        → Sent K.can_fail (K.contents sink.old) (K.contents sink.new) (reply_to answers line.now) [] (is_ok result) }
 {
     match line.text() {
-        Some(text) => answer_text(sink, block, table, text),
+        Some(text) => answer_text(sink, space, book, text),
         None => refuse(sink, Refusal::NoText),
     }
 }
 
 /// Answers the bytes of a line.
-fn answer_text<K: Sink>(
+fn answer_text<K: Sink, B: RuleBook>(
     sink: &mut K,
-    block: &mut Block,
-    table: &Table,
+    space: &mut Workspace,
+    book: &B,
     line: &[u8],
 ) -> Result<(), Failed>
-    ensures { Sent K.can_fail (K.contents sink.old) (K.contents sink.new) (answer_to table.now line.now ++ 10 ∷ []) [] (is_ok result) }
+    ensures { (answer : List ℕ) → IsAnswer (B.meaning book.now) line.now answer
+        → Sent K.can_fail (K.contents sink.old) (K.contents sink.new) (answer ++ 10 ∷ []) [] (is_ok result) }
 {
-    match read_print(line) {
-        Ok(print) => answer_print(sink, block, table, print),
+    match read_print(&mut space.print, line) {
+        Ok(()) => answer_print(sink, &mut space.block, book, space.print.as_slice()),
         Err(refusal) => refuse(sink, refusal),
     }
 }
 
-/// The line as print, or the first of the faults that need no table.
-fn read_print(line: &[u8]) -> Result<&str, Refusal>
+/// Reads a line as print, or tells the first of the faults that need no table.
+fn read_print(print: &mut Print, line: &[u8]) -> Result<(), Refusal>
     ensures { MatchResult result
-        (λ print. (meaning : Meaning) → answer_to meaning line.now ≡ answer_by meaning (chars print.now) (undefined_place meaning (chars print.now)))
-        (λ refusal. (meaning : Meaning) → answer_to meaning line.now ≡ refusal_text refusal) }
+        (λ _. IsText line.now × (length (chars line.now) ≤ most_characters) × (print.new ≡ chars line.now))
+        (IsRefused line.now) }
 {
     if line.len() > MOST_BYTES {
         return Err(Refusal::NoText);
     }
-    let Ok(print) = str::from_utf8(line) else {
+    let Ok(text) = str::from_utf8(line) else {
         return Err(Refusal::NoText);
     };
-    if print.chars().count() > MOST_CHARACTERS {
+    if !print.read(text) {
         return Err(Refusal::TooLong);
     }
-    Ok(print)
+    Ok(())
 }
 
-/// Answers a print that isn't too long. Only one whose cells don't fit the block is read twice, since
-/// nothing may go out before each of its characters is known to be defined.
-fn answer_print<K: Sink>(
+/// Answers a print. Nothing goes out before each of its characters is known to be defined.
+fn answer_print<K: Sink, B: RuleBook>(
     sink: &mut K,
     block: &mut Block,
-    table: &Table,
-    print: &str,
+    book: &B,
+    print: &[char],
 ) -> Result<(), Failed>
-    ensures { Sent K.can_fail (K.contents sink.old) (K.contents sink.new)
-        (answer_by table.now (chars print.now) (undefined_place table.now (chars print.now)) ++ 10 ∷ []) [] (is_ok result) }
+    ensures { (answer : List ℕ) → AnswersPrint (B.meaning book.now) print.now answer
+        → Sent K.can_fail (K.contents sink.old) (K.contents sink.new) (answer ++ 10 ∷ []) [] (is_ok result) }
 {
-    if fill(block, table, print) {
-        return send_block(sink, block);
-    }
-    match undefined(table, print) {
+    match undefined_place(book.table(), print) {
         Some(place) => refuse(sink, Refusal::Undefined(place)),
-        None => send_braille(sink, block, table, print),
+        None => send_braille(sink, block, book, print),
     }
-}
-
-/// The first place, from 0, of a character that the table doesn't define.
-fn undefined(table: &Table, print: &str) -> Option<usize>
-    ensures { result ≡ undefined_place table.now (chars print.now) }
-{
-    print
-        .chars()
-        .position(|character| table.definition(character).is_none())
 }
 
 /// Sends a refusal and a line feed.

@@ -48,6 +48,7 @@ impl Block {
     }
 
     /// Whether a cell would still fit.
+    #[inline(always)]
     pub fn has_room(&self) -> bool
         ensures { IsTrue result ↔ (length self.now + CELL_BYTES ≤ BLOCK_BYTES) }
     {
@@ -55,6 +56,7 @@ impl Block {
     }
 
     /// Adds a byte.
+    #[inline(always)]
     pub fn push(&mut self, byte: u8)
         requires { length self.old < BLOCK_BYTES }
         ensures { self.new ≡ self.old ++ byte ∷ [] }
@@ -65,14 +67,17 @@ impl Block {
 
     /// Adds the UTF-8 of a cell's character, U+2800 and the mask: 0xE2 and two bytes with six bits of
     /// the character each.
+    #[inline(always)]
     pub fn push_cell(&mut self, cell: Cell)
         requires { length self.old + CELL_BYTES ≤ BLOCK_BYTES }
         ensures { self.new ≡ self.old ++ encode_utf8 (braille_character cell) }
     {
         let mask = cell.mask();
-        self.push(0xE2);
-        self.push(0xA0 + mask / 64);
-        self.push(0x80 + mask % 64);
+        let len = self.len;
+        self.bytes[len] = 0xE2;
+        self.bytes[len + 1] = 0xA0 + mask / 64;
+        self.bytes[len + 2] = 0x80 + mask % 64;
+        self.len = len + CELL_BYTES;
     }
 
     /// Takes all bytes out.

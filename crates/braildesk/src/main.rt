@@ -7,6 +7,7 @@ mod braille;
 mod ends;
 mod fault;
 mod line;
+mod print;
 mod program;
 mod send;
 mod table_file;

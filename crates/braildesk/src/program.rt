@@ -5,6 +5,7 @@ ghost use Rattle.std.specs.Prelude.{◌≡◌, ◌≢◌, ◌≤◌, ◌⊎◌, 
 use super::fault::Fault;
 use super::table_file::read_table;
 use super::translate::{Ended, translate_lines};
+use louis_translate::PlainRules;
 use std::convert::AsStr;
 use std::io::{Read, Write};
 use std::rt::Files;
@@ -24,9 +25,9 @@ pub const ENDS_FAILED: u8 = 3;
 /// Does what the words behind the program's name ask, over the three given ends, and answers the exit
 /// status.
 ///
-/// `translate TABLE` answers each line of the reader on the writer by the table in the file TABLE,
-/// or by the supplied table where TABLE is `@en`. A table that is refused is told in one line on `errors`, and so is how to use the program where the
-/// words are others.
+/// `translate TABLE` answers each line of the reader on the writer by the table in the file TABLE, or by
+/// the supplied table where TABLE is `@en`: by its definitions, rules and signs. A table that is refused is
+/// told in one line on `errors`, and so is how to use the program where the words are others.
 pub fn program<F: Files + AllocGlobal, S: AsStr, R: Read, W: Write, E: Write>(
     rt: &F,
     words: &[S],
@@ -52,7 +53,7 @@ pub fn program<F: Files + AllocGlobal, S: AsStr, R: Read, W: Write, E: Write>(
         return explain_use(errors);
     };
     match read_table(rt, path) {
-        Ok(table) => status_of(translate_lines(reader, writer, &table)),
+        Ok(table) => status_of(translate_lines(reader, writer, &PlainRules::new(table))),
         Err(fault) => refuse(errors, &fault),
     }
 }

@@ -3,7 +3,8 @@ ghost use Rattle.std.specs.Prelude.{Some};
 
 use super::ends::Memory;
 use super::translate::{Ended, MOST_BYTES, MOST_CHARACTERS, run, translate_lines};
-use louis_table::Table;
+use louis_table::{EN, Table};
+use louis_translate::PlainRules;
 use std::io::{Error, ErrorKind, Read, Result, Write};
 use std::test::Fail;
 
@@ -57,7 +58,7 @@ impl Write for Full {
 
 #[test]
 fn answers_each_line(rt: HostRuntime) -> std::result::Result<(), Fail> {
-    let table = Table::read(rt.alloc(), TABLE)?;
+    let book = PlainRules::new(Table::read(rt.alloc(), TABLE)?);
     let cases: [(&[u8], &str); 6] = [
         (b"a\n\nb\n\xFF\n", "⠁\n\nno 7 0\nno 1\n"),
         (b"aaba\r\na\r\r\n", "no 7 2\nno 7 1\n"),
@@ -69,15 +70,48 @@ fn answers_each_line(rt: HostRuntime) -> std::result::Result<(), Fail> {
     for (input, want) in cases {
         let mut reader = input;
         let mut out = Vec::new(rt.alloc());
-        assert_eq!(rt; translate_lines(&mut reader, &mut out, &table), Ended::Done);
+        assert_eq!(rt; translate_lines(&mut reader, &mut out, &book), Ended::Done);
         assert_eq!(rt; out.as_slice(), want.as_bytes(), "{input:?}");
     }
     Ok(())
 }
 
 #[test]
+fn shows_signs(rt: HostRuntime) -> std::result::Result<(), Fail> {
+    let book = PlainRules::new(Table::read(rt.alloc(), EN.as_bytes())?);
+    let mut reader: &[u8] = b"Hello\nTV\n3.14 5a\n";
+    let mut out = Vec::new(rt.alloc());
+    assert_eq!(rt; translate_lines(&mut reader, &mut out, &book), Ended::Done);
+    assert_eq!(rt; out.as_slice(), "⠠⠓⠑⠇⠇⠕\n⠠⠠⠞⠧\n⠼⠉⠲⠼⠁⠙⠀⠼⠑⠁\n".as_bytes());
+    Ok(())
+}
+
+#[test]
+fn shows_rules(rt: HostRuntime) -> std::result::Result<(), Fail> {
+    let table = b"space \\s 0\nletter a 1\nword a 123456\n";
+    let book = PlainRules::new(Table::read(rt.alloc(), table)?);
+    let mut reader: &[u8] = b"a aa\n";
+    let mut out = Vec::new(rt.alloc());
+    assert_eq!(rt; translate_lines(&mut reader, &mut out, &book), Ended::Done);
+    assert_eq!(rt; out.as_slice(), "⠿⠀⠁⠁\n".as_bytes());
+    Ok(())
+}
+
+#[test]
+fn sends_more_cells_than_a_block_has(rt: HostRuntime) -> std::result::Result<(), Fail> {
+    let book = PlainRules::new(Table::read(rt.alloc(), b"letter a 1-2-3\n")?);
+    let input = vec![in rt.alloc(); b'a'; MOST_CHARACTERS]?;
+    let mut reader = input.as_slice();
+    let mut out = Vec::new(rt.alloc());
+    assert_eq!(rt; translate_lines(&mut reader, &mut out, &book), Ended::Done);
+    assert_eq!(rt; out.len(), 9 * MOST_CHARACTERS + 1);
+    assert!(rt; out.as_slice().ends_with("⠁⠂⠄\n".as_bytes()));
+    Ok(())
+}
+
+#[test]
 fn keeps_the_limits(rt: HostRuntime) -> std::result::Result<(), Fail> {
-    let table = Table::read(rt.alloc(), TABLE)?;
+    let book = PlainRules::new(Table::read(rt.alloc(), TABLE)?);
     let cases: [(usize, &[u8], usize, &[u8]); 6] = [
         (MOST_CHARACTERS, b"\n", 3 * MOST_CHARACTERS + 1, b"\n"),
         (MOST_CHARACTERS + 1, b"\n", 6, b"no 14\n"),
@@ -91,7 +125,7 @@ fn keeps_the_limits(rt: HostRuntime) -> std::result::Result<(), Fail> {
         input.extend_from_slice(ending)?;
         let mut reader = input.as_slice();
         let mut out = Vec::new(rt.alloc());
-        assert_eq!(rt; translate_lines(&mut reader, &mut out, &table), Ended::Done);
+        assert_eq!(rt; translate_lines(&mut reader, &mut out, &book), Ended::Done);
         assert_eq!(rt; out.len(), length, "{count} bytes");
         assert!(rt; out.as_slice().ends_with(last), "{count} bytes");
     }
@@ -100,7 +134,7 @@ fn keeps_the_limits(rt: HostRuntime) -> std::result::Result<(), Fail> {
 
 #[test]
 fn fails_in_mid_stream(rt: HostRuntime) -> std::result::Result<(), Fail> {
-    let table = Table::read(rt.alloc(), TABLE)?;
+    let book = PlainRules::new(Table::read(rt.alloc(), TABLE)?);
     let text = b"a\nb\naaa";
     let want = "⠁\nno 7 0\n⠁⠁⠁\n".as_bytes();
     for (reads_left, length, ended) in [
@@ -116,7 +150,7 @@ fn fails_in_mid_stream(rt: HostRuntime) -> std::result::Result<(), Fail> {
             bytes: text,
             reads_left,
         };
-        assert_eq!(rt; translate_lines(&mut input, &mut out, &table), ended);
+        assert_eq!(rt; translate_lines(&mut input, &mut out, &book), ended);
         assert_eq!(rt; out.len(), length);
         assert!(rt; want.starts_with(out.as_slice()));
     }
@@ -132,7 +166,7 @@ fn fails_in_mid_stream(rt: HostRuntime) -> std::result::Result<(), Fail> {
         } else {
             Ended::Done
         };
-        assert_eq!(rt; translate_lines(&mut input, &mut out, &table), ended);
+        assert_eq!(rt; translate_lines(&mut input, &mut out, &book), ended);
         assert_eq!(rt; out.taken.len(), room.min(want.len()));
         assert!(rt; want.starts_with(out.taken.as_slice()));
     }
@@ -141,12 +175,12 @@ fn fails_in_mid_stream(rt: HostRuntime) -> std::result::Result<(), Fail> {
 
 #[test]
 fn stops_where_no_byte_is_taken(rt: HostRuntime) -> std::result::Result<(), Fail> {
-    let table = Table::read(rt.alloc(), TABLE)?;
+    let book = PlainRules::new(Table::read(rt.alloc(), TABLE)?);
     let mut out = Full {
         taken: Vec::new(rt.alloc()),
         room: 9,
         step: 0,
     };
-    assert_eq!(rt; run(&mut Memory(b"a\n"), &mut out, &table), Ended::Output);
+    assert_eq!(rt; run(&mut Memory(b"a\n"), &mut out, &book), Ended::Output);
     Ok(())
 }

@@ -1,11 +1,12 @@
 -- What a table says.
-use Rattle.std.specs.Prelude.{ℕ, List, Option, nat_eq, unwrap_or, Bool, is_some}
+use Rattle.std.specs.Prelude.{ℕ, List, Option, nat_eq, unwrap_or}
 use Rattle.std.specs.Map.{lookup}
 use Rattle.louis_table.specs.declared.definition.Definition.{Definition}
 use Rattle.louis_table.specs.declared.rule.Rule.{Rule}
 
 -- the definitions of characters and the lower characters of capitals, each in the order of their lines,
--- the rules in the order of theirs, and the cells of the three signs, none where the table lacks one
+-- the rules, their characters folded, in the order of theirs, and the cells of the three signs, none where the table
+-- lacks one
 pub record Meaning : Type 0 where
   pub definitions : List (ℕ × Definition)
   pub partners : List (ℕ × ℕ)

@@ -58,10 +58,8 @@ AreCharactersFor (Announce sign) characters = ⊥
 
 -- the opcode and this characters operand stand at the front of the line
 abbrev pub HasCharacters : List ℕ → Opcode → List ℕ → Type 0
-HasCharacters line (Define class) characters = HasFields line (name_of (Define class) ∷ characters ∷ [])
-HasCharacters line UpLow characters = HasFields line (name_of UpLow ∷ characters ∷ [])
-HasCharacters line (Replace kind) characters = HasFields line (name_of (Replace kind) ∷ characters ∷ [])
 HasCharacters line (Announce sign) characters = ⊥
+HasCharacters line opcode characters = HasFields line (name_of opcode ∷ characters ∷ [])
 
 -- the opcode and its operands up to this dots operand stand at the front of the line
 abbrev pub HasDots : List ℕ → Opcode → List ℕ → Type 0
@@ -192,7 +190,8 @@ IsDefinedIn character entry = Contains (map (λ d. d.0) (definitions_in entry)) 
 abbrev pub SomeGives : List (List ℕ) → (Entry → Type 0) → Type 0
 SomeGives lines Holds = (line : List ℕ) × (entry : Entry) × Contains lines line × Gives line entry × Holds entry
 
--- the line, behind the lines before it, has a fault with this cause
+-- the line, behind the lines before it, has a fault with this cause; a repetition is judged between lines that give
+-- an entry: a line that says something and gives none has a cause from 1 to 4 of its own
 pub data Fault (before : List (List ℕ)) (line : List ℕ) (cause : ℕ) : Type 0 where
   -- the first field is no opcode
   unknown_opcode : (field rest : List ℕ) → Begins line field rest → ¬ IsComment field

@@ -40,19 +40,28 @@ impl<V: Drop> CharMap<V> {
         }
     }
 
+    /// The value of a character, if it has one, found by its hash.
+    #[inline(never)]
+    fn find(&self, character: char) -> Option<&V>
+        ensures { option_copied result ≡ lookup (nat_eq character) self.now }
+    {
+        self.entries.get(&character)
+    }
+
     /// The value of a character, if it has one.
+    #[inline(always)]
     pub(crate) fn get(&self, character: char) -> Option<&V>
         ensures { option_copied result ≡ lookup (nat_eq character) self.now }
     {
         let code = character as usize;
         if code >= DIRECT {
-            return self.entries.get(&character);
+            return self.find(character);
         }
         let place = self.places[code];
         if place == 0 {
             return None;
         }
-        let (_, value) = self.entries.get_index(place - 1)?;
+        let (_, value) = self.entries.get_index(place - 1).unwrap();
         Some(value)
     }
 

@@ -140,6 +140,7 @@ impl Table {
     }
 
     /// The definition of a character, if the table has one.
+    #[inline(always)]
     pub fn definition(&self, character: char) -> Option<&Definition>
         ensures { option_copied result ≡ definition_of self.now character }
     {
@@ -147,6 +148,7 @@ impl Table {
     }
 
     /// The class of a character, if the table defines it.
+    #[inline(always)]
     pub fn class(&self, character: char) -> Option<Class>
         ensures { result ≡ option_map (λ defined. defined.class) (definition_of self.now character) }
     {
@@ -154,6 +156,7 @@ impl Table {
     }
 
     /// The lower character of a capital, and every other character itself.
+    #[inline(always)]
     pub fn fold(&self, character: char) -> char
         ensures { result ≡ folded self.now character }
     {
@@ -161,6 +164,7 @@ impl Table {
     }
 
     /// Whether the character is the upper character of an `uplow` line.
+    #[inline(always)]
     pub fn capital(&self, character: char) -> bool
         ensures { result ≡ is_some (partner_of self.now character) }
     {

@@ -6,6 +6,7 @@ use Rattle.std.proofs.lemmas.List.{append-nil, length-append}
 use Rattle.louis_table.specs.Meaning.{Meaning}
 use Rattle.louis_translate.specs.declared.choices.Choice.{Choice}
 use Rattle.louis_translate.specs.Tiling.{Covers, IsChoiceAt}
+use Rattle.louis_translate.specs.Position.{AreDefined}
 use Rattle.louis_translate.specs.Braille.{cells_of, braille, IsPart}
 use Rattle.louis_translate.proofs.Spans.{span-fits}
 use Rattle.louis_translate.proofs.Tilings.{Covers-append, some_cover}
@@ -29,12 +30,13 @@ longer_has_more f (y ∷ t) (x ∷ more) less rest c e lt =
     omega arith
 
 -- all choices fit
-pub IsPart-whole : (meaning : Meaning) (print : List ℕ) (room i used : ℕ) (t : List Choice) (cells : List ℕ) → Covers meaning print 0 t i → i ≡ length print → used ≡ i → cells ≡ braille meaning print t → length cells ≤ room → IsPart meaning print room cells used
-IsPart-whole meaning print room i used t cells covers whole end made fits = record {
+pub IsPart-whole : (meaning : Meaning) (print : List ℕ) (room i used : ℕ) (t : List Choice) (cells : List ℕ) → AreDefined meaning print → Covers meaning print 0 t i → i ≡ length print → used ≡ i → cells ≡ braille meaning print t → length cells ≤ room → IsPart meaning print room cells used
+IsPart-whole meaning print room i used t cells defined covers whole end made fits = record {
+  defined = defined;
   choices = t;
   front = t;
   tiles = subst (λ (n : ℕ). Covers meaning print 0 t n) whole covers;
-  longest = record {
+  is_front = record {
     others = [];
     parts = sym (append-nil t);
     fits = subst (λ (xs : List ℕ). length xs ≤ room) made fits;
@@ -45,17 +47,18 @@ IsPart-whole meaning print room i used t cells covers whole end made fits = reco
 }
 
 -- the next choice doesn't fit
-pub IsPart-cut : (meaning : Meaning) (print : List ℕ) (room i used : ℕ) (t : List Choice) (c : Choice) (cells : List ℕ) → Covers meaning print 0 t i → i < length print → IsChoiceAt meaning print i c → used ≡ i → cells ≡ braille meaning print t → length cells ≤ room → room < length cells + length (cells_of meaning print c) → IsPart meaning print room cells used
-IsPart-cut meaning print room i used t c cells covers lt next end made fits over =
+pub IsPart-cut : (meaning : Meaning) (print : List ℕ) (room i used : ℕ) (t : List Choice) (c : Choice) (cells : List ℕ) → AreDefined meaning print → Covers meaning print 0 t i → i < length print → IsChoiceAt meaning print i c → used ≡ i → cells ≡ braille meaning print t → length cells ≤ room → room < length cells + length (cells_of meaning print c) → IsPart meaning print room cells used
+IsPart-cut meaning print room i used t c cells defined covers lt next end made fits over =
     let within = span-fits meaning print i c.rule lt next.chosen.candidate in
     let last = next.end in
     let rest = some_cover meaning print (length print) c.end (omega arith) (omega arith) in
     let many : length cells ≡ length (braille meaning print t) = ap length made in
     record {
+      defined = defined;
       choices = t ++ c ∷ rest.0;
       front = t;
       tiles = Covers-append meaning print 0 i (length print) t (c ∷ rest.0) covers (lt, next, rest.1);
-      longest = record {
+      is_front = record {
         others = c ∷ rest.0;
         parts = refl;
         fits = omega arith;

@@ -8,3 +8,4 @@ pub mod Faults
 pub mod Fronts
 pub mod LongestRuns
 pub mod Counterparts
+mod WorkedRows

@@ -8,6 +8,7 @@ use Rattle.std.proofs.lemmas.Bool.Decides.{nat_tests}
 use Rattle.louis_table.specs.Meaning.{Meaning}
 use Rattle.louis_translate.specs.declared.choices.Choice.{Choice}
 use Rattle.louis_translate.specs.Tiling.{Covers, Tiles}
+use Rattle.louis_translate.specs.Position.{AreDefined}
 use Rattle.louis_translate.specs.Braille.{cells_of, braille, output_place, print_place, IsTranslation}
 use Rattle.louis_translate.specs.Reading.{outputs_from, inputs_of}
 
@@ -119,8 +120,9 @@ outputs_from-tiling meaning print t tiles =
     ∙ map-range_with_len-same (λ k. 0 + output_place meaning print t k) (output_place meaning print t) 0 (length print) (λ k more less. zero-add (output_place meaning print t k)))
 
 -- the lists that the choices of a tiling make are the translation
-pub IsTranslation-lists : (meaning : Meaning) (print : List ℕ) (t : List Choice) (cells outputs inputs : List ℕ) → Tiles meaning print t → cells ≡ braille meaning print t → outputs ≡ outputs_from meaning print 0 t → inputs ≡ inputs_of meaning print t → IsTranslation meaning print cells outputs inputs
-IsTranslation-lists meaning print t cells outputs inputs tiles made first second = record {
+pub IsTranslation-lists : (meaning : Meaning) (print : List ℕ) (t : List Choice) (cells outputs inputs : List ℕ) → AreDefined meaning print → Tiles meaning print t → cells ≡ braille meaning print t → outputs ≡ outputs_from meaning print 0 t → inputs ≡ inputs_of meaning print t → IsTranslation meaning print cells outputs inputs
+IsTranslation-lists meaning print t cells outputs inputs defined tiles made first second = record {
+  defined = defined;
   choices = t;
   tiles = tiles;
   cells_are = made;

@@ -87,13 +87,13 @@ same_list (x ∷ xs) (y ∷ ys) =
       | inr other ↦ inr (λ both. let same : x ≡ y = cc in elim other [ inl less ↦ absurd (omega arith) | inr more ↦ absurd (omega arith) ])
     ]
 
-all_unsigned : (meaning : Meaning) (print : List ℕ) (i n : ℕ)
+no_signs_inside : (meaning : Meaning) (print : List ℕ) (i n : ℕ)
     → ((k : ℕ) → i < k → k < i + n → sign_at meaning print k ≡ []) ⊎ (((k : ℕ) → i < k → k < i + n → sign_at meaning print k ≡ []) → ⊥)
-all_unsigned meaning print i zero = inl (λ k more less. absurd (omega arith))
-all_unsigned meaning print i (suc n) =
+no_signs_inside meaning print i zero = inl (λ k more less. absurd (omega arith))
+no_signs_inside meaning print i (suc n) =
     elim (cases_order n 0) [
       | inl none ↦ inl (λ k more less. absurd (omega arith))
-      | inr other ↦ elim (all_unsigned meaning print i n) [
+      | inr other ↦ elim (no_signs_inside meaning print i n) [
         | inr signed ↦ inr (λ all. signed (λ k more less. all k more (omega arith)))
         | inl below ↦ elim (same_list (sign_at meaning print (i + n)) []) [
           | inr signed ↦ inr (λ all. signed (all (i + n) (elim other [ inl less ↦ absurd (omega arith) | inr more ↦ omega arith ]) (omega arith)))
@@ -111,9 +111,9 @@ matches_or meaning print i rule =
       | inr other ↦ inr (λ m. other m.characters)
       | inl same ↦ elim (cases_Bool (fits meaning print rule.kind i (i + length rule.chars))) [
         | inr not ↦ inr (λ m. absurd (both_ways _ not m.position))
-        | inl holds ↦ elim (all_unsigned meaning print i (length rule.chars)) [
-          | inr signed ↦ inr (λ m. signed m.unsigned)
-          | inl none ↦ inl (record { characters = same; position = holds; unsigned = none })
+        | inl holds ↦ elim (no_signs_inside meaning print i (length rule.chars)) [
+          | inr signed ↦ inr (λ m. signed m.no_sign_inside)
+          | inl none ↦ inl (record { characters = same; position = holds; no_sign_inside = none })
         ]
       ]
     ]

@@ -1,4 +1,5 @@
--- Which rule is chosen at a place of a print. A choice is the index of a rule, or none for the definition of the character there.
+-- Which candidate is chosen at a place of a print. A candidate is the index of a rule, or none for the definition of the
+-- character there.
 use Rattle.std.specs.Prelude.{◌≡◌, ℕ, ◌+◌, ◌<◌, ◌≤◌, ◌⊎◌, true, List, [], length, take, drop, map, slice_get, Option, Some, None, IsSomeAnd}
 use Rattle.std.specs.Option.{option_map_or}
 use Rattle.louis_table.specs.Meaning.{Meaning, folded}
@@ -10,19 +11,19 @@ use Rattle.louis_translate.specs.Sign.{sign_at}
 pub record Matches (meaning : Meaning) (print : List ℕ) (i : ℕ) (rule : Rule) : Type 0 where
   pub characters : map (folded meaning) (take (length rule.chars) (drop i print)) ≡ rule.chars
   pub position : fits meaning print rule.kind i (i + length rule.chars) ≡ true
-  pub unsigned : (k : ℕ) → i < k → k < i + length rule.chars → sign_at meaning print k ≡ []
+  pub no_sign_inside : (k : ℕ) → i < k → k < i + length rule.chars → sign_at meaning print k ≡ []
 
 -- the definition of a character may always be used
 abbrev pub IsCandidate : Meaning → List ℕ → ℕ → Option ℕ → Type 0
 IsCandidate meaning print i None = Unit {0}
 IsCandidate meaning print i (Some k) = IsSomeAnd (slice_get meaning.rules k) (Matches meaning print i)
 
--- how many characters a choice covers
+-- how many characters a candidate covers
 abbrev pub span : Meaning → Option ℕ → ℕ
 span meaning None = 1
 span meaning (Some k) = option_map_or (λ rule. length rule.chars) (slice_get meaning.rules k) 0
 
--- its place among choices of one length: rules by line, then the definition
+-- its place among candidates of one length: rules by line, then the definition
 abbrev pub rank : Meaning → Option ℕ → ℕ
 rank meaning None = length meaning.rules
 rank meaning (Some k) = k

@@ -21,11 +21,11 @@ pub record IsFirstUndefined (meaning : Meaning) (print : List ℕ) (place : ℕ)
 abbrev pub class_of : Meaning → ℕ → Option Class
 class_of meaning character = option_map (λ defined. defined.class) (definition_of meaning character)
 
--- the class of the character at a place, and none past the print's end
+-- the class of the character at a place, and none past the print's end or where the table doesn't define it
 abbrev pub class_at : Meaning → List ℕ → ℕ → Option Class
 class_at meaning print i = option_and_then (class_of meaning) (slice_get print i)
 
--- the class of the character before a place, and none before the first
+-- the class of the character before a place, and none before the first or where the table doesn't define it
 abbrev pub class_before : Meaning → List ℕ → ℕ → Option Class
 class_before meaning print i = if i == 0 then None else class_at meaning print (i - 1)
 
@@ -51,7 +51,7 @@ is_digit (Some Punctuation) = false
 is_digit (Some Digit) = true
 is_digit (Some Letter) = false
 
--- the position test of a rule that would cover the places from i up to j
+-- the position test of a rule that would cover the places from i up to but not including j
 abbrev pub fits : Meaning → List ℕ → RuleKind → ℕ → ℕ → Bool
 fits meaning print Always i j = true
 fits meaning print Word i j = is_edge (class_before meaning print i) && is_edge (class_at meaning print j)

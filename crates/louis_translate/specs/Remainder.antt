@@ -2,7 +2,7 @@
 use Rattle.std.specs.Prelude.{ℕ, List}
 use Rattle.louis_table.specs.Meaning.{Meaning}
 
--- by what a table says, the print from a place on
+-- a print from a place on, with the meaning of the table
 pub record Remainder : Type 0 where
   pub meaning : Meaning
   pub print : List ℕ

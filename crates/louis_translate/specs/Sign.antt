@@ -19,27 +19,28 @@ run_start meaning print i = i - suffix_len (is_capital meaning) (take i print)
 abbrev pub run_end : Meaning → List ℕ → ℕ → ℕ
 run_end meaning print i = i + prefix_len (is_capital meaning) (drop i print)
 
--- the places from a up to b have capitals
+-- the places from a up to but not including b have capitals
 abbrev pub AreCapitals : Meaning → List ℕ → ℕ → ℕ → Type 0
 AreCapitals meaning print a b = (k : ℕ) → a ≤ k → k < b → is_capital_at meaning print k ≡ true
 
--- the places from a up to b are the longest interval of capitals around place i
+-- the places from a up to but not including b are the longest interval of capitals around place i
 pub record IsRun (meaning : Meaning) (print : List ℕ) (i a b : ℕ) : Type 0 where
   pub from : a ≤ i
   pub to : i < b
   pub capitals : AreCapitals meaning print a b
   pub longest : (c d : ℕ) → c ≤ i → i < d → AreCapitals meaning print c d → (a ≤ c) × (d ≤ b)
 
--- the run around a place has two capitals or more, and no letter follows it
-abbrev pub is_capital_word : Meaning → List ℕ → ℕ → Bool
-is_capital_word meaning print i =
+-- one sign may stand before the whole run around a place: it has two capitals or more, and no letter follows it
+abbrev pub takes_one_sign : Meaning → List ℕ → ℕ → Bool
+takes_one_sign meaning print i =
     nat_le (run_start meaning print i + 2) (run_end meaning print i)
     && not (is_letter (class_at meaning print (run_end meaning print i)))
 
--- before a capital: where the table announces words of capitals, one sign for the whole word, and else one for each capital
+-- before a capital: where the table has `begcapsword` and the run takes one sign, that before the run's first and none
+-- before its others; else `capsletter`
 abbrev pub capital_sign : Meaning → List ℕ → ℕ → List ℕ
 capital_sign meaning print i =
-    if nat_lt 0 (length meaning.begcapsword) && is_capital_word meaning print i
+    if nat_lt 0 (length meaning.begcapsword) && takes_one_sign meaning print i
     then (if run_start meaning print i == i then meaning.begcapsword else [])
     else meaning.capsletter
 

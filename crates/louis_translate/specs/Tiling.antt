@@ -10,7 +10,8 @@ pub record IsChoiceAt (meaning : Meaning) (print : List ℕ) (i : ℕ) (choice :
   pub end : choice.end ≡ i + span meaning choice.rule
   pub chosen : IsChosen meaning print i choice.rule
 
--- the choices cover the print from i up to j without gap or overlap, each chosen at its start
+-- the choices cover the places of the print from i up to but not including j, without gap or overlap, each chosen at
+-- its start
 abbrev pub Covers : Meaning → List ℕ → ℕ → List Choice → ℕ → Type 0
 Covers meaning print i [] j = i ≡ j
 Covers meaning print i (choice ∷ choices) j =

@@ -40,3 +40,6 @@ pub use plain_rules::PlainRules;
 pub use print::{Fault, undefined_place};
 pub use rule_book::RuleBook;
 pub use translation::{Part, Translation, translate, translate_string};
+
+#[cfg(test)]
+mod tests;

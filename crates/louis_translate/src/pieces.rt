@@ -1,10 +1,13 @@
 //! The cells that the choices of a print make, choice after choice.
+ghost use Rattle.louis_translate.specs.Braille.{own_cells as own_cells_lem};
+ghost use Rattle.std.specs.Option.{ForSome, option_copied};
+ghost use Rattle.std.specs.Prelude.{length, option_map, ◌<◌, ◌≡◌};
 
 use super::choices::{Choice, Choices};
 use super::rule_book::RuleBook;
 use super::sign::Signs;
-use super::translation::chosen_cells;
 use cell_core::Cell;
+use louis_table::{Class, Definition, Table};
 use std::marker::Model;
 
 /// The cells that one choice makes: the sign before its start, and then its own.
@@ -58,6 +61,29 @@ impl<'a, B: RuleBook> Pieces<'a, B> {
     }
 }
 
+/// The class in a definition.
+fn class_of(definition: Option<&Definition>) -> Option<Class>
+    ensures { result ≡ option_map (λ defined. defined.class) (option_copied definition.entry) }
+{
+    Some(definition?.class)
+}
+
+/// The cells of a rule, or of a definition where there is no rule.
+fn own_cells<'a>(
+    table: &'a Table,
+    definition: Option<&'a Definition>,
+    rule: Option<usize>,
+) -> &'a [Cell]
+    requires { ForSome rule (λ k. k < length table.now.rules) }
+    ensures { result.now ≡ own_cells_lem table.now (option_copied definition.entry) rule }
+{
+    match (rule, definition) {
+        (Some(index), _) => table.rules()[index].cells.as_slice(),
+        (None, Some(definition)) => definition.cells.as_slice(),
+        (None, None) => &[],
+    }
+}
+
 impl<'a, B: RuleBook> Iterator for Pieces<'a, B> {
     ghost use Rattle.louis_translate.specs.Piece.{IsPieceAt};
     ghost use Rattle.std.specs.Iterator.{at_most};
@@ -73,10 +99,12 @@ impl<'a, B: RuleBook> Iterator for Pieces<'a, B> {
 
     fn next(&mut self) -> Option<Piece<'a>> {
         let choice = self.choices.next()?;
+        let table = self.book.table();
+        let definition = table.definition(self.print[choice.start]);
         Some(Piece {
             choice,
-            sign: self.signs.at(choice.start),
-            own: chosen_cells(self.book.table(), self.print, choice),
+            sign: self.signs.at_class(choice.start, class_of(definition)),
+            own: own_cells(table, definition, choice.rule),
         })
     }
 }

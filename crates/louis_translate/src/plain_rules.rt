@@ -64,7 +64,7 @@ fn begins_with(characters: &[char], first: char) -> bool
 }
 
 /// Whether no sign stands between the places `start` and `end`, without these two.
-fn is_unsigned(table: &Table, print: &[char], start: usize, end: usize) -> bool
+fn has_no_sign_inside(table: &Table, print: &[char], start: usize, end: usize) -> bool
     requires order { start < end }
     requires within { end ≤ length print.now }
     ensures { IsTrue result ↔ ((k : ℕ) → start < k → k < end → sign_at table.now print.now k ≡ []) }
@@ -94,7 +94,7 @@ fn matches(table: &Table, rule: &Rule, print: &[char], at: usize, first: char) -
         return false;
     }
     let end = at + wanted.len();
-    fits(table, print, rule.kind, at, end) && is_unsigned(table, print, at, end)
+    fits(table, print, rule.kind, at, end) && has_no_sign_inside(table, print, at, end)
 }
 
 /// Whether a rule of `len` characters goes before the choice that was found, of `most` characters.
@@ -107,13 +107,11 @@ fn is_better(len: usize, most: usize, found: Option<usize>) -> bool
 }
 
 /// The rule that is chosen at a place, found by a look at each rule.
+#[inline(never)]
 fn best_rule(table: &Table, print: &[char], at: usize) -> Option<usize>
     requires { at < length print.now }
     ensures { IsChosen table.now print.now at result }
 {
-    if table.rules().is_empty() {
-        return None;
-    }
     let first = table.fold(print[at]);
     let mut found = None;
     let mut most = 1;
@@ -138,6 +136,9 @@ impl RuleBook for PlainRules {
     }
 
     fn best(&self, print: &[char], at: usize) -> Option<usize> {
+        if self.table.rules().is_empty() {
+            return None;
+        }
         best_rule(&self.table, print, at)
     }
 }

@@ -26,12 +26,9 @@ pub fn undefined_place(table: &Table, print: &[char]) -> Option<usize>
     ensures none { IfNone result (AreDefined table.now print.now) }
     ensures some { IfSome result (IsFirstUndefined table.now print.now) }
 {
-    for (place, character) in print.iter().enumerate() {
-        if table.definition(*character).is_none() {
-            return Some(place);
-        }
-    }
-    None
+    print
+        .iter()
+        .position(|character| table.definition(*character).is_none())
 }
 
 /// The first place of a text whose character the table doesn't define.

@@ -1,13 +1,15 @@
 //! The signs before numbers and capitals.
+ghost use Rattle.louis_translate.specs.Position.{class_at as class_at_lem};
 ghost use Rattle.louis_translate.specs.Sign.{capital_sign as capital_sign_lem, number_sign as number_sign_lem, run_end, run_start, sign_at};
 ghost use Rattle.std.specs.Prelude.{◌≡◌, ◌≤◌, ◌<◌, ◌↔◌, ℕ, length, IsTrue};
 
 use super::position::{class_at, class_before, is_digit, is_letter};
 use cell_core::Cell;
-use louis_table::Table;
+use louis_table::{Class, Table};
 
 /// The place after the last capital of the run around a place, and the place itself where no capital
 /// stands there.
+#[inline(never)]
 fn end_of_run(table: &Table, print: &[char], place: usize) -> usize
     requires { place ≤ length print.now }
     ensures end { result ≡ run_end table.now print.now place }
@@ -30,6 +32,7 @@ fn follows_capital(table: &Table, print: &[char], place: usize) -> bool
 }
 
 /// The sign before a capital, of a run that ends at `end`.
+#[inline(never)]
 fn capital_sign<'a>(table: &'a Table, print: &[char], place: usize, end: usize) -> &'a [Cell]
     requires run { end ≡ run_end table.now print.now place }
     requires capital { place < end }
@@ -49,6 +52,7 @@ fn capital_sign<'a>(table: &'a Table, print: &[char], place: usize, end: usize) 
 }
 
 /// The sign before a digit.
+#[inline(never)]
 fn number_sign<'a>(table: &'a Table, print: &[char], place: usize) -> &'a [Cell]
     ensures { result.now ≡ number_sign_lem table.now print.now place }
 {
@@ -59,13 +63,21 @@ fn number_sign<'a>(table: &'a Table, print: &[char], place: usize) -> &'a [Cell]
     }
 }
 
-/// The sign before a place, around which a run ends at `end`.
-fn sign<'a>(table: &'a Table, print: &[char], place: usize, end: usize) -> &'a [Cell]
+/// The sign before a place whose character has this class, and around which a run ends at `end`.
+#[inline(always)]
+fn sign<'a>(
+    table: &'a Table,
+    print: &[char],
+    place: usize,
+    class: Option<Class>,
+    end: usize,
+) -> &'a [Cell]
+    requires class { class ≡ class_at_lem table.now print.now place }
     requires run { end ≡ run_end table.now print.now place }
     requires within { end ≤ length print.now }
     ensures { result.now ≡ sign_at table.now print.now place }
 {
-    if is_digit(class_at(table, print, place)) {
+    if is_digit(class) {
         number_sign(table, print, place)
     } else if place < end {
         capital_sign(table, print, place, end)
@@ -100,6 +112,7 @@ impl<'a> Signs<'a> {
     }
 
     /// The end of the run around a place.
+    #[inline(always)]
     fn end_at(&mut self, place: usize) -> usize
         requires { place ≤ length self.old.print.now }
         ensures end { result ≡ run_end self.old.table.now self.old.print.now place }
@@ -122,7 +135,23 @@ impl<'a> Signs<'a> {
         ensures table { self.new.table.now ≡ self.old.table.now }
         ensures print { self.new.print.now ≡ self.old.print.now }
     {
-        let end = self.end_at(place);
-        sign(self.table, self.print, place, end)
+        self.at_class(place, class_at(self.table, self.print, place))
+    }
+
+    /// The sign before a place whose character has this class. Only at a capital is there a run to look for.
+    #[inline(always)]
+    pub(crate) fn at_class(&mut self, place: usize, class: Option<Class>) -> &'a [Cell]
+        requires within { place < length self.old.print.now }
+        requires class { class ≡ class_at_lem self.old.table.now self.old.print.now place }
+        ensures sign { result.now ≡ sign_at self.old.table.now self.old.print.now place }
+        ensures table { self.new.table.now ≡ self.old.table.now }
+        ensures print { self.new.print.now ≡ self.old.print.now }
+    {
+        let end = if self.table.capital(self.print[place]) {
+            self.end_at(place)
+        } else {
+            place
+        };
+        sign(self.table, self.print, place, class, end)
     }
 }

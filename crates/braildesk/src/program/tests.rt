@@ -145,6 +145,6 @@ fn translates_by_the_supplied_table(rt: HostRuntime) -> std::result::Result<(), 
         program(&rt, &words, &mut reader, &mut writer, &mut errors),
         DONE
     );
-    assert_eq!(rt; writer.as_slice(), "⠁⠃⠀⠁⠲\n⠄\nno 7 0\n".as_bytes());
+    assert_eq!(rt; writer.as_slice(), "⠁⠃⠀⠼⠁⠲\n⠄\nno 7 0\n".as_bytes());
     Ok(())
 }

@@ -1,6 +1,5 @@
-use Rattle.std.proofs.Common.{ℕ, List, [], ◌∷◌, ◌++◌, decimal, is_ok, refl, subst, ap, ◌∙◌}
+use Rattle.std.proofs.Common.{[], ◌∷◌, ◌++◌, decimal, is_ok, refl, ap, ◌∙◌}
 use Rattle.std.proofs.lemmas.Result.{err_from_is_err_and}
-use Rattle.braildesk.specs.Sent.{Sent}
 use Rattle.braildesk.proofs.Numerals.{decimal-7}
 use Rattle.braildesk.proofs.Sending.{Sending-fails, Sending-last, Sending-more, Sending-none}
 use Rattle.braildesk.proofs.answer.refuse_place.Goals as goal

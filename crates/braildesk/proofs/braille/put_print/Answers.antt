@@ -1,39 +1,56 @@
-use Rattle.std.proofs.Common.{[], true, is_ok, refl, sym, ap, ◌∙◌}
+use Rattle.std.proofs.Common.{is_ok, length, refl, ap, ◌∙◌}
 use Rattle.std.proofs.lemmas.Result.{err_from_is_err_and}
-use Rattle.std.proofs.lemmas.Str.{IsUtf8-past_char}
-use Rattle.braildesk.specs.Reply.{cells_of}
-use Rattle.braildesk.proofs.Encoding.{text_of-braille-nil, text_of-braille-past_char}
-use Rattle.braildesk.proofs.Sending.{Sending-done, Sending-fails, Sending-more, Sending-same}
+use Rattle.louis_translate.specs.Remainder.{Remainder}
+use Rattle.braildesk.proofs.Putting.{IsPieceAt-given, Putting-done, Putting-no_own, Putting-no_sign, Putting-piece}
 use Rattle.braildesk.proofs.braille.put_print.Goals as goal
-
-pub loop-character-preserved : goal.loop-character-preserved
-loop-character-preserved g c =
-    let inv = c.loop-character.invariant in
-    let step = c.in-Some.ensures.steps.0 in
-    let cells = ap cells_of (sym c.in-Some-definition.ensures) ∙ sym c.as_slice.ensures in
-    record {
-      sending = Sending-more g.K.Sink.can_fail _ _ _ c.loop-character.block _ _ _ _ inv.sending _ _ (text_of-braille-past_char c.args.table.now _ _ _ _ inv.is_text step cells) c.put_cells.ensures (ap is_ok c.in_ok-put_cells.was);
-      is_text = IsUtf8-past_char _ _ _ inv.is_text step;
-    }
 
 pub returns-in_err-put_cells : goal.returns-in_err-put_cells
 returns-in_err-put_cells g c =
-    let inv = c.loop-character.invariant in
-    let step = c.in-Some.ensures.steps.0 in
-    let cells = ap cells_of (sym c.in-Some-definition.ensures) ∙ sym c.as_slice.ensures in
+    let meaning = g.B.RuleBook.meaning c.args.book.now in
+    let print = c.args.print.now in
+    let inv = c.loop-piece.invariant in
+    let step = c.in-Some.ensures.steps in
+    let piece = c.in-Some.piece in
+    let at = c.loop-piece.piece-iterator.at in
+    let here = IsPieceAt-given meaning _ print _ at piece inv.meaning_is inv.print_is (step.0, step.1) in
     let p = err_from_is_err_and c.from_residual.result c.from_residual.ensures.1 in
-    Sending-fails g.K.Sink.can_fail _ _ _ c.loop-character.block _ _ _ _ inv.sending _ _ (text_of-braille-past_char c.args.table.now _ _ _ _ inv.is_text step cells) c.put_cells.ensures _ _ (ap is_ok c.in_err-put_cells.was) (ap is_ok p.1)
+    λ choices tiles.
+    Putting-no_sign meaning print at piece here.0 here.1 g.K.Sink.can_fail _ _ _ c.loop-piece.block _ _ _ (inv.putting choices tiles) c.put_cells.ensures _ _ (ap is_ok c.in_err-put_cells.was) (ap is_ok p.1)
 
-pub loop-character-preserved-in_default : goal.loop-character-preserved-in_default
-loop-character-preserved-in_default g c =
-    let inv = c.loop-character.invariant in
-    let step = c.in-Some.ensures.steps.0 in
+pub returns-in_err-put_cells-2 : goal.returns-in_err-put_cells-2
+returns-in_err-put_cells-2 g c =
+    let meaning = g.B.RuleBook.meaning c.args.book.now in
+    let print = c.args.print.now in
+    let inv = c.loop-piece.invariant in
+    let step = c.in-Some.ensures.steps in
+    let piece = c.in-Some.piece in
+    let at = c.loop-piece.piece-iterator.at in
+    let here = IsPieceAt-given meaning _ print _ at piece inv.meaning_is inv.print_is (step.0, step.1) in
+    let p = err_from_is_err_and c.from_residual-in_err-put_cells-2.result c.from_residual-in_err-put_cells-2.ensures.1 in
+    λ choices tiles.
+    Putting-no_own meaning print at piece here.0 here.1 g.K.Sink.can_fail _ _ _ c.loop-piece.block _ _ _ (inv.putting choices tiles) c.put_cells.ensures (ap is_ok c.in_ok-put_cells.was) _ _ _ c.put_cells-in-loop-piece.ensures _ _ (ap is_ok c.in_err-put_cells-2.was) (ap is_ok p.1)
+
+pub loop-piece-preserved : goal.loop-piece-preserved
+loop-piece-preserved g c =
+    let meaning = g.B.RuleBook.meaning c.args.book.now in
+    let print = c.args.print.now in
+    let inv = c.loop-piece.invariant in
+    let step = c.in-Some.ensures.steps in
+    let piece = c.in-Some.piece in
+    let at = c.loop-piece.piece-iterator.at in
+    let here = IsPieceAt-given meaning _ print _ at piece inv.meaning_is inv.print_is (step.0, step.1) in
     record {
-      sending = Sending-same _ _ c.loop-character.block _ _ _ inv.sending (text_of-braille-past_char c.args.table.now _ _ _ [] inv.is_text step (ap cells_of (sym c.in_default.ensures)));
-      is_text = IsUtf8-past_char _ _ _ inv.is_text step;
+      meaning_is = ap (λ (r : Remainder). r.meaning) step.2 ∙ inv.meaning_is;
+      print_is = ap (λ (r : Remainder). r.print) step.2 ∙ inv.print_is;
+      putting = λ choices tiles.
+          Putting-piece meaning print at piece here.0 here.1 g.K.Sink.can_fail _ _ _ c.loop-piece.block _ _ _ (inv.putting choices tiles) c.put_cells.ensures (ap is_ok c.in_ok-put_cells.was) _ _ _ c.put_cells-in-loop-piece.ensures (ap is_ok c.in_ok-put_cells-2.was)
+          c.next.new.self.at (ap (λ (r : Remainder). r.at) step.2);
     }
 
 pub returns : goal.returns
 returns g c =
-    Sending-done g.K.Sink.can_fail _ _ c.loop-character.block _ true
-    (Sending-same _ _ c.loop-character.block _ _ _ c.loop-character.invariant.sending (text_of-braille-nil c.args.table.now _ c.in-None.ensures.steps.0.0)) refl
+    let meaning = g.B.RuleBook.meaning c.args.book.now in
+    let print = c.args.print.now in
+    let inv = c.loop-piece.invariant in
+    λ choices tiles.
+    Putting-done g.K.Sink.can_fail meaning print c.loop-piece.piece-iterator.at _ _ c.loop-piece.block _ _ (inv.putting choices tiles) (c.in-None.ensures.steps.0 ∙ ap length inv.print_is) refl

@@ -1,12 +1,17 @@
-use Rattle.std.proofs.Common.{◌++◌}
-use Rattle.std.specs.Str.{chars, IsUtf8}
-use Rattle.std.specs.Str.Iter.{chars_rest}
-use Rattle.braildesk.specs.Reply.{braille, text_of}
-use Rattle.braildesk.proofs.Sending.{Sending}
+use Rattle.std.proofs.Common.{◌≡◌, ◌++◌, List}
+use Rattle.louis_translate.specs.declared.choices.Choice.{Choice}
+use Rattle.louis_translate.specs.Braille.{braille}
+use Rattle.louis_translate.specs.Tiling.{Tiles}
+use Rattle.braildesk.specs.Reply.{text_of}
+use Rattle.braildesk.proofs.Putting.{Putting}
 use Rattle.braildesk.proofs.braille.put_print.Given as goal
 
-abbrev pub invariant-loop-character : goal.invariant-loop-character
-invariant-loop-character g l = record {
-  sending : Sending (g.K.Sink.contents l.initial.sink) (g.K.Sink.contents l.sink) l.block (text_of (braille l.table (chars (chars_rest l.character-iterator)))) (l.initial.block ++ text_of (braille l.table (chars l.fn.print)));
-  is_text : IsUtf8 (chars_rest l.character-iterator);
-}
+abbrev pub invariant-loop-piece : goal.invariant-loop-piece
+invariant-loop-piece g l =
+    let meaning = g.B.RuleBook.meaning l.book in
+    record {
+      meaning_is : l.piece-iterator.meaning ≡ meaning;
+      print_is : l.piece-iterator.print ≡ l.print;
+      putting : (choices : List Choice) → Tiles meaning l.print choices
+          → Putting meaning l.print l.piece-iterator.at (g.K.Sink.contents l.initial.sink) (g.K.Sink.contents l.sink) l.block (l.initial.block ++ text_of (braille meaning l.print choices));
+    }

@@ -6,9 +6,11 @@ use Rattle.braildesk.proofs.braille.send_braille.Goals as goal
 pub returns-in_err-put_print : goal.returns-in_err-put_print
 returns-in_err-put_print g c =
     let p = err_from_is_err_and c.from_residual.result c.from_residual.ensures.1 in
-    Sending-fails g.K.Sink.can_fail _ _ _ [] _ _ _ _ (Sending-none _ [] _ _ refl) _ (10 ∷ []) refl (rw c.clear.ensures at c.put_print.ensures) _ _ (ap is_ok c.in_err-put_print.was) (ap is_ok p.1)
+    λ choices tiles.
+    Sending-fails g.K.Sink.can_fail _ _ _ [] _ _ _ _ (Sending-none _ [] _ _ refl) _ (10 ∷ []) refl (rw c.clear.ensures at (c.put_print.ensures choices tiles)) _ _ (ap is_ok c.in_err-put_print.was) (ap is_ok p.1)
 
 pub returns : goal.returns
 returns g c =
-    let put = Sending-more g.K.Sink.can_fail _ _ _ [] _ _ _ _ (Sending-none _ [] _ _ refl) _ (10 ∷ []) refl (rw c.clear.ensures at c.put_print.ensures) (ap is_ok c.in_ok-put_print.was) in
+    λ choices tiles.
+    let put = Sending-more g.K.Sink.can_fail _ _ _ [] _ _ _ _ (Sending-none _ [] _ _ refl) _ (10 ∷ []) refl (rw c.clear.ensures at (c.put_print.ensures choices tiles)) (ap is_ok c.in_ok-put_print.was) in
     Sending-last g.K.Sink.can_fail _ _ _ c.put_print.new.block _ _ _ _ put c.send_block.ensures

@@ -9,8 +9,9 @@ use Rattle.braildesk.proofs.translate.answer_chunk.Goals.{then-byte-eq10+in_ok-a
 pub returns-in_err-answer-clause-sent : goal.returns-in_err-answer-clause-sent
 returns-in_err-answer-clause-sent g c =
     let p = err_from_is_err_and c.from_residual.result c.from_residual.ensures.1 in
-    let parts = sent-feed c.args.table.now c.loop-byte.line c.args.bytes.now c.loop-byte.byte-index c.loop-byte-test.true c.if-byte-eq10.true in
-    Sending-fails g.K.Sink.can_fail _ _ _ [] _ _ _ _ c.loop-byte.invariant.sending _ _ parts c.answer.ensures _ _ (ap is_ok c.in_err-answer.was) (ap is_ok p.1)
+    λ answers right.
+    let parts = sent-feed answers c.loop-byte.line c.args.bytes.now c.loop-byte.byte-index c.loop-byte-test.true c.if-byte-eq10.true in
+    Sending-fails g.K.Sink.can_fail _ _ _ [] _ _ _ _ (c.loop-byte.invariant.sending answers right) _ _ parts (c.answer.ensures answers right) _ _ (ap is_ok c.in_err-answer.was) (ap is_ok p.1)
 
 pub loop-byte-preserved : goal.loop-byte-preserved
 loop-byte-preserved g c =
@@ -24,13 +25,13 @@ loop-byte-preserved g c =
           rw (w.line-is, w.sink-is, w.clear.ensures)
           (record {
             line_is = sym (after-feed c.loop-byte.line bytes i here feed) ∙ inv.line_is;
-            sending = Sending-more g.K.Sink.can_fail _ _ _ [] _ _ _ _ inv.sending _ _ (sent-feed c.args.table.now c.loop-byte.line bytes i here feed) w.answer.ensures (ap is_ok w.in_ok-answer.was);
+            sending = λ answers right. Sending-more g.K.Sink.can_fail _ _ _ [] _ _ _ _ (inv.sending answers right) _ _ (sent-feed answers c.loop-byte.line bytes i here feed) (w.answer.ensures answers right) (ap is_ok w.in_ok-answer.was);
           })
       | else-byte-eq10 w ↦
           let other = ne_eqb _ _ w.if-byte-eq10.false in
           rw (w.line-is, w.sink-is, w.push.ensures)
           (record {
             line_is = sym (after-byte c.loop-byte.line bytes i here other) ∙ inv.line_is;
-            sending = Sending-same _ _ [] _ _ _ inv.sending (sent-byte c.args.table.now c.loop-byte.line bytes i here other);
+            sending = λ answers right. Sending-same _ _ [] _ _ _ (inv.sending answers right) (sent-byte answers c.loop-byte.line bytes i here other);
           })
     ]

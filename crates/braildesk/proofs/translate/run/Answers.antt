@@ -1,5 +1,6 @@
 use Rattle.std.proofs.Common.{◌≡◌, not, true, false, is_ok, length, take, refl, sym, ap, inl, inr, ◌∙◌, arith}
 use Rattle.std.proofs.KnownBytes.{Keeps-refl}
+use Rattle.braildesk.proofs.Answering.{AnswersLines-answer_to, answer_to}
 use Rattle.braildesk.proofs.Sending.{at_ok}
 use Rattle.braildesk.proofs.Stepping.{AnswersBeginning-Stepped, HonestRun-Stepped, Took-broken, Took-done, Took-fails, Took-more, Took-stops}
 use Rattle.braildesk.proofs.translate.run.Goals as goal
@@ -13,20 +14,20 @@ pub returns-in-Ok-end : goal.returns-in-Ok-end
 returns-in-Ok-end g c =
     let none : c.in-Ok.count ≡ 0 = c.if-count-eq0.true in
     let read = rw none at c.in-Ok.ensures.bytes in
-    let s = Took-done _ _ _ _ _ _ _ c.loop-total.line _ g.S.Source.can_fail g.K.Sink.can_fail c.loop-total.invariant _ read.0 (read.1 refl (omega arith)) c.end.ensures (ap is_ok c.in-Ok-end.is) in
+    let s = Took-done _ _ _ _ _ _ _ c.loop-total.line _ g.S.Source.can_fail g.K.Sink.can_fail c.loop-total.invariant _ read.0 (read.1 refl (omega arith)) (c.end.ensures (answer_to (g.B.RuleBook.meaning c.args.book.now)) (AnswersLines-answer_to (g.B.RuleBook.meaning c.args.book.now))) (ap is_ok c.in-Ok-end.is) in
     record { run = HonestRun-Stepped s; beginning = AnswersBeginning-Stepped s }
 
 pub returns-in-Err : goal.returns-in-Err
 returns-in-Err g c =
     let none : c.in-Ok.count ≡ 0 = c.if-count-eq0.true in
     let read = rw none at c.in-Ok.ensures.bytes in
-    let s = Took-broken _ _ _ _ _ _ _ c.loop-total.line _ g.S.Source.can_fail g.K.Sink.can_fail c.loop-total.invariant _ read.0 (read.1 refl (omega arith)) c.end.ensures (ap is_ok c.in-Err.is) in
+    let s = Took-broken _ _ _ _ _ _ _ c.loop-total.line _ g.S.Source.can_fail g.K.Sink.can_fail c.loop-total.invariant _ read.0 (read.1 refl (omega arith)) (c.end.ensures (answer_to (g.B.RuleBook.meaning c.args.book.now)) (AnswersLines-answer_to (g.B.RuleBook.meaning c.args.book.now))) (ap is_ok c.in-Err.is) in
     record { run = HonestRun-Stepped s; beginning = AnswersBeginning-Stepped s }
 
 pub returns-then-is_err : goal.returns-then-is_err
 returns-then-is_err g c =
     let broken : is_ok c.answer_chunk.result ≡ false = c.is_err.ensures.negation ∙ ap not c.if-is_err.true in
-    let s = Took-fails _ _ _ _ _ _ _ c.loop-total.line _ g.S.Source.can_fail g.K.Sink.can_fail c.loop-total.invariant _ _ c.in-Ok.ensures.bytes.0 c.answer_chunk.ensures.sent broken in
+    let s = Took-fails _ _ _ _ _ _ _ c.loop-total.line _ g.S.Source.can_fail g.K.Sink.can_fail c.loop-total.invariant _ _ c.in-Ok.ensures.bytes.0 (c.answer_chunk.ensures.sent (answer_to (g.B.RuleBook.meaning c.args.book.now)) (AnswersLines-answer_to (g.B.RuleBook.meaning c.args.book.now))) broken in
     record { run = HonestRun-Stepped s; beginning = AnswersBeginning-Stepped s }
 
 pub loop-total-preserved : goal.loop-total-preserved
@@ -34,7 +35,7 @@ loop-total-preserved g c =
     let ok : is_ok c.answer_chunk.result ≡ true = c.is_err.ensures.negation ∙ ap not c.if-is_err.false in
     let taken : length (take c.in-Ok.count c.pull.new.buf) ≡ c.in-Ok.count = sym c.in-Ok.ensures.bound.1 in
     Took-more _ _ _ _ _ _ _ c.loop-total.line _ g.S.Source.can_fail g.K.Sink.can_fail c.loop-total.invariant _ _ _ _ c.in-Ok.ensures.bytes.0 taken
-    c.answer_chunk.ensures.sent ok (at_ok c.answer_chunk.result _ c.answer_chunk.ensures.line ok)
+    (c.answer_chunk.ensures.sent (answer_to (g.B.RuleBook.meaning c.args.book.now)) (AnswersLines-answer_to (g.B.RuleBook.meaning c.args.book.now))) ok (at_ok c.answer_chunk.result _ c.answer_chunk.ensures.line ok)
 
 pub returns : goal.returns
 returns g c =

@@ -51,7 +51,7 @@ returns-clause-part g c =
     elim c.match-next.branch [
       | in-None w ↦
           let step = w.in-None.ensures.steps in
-          IsPart-whole meaning print c.args.room i c.loop-choice.used t c.from_vec.result inv.covers (step.0 ∙ ap length inv.print_is) inv.used made fits
+          IsPart-whole meaning print c.args.room i c.loop-choice.used t c.from_vec.result c.requires inv.covers (step.0 ∙ ap length inv.print_is) inv.used made fits
       | in-Some+then-not-have_room w ↦
           let step = w.in-Some.ensures.steps in
           let choice = w.in-Some.choice in
@@ -62,6 +62,6 @@ returns-clause-part g c =
           let next : (i < length print) × IsChoiceAt meaning print i choice =
           subst (λ (m : Meaning). (i < length print) × IsChoiceAt m print i choice) inv.meaning_is
           (subst (λ (p : List ℕ). (i < length p) × IsChoiceAt c.loop-choice.choice-iterator.meaning p i choice) inv.print_is (step.0, step.1)) in
-          IsPart-cut meaning print c.args.room i c.loop-choice.used t choice c.from_vec.result inv.covers next.0 next.1 inv.used made fits
+          IsPart-cut meaning print c.args.room i c.loop-choice.used t choice c.from_vec.result c.requires inv.covers next.0 next.1 inv.used made fits
           (omega (arith, MatchBool-at_false _ _ w.if-not-have_room.true w.have_room.ensures, length-append (sign_at meaning print choice.start) (chosen_cells meaning print choice.start choice.rule), ap length sign, ap length own, ap length c.from_vec.ensures, w.len.ensures, c.loop-choice.cells.ok.0))
     ]

@@ -55,4 +55,4 @@ returns g c =
     let step = c.in-None.ensures.steps in
     let t = c.loop-choice.yielded in
     let covers : Covers meaning print 0 t (length print) = subst (λ (n : ℕ). Covers meaning print 0 t n) (step.0 ∙ ap length inv.print_is) inv.covers in
-    IsTranslation-lists meaning print t _ _ _ covers (c.from_vec.ensures ∙ inv.cells) (c.from_vec-2.ensures ∙ inv.outputs) (c.from_vec-3.ensures ∙ inv.inputs)
+    IsTranslation-lists meaning print t _ _ _ c.requires covers (c.from_vec.ensures ∙ inv.cells) (c.from_vec-2.ensures ∙ inv.outputs) (c.from_vec-3.ensures ∙ inv.inputs)

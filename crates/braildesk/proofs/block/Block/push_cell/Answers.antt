@@ -1,9 +1,27 @@
-use Rattle.std.proofs.Common.{◌<◌, append_assoc, arith}
+use Rattle.std.proofs.Common.{◌≡◌, ◌+◌, ◌/◌, ◌%◌, ◌<◌, ◌≤◌, ◌++◌, ◌∷◌, [], List, ℕ, length, set, take, ap, ◌∙◌, append_assoc, arith}
+use Rattle.std.proofs.lemmas.List.{length-set, length-take, take_more_set}
 use Rattle.braildesk.proofs.Encoding.{encode-braille_character}
 use Rattle.braildesk.proofs.block.Block.push_cell.Goals as goal
 
+-- three elements behind the first n
+take_three_set : (xs : List ℕ) (n a b c : ℕ) → n + 3 ≤ length xs → take (n + 3) (set (set (set xs n a) (n + 1) b) (n + 2) c) ≡ take n xs ++ (a ∷ b ∷ c ∷ [])
+take_three_set xs n a b c h =
+    let one = set xs n a in
+    let two = set one (n + 1) b in
+    let size : length one ≡ length xs = length-set xs n a in
+    let same : length two ≡ length xs = length-set one (n + 1) b ∙ size in
+    let third : n + 3 ≡ n + 2 + 1 = omega arith in
+    let second : n + 2 ≡ n + 1 + 1 = omega arith in
+    ap (λ (k : ℕ). take k (set two (n + 2) c)) third
+    ∙ (take_more_set two (n + 2) c (omega arith)
+    ∙ (ap (λ (k : ℕ). take k two ++ c ∷ []) second
+    ∙ (ap (λ (t : List ℕ). t ++ c ∷ []) (take_more_set one (n + 1) b (omega arith) ∙ ap (λ (t : List ℕ). t ++ b ∷ []) (take_more_set xs n a (omega arith)))
+    ∙ simp append_assoc)))
+
 pub returns : goal.returns
 returns c =
-    let small : c.args.cell < 256 = omega (arith, c.mask-mask.type_inv) in
-    rw (encode-braille_character c.args.cell small)
-    (rw (c.push-3.ensures, c.push-2.ensures, c.push.ensures, c.mask-mask.ensures) (simp append_assoc))
+    let cell = c.args.cell in
+    let small : cell < 256 = omega (arith, c.mask-mask.type_inv) in
+    let room : c.self.inside.len + 3 ≤ length c.self.inside.bytes = omega (arith, c.self.told, ap length c.self.view_is, length-take c.self.inside.len c.self.inside.bytes) in
+    rw (encode-braille_character cell small, c.mask-mask.ensures)
+    (take_three_set c.self.inside.bytes c.self.inside.len 226 (160 + cell / 64) (128 + cell % 64) room ∙ ap (λ (t : List ℕ). t ++ 226 ∷ (160 + cell / 64) ∷ (128 + cell % 64) ∷ []) c.self.view_is)

@@ -1,10 +1,10 @@
 use Rattle.std.proofs.Common.{◌≡◌, ◌<◌, ℕ, []}
 use Rattle.louis_translate.specs.Sign.{sign_at}
-use Rattle.louis_translate.proofs.plain_rules.is_unsigned.Given as goal
+use Rattle.louis_translate.proofs.plain_rules.has_no_sign_inside.Given as goal
 
 abbrev pub invariant-loop-place : goal.invariant-loop-place
 invariant-loop-place l = record {
   table_is : l.signs.table.now ≡ l.table;
   print_is : l.signs.print.now ≡ l.print;
-  unsigned : (k : ℕ) → l.start < k → k < l.place → sign_at l.table l.print k ≡ [];
+  no_sign_inside : (k : ℕ) → l.start < k → k < l.place → sign_at l.table l.print k ≡ [];
 }

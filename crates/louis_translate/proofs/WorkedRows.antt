@@ -1,0 +1,46 @@
+-- A small table and prints of it, worked by the definitions alone: they say what these rows say, and not only what the code does.
+use Rattle.std.proofs.Common.{◌≡◌, ℕ, true, false, List, [], ◌∷◌, refl}
+use Rattle.std.specs.Prelude.{Some, None}
+use Rattle.louis_table.specs.Meaning.{Meaning}
+use Rattle.louis_table.specs.declared.definition.Class.TheVariants.{Space, Digit, Letter}
+use Rattle.louis_table.specs.declared.rule.RuleKind.TheVariants.{Word}
+use Rattle.louis_translate.specs.Position.{fits}
+use Rattle.louis_translate.specs.Sign.{sign_at}
+use Rattle.louis_translate.specs.Braille.{braille}
+
+-- `space \s 0`, `letter a 1`, `digit 5 15`, `word a 123456` and `numsign 3456`
+abbrev small : Meaning
+small = record {
+  definitions = (32, record { class = Space; cells = 0 ∷ [] }) ∷ (97, record { class = Letter; cells = 1 ∷ [] }) ∷ (53, record { class = Digit; cells = 17 ∷ [] }) ∷ [];
+  partners = [];
+  rules = record { line = 4; kind = Word; chars = 97 ∷ []; cells = 63 ∷ [] } ∷ [];
+  numsign = 60 ∷ [];
+  capsletter = [];
+  begcapsword = [];
+}
+
+-- the print `a 55a`
+abbrev print : List ℕ
+print = 97 ∷ 32 ∷ 53 ∷ 53 ∷ 97 ∷ []
+
+-- the number has one sign, before its first digit
+number-sign : sign_at small print 2 ≡ 60 ∷ []
+number-sign = refl
+
+no-second-number-sign : sign_at small print 3 ≡ []
+no-second-number-sign = refl
+
+-- `a` is a word where it stands alone, and none behind a digit
+is-word : fits small print Word 0 1 ≡ true
+is-word = refl
+
+no-word-behind-a-digit : fits small print Word 4 5 ≡ false
+no-word-behind-a-digit = refl
+
+-- the braille of the print is `=`, a blank, the sign of the number, two digits and the letter
+braille-of-print : braille small print
+    (record { rule = Some 0; start = 0; end = 1 } ∷ record { rule = None; start = 1; end = 2 }
+    ∷ record { rule = None; start = 2; end = 3 } ∷ record { rule = None; start = 3; end = 4 }
+    ∷ record { rule = None; start = 4; end = 5 } ∷ [])
+    ≡ 63 ∷ 0 ∷ 60 ∷ 17 ∷ 17 ∷ 1 ∷ []
+braille-of-print = refl
