@@ -1,5 +1,16 @@
+pub mod Accepted
+pub mod Arranging
+pub mod ByName
+pub mod FirstUndefined
 pub mod Histories
 pub mod Judging
 pub mod KeptBooks
-pub mod SoundStepsGiven
+pub mod Members
+pub mod Numbering
+pub mod ParagraphLists
+pub mod Renewing
 pub mod Settled
+pub mod SoundBooks
+pub mod SoundParagraphs
+pub mod SoundSteps
+pub mod TableEntries
