@@ -1,43 +1,42 @@
 -- What an effect makes of a book as it is kept.
-use Rattle.std.proofs.Common.{◌≡◌, ℕ, ◌+◌, ◌<◌, Bool, true, false, cond, List, [], ◌∷◌, ◌++◌, length, map, Option, Some, None, Ordering, Contains, refl, sym, ap, subst, ◌∙◌, arith, inl, inr}
+use Rattle.std.proofs.Common.{◌≡◌, ℕ, ◌+◌, ◌<◌, Bool, true, false, cond, List, [], ◌∷◌, ◌++◌, length, map, Option, Some, None, Ordering, Contains, refl, sym, ap, subst, ◌∙◌, arith}
 use Rattle.std.specs.Prelude.{nat_eq, ◌≢◌, ◌==◌, option_map, option_to_list, IsSome, MatchOption}
 use Rattle.std.specs.Option.{option_map_or}
 use Rattle.std.specs.Cmp.{unsigned_ties, unsigned_Decides}
 use Rattle.std.specs.Cmp.Lexicographic.{pointwise, pointwise_decides, slice_cmp, lists_ties}
 use Rattle.std.specs.FinMap.{slice_cmp-IsAntisymmetric, nat_cmp-IsAntisymmetric}
 use Rattle.std.specs.FinMap.Entries.{put, by_order}
-use Rattle.std.specs.List.{All, find, flat_map, range_with_len}
+use Rattle.std.specs.List.{All, range_with_len}
 use Rattle.std.specs.List.Sorted.{IsPermutation}
 use Rattle.std.specs.Map.{lookup}
-use Rattle.std.specs.Ordering.{nat_cmp, eq_by_cmp}
+use Rattle.std.specs.Ordering.{nat_cmp}
 use Rattle.std.specs.declared.cmp.Ordering.TheVariants.{Less, Equal, Greater}
 use Rattle.std.proofs.lemmas.Bool.{cond-true, cond-false, cond_both, false_from_ne_true, eqb-true}
 use Rattle.std.proofs.lemmas.Cmp.{nat_list_cmp_total}
 use Rattle.std.proofs.lemmas.List.{length-append, length-map, map-append}
-use Rattle.std.proofs.lemmas.List.Elements.{All-nil, All-cons, All-head, All-tail, All-append, All-push, All-weaker, All-contains, All-map, All-contains_itself}
+use Rattle.std.proofs.lemmas.List.Elements.{All-nil, All-cons, All-append, All-push, All-weaker, All-contains, All-map, All-contains_itself}
 use Rattle.std.proofs.lemmas.List.Sorted.{Contains-permutation, IsPermutation-sym, IsPermutation-trans, IsPermutation-to_front, length_permutation}
 use Rattle.louis_table.specs.Meaning.{Meaning}
 use Rattle.louis_table.specs.Table.{Means}
 use Rattle.louis_table.proofs.OneMeaning.{one_meaning}
-use Rattle.louis_translate.specs.declared.choices.Choice.{Choice}
 use Rattle.louis_translate.specs.Tiling.{Tiles}
 use Rattle.louis_translate.specs.Braille.{braille}
 use Rattle.desk_book.specs.declared.change.Change.{Change}
 use Rattle.desk_book.specs.declared.change.Effect.{Effect}
-use Rattle.desk_book.specs.declared.change.Effect.TheVariants.{AddTable, ReplaceTable, AddParagraph, SetFlags, ChangeTable, Reorder}
+use Rattle.desk_book.specs.declared.change.Effect.TheVariants.{AddTable}
 use Rattle.desk_book.specs.declared.command.Anchor.{Anchor}
 use Rattle.desk_book.specs.declared.command.Command.{Command}
 use Rattle.desk_book.specs.declared.command.Command.TheVariants.{Table, TypeIn, Retable, Move}
 use Rattle.desk_book.specs.declared.paragraphs.Paragraph.{Paragraph as KeptParagraph}
 use Rattle.desk_book.specs.declared.style.Style.{Style}
 use Rattle.desk_book.specs.declared.tables.BookTable.{BookTable}
-use Rattle.desk_book.specs.Book.{Book, Paragraph, paragraph_of, text_of}
+use Rattle.desk_book.specs.Book.{Book, Paragraph, text_of}
 use Rattle.desk_book.specs.Changes.{AreCellsOf, AreRenewed, AreCellsByTable, Carries, IsKeptTyped, Does, Puts}
 use Rattle.desk_book.specs.Kept.{KeptTables, KeptParagraphs, with_table, arranged, in_order, new_cells, renewed, with_kept_change, paragraph_kept, book_kept, IsKeptParagraph, IsKept}
 use Rattle.desk_book.specs.Print.{print_of}
 use Rattle.desk_book.specs.Refusals.{IsAccepted, paragraph_before}
 use Rattle.desk_book.specs.Sound.{IsSound}
-use Rattle.desk_book.specs.Step.{Makes, typed, next_id, next_with_tables, next_with_paragraphs, with_paragraph, with_move, with_change}
+use Rattle.desk_book.specs.Step.{Makes, typed, next_id, next_with_paragraphs, with_paragraph, with_move, with_change}
 use Rattle.desk_book.proofs.KeptBooks.{lookup-map, found-kept, All-found, All-from_map, means-kept}
 use Rattle.desk_book.proofs.Accepted.{named_paragraph}
 use Rattle.desk_book.proofs.Members.{Contains-here, Contains-behind, Contains-map}

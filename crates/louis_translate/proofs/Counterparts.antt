@@ -7,7 +7,7 @@ use Rattle.louis_translate.specs.declared.choices.Choice.{Choice}
 use Rattle.louis_translate.specs.declared.pieces.Piece.{Piece}
 use Rattle.louis_translate.specs.Piece.{IsPieceAt}
 use Rattle.louis_translate.specs.Sign.{sign_at}
-use Rattle.louis_translate.specs.Tiling.{IsChoiceAt, Covers, Tiles}
+use Rattle.louis_translate.specs.Tiling.{Covers, Tiles}
 use Rattle.louis_translate.specs.Braille.{cells_of, chosen_cells, braille, output_place, print_place}
 use Rattle.louis_translate.proofs.Tilings.{Covers-next, one_cover, one_tiling}
 
