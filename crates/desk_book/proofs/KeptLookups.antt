@@ -1,22 +1,23 @@
 -- What is found among kept tables and paragraphs, against what the book that they stand for has.
-use Rattle.std.proofs.Common.{◌≡◌, ℕ, Bool, true, false, List, [], ◌∷◌, map, length, get_or, Option, Some, None, Result, Ok, Err, refl, sym, ap, subst, ◌∙◌, inl, inr}
+use Rattle.std.proofs.Common.{◌≡◌, ℕ, Bool, true, false, List, [], ◌∷◌, map, length, get_or, Option, Some, None, Result, refl, ap, subst, ◌∙◌, inl, inr}
 use Rattle.std.specs.Cmp.Lexicographic.{pointwise}
-use Rattle.std.specs.List.{All, find}
+use Rattle.std.specs.List.{find}
 use Rattle.std.specs.Map.{lookup}
-use Rattle.std.specs.Option.{ok_or, option_copied}
-use Rattle.std.specs.Prelude.{nat_eq, option_map, IfErr, IfOk, IfSome}
+use Rattle.std.specs.Option.{ok_or}
+use Rattle.std.specs.Prelude.{nat_eq, option_map, slice_get, IfErr, IfOk, IfSome}
 use Rattle.std.proofs.lemmas.Bool.{cases_Bool, eqb-true}
 use Rattle.std.proofs.lemmas.Cmp.{nat_eq_equiv}
 use Rattle.std.proofs.lemmas.List.Elements.{All-contains, Contains-get_or}
 use Rattle.std.proofs.lemmas.List.{length-map}
+use Rattle.std.proofs.lemmas.Option.{get_or_from_slice_get, slice_get-map, slice_get_within}
 use Rattle.std.proofs.lemmas.Map.Entries.{All-lookup}
 use Rattle.std.proofs.lemmas.Map.Views.{Contains-from_lookup}
-use denote.Bor.{Bor}
 use Rattle.louis_table.specs.Table.{Means}
 use Rattle.desk_book.specs.declared.paragraphs.Paragraph.{Paragraph as KeptParagraph}
 use Rattle.desk_book.specs.declared.tables.BookTable.{BookTable}
 use Rattle.desk_book.specs.Book.{Book, paragraph_of, text_of}
 use Rattle.desk_book.specs.Kept.{KeptTables, KeptParagraphs, IsKept, IsKeptParagraph, book_kept, ids, paragraph_kept}
+use Rattle.desk_book.specs.Print.{print_of}
 use Rattle.desk_book.specs.Sound.{IsSound}
 use Rattle.desk_book.specs.Planned.{IsKeptFor, IsTableFor}
 use Rattle.desk_book.proofs.OrderLists.{ids_of-kept}
@@ -91,3 +92,14 @@ module _ (version : ℕ) (tables : KeptTables) (kept : KeptParagraphs) (book : B
       found = text_of-kept name ∙ ap (option_map (λ table. table.text)) found;
       means = subst (λ (o : Option BookTable). IfSome o (λ t. Means t.text t.rules)) found (All-lookup (λ t. Means t.text t.rules) (pointwise nat_eq name) tables facts.means);
     }
+
+    pub kept-at : (place id : ℕ) (p : KeptParagraph) → slice_get kept place ≡ Some (id, p) → (slice_get book.paragraphs place ≡ Some (paragraph_kept (id, p))) × (p.print ≡ print_of (paragraph_kept (id, p)))
+    kept-at place id p at =
+        let shown : slice_get (map paragraph_kept kept) place ≡ Some (paragraph_kept (id, p)) = slice_get-map paragraph_kept kept place ∙ ap (option_map paragraph_kept) at in
+        let facts_here : IsKeptParagraph tables (get_or kept place (id, p)) = facts.translated place (id, p) (slice_get_within kept place (id, p) at) in (
+          subst (λ (b : Book). slice_get b.paragraphs place ≡ Some (paragraph_kept (id, p))) is shown,
+          (rw (get_or_from_slice_get kept place (id, p) (id, p) at) at facts_here).print,
+        )
+
+  pub kept-past : (place : ℕ) → slice_get kept place ≡ None → slice_get book.paragraphs place ≡ None
+  kept-past place past = subst (λ (b : Book). slice_get b.paragraphs place ≡ None) is (slice_get-map paragraph_kept kept place ∙ ap (option_map paragraph_kept) past)

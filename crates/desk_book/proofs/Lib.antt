@@ -14,4 +14,7 @@ pub mod PieceLists
 pub mod OrderLists
 pub mod KeptLookups
 pub mod Planning
+pub mod TablePlanning
+pub mod Users
+pub mod Expecting
 pub mod NewParagraphs
