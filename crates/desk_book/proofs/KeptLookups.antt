@@ -20,6 +20,7 @@ use Rattle.desk_book.specs.Kept.{KeptTables, KeptParagraphs, IsKept, IsKeptParag
 use Rattle.desk_book.specs.Print.{print_of}
 use Rattle.desk_book.specs.Sound.{IsSound}
 use Rattle.desk_book.specs.Planned.{IsKeptFor, IsTableFor}
+use Rattle.desk_book.proofs.KeptBooks.{All-found, found-kept, lookup-map}
 use Rattle.desk_book.proofs.OrderLists.{ids_of-kept}
 use Rattle.desk_book.proofs.ParagraphLists.{ids_of}
 use Rattle.desk_book.proofs.SoundBooks.{paragraph_of-own}
@@ -35,32 +36,14 @@ module _ {X E : Type 0} where
   IfErr-ok_or None d r is P h = rw is (h refl)
   IfErr-ok_or (Some x) d r is P h = rw is tt
 
--- ---- lookups
-
-find-kept : (id : ℕ) (kept : KeptParagraphs) → find (λ paragraph. nat_eq paragraph.id id) (map paragraph_kept kept) ≡ option_map (λ p. paragraph_kept (id, p)) (lookup (nat_eq id) kept)
-find-kept id [] = refl
-find-kept id ((i, p) ∷ kept) =
-    elim (cases_Bool (nat_eq i id)) [
-      | inl e ↦ let flip : nat_eq id i ≡ true = nat_eq_equiv.symm id i ∙ e in rw (e, flip) (ap (λ (n : ℕ). Some (paragraph_kept (n, p))) (eqb-true i id e))
-      | inr e ↦ let flip : nat_eq id i ≡ false = nat_eq_equiv.symm id i ∙ e in rw (e, flip) (find-kept id kept)
-    ]
-
-lookup-texts : (test : List ℕ → Bool) (tables : KeptTables) → lookup test (map (λ entry. (entry.0, entry.1.text)) tables) ≡ option_map (λ table. table.text) (lookup test tables)
-lookup-texts test [] = refl
-lookup-texts test ((name, table) ∷ tables) =
-    elim (cases_Bool (test name)) [
-      | inl e ↦ rw e refl
-      | inr e ↦ rw e (lookup-texts test tables)
-    ]
-
 -- ---- in a book
 
 module _ (version : ℕ) (tables : KeptTables) (kept : KeptParagraphs) (book : Book) (is : book_kept version tables kept ≡ book) where
   pub paragraph_of-kept : (id : ℕ) → paragraph_of book id ≡ option_map (λ p. paragraph_kept (id, p)) (lookup (nat_eq id) kept)
-  paragraph_of-kept id = rw (← is) (find-kept id kept)
+  paragraph_of-kept id = rw (← is) (found-kept id kept)
 
   pub text_of-kept : (name : List ℕ) → text_of book name ≡ option_map (λ table. table.text) (lookup (pointwise nat_eq name) tables)
-  text_of-kept name = rw (← is) (lookup-texts (pointwise nat_eq name) tables)
+  text_of-kept name = rw (← is) (lookup-map (pointwise nat_eq name) (λ (table : BookTable). table.text) tables)
 
   pub ids_of-book : ids_of book.paragraphs ≡ ids kept
   ids_of-book = rw (← is) (ids_of-kept kept)
@@ -81,7 +64,7 @@ module _ (version : ℕ) (tables : KeptTables) (kept : KeptParagraphs) (book : B
       alone = λ k d lt same.
           let own = paragraph_of-own book sound (get_or book.paragraphs k d) (Contains-get_or book.paragraphs k d lt) in
           cc (ap (paragraph_of book) same, there);
-      print = (All-contains (IsKeptParagraph tables) kept (id, p) facts.translated (Contains-from_lookup (λ x y. eqb-true x y) id p kept found)).print;
+      print = (All-found (IsKeptParagraph tables) id p kept facts.translated found).print;
     }
       where
         there : paragraph_of book id ≡ Some (paragraph_kept (id, p))

@@ -1,12 +1,16 @@
+pub mod Accepted
+pub mod Arranging
+pub mod ByName
+pub mod FirstUndefined
 pub mod Histories
 pub mod Judging
+pub mod KeptBooks
 pub mod Members
 pub mod Numbering
-pub mod TableEntries
 pub mod ParagraphLists
-pub mod FirstUndefined
+pub mod Renewing
+pub mod Settled
 pub mod SoundBooks
-pub mod Accepted
 pub mod SoundParagraphs
 pub mod SoundSteps
 pub mod TextTests
@@ -18,3 +22,4 @@ pub mod TablePlanning
 pub mod Users
 pub mod Expecting
 pub mod NewParagraphs
+pub mod TableEntries

@@ -55,3 +55,7 @@ paragraph_of book id = find (λ paragraph. nat_eq paragraph.id id) book.paragrap
 -- a book without anything
 abbrev pub empty_book : Book
 empty_book = record { version = 0; tables = []; paragraphs = []; marks = [] }
+
+-- paragraphs in the order of a book
+abbrev pub ParagraphList : Type 0
+ParagraphList = List Paragraph

@@ -1,7 +1,6 @@
 -- What a change has in it, so that nothing is left to be asked for when it is put into its book.
-use Rattle.std.specs.Prelude.{◌≡◌, ◌≢◌, ℕ, ◌+◌, ◌-◌, ◌<◌, List, [], ◌∷◌, ◌++◌, length, map, slice_get, Option, Some, None, IsSome, MatchOption}
+use Rattle.std.specs.Prelude.{◌≡◌, ◌≢◌, ℕ, ◌<◌, List, length, map, Option, Some, None, IsSome, MatchOption}
 use Rattle.std.specs.List.{All}
-use Rattle.std.specs.Option.{option_and_then}
 use Rattle.louis_table.specs.Meaning.{Meaning}
 use Rattle.louis_table.specs.Table.{Means}
 use Rattle.louis_translate.specs.declared.choices.Choice.{Choice}
@@ -77,3 +76,8 @@ pub record Carries (book : Book) (command : Command) (next : Book) (change : Cha
   pub version : change.version ≡ next.version
   pub number : change.number ≡ number_of book command
   pub does : Does book command next change.effect
+
+-- some accepted command makes the next book of this one, at the version given, by the effect
+abbrev pub Puts : Book → ℕ → Effect → Book → Type 0
+Puts book version effect next =
+    (command : Command) × IsAccepted book None command × Makes book command next × (version ≡ next.version) × Does book command next effect

@@ -1,6 +1,6 @@
 -- How a book is kept: its tables with their rules, its paragraphs with their prints and cells.
-use Rattle.std.specs.Prelude.{◌≡◌, ℕ, ◌-◌, nat_eq, not, ◌==◌, if◌then◌else◌, List, [], ◌∷◌, ◌++◌, map, slice_get, Option, Some, option_to_list, option_map}
-use Rattle.std.specs.List.{All, filter, flat_map, fold}
+use Rattle.std.specs.Prelude.{◌≡◌, ℕ, ◌-◌, ◌≤◌, length, drop, nat_eq, not, ◌==◌, if◌then◌else◌, List, [], ◌∷◌, ◌++◌, map, slice_get, Option, Some, option_to_list, option_map}
+use Rattle.std.specs.List.{All, filter, find, flat_map, fold}
 use Rattle.std.specs.Str.{chars}
 use Rattle.std.specs.Prelude.{String, string_bytes}
 use Rattle.std.specs.Option.{option_and_then, option_map_or}
@@ -17,6 +17,7 @@ use Rattle.desk_book.specs.declared.command.Anchor.TheVariants.{Front, End, Behi
 use Rattle.desk_book.specs.declared.tables.BookTable.{BookTable}
 use Rattle.desk_book.specs.declared.paragraphs.Paragraph.{Paragraph as KeptParagraph}
 use Rattle.desk_book.specs.Book.{Book, Paragraph}
+use Rattle.desk_book.specs.Limits.{most_paragraphs}
 use Rattle.desk_book.specs.Print.{print_of}
 use Rattle.desk_book.specs.Sound.{IsSound}
 use Rattle.desk_book.specs.Step.{is_behind}
@@ -82,6 +83,18 @@ paragraph_kept (id, kept) = record {
   begins_volume = kept.begins_volume;
   struck = kept.struck;
 }
+
+-- what kept paragraphs from a place on stand for
+abbrev pub paragraphs_from : ℕ → KeptParagraphs → List Paragraph
+paragraphs_from place kept = map paragraph_kept (drop place kept)
+
+-- there are no more than a book may have, and each has its print
+abbrev pub HavePrints : KeptParagraphs → Type 0
+HavePrints kept = (length kept ≤ most_paragraphs) × All (λ entry. entry.1.print ≡ print_of (paragraph_kept entry)) kept
+
+-- paragraphs in the order of their ids here
+abbrev pub in_order : List ℕ → List Paragraph → List Paragraph
+in_order order paragraphs = flat_map (λ id. option_to_list (find (λ paragraph. nat_eq paragraph.id id) paragraphs)) order
 
 -- what kept tables and paragraphs stand for
 abbrev pub book_kept : ℕ → KeptTables → KeptParagraphs → Book

@@ -10,6 +10,7 @@ pub mod Judging
 pub mod Step
 pub mod After
 pub mod Translated
+pub mod Shown
 pub mod Kept
 pub mod Changes
 pub mod Planned

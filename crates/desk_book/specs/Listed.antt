@@ -1,5 +1,5 @@
 -- The line of a paragraph in the list of a book.
-use Rattle.std.specs.Prelude.{◌≡◌, List, length}
+use Rattle.std.specs.Prelude.{◌≡◌, List, [], ◌∷◌, length, Option, MatchOption}
 use Rattle.std.specs.Str.{chars}
 use Rattle.desk_book.specs.declared.list.Listed.{Listed}
 use Rattle.desk_book.specs.Book.{Paragraph}
@@ -13,3 +13,8 @@ pub record IsListed (paragraph : Paragraph) (item : Listed) : Type 0 where
   pub begins_volume : item.begins_volume ≡ paragraph.begins_volume
   pub struck : item.struck ≡ paragraph.struck
   pub length_is : item.length ≡ length (print_of paragraph)
+
+-- the item tells of the first of the paragraphs, and the others are left; or there is none, and no item
+abbrev pub ListsFirst : List Paragraph → Option Listed → List Paragraph → Type 0
+ListsFirst paragraphs item left =
+    MatchOption item ((paragraphs ≡ []) × (left ≡ [])) (λ told. (first : Paragraph) × (paragraphs ≡ first ∷ left) × IsListed first told)

@@ -1,11 +1,11 @@
 -- The braille of a book's paragraphs.
-use Rattle.std.specs.Prelude.{◌≡◌, ℕ, ◌<◌, List, length, Some}
+use Rattle.std.specs.Prelude.{◌≡◌, ℕ, ◌<◌, ◌≤◌, List, length, Some}
 use Rattle.louis_table.specs.Meaning.{Meaning}
 use Rattle.louis_table.specs.Table.{Means}
 use Rattle.louis_translate.specs.declared.choices.Choice.{Choice}
 use Rattle.louis_translate.specs.Tiling.{Tiles}
 use Rattle.louis_translate.specs.Braille.{braille, output_place, print_place}
-use Rattle.desk_book.specs.Book.{Book, Paragraph, text_of}
+use Rattle.desk_book.specs.Book.{Book, Paragraph, text_of, paragraph_of}
 use Rattle.desk_book.specs.Print.{print_of}
 
 -- by the meaning of the text of its table, these choices cover the paragraph's print
@@ -33,3 +33,18 @@ IsPrintPlace book paragraph cell place =
     (meaning : Meaning) × (choices : List Choice) × IsTranslatedBy book paragraph meaning choices
     × (cell < length (braille meaning (print_of paragraph) choices))
     × (place ≡ print_place meaning (print_of paragraph) choices cell)
+
+-- the book has the paragraph, but the print of it doesn't have the place
+pub record LacksPlace (book : Book) (id place : ℕ) : Type 0 where
+  pub paragraph : Paragraph
+  pub found : paragraph_of book id ≡ Some paragraph
+  pub past : length (print_of paragraph) ≤ place
+
+-- the book has the paragraph, but the braille of it doesn't have the cell
+pub record LacksCell (book : Book) (id cell : ℕ) : Type 0 where
+  pub paragraph : Paragraph
+  pub found : paragraph_of book id ≡ Some paragraph
+  pub meaning : Meaning
+  pub choices : List Choice
+  pub translated : IsTranslatedBy book paragraph meaning choices
+  pub past : length (braille meaning (print_of paragraph) choices) ≤ cell

@@ -1,6 +1,7 @@
 //! The list of a book's paragraphs.
 use super::paragraphs::Paragraphs;
 use super::style::Style;
+use std::marker::Model;
 
 /// What the list of a book tells of a paragraph.
 #[derive(Clone, Copy, Debug)]
@@ -19,25 +20,51 @@ pub struct Listed<'a> {
     pub length: usize,
 }
 
-/// The paragraphs of a book in order, struck ones too. It takes no memory.
+/// The paragraphs of a book in order, struck ones too. It takes no memory. Contracts see it as those that are left.
 #[derive(Drop)]
 pub struct List<'a> {
     paragraphs: &'a Paragraphs,
     at: usize,
 }
 
+impl<'a> Model for List<'a> {
+    ghost use Rattle.desk_book.specs.Book.{ParagraphList};
+    ghost use Rattle.desk_book.specs.Kept.{HavePrints, paragraphs_from};
+
+    ghost Value = { ParagraphList };
+
+    ghost view = { λ l. paragraphs_from l.at l.paragraphs.now };
+
+    ghost invariant = { λ l. HavePrints l.paragraphs.now };
+}
+
 impl<'a> List<'a> {
+    ghost use Rattle.desk_book.specs.Kept.{HavePrints, paragraphs_from};
+    ghost use Rattle.std.specs.Prelude.{◌≡◌};
+
     /// All paragraphs.
-    pub(crate) fn new(paragraphs: &'a Paragraphs) -> Self {
+    pub(crate) fn new(paragraphs: &'a Paragraphs) -> Self
+        requires { HavePrints paragraphs.now }
+        ensures { result ≡ paragraphs_from 0 paragraphs.now }
+    {
         List { paragraphs, at: 0 }
     }
 }
 
 impl<'a> Iterator for List<'a> {
+    ghost use Rattle.desk_book.specs.Listed.{ListsFirst};
+    ghost use Rattle.std.specs.Iterator.{item_count};
+
     type Item = Listed<'a>;
 
+    ghost next_gives = { ListsFirst };
+
+    ghost remaining = { item_count (λ s. s) };
+
     fn next(&mut self) -> Option<Listed<'a>> {
-        let (id, paragraph) = self.paragraphs.at(self.at)?;
+        let Some((id, paragraph)) = self.paragraphs.at(self.at) else {
+            return None;
+        };
         self.at += 1;
         Some(Listed {
             id,

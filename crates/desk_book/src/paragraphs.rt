@@ -1,10 +1,11 @@
 //! The paragraphs of a book.
 ghost use Rattle.desk_book.specs.Kept.{arranged, ids, renewed, with_id, with_id_moved, with_kept_change};
-ghost use Rattle.std.specs.List.{range_with_len};
+ghost use Rattle.desk_book.specs.Step.{is_behind};
+ghost use Rattle.std.specs.List.{filter, range_with_len};
 ghost use Rattle.std.specs.List.Sorted.{IsPermutation};
 ghost use Rattle.std.specs.Map.{lookup};
-ghost use Rattle.std.specs.Option.{option_copied};
-ghost use Rattle.std.specs.Prelude.{◌≡◌, ◌+◌, ◌<◌, ◌≤◌, [], ◌∷◌, ◌++◌, IfOk, length, map, nat_eq, option_map, slice_get};
+ghost use Rattle.std.specs.Option.{option_copied, option_map_or};
+ghost use Rattle.std.specs.Prelude.{◌≡◌, ◌+◌, ◌<◌, ◌≤◌, [], ◌∷◌, ◌++◌, IfNone, IfOk, IfSome, OnOk, ◌==◌, length, map, nat_eq, not, option_map, slice_get};
 
 use super::command::Anchor;
 use super::style::Style;
@@ -33,19 +34,29 @@ pub(crate) struct Paragraph {
     pub(crate) cells: Cells,
 }
 
+impl Paragraph {
+    /// Gives the paragraph new cells, where there are any.
+    fn renew(&mut self, new: Option<Cells>)
+        ensures { self.new ≡ option_map_or (λ cells. record self.old { cells = cells }) new self.old }
+    {
+        if let Some(cells) = new {
+            self.cells = cells;
+        }
+    }
+}
+
 /// The ids of paragraphs in an order.
 #[derive(Debug, Drop)]
 pub(crate) struct Order {
-    // one less than each id
-    indices: Vec<usize>,
+    ids: Vec<u64>,
 }
 
 impl Model for Order {
-    ghost use Rattle.std.specs.Prelude.{List, ℕ, ◌+◌, map};
+    ghost use Rattle.std.specs.Prelude.{List, ℕ};
 
     ghost Value = { List ℕ };
 
-    ghost view = { λ o. map (λ index. index + 1) o.indices.items };
+    ghost view = { λ o. o.ids.items };
 }
 
 /// Room for so many paragraphs.
@@ -80,7 +91,8 @@ impl ParagraphsRoom {
 pub(crate) struct Paragraphs {
     // the paragraph with id n has index n - 1
     items: Vec<Paragraph>,
-    order: Order,
+    // the ids as the paragraphs stand
+    order: Vec<u64>,
 }
 
 impl Model for Paragraphs {
@@ -91,32 +103,61 @@ impl Model for Paragraphs {
 
     ghost Value = { KeptParagraphs };
 
-    ghost view = { λ p. flat_map (numbered p.items.items) p.order };
+    ghost view = { λ p. flat_map (numbered p.items.items) p.order.items };
 
-    ghost invariant = { λ p. IsPermutation (range_with_len 1 (vec_len p.items)) p.order };
+    ghost invariant = { λ p. IsPermutation (range_with_len 1 (vec_len p.items)) p.order.items };
 }
 
-/// The indices with one more, put where a command says.
-fn with_index(
-    alloc: Global,
-    indices: &[usize],
-    new: usize,
-    after: Anchor,
-) -> Result<Vec<usize>, AllocError> {
-    let mut all = Vec::with_capacity(alloc, indices.len() + 1)?;
-    if after == Anchor::Front {
-        all.push(new)?;
-    }
-    for index in indices {
-        all.push(*index)?;
-        if after == Anchor::Behind(*index as u64 + 1) {
+/// Puts all ids behind the list, and the new one behind each that is the one given.
+fn put_behind(all: &mut Vec<u64>, ids: &[u64], new: u64, id: u64) -> Result<(), AllocError>
+    ensures { OnOk result (all.new.items ≡ all.old.items ++ with_id (Anchor.Behind id) new ids.now) }
+{
+    for other in ids {
+        all.push(*other)?;
+        if *other == id {
             all.push(new)?;
         }
     }
-    if after == Anchor::End {
-        all.push(new)?;
+    Ok(())
+}
+
+/// The ids with one more, put where a command says.
+fn with_new(alloc: Global, ids: &[u64], new: u64, after: Anchor) -> Result<Vec<u64>, AllocError>
+    ensures { IfOk result (λ all. all.items ≡ with_id after new ids.now) }
+{
+    let mut all = Vec::with_capacity(alloc, ids.len() + 1)?;
+    match after {
+        Anchor::Front => {
+            all.push(new)?;
+            all.extend_from_slice(ids)?;
+        }
+        Anchor::End => {
+            all.extend_from_slice(ids)?;
+            all.push(new)?;
+        }
+        Anchor::Behind(id) => put_behind(&mut all, ids, new, id)?,
     }
     Ok(all)
+}
+
+/// The ids without one.
+fn without(alloc: Global, ids: &[u64], id: u64) -> Result<Vec<u64>, AllocError>
+    ensures { IfOk result (λ others. others.items ≡ filter (λ other. not (other == id)) ids.now) }
+{
+    ids.iter()
+        .copied()
+        .filter(|other| *other != id)
+        .collect(alloc)
+}
+
+/// Whether a paragraph with this id would be put behind itself.
+fn stays_behind(id: u64, after: Anchor) -> bool
+    ensures { result ≡ is_behind id after }
+{
+    match after {
+        Anchor::Front | Anchor::End => false,
+        Anchor::Behind(other) => other == id,
+    }
 }
 
 impl Paragraphs {
@@ -126,9 +167,7 @@ impl Paragraphs {
     {
         Paragraphs {
             items: Vec::new(alloc),
-            order: Order {
-                indices: Vec::new(alloc),
-            },
+            order: Vec::new(alloc),
         }
     }
 
@@ -139,30 +178,39 @@ impl Paragraphs {
         self.items.len()
     }
 
+    /// The index of the paragraph with an id, if there is one.
+    fn index_of(&self, id: u64) -> Option<usize>
+        ensures found { IfSome result (λ index. (index + 1 ≡ id) × (index < length self.now)) }
+        ensures none { IfNone result (lookup (nat_eq id) self.now ≡ None) }
+    {
+        let count = self.items.len();
+        let index = id.checked_sub(1)? as usize;
+        if index < count { Some(index) } else { None }
+    }
+
     /// The paragraph with an id, if there is one.
     pub(crate) fn get(&self, id: u64) -> Option<&Paragraph>
         ensures { option_copied result ≡ lookup (nat_eq id) self.now }
     {
-        if id == 0 {
-            return None;
-        }
-        self.items.get((id - 1) as usize)
+        let index = self.index_of(id)?;
+        Some(&self.items[index])
     }
 
     /// The paragraph at a place of the order, from 0, and its id.
     pub(crate) fn at(&self, place: usize) -> Option<(u64, &Paragraph)>
         ensures { option_map (λ found. (found.0, found.1.now)) result ≡ slice_get self.now place }
     {
-        let index = *self.order.indices.get(place)?;
-        Some((index as u64 + 1, &self.items[index]))
+        let id = *self.order.get(place)?;
+        Some((id, &self.items[(id - 1) as usize]))
     }
 
     /// The order with the next paragraph put where a command says.
     pub(crate) fn order_with_next(&self, alloc: Global, after: Anchor) -> Result<Order, AllocError>
         ensures { IfOk result (λ order. order ≡ with_id after (length self.now + 1) (ids self.now)) }
     {
-        let indices = with_index(alloc, &self.order.indices, self.items.len(), after)?;
-        Ok(Order { indices })
+        let new = self.items.len() as u64 + 1;
+        let ids = with_new(alloc, &self.order, new, after)?;
+        Ok(Order { ids })
     }
 
     /// The order with a paragraph taken out and put where a command says; behind itself it stays.
@@ -172,21 +220,15 @@ impl Paragraphs {
         id: u64,
         after: Anchor,
     ) -> Result<Order, AllocError>
-        requires { 0 < id }
         ensures { IfOk result (λ order. order ≡ with_id_moved after id (ids self.now)) }
     {
-        let moved = (id - 1) as usize;
-        let mut others = Vec::with_capacity(alloc, self.order.indices.len())?;
-        for index in &self.order.indices {
-            if after == Anchor::Behind(id) || *index != moved {
-                others.push(*index)?;
-            }
+        if stays_behind(id, after) {
+            let ids = Vec::from_slice(alloc, &self.order)?;
+            return Ok(Order { ids });
         }
-        if after == Anchor::Behind(id) {
-            return Ok(Order { indices: others });
-        }
-        let indices = with_index(alloc, &others, moved, after)?;
-        Ok(Order { indices })
+        let others = without(alloc, &self.order, id)?;
+        let ids = with_new(alloc, &others, id, after)?;
+        Ok(Order { ids })
     }
 
     /// These paragraphs and a new one, in the order given. It takes no memory.
@@ -195,12 +237,15 @@ impl Paragraphs {
         requires order { IsPermutation (range_with_len 1 (length self + 1)) order }
         ensures { result ≡ arranged order (self ++ (length self + 1, paragraph) ∷ []) }
     {
+        // the room is for all of them, so nothing is asked for here
         let mut items = room.items;
-        for old in self.items {
-            items.push_reserved(old);
-        }
+        let mut old = self.items;
+        items.append(&mut old).unwrap();
         items.push_reserved(paragraph);
-        Paragraphs { items, order }
+        Paragraphs {
+            items,
+            order: order.ids,
+        }
     }
 
     /// These paragraphs in another order. It takes no memory.
@@ -210,7 +255,7 @@ impl Paragraphs {
     {
         Paragraphs {
             items: self.items,
-            order,
+            order: order.ids,
         }
     }
 
@@ -219,10 +264,10 @@ impl Paragraphs {
         ensures { self.new ≡ with_kept_change id
             (λ kept. record kept { style = style; begins_volume = begins_volume; struck = struck }) self.old }
     {
-        if id == 0 || (id - 1) as usize >= self.items.len() {
+        let Some(index) = self.index_of(id) else {
             return;
-        }
-        let paragraph = &mut self.items[(id - 1) as usize];
+        };
+        let paragraph = &mut self.items[index];
         paragraph.style = style;
         paragraph.begins_volume = begins_volume;
         paragraph.struck = struck;
@@ -232,10 +277,10 @@ impl Paragraphs {
     pub(crate) fn set_table(&mut self, id: u64, table: Text, cells: Cells)
         ensures { self.new ≡ with_kept_change id (λ kept. record kept { table = table; cells = cells }) self.old }
     {
-        if id == 0 || (id - 1) as usize >= self.items.len() {
+        let Some(index) = self.index_of(id) else {
             return;
-        }
-        let paragraph = &mut self.items[(id - 1) as usize];
+        };
+        let paragraph = &mut self.items[index];
         paragraph.table = table;
         paragraph.cells = cells;
     }
@@ -244,12 +289,39 @@ impl Paragraphs {
     pub(crate) fn renew(&mut self, cells: Vec<Option<Cells>>)
         ensures { self.new ≡ map (renewed cells.items) self.old }
     {
-        for (index, new) in cells.into_iter().enumerate() {
-            if let Some(new) = new {
-                if index < self.items.len() {
-                    self.items[index].cells = new;
-                }
-            }
+        let mut cells = cells.into_iter();
+        for paragraph in self.items.iter_mut() {
+            paragraph.renew(cells.next().flatten());
         }
+    }
+}
+
+#[cfg(test)]
+mod tests {
+    use super::*;
+    use std::test::Fail;
+
+    #[test]
+    fn a_new_id_stands_where_it_is_put(rt: HostRuntime) -> Result<(), Fail> {
+        let rows = [
+            (Anchor::Front, [4, 3, 1, 2]),
+            (Anchor::End, [3, 1, 2, 4]),
+            (Anchor::Behind(3), [3, 4, 1, 2]),
+            (Anchor::Behind(2), [3, 1, 2, 4]),
+        ];
+        for (after, order) in rows {
+            let ids = with_new(rt.alloc(), &[3, 1, 2], 4, after)?;
+            assert_eq!(rt; ids.as_slice(), order.as_slice(), "{after:?}");
+        }
+        Ok(())
+    }
+
+    #[test]
+    fn no_paragraph_is_there_at_first(rt: HostRuntime) -> Result<(), Fail> {
+        let paragraphs = Paragraphs::new(rt.alloc());
+        assert!(rt; paragraphs.get(1).is_none());
+        let order = paragraphs.order_with_next(rt.alloc(), Anchor::End)?;
+        assert_eq!(rt; order.ids.as_slice(), [1].as_slice());
+        Ok(())
     }
 }

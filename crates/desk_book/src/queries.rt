@@ -1,53 +1,30 @@
 //! What a book shows. No query takes memory.
 ghost use Rattle.desk_book.specs.Book.{paragraph_of};
 ghost use Rattle.desk_book.specs.Print.{print_of};
-ghost use Rattle.desk_book.specs.Translated.{IsBraille, IsOutputPlace, IsPrintPlace};
-ghost use Rattle.std.specs.Prelude.{◌≡◌, ◌↔◌, Err, IfOk, None, Some};
+ghost use Rattle.desk_book.specs.Shown.{IsShown};
+ghost use Rattle.desk_book.specs.Translated.{IsBraille, IsOutputPlace, IsPrintPlace, LacksCell, LacksPlace};
+ghost use Rattle.std.specs.Prelude.{◌≡◌, ◌⊎◌, IfErr, IfOk, None, Some};
 
 use super::book::Book;
 use super::list::List;
 use super::paragraphs::Paragraph;
 use super::refusal::Refusal;
 use cell_core::Cell;
-use louis_translate::{Pieces, PlainRules};
-
-/// How many cells come before those of the choice that covers a place of the print, or nothing where the place isn't
-/// there.
-fn output_place(rules: &PlainRules, print: &[char], place: usize) -> Option<usize> {
-    if place >= print.len() {
-        return None;
-    }
-    let mut before = 0;
-    for piece in Pieces::new(rules, print) {
-        if place < piece.choice.end {
-            return Some(before);
-        }
-        before += piece.sign.len() + piece.own.len();
-    }
-    None
-}
-
-/// The first place of the choice that made a cell of the print's braille, or nothing where the cell isn't there.
-fn print_place(rules: &PlainRules, print: &[char], cell: usize) -> Option<usize> {
-    let mut left = cell;
-    for piece in Pieces::new(rules, print) {
-        let count = piece.sign.len() + piece.own.len();
-        if left < count {
-            return Some(piece.choice.start);
-        }
-        left -= count;
-    }
-    None
-}
+use louis_translate::{PlainRules, output_place, print_place};
 
 impl Book {
-    /// A paragraph, and the rules of its table.
-    fn translated(&self, id: u64) -> Result<(&Paragraph, &PlainRules), Refusal> {
-        let paragraph = self.paragraphs.get(id).ok_or(Refusal::NoParagraph)?;
-        match self.tables.get(paragraph.table.as_str()) {
-            Some(table) => Ok((paragraph, &table.rules)),
-            None => Err(Refusal::NoParagraph),
-        }
+    /// A paragraph as it is kept, and the rules of its table.
+    fn translated(&self, id: u64) -> Result<(&Paragraph, &PlainRules), Refusal>
+        ensures found { IfOk result (λ shown. IsShown self.now id shown.0.now shown.1.now) }
+        ensures missing { IfErr result (λ refusal. (refusal ≡ Refusal.NoParagraph) × (paragraph_of self.now id ≡ None)) }
+    {
+        let Some(paragraph) = self.paragraphs.get(id) else {
+            return Err(Refusal::NoParagraph);
+        };
+        let Some(table) = self.tables.get(paragraph.table.as_str()) else {
+            unreachable!()
+        };
+        Ok((paragraph, &table.rules))
     }
 
     /// The print of a paragraph.
@@ -60,7 +37,7 @@ impl Book {
             × (print.now ≡ print_of paragraph)) }
         ensures missing { IfErr result (λ refusal. (refusal ≡ Refusal.NoParagraph) × (paragraph_of self.now id ≡ None)) }
     {
-        let paragraph = self.paragraphs.get(id).ok_or(Refusal::NoParagraph)?;
+        let (paragraph, _) = self.translated(id)?;
         Ok(paragraph.print.as_slice())
     }
 
@@ -74,7 +51,7 @@ impl Book {
             × IsBraille self.now paragraph cells.now) }
         ensures missing { IfErr result (λ refusal. (refusal ≡ Refusal.NoParagraph) × (paragraph_of self.now id ≡ None)) }
     {
-        let paragraph = self.paragraphs.get(id).ok_or(Refusal::NoParagraph)?;
+        let (paragraph, _) = self.translated(id)?;
         Ok(paragraph.cells.as_slice())
     }
 
@@ -82,24 +59,45 @@ impl Book {
     ///
     /// # Errors
     ///
-    /// `NoParagraph` where the book has no such paragraph, else `BadSpan` where its print has no such place.
-    pub fn where_is(&self, id: u64, place: usize) -> Result<usize, Refusal> {
+    /// `NoParagraph` exactly where the book has no such paragraph, else `BadSpan` exactly where its print has no such
+    /// place.
+    pub fn where_is(&self, id: u64, place: usize) -> Result<usize, Refusal>
+        ensures found { IfOk result (λ cell. (paragraph : _) × (paragraph_of self.now id ≡ Some paragraph)
+            × IsOutputPlace self.now paragraph place cell) }
+        ensures refused { IfErr result (λ refusal.
+            ((refusal ≡ Refusal.NoParagraph) × (paragraph_of self.now id ≡ None))
+            ⊎ ((refusal ≡ Refusal.BadSpan) × LacksPlace self.now id place)) }
+    {
         let (paragraph, rules) = self.translated(id)?;
-        output_place(rules, paragraph.print.as_slice(), place).ok_or(Refusal::BadSpan)
+        if place >= paragraph.print.as_slice().len() {
+            return Err(Refusal::BadSpan);
+        }
+        // the cells are kept, so there are few enough to be counted
+        let _ = paragraph.cells.as_slice();
+        Ok(output_place(rules, paragraph.print.as_slice(), place))
     }
 
     /// The print place of a cell of a paragraph's braille, from 0: the first place of the choice that made it.
     ///
     /// # Errors
     ///
-    /// `NoParagraph` where the book has no such paragraph, else `BadSpan` where its braille has no such cell.
-    pub fn whence(&self, id: u64, cell: usize) -> Result<usize, Refusal> {
+    /// `NoParagraph` exactly where the book has no such paragraph, else `BadSpan` exactly where its braille has no such
+    /// cell.
+    pub fn whence(&self, id: u64, cell: usize) -> Result<usize, Refusal>
+        ensures found { IfOk result (λ place. (paragraph : _) × (paragraph_of self.now id ≡ Some paragraph)
+            × IsPrintPlace self.now paragraph cell place) }
+        ensures refused { IfErr result (λ refusal.
+            ((refusal ≡ Refusal.NoParagraph) × (paragraph_of self.now id ≡ None))
+            ⊎ ((refusal ≡ Refusal.BadSpan) × LacksCell self.now id cell)) }
+    {
         let (paragraph, rules) = self.translated(id)?;
         print_place(rules, paragraph.print.as_slice(), cell).ok_or(Refusal::BadSpan)
     }
 
     /// The paragraphs in the order of the book.
-    pub fn list(&self) -> List<'_> {
+    pub fn list(&self) -> List<'_>
+        ensures { result ≡ self.now.paragraphs }
+    {
         List::new(&self.paragraphs)
     }
 }

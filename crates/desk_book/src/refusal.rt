@@ -1,4 +1,7 @@
 //! Why a command or a query is refused.
+ghost use Rattle.desk_book.specs.Refusals.{code_of, limit_number};
+ghost use Rattle.std.specs.Prelude.{◌≡◌};
+
 use louis_table::TableFault;
 use thiserror::Error;
 
@@ -15,6 +18,21 @@ pub enum Limit {
     Marks,
     /// Version 2^53.
     Version,
+}
+
+impl Limit {
+    /// The number that stands for it in a reply, from 1.
+    pub fn number(self) -> u8
+        ensures { result ≡ limit_number self }
+    {
+        match self {
+            Limit::Tables => 1,
+            Limit::Paragraphs => 2,
+            Limit::Entries => 3,
+            Limit::Marks => 4,
+            Limit::Version => 5,
+        }
+    }
 }
 
 /// Why a command or a query is refused. A refusal changes nothing.
@@ -85,4 +103,31 @@ pub enum Refusal {
     /// An allocation was refused.
     #[error("out of memory")]
     NoMemory,
+}
+
+impl Refusal {
+    /// The number that stands for it in a reply.
+    pub fn code(self) -> u8
+        ensures { result ≡ code_of self }
+    {
+        match self {
+            Refusal::NoParagraph => 2,
+            Refusal::NoTable => 3,
+            Refusal::NoMark => 4,
+            Refusal::BadSpan => 5,
+            Refusal::BadText { .. } => 6,
+            Refusal::Undefined { .. } => 7,
+            Refusal::BadTable(_) => 8,
+            Refusal::Untranslatable { .. } => 9,
+            Refusal::NothingToUndo => 10,
+            Refusal::Struck => 11,
+            Refusal::NotStruck => 12,
+            Refusal::Resolved => 13,
+            Refusal::TooLong => 14,
+            Refusal::Full(_) => 15,
+            Refusal::Moved { .. } => 16,
+            Refusal::BadName => 17,
+            Refusal::NoMemory => 90,
+        }
+    }
 }

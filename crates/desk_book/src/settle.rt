@@ -1,45 +1,173 @@
 //! Changes put into their books.
-ghost use Rattle.desk_book.specs.Changes.{Carries};
+ghost use Rattle.desk_book.specs.Changes.{Carries, Puts};
 ghost use Rattle.std.specs.Prelude.{◌≡◌};
 
 use super::book::Book;
 use super::change::{Change, Effect};
+use super::paragraphs::{Order, Paragraph, ParagraphsRoom};
+use super::style::Style;
+use super::tables::{BookTable, TablesRoom};
+use super::text::Text;
+use cell_core::Cells;
 
 impl Book {
-    /// The book with a change that was planned on it. It takes no memory.
-    pub fn settle(self, change: Change) -> Self
-        requires { (command : _) × (next : _) × Carries self command next change }
-        ensures { (command : _) (next : _) → Carries self command next change → result ≡ next }
+    /// The book at a version, with a new table.
+    fn with_new_table(self, version: u64, name: Text, table: BookTable, room: TablesRoom) -> Self
+        requires { (next : _) × Puts self version (Effect.AddTable name table room) next }
+        ensures { (next : _) → Puts self version (Effect.AddTable name table room) next → result ≡ next }
+    {
+        let Book {
+            version: _,
+            tables,
+            paragraphs,
+        } = self;
+        Book {
+            version,
+            tables: tables.joined(name, table, room),
+            paragraphs,
+        }
+    }
+
+    /// The book at a version, with another text of a table, and other cells of the paragraphs that use it.
+    fn with_table_replaced(
+        self,
+        version: u64,
+        name: Text,
+        table: BookTable,
+        cells: Vec<Option<Cells>>,
+    ) -> Self
+        requires { (next : _) × Puts self version (Effect.ReplaceTable name table cells) next }
+        ensures { (next : _) → Puts self version (Effect.ReplaceTable name table cells) next → result ≡ next }
     {
         let Book {
             version: _,
             mut tables,
             mut paragraphs,
         } = self;
-        match change.effect {
-            Effect::AddTable { name, table, room } => tables = tables.joined(name, table, room),
+        tables.replace(name.as_str(), table);
+        paragraphs.renew(cells);
+        Book {
+            version,
+            tables,
+            paragraphs,
+        }
+    }
+
+    /// The book at a version, with a new paragraph.
+    fn with_new_paragraph(
+        self,
+        version: u64,
+        paragraph: Paragraph,
+        room: ParagraphsRoom,
+        order: Order,
+    ) -> Self
+        requires { (next : _) × Puts self version (Effect.AddParagraph paragraph room order) next }
+        ensures { (next : _) → Puts self version (Effect.AddParagraph paragraph room order) next → result ≡ next }
+    {
+        let Book {
+            version: _,
+            tables,
+            paragraphs,
+        } = self;
+        Book {
+            version,
+            tables,
+            paragraphs: paragraphs.typed(paragraph, room, order),
+        }
+    }
+
+    /// The book at a version, with a style and flags of a paragraph.
+    fn with_flags(
+        self,
+        version: u64,
+        id: u64,
+        style: Style,
+        begins_volume: bool,
+        struck: bool,
+    ) -> Self
+        requires { (next : _) × Puts self version (Effect.SetFlags id style begins_volume struck) next }
+        ensures { (next : _) → Puts self version (Effect.SetFlags id style begins_volume struck) next → result ≡ next }
+    {
+        let Book {
+            version: _,
+            tables,
+            mut paragraphs,
+        } = self;
+        paragraphs.set_flags(id, style, begins_volume, struck);
+        Book {
+            version,
+            tables,
+            paragraphs,
+        }
+    }
+
+    /// The book at a version, with another table of a paragraph, and the cells by it.
+    fn with_table_changed(self, version: u64, id: u64, table: Text, cells: Cells) -> Self
+        requires { (next : _) × Puts self version (Effect.ChangeTable id table cells) next }
+        ensures { (next : _) → Puts self version (Effect.ChangeTable id table cells) next → result ≡ next }
+    {
+        let Book {
+            version: _,
+            tables,
+            mut paragraphs,
+        } = self;
+        paragraphs.set_table(id, table, cells);
+        Book {
+            version,
+            tables,
+            paragraphs,
+        }
+    }
+
+    /// The book at a version, with its paragraphs in another order.
+    fn in_order(self, version: u64, order: Order) -> Self
+        requires { (next : _) × Puts self version (Effect.Reorder order) next }
+        ensures { (next : _) → Puts self version (Effect.Reorder order) next → result ≡ next }
+    {
+        let Book {
+            version: _,
+            tables,
+            paragraphs,
+        } = self;
+        Book {
+            version,
+            tables,
+            paragraphs: paragraphs.reordered(order),
+        }
+    }
+
+    /// The book with a change that was planned on it. It takes no memory.
+    pub fn settle(self, change: Change) -> Self
+        requires { (command : _) × (next : _) × Carries self command next change }
+        ensures { (command : _) (next : _) → Carries self command next change → result ≡ next }
+    {
+        let Change {
+            version,
+            number: _,
+            effect,
+        } = change;
+        match effect {
+            Effect::AddTable { name, table, room } => {
+                self.with_new_table(version, name, table, room)
+            }
             Effect::ReplaceTable { name, table, cells } => {
-                tables.replace(name.as_str(), table);
-                paragraphs.renew(cells);
+                self.with_table_replaced(version, name, table, cells)
             }
             Effect::AddParagraph {
                 paragraph,
                 room,
                 order,
-            } => paragraphs = paragraphs.typed(paragraph, room, order),
+            } => self.with_new_paragraph(version, paragraph, room, order),
             Effect::SetFlags {
                 id,
                 style,
                 begins_volume,
                 struck,
-            } => paragraphs.set_flags(id, style, begins_volume, struck),
-            Effect::ChangeTable { id, table, cells } => paragraphs.set_table(id, table, cells),
-            Effect::Reorder { order } => paragraphs = paragraphs.reordered(order),
-        }
-        Book {
-            version: change.version,
-            tables,
-            paragraphs,
+            } => self.with_flags(version, id, style, begins_volume, struck),
+            Effect::ChangeTable { id, table, cells } => {
+                self.with_table_changed(version, id, table, cells)
+            }
+            Effect::Reorder { order } => self.in_order(version, order),
         }
     }
 }

@@ -24,16 +24,15 @@ pub(crate) struct BookTable {
 }
 
 impl BookTable {
-    /// Reads the text of a table, of which it keeps a copy.
+    /// Reads the text of a table, of which it keeps a copy. The fault is that which is told of the text, or that an
+    /// allocation was refused.
     pub(crate) fn read(alloc: Global, text: &[u8]) -> Result<Self, ReadFault>
         ensures text { IfOk result (λ table. table.text ≡ text.now) }
         ensures means { IfOk result (λ table. Means text.now table.rules) }
         ensures bad { IfErr result (Tells text.now) }
     {
         let rules = PlainRules::new(Table::read(alloc, text)?);
-        let mut copy = Vec::new(alloc);
-        copy.extend_from_slice(text)
-            .map_err(|_| ReadFault::NoMemory)?;
+        let copy = Vec::from_slice(alloc, text).map_err(|_| ReadFault::NoMemory)?;
         Ok(BookTable {
             text: Bytes::from_vec(copy),
             rules,
@@ -77,10 +76,14 @@ pub(crate) struct Tables {
 
 impl Model for Tables {
     ghost use Rattle.desk_book.specs.Kept.{KeptTables, by_name};
+    ghost use Rattle.indexmap.specs.IndexMap.{IsUnique};
+    ghost use Rattle.std.specs.String.{string_eq};
 
     ghost Value = { KeptTables };
 
     ghost view = { λ t. by_name t.entries.entries };
+
+    ghost invariant = { λ t. IsUnique string_eq t.entries };
 }
 
 impl Tables {
@@ -114,9 +117,10 @@ impl Tables {
         requires { IsSome (lookup (pointwise nat_eq (chars name.now)) self.old) }
         ensures { self.new ≡ with_table (chars name.now) table self.old }
     {
-        if let Some(old) = self.entries.get_mut(name) {
-            *old = table;
-        }
+        let Some(old) = self.entries.get_mut(name) else {
+            unreachable!()
+        };
+        *old = table;
     }
 
     /// These tables and a new one. It takes no memory.
@@ -125,11 +129,30 @@ impl Tables {
         requires new { lookup (pointwise nat_eq name) self ≡ None }
         ensures { result ≡ with_table name table self }
     {
+        // the room is for all of them, so nothing is asked for here
         let mut entries = room.entries;
-        for (old_name, old) in self.entries {
-            let _ = entries.insert(old_name, old);
-        }
-        let _ = entries.insert(name.into_string(), table);
+        let mut old = self.entries;
+        entries.append(&mut old).unwrap();
+        entries.insert(name.into_string(), table).unwrap();
         Tables { entries }
+    }
+}
+
+#[cfg(test)]
+mod tests {
+    use super::*;
+    use std::test::Fail;
+
+    #[test]
+    fn a_table_is_found_by_its_name(rt: HostRuntime) -> Result<(), Fail> {
+        let alloc = rt.alloc();
+        let table = BookTable::read(alloc, b"letter a 1\n")?;
+        let name = Text::from_string(String::from_str(alloc, "short")?);
+        let room = TablesRoom::new(alloc, 1)?;
+        let tables = Tables::new(alloc).joined(name, table, room);
+        assert_eq!(rt; tables.len(), 1);
+        assert!(rt; tables.get("short").is_some());
+        assert!(rt; tables.get("shor").is_none());
+        Ok(())
     }
 }

@@ -7,3 +7,4 @@ pub mod PlaceLists
 pub mod Faults
 pub mod Fronts
 pub mod LongestRuns
+pub mod Counterparts

@@ -21,6 +21,7 @@
 #![tactic(auto)]
 
 mod choices;
+mod counterpart;
 pub mod laws;
 mod pieces;
 mod places;
@@ -32,6 +33,7 @@ mod sign;
 mod translation;
 
 pub use choices::{Choice, Choices};
+pub use counterpart::{output_place, print_place};
 pub use pieces::{Piece, Pieces};
 pub use places::Places;
 pub use plain_rules::PlainRules;

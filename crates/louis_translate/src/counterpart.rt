@@ -1,0 +1,51 @@
+//! The cell that belongs to one place of a print, and the place that belongs to one cell. Neither search takes memory.
+ghost use Rattle.louis_translate.specs.Braille.{braille, output_place as output_place_lem, print_place as print_place_lem};
+ghost use Rattle.louis_translate.specs.Position.{AreDefined};
+ghost use Rattle.louis_translate.specs.Tiling.{Tiles};
+ghost use Rattle.louis_translate.specs.declared.choices.Choice.{Choice};
+ghost use Rattle.std.specs.Prelude.{◌≡◌, ◌^◌, ◌<◌, ◌≤◌, IfNone, IfSome, List, length};
+
+use super::pieces::Pieces;
+use super::rule_book::RuleBook;
+
+/// The output place of a place of a print, from 0: how many cells come before those of the choice that covers the
+/// place. The table defines the print's characters, and all cells of the print can be counted.
+pub fn output_place<B: RuleBook>(book: &B, print: &[char], place: usize) -> usize
+    requires defined { AreDefined (B.meaning book.now) print.now }
+    requires within { place < length print.now }
+    requires countable { (choices : List Choice) × Tiles (B.meaning book.now) print.now choices
+        × (length (braille (B.meaning book.now) print.now choices) < 2 ^ 64) }
+    ensures { (choices : List Choice) → Tiles (B.meaning book.now) print.now choices
+        → result ≡ output_place_lem (B.meaning book.now) print.now choices place }
+{
+    let mut before = 0;
+    for piece in Pieces::new(book, print) {
+        if place < piece.choice.end {
+            return before;
+        }
+        before += piece.sign.len() + piece.own.len();
+    }
+    unreachable!()
+}
+
+/// The print place of a cell of a print's braille, from 0: the first place of the choice that made the cell; `None`
+/// exactly where the braille has no such cell. The table defines the print's characters.
+pub fn print_place<B: RuleBook>(book: &B, print: &[char], cell: usize) -> Option<usize>
+    requires { AreDefined (B.meaning book.now) print.now }
+    ensures found { IfSome result (λ place. (choices : List Choice)
+        → Tiles (B.meaning book.now) print.now choices
+        → (cell < length (braille (B.meaning book.now) print.now choices))
+        × (place ≡ print_place_lem (B.meaning book.now) print.now choices cell)) }
+    ensures past { IfNone result ((choices : List Choice)
+        → Tiles (B.meaning book.now) print.now choices
+        → length (braille (B.meaning book.now) print.now choices) ≤ cell) }
+{
+    let mut left = cell;
+    for piece in Pieces::new(book, print) {
+        if left < piece.sign.len() || left - piece.sign.len() < piece.own.len() {
+            return Some(piece.choice.start);
+        }
+        left = left - piece.sign.len() - piece.own.len();
+    }
+    None
+}
