@@ -8,6 +8,7 @@ use Rattle.std.proofs.lemmas.List.Elements.{All-nil, All-cons}
 use Rattle.louis_table.specs.Meaning.{Meaning, definition_of}
 use Rattle.louis_translate.specs.Position.{AreDefined, IsFirstUndefined}
 use Rattle.desk_book.specs.Book.{Paragraph}
+pub use Rattle.desk_book.specs.Planned.{DefinesUser}
 use Rattle.desk_book.specs.Print.{print_of}
 use Rattle.desk_book.proofs.TableEntries.{Decides-name}
 
@@ -33,10 +34,6 @@ defined_or_first meaning print =
       | inl all ↦ inl all
       | inr found ↦ inr (found.0, record { within = found.1; undefined = found.2; before = found.3 })
     ]
-
--- the table with this name, by this meaning, defines the print, if the paragraph uses the table
-abbrev pub DefinesUser : Meaning → List ℕ → Paragraph → Type 0
-DefinesUser meaning name paragraph = paragraph.table ≡ name → AreDefined meaning (print_of paragraph)
 
 -- the first paragraph that uses the table and has a place that it doesn't define
 pub record IsFirstUser (meaning : Meaning) (name : List ℕ) (paragraphs : List Paragraph) : Type 0 where

@@ -1,24 +1,22 @@
 -- What is found among kept tables and paragraphs, against what the book that they stand for has.
-use Rattle.std.proofs.Common.{◌≡◌, ℕ, Bool, true, false, List, [], ◌∷◌, map, length, get_or, Option, Some, None, Result, Ok, Err, refl, sym, ap, subst, ◌∙◌, inl, inr}
+use Rattle.std.proofs.Common.{◌≡◌, ℕ, List, map, length, get_or, Option, Some, None, Result, refl, ap, subst, ◌∙◌}
 use Rattle.std.specs.Cmp.Lexicographic.{pointwise}
-use Rattle.std.specs.List.{All, find}
 use Rattle.std.specs.Map.{lookup}
-use Rattle.std.specs.Option.{ok_or, option_copied}
-use Rattle.std.specs.Prelude.{nat_eq, option_map, IfErr, IfOk, IfSome}
-use Rattle.std.proofs.lemmas.Bool.{cases_Bool, eqb-true}
-use Rattle.std.proofs.lemmas.Cmp.{nat_eq_equiv}
-use Rattle.std.proofs.lemmas.List.Elements.{All-contains, Contains-get_or}
+use Rattle.std.specs.Option.{ok_or}
+use Rattle.std.specs.Prelude.{nat_eq, option_map, slice_get, IfErr, IfOk, IfSome}
+use Rattle.std.proofs.lemmas.List.Elements.{Contains-get_or}
 use Rattle.std.proofs.lemmas.List.{length-map}
+use Rattle.std.proofs.lemmas.Option.{get_or_from_slice_get, slice_get-map, slice_get_within}
 use Rattle.std.proofs.lemmas.Map.Entries.{All-lookup}
-use Rattle.std.proofs.lemmas.Map.Views.{Contains-from_lookup}
-use denote.Bor.{Bor}
 use Rattle.louis_table.specs.Table.{Means}
 use Rattle.desk_book.specs.declared.paragraphs.Paragraph.{Paragraph as KeptParagraph}
 use Rattle.desk_book.specs.declared.tables.BookTable.{BookTable}
 use Rattle.desk_book.specs.Book.{Book, paragraph_of, text_of}
 use Rattle.desk_book.specs.Kept.{KeptTables, KeptParagraphs, IsKept, IsKeptParagraph, book_kept, ids, paragraph_kept}
+use Rattle.desk_book.specs.Print.{print_of}
 use Rattle.desk_book.specs.Sound.{IsSound}
 use Rattle.desk_book.specs.Planned.{IsKeptFor, IsTableFor}
+use Rattle.desk_book.proofs.KeptBooks.{All-found, found-kept, lookup-map}
 use Rattle.desk_book.proofs.OrderLists.{ids_of-kept}
 use Rattle.desk_book.proofs.ParagraphLists.{ids_of}
 use Rattle.desk_book.proofs.SoundBooks.{paragraph_of-own}
@@ -34,32 +32,14 @@ module _ {X E : Type 0} where
   IfErr-ok_or None d r is P h = rw is (h refl)
   IfErr-ok_or (Some x) d r is P h = rw is tt
 
--- ---- lookups
-
-find-kept : (id : ℕ) (kept : KeptParagraphs) → find (λ paragraph. nat_eq paragraph.id id) (map paragraph_kept kept) ≡ option_map (λ p. paragraph_kept (id, p)) (lookup (nat_eq id) kept)
-find-kept id [] = refl
-find-kept id ((i, p) ∷ kept) =
-    elim (cases_Bool (nat_eq i id)) [
-      | inl e ↦ let flip : nat_eq id i ≡ true = nat_eq_equiv.symm id i ∙ e in rw (e, flip) (ap (λ (n : ℕ). Some (paragraph_kept (n, p))) (eqb-true i id e))
-      | inr e ↦ let flip : nat_eq id i ≡ false = nat_eq_equiv.symm id i ∙ e in rw (e, flip) (find-kept id kept)
-    ]
-
-lookup-texts : (test : List ℕ → Bool) (tables : KeptTables) → lookup test (map (λ entry. (entry.0, entry.1.text)) tables) ≡ option_map (λ table. table.text) (lookup test tables)
-lookup-texts test [] = refl
-lookup-texts test ((name, table) ∷ tables) =
-    elim (cases_Bool (test name)) [
-      | inl e ↦ rw e refl
-      | inr e ↦ rw e (lookup-texts test tables)
-    ]
-
 -- ---- in a book
 
 module _ (version : ℕ) (tables : KeptTables) (kept : KeptParagraphs) (book : Book) (is : book_kept version tables kept ≡ book) where
   pub paragraph_of-kept : (id : ℕ) → paragraph_of book id ≡ option_map (λ p. paragraph_kept (id, p)) (lookup (nat_eq id) kept)
-  paragraph_of-kept id = rw (← is) (find-kept id kept)
+  paragraph_of-kept id = rw (← is) (found-kept id kept)
 
   pub text_of-kept : (name : List ℕ) → text_of book name ≡ option_map (λ table. table.text) (lookup (pointwise nat_eq name) tables)
-  text_of-kept name = rw (← is) (lookup-texts (pointwise nat_eq name) tables)
+  text_of-kept name = rw (← is) (lookup-map (pointwise nat_eq name) (λ (table : BookTable). table.text) tables)
 
   pub ids_of-book : ids_of book.paragraphs ≡ ids kept
   ids_of-book = rw (← is) (ids_of-kept kept)
@@ -80,7 +60,7 @@ module _ (version : ℕ) (tables : KeptTables) (kept : KeptParagraphs) (book : B
       alone = λ k d lt same.
           let own = paragraph_of-own book sound (get_or book.paragraphs k d) (Contains-get_or book.paragraphs k d lt) in
           cc (ap (paragraph_of book) same, there);
-      print = (All-contains (IsKeptParagraph tables) kept (id, p) facts.translated (Contains-from_lookup (λ x y. eqb-true x y) id p kept found)).print;
+      print = (All-found (IsKeptParagraph tables) id p kept facts.translated found).print;
     }
       where
         there : paragraph_of book id ≡ Some (paragraph_kept (id, p))
@@ -91,3 +71,14 @@ module _ (version : ℕ) (tables : KeptTables) (kept : KeptParagraphs) (book : B
       found = text_of-kept name ∙ ap (option_map (λ table. table.text)) found;
       means = subst (λ (o : Option BookTable). IfSome o (λ t. Means t.text t.rules)) found (All-lookup (λ t. Means t.text t.rules) (pointwise nat_eq name) tables facts.means);
     }
+
+    pub kept-at : (place id : ℕ) (p : KeptParagraph) → slice_get kept place ≡ Some (id, p) → (slice_get book.paragraphs place ≡ Some (paragraph_kept (id, p))) × (p.print ≡ print_of (paragraph_kept (id, p)))
+    kept-at place id p at =
+        let shown : slice_get (map paragraph_kept kept) place ≡ Some (paragraph_kept (id, p)) = slice_get-map paragraph_kept kept place ∙ ap (option_map paragraph_kept) at in
+        let facts_here : IsKeptParagraph tables (get_or kept place (id, p)) = facts.translated place (id, p) (slice_get_within kept place (id, p) at) in (
+          subst (λ (b : Book). slice_get b.paragraphs place ≡ Some (paragraph_kept (id, p))) is shown,
+          (rw (get_or_from_slice_get kept place (id, p) (id, p) at) at facts_here).print,
+        )
+
+  pub kept-past : (place : ℕ) → slice_get kept place ≡ None → slice_get book.paragraphs place ≡ None
+  kept-past place past = subst (λ (b : Book). slice_get b.paragraphs place ≡ None) is (slice_get-map paragraph_kept kept place ∙ ap (option_map paragraph_kept) past)

@@ -1,6 +1,7 @@
 pub mod Accepted
 pub mod Arranging
 pub mod ByName
+pub mod Expecting
 pub mod FirstUndefined
 pub mod Histories
 pub mod Judging
@@ -19,4 +20,6 @@ pub mod SoundBooks
 pub mod SoundParagraphs
 pub mod SoundSteps
 pub mod TableEntries
+pub mod TablePlanning
 pub mod TextTests
+pub mod Users

@@ -1,12 +1,10 @@
 -- A paragraph that was just typed, kept and as the book has it.
-use Rattle.std.proofs.Common.{◌≡◌, ℕ, List, refl, sym, ap, subst, ◌∙◌}
+use Rattle.std.proofs.Common.{ℕ, List, refl, sym, ap, subst, ◌∙◌}
 use Rattle.desk_book.specs.declared.paragraphs.Paragraph.{Paragraph as KeptParagraph}
 use Rattle.desk_book.specs.declared.tables.BookTable.{BookTable}
 use Rattle.desk_book.specs.Book.{Book, text_of}
 use Rattle.desk_book.specs.Changes.{AreCellsOf, IsKeptTyped}
-use Rattle.desk_book.specs.Kept.{paragraph_kept}
 use Rattle.desk_book.specs.Planned.{IsNewParagraph, IsTableFor}
-use Rattle.desk_book.specs.Step.{next_id, typed}
 use Rattle.desk_book.specs.Stored.{stored}
 
 pub IsKeptTyped-new : (book : Book) (name text : List ℕ) (table : BookTable) (kept : KeptParagraph) → IsTableFor book name table → IsNewParagraph name (stored text) table.rules kept → IsKeptTyped book kept.table text kept

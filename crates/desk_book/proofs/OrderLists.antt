@@ -1,6 +1,6 @@
 -- The ids of paragraphs that are put somewhere, against the order that is given for them.
-use Rattle.std.proofs.Common.{◌≡◌, ℕ, Bool, true, false, List, [], ◌∷◌, ◌++◌, map, Option, Some, None, refl, sym, ap, ◌∙◌, inl, inr}
-use Rattle.std.specs.List.{filter, flat_map}
+use Rattle.std.proofs.Common.{◌≡◌, ℕ, List, [], ◌∷◌, map, Some, refl, ap, ◌∙◌, inl, inr}
+use Rattle.std.specs.List.{filter}
 use Rattle.std.specs.Prelude.{nat_eq, not}
 use Rattle.std.proofs.lemmas.Bool.{cases_Bool}
 use Rattle.std.proofs.lemmas.List.{map-append}
@@ -41,7 +41,7 @@ ids_of-with_move book id anchor p found same =
     elim (cases_Bool (is_behind id anchor)) [
       | inl e ↦ rw e refl
       | inr e ↦ rw (e, found)
-      (ids_of-with_paragraph anchor p (without_paragraph id book.paragraphs)
-      ∙ (ap (λ (n : ℕ). with_id anchor n (ids_of (without_paragraph id book.paragraphs))) same
-      ∙ ap (with_id anchor id) (ids_of-without id book.paragraphs)))
+          (ids_of-with_paragraph anchor p (without_paragraph id book.paragraphs)
+          ∙ (ap (λ (n : ℕ). with_id anchor n (ids_of (without_paragraph id book.paragraphs))) same
+          ∙ ap (with_id anchor id) (ids_of-without id book.paragraphs)))
     ]

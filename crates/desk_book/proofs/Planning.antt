@@ -1,6 +1,6 @@
 -- How a command is judged while no version is expected, by what was found in the book.
-use Rattle.std.proofs.Common.{◌≡◌, ℕ, zero, suc, ◌+◌, ◌<◌, ◌≤◌, Bool, true, false, List, [], ◌∷◌, map, length, Option, Some, None, refl, sym, ap, subst, ◌∙◌, arith, inl, inr}
-use Rattle.std.specs.List.{All, Contains}
+use Rattle.std.proofs.Common.{◌≡◌, ℕ, zero, suc, ◌<◌, ◌≤◌, true, false, List, [], ◌∷◌, length, Some, None, refl, sym, ap, subst, ◌∙◌, arith, inl, inr}
+use Rattle.std.specs.List.{All}
 use Rattle.std.specs.Prelude.{IsSome, is_some, nat_eq}
 use Rattle.std.proofs.lemmas.Bool.{both_ways, cases_Bool, eqb-true}
 use Rattle.std.proofs.lemmas.List.Elements.{All-head, All-tail}
@@ -19,7 +19,7 @@ use Rattle.desk_book.specs.Judging.{Passes}
 use Rattle.desk_book.specs.Kept.{paragraph_kept}
 use Rattle.desk_book.specs.Limits.{most_paragraphs, most_print, most_version}
 use Rattle.desk_book.specs.Planned.{AreNotAllThere, AreThere, IsKeptFor, IsTableFor, IsTurnedDown}
-use Rattle.desk_book.specs.Refusals.{Holds, turn, IsAccepted, LacksParagraph, LacksTable, IsStruck, IsNotStruck, IsUndefined, adds_paragraph, live_paragraph, new_print, print_to_translate, text_given, struck_paragraph, paragraphs_named, table_named}
+use Rattle.desk_book.specs.Refusals.{Holds, turn, IsAccepted, IsUndefined, adds_paragraph, live_paragraph, new_print, print_to_translate, text_given, struck_paragraph, paragraphs_named, table_named}
 use Rattle.desk_book.specs.Step.{with_change}
 use Rattle.desk_book.specs.Stored.{IsClean, IsFirstBarred}
 use Rattle.desk_book.proofs.Judging.{IsAccepted-passes, IsRefused-passes, Passes-full, Passes-bad_text, Passes-moved, Passes-no_paragraph, Passes-no_table, Passes-not_struck, Passes-skip, Passes-struck, Passes-too_long, Passes-undefined, skips}
@@ -41,7 +41,7 @@ module _ (book : Book) where
   AreThere-cons id kept ids k rest other (zero, within, at) = subst (λ (n : ℕ). IsSome (paragraph_of book n)) at (ap is_some k.found)
   AreThere-cons id kept ids k rest other (suc i, within, at) = rest other (i, omega arith, at)
 
-same_some : {X : Type 0} (x y : X) → Some x ≡ Some y → x ≡ y
+pub same_some : {X : Type 0} (x y : X) → Some x ≡ Some y → x ≡ y
 same_some x y e = cc
 
 -- a table that defines a print leaves no first character of it undefined

@@ -4,7 +4,8 @@ ghost use Rattle.desk_book.specs.Changes.{AreCellsOf, AreRenewed, Carries};
 ghost use Rattle.desk_book.specs.Limits.{most_paragraphs, most_print, most_tables, most_version};
 ghost use Rattle.desk_book.specs.Name.{IsTableName};
 ghost use Rattle.desk_book.specs.Planned.{AreNotAllThere, AreThere, DefinesUser, IsFirstUser, IsKeptFor, IsNewParagraph, IsPlanned, IsTableFor, IsTurnedDown};
-ghost use Rattle.desk_book.specs.Refusals.{IsAccepted, IsRefused, paragraph_before};
+ghost use Rattle.desk_book.specs.Refusals.{IsAccepted, IsMoved, IsRefused, paragraph_before};
+ghost use Rattle.desk_book.specs.Step.{number_of};
 ghost use Rattle.desk_book.specs.Stored.{IsClean, IsFirstBarred};
 ghost use Rattle.louis_table.specs.Table.{Bad, Means};
 ghost use Rattle.louis_translate.specs.Position.{AreDefined, IsFirstUndefined};
@@ -169,13 +170,7 @@ impl Book {
         ensures refused { IfErr result (λ refusal.
             IsRefused self.now expect command.now refusal ⊎ (refusal ≡ Refusal.NoMemory)) }
     {
-        if let Some(expected) = expect {
-            if expected != self.version {
-                return Err(Refusal::Moved {
-                    version: self.version,
-                });
-            }
-        }
+        self.check_expected(expect)?;
         let effect = self.effect(alloc, command)?;
         Ok(Change {
             version: self.version + 1,
@@ -184,8 +179,24 @@ impl Book {
         })
     }
 
+    /// The book has the version that is expected, if one is.
+    fn check_expected(&self, expect: Option<u64>) -> Result<(), Refusal>
+        ensures same { OnOk result ((version : _) → ¬ IsMoved self.now expect version) }
+        ensures moved { IfErr result (λ refusal. (version : _) × (refusal ≡ Refusal.Moved version)
+            × IsMoved self.now expect version) }
+    {
+        match expect {
+            Some(expected) if expected != self.version => Err(Refusal::Moved {
+                version: self.version,
+            }),
+            _ => Ok(()),
+        }
+    }
+
     /// The number that a command answers.
-    fn number(&self, command: &Command) -> Option<u64> {
+    fn number(&self, command: &Command) -> Option<u64>
+        ensures { result ≡ number_of self.now command.now }
+    {
         match command {
             Command::TypeIn { .. } => Some(self.paragraphs.len() as u64 + 1),
             _ => None,
@@ -403,12 +414,7 @@ impl Book {
         })
     }
 
-    fn plan_replacement(
-        &self,
-        alloc: Global,
-        name: &Text,
-        text: &Bytes,
-    ) -> Result<Effect, Refusal>
+    fn plan_replacement(&self, alloc: Global, name: &Text, text: &Bytes) -> Result<Effect, Refusal>
         requires name { IsTableName name.now }
         requires old { IsSome (text_of self.now name.now) }
         ensures planned { IfOk result (IsPlanned self.now (Command.Table name.now text.now)) }

@@ -1,7 +1,7 @@
-use Rattle.std.proofs.Common.{◌≡◌, ◌++◌, ℕ, List, length, ap, subst, ◌∙◌}
+use Rattle.std.proofs.Common.{ℕ, length, ap, subst, ◌∙◌}
 use Rattle.louis_translate.specs.Remainder.{Remainder}
 use Rattle.louis_translate.specs.Tiling.{Covers}
-use Rattle.desk_book.proofs.PieceLists.{AreCellsUpTo, AreCellsUpTo-front, AreCellsUpTo-piece}
+use Rattle.desk_book.proofs.PieceLists.{AreCellsUpTo-front, AreCellsUpTo-piece}
 use Rattle.desk_book.proofs.braille.cells_of.Goals as goal
 
 pub loop-piece-init : goal.loop-piece-init

@@ -1,11 +1,11 @@
-use Rattle.std.proofs.Common.{◌≡◌, ℕ, List, None, refl, sym, ap, ◌∙◌, inr}
+use Rattle.std.proofs.Common.{◌≡◌, ℕ, None, refl, sym, ap, ◌∙◌, inr}
 use Rattle.std.proofs.lemmas.Result.{err_from_is_err_and}
 use Rattle.desk_book.specs.declared.command.Anchor.{Anchor}
 use Rattle.desk_book.specs.declared.command.Command.TheVariants.{Move}
 use Rattle.desk_book.specs.declared.paragraphs.Paragraph.{Paragraph as KeptParagraph}
 use Rattle.desk_book.specs.Book.{Book}
 use Rattle.desk_book.specs.Judging.{Passes}
-use Rattle.desk_book.specs.Kept.{ids, with_id_moved}
+use Rattle.desk_book.specs.Kept.{with_id_moved}
 use Rattle.desk_book.specs.Planned.{AreThere, IsKeptFor}
 use Rattle.desk_book.specs.Refusals.{paragraph_before}
 use Rattle.desk_book.specs.Step.{with_move}

@@ -1,4 +1,4 @@
-use Rattle.std.proofs.Common.{◌≡◌, ℕ, ◌<◌, Bool, false, List, [], Some, None, refl, sym, ap, subst, ◌∙◌, inr}
+use Rattle.std.proofs.Common.{◌≡◌, ℕ, ◌<◌, false, List, [], Some, None, refl, ap, subst, ◌∙◌, inr}
 use Rattle.std.specs.Prelude.{option_map}
 use Rattle.std.proofs.lemmas.Result.{err_from_is_err_and}
 use Rattle.louis_translate.specs.Position.{AreDefined, IsFirstUndefined}
@@ -106,6 +106,7 @@ returns-clause-planned c =
     let defined = subst (AreDefined rules) (print_is book c.args.id c.args.table.now _ kept _ c.as_slice-print.ensures) c.in_ok-check_print.ensures.defined in
     let judged = past_print book (Retable c.args.id c.args.table.now) c.args.table.now _ _ (given book c.args.id c.args.table.now _ kept) table passes defined in
     let copied = c.in_ok-copy.ensures ∙ c.as_str.ensures in
-    let cells = subst (λ (t : List ℕ). AreCellsOf rules t c.in_ok-cells_of.field-0) shown c.in_ok-cells_of.ensures in
-    (accepted_after book (Retable c.args.id c.args.table.now) 19 judged refl,
-    (_, refl, rw copied (refl, record { paragraph = _; there = kept.found; source = _; meaning = rules; found = table.found; means = table.means; cells_are = cells })))
+    let cells = subst (λ (t : List ℕ). AreCellsOf rules t c.in_ok-cells_of.field-0) shown c.in_ok-cells_of.ensures in (
+      accepted_after book (Retable c.args.id c.args.table.now) 19 judged refl,
+      (_, refl, rw copied (refl, record { paragraph = _; there = kept.found; source = _; meaning = rules; found = table.found; means = table.means; cells_are = cells })),
+    )

@@ -1,4 +1,4 @@
-use Rattle.std.proofs.Common.{◌≡◌, ℕ, Bool, [], None, refl, ap}
+use Rattle.std.proofs.Common.{[], refl, ap}
 use Rattle.std.proofs.lemmas.Result.{err_from_is_err_and}
 use Rattle.desk_book.specs.declared.command.Command.TheVariants.{Style}
 use Rattle.desk_book.specs.Kept.{paragraph_kept}

@@ -138,6 +138,7 @@ returns-clause-planned c =
     c.in_ok-order_with_next.ensures
     ∙ (ap (λ (n : ℕ). with_id c.args.anchor (n + 1) (ids c.self.inside.paragraphs)) (sym count)
     ∙ (ap (with_id c.args.anchor (next_id book)) (sym (ids_of-book _ _ _ book c.self.view_is))
-    ∙ sym (ids_of-with_paragraph c.args.anchor (typed (next_id book) c.args.table.now c.args.text.now) book.paragraphs))) in
-    (accepted_after book (TypeIn c.args.anchor c.args.table.now c.args.text.now) 19 judged refl,
-    (_, refl, (c.args.anchor, c.args.text.now, ap (λ (t : List ℕ). TypeIn c.args.anchor t c.args.text.now) (sym new.table_is), IsKeptTyped-new book c.args.table.now c.args.text.now _ kept c.in_ok-kept.ensures.found new, omega arith, order)))
+    ∙ sym (ids_of-with_paragraph c.args.anchor (typed (next_id book) c.args.table.now c.args.text.now) book.paragraphs))) in (
+      accepted_after book (TypeIn c.args.anchor c.args.table.now c.args.text.now) 19 judged refl,
+      (_, refl, (c.args.anchor, c.args.text.now, ap (λ (t : List ℕ). TypeIn c.args.anchor t c.args.text.now) (sym new.table_is), IsKeptTyped-new book c.args.table.now c.args.text.now _ kept c.in_ok-kept.ensures.found new, omega arith, order)),
+    )

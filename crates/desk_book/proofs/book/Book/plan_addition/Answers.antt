@@ -1,0 +1,60 @@
+use Rattle.std.proofs.Common.{ℕ, ◌<◌, List, None, length, refl, ◌∙◌, arith, inr}
+use Rattle.std.proofs.lemmas.Result.{err_from_is_err_and}
+use Rattle.desk_book.specs.declared.command.Command.TheVariants.{Table}
+use Rattle.desk_book.specs.Book.{Book}
+use Rattle.desk_book.specs.Judging.{Passes}
+use Rattle.desk_book.specs.Limits.{most_tables, most_version}
+use Rattle.desk_book.specs.Name.{IsTableName}
+use Rattle.desk_book.proofs.KeptLookups.{count-tables, sound}
+use Rattle.desk_book.proofs.Planning.{full_version, past_version}
+use Rattle.desk_book.proofs.TablePlanning.{full_tables, past_reading, past_tables, past_users, unread, unused}
+use Rattle.desk_book.proofs.book.Book.plan_addition.Goals as goal
+
+module _ (book : Book) (name text : List ℕ) (named : IsTableName name) (room : length book.tables < most_tables) where
+  roomy : Passes book None (Table name text) 13
+  roomy = past_tables book name text named (inr room)
+
+  left : book.version < most_version → Passes book None (Table name text) 17
+  left version = past_version book (Table name text) 13 roomy refl version
+
+pub returns-in_err-check_tables : goal.returns-in_err-check_tables
+returns-in_err-check_tables c =
+    let p = err_from_is_err_and c.from_residual.result c.from_residual.ensures.1 in
+    rw (p.1, p.2) (record { planned = tt; refused = full_tables c.args.self.now c.args.name.now c.args.text.now c.requires.name _ c.requires.new c.in_err-check_tables.ensures.full })
+
+pub returns-in_err-check_version : goal.returns-in_err-check_version
+returns-in_err-check_version c =
+    let p = err_from_is_err_and c.from_residual-in_err-check_version.result c.from_residual-in_err-check_version.ensures.1 in
+    let told = c.in_err-check_version.ensures.full in
+    let passes = roomy c.args.self.now c.args.name.now c.args.text.now c.requires.name c.in_ok-check_tables.ensures.left in
+    rw (p.1, p.2) (record { planned = tt; refused = full_version c.args.self.now (Table c.args.name.now c.args.text.now) 13 _ passes refl told.1 told.0 })
+
+pub returns-in_err-read_table : goal.returns-in_err-read_table
+returns-in_err-read_table c =
+    let p = err_from_is_err_and c.from_residual-in_err-read_table.result c.from_residual-in_err-read_table.ensures.1 in
+    let passes = left c.args.self.now c.args.name.now c.args.text.now c.requires.name c.in_ok-check_tables.ensures.left c.in_ok-check_version.ensures.left in
+    rw (p.1, p.2) (record { planned = tt; refused = unread c.args.self.now c.args.name.now c.args.text.now _ passes c.in_err-read_table.ensures.bad })
+
+pub returns-in_err-copy : goal.returns-in_err-copy
+returns-in_err-copy c =
+    let p = err_from_is_err_and c.from_residual-in_err-copy.result c.from_residual-in_err-copy.ensures.1 in
+    rw p.1 (record { planned = tt; refused = inr p.2 })
+
+pub returns-in_err-new : goal.returns-in_err-new
+returns-in_err-new c =
+    let p = err_from_is_err_and c.from_residual-in_err-new.result c.from_residual-in_err-new.ensures.1 in
+    rw p.1 (record { planned = tt; refused = inr p.2 })
+
+pub returns-clause-planned : goal.returns-clause-planned
+returns-clause-planned c =
+    let book = c.args.self.now in
+    let table = c.in_ok-read_table.field-0 in
+    let means = c.in_ok-read_table.ensures.means in
+    let passes = left book c.args.name.now c.args.text.now c.requires.name c.in_ok-check_tables.ensures.left c.in_ok-check_version.ensures.left in
+    let judged = past_users book c.args.name.now c.args.text.now table.rules means (past_reading book c.args.name.now c.args.text.now table.rules means passes)
+    (unused book c.args.name.now table.rules (sound _ _ _ book c.self.view_is c.self.invariant) c.requires.new) in
+    let name = c.in_ok-copy.ensures ∙ c.as_str.ensures in
+    let count = count-tables _ _ _ book c.self.view_is in
+    let many = c.len.ensures in
+    let room = c.in_ok-new.ensures in
+    (judged, (_, refl, rw (name, c.in_ok-read_table.ensures.text) (refl, c.requires.new, omega arith, means)))

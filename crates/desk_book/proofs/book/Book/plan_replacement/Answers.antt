@@ -1,0 +1,64 @@
+use Rattle.std.proofs.Common.{ℕ, ◌<◌, List, None, refl, ◌∙◌, inl, inr}
+use Rattle.std.specs.Prelude.{IsSome}
+use Rattle.std.proofs.lemmas.Result.{err_from_is_err_and}
+use Rattle.louis_table.specs.Meaning.{Meaning}
+use Rattle.louis_table.specs.Table.{Means}
+use Rattle.desk_book.specs.declared.command.Command.TheVariants.{Table}
+use Rattle.desk_book.specs.Book.{Book, text_of}
+use Rattle.desk_book.specs.Judging.{Passes}
+use Rattle.desk_book.specs.Limits.{most_version}
+use Rattle.desk_book.specs.Name.{IsTableName}
+use Rattle.desk_book.proofs.Planning.{full_version, past_version}
+use Rattle.desk_book.proofs.TablePlanning.{past_reading, past_tables, past_users, unread, untranslatable}
+use Rattle.desk_book.proofs.book.Book.plan_replacement.Goals as goal
+
+module _ (book : Book) (name text : List ℕ) (named : IsTableName name) (old : IsSome (text_of book name)) where
+  there : Passes book None (Table name text) 13
+  there = past_tables book name text named (inl old)
+
+  module _ (version : book.version < most_version) where
+    left : Passes book None (Table name text) 17
+    left = past_version book (Table name text) 13 there refl version
+
+    judged : (meaning : Meaning) → Means text meaning → Passes book None (Table name text) 19
+    judged meaning means = past_reading book name text meaning means left
+
+pub returns-in_err-check_version : goal.returns-in_err-check_version
+returns-in_err-check_version c =
+    let p = err_from_is_err_and c.from_residual.result c.from_residual.ensures.1 in
+    let told = c.in_err-check_version.ensures.full in
+    let passes = there c.args.self.now c.args.name.now c.args.text.now c.requires.name c.requires.old in
+    rw (p.1, p.2) (record { planned = tt; refused = full_version c.args.self.now (Table c.args.name.now c.args.text.now) 13 _ passes refl told.1 told.0 })
+
+pub returns-in_err-table : goal.returns-in_err-table
+returns-in_err-table c =
+    let p = err_from_is_err_and c.from_residual-in_err-table.result c.from_residual-in_err-table.ensures.1 in
+    let passes = left c.args.self.now c.args.name.now c.args.text.now c.requires.name c.requires.old c.in_ok-check_version.ensures.left in
+    rw (p.1, p.2) (record { planned = tt; refused = unread c.args.self.now c.args.name.now c.args.text.now _ passes c.in_err-table.ensures.bad })
+
+pub returns-in_err-check_users : goal.returns-in_err-check_users
+returns-in_err-check_users c =
+    let p = err_from_is_err_and c.from_residual-in_err-check_users.result c.from_residual-in_err-check_users.ensures.1 in
+    let means = c.in_ok-table.ensures.means in
+    let passes = judged c.args.self.now c.args.name.now c.args.text.now c.requires.name c.requires.old c.in_ok-check_version.ensures.left _ means in
+    let told = c.in_err-check_users.ensures.undefined in
+    rw (p.1, p.2) (record { planned = tt; refused = untranslatable c.args.self.now c.args.name.now c.args.text.now _ means _ told.0 told.1 passes told.2 told.3 })
+
+pub returns-in_err-cells : goal.returns-in_err-cells
+returns-in_err-cells c =
+    let p = err_from_is_err_and c.from_residual-in_err-cells.result c.from_residual-in_err-cells.ensures.1 in
+    rw p.1 (record { planned = tt; refused = inr p.2 })
+
+pub returns-in_err-copy : goal.returns-in_err-copy
+returns-in_err-copy c =
+    let p = err_from_is_err_and c.from_residual-in_err-copy.result c.from_residual-in_err-copy.ensures.1 in
+    rw p.1 (record { planned = tt; refused = inr p.2 })
+
+pub returns-clause-planned : goal.returns-clause-planned
+returns-clause-planned c =
+    let book = c.args.self.now in
+    let means = c.in_ok-table.ensures.means in
+    let passes = judged book c.args.name.now c.args.text.now c.requires.name c.requires.old c.in_ok-check_version.ensures.left _ means in
+    let accepted = past_users book c.args.name.now c.args.text.now _ means passes c.in_ok-check_users.ensures.defined in
+    let name = c.in_ok-copy.ensures ∙ c.as_str.ensures in
+    (accepted, (_, refl, rw (name, c.in_ok-table.ensures.text) (refl, c.requires.old, means, c.in_ok-cells.ensures)))
