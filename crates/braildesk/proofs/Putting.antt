@@ -6,21 +6,18 @@ use Rattle.louis_translate.specs.declared.pieces.Piece.{Piece}
 use Rattle.louis_translate.specs.Braille.{braille, cells_of, chosen_cells}
 use Rattle.louis_translate.specs.Piece.{IsPieceAt}
 use Rattle.louis_translate.specs.Sign.{sign_at}
-use Rattle.louis_translate.specs.Tiling.{Covers, Tiles}
+use Rattle.louis_translate.specs.Tiling.{Covers}
 use Rattle.louis_translate.proofs.Tilings.{Covers-next}
 use Rattle.braildesk.specs.Reply.{text_of}
 use Rattle.braildesk.specs.Sent.{Sent}
 use Rattle.braildesk.proofs.Encoding.{text_of-append}
-use Rattle.braildesk.proofs.Sending.{Sending, Sending-done, Sending-fails, Sending-more, Sending-none, Sending-same}
+use Rattle.braildesk.proofs.Sending.{Sending, Sending-done, Sending-fails, Sending-more, Sending-same}
 
 -- the choices from place i on are still to come
 pub record Putting (meaning : Meaning) (print : List ℕ) (i : ℕ) (old now : Option (List ℕ)) (block whole : List ℕ) : Type 0 where
   pub others : List Choice
   pub covers : Covers meaning print i others (length print)
   pub sending : Sending old now block (text_of (braille meaning print others)) whole
-
-pub Putting-none : (meaning : Meaning) (print : List ℕ) (choices : List Choice) (a : Option (List ℕ)) (block : List ℕ) → Tiles meaning print choices → Putting meaning print 0 a a block (block ++ text_of (braille meaning print choices))
-Putting-none meaning print choices a block tiles = record { others = choices; covers = tiles; sending = Sending-none a block _ _ refl }
 
 pub Putting-done : (F : Type 0) (meaning : Meaning) (print : List ℕ) (i : ℕ) (a b : Option (List ℕ)) (block whole : List ℕ) (ok : Bool) → Putting meaning print i a b block whole → i ≡ length print → ok ≡ true → Sent F a b whole block ok
 Putting-done F meaning print i a b block whole ok put end t =

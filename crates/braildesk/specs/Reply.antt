@@ -35,7 +35,7 @@ refusal_at code place = refusal code ++ 32 ∷ decimal place
 
 -- ---- the answer
 
--- what is answered to a print: its first undefined place, or else the braille of the choices that tile it
+-- what is answered to a print: no 7 with its first undefined place, or else the cells, as characters, of choices that tile it
 pub data AnswersPrint (meaning : Meaning) (print answer : List ℕ) : Type 0 where
   undefined : (place : ℕ) → IsFirstUndefined meaning print place → answer ≡ refusal_at 7 place → AnswersPrint meaning print answer
   shown : AreDefined meaning print → (choices : List Choice) → Tiles meaning print choices
@@ -45,7 +45,7 @@ pub data AnswersPrint (meaning : Meaning) (print answer : List ℕ) : Type 0 whe
 abbrev pub IsText : List ℕ → Type 0
 IsText line = (length line ≤ most_bytes) × IsUtf8 line
 
--- what is answered to a line: that it is no text, or else that its characters are too many, or else what is answered to its print
+-- what is answered to a line: no 1 where it is no text, else no 14 where its characters are too many, else what is answered to its print
 pub data IsAnswer (meaning : Meaning) (line answer : List ℕ) : Type 0 where
   no_text : ¬ IsText line → answer ≡ refusal 1 → IsAnswer meaning line answer
   too_long : IsText line → most_characters < length (chars line) → answer ≡ refusal 14 → IsAnswer meaning line answer
