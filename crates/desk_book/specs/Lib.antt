@@ -15,3 +15,4 @@ pub mod Kept
 pub mod Changes
 pub mod Planned
 pub mod Listed
+pub mod Rows

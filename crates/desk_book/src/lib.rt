@@ -29,6 +29,7 @@ mod paragraphs;
 mod plan;
 mod queries;
 mod refusal;
+pub mod rows;
 mod settle;
 mod stored;
 mod style;

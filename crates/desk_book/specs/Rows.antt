@@ -1,0 +1,38 @@
+-- The rows of a book's file, as numbers and lists. A text is its bytes.
+use Rattle.std.specs.Prelude.{ℕ, ℤ, List}
+
+pub record Tab : Type 0 where
+  pub name : List ℕ
+  pub body : List ℕ
+
+-- a row of tab as its file keeps it, under a rowid
+pub record StoredTab : Type 0 where
+  pub rowid : ℤ
+  pub row : Tab
+
+pub record Para : Type 0 where
+  pub id : ℤ
+  pub place : ℤ
+  pub tab : List ℕ
+  pub original : List ℕ
+  pub print : List ℕ
+  pub style : ℤ
+  pub volume : ℤ
+  pub struck : ℤ
+
+pub record Corr : Type 0 where
+  pub para : ℤ
+  pub seq : ℤ
+  pub kind : ℤ
+  pub start : ℤ
+  pub len : ℤ
+  pub body : List ℕ
+
+pub record Mark : Type 0 where
+  pub id : ℤ
+  pub para : ℤ
+  pub start : ℤ
+  pub stop : ℤ
+  pub note : List ℕ
+  pub touched : ℤ
+  pub resolved : ℤ

@@ -1,0 +1,108 @@
+-- The texts that make the tables.
+use Rattle.std.proofs.Common.{◌≡◌, ℕ, ◌+◌, ◌<◌, ◌≤◌, true, false, nat_lt, ◌==◌, List, [], ◌∷◌, ◌++◌, length, codes, slice_range, Ok, Some, None, refl, sym, ap, subst, ◌∙◌, arith}
+use Rattle.std.specs.List.{AllByRecursion}
+use Rattle.std.proofs.lemmas.Bool.Decides.{nat_tests}
+use Rattle.sqlite_trees.specs.Tree.{Trees}
+use Rattle.sqlite_ast.specs.declared.CreateTable as create
+use Rattle.sqlite_ast.specs.declared.Statement.{Statement}
+use Rattle.sqlite_ast.specs.declared.Statement.TheVariants.{CreateTable}
+use Rattle.sqlite_schema.specs.declared.schema.Schema.{Schema}
+use Rattle.sqlite_schema.specs.declared.schema.Table.{Table}
+use Rattle.sqlite_resolve.specs.Compile.{is_reserved, table_defined_by}
+use Rattle.sqlite_resolve.specs.Define as define
+use Rattle.sqlite_catalog.specs.Change.{created, is_used, next_tree, KeepsRows}
+use Rattle.sqlite_catalog.specs.Listing.{IsSound}
+use Rattle.sqlite_catalog.proofs.StepLemmas.{table_below}
+use Rattle.sqlite_rules.proofs.ListLemmas.{has_right}
+use Rattle.sqlite.proofs.Callers.{statement_of}
+use Rattle.sqlite.specs.Does.{lacks_sequence}
+use Rattle.sqlite.specs.Effect.{Database}
+use Rattle.sqlite.specs.State.{State, ExecutesInside}
+use Rattle.sqlite_tied.specs.Compute.{everything}
+use Rattle.desk_store.specs.Making.{IsMaking, first_rows}
+use Rattle.desk_store.specs.Tables.{book, tab, para, corr, mark}
+use Rattle.desk_store.proofs.Creating.{counts_still}
+use Rattle.desk_store.proofs.Meaning.{IsText, parse_of, create_is}
+use Rattle.desk_store.proofs.Running.{create_ran}
+use Rattle.std.proofs.Common.{inl}
+
+-- the text makes this table
+pub record IsMake (text : List ℕ) (table : Table) : Type 0 where
+  pub def : create.CreateTable
+  pub is_text : IsText text (CreateTable def)
+  pub name : def.name ≡ table.name
+  pub own : is_reserved def.name ≡ false
+  pub defined : define.table [] def ≡ Ok table
+  pub plain : (length table.computed == length table.stamps.places) ≡ true
+  pub unresolved : def.resolves ≡ false
+  pub spelled : slice_range text (parse_of text).start (parse_of text).end ≡ text
+  pub made : table_defined_by text ≡ Ok table
+  pub uncounted : table.is_counted ≡ false
+
+abbrev no_def : create.CreateTable
+no_def = record { if_missing = false; name = []; body = record { columns = []; rules = [] }; is_strict = false; resolves = false }
+
+abbrev def_in : Statement → create.CreateTable
+def_in (CreateTable def) = def
+def_in _ = no_def
+
+abbrev pub book_text : List ℕ
+book_text = codes "CREATE TABLE book (id INTEGER NOT NULL PRIMARY KEY, format INTEGER NOT NULL, version INTEGER NOT NULL) STRICT"
+
+pub makes_book : IsMake book_text (book 0)
+unfolding everything
+makes_book = record { def = def_in (parse_of book_text).statement; is_text = record { parsed = refl; statement = refl; timeless = refl }; name = refl; own = refl; defined = refl; plain = refl; unresolved = refl; spelled = refl; made = refl; uncounted = refl }
+
+abbrev pub tab_text : List ℕ
+tab_text = codes "CREATE TABLE tab (name TEXT NOT NULL PRIMARY KEY, body BLOB NOT NULL) STRICT"
+
+pub makes_tab : IsMake tab_text (tab 0)
+unfolding everything
+makes_tab = record { def = def_in (parse_of tab_text).statement; is_text = record { parsed = refl; statement = refl; timeless = refl }; name = refl; own = refl; defined = refl; plain = refl; unresolved = refl; spelled = refl; made = refl; uncounted = refl }
+
+abbrev pub para_text : List ℕ
+para_text = codes "CREATE TABLE para (id INTEGER NOT NULL PRIMARY KEY, place INTEGER NOT NULL, tab TEXT NOT NULL, original TEXT NOT NULL, print TEXT NOT NULL, style INTEGER NOT NULL, volume INTEGER NOT NULL, struck INTEGER NOT NULL) STRICT"
+
+pub makes_para : IsMake para_text (para 0)
+unfolding everything
+makes_para = record { def = def_in (parse_of para_text).statement; is_text = record { parsed = refl; statement = refl; timeless = refl }; name = refl; own = refl; defined = refl; plain = refl; unresolved = refl; spelled = refl; made = refl; uncounted = refl }
+
+abbrev pub corr_text : List ℕ
+corr_text = codes "CREATE TABLE corr (para INTEGER NOT NULL, seq INTEGER NOT NULL, kind INTEGER NOT NULL, start INTEGER NOT NULL, len INTEGER NOT NULL, body TEXT NOT NULL, PRIMARY KEY (para, seq)) STRICT"
+
+pub makes_corr : IsMake corr_text (corr 0)
+unfolding everything
+makes_corr = record { def = def_in (parse_of corr_text).statement; is_text = record { parsed = refl; statement = refl; timeless = refl }; name = refl; own = refl; defined = refl; plain = refl; unresolved = refl; spelled = refl; made = refl; uncounted = refl }
+
+abbrev pub mark_text : List ℕ
+mark_text = codes "CREATE TABLE mark (id INTEGER NOT NULL PRIMARY KEY, para INTEGER NOT NULL, start INTEGER NOT NULL, stop INTEGER NOT NULL, note TEXT NOT NULL, touched INTEGER NOT NULL, resolved INTEGER NOT NULL) STRICT"
+
+pub makes_mark : IsMake mark_text (mark 0)
+unfolding everything
+makes_mark = record { def = def_in (parse_of mark_text).statement; is_text = record { parsed = refl; statement = refl; timeless = refl }; name = refl; own = refl; defined = refl; plain = refl; unresolved = refl; spelled = refl; made = refl; uncounted = refl }
+
+pub none_below : (m n : ℕ) → n ≤ m → nat_lt m n ≡ false
+none_below m n low = grind (arith, nat_tests)
+
+kept_rows : (old new first : Trees) (tables : List Table) → AllByRecursion (λ t. old t.tree ≡ first t.tree) tables → KeepsRows tables old new → (more : List Table) → AllByRecursion (λ t. new t.tree ≡ first t.tree) more → AllByRecursion (λ t. new t.tree ≡ first t.tree) (tables ++ more)
+kept_rows old new first [] was same more these = these
+kept_rows old new first (t ∷ ts) was same more these = (same.0 ∙ was.0, kept_rows old new first ts was.1 same.1 more these)
+
+pub makes : (text : List ℕ) (table : Table) (m : IsMake text table) (committed : Database) (first : Schema) (rows : Trees) (before : Schema) (old new : State) (count : ℕ) → IsMaking committed first rows before old
+    → is_used before table.name ≡ false → lacks_sequence before ≡ false → ExecutesInside 0 text [] old new (Ok count) → IsMaking committed first rows (created before table) new
+makes text table m committed first rows before old new count was free counts h =
+    let means = create_is before text m.def table m.is_text (ap (is_used before) m.name ∙ free) m.own m.defined m.plain m.unresolved in
+    let spelled = ap (statement_of text) means ∙ m.spelled in
+    let made = create_ran before table text old new count was.schema means spelled m.made (counts_still before table m.uncounted counts) h.0 in
+    let new_table : Table = record table { tree = next_tree before } in
+    let empty : new.now.trees (next_tree before) ≡ first_rows first rows (next_tree before) = made.empty ∙ rw (none_below (next_tree before) (next_tree first) was.later) in
+    let above = table_below (created before table) new_table (has_right before.tables (new_table ∷ []) new_table (inl refl)) in
+    let later = was.later in
+    record {
+      schema = made.schema;
+      sound = subst (λ s. IsSound s new.now.trees) made.schema made.sound;
+      kept = kept_rows old.now.trees new.now.trees (first_rows first rows) before.tables was.kept made.others (new_table ∷ []) (empty, tt);
+      later = omega (arith, above, later);
+      inside = made.shown.mode ∙ was.inside;
+      over = (rw was.inside at made.shown.committed_is) ∙ was.over;
+    }

@@ -1,0 +1,19 @@
+use Rattle.std.proofs.Common.{◌≡◌, take}
+use Rattle.sqlite.specs.Effect.{Database}
+use Rattle.sqlite.specs.State.{HasCleanDisk, Survives}
+use Rattle.desk_store.specs.Contents.{Contents}
+use Rattle.desk_store.specs.Layout.{Layout}
+use Rattle.desk_store.specs.Puts.{with_puts}
+use Rattle.desk_store.specs.States.{IsUnder, seen}
+use Rattle.desk_store.proofs.put.put_all.Given as goal
+
+-- those so far are put, and nothing is committed
+abbrev pub invariant-loop-one : goal.invariant-loop-one
+invariant-loop-one g l =
+    let old = seen g.S.Store l.fn.tx in
+    let now = seen g.S.Store l.tx in
+    record {
+      same : l.tx.conn.ghost_name ≡ l.fn.tx.conn.ghost_name;
+      survives : Survives old now (λ _. ⊥);
+      put : HasCleanDisk now → (committed : Database) (layout : Layout) (c : Contents) → IsUnder committed layout c old → IsUnder committed layout (with_puts (take l.one-index l.puts) c) now;
+    }

@@ -1,0 +1,32 @@
+use Rattle.std.proofs.Common.{[], map, sym, ap, ◌∙◌, IfOk, OnOk, IfErr}
+use Rattle.std.proofs.lemmas.Result.{IfOk-weaker, err_from_is_err_and}
+use Rattle.sqlite.specs.Held.{state}
+use Rattle.desk_store.specs.Contents.{six_columns}
+use Rattle.desk_store.proofs.Quiet.{commits_nothing, on_ok, on_err, shown_quietly, refused_as_it_was}
+use Rattle.desk_store.proofs.ReadCorr.{text, reads_only, corr_read}
+use Rattle.desk_store.proofs.read.read_corrs.Goals as goal
+
+pub returns-clause-rows : goal.returns-clause-rows
+returns-clause-rows g c clean l was =
+    IfOk-weaker c.corrs_of.result _ _ (λ xs made.
+    corr_read l.schema l.corr was.declared.corr (state g.S.Store c.args.conn.now) (state g.S.Store c.ask.new.conn) was.schema was.sound c.in_ok-rows.rows.items xs.items (c.in_ok-rows.ensures.shown clean)
+    (ap (map six_columns) (sym c.deref.ensures.value) ∙ made)) c.corrs_of.ensures
+
+pub returns-clause-unchanged : goal.returns-clause-unchanged
+returns-clause-unchanged g c clean =
+    on_ok c.corrs_of.result _ (shown_quietly text reads_only [] (state g.S.Store c.args.conn.now) (state g.S.Store c.ask.new.conn) c.in_ok-rows.rows.items (c.in_ok-rows.ensures.shown clean))
+
+pub returns-clause-refused : goal.returns-clause-refused
+returns-clause-refused g c clean =
+    on_err c.corrs_of.result _ (λ fault refused. shown_quietly text reads_only [] (state g.S.Store c.args.conn.now) (state g.S.Store c.ask.new.conn) c.in_ok-rows.rows.items (c.in_ok-rows.ensures.shown clean))
+
+pub returns-in_err-rows-clause-refused : goal.returns-in_err-rows-clause-refused
+returns-in_err-rows-clause-refused g c clean =
+    let p = err_from_is_err_and c.from_residual.result c.from_residual.ensures.1 in
+    rw (p.1, p.2) (refused_as_it_was text reads_only [] (state g.S.Store c.args.conn.now) (state g.S.Store c.ask.new.conn) _ (c.in_err-rows.ensures.failed clean))
+
+pub returns-clause-survives : goal.returns-clause-survives
+returns-clause-survives g c = commits_nothing text reads_only [] (state g.S.Store c.args.conn.now) (state g.S.Store c.ask.new.conn) c.ask.ensures.survives
+
+pub returns-in_err-rows-clause-survives : goal.returns-in_err-rows-clause-survives
+returns-in_err-rows-clause-survives g c = commits_nothing text reads_only [] (state g.S.Store c.args.conn.now) (state g.S.Store c.ask.new.conn) c.ask.ensures.survives

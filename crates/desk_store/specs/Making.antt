@@ -1,0 +1,74 @@
+-- What making the five tables makes of a file that has none of them.
+use Rattle.std.specs.Prelude.{◌≡◌, ◌<◌, ◌≤◌, pos, true, false, if◌then◌else◌, nat_lt, [], ◌∷◌, codes}
+use Rattle.std.specs.List.{AllByRecursion}
+use Rattle.sqlite_trees.specs.Tree.{Trees}
+use Rattle.sqlite_schema.specs.declared.schema.Index.{Index}
+use Rattle.sqlite_schema.specs.declared.schema.Schema.{Schema}
+use Rattle.sqlite_rules.specs.Lists.{Has}
+use Rattle.sqlite_catalog.specs.Change.{created, next_tree, is_used}
+use Rattle.sqlite_catalog.specs.Listing.{IsSound}
+use Rattle.sqlite.specs.Does.{lacks_sequence}
+use Rattle.sqlite.specs.Effect.{Database}
+use Rattle.sqlite.specs.State.{State}
+use Rattle.desk_store.specs.Contents.{Contents}
+use Rattle.desk_store.specs.Layout.{Layout}
+use Rattle.desk_store.specs.Tables as tables
+
+-- No table, index or view has the name of one of the five, and no table counts without a counter.
+pub record AreAbsent (s : Schema) : Type 0 where
+  pub book : is_used s (codes "book") ≡ false
+  pub tab : is_used s (codes "tab") ≡ false
+  pub para : is_used s (codes "para") ≡ false
+  pub corr : is_used s (codes "corr") ≡ false
+  pub mark : is_used s (codes "mark") ≡ false
+  pub counted : lacks_sequence s ≡ false
+
+-- each index is on a table, so below the tree that the next table takes
+abbrev pub IndexesLow : Schema → Type 0
+IndexesLow s = (i : Index) → Has s.indexes i → i.table < next_tree s
+
+-- the schema with the tables, one after another
+abbrev pub with_book : Schema → Schema
+with_book s = created s (tables.book 0)
+
+abbrev pub with_tab : Schema → Schema
+with_tab s = created (with_book s) (tables.tab 0)
+
+abbrev pub with_para : Schema → Schema
+with_para s = created (with_tab s) (tables.para 0)
+
+abbrev pub with_corr : Schema → Schema
+with_corr s = created (with_para s) (tables.corr 0)
+
+abbrev pub with_mark : Schema → Schema
+with_mark s = created (with_corr s) (tables.mark 0)
+
+abbrev pub made : Schema → Layout
+made s = record {
+  schema = with_mark s;
+  book = next_tree s;
+  tab = next_tree (with_book s);
+  para = next_tree (with_tab s);
+  corr = next_tree (with_para s);
+  mark = next_tree (with_corr s);
+}
+
+-- the rows of the tables that were there, and none of others
+abbrev pub first_rows : Schema → Trees → Trees
+first_rows s rows tree = if nat_lt tree (next_tree s) then rows tree else []
+
+abbrev pub no_contents : Schema → Trees → Contents
+no_contents s rows = record { books = []; tabs = []; paras = []; corrs = []; marks = []; others = first_rows s rows }
+
+-- the row of a new book alone, in format 1 and at version 0
+abbrev pub first_contents : Schema → Trees → Contents
+first_contents s rows = record (no_contents s rows) { books = record { id = pos 1; format = pos 1; version = pos 0 } ∷ [] }
+
+-- within a transaction over this commit the schema has come so far, and the tables have those rows
+pub record IsMaking (committed : Database) (first : Schema) (rows : Trees) (now : Schema) (s : State) : Type 0 where
+  pub schema : s.now.schema ≡ now
+  pub sound : IsSound now s.now.trees
+  pub kept : AllByRecursion (λ t. s.now.trees t.tree ≡ first_rows first rows t.tree) now.tables
+  pub later : next_tree first ≤ next_tree now
+  pub inside : s.in_transaction ≡ true
+  pub over : s.committed ≡ committed

@@ -1,0 +1,42 @@
+-- What a connection shows, and what a crash may leave.
+use Rattle.std.specs.Prelude.{◌≡◌, true}
+use Rattle.sqlite_trees.specs.Tree.{Trees}
+use Rattle.sqlite_trees.specs.declared.store.Store.{Ghosts}
+use Rattle.sqlite_catalog.specs.Listing.{IsSound}
+use Rattle.sqlite.specs.Effect.{Database}
+use Rattle.sqlite.specs.Held.{state}
+use Rattle.sqlite.specs.State.{State}
+use Rattle.sqlite.specs.declared.transaction.Transaction.{Transaction}
+use Rattle.desk_store.specs.Layout.{Layout, AreDeclared}
+use Rattle.desk_store.specs.Contents.{Contents, Holds}
+
+-- what a transaction shows
+abbrev pub seen : {S : Type 0} (g : Ghosts S) → Transaction S → State
+seen g tx = state g tx.conn.now
+
+-- the trees are a database of this layout, with this in its tables
+pub record IsFile (l : Layout) (c : Contents) (db : Trees) : Type 0 where
+  pub declared : AreDeclared l
+  pub sound : IsSound l.schema db
+  pub holds : Holds l c db
+
+-- the connection shows such a database
+pub record Shows (l : Layout) (c : Contents) (s : State) : Type 0 where
+  pub schema : s.now.schema ≡ l.schema
+  pub is : IsFile l c s.now.trees
+
+-- it shows it within a transaction, over this last commit
+pub record IsUnder (committed : Database) (l : Layout) (c : Contents) (s : State) : Type 0 where
+  pub shows : Shows l c s
+  pub inside : s.in_transaction ≡ true
+  pub over : s.committed ≡ committed
+
+-- a crash now leaves only trees with this
+abbrev pub Leaves : (Trees → Type 0) → State → Type 0
+Leaves P s = (db : Trees) → s.may_leave db → P db
+
+-- the connection shows a database in which the five tables are declared
+pub record IsLaidOut (l : Layout) (s : State) : Type 0 where
+  pub schema : s.now.schema ≡ l.schema
+  pub declared : AreDeclared l
+  pub sound : IsSound l.schema s.now.trees

@@ -1,0 +1,36 @@
+//! Why the rows can't be read.
+
+ghost use Rattle.std.specs.Prelude.{◌≡◌};
+ghost use Rattle.desk_store.specs.Fault.{told};
+
+use sqlite::{Error, ErrorCode};
+
+/// Why the rows can't be read.
+#[derive(Clone, Copy, Debug, PartialEq, Eq)]
+pub enum ReadFault {
+    /// A growth was refused.
+    NoMemory,
+    /// The store failed: reading or writing, damage of the pages, size, or a shut database.
+    Lost,
+    /// The statement or a value was refused for another cause: a missing table or column, or a value of another kind.
+    Refused,
+}
+
+impl ReadFault {
+    /// How an error of the database is told.
+    pub(crate) fn of(error: Error) -> ReadFault
+        ensures { result ≡ told error }
+    {
+        match error {
+            Error::SqliteFailure(ErrorCode::OutOfMemory) => ReadFault::NoMemory,
+            Error::SqliteFailure(
+                ErrorCode::SystemIoFailure
+                | ErrorCode::DatabaseCorrupt
+                | ErrorCode::DiskFull
+                | ErrorCode::Closed
+                | ErrorCode::TooBig,
+            ) => ReadFault::Lost,
+            _ => ReadFault::Refused,
+        }
+    }
+}

@@ -1,0 +1,136 @@
+//! The five tables of a new book.
+
+ghost use Rattle.std.specs.Prelude.{◌≡◌, false, OnOk, codes};
+ghost use Rattle.sqlite_trees.specs.Tree.{Trees};
+ghost use Rattle.sqlite_schema.specs.declared.schema.Schema.{Schema};
+ghost use Rattle.sqlite_catalog.specs.Change.{created, is_used};
+ghost use Rattle.sqlite.specs.Does.{lacks_sequence};
+ghost use Rattle.sqlite.specs.Effect.{Database, IsDatabase};
+ghost use Rattle.sqlite.specs.Held.{state};
+ghost use Rattle.sqlite.specs.State.{HasCleanDisk, Survives};
+ghost use Rattle.desk_store.specs.Making.{AreAbsent, IndexesLow, IsMaking, with_para, made, first_contents};
+ghost use Rattle.desk_store.specs.States.{IsFile, IsUnder, Shows, seen};
+ghost use Rattle.desk_store.specs.Tables as tables;
+
+use crate::put::put_book;
+use desk_book::rows::BookRow;
+use sqlite::{Alter, Connection, Error, Transaction};
+
+/// Makes `book`.
+fn create_book<S: Alter>(tx: &mut Transaction<'_, S>) -> Result<(), Error>
+    ensures same_reference { tx.new.conn.ghost_name ≡ tx.old.conn.ghost_name }
+    ensures made { HasCleanDisk (seen S.Store tx.new) → (committed : Database) (first : Schema) (rows : Trees) (before : Schema) → IsMaking committed first rows before (seen S.Store tx.old)
+        → is_used before (codes "book") ≡ false → lacks_sequence before ≡ false → OnOk result (IsMaking committed first rows (created before (tables.book 0)) (seen S.Store tx.new)) }
+    ensures survives { Survives (seen S.Store tx.old) (seen S.Store tx.new) (λ _. ⊥) }
+{
+    tx.execute(
+        "CREATE TABLE book (id INTEGER NOT NULL PRIMARY KEY, format INTEGER NOT NULL, version INTEGER NOT NULL) STRICT",
+        &[],
+    )?;
+    Ok(())
+}
+
+/// Makes `tab`.
+fn create_tab<S: Alter>(tx: &mut Transaction<'_, S>) -> Result<(), Error>
+    ensures same_reference { tx.new.conn.ghost_name ≡ tx.old.conn.ghost_name }
+    ensures made { HasCleanDisk (seen S.Store tx.new) → (committed : Database) (first : Schema) (rows : Trees) (before : Schema) → IsMaking committed first rows before (seen S.Store tx.old)
+        → is_used before (codes "tab") ≡ false → lacks_sequence before ≡ false → OnOk result (IsMaking committed first rows (created before (tables.tab 0)) (seen S.Store tx.new)) }
+    ensures survives { Survives (seen S.Store tx.old) (seen S.Store tx.new) (λ _. ⊥) }
+{
+    tx.execute(
+        "CREATE TABLE tab (name TEXT NOT NULL PRIMARY KEY, body BLOB NOT NULL) STRICT",
+        &[],
+    )?;
+    Ok(())
+}
+
+/// Makes `para`.
+fn create_para<S: Alter>(tx: &mut Transaction<'_, S>) -> Result<(), Error>
+    ensures same_reference { tx.new.conn.ghost_name ≡ tx.old.conn.ghost_name }
+    ensures made { HasCleanDisk (seen S.Store tx.new) → (committed : Database) (first : Schema) (rows : Trees) (before : Schema) → IsMaking committed first rows before (seen S.Store tx.old)
+        → is_used before (codes "para") ≡ false → lacks_sequence before ≡ false → OnOk result (IsMaking committed first rows (created before (tables.para 0)) (seen S.Store tx.new)) }
+    ensures survives { Survives (seen S.Store tx.old) (seen S.Store tx.new) (λ _. ⊥) }
+{
+    tx.execute(
+        "CREATE TABLE para (id INTEGER NOT NULL PRIMARY KEY, place INTEGER NOT NULL, tab TEXT NOT NULL, original TEXT NOT NULL, print TEXT NOT NULL, style INTEGER NOT NULL, volume INTEGER NOT NULL, struck INTEGER NOT NULL) STRICT",
+        &[],
+    )?;
+    Ok(())
+}
+
+/// Makes `corr`.
+fn create_corr<S: Alter>(tx: &mut Transaction<'_, S>) -> Result<(), Error>
+    ensures same_reference { tx.new.conn.ghost_name ≡ tx.old.conn.ghost_name }
+    ensures made { HasCleanDisk (seen S.Store tx.new) → (committed : Database) (first : Schema) (rows : Trees) (before : Schema) → IsMaking committed first rows before (seen S.Store tx.old)
+        → is_used before (codes "corr") ≡ false → lacks_sequence before ≡ false → OnOk result (IsMaking committed first rows (created before (tables.corr 0)) (seen S.Store tx.new)) }
+    ensures survives { Survives (seen S.Store tx.old) (seen S.Store tx.new) (λ _. ⊥) }
+{
+    tx.execute(
+        "CREATE TABLE corr (para INTEGER NOT NULL, seq INTEGER NOT NULL, kind INTEGER NOT NULL, start INTEGER NOT NULL, len INTEGER NOT NULL, body TEXT NOT NULL, PRIMARY KEY (para, seq)) STRICT",
+        &[],
+    )?;
+    Ok(())
+}
+
+/// Makes `mark`.
+fn create_mark<S: Alter>(tx: &mut Transaction<'_, S>) -> Result<(), Error>
+    ensures same_reference { tx.new.conn.ghost_name ≡ tx.old.conn.ghost_name }
+    ensures made { HasCleanDisk (seen S.Store tx.new) → (committed : Database) (first : Schema) (rows : Trees) (before : Schema) → IsMaking committed first rows before (seen S.Store tx.old)
+        → is_used before (codes "mark") ≡ false → lacks_sequence before ≡ false → OnOk result (IsMaking committed first rows (created before (tables.mark 0)) (seen S.Store tx.new)) }
+    ensures survives { Survives (seen S.Store tx.old) (seen S.Store tx.new) (λ _. ⊥) }
+{
+    tx.execute(
+        "CREATE TABLE mark (id INTEGER NOT NULL PRIMARY KEY, para INTEGER NOT NULL, start INTEGER NOT NULL, stop INTEGER NOT NULL, note TEXT NOT NULL, touched INTEGER NOT NULL, resolved INTEGER NOT NULL) STRICT",
+        &[],
+    )?;
+    Ok(())
+}
+
+/// Makes the first three tables.
+fn create_first<S: Alter>(tx: &mut Transaction<'_, S>) -> Result<(), Error>
+    ensures same_reference { tx.new.conn.ghost_name ≡ tx.old.conn.ghost_name }
+    ensures made { HasCleanDisk (seen S.Store tx.new) → (committed : Database) (s : Schema) (rows : Trees) → AreAbsent s → IsMaking committed s rows s (seen S.Store tx.old)
+        → OnOk result (IsMaking committed s rows (with_para s) (seen S.Store tx.new)) }
+    ensures survives { Survives (seen S.Store tx.old) (seen S.Store tx.new) (λ _. ⊥) }
+{
+    create_book(tx)?;
+    create_tab(tx)?;
+    create_para(tx)?;
+    Ok(())
+}
+
+/// Makes the other two, and puts the book's row.
+fn create_rest<S: Alter>(tx: &mut Transaction<'_, S>) -> Result<(), Error>
+    ensures same_reference { tx.new.conn.ghost_name ≡ tx.old.conn.ghost_name }
+    ensures made { HasCleanDisk (seen S.Store tx.new) → (committed : Database) (s : Schema) (rows : Trees) → AreAbsent s → IndexesLow s → IsMaking committed s rows (with_para s) (seen S.Store tx.old)
+        → OnOk result (IsUnder committed (made s) (first_contents s rows) (seen S.Store tx.new)) }
+    ensures survives { Survives (seen S.Store tx.old) (seen S.Store tx.new) (λ _. ⊥) }
+{
+    create_corr(tx)?;
+    create_mark(tx)?;
+    let row = BookRow {
+        id: 1,
+        format: 1,
+        version: 0,
+    };
+    put_book(tx, &row)?;
+    Ok(())
+}
+
+/// Makes the five tables with the row of a new book, in format 1 and at version 0, as one. The error is the database's, and a crash then
+/// leaves none of the tables or all of them.
+pub fn make_tables<S: Alter>(conn: &mut Connection<S>) -> Result<(), Error>
+    requires { conn.old.in_transaction ≡ false }
+    ensures idle { conn.new.in_transaction ≡ false }
+    ensures made { HasCleanDisk (state S.Store conn.new) → AreAbsent (state S.Store conn.old).now.schema → IsDatabase (state S.Store conn.old).now
+        → OnOk result (Shows (made (state S.Store conn.old).now.schema) (first_contents (state S.Store conn.old).now.schema (state S.Store conn.old).now.trees) (state S.Store conn.new)) }
+    // Of a crash at any exit: nothing new is left but all of it.
+    ensures crash { AreAbsent (state S.Store conn.old).now.schema → IsDatabase (state S.Store conn.old).now
+        → Survives (state S.Store conn.old) (state S.Store conn.new) (IsFile (made (state S.Store conn.old).now.schema) (first_contents (state S.Store conn.old).now.schema (state S.Store conn.old).now.trees)) }
+{
+    let mut tx = conn.transaction();
+    create_first(&mut tx)?;
+    create_rest(&mut tx)?;
+    tx.commit()?;
+    Ok(())
+}

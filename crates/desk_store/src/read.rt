@@ -1,0 +1,274 @@
+//! The statements that read a table whole.
+//!
+//! Each answers the rows as they stand, in order, and changes nothing.
+
+ghost use Rattle.std.specs.Prelude.{◌≡◌, false, [], IfOk, IfErr, OnOk, map};
+ghost use Rattle.std.specs.Ordering.{int_cmp, is_lt, nat_cmp, ordering_then};
+ghost use Rattle.std.specs.Cmp.Lexicographic.{slice_cmp};
+ghost use Rattle.desk_book.specs.declared.rows.BookRow.{BookRow as Book};
+ghost use Rattle.std.specs.List.Sorted.{IsSortedBy, IsSortedByKey};
+ghost use Rattle.sqlite_value.specs.Order.{column};
+ghost use Rattle.sqlite.specs.declared.error.Error.{Error as Failure};
+ghost use Rattle.sqlite.specs.Held.{state};
+ghost use Rattle.sqlite.specs.State.{HasCleanDisk, CommitsShowing, FailsToQuery, IsUnchanged, Shown, Survives};
+ghost use Rattle.desk_store.specs.Contents.{Lists, three_columns, six_columns, seven_columns, eight_columns, book_row, stored_tab_row, para_row, corr_row, mark_row, book_columns, stored_tab_columns, para_columns, corr_columns, mark_columns};
+ghost use Rattle.desk_store.specs.Layout.{Layout};
+ghost use Rattle.desk_store.specs.Fault.{told};
+ghost use Rattle.desk_store.specs.States.{IsLaidOut};
+
+use crate::fault::ReadFault;
+use desk_book::rows::{BookRow, CorrRow, MarkRow, ParaRow, StoredTab, TabRow};
+use sqlite::types::FromSql;
+use sqlite::{Alter, Connection, Row};
+use std::alloc::Global;
+
+/// The rows that a query shows.
+fn ask<S: Alter>(conn: &mut Connection<S>, sql: &str) -> Result<Vec<Row>, ReadFault>
+    ensures shown { HasCleanDisk (state S.Store conn.new) → IfOk result (λ rows. Shown sql.now [] (state S.Store conn.old) (state S.Store conn.new) rows.items) }
+    ensures failed { HasCleanDisk (state S.Store conn.new) → IfErr result (λ fault. (e : Failure) × FailsToQuery sql.now [] (state S.Store conn.old) (state S.Store conn.new) e × (fault ≡ told e)) }
+    ensures mode { conn.old.in_transaction ≡ false → conn.new.in_transaction ≡ false }
+    ensures survives { Survives (state S.Store conn.old) (state S.Store conn.new) (CommitsShowing sql.now [] (state S.Store conn.old)) }
+{
+    match conn.query_all(sql, &[]) {
+        Ok(rows) => Ok(rows),
+        Err(error) => Err(ReadFault::of(error)),
+    }
+}
+
+/// The value in a column.
+fn value<T: FromSql>(row: &Row, at: usize) -> Result<T, ReadFault>
+    ensures { IfOk result (λ x. T.FromSql.reads_as (column row.now at) x) }
+{
+    match row.get(at) {
+        Ok(value) => Ok(value),
+        Err(error) => Err(ReadFault::of(error)),
+    }
+}
+
+/// The row of the book from its columns.
+fn book_of(row: &Row) -> Result<BookRow, ReadFault>
+    ensures { IfOk result (λ x. three_columns row.now ≡ book_row x) }
+{
+    Ok(BookRow {
+        id: value(row, 0)?,
+        format: value(row, 1)?,
+        version: value(row, 2)?,
+    })
+}
+
+/// Each of the rows, in turn.
+fn books_of(alloc: Global, rows: &[Row]) -> Result<Vec<BookRow>, ReadFault>
+    ensures { IfOk result (λ xs. map three_columns rows.now ≡ map book_row xs.items) }
+{
+    let mut books = Vec::new(alloc);
+    for row in rows {
+        let book = book_of(row)?;
+        if books.push(book).is_err() {
+            return Err(ReadFault::NoMemory);
+        }
+    }
+    Ok(books)
+}
+
+/// The rows of `book`, in order of their ids.
+pub fn read_books<S: Alter>(
+    alloc: Global,
+    conn: &mut Connection<S>,
+) -> Result<Vec<BookRow>, ReadFault>
+    ensures rows { HasCleanDisk (state S.Store conn.new) → (l : Layout) → IsLaidOut l (state S.Store conn.old) → IfOk result (λ xs.
+        Lists book_row book_columns xs.items ((state S.Store conn.old).now.trees l.book) × IsSortedByKey (λ (b : Book). b.id) int_cmp xs.items) }
+    ensures unchanged { HasCleanDisk (state S.Store conn.new) → OnOk result (IsUnchanged (state S.Store conn.old) (state S.Store conn.new)) }
+    ensures refused { HasCleanDisk (state S.Store conn.new) → IfErr result (λ fault. fault ≡ ReadFault.Refused → IsUnchanged (state S.Store conn.old) (state S.Store conn.new)) }
+    ensures mode { conn.old.in_transaction ≡ false → conn.new.in_transaction ≡ false }
+    ensures survives { Survives (state S.Store conn.old) (state S.Store conn.new) (λ _. ⊥) }
+{
+    let rows = ask(conn, "SELECT id, format, version FROM book ORDER BY id")?;
+    books_of(alloc, &rows)
+}
+
+/// A braille table from its columns.
+fn tab_of(row: &Row) -> Result<StoredTab, ReadFault>
+    ensures { IfOk result (λ x. three_columns row.now ≡ stored_tab_row x) }
+{
+    Ok(StoredTab {
+        rowid: value(row, 0)?,
+        row: TabRow {
+            name: value(row, 1)?,
+            body: value(row, 2)?,
+        },
+    })
+}
+
+/// Each of the rows, in turn.
+fn tabs_of(alloc: Global, rows: &[Row]) -> Result<Vec<StoredTab>, ReadFault>
+    ensures { IfOk result (λ xs. map three_columns rows.now ≡ map stored_tab_row xs.items) }
+{
+    let mut tabs = Vec::new(alloc);
+    for row in rows {
+        let tab = tab_of(row)?;
+        if tabs.push(tab).is_err() {
+            return Err(ReadFault::NoMemory);
+        }
+    }
+    Ok(tabs)
+}
+
+/// The braille tables, in order of their names.
+pub fn read_tabs<S: Alter>(
+    alloc: Global,
+    conn: &mut Connection<S>,
+) -> Result<Vec<StoredTab>, ReadFault>
+    ensures rows { HasCleanDisk (state S.Store conn.new) → (l : Layout) → IsLaidOut l (state S.Store conn.old) → IfOk result (λ xs.
+        Lists stored_tab_row stored_tab_columns xs.items ((state S.Store conn.old).now.trees l.tab) × IsSortedByKey (λ t. t.row.name) (slice_cmp nat_cmp) xs.items) }
+    ensures unchanged { HasCleanDisk (state S.Store conn.new) → OnOk result (IsUnchanged (state S.Store conn.old) (state S.Store conn.new)) }
+    ensures refused { HasCleanDisk (state S.Store conn.new) → IfErr result (λ fault. fault ≡ ReadFault.Refused → IsUnchanged (state S.Store conn.old) (state S.Store conn.new)) }
+    ensures mode { conn.old.in_transaction ≡ false → conn.new.in_transaction ≡ false }
+    ensures survives { Survives (state S.Store conn.old) (state S.Store conn.new) (λ _. ⊥) }
+{
+    let rows = ask(conn, "SELECT rowid, name, body FROM tab ORDER BY name")?;
+    tabs_of(alloc, &rows)
+}
+
+/// A paragraph from its columns.
+fn para_of(row: &Row) -> Result<ParaRow, ReadFault>
+    ensures { IfOk result (λ x. eight_columns row.now ≡ para_row x) }
+{
+    Ok(ParaRow {
+        id: value(row, 0)?,
+        place: value(row, 1)?,
+        tab: value(row, 2)?,
+        original: value(row, 3)?,
+        print: value(row, 4)?,
+        style: value(row, 5)?,
+        volume: value(row, 6)?,
+        struck: value(row, 7)?,
+    })
+}
+
+/// Each of the rows, in turn.
+fn paras_of(alloc: Global, rows: &[Row]) -> Result<Vec<ParaRow>, ReadFault>
+    ensures { IfOk result (λ xs. map eight_columns rows.now ≡ map para_row xs.items) }
+{
+    let mut paras = Vec::new(alloc);
+    for row in rows {
+        let para = para_of(row)?;
+        if paras.push(para).is_err() {
+            return Err(ReadFault::NoMemory);
+        }
+    }
+    Ok(paras)
+}
+
+/// The paragraphs, in order of their ids.
+pub fn read_paras<S: Alter>(
+    alloc: Global,
+    conn: &mut Connection<S>,
+) -> Result<Vec<ParaRow>, ReadFault>
+    ensures rows { HasCleanDisk (state S.Store conn.new) → (l : Layout) → IsLaidOut l (state S.Store conn.old) → IfOk result (λ xs.
+        Lists para_row para_columns xs.items ((state S.Store conn.old).now.trees l.para) × IsSortedByKey (λ p. p.id) int_cmp xs.items) }
+    ensures unchanged { HasCleanDisk (state S.Store conn.new) → OnOk result (IsUnchanged (state S.Store conn.old) (state S.Store conn.new)) }
+    ensures refused { HasCleanDisk (state S.Store conn.new) → IfErr result (λ fault. fault ≡ ReadFault.Refused → IsUnchanged (state S.Store conn.old) (state S.Store conn.new)) }
+    ensures mode { conn.old.in_transaction ≡ false → conn.new.in_transaction ≡ false }
+    ensures survives { Survives (state S.Store conn.old) (state S.Store conn.new) (λ _. ⊥) }
+{
+    let rows = ask(
+        conn,
+        "SELECT id, place, tab, original, print, style, volume, struck FROM para ORDER BY id",
+    )?;
+    paras_of(alloc, &rows)
+}
+
+/// An entry of a history from its columns.
+fn corr_of(row: &Row) -> Result<CorrRow, ReadFault>
+    ensures { IfOk result (λ x. six_columns row.now ≡ corr_row x) }
+{
+    Ok(CorrRow {
+        para: value(row, 0)?,
+        seq: value(row, 1)?,
+        kind: value(row, 2)?,
+        start: value(row, 3)?,
+        len: value(row, 4)?,
+        body: value(row, 5)?,
+    })
+}
+
+/// Each of the rows, in turn.
+fn corrs_of(alloc: Global, rows: &[Row]) -> Result<Vec<CorrRow>, ReadFault>
+    ensures { IfOk result (λ xs. map six_columns rows.now ≡ map corr_row xs.items) }
+{
+    let mut corrs = Vec::new(alloc);
+    for row in rows {
+        let corr = corr_of(row)?;
+        if corrs.push(corr).is_err() {
+            return Err(ReadFault::NoMemory);
+        }
+    }
+    Ok(corrs)
+}
+
+/// The entries of the histories, in order of their paragraphs and numbers.
+pub fn read_corrs<S: Alter>(
+    alloc: Global,
+    conn: &mut Connection<S>,
+) -> Result<Vec<CorrRow>, ReadFault>
+    ensures rows { HasCleanDisk (state S.Store conn.new) → (l : Layout) → IsLaidOut l (state S.Store conn.old) → IfOk result (λ xs.
+        Lists corr_row corr_columns xs.items ((state S.Store conn.old).now.trees l.corr) × IsSortedBy (λ a b. is_lt (ordering_then (int_cmp a.para b.para) (int_cmp a.seq b.seq))) xs.items) }
+    ensures unchanged { HasCleanDisk (state S.Store conn.new) → OnOk result (IsUnchanged (state S.Store conn.old) (state S.Store conn.new)) }
+    ensures refused { HasCleanDisk (state S.Store conn.new) → IfErr result (λ fault. fault ≡ ReadFault.Refused → IsUnchanged (state S.Store conn.old) (state S.Store conn.new)) }
+    ensures mode { conn.old.in_transaction ≡ false → conn.new.in_transaction ≡ false }
+    ensures survives { Survives (state S.Store conn.old) (state S.Store conn.new) (λ _. ⊥) }
+{
+    let rows = ask(
+        conn,
+        "SELECT para, seq, kind, start, len, body FROM corr ORDER BY para, seq",
+    )?;
+    corrs_of(alloc, &rows)
+}
+
+/// A mark from its columns.
+fn mark_of(row: &Row) -> Result<MarkRow, ReadFault>
+    ensures { IfOk result (λ x. seven_columns row.now ≡ mark_row x) }
+{
+    Ok(MarkRow {
+        id: value(row, 0)?,
+        para: value(row, 1)?,
+        start: value(row, 2)?,
+        stop: value(row, 3)?,
+        note: value(row, 4)?,
+        touched: value(row, 5)?,
+        resolved: value(row, 6)?,
+    })
+}
+
+/// Each of the rows, in turn.
+fn marks_of(alloc: Global, rows: &[Row]) -> Result<Vec<MarkRow>, ReadFault>
+    ensures { IfOk result (λ xs. map seven_columns rows.now ≡ map mark_row xs.items) }
+{
+    let mut marks = Vec::new(alloc);
+    for row in rows {
+        let mark = mark_of(row)?;
+        if marks.push(mark).is_err() {
+            return Err(ReadFault::NoMemory);
+        }
+    }
+    Ok(marks)
+}
+
+/// The marks, in order of their ids.
+pub fn read_marks<S: Alter>(
+    alloc: Global,
+    conn: &mut Connection<S>,
+) -> Result<Vec<MarkRow>, ReadFault>
+    ensures rows { HasCleanDisk (state S.Store conn.new) → (l : Layout) → IsLaidOut l (state S.Store conn.old) → IfOk result (λ xs.
+        Lists mark_row mark_columns xs.items ((state S.Store conn.old).now.trees l.mark) × IsSortedByKey (λ m. m.id) int_cmp xs.items) }
+    ensures unchanged { HasCleanDisk (state S.Store conn.new) → OnOk result (IsUnchanged (state S.Store conn.old) (state S.Store conn.new)) }
+    ensures refused { HasCleanDisk (state S.Store conn.new) → IfErr result (λ fault. fault ≡ ReadFault.Refused → IsUnchanged (state S.Store conn.old) (state S.Store conn.new)) }
+    ensures mode { conn.old.in_transaction ≡ false → conn.new.in_transaction ≡ false }
+    ensures survives { Survives (state S.Store conn.old) (state S.Store conn.new) (λ _. ⊥) }
+{
+    let rows = ask(
+        conn,
+        "SELECT id, para, start, stop, note, touched, resolved FROM mark ORDER BY id",
+    )?;
+    marks_of(alloc, &rows)
+}

@@ -1,0 +1,30 @@
+//! A change of the rows, as one transaction.
+
+ghost use Rattle.std.specs.Prelude.{◌≡◌, false, IsTrue, OnOk};
+ghost use Rattle.sqlite.specs.Held.{state};
+ghost use Rattle.sqlite.specs.State.{HasCleanDisk, Survives};
+ghost use Rattle.desk_store.specs.Layout.{Layout};
+ghost use Rattle.desk_store.specs.Contents.{Contents};
+ghost use Rattle.desk_store.specs.Puts.{with_puts};
+ghost use Rattle.desk_store.specs.States.{IsFile, Leaves, Shows};
+
+use crate::put::put_all;
+use desk_book::rows::Put;
+use sqlite::{Alter, Connection, Error};
+
+/// Puts these in turn and commits them, as one. The error is the database's, and a crash then leaves the rows from before or all of these.
+pub fn write<S: Alter>(conn: &mut Connection<S>, puts: &[Put<'_>]) -> Result<(), Error>
+    requires { conn.old.in_transaction ≡ false }
+    ensures idle { conn.new.in_transaction ≡ false }
+    ensures written { HasCleanDisk (state S.Store conn.new) → (l : Layout) (c : Contents) → Shows l c (state S.Store conn.old) → OnOk result (Shows l (with_puts puts.now c) (state S.Store conn.new)) }
+    ensures open { HasCleanDisk (state S.Store conn.new) → OnOk result (IsTrue (state S.Store conn.new).is_open × ((state S.Store conn.new).committed ≡ (state S.Store conn.new).now)) }
+    // Of a crash at any exit: nothing new is left but all of it.
+    ensures crash { (l : Layout) (c : Contents) → Shows l c (state S.Store conn.old) → Survives (state S.Store conn.old) (state S.Store conn.new) (IsFile l (with_puts puts.now c)) }
+    // At `Ok` it leaves nothing else.
+    ensures settled { HasCleanDisk (state S.Store conn.new) → (l : Layout) (c : Contents) → Shows l c (state S.Store conn.old) → OnOk result (Leaves (IsFile l (with_puts puts.now c)) (state S.Store conn.new)) }
+{
+    let mut tx = conn.transaction();
+    put_all(&mut tx, puts)?;
+    tx.commit()?;
+    Ok(())
+}
