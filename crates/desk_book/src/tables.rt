@@ -137,22 +137,3 @@ impl Tables {
         Tables { entries }
     }
 }
-
-#[cfg(test)]
-mod tests {
-    use super::*;
-    use std::test::Fail;
-
-    #[test]
-    fn a_table_is_found_by_its_name(rt: HostRuntime) -> Result<(), Fail> {
-        let alloc = rt.alloc();
-        let table = BookTable::read(alloc, b"letter a 1\n")?;
-        let name = Text::from_string(String::from_str(alloc, "short")?);
-        let room = TablesRoom::new(alloc, 1)?;
-        let tables = Tables::new(alloc).joined(name, table, room);
-        assert_eq!(rt; tables.len(), 1);
-        assert!(rt; tables.get("short").is_some());
-        assert!(rt; tables.get("shor").is_none());
-        Ok(())
-    }
-}
