@@ -33,6 +33,8 @@ test:
 
 bench: $(PROGRAM)
 	bench/translate.sh
+	bench/tables.sh
+	bench/typing.sh
 
 install: $(PROGRAM)
 	install -d '$(DESTDIR)$(PREFIX)/bin'
