@@ -1,16 +1,14 @@
 -- The text that reads corr whole, in order of para and seq.
-use Rattle.std.proofs.Common.{◌≡◌, ℕ, ◌+◌, ◌<◌, ◌≤◌, ◌^◌, nat_lt, Bool, true, List, [], ◌∷◌, length, map, codes, slice_get, Option, Some, None, refl, ap, ◌∙◌, is_lt, int_cmp, nat_cmp, ap₂, IsPermutation, lit<, lit≤}
-use Rattle.std.specs.List.{AllByRecursion, AllZip}
+use Rattle.std.proofs.Common.{◌≡◌, ℕ, true, List, [], ◌∷◌, map, codes, None, refl, ap, ◌∙◌, is_lt, int_cmp, ap₂, lit<, lit≤}
+use Rattle.std.specs.List.{AllByRecursion}
 use Rattle.std.specs.Ordering.{ordering_then}
-use Rattle.std.specs.Cmp.Lexicographic.{slice_cmp}
 use Rattle.std.specs.List.Sorted.{IsSortedBy}
 use Rattle.sqlite_value.specs.Keys.{plain}
 use Rattle.sqlite_value.specs.Order.{Row, column}
-use Rattle.sqlite_value.proofs.OrderLemmas.{value_cmp-Int, value_cmp-Text, then-Equal}
+use Rattle.sqlite_value.proofs.OrderLemmas.{value_cmp-Int, then-Equal}
 use Rattle.sqlite_schema.specs.declared.schema.Kind.TheVariants.{Integer, Text}
 use Rattle.sqlite_schema.specs.declared.schema.Schema.{Schema}
-use Rattle.sqlite_sql.specs.Query.{output_cmp}
-use Rattle.sqlite_sql.specs.Term.{Term, col}
+use Rattle.sqlite_sql.specs.Term.{col}
 use Rattle.sqlite_resolve.specs.declared.scope.Output.{Output}
 use Rattle.sqlite_catalog.specs.Listing.{IsSound}
 use Rattle.sqlite.specs.declared.error.Error.{Error}
@@ -21,15 +19,13 @@ use Rattle.desk_store.specs.Contents.{Lists, corr_row, corr_columns}
 use Rattle.desk_store.specs.Kinds.{HaveUtf8Texts, IsUtf8Text, HasKinds, kinds_of}
 use Rattle.desk_store.specs.Layout.{IsDeclared}
 use Rattle.desk_store.specs.Tables.{corr, needed}
-use Rattle.desk_store.proofs.Columns.{IsShown, IsKey, column_shown, rowid_shown, column_key, column_output, rowid_output}
+use Rattle.desk_store.proofs.Columns.{column_shown, column_key, column_output}
 use Rattle.desk_store.proofs.Faults.{IsStoreFailure}
-use Rattle.desk_store.proofs.Meaning.{parse_of}
-use Rattle.desk_store.proofs.OneTable.{query_on}
 use Rattle.desk_store.proofs.Parsing.{parsed}
 use Rattle.desk_store.proofs.Quiet.{reads}
 use Rattle.desk_store.proofs.RowKinds.{hidden_kinds, all_texts, all_shown}
-use Rattle.desk_store.proofs.Selecting.{source_of, shown_by, sorts_of}
-use Rattle.desk_store.proofs.WholeTables.{IsRead, parts, rows_are, fails_by_store}
+use Rattle.desk_store.proofs.Selecting.{source_of}
+use Rattle.desk_store.proofs.WholeTables.{IsRead, rows_are, fails_by_store}
 use Rattle.sqlite_resolve.specs.Compile.{first}
 
 abbrev pub text : List ℕ
