@@ -1,6 +1,7 @@
 //! The statements that read a table whole.
 //!
-//! Each answers the rows as they stand, in order, and changes nothing.
+//! Each answers the rows as they stand, in order, and changes nothing. Over a clean disk, where the five tables are
+//! there with integer rowids and texts in UTF-8 and the steps have no limit, only memory or the store makes it fail.
 
 ghost use Rattle.std.specs.Prelude.{◌≡◌, ◌≢◌, ◌<◌, false, None, [], ◌∷◌, length, IfOk, IfErr, OnOk, map};
 ghost use Rattle.std.specs.Ordering.{int_cmp, is_lt, nat_cmp, ordering_then};
@@ -9,13 +10,13 @@ ghost use Rattle.desk_book.specs.declared.rows.BookRow.{BookRow as Book};
 ghost use Rattle.std.specs.List.{AllByRecursion};
 ghost use Rattle.std.specs.List.Sorted.{IsSortedBy, IsSortedByKey};
 ghost use Rattle.sqlite_value.specs.Order.{column};
+ghost use Rattle.sqlite_schema.specs.declared.schema.Kind.TheVariants.{Integer};
 ghost use Rattle.sqlite.specs.declared.error.Error.{Error as Failure};
 ghost use Rattle.sqlite.specs.Held.{state};
 ghost use Rattle.sqlite.specs.State.{HasCleanDisk, CommitsShowing, FailsToQuery, IsUnchanged, Shown, Survives};
+ghost use Rattle.desk_store.specs.Kinds.{HasKinds, HaveIntegerRowids, HaveUtf8Texts, kinds_of};
 ghost use Rattle.desk_store.specs.Contents.{Lists, three_columns, six_columns, seven_columns, eight_columns, book_row, stored_tab_row, para_row, corr_row, mark_row, book_columns, stored_tab_columns, para_columns, corr_columns, mark_columns};
 ghost use Rattle.desk_store.specs.Layout.{Layout};
-ghost use Rattle.sqlite_schema.specs.declared.schema.Kind.TheVariants.{Integer};
-ghost use Rattle.desk_store.specs.Kinds.{HaveUtf8Texts, HasKinds, HaveIntegerRowids, kinds_of};
 ghost use Rattle.desk_store.specs.Tables as tables;
 ghost use Rattle.desk_store.specs.Fault.{told};
 ghost use Rattle.desk_store.specs.States.{IsLaidOut};
