@@ -26,6 +26,7 @@ pub mod Orders
 pub mod Quiet
 pub mod Faults
 pub mod Reading
+pub mod RowKinds
 pub mod WholeTables
 pub mod Parsing
 pub mod ReadBook

@@ -1,5 +1,5 @@
 -- A text that is a SELECT writes nothing, whatever the schema is.
-use Rattle.std.proofs.Common.{◌≡◌, ◌≢◌, ◌⊎◌, inl, inr, ℕ, ◌+◌, Bool, true, false, cond, List, None, Some, Ok, Err, Result, OnOk, IfErr, refl, sym, ap, subst, ◌∙◌, true≢false}
+use Rattle.std.proofs.Common.{◌≡◌, ◌≢◌, ◌⊎◌, inl, inr, ℕ, ◌+◌, Bool, true, false, cond, List, None, Ok, Err, Result, OnOk, IfErr, refl, sym, ap, subst, ◌∙◌, true≢false}
 use Rattle.sqlite_ast.specs.declared.Statement.{Statement}
 use Rattle.sqlite_ast.specs.declared.Statement.TheVariants.{Select}
 use Rattle.sqlite_syntax.specs.declared.statement.Parsed.{Parsed}
@@ -19,7 +19,7 @@ use Rattle.sqlite.specs.State.{State, store_error, IsUnchanged, IsNotRun, FailsT
 use Rattle.sqlite_trees.specs.declared.error.StoreError.TheVariants.{OutOfMemory, Io, Corrupt, Full, Broken, Unstorable}
 use Rattle.desk_store.specs.Fault.{told}
 use Rattle.desk_store.specs.declared.fault.ReadFault.{ReadFault}
-use Rattle.desk_store.specs.declared.fault.ReadFault.TheVariants.{Refused}
+use Rattle.desk_store.specs.declared.fault.ReadFault.TheVariants.{NoMemory, Refused}
 use Rattle.sqlite.proofs.StateLemmas.{survives_weaker}
 
 abbrev selects : Statement → Bool
@@ -68,6 +68,16 @@ store_is_told Corrupt e = absurd (cc)
 store_is_told Full e = absurd (cc)
 store_is_told Broken e = absurd (cc)
 store_is_told Unstorable e = absurd (cc)
+
+-- where only the store makes a query fail, it is told as that
+pub never_refused : (text : List ℕ) (params : Row) (old new : State) (fault : ReadFault) → ((e : Error) → FailsToQuery text params old new e → (cause : StoreError) × (e ≡ store_error cause))
+    → (e : Error) × FailsToQuery text params old new e × (fault ≡ told e) → fault ≢ Refused
+never_refused text params old new fault fails (e, failed, is) refused = let store = fails e failed in store_is_told store.0 (ap told (sym store.1) ∙ sym is ∙ refused)
+
+-- want of memory is no refusal
+pub not_refused : {A : Type 0} (r : Result A ReadFault) → IfErr r (λ fault. fault ≡ NoMemory) → IfErr r (λ fault. fault ≢ Refused)
+not_refused (Ok a) none = tt
+not_refused (Err fault) none = λ refused. absurd (let both = sym none ∙ refused in cc)
 
 module _ (text : List ℕ) (is : reads (first text) ≡ true) where
   in_schema : (schema : Schema) (c : Compiled) → compiled schema text ≡ Ok c → c.returning ≡ None

@@ -1,16 +1,14 @@
 -- The text that reads corr whole, in order of para and seq.
-use Rattle.std.proofs.Common.{◌≡◌, ℕ, ◌+◌, ◌<◌, ◌≤◌, ◌^◌, nat_lt, Bool, true, List, [], ◌∷◌, length, map, codes, slice_get, Option, Some, None, refl, ap, ◌∙◌, is_lt, int_cmp, nat_cmp, ap₂, IsPermutation, lit<, lit≤}
-use Rattle.std.specs.List.{AllZip}
+use Rattle.std.proofs.Common.{◌≡◌, ℕ, true, List, [], ◌∷◌, map, codes, None, refl, ap, ◌∙◌, is_lt, int_cmp, ap₂, lit<, lit≤}
+use Rattle.std.specs.List.{AllByRecursion}
 use Rattle.std.specs.Ordering.{ordering_then}
-use Rattle.std.specs.Cmp.Lexicographic.{slice_cmp}
 use Rattle.std.specs.List.Sorted.{IsSortedBy}
 use Rattle.sqlite_value.specs.Keys.{plain}
 use Rattle.sqlite_value.specs.Order.{Row, column}
-use Rattle.sqlite_value.proofs.OrderLemmas.{value_cmp-Int, value_cmp-Text, then-Equal}
+use Rattle.sqlite_value.proofs.OrderLemmas.{value_cmp-Int, then-Equal}
 use Rattle.sqlite_schema.specs.declared.schema.Kind.TheVariants.{Integer, Text}
 use Rattle.sqlite_schema.specs.declared.schema.Schema.{Schema}
-use Rattle.sqlite_sql.specs.Query.{output_cmp}
-use Rattle.sqlite_sql.specs.Term.{Term, col}
+use Rattle.sqlite_sql.specs.Term.{col}
 use Rattle.sqlite_resolve.specs.declared.scope.Output.{Output}
 use Rattle.sqlite_catalog.specs.Listing.{IsSound}
 use Rattle.sqlite.specs.declared.error.Error.{Error}
@@ -18,16 +16,16 @@ use Rattle.sqlite.specs.State.{State, Shown, FailsToQuery}
 use Rattle.sqlite_tied.specs.Compute.{everything}
 use Rattle.desk_book.specs.Rows.{Corr}
 use Rattle.desk_store.specs.Contents.{Lists, corr_row, corr_columns}
+use Rattle.desk_store.specs.Kinds.{HaveUtf8Texts, IsUtf8Text, HasKinds, kinds_of}
 use Rattle.desk_store.specs.Layout.{IsDeclared}
 use Rattle.desk_store.specs.Tables.{corr, needed}
-use Rattle.desk_store.proofs.Columns.{IsShown, IsKey, column_shown, rowid_shown, column_key, column_output, rowid_output}
+use Rattle.desk_store.proofs.Columns.{column_shown, column_key, column_output}
 use Rattle.desk_store.proofs.Faults.{IsStoreFailure}
-use Rattle.desk_store.proofs.Meaning.{parse_of}
-use Rattle.desk_store.proofs.OneTable.{query_on}
 use Rattle.desk_store.proofs.Parsing.{parsed}
 use Rattle.desk_store.proofs.Quiet.{reads}
-use Rattle.desk_store.proofs.Selecting.{source_of, shown_by, sorts_of}
-use Rattle.desk_store.proofs.WholeTables.{IsRead, parts, rows_are, fails_by_store}
+use Rattle.desk_store.proofs.RowKinds.{hidden_kinds, all_texts, all_shown}
+use Rattle.desk_store.proofs.Selecting.{source_of}
+use Rattle.desk_store.proofs.WholeTables.{IsRead, rows_are, fails_by_store}
 use Rattle.sqlite_resolve.specs.Compile.{first}
 
 abbrev pub text : List ℕ
@@ -111,6 +109,15 @@ module _ (schema : Schema) (tree : ℕ) (d : IsDeclared schema (corr tree)) (old
   corr_read rows es h is =
       let found = rows_are (codes "corr") (corr 0).columns None (1 ∷ 2 ∷ []) ((1 ∷ 2 ∷ []) ∷ []) (plain ∷ []) text is_read schema tree d old new has sound corr_columns (λ s. column s 0 ∷ column s 1 ∷ []) (λ r. refl) (λ r. refl) rows h in
       parsed corr_columns given corr_row (λ r. refl) _ (λ a b. refl) (λ a b. is_lt (ordering_then (int_cmp a.para b.para) (int_cmp a.seq b.seq))) (λ a b. ap is_lt (ap₂ ordering_then (value_cmp-Int a.para b.para) (then-Equal _ ∙ value_cmp-Int a.seq b.seq))) (old.now.trees tree) rows es found.0 found.1 is
+
+  -- the values that are read have the kinds of their columns
+  pub corr_kinds : (rows : List Row) → Shown text [] old new rows → HaveUtf8Texts (old.now.trees tree) → AllByRecursion (HasKinds (kinds_of (corr 0))) rows
+  unfolding is_read
+  corr_kinds rows h utf8 =
+      let found = rows_are (codes "corr") (corr 0).columns None (1 ∷ 2 ∷ []) ((1 ∷ 2 ∷ []) ∷ []) (plain ∷ []) text is_read schema tree d old new has sound corr_columns (λ s. column s 0 ∷ column s 1 ∷ []) (λ r. refl) (λ r. refl) rows h in
+      all_shown schema (corr tree) d old.now.trees sound (AllByRecursion IsUtf8Text) corr_columns (kinds_of (corr 0))
+      (λ row kept is. hidden_kinds (corr tree) row kept refl refl (all_texts _ (corr tree).columns is))
+      rows utf8 found.0
 
   -- only the store makes the reading fail
   pub corr_fails : old.step_limit ≡ None → (e : Error) → FailsToQuery text [] old new e → IsStoreFailure e

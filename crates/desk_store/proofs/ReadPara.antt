@@ -1,14 +1,14 @@
 -- The text that reads para whole, in order of id.
-use Rattle.std.proofs.Common.{◌≡◌, ℕ, ◌+◌, ◌<◌, ◌≤◌, ◌^◌, nat_lt, Bool, true, List, [], ◌∷◌, length, map, codes, slice_get, Option, Some, None, refl, ap, ◌∙◌, is_lt, int_cmp, IsPermutation, lit<, lit≤}
-use Rattle.std.specs.List.{AllZip}
+use Rattle.std.proofs.Common.{◌≡◌, drop, IsTrue, ℕ, true, List, [], ◌∷◌, map, codes, Some, None, refl, ap, ◌∙◌, is_lt, int_cmp, lit<, lit≤}
+use Rattle.std.specs.List.{AllByRecursion}
 use Rattle.std.specs.List.Sorted.{IsSortedBy}
-use Rattle.sqlite_value.specs.Keys.{plain}
 use Rattle.sqlite_value.specs.Order.{Row, column}
-use Rattle.sqlite_value.proofs.OrderLemmas.{value_cmp-Int, value_cmp-Text, then-Equal}
+use Rattle.sqlite_value.proofs.OrderLemmas.{value_cmp-Int, then-Equal}
 use Rattle.sqlite_schema.specs.declared.schema.Kind.TheVariants.{Integer, Text}
 use Rattle.sqlite_schema.specs.declared.schema.Schema.{Schema}
-use Rattle.sqlite_sql.specs.Query.{output_cmp}
-use Rattle.sqlite_sql.specs.Term.{Term, col}
+use Rattle.sqlite_trees.specs.Tree.{rowid}
+use Rattle.sqlite_trees.specs.View.{is_int}
+use Rattle.sqlite_sql.specs.Term.{col}
 use Rattle.sqlite_resolve.specs.declared.scope.Output.{Output}
 use Rattle.sqlite_catalog.specs.Listing.{IsSound}
 use Rattle.sqlite.specs.declared.error.Error.{Error}
@@ -16,16 +16,16 @@ use Rattle.sqlite.specs.State.{State, Shown, FailsToQuery}
 use Rattle.sqlite_tied.specs.Compute.{everything}
 use Rattle.desk_book.specs.Rows.{Para}
 use Rattle.desk_store.specs.Contents.{Lists, para_row, para_columns}
+use Rattle.desk_store.specs.Kinds.{HaveIntegerRowids, HaveUtf8Texts, IsUtf8Text, HasKinds, kinds_of}
 use Rattle.desk_store.specs.Layout.{IsDeclared}
 use Rattle.desk_store.specs.Tables.{para, needed}
-use Rattle.desk_store.proofs.Columns.{IsShown, IsKey, column_shown, rowid_shown, column_key, column_output, rowid_output}
+use Rattle.desk_store.proofs.Columns.{column_shown, column_key, column_output}
 use Rattle.desk_store.proofs.Faults.{IsStoreFailure}
-use Rattle.desk_store.proofs.Meaning.{parse_of}
-use Rattle.desk_store.proofs.OneTable.{query_on}
 use Rattle.desk_store.proofs.Parsing.{parsed}
 use Rattle.desk_store.proofs.Quiet.{reads}
-use Rattle.desk_store.proofs.Selecting.{source_of, shown_by, sorts_of}
-use Rattle.desk_store.proofs.WholeTables.{IsRead, parts, rows_are, fails_by_store}
+use Rattle.desk_store.proofs.RowKinds.{integer_of, numbered_kinds, all_texts, all_both, all_shown}
+use Rattle.desk_store.proofs.Selecting.{source_of}
+use Rattle.desk_store.proofs.WholeTables.{IsRead, rows_are, fails_by_store}
 use Rattle.sqlite_resolve.specs.Compile.{first}
 
 abbrev pub text : List ℕ
@@ -112,6 +112,15 @@ module _ (schema : Schema) (tree : ℕ) (d : IsDeclared schema (para tree)) (old
   para_read rows ps h is =
       let found = rows_are (codes "para") (para 0).columns (Some 0) (0 ∷ []) [] [] text is_read schema tree d old new has sound para_columns (λ s. column s 0 ∷ []) (λ r. refl) (λ r. refl) rows h in
       parsed para_columns given para_row (λ r. refl) _ (λ a b. refl) (λ a b. is_lt (int_cmp a.id b.id)) (λ a b. ap is_lt (then-Equal _ ∙ value_cmp-Int a.id b.id)) (old.now.trees tree) rows ps found.0 found.1 is
+
+  -- the values that are read have the kinds of their columns
+  pub para_kinds : (rows : List Row) → Shown text [] old new rows → HaveIntegerRowids (old.now.trees tree) → HaveUtf8Texts (old.now.trees tree) → AllByRecursion (HasKinds (kinds_of (para 0))) rows
+  unfolding is_read
+  para_kinds rows h ids utf8 =
+      let found = rows_are (codes "para") (para 0).columns (Some 0) (0 ∷ []) [] [] text is_read schema tree d old new has sound para_columns (λ s. column s 0 ∷ []) (λ r. refl) (λ r. refl) rows h in
+      all_shown schema (para tree) d old.now.trees sound (λ r. IsTrue (is_int (rowid r)) × AllByRecursion IsUtf8Text r) para_columns (kinds_of (para 0))
+      (λ row kept is. (integer_of (rowid row) is.0, numbered_kinds (para tree) row _ _ kept refl refl refl (all_texts _ (drop 1 (para tree).columns) is.1)))
+      rows (all_both _ _ _ ids utf8) found.0
 
   -- only the store makes the reading fail
   pub para_fails : old.step_limit ≡ None → (e : Error) → FailsToQuery text [] old new e → IsStoreFailure e

@@ -1,13 +1,13 @@
 -- What a file holds: the rows of the five tables, and those of the other tables.
-use Rattle.std.specs.Prelude.{◌≡◌, ℕ, ℤ, pos, ◌≤◌, Bool, not, if◌then◌else◌, List, [], ◌∷◌, map, filter, length, bytes_eq, IsTrue, IsPermutation}
+use Rattle.std.specs.Prelude.{◌≡◌, ℕ, ℤ, pos, ◌≤◌, Bool, not, if◌then◌else◌, List, [], ◌∷◌, map, filter, length, bytes_eq, IsPermutation}
 use Rattle.std.specs.List.{AllByRecursion}
 use Rattle.std.specs.Ordering.{int_eq}
 use Rattle.sqlite_value.specs.declared.value.Value.TheVariants.{Int, Text, Blob}
 use Rattle.sqlite_value.specs.Order.{Row, column}
-use Rattle.sqlite_trees.specs.Tree.{Trees, rowid, has_rowid}
-use Rattle.sqlite_trees.specs.View.{is_int}
+use Rattle.sqlite_trees.specs.Tree.{Trees, has_rowid}
 use Rattle.desk_book.specs.declared.rows.BookRow.{BookRow}
 use Rattle.desk_book.specs.Rows.{Tab, StoredTab, Para, Corr, Mark}
+use Rattle.desk_store.specs.Kinds.{HaveIntegerRowids}
 use Rattle.desk_store.specs.Layout.{Layout, IsOther}
 
 -- The rows of the five tables, each list in any order, and those of the other tables by their trees.
@@ -78,7 +78,7 @@ Lists written columns xs rows = IsPermutation (map written xs) (map columns rows
 
 -- each row has an integer as its rowid, and no two have the same
 pub record HaveRowids (rows : List Row) : Type 0 where
-  pub integers : AllByRecursion (λ r. IsTrue (is_int (rowid r))) rows
+  pub integers : HaveIntegerRowids rows
   pub once : (id : ℤ) → length (filter (has_rowid id) rows) ≤ 1
 
 -- the tables hold just this

@@ -1,5 +1,6 @@
 pub mod Tables
 pub mod Layout
+pub mod Kinds
 pub mod Contents
 pub mod States
 pub mod Puts

@@ -1,18 +1,23 @@
 //! The statements that read a table whole.
 //!
-//! Each answers the rows as they stand, in order, and changes nothing.
+//! Each answers the rows as they stand, in order, and changes nothing. Over a clean disk, where the five tables are
+//! there with integer rowids and texts in UTF-8 and the steps have no limit, only memory or the store makes it fail.
 
-ghost use Rattle.std.specs.Prelude.{◌≡◌, false, [], IfOk, IfErr, OnOk, map};
+ghost use Rattle.std.specs.Prelude.{◌≡◌, ◌≢◌, ◌<◌, false, None, [], ◌∷◌, length, IfOk, IfErr, OnOk, map};
 ghost use Rattle.std.specs.Ordering.{int_cmp, is_lt, nat_cmp, ordering_then};
 ghost use Rattle.std.specs.Cmp.Lexicographic.{slice_cmp};
 ghost use Rattle.desk_book.specs.declared.rows.BookRow.{BookRow as Book};
+ghost use Rattle.std.specs.List.{AllByRecursion};
 ghost use Rattle.std.specs.List.Sorted.{IsSortedBy, IsSortedByKey};
 ghost use Rattle.sqlite_value.specs.Order.{column};
+ghost use Rattle.sqlite_schema.specs.declared.schema.Kind.TheVariants.{Integer};
 ghost use Rattle.sqlite.specs.declared.error.Error.{Error as Failure};
 ghost use Rattle.sqlite.specs.Held.{state};
 ghost use Rattle.sqlite.specs.State.{HasCleanDisk, CommitsShowing, FailsToQuery, IsUnchanged, Shown, Survives};
+ghost use Rattle.desk_store.specs.Kinds.{HasKinds, HaveIntegerRowids, HaveUtf8Texts, kinds_of};
 ghost use Rattle.desk_store.specs.Contents.{Lists, three_columns, six_columns, seven_columns, eight_columns, book_row, stored_tab_row, para_row, corr_row, mark_row, book_columns, stored_tab_columns, para_columns, corr_columns, mark_columns};
 ghost use Rattle.desk_store.specs.Layout.{Layout};
+ghost use Rattle.desk_store.specs.Tables as tables;
 ghost use Rattle.desk_store.specs.Fault.{told};
 ghost use Rattle.desk_store.specs.States.{IsLaidOut};
 
@@ -37,7 +42,8 @@ fn ask<S: Alter>(conn: &mut Connection<S>, sql: &str) -> Result<Vec<Row>, ReadFa
 
 /// The value in a column.
 fn value<T: FromSql>(row: &Row, at: usize) -> Result<T, ReadFault>
-    ensures { IfOk result (λ x. T.FromSql.reads_as (column row.now at) x) }
+    ensures reads { IfOk result (λ x. T.FromSql.reads_as (column row.now at) x) }
+    ensures kind { at < length row.now → T.FromSql.is_readable (column row.now at) → IfErr result (λ fault. fault ≡ ReadFault.NoMemory) }
 {
     match row.get(at) {
         Ok(value) => Ok(value),
@@ -47,7 +53,8 @@ fn value<T: FromSql>(row: &Row, at: usize) -> Result<T, ReadFault>
 
 /// The row of the book from its columns.
 fn book_of(row: &Row) -> Result<BookRow, ReadFault>
-    ensures { IfOk result (λ x. three_columns row.now ≡ book_row x) }
+    ensures reads { IfOk result (λ x. three_columns row.now ≡ book_row x) }
+    ensures kinds { HasKinds (kinds_of (tables.book 0)) row.now → IfErr result (λ fault. fault ≡ ReadFault.NoMemory) }
 {
     Ok(BookRow {
         id: value(row, 0)?,
@@ -58,7 +65,8 @@ fn book_of(row: &Row) -> Result<BookRow, ReadFault>
 
 /// Each of the rows, in turn.
 fn books_of(alloc: Global, rows: &[Row]) -> Result<Vec<BookRow>, ReadFault>
-    ensures { IfOk result (λ xs. map three_columns rows.now ≡ map book_row xs.items) }
+    ensures reads { IfOk result (λ xs. map three_columns rows.now ≡ map book_row xs.items) }
+    ensures kinds { AllByRecursion (HasKinds (kinds_of (tables.book 0))) rows.now → IfErr result (λ fault. fault ≡ ReadFault.NoMemory) }
 {
     let mut books = Vec::new(alloc);
     for row in rows {
@@ -79,6 +87,8 @@ pub fn read_books<S: Alter>(
         Lists book_row book_columns xs.items ((state S.Store conn.old).now.trees l.book) × IsSortedByKey (λ (b : Book). b.id) int_cmp xs.items) }
     ensures unchanged { HasCleanDisk (state S.Store conn.new) → OnOk result (IsUnchanged (state S.Store conn.old) (state S.Store conn.new)) }
     ensures refused { HasCleanDisk (state S.Store conn.new) → IfErr result (λ fault. fault ≡ ReadFault.Refused → IsUnchanged (state S.Store conn.old) (state S.Store conn.new)) }
+    ensures cause { HasCleanDisk (state S.Store conn.new) → (l : Layout) → IsLaidOut l (state S.Store conn.old) → (state S.Store conn.old).step_limit ≡ None →
+        HaveIntegerRowids ((state S.Store conn.old).now.trees l.book) → IfErr result (λ fault. fault ≢ ReadFault.Refused) }
     ensures mode { conn.old.in_transaction ≡ false → conn.new.in_transaction ≡ false }
     ensures survives { Survives (state S.Store conn.old) (state S.Store conn.new) (λ _. ⊥) }
 {
@@ -88,7 +98,8 @@ pub fn read_books<S: Alter>(
 
 /// A braille table from its columns.
 fn tab_of(row: &Row) -> Result<StoredTab, ReadFault>
-    ensures { IfOk result (λ x. three_columns row.now ≡ stored_tab_row x) }
+    ensures reads { IfOk result (λ x. three_columns row.now ≡ stored_tab_row x) }
+    ensures kinds { HasKinds (Integer ∷ kinds_of (tables.tab 0)) row.now → IfErr result (λ fault. fault ≡ ReadFault.NoMemory) }
 {
     Ok(StoredTab {
         rowid: value(row, 0)?,
@@ -101,7 +112,8 @@ fn tab_of(row: &Row) -> Result<StoredTab, ReadFault>
 
 /// Each of the rows, in turn.
 fn tabs_of(alloc: Global, rows: &[Row]) -> Result<Vec<StoredTab>, ReadFault>
-    ensures { IfOk result (λ xs. map three_columns rows.now ≡ map stored_tab_row xs.items) }
+    ensures reads { IfOk result (λ xs. map three_columns rows.now ≡ map stored_tab_row xs.items) }
+    ensures kinds { AllByRecursion (HasKinds (Integer ∷ kinds_of (tables.tab 0))) rows.now → IfErr result (λ fault. fault ≡ ReadFault.NoMemory) }
 {
     let mut tabs = Vec::new(alloc);
     for row in rows {
@@ -122,6 +134,8 @@ pub fn read_tabs<S: Alter>(
         Lists stored_tab_row stored_tab_columns xs.items ((state S.Store conn.old).now.trees l.tab) × IsSortedByKey (λ t. t.row.name) (slice_cmp nat_cmp) xs.items) }
     ensures unchanged { HasCleanDisk (state S.Store conn.new) → OnOk result (IsUnchanged (state S.Store conn.old) (state S.Store conn.new)) }
     ensures refused { HasCleanDisk (state S.Store conn.new) → IfErr result (λ fault. fault ≡ ReadFault.Refused → IsUnchanged (state S.Store conn.old) (state S.Store conn.new)) }
+    ensures cause { HasCleanDisk (state S.Store conn.new) → (l : Layout) → IsLaidOut l (state S.Store conn.old) → (state S.Store conn.old).step_limit ≡ None →
+        HaveIntegerRowids ((state S.Store conn.old).now.trees l.tab) → HaveUtf8Texts ((state S.Store conn.old).now.trees l.tab) → IfErr result (λ fault. fault ≢ ReadFault.Refused) }
     ensures mode { conn.old.in_transaction ≡ false → conn.new.in_transaction ≡ false }
     ensures survives { Survives (state S.Store conn.old) (state S.Store conn.new) (λ _. ⊥) }
 {
@@ -131,7 +145,8 @@ pub fn read_tabs<S: Alter>(
 
 /// A paragraph from its columns.
 fn para_of(row: &Row) -> Result<ParaRow, ReadFault>
-    ensures { IfOk result (λ x. eight_columns row.now ≡ para_row x) }
+    ensures reads { IfOk result (λ x. eight_columns row.now ≡ para_row x) }
+    ensures kinds { HasKinds (kinds_of (tables.para 0)) row.now → IfErr result (λ fault. fault ≡ ReadFault.NoMemory) }
 {
     Ok(ParaRow {
         id: value(row, 0)?,
@@ -147,7 +162,8 @@ fn para_of(row: &Row) -> Result<ParaRow, ReadFault>
 
 /// Each of the rows, in turn.
 fn paras_of(alloc: Global, rows: &[Row]) -> Result<Vec<ParaRow>, ReadFault>
-    ensures { IfOk result (λ xs. map eight_columns rows.now ≡ map para_row xs.items) }
+    ensures reads { IfOk result (λ xs. map eight_columns rows.now ≡ map para_row xs.items) }
+    ensures kinds { AllByRecursion (HasKinds (kinds_of (tables.para 0))) rows.now → IfErr result (λ fault. fault ≡ ReadFault.NoMemory) }
 {
     let mut paras = Vec::new(alloc);
     for row in rows {
@@ -168,6 +184,8 @@ pub fn read_paras<S: Alter>(
         Lists para_row para_columns xs.items ((state S.Store conn.old).now.trees l.para) × IsSortedByKey (λ p. p.id) int_cmp xs.items) }
     ensures unchanged { HasCleanDisk (state S.Store conn.new) → OnOk result (IsUnchanged (state S.Store conn.old) (state S.Store conn.new)) }
     ensures refused { HasCleanDisk (state S.Store conn.new) → IfErr result (λ fault. fault ≡ ReadFault.Refused → IsUnchanged (state S.Store conn.old) (state S.Store conn.new)) }
+    ensures cause { HasCleanDisk (state S.Store conn.new) → (l : Layout) → IsLaidOut l (state S.Store conn.old) → (state S.Store conn.old).step_limit ≡ None →
+        HaveIntegerRowids ((state S.Store conn.old).now.trees l.para) → HaveUtf8Texts ((state S.Store conn.old).now.trees l.para) → IfErr result (λ fault. fault ≢ ReadFault.Refused) }
     ensures mode { conn.old.in_transaction ≡ false → conn.new.in_transaction ≡ false }
     ensures survives { Survives (state S.Store conn.old) (state S.Store conn.new) (λ _. ⊥) }
 {
@@ -180,7 +198,8 @@ pub fn read_paras<S: Alter>(
 
 /// An entry of a history from its columns.
 fn corr_of(row: &Row) -> Result<CorrRow, ReadFault>
-    ensures { IfOk result (λ x. six_columns row.now ≡ corr_row x) }
+    ensures reads { IfOk result (λ x. six_columns row.now ≡ corr_row x) }
+    ensures kinds { HasKinds (kinds_of (tables.corr 0)) row.now → IfErr result (λ fault. fault ≡ ReadFault.NoMemory) }
 {
     Ok(CorrRow {
         para: value(row, 0)?,
@@ -194,7 +213,8 @@ fn corr_of(row: &Row) -> Result<CorrRow, ReadFault>
 
 /// Each of the rows, in turn.
 fn corrs_of(alloc: Global, rows: &[Row]) -> Result<Vec<CorrRow>, ReadFault>
-    ensures { IfOk result (λ xs. map six_columns rows.now ≡ map corr_row xs.items) }
+    ensures reads { IfOk result (λ xs. map six_columns rows.now ≡ map corr_row xs.items) }
+    ensures kinds { AllByRecursion (HasKinds (kinds_of (tables.corr 0))) rows.now → IfErr result (λ fault. fault ≡ ReadFault.NoMemory) }
 {
     let mut corrs = Vec::new(alloc);
     for row in rows {
@@ -215,6 +235,8 @@ pub fn read_corrs<S: Alter>(
         Lists corr_row corr_columns xs.items ((state S.Store conn.old).now.trees l.corr) × IsSortedBy (λ a b. is_lt (ordering_then (int_cmp a.para b.para) (int_cmp a.seq b.seq))) xs.items) }
     ensures unchanged { HasCleanDisk (state S.Store conn.new) → OnOk result (IsUnchanged (state S.Store conn.old) (state S.Store conn.new)) }
     ensures refused { HasCleanDisk (state S.Store conn.new) → IfErr result (λ fault. fault ≡ ReadFault.Refused → IsUnchanged (state S.Store conn.old) (state S.Store conn.new)) }
+    ensures cause { HasCleanDisk (state S.Store conn.new) → (l : Layout) → IsLaidOut l (state S.Store conn.old) → (state S.Store conn.old).step_limit ≡ None →
+        HaveUtf8Texts ((state S.Store conn.old).now.trees l.corr) → IfErr result (λ fault. fault ≢ ReadFault.Refused) }
     ensures mode { conn.old.in_transaction ≡ false → conn.new.in_transaction ≡ false }
     ensures survives { Survives (state S.Store conn.old) (state S.Store conn.new) (λ _. ⊥) }
 {
@@ -227,7 +249,8 @@ pub fn read_corrs<S: Alter>(
 
 /// A mark from its columns.
 fn mark_of(row: &Row) -> Result<MarkRow, ReadFault>
-    ensures { IfOk result (λ x. seven_columns row.now ≡ mark_row x) }
+    ensures reads { IfOk result (λ x. seven_columns row.now ≡ mark_row x) }
+    ensures kinds { HasKinds (kinds_of (tables.mark 0)) row.now → IfErr result (λ fault. fault ≡ ReadFault.NoMemory) }
 {
     Ok(MarkRow {
         id: value(row, 0)?,
@@ -242,7 +265,8 @@ fn mark_of(row: &Row) -> Result<MarkRow, ReadFault>
 
 /// Each of the rows, in turn.
 fn marks_of(alloc: Global, rows: &[Row]) -> Result<Vec<MarkRow>, ReadFault>
-    ensures { IfOk result (λ xs. map seven_columns rows.now ≡ map mark_row xs.items) }
+    ensures reads { IfOk result (λ xs. map seven_columns rows.now ≡ map mark_row xs.items) }
+    ensures kinds { AllByRecursion (HasKinds (kinds_of (tables.mark 0))) rows.now → IfErr result (λ fault. fault ≡ ReadFault.NoMemory) }
 {
     let mut marks = Vec::new(alloc);
     for row in rows {
@@ -263,6 +287,8 @@ pub fn read_marks<S: Alter>(
         Lists mark_row mark_columns xs.items ((state S.Store conn.old).now.trees l.mark) × IsSortedByKey (λ m. m.id) int_cmp xs.items) }
     ensures unchanged { HasCleanDisk (state S.Store conn.new) → OnOk result (IsUnchanged (state S.Store conn.old) (state S.Store conn.new)) }
     ensures refused { HasCleanDisk (state S.Store conn.new) → IfErr result (λ fault. fault ≡ ReadFault.Refused → IsUnchanged (state S.Store conn.old) (state S.Store conn.new)) }
+    ensures cause { HasCleanDisk (state S.Store conn.new) → (l : Layout) → IsLaidOut l (state S.Store conn.old) → (state S.Store conn.old).step_limit ≡ None →
+        HaveIntegerRowids ((state S.Store conn.old).now.trees l.mark) → HaveUtf8Texts ((state S.Store conn.old).now.trees l.mark) → IfErr result (λ fault. fault ≢ ReadFault.Refused) }
     ensures mode { conn.old.in_transaction ≡ false → conn.new.in_transaction ≡ false }
     ensures survives { Survives (state S.Store conn.old) (state S.Store conn.new) (λ _. ⊥) }
 {

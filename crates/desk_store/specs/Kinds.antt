@@ -1,0 +1,44 @@
+-- What the rows of a table must be to be read, as its columns are declared.
+use Rattle.std.specs.Prelude.{◌≡◌, List, [], ◌∷◌, map, IsTrue, IsUtf8, ⊤}
+use Rattle.std.specs.List.{AllByRecursion}
+use Rattle.sqlite_value.specs.declared.value.Value.{Value}
+use Rattle.sqlite_value.specs.declared.value.Value.TheVariants as value
+use Rattle.sqlite_value.specs.Order.{Row}
+use Rattle.sqlite_trees.specs.Tree.{rowid}
+use Rattle.sqlite_trees.specs.View.{is_int}
+use Rattle.sqlite_schema.specs.declared.schema.Kind.{Kind}
+use Rattle.sqlite_schema.specs.declared.schema.Kind.TheVariants.{Integer, Real, Text, Blob, Any}
+use Rattle.sqlite_schema.specs.declared.schema.Table.{Table}
+use Rattle.sqlite.specs.Values.{IsInt}
+
+-- INTEGER holds an integer, TEXT a text whose bytes are UTF-8, BLOB bytes.
+abbrev pub IsOfKind : Kind → Value → Type 0
+IsOfKind Integer v = IsInt v
+IsOfKind Real v = (x : _) × (v ≡ value.Real x)
+IsOfKind Text v = (t : _) × (v ≡ value.Text t) × IsUtf8 t
+IsOfKind Blob v = (b : _) × (v ≡ value.Blob b)
+IsOfKind Any v = ⊤
+
+-- one value of each kind
+abbrev pub HasKinds : List Kind → Row → Type 0
+HasKinds [] row = row ≡ []
+HasKinds (k ∷ kinds) [] = ⊥
+HasKinds (k ∷ kinds) (v ∷ row) = IsOfKind k v × HasKinds kinds row
+
+-- the kinds of a table's columns
+abbrev pub kinds_of : Table → List Kind
+kinds_of table = map (λ c. c.kind) table.columns
+
+-- ---- A sound database gives the rows of a STRICT table the kinds of their columns. These it leaves out.
+
+-- each row has an integer as its rowid
+abbrev pub HaveIntegerRowids : List Row → Type 0
+HaveIntegerRowids = AllByRecursion (λ r. IsTrue (is_int (rowid r)))
+
+abbrev pub IsUtf8Text : Value → Type 0
+IsUtf8Text (value.Text t) = IsUtf8 t
+IsUtf8Text _ = ⊤
+
+-- each text in the rows is UTF-8
+abbrev pub HaveUtf8Texts : List Row → Type 0
+HaveUtf8Texts = AllByRecursion (AllByRecursion IsUtf8Text)
