@@ -36,3 +36,4 @@ pub mod ReadPara
 pub mod PutPara
 pub mod PutMark
 pub mod PutBook
+pub mod Schemas

@@ -1,0 +1,21 @@
+-- Trees are a database of one schema at most, so a connection that is opened over them shows it.
+use Rattle.std.proofs.Common.{◌≡◌, sym, subst}
+use Rattle.sqlite_trees.specs.Objects.{catalog_tree}
+use Rattle.sqlite_trees.specs.Tree.{Trees}
+use Rattle.sqlite_schema.specs.declared.schema.Schema.{Schema}
+use Rattle.sqlite_catalog.specs.Listing.{IsSound}
+use Rattle.sqlite_catalog.proofs.ReadLemmas.{lists_once}
+use Rattle.sqlite.specs.State.{State, Opens, IsLive}
+use Rattle.desk_store.specs.Contents.{Contents}
+use Rattle.desk_store.specs.Layout.{Layout}
+use Rattle.desk_store.specs.States.{IsFile, Shows}
+
+-- whatever tables, automatic indexes, indexes and views they have
+pub one_schema : {a b : Schema} {db : Trees} → IsSound a db → IsSound b db → a ≡ b
+one_schema {a} {b} {db} p q = lists_once (db catalog_tree) a b p.lists q.lists
+
+-- an open connection over the trees of a file shows that file
+pub shows_file : (s : State) (trees : Trees) (l : Layout) (c : Contents) → Opens s × IsLive s → s.now.trees ≡ trees → IsFile l c trees → Shows l c s
+shows_file s trees l c opened same was =
+    let is : IsFile l c s.now.trees = subst (IsFile l c) (sym same) was in
+    record { schema = one_schema (opened.1 opened.0.is_open).0 is.sound; is = is }
