@@ -1,5 +1,5 @@
 -- Trees are a database of one schema at most, so a connection that is opened over them shows it.
-use Rattle.std.proofs.Common.{◌≡◌, sym, subst}
+use Rattle.std.proofs.Common.{◌≡◌, IsTrue, sym, subst}
 use Rattle.sqlite_trees.specs.Objects.{catalog_tree}
 use Rattle.sqlite_trees.specs.Tree.{Trees}
 use Rattle.sqlite_schema.specs.declared.schema.Schema.{Schema}
@@ -14,8 +14,9 @@ use Rattle.desk_store.specs.States.{IsFile, Shows}
 pub one_schema : {a b : Schema} {db : Trees} → IsSound a db → IsSound b db → a ≡ b
 one_schema {a} {b} {db} p q = lists_once (db catalog_tree) a b p.lists q.lists
 
--- an open connection over the trees of a file shows that file
+-- an open connection shows the file that its trees are
+pub shows_own : (s : State) (l : Layout) (c : Contents) → IsLive s → IsTrue s.is_open → IsFile l c s.now.trees → Shows l c s
+shows_own s l c live is_open is = record { schema = one_schema (live is_open).0 is.sound; is = is }
+
 pub shows_file : (s : State) (trees : Trees) (l : Layout) (c : Contents) → Opens s × IsLive s → s.now.trees ≡ trees → IsFile l c trees → Shows l c s
-shows_file s trees l c opened same was =
-    let is : IsFile l c s.now.trees = subst (IsFile l c) (sym same) was in
-    record { schema = one_schema (opened.1 opened.0.is_open).0 is.sound; is = is }
+shows_file s trees l c opened same was = shows_own s l c opened.1 opened.0.is_open (subst (IsFile l c) (sym same) was)

@@ -5,3 +5,4 @@ pub mod States
 pub mod Puts
 pub mod Fault
 pub mod Making
+pub mod Whole

@@ -3,6 +3,7 @@
 
 mod crash;
 mod fault;
+pub mod laws;
 mod make;
 mod open;
 mod put;

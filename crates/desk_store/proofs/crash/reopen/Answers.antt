@@ -1,4 +1,4 @@
-use Rattle.std.proofs.Common.{◌≡◌, ◌⊎◌, inl, inr, sym, subst}
+use Rattle.std.proofs.Common.{◌⊎◌, inl, inr, sym, subst}
 use Rattle.sqlite_trees.specs.Tree.{Trees}
 use Rattle.desk_store.specs.States.{IsFile}
 use Rattle.desk_store.proofs.crash.reopen.Goals as goal
