@@ -1,14 +1,14 @@
 //! Laws of files, and of the connections that show them.
 ghost use Rattle.desk_store.specs.Contents.{Contents};
 ghost use Rattle.desk_store.specs.Layout.{AreDeclared, Layout};
-ghost use Rattle.desk_store.specs.States.{IsFile, Shows};
+ghost use Rattle.desk_store.specs.States.{IsFile, Leaves, Shows};
 ghost use Rattle.desk_store.specs.Whole.{AreApart, AreRows, HaveSameRows, Rows, contents_of};
 ghost use Rattle.sqlite.specs.Held.{state};
-ghost use Rattle.sqlite.specs.State.{IsLive};
+ghost use Rattle.sqlite.specs.State.{IsLive, Opens};
 ghost use Rattle.sqlite_catalog.specs.Listing.{IsSound};
 ghost use Rattle.sqlite_schema.specs.declared.schema.Schema.{Schema};
 ghost use Rattle.sqlite_trees.specs.Tree.{Trees};
-ghost use Rattle.std.specs.Prelude.{IsTrue, ◌≡◌, ◌↔◌};
+ghost use Rattle.std.specs.Prelude.{IsTrue, ◌≡◌, ◌↔◌, ◌⊎◌};
 
 use sqlite::{Alter, Connection};
 
@@ -20,6 +20,12 @@ pub fn one_schema()
 /// A connection that is open over the trees of a file shows that file, however it was opened.
 pub fn one_file<S: Alter>(conn: &Connection<S>)
     ensures { IsLive (state S.Store conn.now) → IsTrue (state S.Store conn.now).is_open → (l : Layout) (c : Contents) → IsFile l c (state S.Store conn.now).now.trees → Shows l c (state S.Store conn.now) }
+{}
+
+/// A connection that opened at what a crash may leave of another one shows what that is, whatever stores they are over.
+pub fn found_again<S: Alter, T: Alter>(last: &Connection<S>, next: &Connection<T>)
+    ensures { (state S.Store last.now).may_leave (state T.Store next.now).committed.trees → Opens (state T.Store next.now) → IsLive (state T.Store next.now)
+        → (l : Layout) (c d : Contents) → Leaves (λ db. IsFile l c db ⊎ IsFile l d db) (state S.Store last.now) → Shows l c (state T.Store next.now) ⊎ Shows l d (state T.Store next.now) }
 {}
 
 /// A file has one contents, but for the order of the rows.
