@@ -2,7 +2,7 @@
 
 ghost use Rattle.std.specs.Prelude.{◌≡◌, ◌⊎◌, false, IfOk, OnOk};
 ghost use Rattle.sqlite.specs.Held.{state};
-ghost use Rattle.sqlite.specs.State.{HasCleanDisk};
+ghost use Rattle.sqlite.specs.State.{HasCleanDisk, IsLive, Opens};
 ghost use Rattle.desk_store.specs.Contents.{Contents};
 ghost use Rattle.desk_store.specs.Layout.{Layout};
 ghost use Rattle.desk_store.specs.Puts.{with_puts};
@@ -22,6 +22,8 @@ pub fn reopen<S: Alter + Reopen + Drop>(
     alloc: Global,
     conn: Connection<S>,
 ) -> Result<Connection<S>, ReadFault>
+    ensures opens { IfOk result (λ after. HasCleanDisk (state S.Store after) → Opens (state S.Store after) × IsLive (state S.Store after)) }
+    ensures found { IfOk result (λ after. HasCleanDisk (state S.Store after) → (state S.Store conn).may_leave (state S.Store after).now.trees) }
     ensures shows { IfOk result (λ after. HasCleanDisk (state S.Store after) → (l : Layout) (c d : Contents) → Leaves (λ db. IsFile l c db ⊎ IsFile l d db) (state S.Store conn)
         → Shows l c (state S.Store after) ⊎ Shows l d (state S.Store after)) }
     ensures idle { IfOk result (λ after. after.in_transaction ≡ false) }

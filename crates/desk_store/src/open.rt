@@ -1,9 +1,9 @@
 //! A file that is there, opened again.
 
-ghost use Rattle.std.specs.Prelude.{◌≡◌, ◌<◌, ◌^◌, ◌-◌, false, IsTrue, IfOk, IfErr};
+ghost use Rattle.std.specs.Prelude.{◌≡◌, ◌<◌, ◌^◌, ◌-◌, false, IfOk, IfErr};
 ghost use Rattle.sqlite_trees.specs.View.{IsClean, IsQuiet};
 ghost use Rattle.sqlite.specs.Held.{state};
-ghost use Rattle.sqlite.specs.State.{HasCleanDisk};
+ghost use Rattle.sqlite.specs.State.{HasCleanDisk, IsLive, Opens};
 ghost use Rattle.sqlite.specs.Steps.{IsFresh};
 ghost use Rattle.desk_store.specs.Contents.{Contents};
 ghost use Rattle.desk_store.specs.Layout.{Layout};
@@ -18,7 +18,8 @@ pub fn open_file<S: Alter + Drop>(alloc: Global, store: S) -> Result<Connection<
     requires { IsClean (S.Store.view store) → IsFresh (S.Store.view store) }
     ensures shows { IfOk result (λ conn. HasCleanDisk (state S.Store conn) → (l : Layout) (c : Contents) → IsFile l c (S.Store.view store).trees → Shows l c (state S.Store conn)) }
     ensures idle { IfOk result (λ conn. conn.in_transaction ≡ false) }
-    ensures open { IfOk result (λ conn. HasCleanDisk (state S.Store conn) → IsTrue (state S.Store conn).is_open × ((state S.Store conn).committed ≡ (state S.Store conn).now)) }
+    ensures opens { IfOk result (λ conn. HasCleanDisk (state S.Store conn) → Opens (state S.Store conn) × IsLive (state S.Store conn)) }
+    ensures trees { IfOk result (λ conn. HasCleanDisk (state S.Store conn) → (state S.Store conn).now.trees ≡ (S.Store.view store).trees) }
     ensures clean { IfOk result (λ conn. HasCleanDisk (state S.Store conn) → IsClean (S.Store.view store)) }
     // A crash then leaves what was there.
     ensures crash { IfOk result (λ conn. HasCleanDisk (state S.Store conn) → Leaves (λ db. db ≡ (S.Store.view store).trees) (state S.Store conn)) }
