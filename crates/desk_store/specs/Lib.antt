@@ -6,3 +6,4 @@ pub mod States
 pub mod Puts
 pub mod Fault
 pub mod Making
+pub mod Whole
