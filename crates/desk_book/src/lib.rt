@@ -43,3 +43,6 @@ pub use list::{List, Listed};
 pub use refusal::{Limit, Refusal};
 pub use style::Style;
 pub use text::{Bytes, Text};
+
+#[cfg(test)]
+mod tests;

@@ -1,0 +1,745 @@
+//! Sessions at a desk: requests in turn, and what is answered to each, worked out by hand from the rules of books.
+//!
+//! The sessions stand in texts, one request to a row, since the proof of a test with long arrays takes minutes: the
+//! answer, ` | `, and the request. A request that begins with `@V` expects version V. In the text of a table or a
+//! paragraph a pilcrow is a line feed, and `{a×3}` is `aaa`.
+use super::limits::MOST_VERSION;
+use super::{Anchor, Book, Bytes, Command, Listed, Refusal, Style, Text};
+use cell_core::Cell;
+use louis_table::EN;
+use std::alloc::{AllocError, Global};
+use std::process::Abort;
+use std::test::Fail;
+use std::{iter, mem};
+
+/// Defines the space and the letters a, b, c and é.
+const SMALL: &str = "space \\s 0\nletter a 1\nletter b 12\nletter c 14\nletter \\x00E9 123456\n";
+
+/// The first word, and what follows it.
+fn cut(line: &str) -> (&str, &str) {
+    line.split_once(' ').unwrap_or((line, ""))
+}
+
+/// The number that a word writes, or 0.
+fn number(word: &str) -> u64 {
+    word.parse().unwrap_or(0)
+}
+
+/// The place that a word names.
+fn anchor(word: &str) -> Anchor {
+    match word {
+        "front" => Anchor::Front,
+        "end" => Anchor::End,
+        id => Anchor::Behind(number(id)),
+    }
+}
+
+/// The style that a word names.
+fn style(word: &str) -> Style {
+    match word {
+        "heading" => Style::Heading,
+        _ => Style::Body,
+    }
+}
+
+/// The text that a row writes.
+fn text_of(alloc: Global, written: &str) -> Result<String, Fail> {
+    let mut text = String::new(alloc);
+    for part in written.split('}') {
+        let (plain, repeated) = part.split_once('{').unwrap_or((part, ""));
+        let (piece, count) = repeated.split_once('×').unwrap_or((repeated, "0"));
+        text.push_str(plain)?;
+        text.extend(iter::repeat_n(piece, count.parse()?))?;
+    }
+    let characters = text.chars().map(|c| if c == '¶' { '\n' } else { c });
+    Ok(characters.collect(alloc)?)
+}
+
+/// The text that a row writes, as one that is typed.
+fn typed(alloc: Global, written: &str) -> Result<Text, Fail> {
+    Ok(Text::from_string(text_of(alloc, written)?))
+}
+
+/// The text of a table that a row names or writes.
+fn table_text(alloc: Global, written: &str) -> Result<Bytes, Fail> {
+    let written = match written {
+        "EN" => EN,
+        "SMALL" => SMALL,
+        other => other,
+    };
+    Ok(Bytes::from_vec(text_of(alloc, written)?.into_bytes()))
+}
+
+/// The command that adds or replaces a table.
+fn table(alloc: Global, rest: &str) -> Result<Command, Fail> {
+    let (name, written) = cut(rest);
+    let text = table_text(alloc, written)?;
+    let name = typed(alloc, name)?;
+    Ok(Command::Table { name, text })
+}
+
+/// The command that types a paragraph.
+fn type_in(alloc: Global, rest: &str) -> Result<Command, Fail> {
+    let (place, rest) = cut(rest);
+    let (name, written) = cut(rest);
+    let text = typed(alloc, written)?;
+    let table = typed(alloc, name)?;
+    let anchor = anchor(place);
+    Ok(Command::TypeIn {
+        anchor,
+        table,
+        text,
+    })
+}
+
+/// The command that gives a paragraph another table.
+fn retable(alloc: Global, rest: &str) -> Result<Command, Fail> {
+    let (id, name) = cut(rest);
+    let table = typed(alloc, name)?;
+    Ok(Command::Retable {
+        paragraph: number(id),
+        table,
+    })
+}
+
+/// The command of a row that gives no text, if it is one.
+fn short_command(verb: &str, rest: &str) -> Option<Command> {
+    let (id, word) = cut(rest);
+    let paragraph = number(id);
+    match verb {
+        "strike" => Some(Command::Strike { paragraph }),
+        "restore" => Some(Command::Restore { paragraph }),
+        "style" => Some(Command::Style {
+            paragraph,
+            style: style(word),
+        }),
+        "volume" => Some(Command::Volume {
+            paragraph,
+            begins: word == "on",
+        }),
+        "move" => Some(Command::Move {
+            paragraph,
+            anchor: anchor(word),
+        }),
+        _ => None,
+    }
+}
+
+/// The command that a row asks for, if it asks for one.
+fn command(alloc: Global, request: &str) -> Result<Option<Command>, Fail> {
+    let (verb, rest) = cut(request);
+    match verb {
+        "table" => Ok(Some(table(alloc, rest)?)),
+        "type" => Ok(Some(type_in(alloc, rest)?)),
+        "retable" => Ok(Some(retable(alloc, rest)?)),
+        _ => Ok(short_command(verb, rest)),
+    }
+}
+
+/// A refusal as rows have it.
+fn refused(alloc: Global, refusal: Refusal) -> Result<String, AllocError> {
+    let code = refusal.code();
+    match refusal {
+        Refusal::Moved { version } => format!(in alloc; "no {code} {version}"),
+        Refusal::BadText { place } => format!(in alloc; "no {code} {place}"),
+        Refusal::Undefined { place } => format!(in alloc; "no {code} {place}"),
+        Refusal::Full(limit) => format!(in alloc; "no {code} {}", limit.number()),
+        Refusal::BadTable(fault) => format!(in alloc; "no {code} {} {}", fault.line, fault.cause),
+        Refusal::Untranslatable { paragraph, place } => {
+            format!(in alloc; "no {code} {paragraph} {place}")
+        }
+        _ => format!(in alloc; "no {code}"),
+    }
+}
+
+/// The answer to a command, as rows have it.
+fn done(alloc: Global, version: u64, number: Option<u64>) -> Result<String, AllocError> {
+    match number {
+        Some(number) => format!(in alloc; "ok {version} {number}"),
+        None => format!(in alloc; "ok {version}"),
+    }
+}
+
+/// The book after a command, and what is answered.
+fn after(
+    alloc: Global,
+    book: Book,
+    command: &Command,
+    expect: Option<u64>,
+) -> (Book, Result<Option<u64>, Refusal>) {
+    match book.plan(alloc, command, expect) {
+        Ok(change) => {
+            let number = change.number();
+            (book.settle(change), Ok(number))
+        }
+        Err(refusal) => (book, Err(refusal)),
+    }
+}
+
+/// Carries out a command.
+fn carry_out(
+    alloc: Global,
+    book: &mut Book,
+    command: &Command,
+    expect: Option<u64>,
+) -> Result<String, AllocError> {
+    let old = mem::replace(book, Book::new(alloc)?);
+    let (new, answer) = after(alloc, old, command, expect);
+    *book = new;
+    match answer {
+        Ok(number) => done(alloc, book.version(), number),
+        Err(refusal) => refused(alloc, refusal),
+    }
+}
+
+/// The braille of cells.
+fn braille(alloc: Global, cells: &[Cell]) -> Result<String, AllocError> {
+    cells.iter().map(|cell| cell.to_unicode()).collect(alloc)
+}
+
+/// The print of a paragraph.
+fn print_shown(alloc: Global, book: &Book, id: u64) -> Result<String, AllocError> {
+    match book.print(id) {
+        Ok(print) => print.iter().copied().collect(alloc),
+        Err(refusal) => refused(alloc, refusal),
+    }
+}
+
+/// The braille of a paragraph.
+fn cells_shown(alloc: Global, book: &Book, id: u64) -> Result<String, AllocError> {
+    match book.cells(id) {
+        Ok(cells) => braille(alloc, cells),
+        Err(refusal) => refused(alloc, refusal),
+    }
+}
+
+/// A place or a cell that was found.
+fn place_shown(alloc: Global, found: Result<usize, Refusal>) -> Result<String, AllocError> {
+    match found {
+        Ok(place) => format!(in alloc; "{place}"),
+        Err(refusal) => refused(alloc, refusal),
+    }
+}
+
+/// A paragraph in the list of a book.
+fn item_shown(alloc: Global, item: &Listed) -> Result<String, AllocError> {
+    let style = match item.style {
+        Style::Body => "body",
+        Style::Heading => "heading",
+    };
+    let volume = if item.begins_volume { "volume" } else { "-" };
+    let struck = if item.struck { "struck" } else { "live" };
+    format!(in alloc;
+        "{} {} {style} {volume} {struck} {}, ",
+        item.id, item.table, item.length
+    )
+}
+
+/// The list of a book's paragraphs.
+fn list_shown(alloc: Global, book: &Book) -> Result<String, AllocError> {
+    let mut list = String::new(alloc);
+    for item in book.list() {
+        list.push_str(item_shown(alloc, &item)?.as_str())?;
+    }
+    Ok(list)
+}
+
+/// The ids in the order of the book.
+fn order_shown(alloc: Global, book: &Book) -> Result<String, AllocError> {
+    let mut order = String::new(alloc);
+    for item in book.list() {
+        order.push_str(format!(in alloc; "{} ", item.id)?.as_str())?;
+    }
+    Ok(order)
+}
+
+/// What a book shows.
+fn shown(alloc: Global, book: &Book, request: &str) -> Result<String, AllocError> {
+    let (verb, rest) = cut(request);
+    let (id, place) = cut(rest);
+    let id = number(id);
+    let place = number(place) as usize;
+    match verb {
+        "print" => print_shown(alloc, book, id),
+        "cells" => cells_shown(alloc, book, id),
+        "where" => place_shown(alloc, book.where_is(id, place)),
+        "whence" => place_shown(alloc, book.whence(id, place)),
+        "list" => list_shown(alloc, book),
+        "order" => order_shown(alloc, book),
+        "version" => format!(in alloc; "{}", book.version()),
+        _ => String::from_str(alloc, "what?"),
+    }
+}
+
+/// The version that a request expects, if it expects one, and the rest.
+fn expected(request: &str) -> (Option<u64>, &str) {
+    let (word, rest) = cut(request);
+    match word.strip_prefix('@') {
+        Some(version) => (Some(number(version)), rest),
+        None => (None, request),
+    }
+}
+
+/// What is answered to a request.
+fn answer(alloc: Global, book: &mut Book, request: &str) -> Result<String, Fail> {
+    let (expect, request) = expected(request);
+    match command(alloc, request)? {
+        Some(command) => Ok(carry_out(alloc, book, &command, expect)?),
+        None => Ok(shown(alloc, book, request)?),
+    }
+}
+
+/// Compares an answer.
+fn judge(rt: &impl Abort, row: &str, given: &str, wanted: &str) {
+    assert_eq!(rt; given, wanted, "{row}");
+}
+
+/// Compares what is answered to each row's request.
+fn judge_rows(rt: &impl Abort, alloc: Global, book: &mut Book, rows: &str) -> Result<(), Fail> {
+    for row in rows.split('\n') {
+        let (wanted, request) = row.split_once(" | ").unwrap_or((row, ""));
+        judge(rt, row, answer(alloc, book, request)?.as_str(), wanted);
+    }
+    Ok(())
+}
+
+/// Compares the answers of a session that begins with a new book.
+fn judge_session(rt: &impl Abort, alloc: Global, rows: &str) -> Result<(), Fail> {
+    let mut book = Book::new(alloc)?;
+    judge_rows(rt, alloc, &mut book, rows)
+}
+
+/// The book as if all commands but one that a book can take had been accepted.
+fn nearly_out_of_versions(book: Book) -> Book {
+    let Book {
+        version: _,
+        tables,
+        paragraphs,
+    } = book;
+    Book {
+        version: MOST_VERSION - 1,
+        tables,
+        paragraphs,
+    }
+}
+
+/// Compares the answers of a session, and those of a later one when only one version is left.
+fn judge_to_the_end(
+    rt: &impl Abort,
+    alloc: Global,
+    book: &mut Book,
+    rows: &str,
+    later: &str,
+) -> Result<(), Fail> {
+    judge_rows(rt, alloc, book, rows)?;
+    let old = mem::replace(book, Book::new(alloc)?);
+    *book = nearly_out_of_versions(old);
+    judge_rows(rt, alloc, book, later)
+}
+
+/// Compares the answers of a session that begins with a new book, and those of a later one when only one version is
+/// left.
+fn judge_long_session(rt: &impl Abort, alloc: Global, rows: &str, later: &str) -> Result<(), Fail> {
+    let mut book = Book::new(alloc)?;
+    judge_to_the_end(rt, alloc, &mut book, rows, later)
+}
+
+#[test]
+fn paragraphs_are_typed_and_moved(rt: HostRuntime) -> Result<(), Fail> {
+    judge_session(
+        &rt,
+        rt.alloc(),
+        "\
+0 | version
+ok 1 | table en SMALL
+ok 2 1 | type end en ab
+ok 3 2 | type front en c
+2 1  | order
+3 | version
+ok 4 | move 1 front
+1 2  | order
+ok 5 | move 1 1
+1 2  | order
+no 6 1 | type 9 zz a¶
+no 2 | type 9 zz a
+no 3 | type 1 zz a
+ok 6 | strike 1
+no 3 | retable 1 zz
+no 11 | retable 1 en
+6 | version",
+    )
+}
+
+#[test]
+fn a_greeting_is_struck_and_restored(rt: HostRuntime) -> Result<(), Fail> {
+    judge_session(
+        &rt,
+        rt.alloc(),
+        "\
+ok 1 | table en EN
+ok 2 1 | type end en Hello
+Hello | print 1
+⠠⠓⠑⠇⠇⠕ | cells 1
+2 | where 1 1
+0 | whence 1 1
+no 5 | where 1 5
+no 7 3 | type end en Cafe\u{301}
+no 9 1 0 | table en space \\s 0
+2 | version
+ok 3 | strike 1
+no 11 | strike 1
+ok 4 | restore 1
+no 12 | restore 1
+4 | version
+Hello | print 1
+1 en body - live 5,  | list",
+    )
+}
+
+#[test]
+fn a_moved_paragraph_stands_where_it_was_put(rt: HostRuntime) -> Result<(), Fail> {
+    judge_session(
+        &rt,
+        rt.alloc(),
+        "\
+ok 1 | table en SMALL
+ok 2 1 | type end en a
+ok 3 2 | type end en b
+ok 4 3 | type end en c
+ok 5 4 | type 2 en ab
+1 2 4 3  | order
+ok 6 | move 4 front
+4 1 2 3  | order
+ok 7 | move 4 end
+1 2 3 4  | order
+ok 8 | move 2 2
+1 2 3 4  | order
+ok 9 | move 2 1
+1 2 3 4  | order
+ok 10 | move 2 3
+1 3 2 4  | order
+ok 11 | move 1 front
+1 3 2 4  | order
+ok 12 | move 4 end
+1 3 2 4  | order
+ok 13 | move 4 1
+1 4 3 2  | order
+ok 14 | move 1 2
+4 3 2 1  | order
+ab | print 4
+a | print 1",
+    )
+}
+
+#[test]
+fn a_book_shows_what_it_has(rt: HostRuntime) -> Result<(), Fail> {
+    judge_session(
+        &rt,
+        rt.alloc(),
+        "\
+0 | version
+ | list
+no 2 | print 1
+no 2 | cells 1
+no 2 | where 1 0
+no 2 | whence 1 0
+ok 1 | table en EN
+ok 2 1 | type end en TV a
+TV a | print 1
+⠠⠠⠞⠧⠀⠁ | cells 1
+0 | where 1 0
+3 | where 1 1
+4 | where 1 2
+5 | where 1 3
+no 5 | where 1 4
+no 5 | where 1 18446744073709551615
+0 | whence 1 0
+0 | whence 1 2
+1 | whence 1 3
+2 | whence 1 4
+3 | whence 1 5
+no 5 | whence 1 6
+no 5 | whence 1 18446744073709551615
+ok 3 2 | type end en
+ | print 2
+ | cells 2
+no 5 | where 2 0
+no 5 | whence 2 0
+no 2 | print 3
+no 2 | cells 3
+no 2 | where 3 0
+no 2 | whence 3 0
+no 2 | print 0
+no 2 | print 18446744073709551615
+ok 4 | style 1 heading
+ok 5 | volume 2 on
+ok 6 | strike 2
+1 en heading - live 4, 2 en body volume struck 0,  | list
+TV a | print 1
+ | cells 2
+6 | version",
+    )
+}
+
+#[test]
+fn tables_have_names(rt: HostRuntime) -> Result<(), Fail> {
+    judge_session(
+        &rt,
+        rt.alloc(),
+        "\
+no 17 | table  SMALL
+no 17 | table En SMALL
+no 17 | table e.n SMALL
+no 17 | table \u{E9} SMALL
+no 17 | table en¶ SMALL
+no 17 | table {a×33} SMALL
+ok 1 | table {a×32} SMALL
+ok 2 | table az_09- SMALL
+no 17 | table En foo
+no 16 2 | @1 table En foo
+no 17 | @2 table En foo
+2 | version",
+    )
+}
+
+#[test]
+fn a_table_is_replaced_under_its_paragraphs(rt: HostRuntime) -> Result<(), Fail> {
+    judge_session(
+        &rt,
+        rt.alloc(),
+        "\
+ok 1 | table en SMALL
+ok 2 | table other SMALL
+ok 3 1 | type end en ab
+ok 4 2 | type front en b c
+ok 5 3 | type end en aa
+ok 6 4 | type front other \u{E9}
+ok 7 | strike 2
+4 2 1 3  | order
+no 8 2 1 | table new space \\s 0¶foo
+no 8 2 1 | table en space \\s 0¶foo
+no 8 1 7 | table en always a 1
+no 16 7 | @6 table en foo
+no 8 1 1 | @7 table en foo
+no 9 2 1 | table en letter b 12
+no 9 2 0 | table en
+no 9 1 0 | table en space \\s 0¶letter b 12¶letter c 14
+no 9 2 2 | table en letter a 1¶letter b 12¶space \\s 0
+7 | version
+ok 8 | move 3 front
+no 9 3 0 | table en space \\s 0¶letter b 12¶letter c 14
+no 9 4 0 | table other
+⠁⠃ | cells 1
+⠃⠀⠉ | cells 2
+⠁⠁ | cells 3
+⠿ | cells 4
+ok 9 | table en space \\s 0¶letter a 2¶letter b 23¶letter c 25
+⠂⠆ | cells 1
+⠆⠀⠒ | cells 2
+⠂⠂ | cells 3
+⠿ | cells 4
+ab | print 1
+3 en body - live 2, 4 other body - live 1, 2 en body - struck 3, 1 en body - live 2,  | list",
+    )
+}
+
+#[test]
+fn a_paragraph_uses_another_table(rt: HostRuntime) -> Result<(), Fail> {
+    judge_session(
+        &rt,
+        rt.alloc(),
+        "\
+ok 1 | table en SMALL
+ok 2 | table other letter a 2¶letter b 23
+ok 3 1 | type end en ab
+ok 4 2 | type end en ab
+ok 5 3 | type end en bac
+⠁⠃ | cells 1
+ok 6 | retable 1 other
+⠂⠆ | cells 1
+⠁⠃ | cells 2
+ab | print 1
+1 other body - live 2, 2 en body - live 2, 3 en body - live 3,  | list
+ok 7 | retable 1 other
+no 7 2 | retable 3 other
+no 3 | retable 3 zz
+no 2 | retable 4 zz
+no 16 7 | @8 retable 4 zz
+ok 8 | strike 3
+no 11 | retable 3 other
+no 3 | retable 3 zz
+ok 9 | retable 2 other
+9 | version",
+    )
+}
+
+#[test]
+fn the_first_refusal_of_a_typed_text_is_told(rt: HostRuntime) -> Result<(), Fail> {
+    judge_session(
+        &rt,
+        rt.alloc(),
+        "\
+ok 1 | table en SMALL
+ok 2 1 | type end en ab
+no 16 2 | @1 type 9 zz a¶
+no 6 1 | @2 type 9 zz a¶
+no 6 0 | type end en \r
+no 6 2 | type end en ab\0c
+no 6 1 | type end en a¶\r
+no 6 2 | type end en e\u{301}¶
+no 6 4001 | type end en {a×4001}¶
+no 2 | type 9 zz a
+no 2 | type 0 en a
+no 2 | type 2 en {a×4001}
+no 3 | type end zz {a×4001}
+no 3 | type 1 zz a
+no 3 | type end En a
+no 14 | type end en {a×4001}
+no 14 | type end en {a×4000}z
+no 7 0 | type end en z
+no 7 2 | type end en aaz
+no 7 1 | type end en e\u{301}z
+no 16 2 | @3 type end en a
+ok 3 2 | @2 type 1 en b
+3 | version",
+    )
+}
+
+#[test]
+fn a_print_has_4000_characters_in_normal_form_c(rt: HostRuntime) -> Result<(), Fail> {
+    judge_session(
+        &rt,
+        rt.alloc(),
+        "\
+ok 1 | table en SMALL
+ok 2 1 | type end en {a×4000}
+no 14 | type end en {a×4001}
+no 14 | type end en {\u{958}×2001}
+no 7 0 | type end en {\u{958}×2000}
+ok 3 2 | type end en {a×3999}e\u{301}
+no 14 | type end en {a×4000}e\u{301}
+1 en body - live 4000, 2 en body - live 4000,  | list
+3999 | where 2 3999
+no 5 | where 2 4000
+ok 4 3 | type end en e\u{301}
+\u{E9} | print 3
+⠿ | cells 3
+ok 5 4 | type end en be\u{301}\u{E9}
+b\u{E9}\u{E9} | print 4
+⠃⠿⠿ | cells 4
+2 | where 4 2
+no 5 | where 4 3",
+    )
+}
+
+#[test]
+fn the_first_refusal_of_a_paragraph_is_told(rt: HostRuntime) -> Result<(), Fail> {
+    judge_session(
+        &rt,
+        rt.alloc(),
+        "\
+ok 1 | table en SMALL
+ok 2 1 | type end en ab
+no 2 | strike 2
+no 2 | strike 0
+no 16 2 | @1 strike 2
+no 2 | restore 2
+no 12 | restore 1
+no 16 2 | @3 restore 1
+no 2 | style 2 heading
+no 16 2 | @1 style 2 heading
+no 2 | volume 2 on
+no 16 2 | @1 volume 2 on
+no 2 | move 2 front
+no 2 | move 1 2
+no 2 | move 2 1
+no 2 | move 2 2
+no 16 2 | @0 move 2 2
+2 | version
+ok 3 | strike 1
+no 11 | strike 1
+no 11 | @3 strike 1
+no 16 3 | @2 strike 1
+ok 4 | style 1 heading
+ok 5 | volume 1 on
+1 en heading volume struck 2,  | list
+ok 6 | move 1 end
+ok 7 | style 1 body
+ok 8 | volume 1 off
+1 en body - struck 2,  | list
+ok 9 | @8 restore 1
+1 en body - live 2,  | list",
+    )
+}
+
+#[test]
+fn a_book_has_sixteen_tables(rt: HostRuntime) -> Result<(), Fail> {
+    judge_long_session(
+        &rt,
+        rt.alloc(),
+        "\
+ok 1 | table en SMALL
+ok 2 | table sp space \\s 0
+ok 3 | table t3
+ok 4 | table t4
+ok 5 | table t5
+ok 6 | table t6
+ok 7 | table t7
+ok 8 | table t8
+ok 9 | table t9
+ok 10 | table t10
+ok 11 | table t11
+ok 12 | table t12
+ok 13 | table t13
+ok 14 | table t14
+ok 15 | table t15
+ok 16 | table t16
+no 15 1 | table t17
+no 15 1 | table t17 foo
+no 17 | table T17 foo
+no 17 | table T17
+no 8 1 1 | table t16 foo
+ok 17 | table t16 SMALL
+ok 18 1 | type end en ab
+ok 19 2 | type end en a
+ok 20 | strike 2",
+        "\
+9007199254740991 | version
+no 7 0 | type end en z
+no 16 9007199254740991 | @20 strike 1
+ok 9007199254740992 | volume 1 on
+9007199254740992 | version
+no 16 9007199254740992 | @1 strike 1
+no 15 5 | @9007199254740992 strike 1
+no 17 | table T17 foo
+no 15 1 | table t17 foo
+no 15 1 | table t17
+no 15 5 | table en SMALL
+no 15 5 | table en foo
+no 15 5 | table en letter b 12
+no 6 0 | type end en ¶
+no 2 | type 3 en a
+no 3 | type end zz a
+no 14 | type end en {a×4001}
+no 15 5 | type end en a
+no 15 5 | type end en z
+no 2 | strike 3
+no 11 | strike 2
+no 15 5 | strike 1
+no 2 | restore 3
+no 12 | restore 1
+no 15 5 | restore 2
+no 2 | style 3 heading
+no 15 5 | style 1 heading
+no 2 | volume 3 on
+no 15 5 | volume 1 on
+no 2 | retable 3 en
+no 3 | retable 1 zz
+no 11 | retable 2 t16
+no 15 5 | retable 1 t16
+no 15 5 | retable 1 sp
+no 2 | move 1 3
+no 15 5 | move 1 1
+1 en body volume live 2, 2 en body - struck 1,  | list",
+    )
+}
