@@ -1,14 +1,80 @@
 //! Runs over known inputs, and over ends that fail in mid-stream.
+//!
+//! A rule book stands in a function with one way out behind it, and each assertion in one of its own, since the
+//! proof of a function that has both takes minutes.
 ghost use Rattle.std.specs.Prelude.{Some};
 
-use super::ends::Memory;
+use super::ends::{Memory, Sink, Source};
 use super::translate::{Ended, MOST_BYTES, MOST_CHARACTERS, run, translate_lines};
-use louis_table::{EN, Table};
+use louis_table::{EN, ReadFault, Table};
 use louis_translate::PlainRules;
-use std::io::{Error, ErrorKind, Read, Result, Write};
+use std::alloc::{AllocError, Global};
+use std::io::{self, Error, ErrorKind, Read, Write};
+use std::process::Abort;
 use std::test::Fail;
 
-const TABLE: &[u8] = b"letter a 1\n";
+/// A table that defines one letter.
+const LETTER: &str = "letter a 1\n";
+
+/// A table that defines one letter as three cells.
+const THREE_CELLS: &str = "letter a 1-2-3\n";
+
+/// A table with a word of one letter.
+const WORD: &str = "space \\s 0\nletter a 1\nword a 123456\n";
+
+/// Tables, inputs, and what is written.
+const ANSWERS: &[(&str, &[u8], &str)] = &[
+    (LETTER, b"a\n\nb\n\xFF\n", "⠁\n\nno 7 0\nno 1\n"),
+    (LETTER, b"aaba\r\na\r\r\n", "no 7 2\nno 7 1\n"),
+    (LETTER, b"aa", "⠁⠁\n"),
+    (LETTER, b"a\n\r", "⠁\n\n"),
+    (LETTER, b"\n", "\n"),
+    (LETTER, b"", ""),
+    (EN, b"Hello\nTV\n3.14 5a\n", "⠠⠓⠑⠇⠇⠕\n⠠⠠⠞⠧\n⠼⠉⠲⠼⠁⠙⠀⠼⠑⠁\n"),
+    (WORD, b"a aa\n", "⠿⠀⠁⠁\n"),
+];
+
+/// A table, an input of so many `a` and an ending, how many bytes are written of it, and the last of them.
+type LongRow = (&'static str, usize, &'static str, usize, &'static str);
+
+/// Lines at the limits, and one of more cells than a block has.
+const LONG: &[LongRow] = &[
+    (
+        LETTER,
+        MOST_CHARACTERS,
+        "\n",
+        3 * MOST_CHARACTERS + 1,
+        "⠁\n",
+    ),
+    (LETTER, MOST_CHARACTERS + 1, "\n", 6, "no 14\n"),
+    (LETTER, MOST_BYTES, "\r\n", 6, "no 14\n"),
+    (LETTER, MOST_BYTES, "\r", 6, "no 14\n"),
+    (LETTER, MOST_BYTES + 1, "\r\n", 5, "no 1\n"),
+    (LETTER, MOST_BYTES + 2, "\n", 5, "no 1\n"),
+    (
+        THREE_CELLS,
+        MOST_CHARACTERS,
+        "\n",
+        9 * MOST_CHARACTERS + 1,
+        "⠁⠂⠄\n",
+    ),
+];
+
+/// An input of three lines, for ends that fail.
+const INPUT: &[u8] = b"a\nb\naaa";
+
+/// What is written of that input.
+const OUTPUT: &str = "⠁\nno 7 0\n⠁⠁⠁\n";
+
+/// How many reads of that input don't fail, what is written then, and how the run ends.
+const CUTS: &[(usize, &str, Ended)] = &[
+    (0, "", Ended::Input),
+    (1, "⠁\n", Ended::Input),
+    (2, "⠁\nno 7 0\n", Ended::Input),
+    (3, "⠁\nno 7 0\n", Ended::Input),
+    (4, "⠁\nno 7 0\n", Ended::Input),
+    (5, OUTPUT, Ended::Done),
+];
 
 /// Gives its bytes two at a time, and fails after so many reads.
 #[derive(Drop)]
@@ -20,7 +86,7 @@ struct Cut<'a> {
 impl<'a> Read for Cut<'a> {
     ghost remaining = { λ s. Some s.bytes.now };
 
-    fn read(&mut self, buf: &mut [u8]) -> Result<usize> {
+    fn read(&mut self, buf: &mut [u8]) -> io::Result<usize> {
         if self.reads_left == 0 {
             return Err(Error::from(ErrorKind::Interrupted));
         }
@@ -41,7 +107,7 @@ struct Full {
 impl Write for Full {
     ghost contents = { λ s. Some s.taken.items };
 
-    fn write(&mut self, buf: &[u8]) -> Result<usize> {
+    fn write(&mut self, buf: &[u8]) -> io::Result<usize> {
         if self.room == 0 {
             return Err(Error::from(ErrorKind::Interrupted));
         }
@@ -51,136 +117,144 @@ impl Write for Full {
         Ok(count)
     }
 
-    fn flush(&mut self) -> Result<()> {
+    fn flush(&mut self) -> io::Result<()> {
         Ok(())
     }
 }
 
+/// How a run by a table text ended, and what was written.
+type Outcome = (Ended, Vec<u8>);
+
+/// The rule book of a table text.
+fn rules_of(alloc: Global, table: &str) -> Result<PlainRules, ReadFault> {
+    Ok(PlainRules::new(Table::read(alloc, table.as_bytes())?))
+}
+
+/// How a run by a table text ended.
+fn ended<R: Read, W: Write>(
+    alloc: Global,
+    table: &str,
+    reader: &mut R,
+    writer: &mut W,
+) -> Result<Ended, ReadFault> {
+    let book = rules_of(alloc, table)?;
+    Ok(translate_lines(reader, writer, &book))
+}
+
+/// The same over ends that say whether they can fail.
+fn ended_honestly<S: Source, K: Sink>(
+    alloc: Global,
+    table: &str,
+    source: &mut S,
+    sink: &mut K,
+) -> Result<Ended, ReadFault> {
+    let book = rules_of(alloc, table)?;
+    Ok(run(source, sink, &book))
+}
+
+/// The outcome of a run over an input.
+fn outcome_of(alloc: Global, table: &str, input: &[u8]) -> Result<Outcome, ReadFault> {
+    let mut reader = input;
+    let mut out = Vec::new(alloc);
+    let ended = ended(alloc, table, &mut reader, &mut out)?;
+    Ok((ended, out))
+}
+
+/// So many `a` and an ending.
+fn long_input(alloc: Global, count: usize, ending: &str) -> Result<Vec<u8>, AllocError> {
+    let mut input = vec![in alloc; b'a'; count]?;
+    input.extend_from_slice(ending.as_bytes())?;
+    Ok(input)
+}
+
+/// The outcome of a run over so many `a` and an ending.
+fn outcome_of_long(alloc: Global, row: &LongRow) -> Result<Outcome, Fail> {
+    let input = long_input(alloc, row.1, row.2)?;
+    Ok(outcome_of(alloc, row.0, input.as_slice())?)
+}
+
+/// The outcome of a run of which so many reads don't fail.
+fn outcome_of_cut(alloc: Global, reads_left: usize) -> Result<Outcome, ReadFault> {
+    let mut reader = Cut {
+        bytes: INPUT,
+        reads_left,
+    };
+    let mut out = Vec::new(alloc);
+    let ended = ended(alloc, LETTER, &mut reader, &mut out)?;
+    Ok((ended, out))
+}
+
+/// The outcome of a run that can write so many bytes, in steps.
+fn outcome_of_full(alloc: Global, room: usize, step: usize) -> Result<Outcome, ReadFault> {
+    let mut reader = INPUT;
+    let mut writer = Full {
+        taken: Vec::new(alloc),
+        room,
+        step,
+    };
+    let ended = ended(alloc, LETTER, &mut reader, &mut writer)?;
+    Ok((ended, writer.taken))
+}
+
+/// Asserts how a run ended, and what it wrote.
+fn assert_outcome(rt: &impl Abort, outcome: &Outcome, ended: Ended, wanted: &[u8]) {
+    assert_eq!(rt; (outcome.0, outcome.1.as_slice()), (ended, wanted));
+}
+
+/// Asserts that a run is done and wrote so many bytes, with these at the end.
+fn assert_long(rt: &impl Abort, outcome: &Outcome, row: &LongRow) {
+    let is_last = outcome.1.as_slice().ends_with(row.4.as_bytes());
+    assert_eq!(rt;
+        (outcome.0, outcome.1.len(), is_last),
+        (Ended::Done, row.3, true)
+    );
+}
+
 #[test]
-fn answers_each_line(rt: HostRuntime) -> std::result::Result<(), Fail> {
-    let book = PlainRules::new(Table::read(rt.alloc(), TABLE)?);
-    let cases: [(&[u8], &str); 6] = [
-        (b"a\n\nb\n\xFF\n", "⠁\n\nno 7 0\nno 1\n"),
-        (b"aaba\r\na\r\r\n", "no 7 2\nno 7 1\n"),
-        (b"aa", "⠁⠁\n"),
-        (b"a\n\r", "⠁\n\n"),
-        (b"\n", "\n"),
-        (b"", ""),
-    ];
-    for (input, want) in cases {
-        let mut reader = input;
-        let mut out = Vec::new(rt.alloc());
-        assert_eq!(rt; translate_lines(&mut reader, &mut out, &book), Ended::Done);
-        assert_eq!(rt; out.as_slice(), want.as_bytes(), "{input:?}");
+fn answers_each_line(rt: HostRuntime) -> Result<(), Fail> {
+    for (table, input, wanted) in ANSWERS {
+        let outcome = outcome_of(rt.alloc(), table, input)?;
+        assert_outcome(&rt, &outcome, Ended::Done, wanted.as_bytes());
     }
     Ok(())
 }
 
 #[test]
-fn shows_signs(rt: HostRuntime) -> std::result::Result<(), Fail> {
-    let book = PlainRules::new(Table::read(rt.alloc(), EN.as_bytes())?);
-    let mut reader: &[u8] = b"Hello\nTV\n3.14 5a\n";
-    let mut out = Vec::new(rt.alloc());
-    assert_eq!(rt; translate_lines(&mut reader, &mut out, &book), Ended::Done);
-    assert_eq!(rt; out.as_slice(), "⠠⠓⠑⠇⠇⠕\n⠠⠠⠞⠧\n⠼⠉⠲⠼⠁⠙⠀⠼⠑⠁\n".as_bytes());
-    Ok(())
-}
-
-#[test]
-fn shows_rules(rt: HostRuntime) -> std::result::Result<(), Fail> {
-    let table = b"space \\s 0\nletter a 1\nword a 123456\n";
-    let book = PlainRules::new(Table::read(rt.alloc(), table)?);
-    let mut reader: &[u8] = b"a aa\n";
-    let mut out = Vec::new(rt.alloc());
-    assert_eq!(rt; translate_lines(&mut reader, &mut out, &book), Ended::Done);
-    assert_eq!(rt; out.as_slice(), "⠿⠀⠁⠁\n".as_bytes());
-    Ok(())
-}
-
-#[test]
-fn sends_more_cells_than_a_block_has(rt: HostRuntime) -> std::result::Result<(), Fail> {
-    let book = PlainRules::new(Table::read(rt.alloc(), b"letter a 1-2-3\n")?);
-    let input = vec![in rt.alloc(); b'a'; MOST_CHARACTERS]?;
-    let mut reader = input.as_slice();
-    let mut out = Vec::new(rt.alloc());
-    assert_eq!(rt; translate_lines(&mut reader, &mut out, &book), Ended::Done);
-    assert_eq!(rt; out.len(), 9 * MOST_CHARACTERS + 1);
-    assert!(rt; out.as_slice().ends_with("⠁⠂⠄\n".as_bytes()));
-    Ok(())
-}
-
-#[test]
-fn keeps_the_limits(rt: HostRuntime) -> std::result::Result<(), Fail> {
-    let book = PlainRules::new(Table::read(rt.alloc(), TABLE)?);
-    let cases: [(usize, &[u8], usize, &[u8]); 6] = [
-        (MOST_CHARACTERS, b"\n", 3 * MOST_CHARACTERS + 1, b"\n"),
-        (MOST_CHARACTERS + 1, b"\n", 6, b"no 14\n"),
-        (MOST_BYTES, b"\r\n", 6, b"no 14\n"),
-        (MOST_BYTES, b"\r", 6, b"no 14\n"),
-        (MOST_BYTES + 1, b"\r\n", 5, b"no 1\n"),
-        (MOST_BYTES + 2, b"\n", 5, b"no 1\n"),
-    ];
-    for (count, ending, length, last) in cases {
-        let mut input = vec![in rt.alloc(); b'a'; count]?;
-        input.extend_from_slice(ending)?;
-        let mut reader = input.as_slice();
-        let mut out = Vec::new(rt.alloc());
-        assert_eq!(rt; translate_lines(&mut reader, &mut out, &book), Ended::Done);
-        assert_eq!(rt; out.len(), length, "{count} bytes");
-        assert!(rt; out.as_slice().ends_with(last), "{count} bytes");
+fn keeps_the_limits(rt: HostRuntime) -> Result<(), Fail> {
+    for row in LONG {
+        assert_long(&rt, &outcome_of_long(rt.alloc(), row)?, row);
     }
     Ok(())
 }
 
 #[test]
-fn fails_in_mid_stream(rt: HostRuntime) -> std::result::Result<(), Fail> {
-    let book = PlainRules::new(Table::read(rt.alloc(), TABLE)?);
-    let text = b"a\nb\naaa";
-    let want = "⠁\nno 7 0\n⠁⠁⠁\n".as_bytes();
-    for (reads_left, length, ended) in [
-        (0, 0, Ended::Input),
-        (1, 4, Ended::Input),
-        (2, 11, Ended::Input),
-        (3, 11, Ended::Input),
-        (4, 11, Ended::Input),
-        (5, 21, Ended::Done),
-    ] {
-        let mut out = Vec::new(rt.alloc());
-        let mut input = Cut {
-            bytes: text,
-            reads_left,
-        };
-        assert_eq!(rt; translate_lines(&mut input, &mut out, &book), ended);
-        assert_eq!(rt; out.len(), length);
-        assert!(rt; want.starts_with(out.as_slice()));
-    }
-    for room in 0..22 {
-        let mut out = Full {
-            taken: Vec::new(rt.alloc()),
-            room,
-            step: 1 + room % 3,
-        };
-        let mut input: &[u8] = text;
-        let ended = if room < want.len() {
-            Ended::Output
-        } else {
-            Ended::Done
-        };
-        assert_eq!(rt; translate_lines(&mut input, &mut out, &book), ended);
-        assert_eq!(rt; out.taken.len(), room.min(want.len()));
-        assert!(rt; want.starts_with(out.taken.as_slice()));
+fn ends_where_a_read_fails(rt: HostRuntime) -> Result<(), Fail> {
+    for (reads, wanted, ended) in CUTS {
+        let outcome = outcome_of_cut(rt.alloc(), *reads)?;
+        assert_outcome(&rt, &outcome, *ended, wanted.as_bytes());
     }
     Ok(())
 }
 
 #[test]
-fn stops_where_no_byte_is_taken(rt: HostRuntime) -> std::result::Result<(), Fail> {
-    let book = PlainRules::new(Table::read(rt.alloc(), TABLE)?);
-    let mut out = Full {
+fn ends_where_a_write_fails(rt: HostRuntime) -> Result<(), Fail> {
+    for room in 0..OUTPUT.len() {
+        let outcome = outcome_of_full(rt.alloc(), room, 1 + room % 3)?;
+        assert_outcome(&rt, &outcome, Ended::Output, &OUTPUT.as_bytes()[..room]);
+    }
+    let outcome = outcome_of_full(rt.alloc(), OUTPUT.len(), 1)?;
+    assert_outcome(&rt, &outcome, Ended::Done, OUTPUT.as_bytes());
+    Ok(())
+}
+
+#[test]
+fn ends_where_no_byte_is_taken(rt: HostRuntime) -> Result<(), Fail> {
+    let mut writer = Full {
         taken: Vec::new(rt.alloc()),
         room: 9,
         step: 0,
     };
-    assert_eq!(rt; run(&mut Memory(b"a\n"), &mut out, &book), Ended::Output);
+    let ended = ended_honestly(rt.alloc(), LETTER, &mut Memory(b"a\n"), &mut writer)?;
+    assert_eq!(rt; ended, Ended::Output);
     Ok(())
 }

@@ -238,16 +238,27 @@ const TOLD: [&str; 9] = [
     "3 9, 3 9, 3 9, 3 9, 3 9, 3 9, 3 9, 3 9, 3 9, ",
 ];
 
+/// A text with these lines as the third and the fourth.
+fn text_with(alloc: Global, third: &[u8], fourth: &[u8]) -> Result<Vec<u8>, AllocError> {
+    let mut text = Vec::new(alloc);
+    text.extend_from_slice(b"letter a 1\nnumsign 1\n")?;
+    text.extend_from_slice(third)?;
+    text.push(b'\n')?;
+    text.extend_from_slice(fourth)?;
+    Ok(text)
+}
+
+/// What is told of a text with these lines.
+fn told_with(alloc: Global, third: &[u8], fourth: &[u8]) -> Result<String, AllocError> {
+    let text = text_with(alloc, third, fourth)?;
+    told(alloc, text.as_slice())
+}
+
 /// What is told where each of the faulty lines stands behind this one.
 fn told_behind(alloc: Global, third: &[u8]) -> Result<String, AllocError> {
     let mut row = String::new(alloc);
     for fourth in FAULTY {
-        let mut text = Vec::new(alloc);
-        text.extend_from_slice(b"letter a 1\nnumsign 1\n")?;
-        text.extend_from_slice(third)?;
-        text.push(b'\n')?;
-        text.extend_from_slice(fourth)?;
-        row.push_str(told(alloc, text.as_slice())?.as_str())?;
+        row.push_str(told_with(alloc, third, fourth)?.as_str())?;
         row.push_str(", ")?;
     }
     Ok(row)
@@ -262,21 +273,23 @@ fn tells_the_first_fault(rt: HostRuntime) -> Result<(), Fail> {
     Ok(())
 }
 
+/// Bytes that are no text, and what is told of them.
+const NO_TEXTS: &[(&[u8], &str)] = &[
+    (b"\xFF", "1 9"),
+    (b"\xEF\xBB", "1 9"),
+    (b"letter a 1\n\xFF", "2 9"),
+    (b"\n\n# \xC3\n\n", "3 9"),
+    (b"\n\n\xE2\x82", "3 9"),
+    (b"\n\xC0\xAF", "2 9"),
+    (b"\n\xED\xA0\x80", "2 9"),
+    (b"foo\n\n\xF4\x90\x80\x80\nfoo", "3 9"),
+];
+
 #[test]
 fn tells_where_a_text_stops_being_utf_8(rt: HostRuntime) -> Result<(), Fail> {
-    let rows: [(&[u8], &str); 8] = [
-        (b"\xFF", "1 9"),
-        (b"\xEF\xBB", "1 9"),
-        (b"letter a 1\n\xFF", "2 9"),
-        (b"\n\n# \xC3\n\n", "3 9"),
-        (b"\n\n\xE2\x82", "3 9"),
-        (b"\n\xC0\xAF", "2 9"),
-        (b"\n\xED\xA0\x80", "2 9"),
-        (b"foo\n\n\xF4\x90\x80\x80\nfoo", "3 9"),
-    ];
-    for (text, wanted) in rows {
+    for (text, wanted) in NO_TEXTS {
         let told = told(rt.alloc(), text)?;
-        assert_eq!(rt; told.as_str(), wanted, "{text:?}");
+        assert_eq!(rt; told.as_str(), *wanted, "{text:?}");
     }
     Ok(())
 }
@@ -295,10 +308,90 @@ fn defined(alloc: Global, table: &Table, character: char) -> Result<String, Fail
     Ok(format!(in alloc; "{:?} {cells}", definition.class)?)
 }
 
-/// The class and the cells of a character by a table text.
-fn defined_by(alloc: Global, text: &[u8], character: char) -> Result<String, Fail> {
-    let table = Table::read(alloc, text)?;
-    defined(alloc, &table, character)
+/// A rule: its line, its kind, its characters and its cells.
+fn rule_of(alloc: Global, rule: &Rule) -> Result<String, AllocError> {
+    let characters = rule.chars.as_slice().iter().copied();
+    let cells = rule.cells.as_slice().iter().map(|cell| cell.to_unicode());
+    let sides: String = characters.chain([' ']).chain(cells).collect(alloc)?;
+    format!(in alloc; "{} {:?} {sides}, ", rule.line, rule.kind)
+}
+
+/// The rules of a table.
+fn rules(alloc: Global, table: &Table) -> Result<String, Fail> {
+    let mut rules = String::new(alloc);
+    for rule in table.rules() {
+        rules.push_str(rule_of(alloc, rule)?.as_str())?;
+    }
+    Ok(rules)
+}
+
+/// The signs of a table: that of numbers, that of one capital and that of a run of capitals.
+fn signs(alloc: Global, table: &Table) -> Result<String, Fail> {
+    let mut signs = String::new(alloc);
+    for sign in [table.numsign(), table.capsletter(), table.begcapsword()] {
+        signs.push_str(braille(alloc, sign)?.as_str())?;
+        signs.push(',')?;
+    }
+    Ok(signs)
+}
+
+/// What a character folds to, whether it is a capital, and its class.
+fn folded(alloc: Global, table: &Table, character: char) -> Result<String, Fail> {
+    let fold = table.fold(character);
+    let capital = table.capital(character);
+    let class = table.class(character);
+    Ok(format!(in alloc; "{fold} {capital} {class:?}")?)
+}
+
+/// How many of the first characters of Unicode a table defines.
+fn count_defined(table: &Table) -> usize {
+    (0..0x3000)
+        .filter_map(char::from_u32)
+        .filter(|character| table.definition(*character).is_some())
+        .count()
+}
+
+/// What is asked of a table.
+#[derive(Clone, Copy)]
+enum Asked {
+    /// The class and the cells of a character.
+    Definition(char),
+    /// What a character folds to, whether it is a capital, and its class.
+    Fold(char),
+    /// The rules.
+    Rules,
+    /// The signs.
+    Signs,
+    /// How many of the first characters of Unicode it defines.
+    Count,
+}
+
+/// What a table answers.
+fn answer(alloc: Global, table: &Table, asked: Asked) -> Result<String, Fail> {
+    match asked {
+        Asked::Definition(character) => defined(alloc, table, character),
+        Asked::Fold(character) => folded(alloc, table, character),
+        Asked::Rules => rules(alloc, table),
+        Asked::Signs => signs(alloc, table),
+        Asked::Count => Ok(format!(in alloc; "{}", count_defined(table))?),
+    }
+}
+
+/// What the table of a text answers.
+fn answer_by(alloc: Global, text: &str, asked: Asked) -> Result<String, Fail> {
+    let table = Table::read(alloc, text.as_bytes())?;
+    answer(alloc, &table, asked)
+}
+
+/// Compares what each row's text answers.
+fn ask(rt: &impl Abort, alloc: Global, asked: Asked, rows: &str) -> Result<(), Fail> {
+    for row in rows.split('\n') {
+        let (wanted, text) = sides(row);
+        let text = text_of(alloc, text)?;
+        let found = answer_by(alloc, text.as_str(), asked)?;
+        assert_eq!(rt; found.as_str(), wanted, "{row}");
+    }
+    Ok(())
 }
 
 /// The character with this number in hexadecimal digits.
@@ -319,7 +412,7 @@ fn look_up(rt: &impl Abort, alloc: Global, rows: &str) -> Result<(), Fail> {
         let (character, rest) = numbered(row);
         let (wanted, text) = sides(rest);
         let text = text_of(alloc, text)?;
-        let found = defined_by(alloc, text.as_bytes(), character)?;
+        let found = answer_by(alloc, text.as_str(), Asked::Definition(character))?;
         assert_eq!(rt; found.as_str(), wanted, "{row}");
     }
     Ok(())
@@ -407,29 +500,6 @@ fn tells_bad_escapes(rt: HostRuntime) -> Result<(), Fail> {
     )
 }
 
-/// A rule: its line, its kind, its characters and its cells.
-fn rule_of(alloc: Global, rule: &Rule) -> Result<String, AllocError> {
-    let characters = rule.chars.as_slice().iter().copied();
-    let cells = rule.cells.as_slice().iter().map(|cell| cell.to_unicode());
-    let sides: String = characters.chain([' ']).chain(cells).collect(alloc)?;
-    format!(in alloc; "{} {:?} {sides}, ", rule.line, rule.kind)
-}
-
-/// The rules of a table.
-fn rules(alloc: Global, table: &Table) -> Result<String, Fail> {
-    let mut rules = String::new(alloc);
-    for rule in table.rules() {
-        rules.push_str(rule_of(alloc, rule)?.as_str())?;
-    }
-    Ok(rules)
-}
-
-/// The rules of a table text.
-fn rules_by(alloc: Global, text: &[u8]) -> Result<String, Fail> {
-    let table = Table::read(alloc, text)?;
-    rules(alloc, &table)
-}
-
 #[test]
 fn reads_rules(rt: HostRuntime) -> Result<(), Fail> {
     let rows = "\
@@ -439,29 +509,7 @@ fn reads_rules(rt: HostRuntime) -> Result<(), Fail> {
 1 Always a ⠃, 2 Always a ⠉,  | always a 12¶always a 14¶letter a 1
 2 Word a b ⠁⠃,  | space \\s 0¶word a\\sb 1-12 and more¶letter a 1¶letter b 12
  | letter a 1";
-    for row in rows.split('\n') {
-        let (wanted, text) = sides(row);
-        let text = text_of(rt.alloc(), text)?;
-        let found = rules_by(rt.alloc(), text.as_bytes())?;
-        assert_eq!(rt; found.as_str(), wanted, "{row}");
-    }
-    Ok(())
-}
-
-/// The signs of a table: that of numbers, that of one capital and that of a run of capitals.
-fn signs(alloc: Global, table: &Table) -> Result<String, Fail> {
-    let mut signs = String::new(alloc);
-    for sign in [table.numsign(), table.capsletter(), table.begcapsword()] {
-        signs.push_str(braille(alloc, sign)?.as_str())?;
-        signs.push(',')?;
-    }
-    Ok(signs)
-}
-
-/// The signs of a table text.
-fn signs_by(alloc: Global, text: &[u8]) -> Result<String, Fail> {
-    let table = Table::read(alloc, text)?;
-    signs(alloc, &table)
+    ask(&rt, rt.alloc(), Asked::Rules, rows)
 }
 
 #[test]
@@ -472,27 +520,7 @@ fn reads_signs(rt: HostRuntime) -> Result<(), Fail> {
 ,⠠,, | capsletter 6
 ,,⠠⠠, | begcapsword 6-6
 ⠼,⠠,⠠⠠, | begcapsword 6-6¶capsletter 6¶numsign 3456";
-    for row in rows.split('\n') {
-        let (wanted, text) = sides(row);
-        let text = text_of(rt.alloc(), text)?;
-        let found = signs_by(rt.alloc(), text.as_bytes())?;
-        assert_eq!(rt; found.as_str(), wanted, "{row}");
-    }
-    Ok(())
-}
-
-/// What a character folds to, whether it is a capital, and its class.
-fn folded(alloc: Global, table: &Table, character: char) -> Result<String, Fail> {
-    let fold = table.fold(character);
-    let capital = table.capital(character);
-    let class = table.class(character);
-    Ok(format!(in alloc; "{fold} {capital} {class:?}")?)
-}
-
-/// The same by a table text.
-fn folded_by(alloc: Global, text: &[u8], character: char) -> Result<String, Fail> {
-    let table = Table::read(alloc, text)?;
-    folded(alloc, &table, character)
+    ask(&rt, rt.alloc(), Asked::Signs, rows)
 }
 
 #[test]
@@ -508,35 +536,23 @@ C9 é true Some(Letter) | uplow Éé 1¶uplow Aa 1,4
         let (character, rest) = numbered(row);
         let (wanted, text) = sides(rest);
         let text = text_of(rt.alloc(), text)?;
-        let found = folded_by(rt.alloc(), text.as_bytes(), character)?;
+        let found = answer_by(rt.alloc(), text.as_str(), Asked::Fold(character))?;
         assert_eq!(rt; found.as_str(), wanted, "{row}");
     }
     Ok(())
 }
 
-/// How many of the first characters of Unicode a table defines.
-fn count_defined(table: &Table) -> usize {
-    (0..0x3000)
-        .filter_map(char::from_u32)
-        .filter(|character| table.definition(*character).is_some())
-        .count()
-}
-
-/// How many of them a table text defines.
-fn count_defined_by(alloc: Global, text: &[u8]) -> Result<usize, Fail> {
-    let table = Table::read(alloc, text)?;
-    Ok(count_defined(&table))
-}
-
 #[test]
 fn supplies_uncontracted_english(rt: HostRuntime) -> Result<(), Fail> {
     assert_eq!(rt; EN.lines().count(), 58);
-    let count = count_defined_by(rt.alloc(), EN.as_bytes())?;
-    assert_eq!(rt; count, 80);
-    let rules = rules_by(rt.alloc(), EN.as_bytes())?;
-    assert!(rt; rules.is_empty());
-    let signs = signs_by(rt.alloc(), EN.as_bytes())?;
-    assert_eq!(rt; signs.as_str(), "⠼,⠠,⠠⠠,");
+    for (asked, wanted) in [
+        (Asked::Count, "80"),
+        (Asked::Rules, ""),
+        (Asked::Signs, "⠼,⠠,⠠⠠,"),
+    ] {
+        let found = answer_by(rt.alloc(), EN, asked)?;
+        assert_eq!(rt; found.as_str(), wanted);
+    }
     Ok(())
 }
 
@@ -555,7 +571,7 @@ fn defines_characters_of_english(rt: HostRuntime) -> Result<(), Fail> {
 E9 undefined";
     for row in rows.split('\n') {
         let (character, wanted) = numbered(row);
-        let found = defined_by(rt.alloc(), EN.as_bytes(), character)?;
+        let found = answer_by(rt.alloc(), EN, Asked::Definition(character))?;
         assert_eq!(rt; found.as_str(), wanted, "{row}");
     }
     Ok(())

@@ -1,150 +1,163 @@
 //! The words, the statuses, and what stands on standard error.
 use super::{DONE, ENDS_FAILED, OTHER_WORDS, REFUSED, program};
-use std::io::{Error, ErrorKind, Read, Result, Write};
+use std::io::{self, Error, ErrorKind, Read, Write};
 use std::path::PathBuf;
+use std::process::Abort;
 use std::test::Fail;
 use std::{env, fs, process};
+
+/// The text of a table, an input, the status, what is written, and what is told.
+type Row = (&'static [u8], &'static [u8], u8, &'static str, &'static str);
+
+/// Runs by a file.
+const BY_A_FILE: &[Row] = &[
+    (
+        b"letter a 1\n",
+        b"a\n\nb\n\xFF\n",
+        DONE,
+        "⠁\n\nno 7 0\nno 1\n",
+        "",
+    ),
+    (b"letter a 1\n", b"", DONE, "", ""),
+    (b"", b"\n", DONE, "\n", ""),
+    (b"foo\n", b"a\n", REFUSED, "", "braildesk: no 8 1 1\n"),
+    (
+        b"# x\nletter a\n",
+        b"a\n",
+        REFUSED,
+        "",
+        "braildesk: no 8 2 2\n",
+    ),
+];
+
+/// Words that are not the program's.
+const OTHERS: &[&[&str]] = &[
+    &[],
+    &["translate"],
+    &["translate", "a", "b"],
+    &["check", "a"],
+    &["Translate", "a"],
+];
+
+/// What is told of them.
+const USE: &str = "use: braildesk translate TABLE < PRINT > BRAILLE\n";
 
 /// A reader or a writer of which each call fails.
 #[derive(Drop)]
 struct Broken;
 
 impl Read for Broken {
-    fn read(&mut self, _buf: &mut [u8]) -> Result<usize> {
+    fn read(&mut self, _buf: &mut [u8]) -> io::Result<usize> {
         Err(Error::from(ErrorKind::Other))
     }
 }
 
 impl Write for Broken {
-    fn write(&mut self, _buf: &[u8]) -> Result<usize> {
+    fn write(&mut self, _buf: &[u8]) -> io::Result<usize> {
         Err(Error::from(ErrorKind::Other))
     }
 
-    fn flush(&mut self) -> Result<()> {
+    fn flush(&mut self) -> io::Result<()> {
         Err(Error::from(ErrorKind::Other))
     }
 }
 
+/// What a run of the program gave: its status, what it wrote and what it told.
+#[derive(Drop)]
+struct Outcome {
+    status: u8,
+    output: Vec<u8>,
+    told: Vec<u8>,
+}
+
+/// The status of a run over two ends, and what it told.
+fn ended<R: Read, W: Write>(
+    rt: &HostRuntime,
+    words: &[&str],
+    reader: &mut R,
+    writer: &mut W,
+) -> (u8, Vec<u8>) {
+    let mut told = Vec::new(rt.alloc());
+    let status = program(rt, words, reader, writer, &mut told);
+    (status, told)
+}
+
+/// The outcome of a run over an input.
+fn outcome_of(rt: &HostRuntime, words: &[&str], input: &[u8]) -> Outcome {
+    let mut reader = input;
+    let mut output = Vec::new(rt.alloc());
+    let (status, told) = ended(rt, words, &mut reader, &mut output);
+    Outcome {
+        status,
+        output,
+        told,
+    }
+}
+
 /// A file of this name and of this test run, that holds the text.
-fn file_of(rt: &HostRuntime, name: &str, text: &[u8]) -> std::result::Result<PathBuf, Fail> {
+fn file_of(rt: &HostRuntime, name: &str, text: &[u8]) -> Result<PathBuf, Fail> {
     let name = format!(in rt.alloc(); "braildesk-{}-{name}", process::id(rt.process()))?;
     let path = env::temp_dir(rt)?.join(rt.alloc(), name.as_str())?;
     fs::write(rt, path.as_path(), text)?;
     Ok(path)
 }
 
+/// The outcome of a run by a file with this text.
+fn outcome_by(rt: &HostRuntime, table: &[u8], input: &[u8]) -> Result<Outcome, Fail> {
+    let path = file_of(rt, "cases", table)?;
+    let outcome = outcome_of(rt, &["translate", path.as_path().as_str()], input);
+    fs::remove_file(rt, path.as_path())?;
+    Ok(outcome)
+}
+
+/// Asserts a status, what was written and what was told.
+fn assert_outcome(rt: &impl Abort, outcome: &Outcome, status: u8, output: &str, told: &str) {
+    let given = (
+        outcome.status,
+        outcome.output.as_slice(),
+        outcome.told.as_slice(),
+    );
+    assert_eq!(rt; given, (status, output.as_bytes(), told.as_bytes()));
+}
+
 #[test]
-fn translates_by_a_file(rt: HostRuntime) -> std::result::Result<(), Fail> {
-    let cases: [(&[u8], &[u8], u8, &str, &str); 5] = [
-        (
-            b"letter a 1\n",
-            b"a\n\nb\n\xFF\n",
-            DONE,
-            "⠁\n\nno 7 0\nno 1\n",
-            "",
-        ),
-        (b"letter a 1\n", b"", DONE, "", ""),
-        (b"", b"\n", DONE, "\n", ""),
-        (b"foo\n", b"a\n", REFUSED, "", "braildesk: no 8 1 1\n"),
-        (
-            b"# x\nletter a\n",
-            b"a\n",
-            REFUSED,
-            "",
-            "braildesk: no 8 2 2\n",
-        ),
-    ];
-    for (table, input, status, output, told) in cases {
-        let path = file_of(&rt, "cases", table)?;
-        let (mut reader, mut writer, mut errors) = (
-            input,
-            Vec::new(rt.alloc()),
-            Vec::new(rt.alloc()),
-        );
-        let words = ["translate", path.as_path().as_str()];
-        assert_eq!(rt;
-            program(&rt, &words, &mut reader, &mut writer, &mut errors),
-            status,
-            "{table:?}"
-        );
-        assert_eq!(rt; writer.as_slice(), output.as_bytes(), "{table:?}");
-        assert_eq!(rt; errors.as_slice(), told.as_bytes(), "{table:?}");
-        fs::remove_file(&rt, path.as_path())?;
+fn translates_by_a_file(rt: HostRuntime) -> Result<(), Fail> {
+    for (table, input, status, output, told) in BY_A_FILE {
+        let outcome = outcome_by(&rt, table, input)?;
+        assert_outcome(&rt, &outcome, *status, output, told);
     }
     Ok(())
 }
 
 #[test]
-fn takes_no_other_words(rt: HostRuntime) -> std::result::Result<(), Fail> {
-    let cases: [&[&str]; 5] = [
-        &[],
-        &["translate"],
-        &["translate", "a", "b"],
-        &["check", "a"],
-        &["Translate", "a"],
-    ];
-    for words in cases {
-        let (mut reader, mut writer, mut errors): (&[u8], _, _) = (
-            b"a\n",
-            Vec::new(rt.alloc()),
-            Vec::new(rt.alloc()),
-        );
-        assert_eq!(rt;
-            program(&rt, words, &mut reader, &mut writer, &mut errors),
-            OTHER_WORDS,
-            "{words:?}"
-        );
-        assert_eq!(rt; writer.len(), 0, "{words:?}");
-        assert!(rt; !errors.is_empty(), "{words:?}");
+fn takes_no_other_words(rt: HostRuntime) {
+    for words in OTHERS {
+        assert_outcome(&rt, &outcome_of(&rt, words, b"a\n"), OTHER_WORDS, "", USE);
     }
-    Ok(())
 }
 
 #[test]
-fn tells_a_file_that_is_not_there(rt: HostRuntime) -> std::result::Result<(), Fail> {
-    let (mut reader, mut writer, mut errors): (&[u8], _, _) = (
-        b"a\n",
-        Vec::new(rt.alloc()),
-        Vec::new(rt.alloc()),
-    );
-    let words = ["translate", "no/such/table"];
-    assert_eq!(rt;
-        program(&rt, &words, &mut reader, &mut writer, &mut errors),
-        REFUSED
-    );
-    assert_eq!(rt; errors.as_slice(), b"braildesk: no 98\n".as_slice());
-    Ok(())
+fn tells_a_file_that_is_not_there(rt: HostRuntime) {
+    let outcome = outcome_of(&rt, &["translate", "no/such/table"], b"a\n");
+    assert_outcome(&rt, &outcome, REFUSED, "", "braildesk: no 98\n");
+}
+
+/// Asserts that a run ended with a failed end, and told nothing.
+fn assert_silent(rt: &impl Abort, ended: &(u8, Vec<u8>)) {
+    assert_eq!(rt; (ended.0, ended.1.len()), (ENDS_FAILED, 0));
 }
 
 #[test]
-fn says_nothing_of_failed_ends(rt: HostRuntime) -> std::result::Result<(), Fail> {
-    let path = file_of(&rt, "ends", b"letter a 1\n")?;
-    let words = ["translate", path.as_path().as_str()];
-    let mut errors = Vec::new(rt.alloc());
-    let mut writer = Vec::new(rt.alloc());
-    assert_eq!(rt;
-        program(&rt, &words, &mut Broken, &mut writer, &mut errors),
-        ENDS_FAILED
-    );
-    let mut reader: &[u8] = b"a\n";
-    assert_eq!(rt;
-        program(&rt, &words, &mut reader, &mut Broken, &mut errors),
-        ENDS_FAILED
-    );
-    assert_eq!(rt; errors.len(), 0);
-    fs::remove_file(&rt, path.as_path())?;
-    Ok(())
-}
-
-#[test]
-fn translates_by_the_supplied_table(rt: HostRuntime) -> std::result::Result<(), Fail> {
-    let mut reader: &[u8] = "ab 1.\n’\nø\n".as_bytes();
-    let (mut writer, mut errors) = (Vec::new(rt.alloc()), Vec::new(rt.alloc()));
+fn says_nothing_of_failed_ends(rt: HostRuntime) {
     let words = ["translate", "@en"];
-    assert_eq!(rt;
-        program(&rt, &words, &mut reader, &mut writer, &mut errors),
-        DONE
-    );
-    assert_eq!(rt; writer.as_slice(), "⠁⠃⠀⠼⠁⠲\n⠄\nno 7 0\n".as_bytes());
-    Ok(())
+    let mut output = Vec::new(rt.alloc());
+    assert_silent(&rt, &ended(&rt, &words, &mut Broken, &mut output));
+    let mut input: &[u8] = b"a\n";
+    assert_silent(&rt, &ended(&rt, &words, &mut input, &mut Broken));
+}
+
+#[test]
+fn translates_by_the_supplied_table(rt: HostRuntime) {
+    let outcome = outcome_of(&rt, &["translate", "@en"], "ab 1.\n’\nø\n".as_bytes());
+    assert_outcome(&rt, &outcome, DONE, "⠁⠃⠀⠼⠁⠲\n⠄\nno 7 0\n", "");
 }
