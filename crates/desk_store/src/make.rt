@@ -1,6 +1,6 @@
 //! The five tables of a new book.
 
-ghost use Rattle.std.specs.Prelude.{◌≡◌, false, OnOk, codes};
+ghost use Rattle.std.specs.Prelude.{◌≡◌, false, IsTrue, OnOk, codes};
 ghost use Rattle.sqlite_trees.specs.Tree.{Trees};
 ghost use Rattle.sqlite_schema.specs.declared.schema.Schema.{Schema};
 ghost use Rattle.sqlite_catalog.specs.Change.{created, is_used};
@@ -9,7 +9,7 @@ ghost use Rattle.sqlite.specs.Effect.{Database, IsDatabase};
 ghost use Rattle.sqlite.specs.Held.{state};
 ghost use Rattle.sqlite.specs.State.{HasCleanDisk, Survives};
 ghost use Rattle.desk_store.specs.Making.{AreAbsent, IndexesLow, IsMaking, with_para, made, first_contents};
-ghost use Rattle.desk_store.specs.States.{IsFile, IsUnder, Shows, seen};
+ghost use Rattle.desk_store.specs.States.{IsFile, IsUnder, Leaves, Shows, seen};
 ghost use Rattle.desk_store.specs.Tables as tables;
 
 use crate::put::put_book;
@@ -124,9 +124,13 @@ pub fn make_tables<S: Alter>(conn: &mut Connection<S>) -> Result<(), Error>
     ensures idle { conn.new.in_transaction ≡ false }
     ensures made { HasCleanDisk (state S.Store conn.new) → AreAbsent (state S.Store conn.old).now.schema → IsDatabase (state S.Store conn.old).now
         → OnOk result (Shows (made (state S.Store conn.old).now.schema) (first_contents (state S.Store conn.old).now.schema (state S.Store conn.old).now.trees) (state S.Store conn.new)) }
+    ensures open { HasCleanDisk (state S.Store conn.new) → OnOk result (IsTrue (state S.Store conn.new).is_open × ((state S.Store conn.new).committed ≡ (state S.Store conn.new).now)) }
     // Of a crash at any exit: nothing new is left but all of it.
     ensures crash { AreAbsent (state S.Store conn.old).now.schema → IsDatabase (state S.Store conn.old).now
         → Survives (state S.Store conn.old) (state S.Store conn.new) (IsFile (made (state S.Store conn.old).now.schema) (first_contents (state S.Store conn.old).now.schema (state S.Store conn.old).now.trees)) }
+    // At `Ok` it leaves nothing else.
+    ensures settled { HasCleanDisk (state S.Store conn.new) → AreAbsent (state S.Store conn.old).now.schema → IsDatabase (state S.Store conn.old).now
+        → OnOk result (Leaves (IsFile (made (state S.Store conn.old).now.schema) (first_contents (state S.Store conn.old).now.schema (state S.Store conn.old).now.trees)) (state S.Store conn.new)) }
 {
     let mut tx = conn.transaction();
     create_first(&mut tx)?;

@@ -1,10 +1,10 @@
-use Rattle.std.proofs.Common.{◌≡◌, arith, rules, subst}
+use Rattle.std.proofs.Common.{◌≡◌, arith, rules, sym, subst, ◌∙◌}
 use Rattle.sqlite.specs.Held.{state}
 use Rattle.sqlite.specs.State.{HasCleanDisk, Survives}
 use Rattle.sqlite.proofs.StateLemmas.{survives_then}
 use Rattle.desk_store.specs.Making.{made, first_contents}
-use Rattle.desk_store.specs.States.{IsFile, Shows}
-use Rattle.desk_store.proofs.Committing.{commits, shows_on}
+use Rattle.desk_store.specs.States.{IsFile, Leaves, Shows}
+use Rattle.desk_store.proofs.Committing.{commits, only_commit, shows_on}
 use Rattle.desk_store.proofs.Creating.{sound_is_low}
 use Rattle.desk_store.proofs.MadeTables.{begins_making}
 use Rattle.desk_store.proofs.make.make_tables.Goals as goal
@@ -59,3 +59,17 @@ returns-in_err-commit-clause-crash g c none sound =
     let whole = commits g.S.Store old last end (IsFile (made s) (first_contents s rows)) (rw begun at inside) c.commit.ensures.survives (λ clean. (ran clean).is) in
     let same : end ≡ c.conn-2-1.given.0 = search rules in
     subst (λ h. Survives (state g.S.Store old) (state g.S.Store h) (IsFile (made s) (first_contents s rows))) same whole
+
+pub returns-clause-settled : goal.returns-clause-settled
+returns-clause-settled g c clean none sound =
+    let s = c.args.conn.now.schema in
+    let rows = (state g.S.Store c.args.conn.now).now.trees in
+    let l = made s in
+    let first = first_contents s rows in
+    let end = c.commit.new.self.0 in
+    let same : end ≡ c.conn-2-1.given.0 = search rules in
+    let late : HasCleanDisk (state g.S.Store end) = search rules in
+    let done = (c.in_ok-commit.ensures.ok late).1 in
+    let shows = subst (λ h. Shows l first (state g.S.Store h)) (sym same) (returns-clause-made g c clean none sound) in
+    let all : Leaves (IsFile l first) (state g.S.Store end) = λ db left. only_commit (state g.S.Store end) l first db (done.committed_is ∙ sym done.now_is) (g.met.S.Store.settled end.store db done.is_open left) shows in
+    subst (λ h. Leaves (IsFile l first) (state g.S.Store h)) same all
