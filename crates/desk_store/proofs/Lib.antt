@@ -1,4 +1,5 @@
 pub mod Making
+pub mod Taking
 pub mod MadeTables
 pub mod Creating
 pub mod Meaning

@@ -1,6 +1,6 @@
 -- The file once the five tables are made.
-use Rattle.std.proofs.Common.{◌≡◌, ◌≢◌, ℕ, ◌+◌, ◌<◌, ◌≤◌, true, false, ◌==◌, List, [], ◌∷◌, ◌++◌, filter, codes, is_some, refl, sym, ap, subst, ◌∙◌, arith, nat_lt, eq-eqb, length, inl, inr}
-use Rattle.std.specs.List.{AllByRecursion, position_from}
+use Rattle.std.proofs.Common.{◌≡◌, ◌≢◌, ℕ, ◌+◌, ◌<◌, ◌≤◌, true, false, ◌==◌, List, [], ◌∷◌, filter, codes, refl, ◌∙◌, arith, nat_lt, eq-eqb, inl, inr}
+use Rattle.std.specs.List.{AllByRecursion}
 use Rattle.std.specs.Fmt.{digits}
 use Rattle.std.proofs.lemmas.Bool.Decides.{nat_tests}
 use Rattle.std.proofs.lemmas.List.Sorted.{IsPermutation-refl}
@@ -9,7 +9,6 @@ use Rattle.sqlite_schema.specs.declared.schema.Schema.{Schema}
 use Rattle.sqlite_schema.specs.declared.schema.Table.{Table}
 use Rattle.sqlite_schema.specs.Names.{same_name}
 use Rattle.sqlite_catalog.specs.Change.{automatics, created, is_used, next_tree}
-use Rattle.sqlite_catalog.specs.Listing.{IsSound}
 use Rattle.sqlite_catalog.proofs.StepLemmas.{table_below}
 use Rattle.sqlite_rules.specs.Lists.{Has}
 use Rattle.sqlite_rules.proofs.ListLemmas.{has_right, all_has}
@@ -17,13 +16,13 @@ use Rattle.sqlite_trees.specs.declared.store.Store.{Ghosts}
 use Rattle.sqlite.specs.Held.{Held, state}
 use Rattle.sqlite.specs.Effect.{Database, IsDatabase}
 use Rattle.sqlite.specs.Does.{lacks_sequence}
-use Rattle.sqlite.specs.State.{State}
-use Rattle.desk_store.specs.Contents.{Contents, HaveRowids, Holds}
+use Rattle.sqlite.specs.State.{State, HasCleanDisk, IsLive}
+use Rattle.desk_store.specs.Contents.{HaveRowids}
 use Rattle.desk_store.specs.Layout.{Layout, IsDeclared, AreDeclared, IsOther}
-use Rattle.desk_store.specs.Making.{AreAbsent, IndexesLow, IsMaking, first_rows, with_book, with_tab, with_para, with_corr, with_mark, made, no_contents}
-use Rattle.desk_store.specs.States.{IsUnder}
+use Rattle.desk_store.specs.Making.{AreAbsent, AreFree, FreesNone, HasCounter, IndexesLow, IsMaking, first_contents, first_rows, with_book, with_tab, with_para, with_corr, with_mark, made, no_contents}
+use Rattle.desk_store.specs.States.{IsUnder, Shows}
 use Rattle.desk_store.specs.Tables as tables
-use Rattle.desk_store.proofs.Creating.{low_still, declares, declared_stays, free_still, counts_still}
+use Rattle.desk_store.proofs.Creating.{sound_is_low, low_still, declares, declared_stays, free_still, counts_still}
 use Rattle.desk_store.proofs.Making.{none_below}
 use Rattle.desk_store.proofs.Declaring.{has_table}
 
@@ -45,13 +44,13 @@ no_corr_key : (a tree : ℕ) → tree ≢ a → filter (λ i. i.table == a) (aut
 no_corr_key a tree other = rw (other_tree tree a other)
 
 -- the names stay free from step to step
-module _ (s : Schema) (none : AreAbsent s) where
+module _ (s : Schema) (none : AreAbsent s) (counts : HasCounter s) where
   pub tab_free : is_used (with_book s) (codes "tab") ≡ false
   unfolding same_name
   tab_free = free_still s (tables.book 0) (codes "tab") none.tab refl (λ tree from. refl)
 
   pub tab_counts : lacks_sequence (with_book s) ≡ false
-  tab_counts = counts_still s (tables.book 0) refl none.counted
+  tab_counts = counts_still s (tables.book 0) refl counts
 
   pub para_free : is_used (with_tab s) (codes "para") ≡ false
   unfolding same_name digits
@@ -188,3 +187,23 @@ begins_making g old sound = record {
   inside = refl;
   over = refl;
 }
+
+module _ {S : Type 0} (g : Ghosts S) (old begun mid last : Held S) (begins : begun ≡ record old { in_transaction = true }) where
+  -- what two halves that ran made of what was there
+  pub whole : (HasCleanDisk (state g last) → HasCleanDisk (state g mid)) → (HasCleanDisk (state g mid) → AreFree (codes "book" ∷ codes "tab" ∷ codes "para" ∷ []) (state g begun) × FreesNone (state g begun) (state g mid))
+      → (HasCleanDisk (state g last) → AreFree (codes "corr" ∷ codes "mark" ∷ []) (state g mid))
+      → (HasCleanDisk (state g mid) → (committed : Database) (s : Schema) (rows : Trees) → AreAbsent s → HasCounter s → IsMaking committed s rows s (state g begun) → IsMaking committed s rows (with_para s) (state g mid))
+      → (HasCleanDisk (state g last) → (committed : Database) (s : Schema) (rows : Trees) → AreAbsent s → HasCounter s → IndexesLow s → IsMaking committed s rows (with_para s) (state g mid)
+      → IsUnder committed (made s) (first_contents s rows) (state g last))
+      → HasCleanDisk (state g last) → AreAbsent old.schema × (IsLive (state g old) → HasCounter old.schema → Shows (made old.schema) (first_contents old.schema (state g old).now.trees) (state g last))
+  whole earlier first_free rest_free first rest clean =
+      let taken = rw begins at first_free (earlier clean) in
+      let more = rest_free clean in
+      let none : AreAbsent old.schema = record { book = taken.0.free.0; tab = taken.0.free.1.0; para = taken.0.free.1.1.0; corr = taken.1 _ more.free.0; mark = taken.1 _ more.free.1.0 } in (
+        none,
+        λ live counts.
+            let sound = (live taken.0.is_open).0 in
+            let rows = (state g old).now.trees in
+            let half = first (earlier clean) (state g old).committed old.schema rows none counts (rw begins (begins_making g old sound)) in
+            (rest clean (state g old).committed old.schema rows none counts (sound_is_low old.schema rows sound) half).shows,
+      )

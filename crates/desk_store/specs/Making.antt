@@ -1,5 +1,5 @@
 -- What making the five tables makes of a file that has none of them.
-use Rattle.std.specs.Prelude.{◌≡◌, ◌<◌, ◌≤◌, pos, true, false, if◌then◌else◌, nat_lt, [], ◌∷◌, codes}
+use Rattle.std.specs.Prelude.{◌≡◌, ℕ, ◌<◌, ◌≤◌, pos, true, false, if◌then◌else◌, nat_lt, List, [], ◌∷◌, codes, IsTrue}
 use Rattle.std.specs.List.{AllByRecursion}
 use Rattle.sqlite_trees.specs.Tree.{Trees}
 use Rattle.sqlite_schema.specs.declared.schema.Index.{Index}
@@ -9,19 +9,23 @@ use Rattle.sqlite_catalog.specs.Change.{created, next_tree, is_used}
 use Rattle.sqlite_catalog.specs.Listing.{IsSound}
 use Rattle.sqlite.specs.Does.{lacks_sequence}
 use Rattle.sqlite.specs.Effect.{Database}
-use Rattle.sqlite.specs.State.{State}
+use Rattle.sqlite.specs.State.{State, IsLive, KeepsCommit}
 use Rattle.desk_store.specs.Contents.{Contents}
 use Rattle.desk_store.specs.Layout.{Layout}
+use Rattle.desk_store.specs.States.{IsFile}
 use Rattle.desk_store.specs.Tables as tables
 
--- No table, index or view has the name of one of the five, and no table counts without a counter.
+-- No table, index or view has the name of one of the five, nor a thing that the database keeps as it is.
 pub record AreAbsent (s : Schema) : Type 0 where
   pub book : is_used s (codes "book") ≡ false
   pub tab : is_used s (codes "tab") ≡ false
   pub para : is_used s (codes "para") ≡ false
   pub corr : is_used s (codes "corr") ≡ false
   pub mark : is_used s (codes "mark") ≡ false
-  pub counted : lacks_sequence s ≡ false
+
+-- A schema with a table that counts its rowids has the counter too. Where it hasn't, making a table makes the counter.
+abbrev pub HasCounter : Schema → Type 0
+HasCounter s = lacks_sequence s ≡ false
 
 -- each index is on a table, so below the tree that the next table takes
 abbrev pub IndexesLow : Schema → Type 0
@@ -72,3 +76,20 @@ pub record IsMaking (committed : Database) (first : Schema) (rows : Trees) (now 
   pub later : next_tree first ≤ next_tree now
   pub inside : s.in_transaction ≡ true
   pub over : s.committed ≡ committed
+
+-- the connection is open, and the names are free
+pub record AreFree (names : List (List ℕ)) (s : State) : Type 0 where
+  pub is_open : IsTrue s.is_open
+  pub free : AllByRecursion (λ name. is_used s.now.schema name ≡ false) names
+
+-- a name that is free now was free
+abbrev pub FreesNone : State → State → Type 0
+FreesNone old new = (name : List ℕ) → is_used new.now.schema name ≡ false → is_used old.now.schema name ≡ false
+
+-- What making adds to what a crash may leave: where the names were free, the file with the five tables.
+abbrev pub IsMade : State → Trees → Type 0
+IsMade s db = AreAbsent s.now.schema × (IsLive s → HasCounter s.now.schema → IsFile (made s.now.schema) (first_contents s.now.schema s.now.trees) db)
+
+-- The last commit is that of before, and the connection shows it, if it is open still.
+abbrev pub IsUndone : State → State → Type 0
+IsUndone old new = KeepsCommit old new × (IsTrue new.is_open → new.now ≡ new.committed)
