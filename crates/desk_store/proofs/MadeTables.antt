@@ -19,7 +19,7 @@ use Rattle.sqlite.specs.Does.{lacks_sequence}
 use Rattle.sqlite.specs.State.{State, HasCleanDisk, IsLive}
 use Rattle.desk_store.specs.Contents.{HaveRowids}
 use Rattle.desk_store.specs.Layout.{Layout, IsDeclared, AreDeclared, IsOther}
-use Rattle.desk_store.specs.Making.{AreAbsent, AreFree, FreesNone, HasCounter, IndexesLow, IsMaking, first_contents, first_rows, with_book, with_tab, with_para, with_corr, with_mark, made, no_contents}
+use Rattle.desk_store.specs.Making.{AreAbsent, AreFree, FreesNone, HasCounter, IndexesLow, IsMaking, first_contents, first_rows, after_book, after_tab, after_para, after_corr, after_mark, made, no_contents}
 use Rattle.desk_store.specs.States.{IsUnder, Shows}
 use Rattle.desk_store.specs.Tables as tables
 use Rattle.desk_store.proofs.Creating.{sound_is_low, low_still, declares, declared_stays, free_still, counts_still}
@@ -45,81 +45,81 @@ no_corr_key a tree other = rw (other_tree tree a other)
 
 -- the names stay free from step to step
 module _ (s : Schema) (none : AreAbsent s) (counts : HasCounter s) where
-  pub tab_free : is_used (with_book s) (codes "tab") ≡ false
+  pub tab_free : is_used (after_book s) (codes "tab") ≡ false
   unfolding same_name
   tab_free = free_still s (tables.book 0) (codes "tab") none.tab refl (λ tree from. refl)
 
-  pub tab_counts : lacks_sequence (with_book s) ≡ false
+  pub tab_counts : lacks_sequence (after_book s) ≡ false
   tab_counts = counts_still s (tables.book 0) refl counts
 
-  pub para_free : is_used (with_tab s) (codes "para") ≡ false
+  pub para_free : is_used (after_tab s) (codes "para") ≡ false
   unfolding same_name digits
-  para_free = free_still (with_book s) (tables.tab 0) (codes "para") (free_still s (tables.book 0) (codes "para") none.para refl (λ tree from. refl)) refl (λ tree from. refl)
+  para_free = free_still (after_book s) (tables.tab 0) (codes "para") (free_still s (tables.book 0) (codes "para") none.para refl (λ tree from. refl)) refl (λ tree from. refl)
 
-  pub para_counts : lacks_sequence (with_tab s) ≡ false
-  para_counts = counts_still (with_book s) (tables.tab 0) refl tab_counts
+  pub para_counts : lacks_sequence (after_tab s) ≡ false
+  para_counts = counts_still (after_book s) (tables.tab 0) refl tab_counts
 
-  pub corr_free : is_used (with_para s) (codes "corr") ≡ false
+  pub corr_free : is_used (after_para s) (codes "corr") ≡ false
   unfolding same_name digits
-  corr_free = free_still (with_tab s) (tables.para 0) (codes "corr") (free_still (with_book s) (tables.tab 0) (codes "corr") (free_still s (tables.book 0) (codes "corr") none.corr refl (λ tree from. refl)) refl (λ tree from. refl)) refl (λ tree from. refl)
+  corr_free = free_still (after_tab s) (tables.para 0) (codes "corr") (free_still (after_book s) (tables.tab 0) (codes "corr") (free_still s (tables.book 0) (codes "corr") none.corr refl (λ tree from. refl)) refl (λ tree from. refl)) refl (λ tree from. refl)
 
-  pub corr_counts : lacks_sequence (with_para s) ≡ false
-  corr_counts = counts_still (with_tab s) (tables.para 0) refl para_counts
+  pub corr_counts : lacks_sequence (after_para s) ≡ false
+  corr_counts = counts_still (after_tab s) (tables.para 0) refl para_counts
 
-  pub mark_free : is_used (with_corr s) (codes "mark") ≡ false
+  pub mark_free : is_used (after_corr s) (codes "mark") ≡ false
   unfolding same_name digits
   mark_free =
-      free_still (with_para s) (tables.corr 0) (codes "mark")
-      (free_still (with_tab s) (tables.para 0) (codes "mark") (free_still (with_book s) (tables.tab 0) (codes "mark") (free_still s (tables.book 0) (codes "mark") none.mark refl (λ tree from. refl)) refl (λ tree from. refl)) refl (λ tree from. refl)) refl
+      free_still (after_para s) (tables.corr 0) (codes "mark")
+      (free_still (after_tab s) (tables.para 0) (codes "mark") (free_still (after_book s) (tables.tab 0) (codes "mark") (free_still s (tables.book 0) (codes "mark") none.mark refl (λ tree from. refl)) refl (λ tree from. refl)) refl (λ tree from. refl)) refl
       (λ tree from. refl)
 
-  pub mark_counts : lacks_sequence (with_corr s) ≡ false
-  mark_counts = counts_still (with_para s) (tables.corr 0) refl corr_counts
+  pub mark_counts : lacks_sequence (after_corr s) ≡ false
+  mark_counts = counts_still (after_para s) (tables.corr 0) refl corr_counts
 
   module _ (low : IndexesLow s) where
-    low_book : IndexesLow (with_book s)
+    low_book : IndexesLow (after_book s)
     low_book = low_still s (tables.book 0) low
 
-    low_tab : IndexesLow (with_tab s)
-    low_tab = low_still (with_book s) (tables.tab 0) low_book
+    low_tab : IndexesLow (after_tab s)
+    low_tab = low_still (after_book s) (tables.tab 0) low_book
 
-    low_para : IndexesLow (with_para s)
-    low_para = low_still (with_tab s) (tables.para 0) low_tab
+    low_para : IndexesLow (after_para s)
+    low_para = low_still (after_tab s) (tables.para 0) low_tab
 
-    low_corr : IndexesLow (with_corr s)
-    low_corr = low_still (with_para s) (tables.corr 0) low_para
+    low_corr : IndexesLow (after_corr s)
+    low_corr = low_still (after_para s) (tables.corr 0) low_para
 
     -- a table that is declared stays so while the later ones are made
-    through_mark : (a : Table) → IsDeclared (with_corr s) a → IsDeclared (with_mark s) a
+    through_mark : (a : Table) → IsDeclared (after_corr s) a → IsDeclared (after_mark s) a
     unfolding same_name
-    through_mark a d = declared_stays (with_corr s) low_corr (tables.mark 0) mark_free refl a d (λ tree other. refl)
+    through_mark a d = declared_stays (after_corr s) low_corr (tables.mark 0) mark_free refl a d (λ tree other. refl)
 
-    through_corr : (a : Table) → IsDeclared (with_para s) a → IsDeclared (with_mark s) a
+    through_corr : (a : Table) → IsDeclared (after_para s) a → IsDeclared (after_mark s) a
     unfolding same_name
-    through_corr a d = through_mark a (declared_stays (with_para s) low_para (tables.corr 0) corr_free refl a d (no_corr_key a.tree))
+    through_corr a d = through_mark a (declared_stays (after_para s) low_para (tables.corr 0) corr_free refl a d (no_corr_key a.tree))
 
-    through_para : (a : Table) → IsDeclared (with_tab s) a → IsDeclared (with_mark s) a
+    through_para : (a : Table) → IsDeclared (after_tab s) a → IsDeclared (after_mark s) a
     unfolding same_name
-    through_para a d = through_corr a (declared_stays (with_tab s) low_tab (tables.para 0) para_free refl a d (λ tree other. refl))
+    through_para a d = through_corr a (declared_stays (after_tab s) low_tab (tables.para 0) para_free refl a d (λ tree other. refl))
 
-    through_tab : (a : Table) → IsDeclared (with_book s) a → IsDeclared (with_mark s) a
+    through_tab : (a : Table) → IsDeclared (after_book s) a → IsDeclared (after_mark s) a
     unfolding same_name
-    through_tab a d = through_para a (declared_stays (with_book s) low_book (tables.tab 0) tab_free refl a d (no_tab_key a.tree))
+    through_tab a d = through_para a (declared_stays (after_book s) low_book (tables.tab 0) tab_free refl a d (no_tab_key a.tree))
 
     all_declared : AreDeclared (made s)
     unfolding same_name
     all_declared = record {
       book = through_tab (tables.book (next_tree s)) (declares s low (tables.book 0) none.book refl (λ tree. refl));
-      tab = through_para (tables.tab (next_tree (with_book s))) (declares (with_book s) low_book (tables.tab 0) tab_free refl keys_of_tab);
-      para = through_corr (tables.para (next_tree (with_tab s))) (declares (with_tab s) low_tab (tables.para 0) para_free refl (λ tree. refl));
-      corr = through_mark (tables.corr (next_tree (with_para s))) (declares (with_para s) low_para (tables.corr 0) corr_free refl keys_of_corr);
-      mark = declares (with_corr s) low_corr (tables.mark 0) mark_free refl (λ tree. refl);
+      tab = through_para (tables.tab (next_tree (after_book s))) (declares (after_book s) low_book (tables.tab 0) tab_free refl keys_of_tab);
+      para = through_corr (tables.para (next_tree (after_tab s))) (declares (after_tab s) low_tab (tables.para 0) para_free refl (λ tree. refl));
+      corr = through_mark (tables.corr (next_tree (after_para s))) (declares (after_para s) low_para (tables.corr 0) corr_free refl keys_of_corr);
+      mark = declares (after_corr s) low_corr (tables.mark 0) mark_free refl (λ tree. refl);
     }
 
-    module _ (committed : Database) (rows : Trees) (now : State) (m : IsMaking committed s rows (with_mark s) now) where
+    module _ (committed : Database) (rows : Trees) (now : State) (m : IsMaking committed s rows (after_mark s) now) where
       -- a tree from the next on has no row
-      empty : (a : Table) → IsDeclared (with_mark s) a → next_tree s ≤ a.tree → now.now.trees a.tree ≡ []
-      empty a d high = all_has _ (with_mark s).tables a m.kept (has_table (with_mark s) a d) ∙ rw (none_below a.tree (next_tree s) high)
+      empty : (a : Table) → IsDeclared (after_mark s) a → next_tree s ≤ a.tree → now.now.trees a.tree ≡ []
+      empty a d high = all_has _ (after_mark s).tables a m.kept (has_table (after_mark s) a d) ∙ rw (none_below a.tree (next_tree s) high)
 
       rising : (before : Schema) (table : Table) → next_tree before < next_tree (created before table)
       rising before table = let new : Table = record table { tree = next_tree before } in table_below (created before table) new (has_right before.tables (new ∷ []) new (inl refl))
@@ -136,9 +136,9 @@ module _ (s : Schema) (none : AreAbsent s) (counts : HasCounter s) where
           let d = all_declared in
           let l = made s in
           let a = rising s (tables.book 0) in
-          let b = rising (with_book s) (tables.tab 0) in
-          let c = rising (with_tab s) (tables.para 0) in
-          let e = rising (with_para s) (tables.corr 0) in
+          let b = rising (after_book s) (tables.tab 0) in
+          let c = rising (after_tab s) (tables.para 0) in
+          let e = rising (after_para s) (tables.corr 0) in
           let book = empty (tables.book l.book) d.book (omega arith) in
           let tab = empty (tables.tab l.tab) d.tab (omega (arith, a)) in
           let para = empty (tables.para l.para) d.para (omega (arith, a, b)) in
@@ -156,7 +156,7 @@ module _ (s : Schema) (none : AreAbsent s) (counts : HasCounter s) where
                   paras = rw para (IsPermutation-refl []);
                   corrs = rw corr (IsPermutation-refl []);
                   marks = rw mark (IsPermutation-refl []);
-                  others = others_kept l (with_mark s).tables m.kept;
+                  others = others_kept l (after_mark s).tables m.kept;
                   book_ids = rw book no_rowids;
                   tab_ids = rw tab no_rowids;
                   para_ids = rw para no_rowids;
@@ -192,8 +192,8 @@ module _ {S : Type 0} (g : Ghosts S) (old begun mid last : Held S) (begins : beg
   -- what two halves that ran made of what was there
   pub whole : (HasCleanDisk (state g last) → HasCleanDisk (state g mid)) → (HasCleanDisk (state g mid) → AreFree (codes "book" ∷ codes "tab" ∷ codes "para" ∷ []) (state g begun) × FreesNone (state g begun) (state g mid))
       → (HasCleanDisk (state g last) → AreFree (codes "corr" ∷ codes "mark" ∷ []) (state g mid))
-      → (HasCleanDisk (state g mid) → (committed : Database) (s : Schema) (rows : Trees) → AreAbsent s → HasCounter s → IsMaking committed s rows s (state g begun) → IsMaking committed s rows (with_para s) (state g mid))
-      → (HasCleanDisk (state g last) → (committed : Database) (s : Schema) (rows : Trees) → AreAbsent s → HasCounter s → IndexesLow s → IsMaking committed s rows (with_para s) (state g mid)
+      → (HasCleanDisk (state g mid) → (committed : Database) (s : Schema) (rows : Trees) → AreAbsent s → HasCounter s → IsMaking committed s rows s (state g begun) → IsMaking committed s rows (after_para s) (state g mid))
+      → (HasCleanDisk (state g last) → (committed : Database) (s : Schema) (rows : Trees) → AreAbsent s → HasCounter s → IndexesLow s → IsMaking committed s rows (after_para s) (state g mid)
       → IsUnder committed (made s) (first_contents s rows) (state g last))
       → HasCleanDisk (state g last) → AreAbsent old.schema × (IsLive (state g old) → HasCounter old.schema → Shows (made old.schema) (first_contents old.schema (state g old).now.trees) (state g last))
   whole earlier first_free rest_free first rest clean =

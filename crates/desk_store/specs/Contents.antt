@@ -1,4 +1,5 @@
--- What a file holds: the rows of the five tables, and those of the other tables.
+-- What a file holds: the rows of the five tables, and those of the other tables. Texts are in UTF-8, so what is in order of its bytes is
+-- in order of its code points.
 use Rattle.std.specs.Prelude.{◌≡◌, ℕ, ℤ, pos, ◌≤◌, Bool, not, if◌then◌else◌, List, [], ◌∷◌, map, filter, length, bytes_eq, IsTrue, IsPermutation}
 use Rattle.std.specs.List.{AllByRecursion}
 use Rattle.std.specs.Ordering.{int_eq}
@@ -94,6 +95,7 @@ pub record Holds (l : Layout) (c : Contents) (db : Trees) : Type 0 where
   pub tab_ids : HaveRowids (db l.tab)
   pub para_ids : HaveRowids (db l.para)
   pub mark_ids : HaveRowids (db l.mark)
+  -- as the key of `tab` asks: no two of its rows have one name
   pub tab_names : (name : List ℕ) → length (filter (λ t. bytes_eq t.name name) c.tabs) ≤ 1
 
 -- ---- what is put
@@ -125,9 +127,10 @@ placed id place p = if int_eq p.id id then record p { place = place } else p
 abbrev pub with_place : ℤ → ℤ → Contents → Contents
 with_place id place c = record c { paras = map (placed id place) c.paras }
 
--- the book at this version
+-- a row of `book` at this version, if its id is 1, and else as it is
 abbrev pub at_version : ℤ → BookRow → BookRow
 at_version version b = if int_eq b.id (pos 1) then record b { version = version } else b
 
+-- with the row with id 1 at this version
 abbrev pub with_version : ℤ → Contents → Contents
 with_version version c = record c { books = map (at_version version) c.books }

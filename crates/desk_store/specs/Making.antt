@@ -15,7 +15,7 @@ use Rattle.desk_store.specs.Layout.{Layout}
 use Rattle.desk_store.specs.States.{IsFile}
 use Rattle.desk_store.specs.Tables as tables
 
--- No table, index or view has the name of one of the five, nor a thing that the database keeps as it is.
+-- No table, index or view has the name of one of the five in either case of its letters, nor has what the database keeps as it is.
 pub record AreAbsent (s : Schema) : Type 0 where
   pub book : is_used s (codes "book") ≡ false
   pub tab : is_used s (codes "tab") ≡ false
@@ -31,30 +31,30 @@ HasCounter s = lacks_sequence s ≡ false
 abbrev pub IndexesLow : Schema → Type 0
 IndexesLow s = (i : Index) → Has s.indexes i → i.table < next_tree s
 
--- the schema with the tables, one after another
-abbrev pub with_book : Schema → Schema
-with_book s = created s (tables.book 0)
+-- the schema after each table is made, one upon another
+abbrev pub after_book : Schema → Schema
+after_book s = created s (tables.book 0)
 
-abbrev pub with_tab : Schema → Schema
-with_tab s = created (with_book s) (tables.tab 0)
+abbrev pub after_tab : Schema → Schema
+after_tab s = created (after_book s) (tables.tab 0)
 
-abbrev pub with_para : Schema → Schema
-with_para s = created (with_tab s) (tables.para 0)
+abbrev pub after_para : Schema → Schema
+after_para s = created (after_tab s) (tables.para 0)
 
-abbrev pub with_corr : Schema → Schema
-with_corr s = created (with_para s) (tables.corr 0)
+abbrev pub after_corr : Schema → Schema
+after_corr s = created (after_para s) (tables.corr 0)
 
-abbrev pub with_mark : Schema → Schema
-with_mark s = created (with_corr s) (tables.mark 0)
+abbrev pub after_mark : Schema → Schema
+after_mark s = created (after_corr s) (tables.mark 0)
 
 abbrev pub made : Schema → Layout
 made s = record {
-  schema = with_mark s;
+  schema = after_mark s;
   book = next_tree s;
-  tab = next_tree (with_book s);
-  para = next_tree (with_tab s);
-  corr = next_tree (with_para s);
-  mark = next_tree (with_corr s);
+  tab = next_tree (after_book s);
+  para = next_tree (after_tab s);
+  corr = next_tree (after_para s);
+  mark = next_tree (after_corr s);
 }
 
 -- the rows of the tables that were there, and none of others

@@ -9,7 +9,7 @@ ghost use Rattle.sqlite.specs.Effect.{Database};
 ghost use Rattle.sqlite.specs.Held.{state};
 ghost use Rattle.sqlite.specs.State.{HasCleanDisk, IsLive, KeepsCommit, Survives};
 ghost use Rattle.desk_store.specs.Fault.{told};
-ghost use Rattle.desk_store.specs.Making.{AreAbsent, AreFree, FreesNone, HasCounter, IndexesLow, IsMade, IsMaking, IsUndone, with_para, made, first_contents};
+ghost use Rattle.desk_store.specs.Making.{AreAbsent, AreFree, FreesNone, HasCounter, IndexesLow, IsMade, IsMaking, IsUndone, after_para, made, first_contents};
 ghost use Rattle.desk_store.specs.States.{IsUnder, Leaves, Shows, seen};
 ghost use Rattle.desk_store.specs.Tables as tables;
 
@@ -102,7 +102,7 @@ fn create_mark<S: Alter>(tx: &mut Transaction<'_, S>) -> Result<(), Error>
 fn create_first<S: Alter>(tx: &mut Transaction<'_, S>) -> Result<(), Error>
     ensures same_reference { tx.new.conn.ghost_name ≡ tx.old.conn.ghost_name }
     ensures made { HasCleanDisk (seen S.Store tx.new) → (committed : Database) (s : Schema) (rows : Trees) → AreAbsent s → HasCounter s → IsMaking committed s rows s (seen S.Store tx.old)
-        → OnOk result (IsMaking committed s rows (with_para s) (seen S.Store tx.new)) }
+        → OnOk result (IsMaking committed s rows (after_para s) (seen S.Store tx.new)) }
     ensures taken { HasCleanDisk (seen S.Store tx.new) → OnOk result (AreFree (codes "book" ∷ codes "tab" ∷ codes "para" ∷ []) (seen S.Store tx.old) × FreesNone (seen S.Store tx.old) (seen S.Store tx.new)) }
     ensures kept { HasCleanDisk (seen S.Store tx.new) → KeepsCommit (seen S.Store tx.old) (seen S.Store tx.new) }
     ensures survives { Survives (seen S.Store tx.old) (seen S.Store tx.new) (λ _. ⊥) }
@@ -116,7 +116,7 @@ fn create_first<S: Alter>(tx: &mut Transaction<'_, S>) -> Result<(), Error>
 /// Makes the other two, and puts the book's row.
 fn create_rest<S: Alter>(tx: &mut Transaction<'_, S>) -> Result<(), Error>
     ensures same_reference { tx.new.conn.ghost_name ≡ tx.old.conn.ghost_name }
-    ensures made { HasCleanDisk (seen S.Store tx.new) → (committed : Database) (s : Schema) (rows : Trees) → AreAbsent s → HasCounter s → IndexesLow s → IsMaking committed s rows (with_para s) (seen S.Store tx.old)
+    ensures made { HasCleanDisk (seen S.Store tx.new) → (committed : Database) (s : Schema) (rows : Trees) → AreAbsent s → HasCounter s → IndexesLow s → IsMaking committed s rows (after_para s) (seen S.Store tx.old)
         → OnOk result (IsUnder committed (made s) (first_contents s rows) (seen S.Store tx.new)) }
     ensures taken { HasCleanDisk (seen S.Store tx.new) → OnOk result (AreFree (codes "corr" ∷ codes "mark" ∷ []) (seen S.Store tx.old)) }
     ensures inside { HasCleanDisk (seen S.Store tx.new) → OnOk result ((seen S.Store tx.new).in_transaction ≡ true) }

@@ -1,6 +1,6 @@
 use Rattle.std.proofs.Common.{arith}
 use Rattle.sqlite.specs.State.{HasCleanDisk}
-use Rattle.desk_store.specs.Making.{with_para, with_corr, made, no_contents}
+use Rattle.desk_store.specs.Making.{after_para, after_corr, made, no_contents}
 use Rattle.desk_store.specs.States.{seen}
 use Rattle.desk_store.proofs.MadeTables.{corr_free, corr_counts, mark_free, mark_counts, finished}
 use Rattle.desk_store.proofs.make.create_rest.Goals as goal
@@ -9,8 +9,8 @@ pub returns-clause-made : goal.returns-clause-made
 returns-clause-made g c clean committed s rows none counts low was =
     let late : HasCleanDisk (seen g.S.Store c.create_mark.new.tx) = omega (arith, c.put_book.ensures.survives.clean) in
     let early : HasCleanDisk (seen g.S.Store c.create_corr.new.tx) = omega (arith, c.create_mark.ensures.survives.clean) in
-    let corr = c.in_ok-create_corr.ensures.made early committed s rows (with_para s) was (corr_free s none counts) (corr_counts s none counts) in
-    let mark = c.in_ok-create_mark.ensures.made late committed s rows (with_corr s) corr (mark_free s none counts) (mark_counts s none counts) in
+    let corr = c.in_ok-create_corr.ensures.made early committed s rows (after_para s) was (corr_free s none counts) (corr_counts s none counts) in
+    let mark = c.in_ok-create_mark.ensures.made late committed s rows (after_corr s) corr (mark_free s none counts) (mark_counts s none counts) in
     c.in_ok-put_book.ensures.put clean committed (made s) (no_contents s rows) (finished s none counts low committed rows (seen g.S.Store c.create_mark.new.tx) mark)
 
 pub returns-clause-taken : goal.returns-clause-taken
