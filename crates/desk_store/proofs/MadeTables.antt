@@ -1,5 +1,5 @@
 -- The file once the five tables are made.
-use Rattle.std.proofs.Common.{◌≡◌, ◌≢◌, ℕ, ◌+◌, ◌<◌, ◌≤◌, true, false, ◌==◌, List, [], ◌∷◌, filter, codes, refl, ◌∙◌, arith, nat_lt, eq-eqb, inl, inr}
+use Rattle.std.proofs.Common.{◌≡◌, ◌≢◌, ℕ, ◌&&◌, ◌+◌, ◌<◌, ◌≤◌, true, false, ◌==◌, List, [], ◌∷◌, filter, codes, refl, ◌∙◌, arith, nat_lt, eq-eqb, inl, inr}
 use Rattle.std.specs.List.{AllByRecursion}
 use Rattle.std.specs.Fmt.{digits}
 use Rattle.std.proofs.lemmas.Bool.Decides.{nat_tests}
@@ -27,20 +27,20 @@ use Rattle.desk_store.proofs.Making.{none_below}
 use Rattle.desk_store.proofs.Declaring.{has_table}
 
 -- the automatic index of a table is on it
-keys_of_tab : (tree : ℕ) → filter (λ i. i.table == tree) (automatics (tables.tab tree) 0 (tree + 1) (tables.tab tree).uniques) ≡ automatics (tables.tab tree) 0 (tree + 1) (tables.tab tree).uniques
+keys_of_tab : (tree : ℕ) → filter (λ i. i.is_unique && (i.table == tree)) (automatics (tables.tab tree) 0 (tree + 1) (tables.tab tree).uniques) ≡ automatics (tables.tab tree) 0 (tree + 1) (tables.tab tree).uniques
 keys_of_tab tree = rw (eq-eqb tree tree refl)
 
-keys_of_corr : (tree : ℕ) → filter (λ i. i.table == tree) (automatics (tables.corr tree) 0 (tree + 1) (tables.corr tree).uniques) ≡ automatics (tables.corr tree) 0 (tree + 1) (tables.corr tree).uniques
+keys_of_corr : (tree : ℕ) → filter (λ i. i.is_unique && (i.table == tree)) (automatics (tables.corr tree) 0 (tree + 1) (tables.corr tree).uniques) ≡ automatics (tables.corr tree) 0 (tree + 1) (tables.corr tree).uniques
 keys_of_corr tree = rw (eq-eqb tree tree refl)
 
 other_tree : (m n : ℕ) → m ≢ n → (m == n) ≡ false
 other_tree m n other = grind (arith, nat_tests)
 
 -- and on no other
-no_tab_key : (a tree : ℕ) → tree ≢ a → filter (λ i. i.table == a) (automatics (tables.tab tree) 0 (tree + 1) (tables.tab tree).uniques) ≡ []
+no_tab_key : (a tree : ℕ) → tree ≢ a → filter (λ i. i.is_unique && (i.table == a)) (automatics (tables.tab tree) 0 (tree + 1) (tables.tab tree).uniques) ≡ []
 no_tab_key a tree other = rw (other_tree tree a other)
 
-no_corr_key : (a tree : ℕ) → tree ≢ a → filter (λ i. i.table == a) (automatics (tables.corr tree) 0 (tree + 1) (tables.corr tree).uniques) ≡ []
+no_corr_key : (a tree : ℕ) → tree ≢ a → filter (λ i. i.is_unique && (i.table == a)) (automatics (tables.corr tree) 0 (tree + 1) (tables.corr tree).uniques) ≡ []
 no_corr_key a tree other = rw (other_tree tree a other)
 
 -- the names stay free from step to step

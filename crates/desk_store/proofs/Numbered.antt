@@ -2,7 +2,7 @@
 use Rattle.std.proofs.Common.{◌≡◌, ◌≢◌, ◌⊎◌, inl, inr, ℕ, ℤ, Bool, true, false, ◌&&◌, ◌||◌, ◌==◌, cond, List, [], ◌∷◌, ◌++◌, Option, filter, drop, length, Some, None, Ok, refl, sym, ap, subst, ◌∙◌, is_eq, IsTrue, true≢false, eq-eqb, eqb-true, slice_get, if◌then◌else◌, ◌/◌, Ordering, Less, Equal, Greater, int_cmp, ◌<ℤ◌, arith, ◌<◌}
 use Rattle.std.specs.List.{AllByRecursion, list_any, list_all}
 use Rattle.std.specs.Ordering.{MatchOrdering}
-use Rattle.std.proofs.lemmas.Bool.{and_parts}
+use Rattle.std.proofs.lemmas.Bool.{and_from, and_parts}
 use Rattle.std.proofs.lemmas.Cmp.{int_ranked}
 use Rattle.sqlite_value.specs.declared.keys.Collation.TheVariants.{Binary}
 use Rattle.sqlite_value.specs.declared.value.Value.TheVariants.{Null, Int}
@@ -19,7 +19,7 @@ use Rattle.sqlite.specs.Program.{overlay}
 use Rattle.sqlite_schema.specs.declared.schema.Index.{Index}
 use Rattle.sqlite_schema.specs.declared.schema.Schema.{Schema}
 use Rattle.sqlite_schema.specs.declared.schema.Table.{Table}
-use Rattle.sqlite_schema.specs.Rules.{agree, equal}
+use Rattle.sqlite_schema.specs.Rules.{agree, equal, guards}
 use Rattle.sqlite_rules.specs.Cast.{cast_row}
 use Rattle.sqlite_rules.specs.Edit.{id_in}
 use Rattle.sqlite_rules.specs.Keys.{conflicts, shares}
@@ -65,10 +65,10 @@ unfolding first_key
 agrees r new h = (and_parts _ _ h).0
 
 module _ (schema : Schema) (table : Table) (d : IsDeclared schema table) (unkeyed : table.uniques ≡ []) where
-  pub none_on : (i : Index) → Has schema.indexes i → i.table ≡ table.tree → ⊥
-  none_on i has is = subst (λ (is : List Index). Has is i) no_index (has_kept (λ (i : Index). i.table == table.tree) schema.indexes i has (eq-eqb i.table table.tree is))
+  pub none_on : (i : Index) → Has schema.indexes i → i.is_unique ≡ true → i.table ≡ table.tree → ⊥
+  none_on i has unique is = subst (λ (is : List Index). Has is i) no_index (has_kept (λ (i : Index). guards i table) schema.indexes i has (and_from i.is_unique (i.table == table.tree) unique (eq-eqb i.table table.tree is)))
     where
-      no_index : filter (λ i. i.table == table.tree) schema.indexes ≡ []
+      no_index : filter (λ i. guards i table) schema.indexes ≡ []
       no_index = d.indexed ∙ rw unkeyed
 
   -- a row in the way has the number of the new one
@@ -79,8 +79,8 @@ module _ (schema : Schema) (table : Table) (d : IsDeclared schema table) (unkeye
       go true e h = equal_numbers n id (rw (number, is) at (agrees r new e))
       go false e h =
           let shared = some_has (shares (Some (0 ∷ [])) table new r) schema.indexes h in
-          let guarded = (and_parts _ _ (and_parts _ _ (and_parts _ _ shared.2).0).0).1 in
-          absurd (none_on shared.0 shared.1 (eqb-true shared.0.table table.tree guarded))
+          let guarded = and_parts _ _ (and_parts _ _ (and_parts _ _ shared.2).0).0 in
+          absurd (none_on shared.0 shared.1 guarded.0 (eqb-true shared.0.table table.tree guarded.1))
 
   -- what an upsert by the rowid tests and sets
   abbrev pub by_rowid : ℕ → List Term → Parts
@@ -96,7 +96,7 @@ module _ (schema : Schema) (table : Table) (d : IsDeclared schema table) (unkeye
         let tests = (by_rowid base project).tests in
         let only : filter (finds tests given) (db table.tree) ≡ r ∷ [] = filter_same _ _ (db table.tree) (all_find given base id (ap (λ g. column g base) shows ∙ asked) (db table.tree) keyed.integers) ∙ there in
         let next = made given r shows number in
-        updates_one limit schema table params d.alone (by_rowid base project) given db r new id w (uncovered schema table d low db) only there next.0 next.1 (is ∙ sym number) (λ i has on. absurd (none_on i has on)) h
+        updates_one limit schema table params d.alone (by_rowid base project) given db r new id w (uncovered schema table d low db) only there next.0 next.1 (is ∙ sym number) (λ i has unique on. absurd (none_on i has unique on)) h
 
     -- the row is put in place of the one with its number, or with it more
     pub upserts : (db after : Trees) → HaveRowids (db table.tree) → Ends limit schema table params (Some (0 ∷ [])) (program_on table.tree (by_rowid base project)) new db after → IsPut schema table new id db after

@@ -132,7 +132,7 @@ module _ (schema : Schema) (tree : ℕ) (d : IsDeclared schema (tab tree)) (low 
       let made : cast_row (tab tree) (drop 1 (eval_all project (given ∷ r ∷ []))) ≡ stored id t = rw (is, number, name) (cast id t tree) in
       let next : id_in (rowid (eval_all project (given ∷ r ∷ []))) ≡ id = rw number in
       let put = updates_one limit schema (tab tree) (tab_row t) d.alone parts given db r (stored id t) id w (uncovered schema (tab tree) d low db) only there made next (sym number)
-      (λ i has on. subst (λ (i : Index). AreKept r (stored id t) i.columns) (sym (is_its_index schema tree d i has on)) (sym name, tt)) h in
+      (λ i has unique on. subst (λ (i : Index). AreKept r (stored id t) i.columns) (sym (is_its_index schema tree d i has unique on)) (sym name, tt)) h in
       concluded id (subst (IsPut schema (tab tree) (stored id t) id db) (sym trees) put) (named_rows t tabs (db tree) lists few keyed r id has number name)
 
   pub puts_tab : Ends limit schema (tab tree) (tab_row t) (Some (1 ∷ [])) (program_on tree parts) (stored (next_rowid (db tree)) t) db after → IsTabPut

@@ -185,7 +185,7 @@ module _ (name : Name) (columns : List Column) (text : List ℕ) where
             let number = number_of r id (all_has _ (old.now.trees tree) r keyed.integers it.0) it.1 in
             let next = made r it.0 number in
             let put = updates_one old.step_limit schema table params d.alone (parts_of u.project) params old.now.trees r next.0 id w (uncovered schema table d low old.now.trees) (same ∙ only) only next.1
-            (ap id_in (heads r ∙ number)) (next.2 ∙ sym number) (λ i has on. absurd (none_on schema table d refl i has on)) did in
+            (ap id_in (heads r ∙ number)) (next.2 ∙ sym number) (λ i has unique on. absurd (none_on schema table d refl i has unique on)) did in
             inr (r, next.0, it.0, only, next.3, subst (IsPut schema table next.0 id old.now.trees) (sym trees) put)
 
     -- what the table lists then

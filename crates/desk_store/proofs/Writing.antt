@@ -132,7 +132,7 @@ module _ (limit : Option ℕ) (schema : Schema) (table : Table) (params : Row) w
   pub updates_one : (alone : (other : Table) → Has schema.tables other → other.tree ≡ table.tree → other ≡ table) (p : Parts) (given : Row) (db : Trees) (r new : Row) (id : ℤ) (w : Written)
       → overlay db [] table.tree ≡ db table.tree → filter (finds p.tests given) (db table.tree) ≡ r ∷ [] → filter (has_rowid id) (db table.tree) ≡ r ∷ []
       → cast_row table (drop 1 (eval_all p.project (given ∷ r ∷ []))) ≡ new → id_in (rowid (eval_all p.project (given ∷ r ∷ []))) ≡ id
-      → column new 0 ≡ column r 0 → ((i : Index) → Has schema.indexes i → i.table ≡ table.tree → AreKept r new i.columns)
+      → column new 0 ≡ column r 0 → ((i : Index) → Has schema.indexes i → i.is_unique ≡ true → i.table ≡ table.tree → AreKept r new i.columns)
       → Updates task (program_on table.tree p) given db (Ok w) → IsPut schema table new id db w.trees
   updates_one alone p given db r new id w plain only there made is same kept h =
       let asked = went h in
