@@ -8,10 +8,10 @@ use Rattle.sqlite_trees.specs.Tree.{Trees}
 use Rattle.sqlite_schema.specs.declared.schema.Schema.{Schema}
 use Rattle.sqlite_schema.specs.declared.schema.Table.{Table}
 use Rattle.sqlite_schema.specs.Names.{same_name}
-use Rattle.sqlite_catalog.specs.Change.{automatics, created, is_used, next_tree}
+use Rattle.sqlite_catalog.specs.Change.{automatics, created, is_used, next_tree, KeepsRows}
 use Rattle.sqlite_catalog.proofs.StepLemmas.{table_below}
 use Rattle.sqlite_rules.specs.Lists.{Has}
-use Rattle.sqlite_rules.proofs.ListLemmas.{has_right, all_has}
+use Rattle.sqlite_rules.proofs.ListLemmas.{has_left, has_right, all_from, all_has}
 use Rattle.sqlite_trees.specs.declared.store.Store.{Ghosts}
 use Rattle.sqlite.specs.Held.{Held, state}
 use Rattle.sqlite.specs.Effect.{Database, IsDatabase}
@@ -19,12 +19,15 @@ use Rattle.sqlite.specs.Does.{lacks_sequence}
 use Rattle.sqlite.specs.State.{State, HasCleanDisk, IsLive}
 use Rattle.desk_store.specs.Contents.{HaveRowids}
 use Rattle.desk_store.specs.Layout.{Layout, IsDeclared, AreDeclared, IsOther}
-use Rattle.desk_store.specs.Making.{AreAbsent, AreFree, FreesNone, HasCounter, IndexesLow, IsMaking, first_contents, first_rows, after_book, after_tab, after_para, after_corr, after_mark, made, no_contents}
+use Rattle.desk_store.specs.Making.{AreAbsent, AreFree, FreesNone, HasCounter, IndexesLow, IsMaking, IsNew, first_rows, after_book, after_tab, after_para, after_corr, after_mark, made, no_contents}
 use Rattle.desk_store.specs.States.{IsUnder, Shows}
 use Rattle.desk_store.specs.Tables as tables
 use Rattle.desk_store.proofs.Creating.{sound_is_low, low_still, declares, declared_stays, free_still, counts_still}
 use Rattle.desk_store.proofs.Making.{none_below}
 use Rattle.desk_store.proofs.Declaring.{has_table}
+
+is_below : (m n : ℕ) → m < n → nat_lt m n ≡ true
+is_below m n low = grind (arith, nat_tests)
 
 -- the automatic index of a table is on it
 keys_of_tab : (tree : ℕ) → filter (λ i. i.is_unique && (i.table == tree)) (automatics (tables.tab tree) 0 (tree + 1) (tables.tab tree).uniques) ≡ automatics (tables.tab tree) 0 (tree + 1) (tables.tab tree).uniques
@@ -127,11 +130,17 @@ module _ (s : Schema) (none : AreAbsent s) (counts : HasCounter s) where
       no_rowids : HaveRowids []
       no_rowids = record { integers = tt; once = λ id. omega arith }
 
-      others_kept : (l : Layout) (tables : List Table) → AllByRecursion (λ t. now.now.trees t.tree ≡ first_rows s rows t.tree) tables → AllByRecursion (λ t. IsOther l t.tree → now.now.trees t.tree ≡ first_rows s rows t.tree) tables
-      others_kept l [] all = tt
-      others_kept l (t ∷ ts) all = (λ other. all.0, others_kept l ts all.1)
+      -- each tree is as it is
+      others_kept : (l : Layout) (tables : List Table) → AllByRecursion (λ t. IsOther l t.tree → now.now.trees t.tree ≡ now.now.trees t.tree) tables
+      others_kept l tables = all_from _ tables (λ t has other. refl)
 
-      pub finished : IsUnder committed (made s) (no_contents s rows) now
+      -- a table that was there has its rows
+      keeps_row : (t : Table) → Has s.tables t → now.now.trees t.tree ≡ rows t.tree
+      keeps_row t has =
+          let there = has_left _ _ t (has_left _ _ t (has_left _ _ t (has_left _ _ t (has_left s.tables _ t has)))) in
+          all_has _ (after_mark s).tables t m.kept there ∙ rw (is_below t.tree (next_tree s) (table_below s t has)) refl
+
+      pub finished : IsUnder committed (made s) (no_contents now.now.trees) now × KeepsRows s.tables rows now.now.trees
       finished =
           let d = all_declared in
           let l = made s in
@@ -143,34 +152,34 @@ module _ (s : Schema) (none : AreAbsent s) (counts : HasCounter s) where
           let tab = empty (tables.tab l.tab) d.tab (omega (arith, a)) in
           let para = empty (tables.para l.para) d.para (omega (arith, a, b)) in
           let corr = empty (tables.corr l.corr) d.corr (omega (arith, a, b, c)) in
-          let mark = empty (tables.mark l.mark) d.mark (omega (arith, a, b, c, e)) in
-          record {
-            shows = record {
-              schema = m.schema;
-              is = record {
-                declared = d;
-                sound = m.sound;
-                holds = record {
-                  books = rw book (IsPermutation-refl []);
-                  tabs = rw tab (IsPermutation-refl []);
-                  paras = rw para (IsPermutation-refl []);
-                  corrs = rw corr (IsPermutation-refl []);
-                  marks = rw mark (IsPermutation-refl []);
-                  others = others_kept l (after_mark s).tables m.kept;
-                  book_ids = rw book no_rowids;
-                  tab_ids = rw tab no_rowids;
-                  para_ids = rw para no_rowids;
-                  mark_ids = rw mark no_rowids;
-                  tab_names = λ name. omega arith;
+          let mark = empty (tables.mark l.mark) d.mark (omega (arith, a, b, c, e)) in (
+            record {
+              shows = record {
+                schema = m.schema;
+                is = record {
+                  declared = d;
+                  sound = m.sound;
+                  holds = record {
+                    books = rw book (IsPermutation-refl []);
+                    tabs = rw tab (IsPermutation-refl []);
+                    paras = rw para (IsPermutation-refl []);
+                    corrs = rw corr (IsPermutation-refl []);
+                    marks = rw mark (IsPermutation-refl []);
+                    others = others_kept l (after_mark s).tables;
+                    aside = λ tree other none. refl;
+                    book_ids = rw book no_rowids;
+                    tab_ids = rw tab no_rowids;
+                    para_ids = rw para no_rowids;
+                    mark_ids = rw mark no_rowids;
+                    tab_names = λ name. omega arith;
+                  };
                 };
               };
-            };
-            inside = m.inside;
-            over = m.over;
-          }
-
-is_below : (m n : ℕ) → m < n → nat_lt m n ≡ true
-is_below m n low = grind (arith, nat_tests)
+              inside = m.inside;
+              over = m.over;
+            },
+            all_from _ s.tables keeps_row,
+          )
 
 rows_there : (s : Schema) (rows : Trees) (tables : List Table) → ((t : Table) → Has tables t → t.tree < next_tree s) → AllByRecursion (λ t. rows t.tree ≡ first_rows s rows t.tree) tables
 rows_there s rows [] low = tt
@@ -194,8 +203,8 @@ module _ {S : Type 0} (g : Ghosts S) (old begun mid last : Held S) (begins : beg
       → (HasCleanDisk (state g last) → AreFree (codes "corr" ∷ codes "mark" ∷ []) (state g mid))
       → (HasCleanDisk (state g mid) → (committed : Database) (s : Schema) (rows : Trees) → AreAbsent s → HasCounter s → IsMaking committed s rows s (state g begun) → IsMaking committed s rows (after_para s) (state g mid))
       → (HasCleanDisk (state g last) → (committed : Database) (s : Schema) (rows : Trees) → AreAbsent s → HasCounter s → IndexesLow s → IsMaking committed s rows (after_para s) (state g mid)
-      → IsUnder committed (made s) (first_contents s rows) (state g last))
-      → HasCleanDisk (state g last) → AreAbsent old.schema × (IsLive (state g old) → HasCounter old.schema → Shows (made old.schema) (first_contents old.schema (state g old).now.trees) (state g last))
+      → IsNew s rows (λ c. IsUnder committed (made s) c (state g last)))
+      → HasCleanDisk (state g last) → AreAbsent old.schema × (IsLive (state g old) → HasCounter old.schema → IsNew old.schema (state g old).now.trees (λ c. Shows (made old.schema) c (state g last)))
   whole earlier first_free rest_free first rest clean =
       let taken = rw begins at first_free (earlier clean) in
       let more = rest_free clean in
@@ -205,5 +214,6 @@ module _ {S : Type 0} (g : Ghosts S) (old begun mid last : Held S) (begins : beg
             let sound = (live taken.0.is_open).0 in
             let rows = (state g old).now.trees in
             let half = first (earlier clean) (state g old).committed old.schema rows none counts (rw begins (begins_making g old sound)) in
-            (rest clean (state g old).committed old.schema rows none counts (sound_is_low old.schema rows sound) half).shows,
+            let done = rest clean (state g old).committed old.schema rows none counts (sound_is_low old.schema rows sound) half in
+            (done.0, done.1, done.2.shows),
       )

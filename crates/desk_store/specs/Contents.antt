@@ -7,11 +7,12 @@ use Rattle.sqlite_value.specs.declared.value.Value.TheVariants.{Int, Text, Blob}
 use Rattle.sqlite_value.specs.Order.{Row, column}
 use Rattle.sqlite_trees.specs.Tree.{Trees, rowid, has_rowid}
 use Rattle.sqlite_trees.specs.View.{is_int}
+use Rattle.sqlite_rules.specs.Edit.{IsNoIndex}
 use Rattle.desk_book.specs.declared.rows.BookRow.{BookRow}
 use Rattle.desk_book.specs.Rows.{Tab, StoredTab, Para, Corr, Mark}
 use Rattle.desk_store.specs.Layout.{Layout, IsOther}
 
--- The rows of the five tables, each list in any order, and those of the other tables by their trees.
+-- The rows of the five tables, each list in any order, and those of the other trees.
 pub record Contents : Type 0 where
   pub books : List BookRow
   pub tabs : List Tab
@@ -90,6 +91,8 @@ pub record Holds (l : Layout) (c : Contents) (db : Trees) : Type 0 where
   pub corrs : Lists corr_row corr_columns c.corrs (db l.corr)
   pub marks : Lists mark_row mark_columns c.marks (db l.mark)
   pub others : AllByRecursion (λ t. IsOther l t.tree → db t.tree ≡ c.others t.tree) l.schema.tables
+  -- and each tree that is no index, among them those that the database keeps as they are, the list of its schema and its user version
+  pub aside : (tree : ℕ) → IsOther l tree → IsNoIndex l.schema tree → db tree ≡ c.others tree
   -- the rows that may be replaced are told apart, those of `tab` by their hidden rowids too
   pub book_ids : HaveRowids (db l.book)
   pub tab_ids : HaveRowids (db l.tab)

@@ -5,7 +5,7 @@ use Rattle.sqlite_trees.specs.Tree.{Trees}
 use Rattle.sqlite_schema.specs.declared.schema.Index.{Index}
 use Rattle.sqlite_schema.specs.declared.schema.Schema.{Schema}
 use Rattle.sqlite_rules.specs.Lists.{Has}
-use Rattle.sqlite_catalog.specs.Change.{created, next_tree, is_used}
+use Rattle.sqlite_catalog.specs.Change.{KeepsRows, created, next_tree, is_used}
 use Rattle.sqlite_catalog.specs.Listing.{IsSound}
 use Rattle.sqlite.specs.Does.{lacks_sequence}
 use Rattle.sqlite.specs.Effect.{Database}
@@ -61,12 +61,17 @@ made s = record {
 abbrev pub first_rows : Schema → Trees → Trees
 first_rows s rows tree = if nat_lt tree (next_tree s) then rows tree else []
 
-abbrev pub no_contents : Schema → Trees → Contents
-no_contents s rows = record { books = []; tabs = []; paras = []; corrs = []; marks = []; others = first_rows s rows }
+-- no rows in the five tables, beside those of the other trees
+abbrev pub no_contents : Trees → Contents
+no_contents others = record { books = []; tabs = []; paras = []; corrs = []; marks = []; others = others }
 
 -- the row of a new book alone, in format 1 and at version 0
-abbrev pub first_contents : Schema → Trees → Contents
-first_contents s rows = record (no_contents s rows) { books = record { id = pos 1; format = pos 1; version = pos 0 } ∷ [] }
+abbrev pub first_contents : Trees → Contents
+first_contents others = record (no_contents others) { books = record { id = pos 1; format = pos 1; version = pos 0 } ∷ [] }
+
+-- the contents of a new file, beside the tables that were there with the rows that they had
+abbrev pub IsNew : Schema → Trees → (Contents → Type 0) → Type 0
+IsNew s rows P = (others : Trees) × KeepsRows s.tables rows others × P (first_contents others)
 
 -- within a transaction over this commit the schema has come so far, and the tables have those rows
 pub record IsMaking (committed : Database) (first : Schema) (rows : Trees) (now : Schema) (s : State) : Type 0 where
@@ -88,7 +93,7 @@ FreesNone old new = (name : List ℕ) → is_used new.now.schema name ≡ false 
 
 -- What making adds to what a crash may leave: where the names were free, the file with the five tables.
 abbrev pub IsMade : State → Trees → Type 0
-IsMade s db = AreAbsent s.now.schema × (IsLive s → HasCounter s.now.schema → IsFile (made s.now.schema) (first_contents s.now.schema s.now.trees) db)
+IsMade s db = AreAbsent s.now.schema × (IsLive s → HasCounter s.now.schema → IsNew s.now.schema s.now.trees (λ c. IsFile (made s.now.schema) c db))
 
 -- The last commit is that of before, and the connection shows it, if it is open still.
 abbrev pub IsUndone : State → State → Type 0

@@ -9,7 +9,7 @@ ghost use Rattle.sqlite.specs.Effect.{Database};
 ghost use Rattle.sqlite.specs.Held.{state};
 ghost use Rattle.sqlite.specs.State.{HasCleanDisk, IsLive, KeepsCommit, Survives};
 ghost use Rattle.desk_store.specs.Fault.{told};
-ghost use Rattle.desk_store.specs.Making.{AreAbsent, AreFree, FreesNone, HasCounter, IndexesLow, IsMade, IsMaking, IsUndone, after_para, made, first_contents};
+ghost use Rattle.desk_store.specs.Making.{AreAbsent, AreFree, FreesNone, HasCounter, IndexesLow, IsMade, IsMaking, IsNew, IsUndone, after_para, made};
 ghost use Rattle.desk_store.specs.States.{IsUnder, Leaves, Shows, seen};
 ghost use Rattle.desk_store.specs.Tables as tables;
 
@@ -117,7 +117,7 @@ fn create_first<S: Alter>(tx: &mut Transaction<'_, S>) -> Result<(), Error>
 fn create_rest<S: Alter>(tx: &mut Transaction<'_, S>) -> Result<(), Error>
     ensures same_reference { tx.new.conn.ghost_name ≡ tx.old.conn.ghost_name }
     ensures made { HasCleanDisk (seen S.Store tx.new) → (committed : Database) (s : Schema) (rows : Trees) → AreAbsent s → HasCounter s → IndexesLow s → IsMaking committed s rows (after_para s) (seen S.Store tx.old)
-        → OnOk result (IsUnder committed (made s) (first_contents s rows) (seen S.Store tx.new)) }
+        → OnOk result (IsNew s rows (λ c. IsUnder committed (made s) c (seen S.Store tx.new))) }
     ensures taken { HasCleanDisk (seen S.Store tx.new) → OnOk result (AreFree (codes "corr" ∷ codes "mark" ∷ []) (seen S.Store tx.old)) }
     ensures inside { HasCleanDisk (seen S.Store tx.new) → OnOk result ((seen S.Store tx.new).in_transaction ≡ true) }
     ensures kept { HasCleanDisk (seen S.Store tx.new) → KeepsCommit (seen S.Store tx.old) (seen S.Store tx.new) }
@@ -142,7 +142,7 @@ pub fn make_tables<S: Alter>(conn: &mut Connection<S>) -> Result<(), Error>
     // Where a name is taken, the answer is an error.
     ensures free { HasCleanDisk (state S.Store conn.new) → OnOk result (AreAbsent (state S.Store conn.old).now.schema) }
     ensures made { HasCleanDisk (state S.Store conn.new) → IsLive (state S.Store conn.old) → HasCounter (state S.Store conn.old).now.schema
-        → OnOk result (Shows (made (state S.Store conn.old).now.schema) (first_contents (state S.Store conn.old).now.schema (state S.Store conn.old).now.trees) (state S.Store conn.new)) }
+        → OnOk result (IsNew (state S.Store conn.old).now.schema (state S.Store conn.old).now.trees (λ c. Shows (made (state S.Store conn.old).now.schema) c (state S.Store conn.new))) }
     ensures open { HasCleanDisk (state S.Store conn.new) → OnOk result (IsTrue (state S.Store conn.new).is_open × ((state S.Store conn.new).committed ≡ (state S.Store conn.new).now)) }
     // Of a crash at any exit: nothing new is left but all of it, and that only where no name was taken.
     ensures crash { Survives (state S.Store conn.old) (state S.Store conn.new) (IsMade (state S.Store conn.old)) }
