@@ -1,9 +1,9 @@
 -- What a schema declares once a table is made in it.
-use Rattle.std.proofs.Common.{◌≡◌, ◌≢◌, ◌⊎◌, inl, inr, ℕ, zero, suc, ◌+◌, ◌<◌, Bool, true, false, cond, ◌==◌, ◌||◌, List, [], ◌∷◌, ◌++◌, filter, length, slice_get, is_some, Option, Some, None, refl, sym, ap, subst, ◌∙◌, true≢false, eq-eqb, eqb-true, append-nil, arith}
+use Rattle.std.proofs.Common.{◌≡◌, ◌≢◌, inl, inr, ℕ, zero, suc, ◌+◌, Bool, true, false, cond, ◌==◌, ◌||◌, List, [], ◌∷◌, ◌++◌, filter, length, slice_get, is_some, Option, Some, None, refl, ap, ◌∙◌, true≢false, append-nil, arith}
 use Rattle.std.specs.List.{AllZip, list_any, position_from}
 use Rattle.std.proofs.Common.{not, ◌&&◌, codes, option_and_then}
 use Rattle.sqlite.specs.Does.{lacks_sequence}
-use Rattle.std.proofs.lemmas.Bool.{or_parts, cases_Bool}
+use Rattle.std.proofs.lemmas.Bool.{or_parts}
 use Rattle.std.proofs.lemmas.Bool.Decides.{nat_tests}
 use Rattle.std.proofs.lemmas.List.Elements.{filter-append}
 use Rattle.sqlite_value.specs.Order.{Row}
@@ -15,7 +15,7 @@ use Rattle.sqlite_schema.specs.declared.schema.Schema.{Schema}
 use Rattle.sqlite_schema.specs.declared.schema.Table.{Table}
 use Rattle.sqlite_schema.specs.Names.{same_name, table_named}
 use Rattle.sqlite_rules.specs.Lists.{Has}
-use Rattle.sqlite_rules.proofs.ListLemmas.{has_left, has_right, has_either}
+use Rattle.sqlite_rules.proofs.ListLemmas.{has_right, has_either}
 use Rattle.sqlite_catalog.specs.Change.{automatics, created, next_tree, is_used}
 use Rattle.sqlite_catalog.specs.Listing.{IsSound, IsIndexRow, IsDefined}
 use Rattle.sqlite_catalog.proofs.StepLemmas.{table_below}

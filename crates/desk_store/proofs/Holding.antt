@@ -1,5 +1,5 @@
 -- What the tables hold once a row is put.
-use Rattle.std.proofs.Common.{◌≡◌, ◌≢◌, ℕ, ℤ, Bool, not, List, [], ◌∷◌, map, filter, refl, sym, ap, subst, ◌∙◌, is_eq, IsPermutation, bytes_eq, true≢false, false, length, ◌≤◌, cond, true, codes, arith}
+use Rattle.std.proofs.Common.{◌≡◌, ◌≢◌, ℕ, ℤ, Bool, not, List, [], ◌∷◌, map, filter, refl, sym, ap, subst, ◌∙◌, is_eq, IsPermutation, bytes_eq, true≢false, false, codes}
 use Rattle.std.proofs.lemmas.Slice.Eq.{bytes_eq-Decides}
 use Rattle.std.specs.List.{AllByRecursion}
 use Rattle.std.specs.Ordering.{int_eq}
@@ -8,11 +8,10 @@ use Rattle.sqlite_value.specs.declared.value.Value.TheVariants.{Int}
 use Rattle.sqlite_value.specs.Order.{Row, column, value_cmp}
 use Rattle.sqlite_value.proofs.OrderLemmas.{value_cmp-Int}
 use Rattle.sqlite_trees.specs.Tree.{Trees, rowid, put_row, without_rowid}
-use Rattle.sqlite_trees.proofs.ListLemmas.{all_weaker, filter_same, filter-map, IsPermutation-filter}
+use Rattle.sqlite_trees.proofs.ListLemmas.{filter_same, filter-map, IsPermutation-filter}
 use Rattle.sqlite_schema.specs.declared.schema.Schema.{Schema}
 use Rattle.sqlite_schema.specs.declared.schema.Table.{Table}
 use Rattle.sqlite_rules.specs.Edit.{IsNoIndex}
-use Rattle.sqlite_rules.specs.Lists.{Has}
 use Rattle.sqlite_rules.proofs.ListLemmas.{all_has}
 use Rattle.desk_book.specs.declared.rows.BookRow.{BookRow}
 use Rattle.desk_book.specs.Rows.{Tab, Para, Corr, Mark}
@@ -20,7 +19,7 @@ use Rattle.desk_store.specs.Contents.{Contents, Holds, HaveRowids, Lists, tab_ro
 use Rattle.desk_store.specs.Layout.{Layout, IsDeclared, AreDeclared, IsOther}
 use Rattle.desk_store.specs.Tables as tables
 use Rattle.desk_store.proofs.Declaring.{has_table}
-use Rattle.desk_store.proofs.RowLists.{replaced, rowids_stay, filter_apart, filter_fewer}
+use Rattle.desk_store.proofs.RowLists.{replaced, rowids_stay}
 use Rattle.desk_store.proofs.Writing.{IsPut, IsAdded, Spares}
 
 pub differ : (a b : List ℕ) → bytes_eq a b ≡ false → a ≢ b
@@ -70,18 +69,6 @@ aside_stays : (l : Layout) (tree : ℕ) (IsIt : (t : ℕ) → IsOther l t → t 
     → (t : ℕ) → IsOther l t → IsNoIndex l.schema t → new t ≡ c.others t
 aside_stays l tree is c old new had spares t other none = spares.aside t (is t other) none ∙ had t other none
 
--- no name comes twice
-names_stay : (t : Tab) (tabs : List Tab) → ((name : List ℕ) → length (filter (λ u. bytes_eq u.name name) tabs) ≤ 1) → (name : List ℕ) → length (filter (λ u. bytes_eq u.name name) (put_in (λ s. bytes_eq s.name t.name) t tabs)) ≤ 1
-names_stay t tabs once name = go (bytes_eq t.name name) refl
-  where
-    go : (b : Bool) → bytes_eq t.name name ≡ b → length (cond b (t ∷ filter (λ u. bytes_eq u.name name) (filter (λ s. not (bytes_eq s.name t.name)) tabs)) (filter (λ u. bytes_eq u.name name) (filter (λ s. not (bytes_eq s.name t.name)) tabs))) ≤ 1
-    go true is =
-        let same = (bytes_eq-Decides t.name name).0 is in
-        let none : filter (λ u. bytes_eq u.name name) (filter (λ s. not (bytes_eq s.name t.name)) tabs) ≡ [] = rw (← same) (filter_apart (λ (u : Tab). bytes_eq u.name t.name) tabs) in
-        let nothing = ap length none in
-        omega (arith, nothing)
-    go false is = let fewer = filter_fewer (λ (u : Tab). bytes_eq u.name name) (λ s. not (bytes_eq s.name t.name)) tabs in let few = once name in omega (arith, fewer, few)
-
 module _ (l : Layout) (c : Contents) (d : AreDeclared l) (old new : Trees) (h : Holds l c old) where
   -- a paragraph is put
   pub para_holds : (p : Para) (row : Row) → IsPut l.schema (tables.para l.para) row p.id old new → para_columns row ≡ para_row p → rowid row ≡ Int p.id → Holds l (with_para p c) new
@@ -103,7 +90,6 @@ module _ (l : Layout) (c : Contents) (d : AreDeclared l) (old new : Trees) (h : 
         tab_ids = rw tab h.tab_ids;
         para_ids = rw put.rows (rowids_stay p.id row keyed (old l.para) h.para_ids);
         mark_ids = rw mark h.mark_ids;
-        tab_names = h.tab_names;
       }
 
   -- a mark is put
@@ -126,7 +112,6 @@ module _ (l : Layout) (c : Contents) (d : AreDeclared l) (old new : Trees) (h : 
         tab_ids = rw tab h.tab_ids;
         para_ids = rw para h.para_ids;
         mark_ids = rw put.rows (rowids_stay m.id row keyed (old l.mark) h.mark_ids);
-        tab_names = h.tab_names;
       }
 
   -- the row of the book is put
@@ -149,7 +134,6 @@ module _ (l : Layout) (c : Contents) (d : AreDeclared l) (old new : Trees) (h : 
         tab_ids = rw tab h.tab_ids;
         para_ids = rw para h.para_ids;
         mark_ids = rw mark h.mark_ids;
-        tab_names = h.tab_names;
       }
 
   -- a braille table is put
@@ -172,7 +156,6 @@ module _ (l : Layout) (c : Contents) (d : AreDeclared l) (old new : Trees) (h : 
         tab_ids = ids;
         para_ids = rw para h.para_ids;
         mark_ids = rw mark h.mark_ids;
-        tab_names = names_stay t c.tabs h.tab_names;
       }
 
   -- an entry of a history is added
@@ -195,7 +178,6 @@ module _ (l : Layout) (c : Contents) (d : AreDeclared l) (old new : Trees) (h : 
         tab_ids = rw tab h.tab_ids;
         para_ids = rw para h.para_ids;
         mark_ids = rw mark h.mark_ids;
-        tab_names = h.tab_names;
       }
     where
       left : (a : Table) → IsDeclared l.schema a → bytes_eq a.name (codes "corr") ≡ false → new a.tree ≡ old a.tree
@@ -228,7 +210,6 @@ module _ (l : Layout) (c : Contents) (d : AreDeclared l) (old new : Trees) (h : 
         tab_ids = rw tab h.tab_ids;
         para_ids = ids;
         mark_ids = rw mark h.mark_ids;
-        tab_names = h.tab_names;
       }
 
   -- the version is set
@@ -251,5 +232,4 @@ module _ (l : Layout) (c : Contents) (d : AreDeclared l) (old new : Trees) (h : 
         tab_ids = rw tab h.tab_ids;
         para_ids = rw para h.para_ids;
         mark_ids = rw mark h.mark_ids;
-        tab_names = h.tab_names;
       }

@@ -16,6 +16,7 @@ pub mod Holding
 pub mod Staying
 pub mod Upserts
 pub mod Named
+pub mod TabNames
 pub mod PutTab
 pub mod PutCorr
 pub mod Updating

@@ -171,7 +171,6 @@ module _ (s : Schema) (none : AreAbsent s) (counts : HasCounter s) where
                     tab_ids = rw tab no_rowids;
                     para_ids = rw para no_rowids;
                     mark_ids = rw mark no_rowids;
-                    tab_names = λ name. omega arith;
                   };
                 };
               };

@@ -1,5 +1,5 @@
 -- What an upsert by the name makes of `tab`, whose rowid is hidden, in any schema that declares it so.
-use Rattle.std.proofs.Common.{◌≡◌, ◌≢◌, ◌⊎◌, inl, inr, ℕ, ℤ, ◌+◌, ◌<◌, ◌≤◌, pos, Bool, true, false, not, ◌&&◌, ◌||◌, ◌==◌, cond, List, [], ◌∷◌, ◌++◌, map, filter, find, drop, length, Option, Some, None, Ok, refl, sym, ap, subst, ◌∙◌, is_eq, IsTrue, IsPermutation, true≢false, eq-eqb, eqb-true, bytes_eq, option_map, Ordering, Less, Equal, Greater, arith}
+use Rattle.std.proofs.Common.{◌≡◌, inl, inr, ℕ, ℤ, ◌≤◌, Bool, true, false, not, ◌&&◌, ◌||◌, ◌==◌, List, [], ◌∷◌, map, filter, find, length, Some, refl, sym, ap, subst, ◌∙◌, is_eq, IsPermutation, eq-eqb, eqb-true, bytes_eq, Ordering, Less, Equal, Greater, arith}
 use Rattle.std.proofs.lemmas.List.{length-map}
 use Rattle.std.specs.List.{AllByRecursion, list_any}
 use Rattle.std.specs.Cmp.{both_ways}
@@ -8,12 +8,12 @@ use Rattle.std.proofs.lemmas.List.Sorted.{IsPermutation-sym, IsPermutation-trans
 use Rattle.std.proofs.lemmas.Map.Text.{is_eq-slice_cmp}
 use Rattle.std.proofs.lemmas.Slice.Eq.{bytes_eq-Decides}
 use Rattle.sqlite_value.specs.declared.keys.Collation.TheVariants.{Binary}
-use Rattle.sqlite_value.specs.declared.value.Value.TheVariants.{Null, Int, Text, Blob}
+use Rattle.sqlite_value.specs.declared.value.Value.TheVariants.{Int, Text}
 use Rattle.sqlite_value.specs.Keys.{first_key, plain}
 use Rattle.sqlite_value.specs.Order.{Row, column, value_cmp}
 use Rattle.sqlite_value.proofs.OrderLemmas.{value_cmp-Text}
-use Rattle.sqlite_trees.specs.Tree.{Trees, rowid, has_rowid, put_row, without_rowid}
-use Rattle.sqlite_trees.proofs.ListLemmas.{all-permutation, filter_all, filter_same, filter-map, IsPermutation-filter}
+use Rattle.sqlite_trees.specs.Tree.{rowid, has_rowid, put_row, without_rowid}
+use Rattle.sqlite_trees.proofs.ListLemmas.{filter_all, filter_same, filter-map, IsPermutation-filter}
 use Rattle.sqlite_sql.specs.Ops.{binary, is_true, from_truth}
 use Rattle.sqlite_schema.specs.declared.schema.Index.{Index}
 use Rattle.sqlite_schema.specs.declared.schema.Schema.{Schema}
@@ -45,7 +45,7 @@ equal_texts a b = go (value_cmp (Text a) (Text b)) (same_text a b)
     go Equal e = e
     go Greater e = e
 
-agrees_by_name : (r new : Row) (a b : List ℕ) → column r 1 ≡ Text a → column new 1 ≡ Text b → agree plain (1 ∷ []) r (1 ∷ []) new ≡ bytes_eq a b
+pub agrees_by_name : (r new : Row) (a b : List ℕ) → column r 1 ≡ Text a → column new 1 ≡ Text b → agree plain (1 ∷ []) r (1 ∷ []) new ≡ bytes_eq a b
 unfolding first_key
 agrees_by_name r new a b is is' = rw (is, is', equal_texts a b) (go (bytes_eq a b))
   where
@@ -120,9 +120,9 @@ each_unnamed : (name : List ℕ) (tabs : List Tab) → AllByRecursion (λ t. not
 each_unnamed name [] = tt
 each_unnamed name (t ∷ ts) = (ap not (same_text t.name name), each_unnamed name ts)
 
--- at most one row of the tree has the name
-few_named : (name : List ℕ) (tabs : List Tab) (rows : List Row) → Lists tab_row tab_columns tabs rows → length (filter (λ t. bytes_eq t.name name) tabs) ≤ 1 → length (filter (λ r. named name (tab_columns r)) rows) ≤ 1
-few_named name tabs rows lists few =
+-- as many rows of the tree have the name as are shown with it
+pub as_many_named : (name : List ℕ) (tabs : List Tab) (rows : List Row) → Lists tab_row tab_columns tabs rows → length (filter (λ t. bytes_eq t.name name) tabs) ≡ length (filter (λ r. named name (tab_columns r)) rows)
+as_many_named name tabs rows lists =
     let left : filter (named name) (map tab_row tabs) ≡ map tab_row (filter (λ t. bytes_eq t.name name) tabs) = filter-map (named name) tab_row tabs ∙ ap (map tab_row) (filter_same _ _ tabs (each_named name tabs)) in
     let right : filter (named name) (map tab_columns rows) ≡ map tab_columns (filter (λ r. named name (tab_columns r)) rows) = filter-map (named name) tab_columns rows in
     let same = length_permutation _ _ (IsPermutation-filter (named name) _ _ lists) in
@@ -130,7 +130,11 @@ few_named name tabs rows lists few =
     let b = ap length right in
     let a' = length-map (filter (λ t. bytes_eq t.name name) tabs) tab_row in
     let b' = length-map (filter (λ r. named name (tab_columns r)) rows) tab_columns in
-    omega (arith, few, same, a, b, a', b')
+    omega (arith, same, a, b, a', b')
+
+-- at most one row of the tree has the name
+few_named : (name : List ℕ) (tabs : List Tab) (rows : List Row) → Lists tab_row tab_columns tabs rows → length (filter (λ t. bytes_eq t.name name) tabs) ≤ 1 → length (filter (λ r. named name (tab_columns r)) rows) ≤ 1
+few_named name tabs rows lists few = let same = as_many_named name tabs rows lists in omega (arith, few, same)
 
 all_from_has : {X : Type 0} (P : X → Type 0) (xs : List X) → ((x : X) → Has xs x → P x) → AllByRecursion P xs
 all_from_has P [] each = tt

@@ -1,11 +1,11 @@
 -- What an upsert by the rowid makes of a table whose key is the rowid, in any schema that declares it so.
-use Rattle.std.proofs.Common.{◌≡◌, ◌≢◌, ◌⊎◌, inl, inr, ℕ, ℤ, Bool, true, false, ◌&&◌, ◌||◌, ◌==◌, cond, List, [], ◌∷◌, ◌++◌, Option, filter, drop, length, Some, None, Ok, refl, sym, ap, subst, ◌∙◌, is_eq, IsTrue, true≢false, eq-eqb, eqb-true, slice_get, if◌then◌else◌, ◌/◌, Ordering, Less, Equal, Greater, int_cmp, ◌<ℤ◌, arith, ◌<◌}
-use Rattle.std.specs.List.{AllByRecursion, list_any, list_all}
+use Rattle.std.proofs.Common.{◌≡◌, inl, inr, ℕ, ℤ, Bool, true, false, ◌&&◌, ◌||◌, ◌==◌, List, [], ◌∷◌, ◌++◌, Option, filter, drop, Some, Ok, refl, sym, ap, subst, ◌∙◌, is_eq, IsTrue, true≢false, eq-eqb, eqb-true, Ordering, Less, Equal, Greater, int_cmp, ◌<ℤ◌, ◌<◌}
+use Rattle.std.specs.List.{AllByRecursion, list_any}
 use Rattle.std.specs.Ordering.{MatchOrdering}
 use Rattle.std.proofs.lemmas.Bool.{and_from, and_parts}
 use Rattle.std.proofs.lemmas.Cmp.{int_ranked}
 use Rattle.sqlite_value.specs.declared.keys.Collation.TheVariants.{Binary}
-use Rattle.sqlite_value.specs.declared.value.Value.TheVariants.{Null, Int}
+use Rattle.sqlite_value.specs.declared.value.Value.TheVariants.{Int}
 use Rattle.sqlite_value.specs.Keys.{first_key, plain}
 use Rattle.sqlite_value.specs.Order.{Row, column, value_cmp}
 use Rattle.sqlite_value.proofs.OrderLemmas.{value_cmp-Int}
@@ -13,9 +13,8 @@ use Rattle.sqlite_trees.specs.Tree.{Trees, rowid, has_rowid}
 use Rattle.sqlite_trees.specs.View.{is_int}
 use Rattle.sqlite_trees.proofs.ListLemmas.{filter_same}
 use Rattle.sqlite_sql.specs.Ops.{binary, is_true, from_truth}
-use Rattle.sqlite_sql.specs.Term.{Term, col, op2, eval_all}
+use Rattle.sqlite_sql.specs.Term.{Term, col, eval_all}
 use Rattle.sqlite_resolve.specs.Terms.{equal as equals}
-use Rattle.sqlite.specs.Program.{overlay}
 use Rattle.sqlite_schema.specs.declared.schema.Index.{Index}
 use Rattle.sqlite_schema.specs.declared.schema.Schema.{Schema}
 use Rattle.sqlite_schema.specs.declared.schema.Table.{Table}
@@ -31,7 +30,6 @@ use Rattle.desk_store.specs.Contents.{HaveRowids}
 use Rattle.desk_store.specs.Layout.{IsDeclared}
 use Rattle.desk_store.proofs.Declaring.{has_kept, uncovered}
 use Rattle.desk_store.proofs.OneTable.{Parts, program_on}
-use Rattle.desk_store.proofs.Parents.{AreKept}
 use Rattle.desk_store.proofs.RowLists.{only_row}
 use Rattle.desk_store.proofs.Writing.{IsPut, Ends, task, finds, puts, updates_one}
 

@@ -1,7 +1,7 @@
 -- A row that keeps the columns of its keys sets off no action of a foreign key.
-use Rattle.std.proofs.Common.{◌≡◌, ◌⊎◌, inl, inr, ℕ, Bool, true, false, not, cond, ◌==◌, ◌&&◌, ◌||◌, nat_lt, List, [], ◌∷◌, length, find, option_and_then, option_map, Option, Some, None, refl, sym, ap, subst, ◌∙◌, true≢false, bytes_eq, eqb-true}
+use Rattle.std.proofs.Common.{◌≡◌, ℕ, Bool, true, false, not, ◌==◌, ◌&&◌, ◌||◌, List, [], ◌∷◌, length, find, option_and_then, option_map, Option, Some, None, refl, sym, ap, subst, ◌∙◌, bytes_eq, eqb-true}
 use Rattle.std.specs.List.{AllByRecursion, list_any, list_all, filter_map, flat_map}
-use Rattle.std.proofs.lemmas.Bool.{and_parts, or_parts}
+use Rattle.std.proofs.lemmas.Bool.{and_parts}
 use Rattle.std.proofs.lemmas.Slice.Eq.{bytes_eq-Decides}
 use Rattle.sqlite_value.specs.declared.keys.Order.{Order}
 use Rattle.sqlite_value.specs.Keys.{later}
@@ -12,10 +12,10 @@ use Rattle.sqlite_schema.specs.declared.schema.Reference.{Reference}
 use Rattle.sqlite_schema.specs.declared.schema.Schema.{Schema}
 use Rattle.sqlite_schema.specs.declared.schema.Table.{Table}
 use Rattle.sqlite_schema.specs.Names.{same_name}
-use Rattle.sqlite_schema.specs.Rules.{ParentKey, agree, declared_order, parent_key, key_in, key_places, is_index_for, is_unique_key, is_key_of, is_key_if_to, references_fit}
+use Rattle.sqlite_schema.specs.Rules.{ParentKey, agree, declared_order, parent_key, key_in, key_places, is_index_for, is_unique_key, is_key_if_to, references_fit}
 use Rattle.sqlite_rules.specs.Lists.{Has}
 use Rattle.sqlite_rules.specs.declared.action.Deed.{Deed}
-use Rattle.sqlite_rules.specs.Action.{Work, works, work_for, work_by, deed_for, loses, pairs}
+use Rattle.sqlite_rules.specs.Action.{works, work_for, work_by, deed_for, loses}
 use Rattle.sqlite_rules.proofs.ListLemmas.{has_found, some_has}
 
 -- the rows have the same value in each of these columns

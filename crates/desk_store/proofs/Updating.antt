@@ -1,5 +1,5 @@
 -- What UPDATE of one row by its key means, whatever else the schema has.
-use Rattle.std.proofs.Common.{◌≡◌, ◌≢◌, ◌⊎◌, inl, inr, ℕ, ℤ, suc, ◌-◌, ◌<◌, ◌≤◌, sym, ap, subst, ◌∙◌, cond, filter, map, length, drop, is_eq, IsTrue, arith, Bool, true, false, ◌==◌, List, [], ◌∷◌, slice_get, Option, Some, None, Ok, refl}
+use Rattle.std.proofs.Common.{◌≡◌, ◌⊎◌, inl, inr, ℕ, ℤ, suc, ◌<◌, ◌≤◌, sym, ap, subst, ◌∙◌, cond, filter, map, length, drop, is_eq, IsTrue, arith, Bool, true, false, List, [], ◌∷◌, slice_get, Option, Some, None, Ok, refl}
 use Rattle.sqlite_value.specs.declared.keys.Collation.TheVariants.{Binary}
 use Rattle.sqlite_sql.specs.Term.{Term, col}
 use Rattle.sqlite_ast.specs.declared.Binary.TheVariants as binary
@@ -28,7 +28,6 @@ use Rattle.desk_store.proofs.OneTable.{Parts, draft_of, program_on, is_typed, pr
 use Rattle.desk_store.proofs.Running.{Means}
 use Rattle.sqlite_ast.specs.declared.Statement.{Statement}
 use Rattle.sqlite_ast.specs.Layer.{Layer}
-use Rattle.std.specs.List.{AllByRecursion}
 use Rattle.std.specs.Ordering.{int_eq}
 use Rattle.std.proofs.lemmas.Bool.Decides.{Decides-int_eq}
 use Rattle.sqlite_value.specs.declared.value.Value.TheVariants.{Int}

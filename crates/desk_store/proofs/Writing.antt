@@ -1,5 +1,5 @@
 -- What INSERT .. ON CONFLICT DO UPDATE makes of a table, in any schema in which the table has no rule but its key.
-use Rattle.std.proofs.Common.{◌≡◌, ◌≢◌, ◌⊎◌, inl, inr, ℕ, zero, suc, ℤ, ◌+◌, ◌<◌, pos, negsuc, Bool, true, false, not, cond, List, [], ◌∷◌, ◌++◌, map, filter, find, drop, length, length-append, Some, None, Option, Ok, Err, Result, refl, sym, ap, subst, subst₂, ◌∙◌, is_eq, IsTrue, IsPermutation, nat_lt, unwrap_or, arith, true≢false, ◌/◌}
+use Rattle.std.proofs.Common.{◌≡◌, ◌≢◌, ◌⊎◌, inl, inr, ℕ, zero, suc, ℤ, Bool, true, false, cond, List, [], ◌∷◌, ◌++◌, map, filter, find, drop, length, length-append, Some, None, Option, Ok, Err, Result, refl, sym, ap, subst, subst₂, ◌∙◌, IsTrue, IsPermutation, unwrap_or, arith}
 use Rattle.std.specs.List.{AllByRecursion, flat_map, list_any, list_all}
 use Rattle.std.proofs.lemmas.Bool.{and_parts, not-true}
 use Rattle.std.proofs.lemmas.List.Sorted.{length_permutation}
@@ -7,7 +7,7 @@ use Rattle.sqlite_value.specs.declared.value.Value.TheVariants.{Null, Int}
 use Rattle.sqlite_value.specs.Order.{Row, column}
 use Rattle.sqlite_trees.specs.Tree.{Trees, rowid, has_rowid, put_row, without_rowid}
 use Rattle.sqlite_sql.specs.Term.{Term, Env, eval_all, holds}
-use Rattle.sqlite_sql.specs.Query.{Query, Output, IsAnswer, output}
+use Rattle.sqlite_sql.specs.Query.{Output, IsAnswer, output}
 use Rattle.sqlite.specs.Program.{overlay}
 use Rattle.sqlite_schema.specs.declared.command.Conflict.TheVariants.{Abort}
 use Rattle.sqlite_schema.specs.declared.command.Source.{Source}
@@ -25,7 +25,7 @@ use Rattle.sqlite_rules.specs.Edit.{Edit, edit_of, id_in, is_taken, are_fresh, r
 use Rattle.sqlite_rules.specs.Keys.{AreConflicts, conflicts}
 use Rattle.sqlite_rules.specs.Lists.{Has}
 use Rattle.sqlite_rules.proofs.TableLemmas.{none_to_drop, int_is, taken_is}
-use Rattle.sqlite.specs.Rows.{Written, Task, Then, Gives, Edited, Counter, Counts, count_of, rowids_for, stamped, nothing, shown, Sourced, Puts, Updates, Clears, Upserts, Meets, Resolves, Tries, TriesEach, InsertsOr, Inserts}
+use Rattle.sqlite.specs.Rows.{Written, Task, Then, Gives, Edited, Counts, count_of, rowids_for, stamped, nothing, shown, Sourced, Puts, Updates, Clears, Upserts, Meets, Resolves, Tries, TriesEach, InsertsOr, Inserts}
 use Rattle.sqlite.proofs.Callers.{one_permutation}
 use Rattle.sqlite_trees.specs.View.{is_int}
 use Rattle.desk_store.proofs.RowLists.{put_adds}

@@ -98,8 +98,6 @@ pub record Holds (l : Layout) (c : Contents) (db : Trees) : Type 0 where
   pub tab_ids : HaveRowids (db l.tab)
   pub para_ids : HaveRowids (db l.para)
   pub mark_ids : HaveRowids (db l.mark)
-  -- as the key of `tab` asks: no two of its rows have one name
-  pub tab_names : (name : List ℕ) → length (filter (λ t. bytes_eq t.name name) c.tabs) ≤ 1
 
 -- ---- what is put
 
