@@ -1,9 +1,9 @@
 -- What a schema declares once a table is made in it.
-use Rattle.std.proofs.Common.{◌≡◌, ◌≢◌, ◌⊎◌, inl, inr, ℕ, zero, suc, ◌+◌, ◌<◌, Bool, true, false, cond, ◌==◌, ◌||◌, List, [], ◌∷◌, ◌++◌, filter, length, slice_get, is_some, Option, Some, None, refl, sym, ap, subst, ◌∙◌, true≢false, eq-eqb, eqb-true, append-nil, arith}
+use Rattle.std.proofs.Common.{◌≡◌, ◌≢◌, inl, inr, ℕ, zero, suc, ◌+◌, Bool, true, false, cond, ◌==◌, ◌||◌, List, [], ◌∷◌, ◌++◌, filter, length, slice_get, is_some, Option, Some, None, refl, ap, ◌∙◌, true≢false, append-nil, arith}
 use Rattle.std.specs.List.{AllZip, list_any, position_from}
 use Rattle.std.proofs.Common.{not, ◌&&◌, codes, option_and_then}
 use Rattle.sqlite.specs.Does.{lacks_sequence}
-use Rattle.std.proofs.lemmas.Bool.{or_parts, cases_Bool}
+use Rattle.std.proofs.lemmas.Bool.{or_parts}
 use Rattle.std.proofs.lemmas.Bool.Decides.{nat_tests}
 use Rattle.std.proofs.lemmas.List.Elements.{filter-append}
 use Rattle.sqlite_value.specs.Order.{Row}
@@ -15,7 +15,7 @@ use Rattle.sqlite_schema.specs.declared.schema.Schema.{Schema}
 use Rattle.sqlite_schema.specs.declared.schema.Table.{Table}
 use Rattle.sqlite_schema.specs.Names.{same_name, table_named}
 use Rattle.sqlite_rules.specs.Lists.{Has}
-use Rattle.sqlite_rules.proofs.ListLemmas.{has_left, has_right, has_either}
+use Rattle.sqlite_rules.proofs.ListLemmas.{has_right, has_either}
 use Rattle.sqlite_catalog.specs.Change.{automatics, created, next_tree, is_used}
 use Rattle.sqlite_catalog.specs.Listing.{IsSound, IsIndexRow, IsDefined}
 use Rattle.sqlite_catalog.proofs.StepLemmas.{table_below}
@@ -73,6 +73,10 @@ on_some_table (r ∷ rows) tables (j ∷ js) all i (inr later) = on_some_table r
 not_same : (m n : ℕ) → m ≢ n → (m == n) ≡ false
 not_same m n other = grind (arith, nat_tests)
 
+guards_none : (unique : Bool) (m n : ℕ) → m ≢ n → (unique && (m == n)) ≡ false
+guards_none true m n other = not_same m n other
+guards_none false m n other = refl
+
 pub sound_is_low : (s : Schema) (db : Trees) → IsSound s db → IndexesLow s
 sound_is_low s db sound i has = let it = on_some_table _ s.tables s.indexes sound.lists.listed.indexes i has in let low = table_below s it.0 it.1 in omega (arith, low, it.2)
 
@@ -105,7 +109,7 @@ module _ (before : Schema) (index_low : IndexesLow before) (table : Table) (free
       none_if (Some x) e = absurd (true≢false e)
 
   -- the new table is declared
-  pub declares : (keys : (tree : ℕ) → filter (λ i. i.table == tree) (automatics (record table { tree = tree }) 0 (tree + 1) table.uniques) ≡ automatics (record table { tree = tree }) 0 (tree + 1) table.uniques) → IsDeclared after made
+  pub declares : (keys : (tree : ℕ) → filter (λ i. i.is_unique && (i.table == tree)) (automatics (record table { tree = tree }) 0 (tree + 1) table.uniques) ≡ automatics (record table { tree = tree }) 0 (tree + 1) table.uniques) → IsDeclared after made
   declares keys = record {
     at = length before.tables;
     named = placed_last (λ t. same_name t.name table.name) before.tables made 0 unnamed itself ∙ ap Some (let same : 0 + length before.tables ≡ length before.tables = omega arith in same);
@@ -115,13 +119,13 @@ module _ (before : Schema) (index_low : IndexesLow before) (table : Table) (free
       | inr new ↦ elim new [ inl is ↦ is | inr none ↦ absurd none ]
     ];
     first = next_tree before + 1;
-    indexed = filter-append (λ i. i.table == next_tree before) before.indexes (automatics made 0 (next_tree before + 1) table.uniques)
-        ∙ ap (λ old. old ++ filter (λ i. i.table == next_tree before) (automatics made 0 (next_tree before + 1) table.uniques)) (none_kept (λ (i : Index). i.table == next_tree before) before.indexes (λ i has. let low = index_low i has in not_same i.table (next_tree before) (λ same. absurd (omega (arith, low, same)))))
+    indexed = filter-append (λ i. i.is_unique && (i.table == next_tree before)) before.indexes (automatics made 0 (next_tree before + 1) table.uniques)
+        ∙ ap (λ old. old ++ filter (λ i. i.is_unique && (i.table == next_tree before)) (automatics made 0 (next_tree before + 1) table.uniques)) (none_kept (λ (i : Index). i.is_unique && (i.table == next_tree before)) before.indexes (λ i has. let low = index_low i has in guards_none i.is_unique i.table (next_tree before) (λ same. absurd (omega (arith, low, same)))))
         ∙ keys (next_tree before);
   }
 
   -- and those that were declared stay so
-  pub declared_stays : (a : Table) → IsDeclared before a → ((tree : ℕ) → tree ≢ a.tree → filter (λ i. i.table == a.tree) (automatics (record table { tree = tree }) 0 (tree + 1) table.uniques) ≡ []) → IsDeclared after a
+  pub declared_stays : (a : Table) → IsDeclared before a → ((tree : ℕ) → tree ≢ a.tree → filter (λ i. i.is_unique && (i.table == a.tree)) (automatics (record table { tree = tree }) 0 (tree + 1) table.uniques) ≡ []) → IsDeclared after a
   declared_stays a d others =
       let low = table_below before a (has_table before a d) in
       record {
@@ -133,9 +137,9 @@ module _ (before : Schema) (index_low : IndexesLow before) (table : Table) (free
           | inr new ↦ elim new [ inl is ↦ (let tree = ap (λ (t : Table). t.tree) is in absurd (omega (arith, low, same, tree))) | inr none ↦ absurd none ]
         ];
         first = d.first;
-        indexed = filter-append (λ i. i.table == a.tree) before.indexes (automatics made 0 (next_tree before + 1) table.uniques)
-            ∙ ap (λ more. filter (λ i. i.table == a.tree) before.indexes ++ more) (others (next_tree before) (λ same. absurd (omega (arith, low, same))))
-            ∙ append-nil (filter (λ i. i.table == a.tree) before.indexes) ∙ d.indexed;
+        indexed = filter-append (λ i. i.is_unique && (i.table == a.tree)) before.indexes (automatics made 0 (next_tree before + 1) table.uniques)
+            ∙ ap (λ more. filter (λ i. i.is_unique && (i.table == a.tree)) before.indexes ++ more) (others (next_tree before) (λ same. absurd (omega (arith, low, same))))
+            ∙ append-nil (filter (λ i. i.is_unique && (i.table == a.tree)) before.indexes) ∙ d.indexed;
       }
 
 -- ---- what a making needs, once more

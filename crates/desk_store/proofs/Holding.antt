@@ -1,5 +1,5 @@
 -- What the tables hold once a row is put.
-use Rattle.std.proofs.Common.{◌≡◌, ◌≢◌, ℕ, ℤ, Bool, not, List, [], ◌∷◌, map, filter, refl, sym, ap, subst, ◌∙◌, is_eq, IsPermutation, bytes_eq, true≢false, false, length, ◌≤◌, cond, true, codes, arith}
+use Rattle.std.proofs.Common.{◌≡◌, ◌≢◌, ℕ, ℤ, Bool, not, List, [], ◌∷◌, map, filter, refl, sym, ap, subst, ◌∙◌, is_eq, IsPermutation, bytes_eq, true≢false, false, codes}
 use Rattle.std.proofs.lemmas.Slice.Eq.{bytes_eq-Decides}
 use Rattle.std.specs.List.{AllByRecursion}
 use Rattle.std.specs.Ordering.{int_eq}
@@ -8,10 +8,10 @@ use Rattle.sqlite_value.specs.declared.value.Value.TheVariants.{Int}
 use Rattle.sqlite_value.specs.Order.{Row, column, value_cmp}
 use Rattle.sqlite_value.proofs.OrderLemmas.{value_cmp-Int}
 use Rattle.sqlite_trees.specs.Tree.{Trees, rowid, put_row, without_rowid}
-use Rattle.sqlite_trees.proofs.ListLemmas.{all_weaker, filter_same, filter-map, IsPermutation-filter}
+use Rattle.sqlite_trees.proofs.ListLemmas.{filter_same, filter-map, IsPermutation-filter}
 use Rattle.sqlite_schema.specs.declared.schema.Schema.{Schema}
 use Rattle.sqlite_schema.specs.declared.schema.Table.{Table}
-use Rattle.sqlite_rules.specs.Lists.{Has}
+use Rattle.sqlite_rules.specs.Edit.{IsNoIndex}
 use Rattle.sqlite_rules.proofs.ListLemmas.{all_has}
 use Rattle.desk_book.specs.declared.rows.BookRow.{BookRow}
 use Rattle.desk_book.specs.Rows.{Tab, Para, Corr, Mark}
@@ -19,8 +19,8 @@ use Rattle.desk_store.specs.Contents.{Contents, Holds, HaveRowids, Lists, tab_ro
 use Rattle.desk_store.specs.Layout.{Layout, IsDeclared, AreDeclared, IsOther}
 use Rattle.desk_store.specs.Tables as tables
 use Rattle.desk_store.proofs.Declaring.{has_table}
-use Rattle.desk_store.proofs.RowLists.{replaced, rowids_stay, filter_apart, filter_fewer}
-use Rattle.desk_store.proofs.Writing.{IsPut, IsAdded}
+use Rattle.desk_store.proofs.RowLists.{replaced, rowids_stay}
+use Rattle.desk_store.proofs.Writing.{IsPut, IsAdded, Spares}
 
 pub differ : (a b : List ℕ) → bytes_eq a b ≡ false → a ≢ b
 differ a b other same = true≢false (sym ((bytes_eq-Decides a b).1 same) ∙ other)
@@ -31,7 +31,7 @@ apart schema a b da db other same = other (ap (λ (t : Table). t.name) (db.alone
 
 -- a put leaves the rows of a table of another name
 pub kept : (schema : Schema) (table a : Table) (row : Row) (id : ℤ) (old new : Trees) → IsDeclared schema table → IsDeclared schema a → bytes_eq a.name table.name ≡ false → IsPut schema table row id old new → new a.tree ≡ old a.tree
-kept schema table a row id old new dt da other put = all_has _ schema.tables a put.others (has_table schema a da) (apart schema a table da dt (differ a.name table.name other))
+kept schema table a row id old new dt da other put = all_has _ schema.tables a put.others.tables (has_table schema a da) (apart schema a table da dt (differ a.name table.name other))
 
 module _ {X : Type 0} (written : X → Row) (columns : Row → Row) (key : X → ℤ) (written_key : (x : X) → column (written x) 0 ≡ Int (key x)) (shown_key : (r : Row) → column (columns r) 0 ≡ rowid r) where
   abbrev spares : ℤ → Row → Bool
@@ -64,17 +64,10 @@ others_stay : (l : Layout) (tree : ℕ) (IsIt : (t : Table) → IsOther l t.tree
 others_stay l tree is c old new [] had kept = tt
 others_stay l tree is c old new (t ∷ ts) had kept = (λ other. kept.0 (is t other) ∙ had.0 other, others_stay l tree is c old new ts had.1 kept.1)
 
--- no name comes twice
-names_stay : (t : Tab) (tabs : List Tab) → ((name : List ℕ) → length (filter (λ u. bytes_eq u.name name) tabs) ≤ 1) → (name : List ℕ) → length (filter (λ u. bytes_eq u.name name) (put_in (λ s. bytes_eq s.name t.name) t tabs)) ≤ 1
-names_stay t tabs once name = go (bytes_eq t.name name) refl
-  where
-    go : (b : Bool) → bytes_eq t.name name ≡ b → length (cond b (t ∷ filter (λ u. bytes_eq u.name name) (filter (λ s. not (bytes_eq s.name t.name)) tabs)) (filter (λ u. bytes_eq u.name name) (filter (λ s. not (bytes_eq s.name t.name)) tabs))) ≤ 1
-    go true is =
-        let same = (bytes_eq-Decides t.name name).0 is in
-        let none : filter (λ u. bytes_eq u.name name) (filter (λ s. not (bytes_eq s.name t.name)) tabs) ≡ [] = rw (← same) (filter_apart (λ (u : Tab). bytes_eq u.name t.name) tabs) in
-        let nothing = ap length none in
-        omega (arith, nothing)
-    go false is = let fewer = filter_fewer (λ (u : Tab). bytes_eq u.name name) (λ s. not (bytes_eq s.name t.name)) tabs in let few = once name in omega (arith, fewer, few)
+-- and so does what the database keeps beside the tables
+aside_stays : (l : Layout) (tree : ℕ) (IsIt : (t : ℕ) → IsOther l t → t ≢ tree) (c : Contents) (old new : Trees) → ((t : ℕ) → IsOther l t → IsNoIndex l.schema t → old t ≡ c.others t) → Spares l.schema tree old new
+    → (t : ℕ) → IsOther l t → IsNoIndex l.schema t → new t ≡ c.others t
+aside_stays l tree is c old new had spares t other none = spares.aside t (is t other) none ∙ had t other none
 
 module _ (l : Layout) (c : Contents) (d : AreDeclared l) (old new : Trees) (h : Holds l c old) where
   -- a paragraph is put
@@ -91,12 +84,12 @@ module _ (l : Layout) (c : Contents) (d : AreDeclared l) (old new : Trees) (h : 
         paras = rw put.rows (lists_put para_row para_columns (λ (p : Para). p.id) (λ p. refl) (λ r. refl) p c.paras row (old l.para) h.paras shows keyed);
         corrs = rw corr h.corrs;
         marks = rw mark h.marks;
-        others = others_stay l l.para (λ t other. other.para) c old new s.tables h.others put.others;
+        others = others_stay l l.para (λ t other. other.para) c old new s.tables h.others put.others.tables;
+        aside = aside_stays l l.para (λ t other. other.para) c old new h.aside put.others;
         book_ids = rw book h.book_ids;
         tab_ids = rw tab h.tab_ids;
         para_ids = rw put.rows (rowids_stay p.id row keyed (old l.para) h.para_ids);
         mark_ids = rw mark h.mark_ids;
-        tab_names = h.tab_names;
       }
 
   -- a mark is put
@@ -113,12 +106,12 @@ module _ (l : Layout) (c : Contents) (d : AreDeclared l) (old new : Trees) (h : 
         paras = rw para h.paras;
         corrs = rw corr h.corrs;
         marks = rw put.rows (lists_put mark_row mark_columns (λ (m : Mark). m.id) (λ m. refl) (λ r. refl) m c.marks row (old l.mark) h.marks shows keyed);
-        others = others_stay l l.mark (λ t other. other.mark) c old new s.tables h.others put.others;
+        others = others_stay l l.mark (λ t other. other.mark) c old new s.tables h.others put.others.tables;
+        aside = aside_stays l l.mark (λ t other. other.mark) c old new h.aside put.others;
         book_ids = rw book h.book_ids;
         tab_ids = rw tab h.tab_ids;
         para_ids = rw para h.para_ids;
         mark_ids = rw put.rows (rowids_stay m.id row keyed (old l.mark) h.mark_ids);
-        tab_names = h.tab_names;
       }
 
   -- the row of the book is put
@@ -135,12 +128,12 @@ module _ (l : Layout) (c : Contents) (d : AreDeclared l) (old new : Trees) (h : 
         paras = rw para h.paras;
         corrs = rw corr h.corrs;
         marks = rw mark h.marks;
-        others = others_stay l l.book (λ t other. other.book) c old new s.tables h.others put.others;
+        others = others_stay l l.book (λ t other. other.book) c old new s.tables h.others put.others.tables;
+        aside = aside_stays l l.book (λ t other. other.book) c old new h.aside put.others;
         book_ids = rw put.rows (rowids_stay b.id row keyed (old l.book) h.book_ids);
         tab_ids = rw tab h.tab_ids;
         para_ids = rw para h.para_ids;
         mark_ids = rw mark h.mark_ids;
-        tab_names = h.tab_names;
       }
 
   -- a braille table is put
@@ -157,12 +150,12 @@ module _ (l : Layout) (c : Contents) (d : AreDeclared l) (old new : Trees) (h : 
         paras = rw para h.paras;
         corrs = rw corr h.corrs;
         marks = rw mark h.marks;
-        others = others_stay l l.tab (λ t other. other.tab) c old new s.tables h.others put.others;
+        others = others_stay l l.tab (λ t other. other.tab) c old new s.tables h.others put.others.tables;
+        aside = aside_stays l l.tab (λ t other. other.tab) c old new h.aside put.others;
         book_ids = rw book h.book_ids;
         tab_ids = ids;
         para_ids = rw para h.para_ids;
         mark_ids = rw mark h.mark_ids;
-        tab_names = names_stay t c.tabs h.tab_names;
       }
 
   -- an entry of a history is added
@@ -179,23 +172,23 @@ module _ (l : Layout) (c : Contents) (d : AreDeclared l) (old new : Trees) (h : 
         paras = rw para h.paras;
         corrs = IsPermutation-trans _ _ _ (subst (λ r. IsPermutation (r ∷ map corr_row c.corrs) (map corr_columns (row ∷ old l.corr))) shows (IsPermutation-cons (corr_columns row) _ _ h.corrs)) (IsPermutation-sym _ _ (IsPermutation-map corr_columns _ _ added.rows));
         marks = rw mark h.marks;
-        others = others_stay l l.corr (λ t other. other.corr) c old new s.tables h.others added.others;
+        others = others_stay l l.corr (λ t other. other.corr) c old new s.tables h.others added.others.tables;
+        aside = aside_stays l l.corr (λ t other. other.corr) c old new h.aside added.others;
         book_ids = rw book h.book_ids;
         tab_ids = rw tab h.tab_ids;
         para_ids = rw para h.para_ids;
         mark_ids = rw mark h.mark_ids;
-        tab_names = h.tab_names;
       }
     where
       left : (a : Table) → IsDeclared l.schema a → bytes_eq a.name (codes "corr") ≡ false → new a.tree ≡ old a.tree
-      left a da other = all_has _ l.schema.tables a added.others (has_table l.schema a da) (apart l.schema a (tables.corr l.corr) da d.corr (differ a.name (codes "corr") other))
+      left a da other = all_has _ l.schema.tables a added.others.tables (has_table l.schema a da) (apart l.schema a (tables.corr l.corr) da d.corr (differ a.name (codes "corr") other))
 
   -- each other table has its rows
   abbrev pub OthersStay : Table → Type 0
-  OthersStay table = AllByRecursion (λ t. t.tree ≢ table.tree → new t.tree ≡ old t.tree) l.schema.tables
+  OthersStay table = Spares l.schema table.tree old new
 
   left : (table a : Table) → IsDeclared l.schema table → OthersStay table → IsDeclared l.schema a → bytes_eq a.name table.name ≡ false → new a.tree ≡ old a.tree
-  left table a dt others da other = all_has _ l.schema.tables a others (has_table l.schema a da) (apart l.schema a table da dt (differ a.name table.name other))
+  left table a dt others da other = all_has _ l.schema.tables a others.tables (has_table l.schema a da) (apart l.schema a table da dt (differ a.name table.name other))
 
   -- a paragraph is moved
   pub place_holds : (id place : ℤ) → Lists para_row para_columns (with_place id place c).paras (new l.para) → HaveRowids (new l.para) → OthersStay (tables.para l.para) → Holds l (with_place id place c) new
@@ -211,12 +204,12 @@ module _ (l : Layout) (c : Contents) (d : AreDeclared l) (old new : Trees) (h : 
         paras = rows;
         corrs = rw corr h.corrs;
         marks = rw mark h.marks;
-        others = others_stay l l.para (λ t other. other.para) c old new l.schema.tables h.others stay;
+        others = others_stay l l.para (λ t other. other.para) c old new l.schema.tables h.others stay.tables;
+        aside = aside_stays l l.para (λ t other. other.para) c old new h.aside stay;
         book_ids = rw book h.book_ids;
         tab_ids = rw tab h.tab_ids;
         para_ids = ids;
         mark_ids = rw mark h.mark_ids;
-        tab_names = h.tab_names;
       }
 
   -- the version is set
@@ -233,10 +226,10 @@ module _ (l : Layout) (c : Contents) (d : AreDeclared l) (old new : Trees) (h : 
         paras = rw para h.paras;
         corrs = rw corr h.corrs;
         marks = rw mark h.marks;
-        others = others_stay l l.book (λ t other. other.book) c old new l.schema.tables h.others stay;
+        others = others_stay l l.book (λ t other. other.book) c old new l.schema.tables h.others stay.tables;
+        aside = aside_stays l l.book (λ t other. other.book) c old new h.aside stay;
         book_ids = ids;
         tab_ids = rw tab h.tab_ids;
         para_ids = rw para h.para_ids;
         mark_ids = rw mark h.mark_ids;
-        tab_names = h.tab_names;
       }

@@ -1,4 +1,5 @@
 pub mod Making
+pub mod Taking
 pub mod MadeTables
 pub mod Creating
 pub mod Meaning
@@ -15,6 +16,7 @@ pub mod Holding
 pub mod Staying
 pub mod Upserts
 pub mod Named
+pub mod TabNames
 pub mod PutTab
 pub mod PutCorr
 pub mod Updating

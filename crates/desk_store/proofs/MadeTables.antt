@@ -1,6 +1,6 @@
 -- The file once the five tables are made.
-use Rattle.std.proofs.Common.{◌≡◌, ◌≢◌, ℕ, ◌+◌, ◌<◌, ◌≤◌, true, false, ◌==◌, List, [], ◌∷◌, ◌++◌, filter, codes, is_some, refl, sym, ap, subst, ◌∙◌, arith, nat_lt, eq-eqb, length, inl, inr}
-use Rattle.std.specs.List.{AllByRecursion, position_from}
+use Rattle.std.proofs.Common.{◌≡◌, ◌≢◌, ℕ, ◌&&◌, ◌+◌, ◌<◌, ◌≤◌, true, false, ◌==◌, List, [], ◌∷◌, filter, codes, refl, ◌∙◌, arith, nat_lt, eq-eqb, inl, inr}
+use Rattle.std.specs.List.{AllByRecursion}
 use Rattle.std.specs.Fmt.{digits}
 use Rattle.std.proofs.lemmas.Bool.Decides.{nat_tests}
 use Rattle.std.proofs.lemmas.List.Sorted.{IsPermutation-refl}
@@ -8,119 +8,121 @@ use Rattle.sqlite_trees.specs.Tree.{Trees}
 use Rattle.sqlite_schema.specs.declared.schema.Schema.{Schema}
 use Rattle.sqlite_schema.specs.declared.schema.Table.{Table}
 use Rattle.sqlite_schema.specs.Names.{same_name}
-use Rattle.sqlite_catalog.specs.Change.{automatics, created, is_used, next_tree}
-use Rattle.sqlite_catalog.specs.Listing.{IsSound}
+use Rattle.sqlite_catalog.specs.Change.{automatics, created, is_used, next_tree, KeepsRows}
 use Rattle.sqlite_catalog.proofs.StepLemmas.{table_below}
 use Rattle.sqlite_rules.specs.Lists.{Has}
-use Rattle.sqlite_rules.proofs.ListLemmas.{has_right, all_has}
+use Rattle.sqlite_rules.proofs.ListLemmas.{has_left, has_right, all_from, all_has}
 use Rattle.sqlite_trees.specs.declared.store.Store.{Ghosts}
 use Rattle.sqlite.specs.Held.{Held, state}
 use Rattle.sqlite.specs.Effect.{Database, IsDatabase}
 use Rattle.sqlite.specs.Does.{lacks_sequence}
-use Rattle.sqlite.specs.State.{State}
-use Rattle.desk_store.specs.Contents.{Contents, HaveRowids, Holds}
+use Rattle.sqlite.specs.State.{State, HasCleanDisk, IsLive}
+use Rattle.desk_store.specs.Contents.{HaveRowids}
 use Rattle.desk_store.specs.Layout.{Layout, IsDeclared, AreDeclared, IsOther}
-use Rattle.desk_store.specs.Making.{AreAbsent, IndexesLow, IsMaking, first_rows, with_book, with_tab, with_para, with_corr, with_mark, made, no_contents}
-use Rattle.desk_store.specs.States.{IsUnder}
+use Rattle.desk_store.specs.Making.{AreAbsent, AreFree, FreesNone, HasCounter, IndexesLow, IsMaking, IsNew, first_rows, after_book, after_tab, after_para, after_corr, after_mark, made, no_contents}
+use Rattle.desk_store.specs.States.{IsUnder, Shows}
 use Rattle.desk_store.specs.Tables as tables
-use Rattle.desk_store.proofs.Creating.{low_still, declares, declared_stays, free_still, counts_still}
+use Rattle.desk_store.proofs.Creating.{sound_is_low, low_still, declares, declared_stays, free_still, counts_still}
 use Rattle.desk_store.proofs.Making.{none_below}
 use Rattle.desk_store.proofs.Declaring.{has_table}
 
+is_below : (m n : ℕ) → m < n → nat_lt m n ≡ true
+is_below m n low = grind (arith, nat_tests)
+
 -- the automatic index of a table is on it
-keys_of_tab : (tree : ℕ) → filter (λ i. i.table == tree) (automatics (tables.tab tree) 0 (tree + 1) (tables.tab tree).uniques) ≡ automatics (tables.tab tree) 0 (tree + 1) (tables.tab tree).uniques
+keys_of_tab : (tree : ℕ) → filter (λ i. i.is_unique && (i.table == tree)) (automatics (tables.tab tree) 0 (tree + 1) (tables.tab tree).uniques) ≡ automatics (tables.tab tree) 0 (tree + 1) (tables.tab tree).uniques
 keys_of_tab tree = rw (eq-eqb tree tree refl)
 
-keys_of_corr : (tree : ℕ) → filter (λ i. i.table == tree) (automatics (tables.corr tree) 0 (tree + 1) (tables.corr tree).uniques) ≡ automatics (tables.corr tree) 0 (tree + 1) (tables.corr tree).uniques
+keys_of_corr : (tree : ℕ) → filter (λ i. i.is_unique && (i.table == tree)) (automatics (tables.corr tree) 0 (tree + 1) (tables.corr tree).uniques) ≡ automatics (tables.corr tree) 0 (tree + 1) (tables.corr tree).uniques
 keys_of_corr tree = rw (eq-eqb tree tree refl)
 
 other_tree : (m n : ℕ) → m ≢ n → (m == n) ≡ false
 other_tree m n other = grind (arith, nat_tests)
 
 -- and on no other
-no_tab_key : (a tree : ℕ) → tree ≢ a → filter (λ i. i.table == a) (automatics (tables.tab tree) 0 (tree + 1) (tables.tab tree).uniques) ≡ []
+no_tab_key : (a tree : ℕ) → tree ≢ a → filter (λ i. i.is_unique && (i.table == a)) (automatics (tables.tab tree) 0 (tree + 1) (tables.tab tree).uniques) ≡ []
 no_tab_key a tree other = rw (other_tree tree a other)
 
-no_corr_key : (a tree : ℕ) → tree ≢ a → filter (λ i. i.table == a) (automatics (tables.corr tree) 0 (tree + 1) (tables.corr tree).uniques) ≡ []
+no_corr_key : (a tree : ℕ) → tree ≢ a → filter (λ i. i.is_unique && (i.table == a)) (automatics (tables.corr tree) 0 (tree + 1) (tables.corr tree).uniques) ≡ []
 no_corr_key a tree other = rw (other_tree tree a other)
 
 -- the names stay free from step to step
-module _ (s : Schema) (none : AreAbsent s) where
-  pub tab_free : is_used (with_book s) (codes "tab") ≡ false
+module _ (s : Schema) (none : AreAbsent s) (counts : HasCounter s) where
+  pub tab_free : is_used (after_book s) (codes "tab") ≡ false
   unfolding same_name
   tab_free = free_still s (tables.book 0) (codes "tab") none.tab refl (λ tree from. refl)
 
-  pub tab_counts : lacks_sequence (with_book s) ≡ false
-  tab_counts = counts_still s (tables.book 0) refl none.counted
+  pub tab_counts : lacks_sequence (after_book s) ≡ false
+  tab_counts = counts_still s (tables.book 0) refl counts
 
-  pub para_free : is_used (with_tab s) (codes "para") ≡ false
+  pub para_free : is_used (after_tab s) (codes "para") ≡ false
   unfolding same_name digits
-  para_free = free_still (with_book s) (tables.tab 0) (codes "para") (free_still s (tables.book 0) (codes "para") none.para refl (λ tree from. refl)) refl (λ tree from. refl)
+  para_free = free_still (after_book s) (tables.tab 0) (codes "para") (free_still s (tables.book 0) (codes "para") none.para refl (λ tree from. refl)) refl (λ tree from. refl)
 
-  pub para_counts : lacks_sequence (with_tab s) ≡ false
-  para_counts = counts_still (with_book s) (tables.tab 0) refl tab_counts
+  pub para_counts : lacks_sequence (after_tab s) ≡ false
+  para_counts = counts_still (after_book s) (tables.tab 0) refl tab_counts
 
-  pub corr_free : is_used (with_para s) (codes "corr") ≡ false
+  pub corr_free : is_used (after_para s) (codes "corr") ≡ false
   unfolding same_name digits
-  corr_free = free_still (with_tab s) (tables.para 0) (codes "corr") (free_still (with_book s) (tables.tab 0) (codes "corr") (free_still s (tables.book 0) (codes "corr") none.corr refl (λ tree from. refl)) refl (λ tree from. refl)) refl (λ tree from. refl)
+  corr_free = free_still (after_tab s) (tables.para 0) (codes "corr") (free_still (after_book s) (tables.tab 0) (codes "corr") (free_still s (tables.book 0) (codes "corr") none.corr refl (λ tree from. refl)) refl (λ tree from. refl)) refl (λ tree from. refl)
 
-  pub corr_counts : lacks_sequence (with_para s) ≡ false
-  corr_counts = counts_still (with_tab s) (tables.para 0) refl para_counts
+  pub corr_counts : lacks_sequence (after_para s) ≡ false
+  corr_counts = counts_still (after_tab s) (tables.para 0) refl para_counts
 
-  pub mark_free : is_used (with_corr s) (codes "mark") ≡ false
+  pub mark_free : is_used (after_corr s) (codes "mark") ≡ false
   unfolding same_name digits
   mark_free =
-      free_still (with_para s) (tables.corr 0) (codes "mark")
-      (free_still (with_tab s) (tables.para 0) (codes "mark") (free_still (with_book s) (tables.tab 0) (codes "mark") (free_still s (tables.book 0) (codes "mark") none.mark refl (λ tree from. refl)) refl (λ tree from. refl)) refl (λ tree from. refl)) refl
+      free_still (after_para s) (tables.corr 0) (codes "mark")
+      (free_still (after_tab s) (tables.para 0) (codes "mark") (free_still (after_book s) (tables.tab 0) (codes "mark") (free_still s (tables.book 0) (codes "mark") none.mark refl (λ tree from. refl)) refl (λ tree from. refl)) refl (λ tree from. refl)) refl
       (λ tree from. refl)
 
-  pub mark_counts : lacks_sequence (with_corr s) ≡ false
-  mark_counts = counts_still (with_para s) (tables.corr 0) refl corr_counts
+  pub mark_counts : lacks_sequence (after_corr s) ≡ false
+  mark_counts = counts_still (after_para s) (tables.corr 0) refl corr_counts
 
   module _ (low : IndexesLow s) where
-    low_book : IndexesLow (with_book s)
+    low_book : IndexesLow (after_book s)
     low_book = low_still s (tables.book 0) low
 
-    low_tab : IndexesLow (with_tab s)
-    low_tab = low_still (with_book s) (tables.tab 0) low_book
+    low_tab : IndexesLow (after_tab s)
+    low_tab = low_still (after_book s) (tables.tab 0) low_book
 
-    low_para : IndexesLow (with_para s)
-    low_para = low_still (with_tab s) (tables.para 0) low_tab
+    low_para : IndexesLow (after_para s)
+    low_para = low_still (after_tab s) (tables.para 0) low_tab
 
-    low_corr : IndexesLow (with_corr s)
-    low_corr = low_still (with_para s) (tables.corr 0) low_para
+    low_corr : IndexesLow (after_corr s)
+    low_corr = low_still (after_para s) (tables.corr 0) low_para
 
     -- a table that is declared stays so while the later ones are made
-    through_mark : (a : Table) → IsDeclared (with_corr s) a → IsDeclared (with_mark s) a
+    through_mark : (a : Table) → IsDeclared (after_corr s) a → IsDeclared (after_mark s) a
     unfolding same_name
-    through_mark a d = declared_stays (with_corr s) low_corr (tables.mark 0) mark_free refl a d (λ tree other. refl)
+    through_mark a d = declared_stays (after_corr s) low_corr (tables.mark 0) mark_free refl a d (λ tree other. refl)
 
-    through_corr : (a : Table) → IsDeclared (with_para s) a → IsDeclared (with_mark s) a
+    through_corr : (a : Table) → IsDeclared (after_para s) a → IsDeclared (after_mark s) a
     unfolding same_name
-    through_corr a d = through_mark a (declared_stays (with_para s) low_para (tables.corr 0) corr_free refl a d (no_corr_key a.tree))
+    through_corr a d = through_mark a (declared_stays (after_para s) low_para (tables.corr 0) corr_free refl a d (no_corr_key a.tree))
 
-    through_para : (a : Table) → IsDeclared (with_tab s) a → IsDeclared (with_mark s) a
+    through_para : (a : Table) → IsDeclared (after_tab s) a → IsDeclared (after_mark s) a
     unfolding same_name
-    through_para a d = through_corr a (declared_stays (with_tab s) low_tab (tables.para 0) para_free refl a d (λ tree other. refl))
+    through_para a d = through_corr a (declared_stays (after_tab s) low_tab (tables.para 0) para_free refl a d (λ tree other. refl))
 
-    through_tab : (a : Table) → IsDeclared (with_book s) a → IsDeclared (with_mark s) a
+    through_tab : (a : Table) → IsDeclared (after_book s) a → IsDeclared (after_mark s) a
     unfolding same_name
-    through_tab a d = through_para a (declared_stays (with_book s) low_book (tables.tab 0) tab_free refl a d (no_tab_key a.tree))
+    through_tab a d = through_para a (declared_stays (after_book s) low_book (tables.tab 0) tab_free refl a d (no_tab_key a.tree))
 
     all_declared : AreDeclared (made s)
     unfolding same_name
     all_declared = record {
       book = through_tab (tables.book (next_tree s)) (declares s low (tables.book 0) none.book refl (λ tree. refl));
-      tab = through_para (tables.tab (next_tree (with_book s))) (declares (with_book s) low_book (tables.tab 0) tab_free refl keys_of_tab);
-      para = through_corr (tables.para (next_tree (with_tab s))) (declares (with_tab s) low_tab (tables.para 0) para_free refl (λ tree. refl));
-      corr = through_mark (tables.corr (next_tree (with_para s))) (declares (with_para s) low_para (tables.corr 0) corr_free refl keys_of_corr);
-      mark = declares (with_corr s) low_corr (tables.mark 0) mark_free refl (λ tree. refl);
+      tab = through_para (tables.tab (next_tree (after_book s))) (declares (after_book s) low_book (tables.tab 0) tab_free refl keys_of_tab);
+      para = through_corr (tables.para (next_tree (after_tab s))) (declares (after_tab s) low_tab (tables.para 0) para_free refl (λ tree. refl));
+      corr = through_mark (tables.corr (next_tree (after_para s))) (declares (after_para s) low_para (tables.corr 0) corr_free refl keys_of_corr);
+      mark = declares (after_corr s) low_corr (tables.mark 0) mark_free refl (λ tree. refl);
     }
 
-    module _ (committed : Database) (rows : Trees) (now : State) (m : IsMaking committed s rows (with_mark s) now) where
+    module _ (committed : Database) (rows : Trees) (now : State) (m : IsMaking committed s rows (after_mark s) now) where
       -- a tree from the next on has no row
-      empty : (a : Table) → IsDeclared (with_mark s) a → next_tree s ≤ a.tree → now.now.trees a.tree ≡ []
-      empty a d high = all_has _ (with_mark s).tables a m.kept (has_table (with_mark s) a d) ∙ rw (none_below a.tree (next_tree s) high)
+      empty : (a : Table) → IsDeclared (after_mark s) a → next_tree s ≤ a.tree → now.now.trees a.tree ≡ []
+      empty a d high = all_has _ (after_mark s).tables a m.kept (has_table (after_mark s) a d) ∙ rw (none_below a.tree (next_tree s) high)
 
       rising : (before : Schema) (table : Table) → next_tree before < next_tree (created before table)
       rising before table = let new : Table = record table { tree = next_tree before } in table_below (created before table) new (has_right before.tables (new ∷ []) new (inl refl))
@@ -128,50 +130,55 @@ module _ (s : Schema) (none : AreAbsent s) where
       no_rowids : HaveRowids []
       no_rowids = record { integers = tt; once = λ id. omega arith }
 
-      others_kept : (l : Layout) (tables : List Table) → AllByRecursion (λ t. now.now.trees t.tree ≡ first_rows s rows t.tree) tables → AllByRecursion (λ t. IsOther l t.tree → now.now.trees t.tree ≡ first_rows s rows t.tree) tables
-      others_kept l [] all = tt
-      others_kept l (t ∷ ts) all = (λ other. all.0, others_kept l ts all.1)
+      -- each tree is as it is
+      others_kept : (l : Layout) (tables : List Table) → AllByRecursion (λ t. IsOther l t.tree → now.now.trees t.tree ≡ now.now.trees t.tree) tables
+      others_kept l tables = all_from _ tables (λ t has other. refl)
 
-      pub finished : IsUnder committed (made s) (no_contents s rows) now
+      -- a table that was there has its rows
+      keeps_row : (t : Table) → Has s.tables t → now.now.trees t.tree ≡ rows t.tree
+      keeps_row t has =
+          let there = has_left _ _ t (has_left _ _ t (has_left _ _ t (has_left _ _ t (has_left s.tables _ t has)))) in
+          all_has _ (after_mark s).tables t m.kept there ∙ rw (is_below t.tree (next_tree s) (table_below s t has)) refl
+
+      pub finished : IsUnder committed (made s) (no_contents now.now.trees) now × KeepsRows s.tables rows now.now.trees
       finished =
           let d = all_declared in
           let l = made s in
           let a = rising s (tables.book 0) in
-          let b = rising (with_book s) (tables.tab 0) in
-          let c = rising (with_tab s) (tables.para 0) in
-          let e = rising (with_para s) (tables.corr 0) in
+          let b = rising (after_book s) (tables.tab 0) in
+          let c = rising (after_tab s) (tables.para 0) in
+          let e = rising (after_para s) (tables.corr 0) in
           let book = empty (tables.book l.book) d.book (omega arith) in
           let tab = empty (tables.tab l.tab) d.tab (omega (arith, a)) in
           let para = empty (tables.para l.para) d.para (omega (arith, a, b)) in
           let corr = empty (tables.corr l.corr) d.corr (omega (arith, a, b, c)) in
-          let mark = empty (tables.mark l.mark) d.mark (omega (arith, a, b, c, e)) in
-          record {
-            shows = record {
-              schema = m.schema;
-              is = record {
-                declared = d;
-                sound = m.sound;
-                holds = record {
-                  books = rw book (IsPermutation-refl []);
-                  tabs = rw tab (IsPermutation-refl []);
-                  paras = rw para (IsPermutation-refl []);
-                  corrs = rw corr (IsPermutation-refl []);
-                  marks = rw mark (IsPermutation-refl []);
-                  others = others_kept l (with_mark s).tables m.kept;
-                  book_ids = rw book no_rowids;
-                  tab_ids = rw tab no_rowids;
-                  para_ids = rw para no_rowids;
-                  mark_ids = rw mark no_rowids;
-                  tab_names = λ name. omega arith;
+          let mark = empty (tables.mark l.mark) d.mark (omega (arith, a, b, c, e)) in (
+            record {
+              shows = record {
+                schema = m.schema;
+                is = record {
+                  declared = d;
+                  sound = m.sound;
+                  holds = record {
+                    books = rw book (IsPermutation-refl []);
+                    tabs = rw tab (IsPermutation-refl []);
+                    paras = rw para (IsPermutation-refl []);
+                    corrs = rw corr (IsPermutation-refl []);
+                    marks = rw mark (IsPermutation-refl []);
+                    others = others_kept l (after_mark s).tables;
+                    aside = λ tree other none. refl;
+                    book_ids = rw book no_rowids;
+                    tab_ids = rw tab no_rowids;
+                    para_ids = rw para no_rowids;
+                    mark_ids = rw mark no_rowids;
+                  };
                 };
               };
-            };
-            inside = m.inside;
-            over = m.over;
-          }
-
-is_below : (m n : ℕ) → m < n → nat_lt m n ≡ true
-is_below m n low = grind (arith, nat_tests)
+              inside = m.inside;
+              over = m.over;
+            },
+            all_from _ s.tables keeps_row,
+          )
 
 rows_there : (s : Schema) (rows : Trees) (tables : List Table) → ((t : Table) → Has tables t → t.tree < next_tree s) → AllByRecursion (λ t. rows t.tree ≡ first_rows s rows t.tree) tables
 rows_there s rows [] low = tt
@@ -188,3 +195,24 @@ begins_making g old sound = record {
   inside = refl;
   over = refl;
 }
+
+module _ {S : Type 0} (g : Ghosts S) (old begun mid last : Held S) (begins : begun ≡ record old { in_transaction = true }) where
+  -- what two halves that ran made of what was there
+  pub whole : (HasCleanDisk (state g last) → HasCleanDisk (state g mid)) → (HasCleanDisk (state g mid) → AreFree (codes "book" ∷ codes "tab" ∷ codes "para" ∷ []) (state g begun) × FreesNone (state g begun) (state g mid))
+      → (HasCleanDisk (state g last) → AreFree (codes "corr" ∷ codes "mark" ∷ []) (state g mid))
+      → (HasCleanDisk (state g mid) → (committed : Database) (s : Schema) (rows : Trees) → AreAbsent s → HasCounter s → IsMaking committed s rows s (state g begun) → IsMaking committed s rows (after_para s) (state g mid))
+      → (HasCleanDisk (state g last) → (committed : Database) (s : Schema) (rows : Trees) → AreAbsent s → HasCounter s → IndexesLow s → IsMaking committed s rows (after_para s) (state g mid)
+      → IsNew s rows (λ c. IsUnder committed (made s) c (state g last)))
+      → HasCleanDisk (state g last) → AreAbsent old.schema × (IsLive (state g old) → HasCounter old.schema → IsNew old.schema (state g old).now.trees (λ c. Shows (made old.schema) c (state g last)))
+  whole earlier first_free rest_free first rest clean =
+      let taken = rw begins at first_free (earlier clean) in
+      let more = rest_free clean in
+      let none : AreAbsent old.schema = record { book = taken.0.free.0; tab = taken.0.free.1.0; para = taken.0.free.1.1.0; corr = taken.1 _ more.free.0; mark = taken.1 _ more.free.1.0 } in (
+        none,
+        λ live counts.
+            let sound = (live taken.0.is_open).0 in
+            let rows = (state g old).now.trees in
+            let half = first (earlier clean) (state g old).committed old.schema rows none counts (rw begins (begins_making g old sound)) in
+            let done = rest clean (state g old).committed old.schema rows none counts (sound_is_low old.schema rows sound) half in
+            (done.0, done.1, done.2.shows),
+      )

@@ -1,5 +1,5 @@
 -- The texts that make the tables.
-use Rattle.std.proofs.Common.{◌≡◌, ℕ, ◌+◌, ◌<◌, ◌≤◌, true, false, nat_lt, ◌==◌, List, [], ◌∷◌, ◌++◌, length, codes, slice_range, Ok, Some, None, refl, sym, ap, subst, ◌∙◌, arith}
+use Rattle.std.proofs.Common.{◌≡◌, ℕ, ◌≤◌, true, false, nat_lt, ◌==◌, List, [], ◌∷◌, ◌++◌, length, codes, slice_range, Ok, refl, ap, subst, ◌∙◌, arith}
 use Rattle.std.specs.List.{AllByRecursion}
 use Rattle.std.proofs.lemmas.Bool.Decides.{nat_tests}
 use Rattle.sqlite_trees.specs.Tree.{Trees}
@@ -31,6 +31,7 @@ pub record IsMake (text : List ℕ) (table : Table) : Type 0 where
   pub def : create.CreateTable
   pub is_text : IsText text (CreateTable def)
   pub name : def.name ≡ table.name
+  pub always : def.if_missing ≡ false
   pub own : is_reserved def.name ≡ false
   pub defined : define.table [] def ≡ Ok table
   pub plain : (length table.computed == length table.stamps.places) ≡ true
@@ -51,35 +52,35 @@ book_text = codes "CREATE TABLE book (id INTEGER NOT NULL PRIMARY KEY, format IN
 
 pub makes_book : IsMake book_text (book 0)
 unfolding everything
-makes_book = record { def = def_in (parse_of book_text).statement; is_text = record { parsed = refl; statement = refl; timeless = refl }; name = refl; own = refl; defined = refl; plain = refl; unresolved = refl; spelled = refl; made = refl; uncounted = refl }
+makes_book = record { def = def_in (parse_of book_text).statement; is_text = record { parsed = refl; statement = refl; timeless = refl }; name = refl; always = refl; own = refl; defined = refl; plain = refl; unresolved = refl; spelled = refl; made = refl; uncounted = refl }
 
 abbrev pub tab_text : List ℕ
 tab_text = codes "CREATE TABLE tab (name TEXT NOT NULL PRIMARY KEY, body BLOB NOT NULL) STRICT"
 
 pub makes_tab : IsMake tab_text (tab 0)
 unfolding everything
-makes_tab = record { def = def_in (parse_of tab_text).statement; is_text = record { parsed = refl; statement = refl; timeless = refl }; name = refl; own = refl; defined = refl; plain = refl; unresolved = refl; spelled = refl; made = refl; uncounted = refl }
+makes_tab = record { def = def_in (parse_of tab_text).statement; is_text = record { parsed = refl; statement = refl; timeless = refl }; name = refl; always = refl; own = refl; defined = refl; plain = refl; unresolved = refl; spelled = refl; made = refl; uncounted = refl }
 
 abbrev pub para_text : List ℕ
 para_text = codes "CREATE TABLE para (id INTEGER NOT NULL PRIMARY KEY, place INTEGER NOT NULL, tab TEXT NOT NULL, original TEXT NOT NULL, print TEXT NOT NULL, style INTEGER NOT NULL, volume INTEGER NOT NULL, struck INTEGER NOT NULL) STRICT"
 
 pub makes_para : IsMake para_text (para 0)
 unfolding everything
-makes_para = record { def = def_in (parse_of para_text).statement; is_text = record { parsed = refl; statement = refl; timeless = refl }; name = refl; own = refl; defined = refl; plain = refl; unresolved = refl; spelled = refl; made = refl; uncounted = refl }
+makes_para = record { def = def_in (parse_of para_text).statement; is_text = record { parsed = refl; statement = refl; timeless = refl }; name = refl; always = refl; own = refl; defined = refl; plain = refl; unresolved = refl; spelled = refl; made = refl; uncounted = refl }
 
 abbrev pub corr_text : List ℕ
 corr_text = codes "CREATE TABLE corr (para INTEGER NOT NULL, seq INTEGER NOT NULL, kind INTEGER NOT NULL, start INTEGER NOT NULL, len INTEGER NOT NULL, body TEXT NOT NULL, PRIMARY KEY (para, seq)) STRICT"
 
 pub makes_corr : IsMake corr_text (corr 0)
 unfolding everything
-makes_corr = record { def = def_in (parse_of corr_text).statement; is_text = record { parsed = refl; statement = refl; timeless = refl }; name = refl; own = refl; defined = refl; plain = refl; unresolved = refl; spelled = refl; made = refl; uncounted = refl }
+makes_corr = record { def = def_in (parse_of corr_text).statement; is_text = record { parsed = refl; statement = refl; timeless = refl }; name = refl; always = refl; own = refl; defined = refl; plain = refl; unresolved = refl; spelled = refl; made = refl; uncounted = refl }
 
 abbrev pub mark_text : List ℕ
 mark_text = codes "CREATE TABLE mark (id INTEGER NOT NULL PRIMARY KEY, para INTEGER NOT NULL, start INTEGER NOT NULL, stop INTEGER NOT NULL, note TEXT NOT NULL, touched INTEGER NOT NULL, resolved INTEGER NOT NULL) STRICT"
 
 pub makes_mark : IsMake mark_text (mark 0)
 unfolding everything
-makes_mark = record { def = def_in (parse_of mark_text).statement; is_text = record { parsed = refl; statement = refl; timeless = refl }; name = refl; own = refl; defined = refl; plain = refl; unresolved = refl; spelled = refl; made = refl; uncounted = refl }
+makes_mark = record { def = def_in (parse_of mark_text).statement; is_text = record { parsed = refl; statement = refl; timeless = refl }; name = refl; always = refl; own = refl; defined = refl; plain = refl; unresolved = refl; spelled = refl; made = refl; uncounted = refl }
 
 pub none_below : (m n : ℕ) → n ≤ m → nat_lt m n ≡ false
 none_below m n low = grind (arith, nat_tests)

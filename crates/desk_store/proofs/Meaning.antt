@@ -1,5 +1,5 @@
 -- What a text means is what its parse means, whatever the schema.
-use Rattle.std.proofs.Common.{◌≡◌, ℕ, ◌+◌, List, [], ◌∷◌, Some, None, Ok, Err, Result, refl, sym, ap, ◌∙◌, false, length, Bool, ◌==◌}
+use Rattle.std.proofs.Common.{◌≡◌, ℕ, ◌+◌, List, [], ◌∷◌, Some, None, Ok, Err, Result, refl, sym, false, length, Bool, ◌==◌, ◌||◌, if◌then◌else◌}
 use Rattle.sqlite_ast.specs.declared.Statement.{Statement}
 use Rattle.sqlite_ast.specs.declared.Statement.TheVariants.{Select, Insert, Update, CreateTable, Empty}
 use Rattle.sqlite_ast.specs.declared.CreateTable as create
@@ -26,12 +26,14 @@ use Rattle.sqlite_schema.specs.declared.command.Upsert as command_upsert
 use Rattle.sqlite_schema.specs.Names.{table_named}
 use Rattle.sqlite_resolve.specs.declared.compiled.Compiled.{Compiled}
 use Rattle.sqlite_resolve.specs.declared.error.CompileError.{CompileError}
+use Rattle.sqlite_resolve.specs.declared.error.CompileError.TheVariants.{Exists, Misuse, Unsupported}
+use Rattle.sqlite_resolve.specs.Lowering.{and_then}
 use Rattle.sqlite_resolve.specs.Compile.{compiled, first, planned, meaning, returning, command, small, timed, with_command, insert_or_abort, insert_or, insert, create_table, creates, is_attached, is_reserved, new_rows, shows}
 use Rattle.sqlite_resolve.specs.Given.{upserts, upsert, update, do_update, key_meant}
 use Rattle.sqlite_resolve.specs.Program.{program}
 use Rattle.sqlite_draft.specs.declared.query.Draft.{Draft}
 use Rattle.sqlite_schema.specs.declared.program.Program.{Program}
-use Rattle.sqlite.specs.Listing.{understood, reads_listing}
+use Rattle.sqlite.specs.Listing.{misses_table, understood, reads_listing}
 use Rattle.std.proofs.Common.{slice_get}
 
 abbrev pub or_nothing : Result Parsed CompileError → Parsed
@@ -147,6 +149,58 @@ create_is schema text def table t free own defined plain unresolved =
     understood_is schema text _
     (compiled_is schema text p MakeTable (CreateTable def) t.parsed t.statement (create_untimed schema p.formats def) (create_bare schema (small p.names + small []) def)
     (rw t.timeless (create_command schema (small p.names + small []) def table free own defined plain unresolved)))
+
+-- an error that isn't that of a missing table
+abbrev pub Stops : {X : Type 0} → Result X CompileError → Type 0
+Stops r = (e : CompileError) × (r ≡ Err e) × (misses_table (Err e) ≡ false)
+
+not_new : (name : List ℕ) (same other : Option ℕ) → (is_some same || is_some other) ≡ true → Stops (creates false name same other)
+unfolding creates
+not_new name same other taken = go (is_reserved name) same other taken
+  where
+    go : (own : Bool) (same other : Option ℕ) → (is_some same || is_some other) ≡ true
+        → Stops (if own then Err Misuse else (if is_some other then Err Exists else (if is_some same then (if false then Ok false else Err Exists) else Ok true)))
+    go true same other taken = (Misuse, refl, refl)
+    go false same (Some at) taken = (Exists, refl, refl)
+    go false (Some at) None taken = (Exists, refl, refl)
+    go false None None taken = absurd (true≢false (sym taken))
+
+either_named : (table index view : Option ℕ) → (is_some table || is_some index || is_some view) ≡ true → (is_some (option_or table view) || is_some index) ≡ true
+either_named (Some at) index view taken = refl
+either_named None (Some at) None taken = refl
+either_named None (Some at) (Some other) taken = refl
+either_named None None (Some at) taken = refl
+either_named None None None taken = absurd (true≢false (sym taken))
+
+-- where a table, an index or a view has the name, CREATE TABLE is refused
+create_stops : (schema : Schema) (base : ℕ) (formats : List (List ℕ)) (def : create.CreateTable) → def.if_missing ≡ false → is_used schema def.name ≡ true → Stops (command schema formats base (CreateTable def))
+unfolding command create_table
+create_stops schema base formats def always used =
+    let taken = either_named (table_named schema def.name) (index_named schema def.name) (view_named schema def.name) used in
+    let stop = not_new def.name (option_or (table_named schema def.name) (view_named schema def.name)) (index_named schema def.name) taken in
+    rw always (go (is_attached schema def.name) _ stop _)
+  where
+    go : (attached : Bool) (r : Result Bool CompileError) → Stops r → (next : Bool → Result Command CompileError) → Stops (if attached then Err Unsupported else and_then r next)
+    go true r stop next = (Unsupported, refl, refl)
+    go false r stop next = (stop.0, rw stop.1 refl, stop.2)
+
+stopped_is : (schema : Schema) (sql : List ℕ) (p : Parsed) (e : CompileError) (s : Statement) → first sql ≡ Ok p → p.statement ≡ s → timed schema p.formats s ≡ [] → returning schema (small p.names + small []) s ≡ Ok None
+    → command schema p.formats (small p.names + small []) s ≡ Err e → compiled schema sql ≡ Err e
+unfolding compiled planned meaning
+stopped_is schema sql p e s parsed is untimed bare stops = rw (parsed, is, untimed, bare, stops)
+
+not_understood : (schema : Schema) (sql : List ℕ) (e : CompileError) → compiled schema sql ≡ Err e → misses_table (Err e) ≡ false → understood schema sql ≡ Err e
+unfolding understood
+not_understood schema sql e is other = rw (is, other)
+
+pub create_fails : (schema : Schema) (text : List ℕ) (def : create.CreateTable) → IsText text (CreateTable def) → def.if_missing ≡ false → is_used schema def.name ≡ true → (e : CompileError) × (understood schema text ≡ Err e)
+create_fails schema text def t always used =
+    let p = parse_of text in
+    let stop = create_stops schema (small p.names + small []) p.formats def always used in (
+      stop.0,
+      not_understood schema text stop.0
+          (stopped_is schema text p stop.0 (CreateTable def) t.parsed t.statement (create_untimed schema p.formats def) (create_bare schema (small p.names + small []) def) stop.1) stop.2,
+    )
 
 module _ (schema : Schema) (at : ℕ) (table : Table) (named : table_named schema table.name ≡ Some at) (there : slice_get schema.tables at ≡ Some table) (untimed : table.stamps.formats ≡ []) where
   insert_untimed : (formats : List (List ℕ)) (rows : Rows) (clauses : List Upsert) → formats ≡ [] → timed schema formats (Insert conflict.Abort table.name [] rows clauses []) ≡ []

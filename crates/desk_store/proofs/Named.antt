@@ -1,23 +1,23 @@
 -- What an upsert by the name makes of `tab`, whose rowid is hidden, in any schema that declares it so.
-use Rattle.std.proofs.Common.{◌≡◌, ◌≢◌, ◌⊎◌, inl, inr, ℕ, ℤ, ◌+◌, ◌<◌, ◌≤◌, pos, Bool, true, false, not, ◌&&◌, ◌||◌, ◌==◌, cond, List, [], ◌∷◌, ◌++◌, map, filter, find, drop, length, Option, Some, None, Ok, refl, sym, ap, subst, ◌∙◌, is_eq, IsTrue, IsPermutation, true≢false, eq-eqb, eqb-true, bytes_eq, option_map, Ordering, Less, Equal, Greater, arith}
+use Rattle.std.proofs.Common.{◌≡◌, inl, inr, ℕ, ℤ, ◌≤◌, Bool, true, false, not, ◌&&◌, ◌||◌, ◌==◌, List, [], ◌∷◌, map, filter, find, length, Some, refl, sym, ap, subst, ◌∙◌, is_eq, IsPermutation, eq-eqb, eqb-true, bytes_eq, Ordering, Less, Equal, Greater, arith}
 use Rattle.std.proofs.lemmas.List.{length-map}
 use Rattle.std.specs.List.{AllByRecursion, list_any}
 use Rattle.std.specs.Cmp.{both_ways}
-use Rattle.std.proofs.lemmas.Bool.{and_parts, cases_Bool}
+use Rattle.std.proofs.lemmas.Bool.{and_from, and_parts, cases_Bool}
 use Rattle.std.proofs.lemmas.List.Sorted.{IsPermutation-sym, IsPermutation-trans, IsPermutation-cons, IsPermutation-map, length_permutation}
 use Rattle.std.proofs.lemmas.Map.Text.{is_eq-slice_cmp}
 use Rattle.std.proofs.lemmas.Slice.Eq.{bytes_eq-Decides}
 use Rattle.sqlite_value.specs.declared.keys.Collation.TheVariants.{Binary}
-use Rattle.sqlite_value.specs.declared.value.Value.TheVariants.{Null, Int, Text, Blob}
+use Rattle.sqlite_value.specs.declared.value.Value.TheVariants.{Int, Text}
 use Rattle.sqlite_value.specs.Keys.{first_key, plain}
 use Rattle.sqlite_value.specs.Order.{Row, column, value_cmp}
 use Rattle.sqlite_value.proofs.OrderLemmas.{value_cmp-Text}
-use Rattle.sqlite_trees.specs.Tree.{Trees, rowid, has_rowid, put_row, without_rowid}
-use Rattle.sqlite_trees.proofs.ListLemmas.{all-permutation, filter_all, filter_same, filter-map, IsPermutation-filter}
+use Rattle.sqlite_trees.specs.Tree.{rowid, has_rowid, put_row, without_rowid}
+use Rattle.sqlite_trees.proofs.ListLemmas.{filter_all, filter_same, filter-map, IsPermutation-filter}
 use Rattle.sqlite_sql.specs.Ops.{binary, is_true, from_truth}
 use Rattle.sqlite_schema.specs.declared.schema.Index.{Index}
 use Rattle.sqlite_schema.specs.declared.schema.Schema.{Schema}
-use Rattle.sqlite_schema.specs.Rules.{agree, equal}
+use Rattle.sqlite_schema.specs.Rules.{agree, equal, guards}
 use Rattle.sqlite_resolve.specs.Given.{is_key_at}
 use Rattle.sqlite_rules.specs.Keys.{conflicts, shares}
 use Rattle.sqlite_rules.specs.Lists.{Has}
@@ -45,7 +45,7 @@ equal_texts a b = go (value_cmp (Text a) (Text b)) (same_text a b)
     go Equal e = e
     go Greater e = e
 
-agrees_by_name : (r new : Row) (a b : List ℕ) → column r 1 ≡ Text a → column new 1 ≡ Text b → agree plain (1 ∷ []) r (1 ∷ []) new ≡ bytes_eq a b
+pub agrees_by_name : (r new : Row) (a b : List ℕ) → column r 1 ≡ Text a → column new 1 ≡ Text b → agree plain (1 ∷ []) r (1 ∷ []) new ≡ bytes_eq a b
 unfolding first_key
 agrees_by_name r new a b is is' = rw (is, is', equal_texts a b) (go (bytes_eq a b))
   where
@@ -62,10 +62,6 @@ any_passes p (y ∷ ys) x (inr later) passes = go (p y) (any_passes p ys x later
     go true more = refl
     go false more = more
 
-fails : (u a b c : Bool) → (u && false && a && b && c) ≡ false
-fails true a b c = refl
-fails false a b c = refl
-
 module _ (schema : Schema) (tree : ℕ) (d : IsDeclared schema (tab tree)) where
   -- the index of the key
   abbrev pub its_index : Index
@@ -74,8 +70,8 @@ module _ (schema : Schema) (tree : ℕ) (d : IsDeclared schema (tab tree)) where
   own : (tree == tree) ≡ true
   own = eq-eqb tree tree refl
 
-  pub is_its_index : (i : Index) → Has schema.indexes i → i.table ≡ tree → i ≡ its_index
-  is_its_index i has on = go (subst (λ (is : List Index). Has is i) d.indexed (has_kept (λ (i : Index). i.table == tree) schema.indexes i has (eq-eqb i.table tree on)))
+  pub is_its_index : (i : Index) → Has schema.indexes i → i.is_unique ≡ true → i.table ≡ tree → i ≡ its_index
+  is_its_index i has unique on = go (subst (λ (is : List Index). Has is i) d.indexed (has_kept (λ (i : Index). guards i (tab tree)) schema.indexes i has (and_from i.is_unique (i.table == tree) unique (eq-eqb i.table tree on))))
     where
       go : Has (its_index ∷ []) i → i ≡ its_index
       go (inl same) = same
@@ -83,15 +79,15 @@ module _ (schema : Schema) (tree : ℕ) (d : IsDeclared schema (tab tree)) where
 
   pub key_index : find (is_key_at (tab tree) (1 ∷ [])) schema.indexes ≡ Some its_index
   unfolding is_key_at
-  key_index = sym (find_within (is_key_at (tab tree) (1 ∷ [])) (λ (i : Index). i.table == tree) schema.indexes (λ i has other. rw other (fails i.is_unique _ _ _))) ∙ ap (find (is_key_at (tab tree) (1 ∷ []))) d.indexed ∙ rw own
+  key_index = sym (find_within (is_key_at (tab tree) (1 ∷ [])) (λ (i : Index). guards i (tab tree)) schema.indexes (λ i has other. rw other)) ∙ ap (find (is_key_at (tab tree) (1 ∷ []))) d.indexed ∙ rw own
 
   -- a row is in the way where it has the name
   pub in_the_way : (r new : Row) (a b : List ℕ) → column r 1 ≡ Text a → column new 1 ≡ Text b → conflicts (Some (1 ∷ [])) schema.indexes (tab tree) new r ≡ true → a ≡ b
   in_the_way r new a b is is' h =
       let shared = some_has (shares (Some (1 ∷ [])) (tab tree) new r) schema.indexes h in
       let parts = and_parts _ _ shared.2 in
-      let on = (and_parts _ _ (and_parts _ _ parts.0).0).1 in
-      let same = is_its_index shared.0 shared.1 (eqb-true shared.0.table tree on) in
+      let guarded = and_parts _ _ (and_parts _ _ parts.0).0 in
+      let same = is_its_index shared.0 shared.1 guarded.0 (eqb-true shared.0.table tree guarded.1) in
       let agreed : agree plain (1 ∷ []) r (1 ∷ []) new ≡ true = subst (λ (i : Index). agree i.order i.columns r i.columns new ≡ true) same parts.1 in
       (bytes_eq-Decides a b).0 (sym (agrees_by_name r new a b is is') ∙ agreed)
 
@@ -124,9 +120,9 @@ each_unnamed : (name : List ℕ) (tabs : List Tab) → AllByRecursion (λ t. not
 each_unnamed name [] = tt
 each_unnamed name (t ∷ ts) = (ap not (same_text t.name name), each_unnamed name ts)
 
--- at most one row of the tree has the name
-few_named : (name : List ℕ) (tabs : List Tab) (rows : List Row) → Lists tab_row tab_columns tabs rows → length (filter (λ t. bytes_eq t.name name) tabs) ≤ 1 → length (filter (λ r. named name (tab_columns r)) rows) ≤ 1
-few_named name tabs rows lists few =
+-- as many rows of the tree have the name as are shown with it
+pub as_many_named : (name : List ℕ) (tabs : List Tab) (rows : List Row) → Lists tab_row tab_columns tabs rows → length (filter (λ t. bytes_eq t.name name) tabs) ≡ length (filter (λ r. named name (tab_columns r)) rows)
+as_many_named name tabs rows lists =
     let left : filter (named name) (map tab_row tabs) ≡ map tab_row (filter (λ t. bytes_eq t.name name) tabs) = filter-map (named name) tab_row tabs ∙ ap (map tab_row) (filter_same _ _ tabs (each_named name tabs)) in
     let right : filter (named name) (map tab_columns rows) ≡ map tab_columns (filter (λ r. named name (tab_columns r)) rows) = filter-map (named name) tab_columns rows in
     let same = length_permutation _ _ (IsPermutation-filter (named name) _ _ lists) in
@@ -134,7 +130,11 @@ few_named name tabs rows lists few =
     let b = ap length right in
     let a' = length-map (filter (λ t. bytes_eq t.name name) tabs) tab_row in
     let b' = length-map (filter (λ r. named name (tab_columns r)) rows) tab_columns in
-    omega (arith, few, same, a, b, a', b')
+    omega (arith, same, a, b, a', b')
+
+-- at most one row of the tree has the name
+few_named : (name : List ℕ) (tabs : List Tab) (rows : List Row) → Lists tab_row tab_columns tabs rows → length (filter (λ t. bytes_eq t.name name) tabs) ≤ 1 → length (filter (λ r. named name (tab_columns r)) rows) ≤ 1
+few_named name tabs rows lists few = let same = as_many_named name tabs rows lists in omega (arith, few, same)
 
 all_from_has : {X : Type 0} (P : X → Type 0) (xs : List X) → ((x : X) → Has xs x → P x) → AllByRecursion P xs
 all_from_has P [] each = tt

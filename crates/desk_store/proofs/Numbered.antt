@@ -1,11 +1,11 @@
 -- What an upsert by the rowid makes of a table whose key is the rowid, in any schema that declares it so.
-use Rattle.std.proofs.Common.{◌≡◌, ◌≢◌, ◌⊎◌, inl, inr, ℕ, ℤ, Bool, true, false, ◌&&◌, ◌||◌, ◌==◌, cond, List, [], ◌∷◌, ◌++◌, Option, filter, drop, length, Some, None, Ok, refl, sym, ap, subst, ◌∙◌, is_eq, IsTrue, true≢false, eq-eqb, eqb-true, slice_get, if◌then◌else◌, ◌/◌, Ordering, Less, Equal, Greater, int_cmp, ◌<ℤ◌, arith, ◌<◌}
-use Rattle.std.specs.List.{AllByRecursion, list_any, list_all}
+use Rattle.std.proofs.Common.{◌≡◌, inl, inr, ℕ, ℤ, Bool, true, false, ◌&&◌, ◌||◌, ◌==◌, List, [], ◌∷◌, ◌++◌, Option, filter, drop, Some, Ok, refl, sym, ap, subst, ◌∙◌, is_eq, IsTrue, true≢false, eq-eqb, eqb-true, Ordering, Less, Equal, Greater, int_cmp, ◌<ℤ◌, ◌<◌}
+use Rattle.std.specs.List.{AllByRecursion, list_any}
 use Rattle.std.specs.Ordering.{MatchOrdering}
-use Rattle.std.proofs.lemmas.Bool.{and_parts}
+use Rattle.std.proofs.lemmas.Bool.{and_from, and_parts}
 use Rattle.std.proofs.lemmas.Cmp.{int_ranked}
 use Rattle.sqlite_value.specs.declared.keys.Collation.TheVariants.{Binary}
-use Rattle.sqlite_value.specs.declared.value.Value.TheVariants.{Null, Int}
+use Rattle.sqlite_value.specs.declared.value.Value.TheVariants.{Int}
 use Rattle.sqlite_value.specs.Keys.{first_key, plain}
 use Rattle.sqlite_value.specs.Order.{Row, column, value_cmp}
 use Rattle.sqlite_value.proofs.OrderLemmas.{value_cmp-Int}
@@ -13,13 +13,12 @@ use Rattle.sqlite_trees.specs.Tree.{Trees, rowid, has_rowid}
 use Rattle.sqlite_trees.specs.View.{is_int}
 use Rattle.sqlite_trees.proofs.ListLemmas.{filter_same}
 use Rattle.sqlite_sql.specs.Ops.{binary, is_true, from_truth}
-use Rattle.sqlite_sql.specs.Term.{Term, col, op2, eval_all}
+use Rattle.sqlite_sql.specs.Term.{Term, col, eval_all}
 use Rattle.sqlite_resolve.specs.Terms.{equal as equals}
-use Rattle.sqlite.specs.Program.{overlay}
 use Rattle.sqlite_schema.specs.declared.schema.Index.{Index}
 use Rattle.sqlite_schema.specs.declared.schema.Schema.{Schema}
 use Rattle.sqlite_schema.specs.declared.schema.Table.{Table}
-use Rattle.sqlite_schema.specs.Rules.{agree, equal}
+use Rattle.sqlite_schema.specs.Rules.{agree, equal, guards}
 use Rattle.sqlite_rules.specs.Cast.{cast_row}
 use Rattle.sqlite_rules.specs.Edit.{id_in}
 use Rattle.sqlite_rules.specs.Keys.{conflicts, shares}
@@ -31,7 +30,6 @@ use Rattle.desk_store.specs.Contents.{HaveRowids}
 use Rattle.desk_store.specs.Layout.{IsDeclared}
 use Rattle.desk_store.proofs.Declaring.{has_kept, uncovered}
 use Rattle.desk_store.proofs.OneTable.{Parts, program_on}
-use Rattle.desk_store.proofs.Parents.{AreKept}
 use Rattle.desk_store.proofs.RowLists.{only_row}
 use Rattle.desk_store.proofs.Writing.{IsPut, Ends, task, finds, puts, updates_one}
 
@@ -65,10 +63,10 @@ unfolding first_key
 agrees r new h = (and_parts _ _ h).0
 
 module _ (schema : Schema) (table : Table) (d : IsDeclared schema table) (unkeyed : table.uniques ≡ []) where
-  pub none_on : (i : Index) → Has schema.indexes i → i.table ≡ table.tree → ⊥
-  none_on i has is = subst (λ (is : List Index). Has is i) no_index (has_kept (λ (i : Index). i.table == table.tree) schema.indexes i has (eq-eqb i.table table.tree is))
+  pub none_on : (i : Index) → Has schema.indexes i → i.is_unique ≡ true → i.table ≡ table.tree → ⊥
+  none_on i has unique is = subst (λ (is : List Index). Has is i) no_index (has_kept (λ (i : Index). guards i table) schema.indexes i has (and_from i.is_unique (i.table == table.tree) unique (eq-eqb i.table table.tree is)))
     where
-      no_index : filter (λ i. i.table == table.tree) schema.indexes ≡ []
+      no_index : filter (λ i. guards i table) schema.indexes ≡ []
       no_index = d.indexed ∙ rw unkeyed
 
   -- a row in the way has the number of the new one
@@ -79,8 +77,8 @@ module _ (schema : Schema) (table : Table) (d : IsDeclared schema table) (unkeye
       go true e h = equal_numbers n id (rw (number, is) at (agrees r new e))
       go false e h =
           let shared = some_has (shares (Some (0 ∷ [])) table new r) schema.indexes h in
-          let guarded = (and_parts _ _ (and_parts _ _ (and_parts _ _ shared.2).0).0).1 in
-          absurd (none_on shared.0 shared.1 (eqb-true shared.0.table table.tree guarded))
+          let guarded = and_parts _ _ (and_parts _ _ (and_parts _ _ shared.2).0).0 in
+          absurd (none_on shared.0 shared.1 guarded.0 (eqb-true shared.0.table table.tree guarded.1))
 
   -- what an upsert by the rowid tests and sets
   abbrev pub by_rowid : ℕ → List Term → Parts
@@ -96,7 +94,7 @@ module _ (schema : Schema) (table : Table) (d : IsDeclared schema table) (unkeye
         let tests = (by_rowid base project).tests in
         let only : filter (finds tests given) (db table.tree) ≡ r ∷ [] = filter_same _ _ (db table.tree) (all_find given base id (ap (λ g. column g base) shows ∙ asked) (db table.tree) keyed.integers) ∙ there in
         let next = made given r shows number in
-        updates_one limit schema table params d.alone (by_rowid base project) given db r new id w (uncovered schema table d low db) only there next.0 next.1 (is ∙ sym number) (λ i has on. absurd (none_on i has on)) h
+        updates_one limit schema table params d.alone (by_rowid base project) given db r new id w (uncovered schema table d low db) only there next.0 next.1 (is ∙ sym number) (λ i has unique on. absurd (none_on i has unique on)) h
 
     -- the row is put in place of the one with its number, or with it more
     pub upserts : (db after : Trees) → HaveRowids (db table.tree) → Ends limit schema table params (Some (0 ∷ [])) (program_on table.tree (by_rowid base project)) new db after → IsPut schema table new id db after

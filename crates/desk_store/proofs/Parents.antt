@@ -1,7 +1,7 @@
 -- A row that keeps the columns of its keys sets off no action of a foreign key.
-use Rattle.std.proofs.Common.{◌≡◌, ◌⊎◌, inl, inr, ℕ, Bool, true, false, not, cond, ◌==◌, ◌&&◌, ◌||◌, nat_lt, List, [], ◌∷◌, length, find, option_and_then, option_map, Option, Some, None, refl, sym, ap, subst, ◌∙◌, true≢false, bytes_eq, eqb-true}
+use Rattle.std.proofs.Common.{◌≡◌, ℕ, Bool, true, false, not, ◌==◌, ◌&&◌, ◌||◌, List, [], ◌∷◌, length, find, option_and_then, option_map, Option, Some, None, refl, sym, ap, subst, ◌∙◌, bytes_eq, eqb-true}
 use Rattle.std.specs.List.{AllByRecursion, list_any, list_all, filter_map, flat_map}
-use Rattle.std.proofs.lemmas.Bool.{and_parts, or_parts}
+use Rattle.std.proofs.lemmas.Bool.{and_parts}
 use Rattle.std.proofs.lemmas.Slice.Eq.{bytes_eq-Decides}
 use Rattle.sqlite_value.specs.declared.keys.Order.{Order}
 use Rattle.sqlite_value.specs.Keys.{later}
@@ -12,10 +12,10 @@ use Rattle.sqlite_schema.specs.declared.schema.Reference.{Reference}
 use Rattle.sqlite_schema.specs.declared.schema.Schema.{Schema}
 use Rattle.sqlite_schema.specs.declared.schema.Table.{Table}
 use Rattle.sqlite_schema.specs.Names.{same_name}
-use Rattle.sqlite_schema.specs.Rules.{ParentKey, agree, declared_order, parent_key, key_in, key_places, is_index_for, is_unique_key, is_key_of, is_key_if_to, references_fit}
+use Rattle.sqlite_schema.specs.Rules.{ParentKey, agree, declared_order, parent_key, key_in, key_places, is_index_for, is_unique_key, is_key_if_to, references_fit}
 use Rattle.sqlite_rules.specs.Lists.{Has}
 use Rattle.sqlite_rules.specs.declared.action.Deed.{Deed}
-use Rattle.sqlite_rules.specs.Action.{Work, works, work_for, work_by, deed_for, loses, pairs}
+use Rattle.sqlite_rules.specs.Action.{works, work_for, work_by, deed_for, loses}
 use Rattle.sqlite_rules.proofs.ListLemmas.{has_found, some_has}
 
 -- the rows have the same value in each of these columns
@@ -51,13 +51,14 @@ owner tables ref key is = go (find (λ t. same_name t.name ref.parent) tables) r
     go (Some t) e some = let has = has_found (λ t. same_name t.name ref.parent) tables t e in (t, has.0, has.1, made t (key_places t ref.parent_columns) some)
 
 module _ (schema : Schema) (table : Table) (alone : (other : Table) → Has schema.tables other → other.tree ≡ table.tree → other ≡ table) (old new : Row) (rowid_kept : column new 0 ≡ column old 0)
-    (kept : (i : Index) → Has schema.indexes i → i.table ≡ table.tree → AreKept old new i.columns) where
+    (kept : (i : Index) → Has schema.indexes i → i.is_unique ≡ true → i.table ≡ table.tree → AreKept old new i.columns) where
   kept_by_index : (key : ParentKey) (i : Index) → key.0 ≡ table.tree → Has schema.indexes i → is_index_for key i ≡ true → AreKept old new key.1
   kept_by_index key i ours has fits =
       let parts = and_parts _ _ fits in
       let first = and_parts _ _ parts.0 in
-      let table_is : i.table ≡ table.tree = eqb-true i.table key.0 ((and_parts _ _ first.0).1) ∙ ours in
-      subst (AreKept old new) ((bytes_eq-Decides i.columns key.1).0 first.1) (kept i has table_is)
+      let guarded = and_parts _ _ first.0 in
+      let table_is : i.table ≡ table.tree = eqb-true i.table key.0 guarded.1 ∙ ours in
+      subst (AreKept old new) ((bytes_eq-Decides i.columns key.1).0 first.1) (kept i has guarded.0 table_is)
 
   kept_by_key : (key : ParentKey) (width : ℕ) → key.0 ≡ table.tree → is_unique_key schema.indexes width (Some key) ≡ true → AreKept old new key.1
   kept_by_key key width ours unique = go (bytes_eq key.1 (0 ∷ [])) refl ((and_parts _ _ unique).1) (λ i. kept_by_index key i ours)

@@ -1,6 +1,5 @@
 -- The text that puts a braille table by its name.
-use Rattle.std.proofs.Common.{◌≡◌, ◌⊎◌, inl, inr, ℕ, ℤ, ◌+◌, ◌<◌, ◌≤◌, false, ◌==◌, List, [], ◌∷◌, ◌++◌, Option, filter, drop, length, codes, bytes_eq, not, Some, None, Ok, refl, sym, ap, subst, ◌∙◌}
-use Rattle.std.specs.List.{AllByRecursion}
+use Rattle.std.proofs.Common.{◌≡◌, inl, inr, ℕ, ℤ, ◌+◌, ◌<◌, ◌≤◌, false, ◌==◌, List, [], ◌∷◌, ◌++◌, Option, filter, drop, length, codes, bytes_eq, not, Some, Ok, refl, sym, ap, subst, ◌∙◌}
 use Rattle.sqlite_value.specs.declared.keys.Collation.TheVariants.{Binary}
 use Rattle.sqlite_value.specs.declared.value.Value.TheVariants.{Null, Int, Text, Blob}
 use Rattle.sqlite_value.specs.Order.{Row, column}
@@ -23,7 +22,6 @@ use Rattle.sqlite_resolve.specs.Write.{places}
 use Rattle.sqlite_rules.specs.declared.error.Rowids.TheVariants.{Chosen}
 use Rattle.sqlite_rules.specs.Cast.{cast_row}
 use Rattle.sqlite_rules.specs.Edit.{id_in, next_rowid, with_rowid}
-use Rattle.sqlite_rules.specs.Keys.{conflicts}
 use Rattle.sqlite_rules.specs.Lists.{Has}
 use Rattle.sqlite_rules.proofs.ListLemmas.{all_has}
 use Rattle.sqlite_rules.proofs.TableLemmas.{int_is}
@@ -39,13 +37,14 @@ use Rattle.desk_store.specs.Tables.{tab}
 use Rattle.desk_store.proofs.Declaring.{low_tree, classes_are, uncovered}
 use Rattle.desk_store.proofs.Holding.{tab_holds}
 use Rattle.desk_store.proofs.Meaning.{IsText, parse_of, rows_in, clause_in, upsert_is, one_upsert}
-use Rattle.desk_store.proofs.Named.{its_index, is_its_index, key_index, in_the_way, clashes, row_of, name_of, named, lists_put, unnamed_rows, named_rows}
+use Rattle.desk_store.proofs.Named.{is_its_index, key_index, in_the_way, clashes, row_of, name_of, named, lists_put, unnamed_rows, named_rows}
 use Rattle.desk_store.proofs.Numbered.{all_find}
-use Rattle.desk_store.proofs.OneTable.{Parts, draft_of, program_on, is_typed, program_is}
+use Rattle.desk_store.proofs.OneTable.{Parts, draft_of, program_on, program_is}
 use Rattle.desk_store.proofs.Parents.{AreKept}
 use Rattle.desk_store.proofs.RowLists.{only_row, rowids_stay}
 use Rattle.desk_store.proofs.Running.{Means, upsert_ran}
 use Rattle.desk_store.proofs.Staying.{stays, cast_null, cast_int}
+use Rattle.desk_store.proofs.TabNames.{names_once}
 use Rattle.desk_store.proofs.Writing.{IsPut, Ends, task, finds, puts, updates_one}
 
 abbrev text : List ℕ
@@ -132,7 +131,7 @@ module _ (schema : Schema) (tree : ℕ) (d : IsDeclared schema (tab tree)) (low 
       let made : cast_row (tab tree) (drop 1 (eval_all project (given ∷ r ∷ []))) ≡ stored id t = rw (is, number, name) (cast id t tree) in
       let next : id_in (rowid (eval_all project (given ∷ r ∷ []))) ≡ id = rw number in
       let put = updates_one limit schema (tab tree) (tab_row t) d.alone parts given db r (stored id t) id w (uncovered schema (tab tree) d low db) only there made next (sym number)
-      (λ i has on. subst (λ (i : Index). AreKept r (stored id t) i.columns) (sym (is_its_index schema tree d i has on)) (sym name, tt)) h in
+      (λ i has unique on. subst (λ (i : Index). AreKept r (stored id t) i.columns) (sym (is_its_index schema tree d i has unique on)) (sym name, tt)) h in
       concluded id (subst (IsPut schema (tab tree) (stored id t) id db) (sym trees) put) (named_rows t tabs (db tree) lists few keyed r id has number name)
 
   pub puts_tab : Ends limit schema (tab tree) (tab_row t) (Some (1 ∷ [])) (program_on tree parts) (stored (next_rowid (db tree)) t) db after → IsTabPut
@@ -156,5 +155,5 @@ tab_stays t old new count h committed l c was =
     let low = low_tree l.schema (tab l.tab) d old.now.trees file.sound in
     let ran = upsert_ran l.schema d.at (tab l.tab) d.there text (tab_row t) old new count was.shows.schema (Some (1 ∷ [])) (program_on l.tab parts) terms 3 (means l.schema l.tab d low) (Null ∷ Text t.name ∷ Blob t.body ∷ []) (stored (next_rowid (old.now.trees l.tab)) t) refl refl
     (chosen t l.tab (old.now.trees l.tab)) h.0 in
-    let put = puts_tab l.schema l.tab d low old.step_limit t c.tabs old.now.trees new.now.trees file.holds.tabs (file.holds.tab_names t.name) file.holds.tab_ids ran.1 in
+    let put = puts_tab l.schema l.tab d low old.step_limit t c.tabs old.now.trees new.now.trees file.holds.tabs (names_once l.schema l.tab d old.now.trees file.sound file.holds.tab_ids c.tabs file.holds.tabs t.name) file.holds.tab_ids ran.1 in
     stays old new committed l c (with_tab t c) was ran.0 (tab_holds l c file.declared old.now.trees new.now.trees file.holds t (stored put.0 t) put.0 put.1 put.2 put.3)

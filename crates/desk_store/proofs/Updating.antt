@@ -1,5 +1,5 @@
 -- What UPDATE of one row by its key means, whatever else the schema has.
-use Rattle.std.proofs.Common.{◌≡◌, ◌≢◌, ◌⊎◌, inl, inr, ℕ, ℤ, suc, ◌-◌, ◌<◌, ◌≤◌, sym, ap, subst, ◌∙◌, cond, filter, map, length, drop, is_eq, IsTrue, arith, Bool, true, false, ◌==◌, List, [], ◌∷◌, slice_get, Option, Some, None, Ok, refl}
+use Rattle.std.proofs.Common.{◌≡◌, ◌⊎◌, inl, inr, ℕ, ℤ, suc, ◌<◌, ◌≤◌, sym, ap, subst, ◌∙◌, cond, filter, map, length, drop, is_eq, IsTrue, arith, Bool, true, false, List, [], ◌∷◌, slice_get, Option, Some, None, Ok, refl}
 use Rattle.sqlite_value.specs.declared.keys.Collation.TheVariants.{Binary}
 use Rattle.sqlite_sql.specs.Term.{Term, col}
 use Rattle.sqlite_ast.specs.declared.Binary.TheVariants as binary
@@ -28,7 +28,6 @@ use Rattle.desk_store.proofs.OneTable.{Parts, draft_of, program_on, is_typed, pr
 use Rattle.desk_store.proofs.Running.{Means}
 use Rattle.sqlite_ast.specs.declared.Statement.{Statement}
 use Rattle.sqlite_ast.specs.Layer.{Layer}
-use Rattle.std.specs.List.{AllByRecursion}
 use Rattle.std.specs.Ordering.{int_eq}
 use Rattle.std.proofs.lemmas.Bool.Decides.{Decides-int_eq}
 use Rattle.sqlite_value.specs.declared.value.Value.TheVariants.{Int}
@@ -51,7 +50,7 @@ use Rattle.desk_store.proofs.RowLists.{rowids_stay}
 use Rattle.desk_store.proofs.Setting.{set_if, sets_none, sets_one}
 use Rattle.desk_store.proofs.Numbered.{all_find, none_on}
 use Rattle.desk_store.proofs.Running.{Wrote, update_ran}
-use Rattle.desk_store.proofs.Writing.{IsPut, task, finds, updates_one, updates_none}
+use Rattle.desk_store.proofs.Writing.{IsPut, Spares, task, finds, updates_one, updates_none}
 use Rattle.desk_store.proofs.Columns.{nothing_written, clear, over, IsColumn, lowers_to}
 
 abbrev pub sets_in : Statement → List (Name × Expr)
@@ -139,7 +138,7 @@ module _ (name : Name) (columns : List Column) (text : List ℕ) where
     -- the row with the number is replaced, if it is there
     abbrev pub IsSet : ℤ → (Row → Row → Type 0) → Trees → Trees → Type 0
     IsSet id Becomes old new =
-        ((filter (has_rowid id) (old tree) ≡ []) × (new tree ≡ old tree) × AllByRecursion (λ t. t.tree ≢ tree → new t.tree ≡ old t.tree) schema.tables)
+        ((filter (has_rowid id) (old tree) ≡ []) × (new tree ≡ old tree) × Spares schema tree old new)
         ⊎ ((r : Row) × (row : Row) × Has (old tree) r × (filter (has_rowid id) (old tree) ≡ r ∷ []) × Becomes r row × IsPut schema table row id old new)
 
     first_in : (xs : List Row) (id : ℤ) (r : Row) (more : List Row) → filter (has_rowid id) xs ≡ r ∷ more → Has xs r × (has_rowid id r ≡ true)
@@ -179,20 +178,20 @@ module _ (name : Name) (columns : List Column) (text : List ℕ) where
             → (w : Written) × Updates (task old.step_limit schema table params) (program_on tree (parts_of u.project)) params old.now.trees (Ok w) × (new.now.trees ≡ w.trees) → IsSet id Becomes old.now.trees new.now.trees
         go low (inl none) same (w, did, trees) =
             let done = updates_none old.step_limit schema table params (parts_of u.project) params old.now.trees w (uncovered schema table d low old.now.trees) (same ∙ none) did in
-            inl (none, ap (λ (t : Trees). t tree) trees ∙ done.0, subst (λ (t : Trees). AllByRecursion (λ a. a.tree ≢ tree → t a.tree ≡ old.now.trees a.tree) schema.tables) (sym trees) done.1)
+            inl (none, ap (λ (t : Trees). t tree) trees ∙ done.0, subst (Spares schema tree old.now.trees) (sym trees) done.1)
         go low (inr (r, only)) same (w, did, trees) =
             let it = first_in (old.now.trees tree) id r [] only in
             let number = number_of r id (all_has _ (old.now.trees tree) r keyed.integers it.0) it.1 in
             let next = made r it.0 number in
             let put = updates_one old.step_limit schema table params d.alone (parts_of u.project) params old.now.trees r next.0 id w (uncovered schema table d low old.now.trees) (same ∙ only) only next.1
-            (ap id_in (heads r ∙ number)) (next.2 ∙ sym number) (λ i has on. absurd (none_on schema table d refl i has on)) did in
+            (ap id_in (heads r ∙ number)) (next.2 ∙ sym number) (λ i has unique on. absurd (none_on schema table d refl i has unique on)) did in
             inr (r, next.0, it.0, only, next.3, subst (IsPut schema table next.0 id old.now.trees) (sym trees) put)
 
     -- what the table lists then
     pub lists_set : {X : Type 0} (written : X → Row) (columns : Row → Row) (key : X → ℤ) (wk : (x : X) → column (written x) 0 ≡ Int (key x)) (sk : (r : Row) → column (columns r) 0 ≡ rowid r)
         (id : ℤ) (set : X → X) (change : Row → Row) (changes : (x : X) → written (set x) ≡ change (written x)) (xs : List X) (old new : Trees) → Lists written columns xs (old tree) → HaveRowids (old tree)
         → IsSet id (λ r it. (columns it ≡ change (columns r)) × (rowid it ≡ Int id)) old new
-        → Lists written columns (map (set_if written columns key wk sk id set change changes) xs) (new tree) × HaveRowids (new tree) × AllByRecursion (λ t. t.tree ≢ tree → new t.tree ≡ old t.tree) schema.tables
+        → Lists written columns (map (set_if written columns key wk sk id set change changes) xs) (new tree) × HaveRowids (new tree) × Spares schema tree old new
     lists_set written columns key wk sk id set change changes xs old new lists ids (inl (none, same, others)) =
         (rw same (sets_none written columns key wk sk id set change changes xs (old tree) lists none), rw same ids, others)
     lists_set written columns key wk sk id set change changes xs old new lists ids (inr (r, now, has, only, becomes, put)) =

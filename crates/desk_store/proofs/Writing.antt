@@ -1,5 +1,5 @@
 -- What INSERT .. ON CONFLICT DO UPDATE makes of a table, in any schema in which the table has no rule but its key.
-use Rattle.std.proofs.Common.{◌≡◌, ◌≢◌, ◌⊎◌, inl, inr, ℕ, zero, suc, ℤ, ◌+◌, ◌<◌, pos, negsuc, Bool, true, false, not, cond, List, [], ◌∷◌, ◌++◌, map, filter, find, drop, length, length-append, Some, None, Option, Ok, Err, Result, refl, sym, ap, subst, subst₂, ◌∙◌, is_eq, IsTrue, IsPermutation, nat_lt, unwrap_or, arith, true≢false, ◌/◌}
+use Rattle.std.proofs.Common.{◌≡◌, ◌≢◌, ◌⊎◌, inl, inr, ℕ, zero, suc, ℤ, Bool, true, false, cond, List, [], ◌∷◌, ◌++◌, map, filter, find, drop, length, length-append, Some, None, Option, Ok, Err, Result, refl, sym, ap, subst, subst₂, ◌∙◌, IsTrue, IsPermutation, unwrap_or, arith}
 use Rattle.std.specs.List.{AllByRecursion, flat_map, list_any, list_all}
 use Rattle.std.proofs.lemmas.Bool.{and_parts, not-true}
 use Rattle.std.proofs.lemmas.List.Sorted.{length_permutation}
@@ -7,7 +7,7 @@ use Rattle.sqlite_value.specs.declared.value.Value.TheVariants.{Null, Int}
 use Rattle.sqlite_value.specs.Order.{Row, column}
 use Rattle.sqlite_trees.specs.Tree.{Trees, rowid, has_rowid, put_row, without_rowid}
 use Rattle.sqlite_sql.specs.Term.{Term, Env, eval_all, holds}
-use Rattle.sqlite_sql.specs.Query.{Query, Output, IsAnswer, output}
+use Rattle.sqlite_sql.specs.Query.{Output, IsAnswer, output}
 use Rattle.sqlite.specs.Program.{overlay}
 use Rattle.sqlite_schema.specs.declared.command.Conflict.TheVariants.{Abort}
 use Rattle.sqlite_schema.specs.declared.command.Source.{Source}
@@ -21,11 +21,11 @@ use Rattle.sqlite_rules.specs.declared.error.Rowids.TheVariants.{Chosen, Given}
 use Rattle.sqlite_rules.specs.Action.{works, Leads, Writes}
 use Rattle.sqlite_rules.specs.Calls.{ids_of}
 use Rattle.sqlite_rules.specs.Cast.{cast_row}
-use Rattle.sqlite_rules.specs.Edit.{Edit, edit_of, id_in, is_taken, are_fresh, row_at, taken_by, with_rowid, Applies}
+use Rattle.sqlite_rules.specs.Edit.{Edit, edit_of, id_in, is_taken, are_fresh, row_at, taken_by, with_rowid, Applies, IsNoIndex}
 use Rattle.sqlite_rules.specs.Keys.{AreConflicts, conflicts}
 use Rattle.sqlite_rules.specs.Lists.{Has}
 use Rattle.sqlite_rules.proofs.TableLemmas.{none_to_drop, int_is, taken_is}
-use Rattle.sqlite.specs.Rows.{Written, Task, Then, Gives, Edited, Counter, Counts, count_of, rowids_for, stamped, nothing, shown, Sourced, Puts, Updates, Clears, Upserts, Meets, Resolves, Tries, TriesEach, InsertsOr, Inserts}
+use Rattle.sqlite.specs.Rows.{Written, Task, Then, Gives, Edited, Counts, count_of, rowids_for, stamped, nothing, shown, Sourced, Puts, Updates, Clears, Upserts, Meets, Resolves, Tries, TriesEach, InsertsOr, Inserts}
 use Rattle.sqlite.proofs.Callers.{one_permutation}
 use Rattle.sqlite_trees.specs.View.{is_int}
 use Rattle.desk_store.proofs.RowLists.{put_adds}
@@ -51,15 +51,20 @@ settles schema db next edit none (inr (inr ran)) = subst (Applies schema Enforce
     ended zero h = let e = h.1 in cc
     ended (suc n) h = absurd (omega (arith, ap length h.2, length-append h.0 (h.1 ∷ [])))
 
+-- each other table has its rows, and so has each tree that is no index
+pub record Spares (schema : Schema) (tree : ℕ) (old new : Trees) : Type 0 where
+  pub tables : AllByRecursion (λ t. t.tree ≢ tree → new t.tree ≡ old t.tree) schema.tables
+  pub aside : (t : ℕ) → t ≢ tree → IsNoIndex schema t → new t ≡ old t
+
 -- the table's rows are these, and each other table has its rows
 pub record IsPut (schema : Schema) (table : Table) (row : Row) (id : ℤ) (old new : Trees) : Type 0 where
   pub rows : new table.tree ≡ put_row row (without_rowid id (old table.tree))
-  pub others : AllByRecursion (λ t. t.tree ≢ table.tree → new t.tree ≡ old t.tree) schema.tables
+  pub others : Spares schema table.tree old new
 
 -- the table has this row more, and each other table has its rows
 pub record IsAdded (schema : Schema) (table : Table) (row : Row) (old new : Trees) : Type 0 where
   pub rows : IsPermutation (new table.tree) (row ∷ old table.tree)
-  pub others : AllByRecursion (λ t. t.tree ≢ table.tree → new t.tree ≡ old t.tree) schema.tables
+  pub others : Spares schema table.tree old new
 
 counts_nothing : (task : Task) (mid next : Trees) (counter : Option Row) (top : ℤ) → task.table.is_counted ≡ false → Counts task mid counter top (Ok next) → next ≡ mid
 counts_nothing task mid next counter top uncounted h = same_value (rw uncounted at h)
@@ -126,13 +131,13 @@ module _ (limit : Option ℕ) (schema : Schema) (table : Table) (params : Row) w
       let put : gave.0 table.tree ≡ put_row new (db table.tree) = step.rows ∙ ap (λ r. put_row r (db table.tree)) cast in
       let free : is_taken (db table.tree) new ≡ false = not-true _ (and_parts _ _ (subst (λ r. are_fresh (db table.tree) (r ∷ []) ≡ true) cast step.fresh)).0 in
       let none : list_any (has_rowid id) (db table.tree) ≡ false = rw is at free in
-      (subst (IsPut schema table new id db) (sym trees) (record { rows = put ∙ ap (put_row new) (sym (none_to_drop id (db table.tree) none)); others = step.tables }), none)
+      (subst (IsPut schema table new id db) (sym trees) (record { rows = put ∙ ap (put_row new) (sym (none_to_drop id (db table.tree) none)); others = record { tables = step.tables; aside = step.others } }), none)
 
   -- the one row that an UPDATE finds is replaced by one with the same keys
   pub updates_one : (alone : (other : Table) → Has schema.tables other → other.tree ≡ table.tree → other ≡ table) (p : Parts) (given : Row) (db : Trees) (r new : Row) (id : ℤ) (w : Written)
       → overlay db [] table.tree ≡ db table.tree → filter (finds p.tests given) (db table.tree) ≡ r ∷ [] → filter (has_rowid id) (db table.tree) ≡ r ∷ []
       → cast_row table (drop 1 (eval_all p.project (given ∷ r ∷ []))) ≡ new → id_in (rowid (eval_all p.project (given ∷ r ∷ []))) ≡ id
-      → column new 0 ≡ column r 0 → ((i : Index) → Has schema.indexes i → i.table ≡ table.tree → AreKept r new i.columns)
+      → column new 0 ≡ column r 0 → ((i : Index) → Has schema.indexes i → i.is_unique ≡ true → i.table ≡ table.tree → AreKept r new i.columns)
       → Updates task (program_on table.tree p) given db (Ok w) → IsPut schema table new id db w.trees
   updates_one alone p given db r new id w plain only there made is same kept h =
       let asked = went h in
@@ -154,11 +159,11 @@ module _ (limit : Option ℕ) (schema : Schema) (table : Table) (params : Row) w
           let step = settles schema db gave.0 (edit_of db table (ids_of (row ∷ [])) Given 1 (row ∷ [])) (quiet row made is) gave.1 in
           let trees : w.trees ≡ gave.0 = ap (λ (x : Written). x.trees) (same_value gave.2) in
           let put : gave.0 table.tree ≡ put_row new (without_rowid id (db table.tree)) = step.rows ∙ ap (λ r. put_row r (without_rowid (id_in (rowid row)) (db table.tree))) made ∙ ap (λ n. put_row new (without_rowid n (db table.tree))) is in
-          subst (IsPut schema table new id db) (sym trees) (record { rows = put; others = step.tables })
+          subst (IsPut schema table new id db) (sym trees) (record { rows = put; others = record { tables = step.tables; aside = step.others } })
 
   -- an UPDATE that finds no row changes none
   pub updates_none : (p : Parts) (given : Row) (db : Trees) (w : Written) → overlay db [] table.tree ≡ db table.tree → filter (finds p.tests given) (db table.tree) ≡ [] → Updates task (program_on table.tree p) given db (Ok w)
-      → (w.trees table.tree ≡ db table.tree) × AllByRecursion (λ t. t.tree ≢ table.tree → w.trees t.tree ≡ db t.tree) schema.tables
+      → (w.trees table.tree ≡ db table.tree) × Spares schema table.tree db w.trees
   updates_none p given db w plain none h =
       let asked = went h in
       let empty : asked.0 ≡ [] = no_answer table.tree p (overlay db []) given asked.0 (rw plain none) (asked.1.answer Null) in
@@ -166,7 +171,7 @@ module _ (limit : Option ℕ) (schema : Schema) (table : Table) (params : Row) w
       let gave = went did in
       let step = settles schema db gave.0 (edit_of db table [] Given 1 []) (λ mid did. adds_quietly schema table.tree []) gave.1 in
       let trees : w.trees ≡ gave.0 = ap (λ (x : Written). x.trees) (same_value gave.2) in
-      subst (λ (now : Trees). (now table.tree ≡ db table.tree) × AllByRecursion (λ t. t.tree ≢ table.tree → now t.tree ≡ db t.tree) schema.tables) (sym trees) (step.rows, step.tables)
+      subst (λ (now : Trees). (now table.tree ≡ db table.tree) × Spares schema table.tree db now) (sym trees) (step.rows, record { tables = step.tables; aside = step.others })
 
   -- either no row is in the way, and the new one is put, or one is, and it is updated
   abbrev pub Ends : Option (List ℕ) → Program → Row → Trees → Trees → Type 0
@@ -231,4 +236,4 @@ module _ (limit : Option ℕ) (schema : Schema) (table : Table) (params : Row) w
       let fresh : is_taken (db table.tree) row ≡ false = subst (λ r. is_taken (db table.tree) r ≡ false) made (not-true _ (and_parts _ _ step.fresh).0) in
       let free : list_any (has_rowid (id_in (rowid row))) (db table.tree) ≡ false = sym (taken_is (db table.tree) row keyed) ∙ fresh in
       let added : IsPermutation (written.0 table.tree) (row ∷ db table.tree) = subst (λ rows. IsPermutation rows (row ∷ db table.tree)) (sym put) (put_adds (id_in (rowid row)) row (int_is (rowid row) keyed) (db table.tree) free) in
-      subst (IsAdded schema table row db) (sym trees) (record { rows = added; others = step.tables })
+      subst (IsAdded schema table row db) (sym trees) (record { rows = added; others = record { tables = step.tables; aside = step.others } })

@@ -1,16 +1,18 @@
--- What a file holds: the rows of the five tables, and those of the other tables.
+-- What a file holds: the rows of the five tables, and those of the other tables. Texts are in UTF-8, so what is in order of its bytes is
+-- in order of its code points.
 use Rattle.std.specs.Prelude.{◌≡◌, ℕ, ℤ, pos, ◌≤◌, Bool, not, if◌then◌else◌, List, [], ◌∷◌, map, filter, length, bytes_eq, IsPermutation}
 use Rattle.std.specs.List.{AllByRecursion}
 use Rattle.std.specs.Ordering.{int_eq}
 use Rattle.sqlite_value.specs.declared.value.Value.TheVariants.{Int, Text, Blob}
 use Rattle.sqlite_value.specs.Order.{Row, column}
 use Rattle.sqlite_trees.specs.Tree.{Trees, has_rowid}
+use Rattle.sqlite_rules.specs.Edit.{IsNoIndex}
 use Rattle.desk_book.specs.declared.rows.BookRow.{BookRow}
 use Rattle.desk_book.specs.Rows.{Tab, StoredTab, Para, Corr, Mark}
 use Rattle.desk_store.specs.Kinds.{HaveIntegerRowids}
 use Rattle.desk_store.specs.Layout.{Layout, IsOther}
 
--- The rows of the five tables, each list in any order, and those of the other tables by their trees.
+-- The rows of the five tables, each list in any order, and those of the other trees.
 pub record Contents : Type 0 where
   pub books : List BookRow
   pub tabs : List Tab
@@ -89,12 +91,13 @@ pub record Holds (l : Layout) (c : Contents) (db : Trees) : Type 0 where
   pub corrs : Lists corr_row corr_columns c.corrs (db l.corr)
   pub marks : Lists mark_row mark_columns c.marks (db l.mark)
   pub others : AllByRecursion (λ t. IsOther l t.tree → db t.tree ≡ c.others t.tree) l.schema.tables
+  -- and each tree that is no index, among them those that the database keeps as they are, the list of its schema and its user version
+  pub aside : (tree : ℕ) → IsOther l tree → IsNoIndex l.schema tree → db tree ≡ c.others tree
   -- the rows that may be replaced are told apart, those of `tab` by their hidden rowids too
   pub book_ids : HaveRowids (db l.book)
   pub tab_ids : HaveRowids (db l.tab)
   pub para_ids : HaveRowids (db l.para)
   pub mark_ids : HaveRowids (db l.mark)
-  pub tab_names : (name : List ℕ) → length (filter (λ t. bytes_eq t.name name) c.tabs) ≤ 1
 
 -- ---- what is put
 
@@ -125,9 +128,10 @@ placed id place p = if int_eq p.id id then record p { place = place } else p
 abbrev pub with_place : ℤ → ℤ → Contents → Contents
 with_place id place c = record c { paras = map (placed id place) c.paras }
 
--- the book at this version
+-- a row of `book` at this version, if its id is 1, and else as it is
 abbrev pub at_version : ℤ → BookRow → BookRow
 at_version version b = if int_eq b.id (pos 1) then record b { version = version } else b
 
+-- with the row with id 1 at this version
 abbrev pub with_version : ℤ → Contents → Contents
 with_version version c = record c { books = map (at_version version) c.books }

@@ -1,68 +1,77 @@
 -- What making the five tables makes of a file that has none of them.
-use Rattle.std.specs.Prelude.{◌≡◌, ◌<◌, ◌≤◌, pos, true, false, if◌then◌else◌, nat_lt, [], ◌∷◌, codes}
+use Rattle.std.specs.Prelude.{◌≡◌, ℕ, ◌<◌, ◌≤◌, pos, true, false, if◌then◌else◌, nat_lt, List, [], ◌∷◌, codes, IsTrue}
 use Rattle.std.specs.List.{AllByRecursion}
 use Rattle.sqlite_trees.specs.Tree.{Trees}
 use Rattle.sqlite_schema.specs.declared.schema.Index.{Index}
 use Rattle.sqlite_schema.specs.declared.schema.Schema.{Schema}
 use Rattle.sqlite_rules.specs.Lists.{Has}
-use Rattle.sqlite_catalog.specs.Change.{created, next_tree, is_used}
+use Rattle.sqlite_catalog.specs.Change.{KeepsRows, created, next_tree, is_used}
 use Rattle.sqlite_catalog.specs.Listing.{IsSound}
 use Rattle.sqlite.specs.Does.{lacks_sequence}
 use Rattle.sqlite.specs.Effect.{Database}
-use Rattle.sqlite.specs.State.{State}
+use Rattle.sqlite.specs.State.{State, IsLive, KeepsCommit}
 use Rattle.desk_store.specs.Contents.{Contents}
 use Rattle.desk_store.specs.Layout.{Layout}
+use Rattle.desk_store.specs.States.{IsFile}
 use Rattle.desk_store.specs.Tables as tables
 
--- No table, index or view has the name of one of the five, and no table counts without a counter.
+-- No table, index or view has the name of one of the five in either case of its letters, nor has what the database keeps as it is.
 pub record AreAbsent (s : Schema) : Type 0 where
   pub book : is_used s (codes "book") ≡ false
   pub tab : is_used s (codes "tab") ≡ false
   pub para : is_used s (codes "para") ≡ false
   pub corr : is_used s (codes "corr") ≡ false
   pub mark : is_used s (codes "mark") ≡ false
-  pub counted : lacks_sequence s ≡ false
+
+-- A schema with a table that counts its rowids has the counter too. Where it hasn't, making a table makes the counter.
+abbrev pub HasCounter : Schema → Type 0
+HasCounter s = lacks_sequence s ≡ false
 
 -- each index is on a table, so below the tree that the next table takes
 abbrev pub IndexesLow : Schema → Type 0
 IndexesLow s = (i : Index) → Has s.indexes i → i.table < next_tree s
 
--- the schema with the tables, one after another
-abbrev pub with_book : Schema → Schema
-with_book s = created s (tables.book 0)
+-- the schema after each table is made, one upon another
+abbrev pub after_book : Schema → Schema
+after_book s = created s (tables.book 0)
 
-abbrev pub with_tab : Schema → Schema
-with_tab s = created (with_book s) (tables.tab 0)
+abbrev pub after_tab : Schema → Schema
+after_tab s = created (after_book s) (tables.tab 0)
 
-abbrev pub with_para : Schema → Schema
-with_para s = created (with_tab s) (tables.para 0)
+abbrev pub after_para : Schema → Schema
+after_para s = created (after_tab s) (tables.para 0)
 
-abbrev pub with_corr : Schema → Schema
-with_corr s = created (with_para s) (tables.corr 0)
+abbrev pub after_corr : Schema → Schema
+after_corr s = created (after_para s) (tables.corr 0)
 
-abbrev pub with_mark : Schema → Schema
-with_mark s = created (with_corr s) (tables.mark 0)
+abbrev pub after_mark : Schema → Schema
+after_mark s = created (after_corr s) (tables.mark 0)
 
 abbrev pub made : Schema → Layout
 made s = record {
-  schema = with_mark s;
+  schema = after_mark s;
   book = next_tree s;
-  tab = next_tree (with_book s);
-  para = next_tree (with_tab s);
-  corr = next_tree (with_para s);
-  mark = next_tree (with_corr s);
+  tab = next_tree (after_book s);
+  para = next_tree (after_tab s);
+  corr = next_tree (after_para s);
+  mark = next_tree (after_corr s);
 }
 
 -- the rows of the tables that were there, and none of others
 abbrev pub first_rows : Schema → Trees → Trees
 first_rows s rows tree = if nat_lt tree (next_tree s) then rows tree else []
 
-abbrev pub no_contents : Schema → Trees → Contents
-no_contents s rows = record { books = []; tabs = []; paras = []; corrs = []; marks = []; others = first_rows s rows }
+-- no rows in the five tables, beside those of the other trees
+abbrev pub no_contents : Trees → Contents
+no_contents others = record { books = []; tabs = []; paras = []; corrs = []; marks = []; others = others }
 
 -- the row of a new book alone, in format 1 and at version 0
-abbrev pub first_contents : Schema → Trees → Contents
-first_contents s rows = record (no_contents s rows) { books = record { id = pos 1; format = pos 1; version = pos 0 } ∷ [] }
+abbrev pub first_contents : Trees → Contents
+first_contents others = record (no_contents others) { books = record { id = pos 1; format = pos 1; version = pos 0 } ∷ [] }
+
+-- the contents of a new file, beside the tables that were there with the rows that they had
+abbrev pub IsNew : Schema → Trees → (Contents → Type 0) → Type 0
+IsNew s rows P = (others : Trees) × KeepsRows s.tables rows others × P (first_contents others)
 
 -- within a transaction over this commit the schema has come so far, and the tables have those rows
 pub record IsMaking (committed : Database) (first : Schema) (rows : Trees) (now : Schema) (s : State) : Type 0 where
@@ -72,3 +81,20 @@ pub record IsMaking (committed : Database) (first : Schema) (rows : Trees) (now 
   pub later : next_tree first ≤ next_tree now
   pub inside : s.in_transaction ≡ true
   pub over : s.committed ≡ committed
+
+-- the connection is open, and the names are free
+pub record AreFree (names : List (List ℕ)) (s : State) : Type 0 where
+  pub is_open : IsTrue s.is_open
+  pub free : AllByRecursion (λ name. is_used s.now.schema name ≡ false) names
+
+-- a name that is free now was free
+abbrev pub FreesNone : State → State → Type 0
+FreesNone old new = (name : List ℕ) → is_used new.now.schema name ≡ false → is_used old.now.schema name ≡ false
+
+-- What making adds to what a crash may leave: where the names were free, the file with the five tables.
+abbrev pub IsMade : State → Trees → Type 0
+IsMade s db = AreAbsent s.now.schema × (IsLive s → HasCounter s.now.schema → IsNew s.now.schema s.now.trees (λ c. IsFile (made s.now.schema) c db))
+
+-- The last commit is that of before, and the connection shows it, if it is open still.
+abbrev pub IsUndone : State → State → Type 0
+IsUndone old new = KeepsCommit old new × (IsTrue new.is_open → new.now ≡ new.committed)

@@ -1,17 +1,19 @@
 //! The five tables of a new book.
 
-ghost use Rattle.std.specs.Prelude.{◌≡◌, false, OnOk, codes};
+ghost use Rattle.std.specs.Prelude.{◌≡◌, false, true, [], ◌∷◌, IfErr, IsTrue, OnErr, OnOk, codes};
 ghost use Rattle.sqlite_trees.specs.Tree.{Trees};
 ghost use Rattle.sqlite_schema.specs.declared.schema.Schema.{Schema};
 ghost use Rattle.sqlite_catalog.specs.Change.{created, is_used};
 ghost use Rattle.sqlite.specs.Does.{lacks_sequence};
-ghost use Rattle.sqlite.specs.Effect.{Database, IsDatabase};
+ghost use Rattle.sqlite.specs.Effect.{Database};
 ghost use Rattle.sqlite.specs.Held.{state};
-ghost use Rattle.sqlite.specs.State.{HasCleanDisk, Survives};
-ghost use Rattle.desk_store.specs.Making.{AreAbsent, IndexesLow, IsMaking, with_para, made, first_contents};
-ghost use Rattle.desk_store.specs.States.{IsFile, IsUnder, Shows, seen};
+ghost use Rattle.sqlite.specs.State.{HasCleanDisk, IsLive, KeepsCommit, Survives};
+ghost use Rattle.desk_store.specs.Fault.{told};
+ghost use Rattle.desk_store.specs.Making.{AreAbsent, AreFree, FreesNone, HasCounter, IndexesLow, IsMade, IsMaking, IsNew, IsUndone, after_para, made};
+ghost use Rattle.desk_store.specs.States.{IsUnder, Leaves, Shows, seen};
 ghost use Rattle.desk_store.specs.Tables as tables;
 
+use crate::fault::ReadFault;
 use crate::put::put_book;
 use desk_book::rows::BookRow;
 use sqlite::{Alter, Connection, Error, Transaction};
@@ -21,6 +23,8 @@ fn create_book<S: Alter>(tx: &mut Transaction<'_, S>) -> Result<(), Error>
     ensures same_reference { tx.new.conn.ghost_name ≡ tx.old.conn.ghost_name }
     ensures made { HasCleanDisk (seen S.Store tx.new) → (committed : Database) (first : Schema) (rows : Trees) (before : Schema) → IsMaking committed first rows before (seen S.Store tx.old)
         → is_used before (codes "book") ≡ false → lacks_sequence before ≡ false → OnOk result (IsMaking committed first rows (created before (tables.book 0)) (seen S.Store tx.new)) }
+    ensures taken { HasCleanDisk (seen S.Store tx.new) → OnOk result (AreFree (codes "book" ∷ []) (seen S.Store tx.old) × FreesNone (seen S.Store tx.old) (seen S.Store tx.new)) }
+    ensures kept { HasCleanDisk (seen S.Store tx.new) → KeepsCommit (seen S.Store tx.old) (seen S.Store tx.new) }
     ensures survives { Survives (seen S.Store tx.old) (seen S.Store tx.new) (λ _. ⊥) }
 {
     tx.execute(
@@ -35,6 +39,8 @@ fn create_tab<S: Alter>(tx: &mut Transaction<'_, S>) -> Result<(), Error>
     ensures same_reference { tx.new.conn.ghost_name ≡ tx.old.conn.ghost_name }
     ensures made { HasCleanDisk (seen S.Store tx.new) → (committed : Database) (first : Schema) (rows : Trees) (before : Schema) → IsMaking committed first rows before (seen S.Store tx.old)
         → is_used before (codes "tab") ≡ false → lacks_sequence before ≡ false → OnOk result (IsMaking committed first rows (created before (tables.tab 0)) (seen S.Store tx.new)) }
+    ensures taken { HasCleanDisk (seen S.Store tx.new) → OnOk result (AreFree (codes "tab" ∷ []) (seen S.Store tx.old) × FreesNone (seen S.Store tx.old) (seen S.Store tx.new)) }
+    ensures kept { HasCleanDisk (seen S.Store tx.new) → KeepsCommit (seen S.Store tx.old) (seen S.Store tx.new) }
     ensures survives { Survives (seen S.Store tx.old) (seen S.Store tx.new) (λ _. ⊥) }
 {
     tx.execute(
@@ -49,6 +55,8 @@ fn create_para<S: Alter>(tx: &mut Transaction<'_, S>) -> Result<(), Error>
     ensures same_reference { tx.new.conn.ghost_name ≡ tx.old.conn.ghost_name }
     ensures made { HasCleanDisk (seen S.Store tx.new) → (committed : Database) (first : Schema) (rows : Trees) (before : Schema) → IsMaking committed first rows before (seen S.Store tx.old)
         → is_used before (codes "para") ≡ false → lacks_sequence before ≡ false → OnOk result (IsMaking committed first rows (created before (tables.para 0)) (seen S.Store tx.new)) }
+    ensures taken { HasCleanDisk (seen S.Store tx.new) → OnOk result (AreFree (codes "para" ∷ []) (seen S.Store tx.old) × FreesNone (seen S.Store tx.old) (seen S.Store tx.new)) }
+    ensures kept { HasCleanDisk (seen S.Store tx.new) → KeepsCommit (seen S.Store tx.old) (seen S.Store tx.new) }
     ensures survives { Survives (seen S.Store tx.old) (seen S.Store tx.new) (λ _. ⊥) }
 {
     tx.execute(
@@ -63,6 +71,8 @@ fn create_corr<S: Alter>(tx: &mut Transaction<'_, S>) -> Result<(), Error>
     ensures same_reference { tx.new.conn.ghost_name ≡ tx.old.conn.ghost_name }
     ensures made { HasCleanDisk (seen S.Store tx.new) → (committed : Database) (first : Schema) (rows : Trees) (before : Schema) → IsMaking committed first rows before (seen S.Store tx.old)
         → is_used before (codes "corr") ≡ false → lacks_sequence before ≡ false → OnOk result (IsMaking committed first rows (created before (tables.corr 0)) (seen S.Store tx.new)) }
+    ensures taken { HasCleanDisk (seen S.Store tx.new) → OnOk result (AreFree (codes "corr" ∷ []) (seen S.Store tx.old) × FreesNone (seen S.Store tx.old) (seen S.Store tx.new)) }
+    ensures kept { HasCleanDisk (seen S.Store tx.new) → KeepsCommit (seen S.Store tx.old) (seen S.Store tx.new) }
     ensures survives { Survives (seen S.Store tx.old) (seen S.Store tx.new) (λ _. ⊥) }
 {
     tx.execute(
@@ -77,6 +87,8 @@ fn create_mark<S: Alter>(tx: &mut Transaction<'_, S>) -> Result<(), Error>
     ensures same_reference { tx.new.conn.ghost_name ≡ tx.old.conn.ghost_name }
     ensures made { HasCleanDisk (seen S.Store tx.new) → (committed : Database) (first : Schema) (rows : Trees) (before : Schema) → IsMaking committed first rows before (seen S.Store tx.old)
         → is_used before (codes "mark") ≡ false → lacks_sequence before ≡ false → OnOk result (IsMaking committed first rows (created before (tables.mark 0)) (seen S.Store tx.new)) }
+    ensures taken { HasCleanDisk (seen S.Store tx.new) → OnOk result (AreFree (codes "mark" ∷ []) (seen S.Store tx.old) × FreesNone (seen S.Store tx.old) (seen S.Store tx.new)) }
+    ensures kept { HasCleanDisk (seen S.Store tx.new) → KeepsCommit (seen S.Store tx.old) (seen S.Store tx.new) }
     ensures survives { Survives (seen S.Store tx.old) (seen S.Store tx.new) (λ _. ⊥) }
 {
     tx.execute(
@@ -89,8 +101,10 @@ fn create_mark<S: Alter>(tx: &mut Transaction<'_, S>) -> Result<(), Error>
 /// Makes the first three tables.
 fn create_first<S: Alter>(tx: &mut Transaction<'_, S>) -> Result<(), Error>
     ensures same_reference { tx.new.conn.ghost_name ≡ tx.old.conn.ghost_name }
-    ensures made { HasCleanDisk (seen S.Store tx.new) → (committed : Database) (s : Schema) (rows : Trees) → AreAbsent s → IsMaking committed s rows s (seen S.Store tx.old)
-        → OnOk result (IsMaking committed s rows (with_para s) (seen S.Store tx.new)) }
+    ensures made { HasCleanDisk (seen S.Store tx.new) → (committed : Database) (s : Schema) (rows : Trees) → AreAbsent s → HasCounter s → IsMaking committed s rows s (seen S.Store tx.old)
+        → OnOk result (IsMaking committed s rows (after_para s) (seen S.Store tx.new)) }
+    ensures taken { HasCleanDisk (seen S.Store tx.new) → OnOk result (AreFree (codes "book" ∷ codes "tab" ∷ codes "para" ∷ []) (seen S.Store tx.old) × FreesNone (seen S.Store tx.old) (seen S.Store tx.new)) }
+    ensures kept { HasCleanDisk (seen S.Store tx.new) → KeepsCommit (seen S.Store tx.old) (seen S.Store tx.new) }
     ensures survives { Survives (seen S.Store tx.old) (seen S.Store tx.new) (λ _. ⊥) }
 {
     create_book(tx)?;
@@ -102,8 +116,11 @@ fn create_first<S: Alter>(tx: &mut Transaction<'_, S>) -> Result<(), Error>
 /// Makes the other two, and puts the book's row.
 fn create_rest<S: Alter>(tx: &mut Transaction<'_, S>) -> Result<(), Error>
     ensures same_reference { tx.new.conn.ghost_name ≡ tx.old.conn.ghost_name }
-    ensures made { HasCleanDisk (seen S.Store tx.new) → (committed : Database) (s : Schema) (rows : Trees) → AreAbsent s → IndexesLow s → IsMaking committed s rows (with_para s) (seen S.Store tx.old)
-        → OnOk result (IsUnder committed (made s) (first_contents s rows) (seen S.Store tx.new)) }
+    ensures made { HasCleanDisk (seen S.Store tx.new) → (committed : Database) (s : Schema) (rows : Trees) → AreAbsent s → HasCounter s → IndexesLow s → IsMaking committed s rows (after_para s) (seen S.Store tx.old)
+        → OnOk result (IsNew s rows (λ c. IsUnder committed (made s) c (seen S.Store tx.new))) }
+    ensures taken { HasCleanDisk (seen S.Store tx.new) → OnOk result (AreFree (codes "corr" ∷ codes "mark" ∷ []) (seen S.Store tx.old)) }
+    ensures inside { HasCleanDisk (seen S.Store tx.new) → OnOk result ((seen S.Store tx.new).in_transaction ≡ true) }
+    ensures kept { HasCleanDisk (seen S.Store tx.new) → KeepsCommit (seen S.Store tx.old) (seen S.Store tx.new) }
     ensures survives { Survives (seen S.Store tx.old) (seen S.Store tx.new) (λ _. ⊥) }
 {
     create_corr(tx)?;
@@ -122,11 +139,18 @@ fn create_rest<S: Alter>(tx: &mut Transaction<'_, S>) -> Result<(), Error>
 pub fn make_tables<S: Alter>(conn: &mut Connection<S>) -> Result<(), Error>
     requires { conn.old.in_transaction ≡ false }
     ensures idle { conn.new.in_transaction ≡ false }
-    ensures made { HasCleanDisk (state S.Store conn.new) → AreAbsent (state S.Store conn.old).now.schema → IsDatabase (state S.Store conn.old).now
-        → OnOk result (Shows (made (state S.Store conn.old).now.schema) (first_contents (state S.Store conn.old).now.schema (state S.Store conn.old).now.trees) (state S.Store conn.new)) }
-    // Of a crash at any exit: nothing new is left but all of it.
-    ensures crash { AreAbsent (state S.Store conn.old).now.schema → IsDatabase (state S.Store conn.old).now
-        → Survives (state S.Store conn.old) (state S.Store conn.new) (IsFile (made (state S.Store conn.old).now.schema) (first_contents (state S.Store conn.old).now.schema (state S.Store conn.old).now.trees)) }
+    // Where a name is taken, the answer is an error.
+    ensures free { HasCleanDisk (state S.Store conn.new) → OnOk result (AreAbsent (state S.Store conn.old).now.schema) }
+    ensures made { HasCleanDisk (state S.Store conn.new) → IsLive (state S.Store conn.old) → HasCounter (state S.Store conn.old).now.schema
+        → OnOk result (IsNew (state S.Store conn.old).now.schema (state S.Store conn.old).now.trees (λ c. Shows (made (state S.Store conn.old).now.schema) c (state S.Store conn.new))) }
+    ensures open { HasCleanDisk (state S.Store conn.new) → OnOk result (IsTrue (state S.Store conn.new).is_open × ((state S.Store conn.new).committed ≡ (state S.Store conn.new).now)) }
+    // Of a crash at any exit: nothing new is left but all of it, and that only where no name was taken.
+    ensures crash { Survives (state S.Store conn.old) (state S.Store conn.new) (IsMade (state S.Store conn.old)) }
+    // At `Ok` it leaves nothing else.
+    ensures settled { HasCleanDisk (state S.Store conn.new) → OnOk result (Leaves (IsMade (state S.Store conn.old)) (state S.Store conn.new)) }
+    ensures undone { HasCleanDisk (state S.Store conn.new) → OnErr result (IsUndone (state S.Store conn.old) (state S.Store conn.new)) }
+    // After a refusal a crash leaves nothing new.
+    ensures refused { HasCleanDisk (state S.Store conn.new) → IfErr result (λ e. told e ≡ ReadFault.Refused → Survives (state S.Store conn.old) (state S.Store conn.new) (λ _. ⊥)) }
 {
     let mut tx = conn.transaction();
     create_first(&mut tx)?;

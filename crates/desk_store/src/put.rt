@@ -3,10 +3,10 @@
 //! Each runs within a transaction and takes out no row. At `Ok` the rows of its table are those before with the row in place of the
 //! one with its key, or with it more, those of the other tables stay, and nothing is committed. The error is the database's.
 
-ghost use Rattle.std.specs.Prelude.{◌≡◌, [], ◌∷◌, OnOk};
+ghost use Rattle.std.specs.Prelude.{◌≡◌, true, [], ◌∷◌, OnOk};
 ghost use Rattle.sqlite_value.specs.declared.value.Value.TheVariants.{Int};
 ghost use Rattle.sqlite.specs.Effect.{Database};
-ghost use Rattle.sqlite.specs.State.{HasCleanDisk, Survives};
+ghost use Rattle.sqlite.specs.State.{HasCleanDisk, KeepsCommit, Survives};
 ghost use Rattle.sqlite.specs.Values.{bound};
 ghost use Rattle.desk_store.specs.Layout.{Layout};
 ghost use Rattle.desk_store.specs.Contents.{Contents, book_row, tab_row, para_row, corr_row, mark_row, with_book, with_tab, with_para, with_corr, with_mark, with_place, with_version};
@@ -88,6 +88,8 @@ pub(crate) fn put_book<S: Alter>(tx: &mut Transaction<'_, S>, row: &BookRow) -> 
     ensures same_reference { tx.new.conn.ghost_name ≡ tx.old.conn.ghost_name }
     ensures put { HasCleanDisk (seen S.Store tx.new) → (committed : Database) (l : Layout) (c : Contents) → IsUnder committed l c (seen S.Store tx.old)
         → OnOk result (IsUnder committed l (with_book row.now c) (seen S.Store tx.new)) }
+    ensures inside { HasCleanDisk (seen S.Store tx.new) → OnOk result ((seen S.Store tx.new).in_transaction ≡ true) }
+    ensures kept { HasCleanDisk (seen S.Store tx.new) → KeepsCommit (seen S.Store tx.old) (seen S.Store tx.new) }
     ensures survives { Survives (seen S.Store tx.old) (seen S.Store tx.new) (λ _. ⊥) }
 {
     let columns = book_columns(row);

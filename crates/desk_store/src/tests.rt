@@ -171,3 +171,35 @@ fn what_is_written_is_there_again(rt: HostRuntime) -> Result<(), Fail> {
     assert_eq!(rt; paras[0].print.as_str(), "a");
     Ok(())
 }
+
+#[test]
+fn a_taken_name_is_refused_and_kept(rt: HostRuntime) -> Result<(), Fail> {
+    let mut conn = Connection::open_in_memory(rt.alloc())?;
+    conn.execute_batch("CREATE VIEW Corr AS SELECT 1 AS one;")?;
+    if !conn.is_autocommit() {
+        return Err("in a transaction".into());
+    }
+    assert!(rt; make_tables(&mut conn).is_err());
+    assert!(rt; read_books(rt.alloc(), &mut conn).err() == Some(ReadFault::Refused));
+    let one: i64 = conn.query_row("SELECT one FROM corr", &[])?.get(0)?;
+    assert_eq!(rt; one, 1);
+    Ok(())
+}
+
+#[test]
+fn a_further_index_may_stand(rt: HostRuntime) -> Result<(), Fail> {
+    let mut conn = file(rt.alloc())?;
+    conn.execute_batch("CREATE INDEX by_place ON para (place);")?;
+    if !conn.is_autocommit() {
+        return Err("in a transaction".into());
+    }
+    let one = para(rt.alloc(), 1, 2, "a")?;
+    write(
+        &mut conn,
+        &[Put::Para(&one), Put::Place { id: 1, place: 7 }],
+    )?;
+    let paras = read_paras(rt.alloc(), &mut conn).ok().ok_or("read")?;
+    assert_eq!(rt; paras.len(), 1);
+    assert_eq!(rt; paras[0].place, 7);
+    Ok(())
+}
