@@ -8,7 +8,7 @@ name=$1 top=$PWD
 scratch=$(mktemp -d); trap 'rm -rf "$scratch"' EXIT
 cp -r crates "$scratch/crates"
 cp -r "bench/$name" "$scratch/crates/$name"
-cat crates.txt bench/crates.txt > "$scratch/crates.txt"
+cat crates.txt bench/programs > "$scratch/crates.txt"
 cp HANDLES "$scratch"
 cd "$scratch/crates/$name"
 "${RT:-rt}" run "$name" > "$scratch/log" 2>&1 < /dev/null || { cat "$scratch/log" >&2; exit 1; }
