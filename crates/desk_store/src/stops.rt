@@ -65,17 +65,18 @@ struct Rows {
     marks: Vec<MarkRow>,
 }
 
-fn memory(alloc: Global, bytes: &[u8]) -> io::Result<Memory> {
+/// A file with these bytes, which passes so many calls on.
+fn fused(alloc: Global, bytes: &[u8], calls: u64) -> io::Result<Fuse<Memory>> {
     let mut file = Memory::new(alloc);
     file.write_at(0, bytes)?;
     file.sync()?;
-    Ok(file)
+    Ok(Fuse::new(file, calls))
 }
 
-/// The files with these bytes, each of which passes so many calls on.
-fn fused(alloc: Global, held: &Bytes, log: u64, db: u64) -> io::Result<Files<Fuse<Memory>>> {
-    let log = Fuse::new(memory(alloc, held.log.as_slice())?, log);
-    let db = Fuse::new(memory(alloc, held.db.as_slice())?, db);
+/// Files with these bytes, each of which passes so many calls on.
+fn both(alloc: Global, held: &Bytes, log: u64, db: u64) -> io::Result<Files<Fuse<Memory>>> {
+    let log = fused(alloc, held.log.as_slice(), log)?;
+    let db = fused(alloc, held.db.as_slice(), db)?;
     Ok(Files { log, db })
 }
 
@@ -208,15 +209,19 @@ fn list<S: Alter>(alloc: Global, conn: &mut Connection<S>) -> Result<String, Fai
 /// The rows that these files show.
 fn shown_by<D: Disk + Drop>(alloc: Global, files: Files<D>) -> Result<String, Fail> {
     match open(alloc, files) {
-        Ok(mut conn) => list(alloc, &mut conn),
-        Err(_) => Err("the files can't be opened again".into()),
+        Ok(mut conn) => {
+            let text = list(alloc, &mut conn);
+            let (_, _files) = close(conn);
+            text
+        }
+        Err(_files) => Err("the files can't be opened again".into()),
     }
 }
 
 /// The rows that files with these bytes show.
 fn shown(alloc: Global, log: &[u8], db: &[u8]) -> Result<String, Fail> {
-    let log = memory(alloc, log)?;
-    let db = memory(alloc, db)?;
+    let log = fused(alloc, log, u64::MAX)?;
+    let db = fused(alloc, db, u64::MAX)?;
     shown_by(alloc, Files { log, db })
 }
 
@@ -229,7 +234,7 @@ fn held(alloc: Global, files: &Files<Fuse<Memory>>) -> Result<Bytes, Fail> {
 
 /// What is left where no file is stopped.
 fn unstopped(alloc: Global, start: &Bytes, what: Change<'_>) -> Result<Bytes, Fail> {
-    let (ended, files) = run(alloc, fused(alloc, start, u64::MAX, u64::MAX)?, what);
+    let (ended, files) = run(alloc, both(alloc, start, u64::MAX, u64::MAX)?, what);
     if ended != Ended::Closed {
         return Err("a run failed with no stop".into());
     }
@@ -304,8 +309,8 @@ fn stopped_after(
     calls: u64,
 ) -> io::Result<Files<Fuse<Memory>>> {
     match stopped {
-        Stopped::Database => fused(alloc, start, u64::MAX, calls),
-        Stopped::Journal => fused(alloc, start, calls, u64::MAX),
+        Stopped::Database => both(alloc, start, u64::MAX, calls),
+        Stopped::Journal => both(alloc, start, calls, u64::MAX),
     }
 }
 
