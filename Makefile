@@ -1,6 +1,7 @@
 # make          proves all crates and builds build/braildesk
 # make demo     does that, and shows the main job on a sample
-# make test     the gate: proves from nothing, tries the must-fail edits, runs the tests and the stored run
+# make test     the gate: proves from nothing, tries the must-fail edits, runs the tests and the stored run, and holds a
+#               file beside sqlite3, which has to be installed
 # make bench    measures speed
 # make install  copies the program to $(DESTDIR)$(PREFIX)/bin
 
@@ -30,11 +31,13 @@ demo: $(PROGRAM)
 
 test:
 	$(RT) ci
+	RT='$(RT)' tests/sqlite3.sh
 
 bench: $(PROGRAM)
 	bench/translate.sh
 	bench/tables.sh
 	bench/typing.sh
+	bench/rows.sh
 
 install: $(PROGRAM)
 	install -d '$(DESTDIR)$(PREFIX)/bin'

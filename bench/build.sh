@@ -1,16 +1,25 @@
 #!/bin/bash
-# Proves and builds the program in bench/NAME over the crates of this repository, as build/NAME. This is done in a copy that is
-# thrown away, with the work that earlier checks kept; from nothing it takes some minutes.
-#   bench/build.sh NAME
+# Proves and builds the program bench/NAME.rattle, and prints where it is. It stands on copies of the repository's crates in build/bench,
+# where what is proved is kept for the next time.
+#   bench/build.sh NAME ARGUMENTS    the arguments are those of a first run, which has to end well
 set -eu
 cd "$(dirname "$0")/.."
-name=$1 top=$PWD
-scratch=$(mktemp -d); trap 'rm -rf "$scratch"' EXIT
-cp -r crates "$scratch/crates"
-cp -r "bench/$name" "$scratch/crates/$name"
-cat crates.txt bench/programs > "$scratch/crates.txt"
-cp HANDLES "$scratch"
-cd "$scratch/crates/$name"
-"${RT:-rt}" run "$name" > "$scratch/log" 2>&1 < /dev/null || { cat "$scratch/log" >&2; exit 1; }
-mkdir -p "$top/build"
-cp "out/$name" "$top/build/$name"
+name=$1 copy=$PWD/build/bench
+shift
+mkdir -p "$copy/crates/$name/src"
+for crate in crates/*/; do
+    crate=${crate%/}
+    mkdir -p "$copy/$crate"
+    for part in src specs proofs; do
+        rm -rf "${copy:?}/$crate/$part"
+        [ ! -d "$crate/$part" ] || cp -Rp "$crate/$part" "$copy/$crate"
+    done
+    [ -d "$copy/$crate/out" ] || [ ! -d "$crate/out" ] || cp -Rp "$crate/out" "$copy/$crate"
+done
+cp "bench/$name.rattle" "$copy/crates/$name/src/main.rt"
+cp HANDLES "$copy"
+cat crates.txt bench/programs > "$copy/crates.txt"
+echo "Proving and building bench/$name.rattle, with all that it stands on. The first time this takes some minutes." >&2
+told=$(mktemp); trap 'rm -f "$told"' EXIT
+(cd "$copy/crates/$name" && "${RT:-rt}" run -- "$@") > "$told" 2>&1 < /dev/null || { cat "$told" >&2; exit 1; }
+echo "$copy/crates/$name/out/$name"

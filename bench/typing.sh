@@ -1,8 +1,8 @@
 #!/bin/bash
-# Types 10, 100, 1,000 and 10,000 paragraphs of a sentence into a book in memory, and prints commands a second for each: how many
-# are planned and put in, with the supplied table.
+# Types 10, 100, 1,000 and 10,000 paragraphs of a sentence into a book in memory, with the supplied table, and prints for each how many
+# commands a second were planned and put in.
 #   bench/typing.sh
 set -eu
 cd "$(dirname "$0")/.."
-[ -x build/typing ] && [ build/typing -nt bench/typing/src/main.rt ] || bench/build.sh typing
-build/typing 10 100 1000 10000
+program=$(bench/build.sh typing)
+"$program" 10 100 1000 10000

@@ -18,4 +18,6 @@ pub use read::{read_books, read_corrs, read_marks, read_paras, read_tabs};
 pub use transaction::write;
 
 #[cfg(test)]
+mod stops;
+#[cfg(test)]
 mod tests;

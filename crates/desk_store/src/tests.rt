@@ -24,7 +24,7 @@ fn file(alloc: Global) -> Result<Connection<MemStore>, Fail>
     Ok(conn)
 }
 
-fn para(alloc: Global, id: i64, place: i64, print: &str) -> Result<ParaRow, Fail> {
+pub(crate) fn para(alloc: Global, id: i64, place: i64, print: &str) -> Result<ParaRow, Fail> {
     Ok(ParaRow {
         id,
         place,
@@ -37,7 +37,7 @@ fn para(alloc: Global, id: i64, place: i64, print: &str) -> Result<ParaRow, Fail
     })
 }
 
-fn tab(alloc: Global, name: &str, body: &[u8]) -> Result<TabRow, Fail> {
+pub(crate) fn tab(alloc: Global, name: &str, body: &[u8]) -> Result<TabRow, Fail> {
     Ok(TabRow {
         name: String::from_str(alloc, name)?,
         body: Vec::from_slice(alloc, body)?,

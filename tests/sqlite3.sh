@@ -1,0 +1,86 @@
+#!/bin/bash
+# Holds the rows' file beside sqlite3: a file that make_tables and write made is shown by sqlite3 with the same rows and
+# declarations, and a file that sqlite3 made is read here with the same rows.
+#   tests/sqlite3.sh
+# The program tests/rows.rattle, which makes and shows the files, is built by `rt try` in a scratch folder, and is not proved.
+set -eu
+cd "$(dirname "$0")/.."
+rt=${RT:-rt}
+fail() { echo "tests/sqlite3.sh: $*" >&2; exit 1; }
+command -v sqlite3 > /dev/null || fail 'sqlite3 is missing: install it, as by apt-get install sqlite3'
+scratch=$(mktemp -d); trap 'rm -rf "$scratch"' EXIT
+
+# how a new file declares the five tables
+declarations='CREATE TABLE book (id INTEGER NOT NULL PRIMARY KEY, format INTEGER NOT NULL, version INTEGER NOT NULL) STRICT;
+CREATE TABLE tab (name TEXT NOT NULL PRIMARY KEY, body BLOB NOT NULL) STRICT;
+CREATE TABLE para (id INTEGER NOT NULL PRIMARY KEY, place INTEGER NOT NULL, tab TEXT NOT NULL, original TEXT NOT NULL, print TEXT NOT NULL, style INTEGER NOT NULL, volume INTEGER NOT NULL, struck INTEGER NOT NULL) STRICT;
+CREATE TABLE corr (para INTEGER NOT NULL, seq INTEGER NOT NULL, kind INTEGER NOT NULL, start INTEGER NOT NULL, len INTEGER NOT NULL, body TEXT NOT NULL, PRIMARY KEY (para, seq)) STRICT;
+CREATE TABLE mark (id INTEGER NOT NULL PRIMARY KEY, para INTEGER NOT NULL, start INTEGER NOT NULL, stop INTEGER NOT NULL, note TEXT NOT NULL, touched INTEGER NOT NULL, resolved INTEGER NOT NULL) STRICT;'
+
+# the rows of a file, as the program shows them
+rows() { # FILE
+    sqlite3 -batch -bail -init /dev/null "$1" "
+        SELECT 'book', quote(id), quote(format), quote(version) FROM book ORDER BY id;
+        SELECT 'tab', rowid, quote(name), quote(body) FROM tab ORDER BY name;
+        SELECT 'para', quote(id), quote(place), quote(tab), quote(original), quote(print), quote(style), quote(volume),
+            quote(struck) FROM para ORDER BY id;
+        SELECT 'corr', quote(para), quote(seq), quote(kind), quote(start), quote(len), quote(body) FROM corr ORDER BY para, seq;
+        SELECT 'mark', quote(id), quote(para), quote(start), quote(stop), quote(note), quote(touched), quote(resolved)
+            FROM mark ORDER BY id;"
+}
+# the columns and keys of the five tables
+columns() { # FILE
+    local table
+    for table in book tab para corr mark; do
+        sqlite3 -batch -bail -init /dev/null "$1" "PRAGMA table_info($table); PRAGMA index_list($table);"
+    done
+}
+same() { # WHAT EXPECTED FOUND
+    diff "$2" "$3" > "$scratch/diff" || { cat "$scratch/diff" >&2; fail "$1 differ (< expected, > found)"; }
+    echo "ok  $1"
+}
+
+# a file that sqlite3 makes, with other things beside the five tables
+sqlite3 -batch -bail -init /dev/null "$scratch/other.db" "$declarations
+    CREATE TABLE note (id INTEGER PRIMARY KEY, para INTEGER REFERENCES para ON DELETE CASCADE, body TEXT);
+    CREATE INDEX note_by_para ON note (para);
+    CREATE VIEW heading AS SELECT id, print FROM para WHERE style = 1;
+    INSERT INTO book VALUES (1, 1, 9007199254740993), (-2, -9223372036854775808, 0);
+    INSERT INTO tab VALUES ('zz', X'00FF80'), ('en', CAST('letter a 1' AS BLOB)), ('ä⠁𝔘', X'');
+    INSERT INTO para VALUES (3, 1, 'en', 'it''s', 'it' || char(10) || 's ⠏', 1, 0, 0), (-4, 2, '', '', '', -1, 255, 65536);
+    INSERT INTO corr VALUES (3, 2, 0, 1, 1, 'ß'), (3, 1, 1, 0, 0, ''), (-4, 1, 0, -1, -128, '|');
+    INSERT INTO mark VALUES (2, 3, 0, 2, 'look', 0, 1), (1, -4, 9223372036854775807, 0, '', 1, 0);
+    INSERT INTO note VALUES (1, 3, 'beside');"
+
+# both runs of the program, over one build
+mkdir -p "$scratch/crates/rows/src" "$scratch/cases"
+tar -c --exclude=out crates | tar -x -C "$scratch"
+cp tests/rows.rattle "$scratch/crates/rows/src/main.rt"
+[ ! -e HANDLES ] || cp HANDLES "$scratch"
+{ cat crates.txt; echo 'rows: desk_book desk_store sqlite hex anyhow'; } > "$scratch/crates.txt"
+: > "$scratch/cases/make"; echo make > "$scratch/cases/make.args"
+: > "$scratch/cases/show"; printf 'show\nother.db\n' > "$scratch/cases/show.args"
+rows "$scratch/other.db" > "$scratch/cases/show.stdout"
+(cd "$scratch/crates/rows" && "$rt" try --cases "$scratch/cases" --data other.db="$scratch/other.db") > "$scratch/told" 2> "$scratch/errors" ||
+    { cat "$scratch/told" "$scratch/errors" >&2; fail 'the program rows failed, or shows other rows of the file that sqlite3 made'; }
+echo 'ok  the rows of a file that sqlite3 made'
+
+# the file that the program made, from the hex digits that it printed
+sed -n 's/^file //p' "$scratch/told" > "$scratch/hex"
+[ -s "$scratch/hex" ] || { cat "$scratch/told" "$scratch/errors" >&2; fail 'the program rows made no file'; }
+python3 -c 'import sys; sys.stdout.buffer.write(bytes.fromhex(sys.stdin.read()))' < "$scratch/hex" > "$scratch/made.db"
+sed -n '/^== make$/,/^file /p' "$scratch/told" | sed -e 1d -e '$d' > "$scratch/made.rows"
+for table in book tab para corr mark; do
+    [ "$(grep -c "^$table|" "$scratch/made.rows")" -ge 5 ] || fail "the file that was made here lacks rows of $table"
+done
+rows "$scratch/made.db" > "$scratch/found"
+same 'the rows of a file that was made here, shown by sqlite3' "$scratch/made.rows" "$scratch/found"
+echo "$declarations" > "$scratch/expected"
+sqlite3 -batch -init /dev/null "$scratch/made.db" .schema > "$scratch/found"
+same 'its declarations' "$scratch/expected" "$scratch/found"
+columns "$scratch/other.db" > "$scratch/expected"
+columns "$scratch/made.db" > "$scratch/found"
+same 'its columns and keys' "$scratch/expected" "$scratch/found"
+echo ok > "$scratch/expected"
+sqlite3 -batch -init /dev/null "$scratch/made.db" 'PRAGMA integrity_check' > "$scratch/found"
+same 'its integrity' "$scratch/expected" "$scratch/found"
