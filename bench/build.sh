@@ -1,10 +1,10 @@
 #!/bin/bash
-# Proves and builds the program bench/NAME.rattle, and prints where it is. It stands on copies of the repository's crates in build/bench,
-# where what is proved is kept for the next time.
+# Proves and builds the program bench/NAME.rattle, and prints where it is. It stands on copies of the repository's crates outside of it,
+# in the user's cache (~/.cache/braildesk), where what is proved is kept for the next time.
 #   bench/build.sh NAME ARGUMENTS    the arguments are those of a first run, which has to end well
 set -eu
 cd "$(dirname "$0")/.."
-name=$1 copy=$PWD/build/bench
+name=$1 copy=${XDG_CACHE_HOME:-$HOME/.cache}/braildesk
 shift
 mkdir -p "$copy/crates/$name/src"
 for crate in crates/*/; do
