@@ -24,6 +24,7 @@ pub mod SetVersion
 pub mod Committing
 pub mod Orders
 pub mod Quiet
+pub mod Asking
 pub mod Faults
 pub mod Reading
 pub mod RowKinds

@@ -5,4 +5,5 @@ pub mod Contents
 pub mod States
 pub mod Puts
 pub mod Fault
+pub mod Asked
 pub mod Making

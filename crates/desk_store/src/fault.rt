@@ -1,7 +1,6 @@
 //! Why the rows can't be read.
 
-ghost use Rattle.std.specs.Prelude.{◌≡◌};
-ghost use Rattle.desk_store.specs.Fault.{told};
+ghost use Rattle.desk_store.specs.Fault.{IsToldAs};
 
 use sqlite::{Error, ErrorCode};
 
@@ -19,7 +18,7 @@ pub enum ReadFault {
 impl ReadFault {
     /// How an error of the database is told.
     pub(crate) fn of(error: Error) -> ReadFault
-        ensures { result ≡ told error }
+        ensures { IsToldAs error result }
     {
         match error {
             Error::SqliteFailure(ErrorCode::OutOfMemory) => ReadFault::NoMemory,
