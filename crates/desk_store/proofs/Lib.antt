@@ -38,3 +38,7 @@ pub mod ReadPara
 pub mod PutPara
 pub mod PutMark
 pub mod PutBook
+pub mod Schemas
+pub mod Apart
+pub mod OneList
+pub mod WholeFile

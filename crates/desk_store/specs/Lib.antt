@@ -7,3 +7,4 @@ pub mod Puts
 pub mod Fault
 pub mod Asked
 pub mod Making
+pub mod Whole

@@ -1,14 +1,19 @@
 //! The file of one book, as a SQLite database.
 #![tactic(auto)]
 
+mod crash;
 mod fault;
+pub mod laws;
 mod make;
+mod open;
 mod put;
 mod read;
 mod transaction;
 
+pub use crash::{reopen, reopen_after_write};
 pub use fault::ReadFault;
 pub use make::make_tables;
+pub use open::open_file;
 pub use read::{read_books, read_corrs, read_marks, read_paras, read_tabs};
 pub use transaction::write;
 

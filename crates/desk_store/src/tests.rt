@@ -1,7 +1,8 @@
 ghost use Rattle.std.specs.Prelude.{◌≡◌, false, IfOk};
 
 use crate::{
-    ReadFault, make_tables, read_books, read_corrs, read_marks, read_paras, read_tabs, write,
+    ReadFault, make_tables, read_books, read_corrs, read_marks, read_paras, read_tabs,
+    reopen_after_write, write,
 };
 use desk_book::rows::{BookRow, CorrRow, MarkRow, ParaRow, Put, TabRow};
 use sqlite::{Connection, MemStore};
@@ -151,5 +152,22 @@ fn an_entry_that_is_there_is_refused(rt: HostRuntime) -> Result<(), Fail> {
 fn a_missing_table_is_refused(rt: HostRuntime) -> Result<(), Fail> {
     let mut conn = Connection::open_in_memory(rt.alloc())?;
     assert!(rt; read_paras(rt.alloc(), &mut conn).err() == Some(ReadFault::Refused));
+    Ok(())
+}
+
+#[test]
+fn what_is_written_is_there_again(rt: HostRuntime) -> Result<(), Fail> {
+    let conn = file(rt.alloc())?;
+    let first = para(rt.alloc(), 1, 1, "a")?;
+    let puts = [Put::Para(&first), Put::Version(2)];
+    let reopened = reopen_after_write(rt.alloc(), conn, &puts);
+    let (answer, mut again) = reopened.ok().ok_or("open")?;
+    answer?;
+    let books = read_books(rt.alloc(), &mut again).ok().ok_or("read")?;
+    assert_eq!(rt; books.len(), 1);
+    assert_eq!(rt; books[0].version, 2);
+    let paras = read_paras(rt.alloc(), &mut again).ok().ok_or("read")?;
+    assert_eq!(rt; paras.len(), 1);
+    assert_eq!(rt; paras[0].print.as_str(), "a");
     Ok(())
 }

@@ -1,0 +1,104 @@
+-- A file has one contents, which are the rows that were read of it.
+use Rattle.std.proofs.Common.{◌≡◌, List, [], ◌∷◌, map, filter, drop, length, refl, sym, ap, subst, subst₂, ◌∙◌, ◌↔◌, bytes_eq, IsPermutation, arith}
+use Rattle.std.specs.List.{AllByRecursion, IsDistinct}
+use Rattle.std.proofs.lemmas.List.Sorted.{IsPermutation-map, length_permutation}
+use Rattle.std.proofs.lemmas.Slice.Eq.{bytes_eq-Decides}
+use Rattle.sqlite_schema.specs.declared.schema.Table.{Table}
+use Rattle.sqlite_value.specs.Order.{Row}
+use Rattle.sqlite_trees.specs.Tree.{Trees}
+use Rattle.sqlite_trees.proofs.ListLemmas.{IsPermutation-filter}
+use Rattle.sqlite_catalog.specs.Listing.{IsSound}
+use Rattle.desk_book.specs.Rows.{Tab, StoredTab}
+use Rattle.desk_store.specs.Contents.{Contents, Lists, Holds, book_row, tab_row, stored_tab_row, para_row, corr_row, mark_row, book_columns, tab_columns, stored_tab_columns, para_columns, corr_columns, mark_columns}
+use Rattle.desk_store.specs.Layout.{Layout, AreDeclared, IsOther}
+use Rattle.desk_store.specs.States.{IsFile}
+use Rattle.desk_store.specs.Whole.{HaveSameRows, Rows, AreRows, AreApart, contents_of}
+use Rattle.desk_store.proofs.Apart.{once, have_rowids}
+use Rattle.desk_store.proofs.OneList.{one_books, one_tabs, one_paras, one_corrs, one_marks, other_order}
+
+joined : (l : Layout) (a b c : Trees) (tables : List Table) → AllByRecursion (λ t. IsOther l t.tree → a t.tree ≡ b t.tree) tables → AllByRecursion (λ t. IsOther l t.tree → a t.tree ≡ c t.tree) tables
+    → AllByRecursion (λ t. IsOther l t.tree → b t.tree ≡ c t.tree) tables
+joined l a b c [] p q = tt
+joined l a b c (t ∷ tables) p q = ((λ other. sym (p.0 other) ∙ q.0 other), joined l a b c tables p.1 q.1)
+
+chained : (l : Layout) (a b c : Trees) (tables : List Table) → AllByRecursion (λ t. IsOther l t.tree → a t.tree ≡ b t.tree) tables → AllByRecursion (λ t. IsOther l t.tree → b t.tree ≡ c t.tree) tables
+    → AllByRecursion (λ t. IsOther l t.tree → a t.tree ≡ c t.tree) tables
+chained l a b c [] p q = tt
+chained l a b c (t ∷ tables) p q = ((λ other. p.0 other ∙ q.0 other), chained l a b c tables p.1 q.1)
+
+same_rows : (l : Layout) (c d : Contents) (db : Trees) → Holds l c db → Holds l d db → HaveSameRows l c d
+same_rows l c d db p q = record {
+  books = one_books book_columns _ _ _ p.books q.books;
+  tabs = one_tabs tab_columns _ _ _ p.tabs q.tabs;
+  paras = one_paras para_columns _ _ _ p.paras q.paras;
+  corrs = one_corrs corr_columns _ _ _ p.corrs q.corrs;
+  marks = one_marks mark_columns _ _ _ p.marks q.marks;
+  others = joined l db c.others d.others l.schema.tables p.others q.others;
+}
+
+holds_too : (l : Layout) (c d : Contents) (db : Trees) → Holds l c db → HaveSameRows l c d → Holds l d db
+holds_too l c d db p same = record {
+  books = other_order book_row book_columns _ _ _ same.books p.books;
+  tabs = other_order tab_row tab_columns _ _ _ same.tabs p.tabs;
+  paras = other_order para_row para_columns _ _ _ same.paras p.paras;
+  corrs = other_order corr_row corr_columns _ _ _ same.corrs p.corrs;
+  marks = other_order mark_row mark_columns _ _ _ same.marks p.marks;
+  others = chained l db c.others d.others l.schema.tables p.others same.others;
+  book_ids = p.book_ids;
+  tab_ids = p.tab_ids;
+  para_ids = p.para_ids;
+  mark_ids = p.mark_ids;
+  tab_names = λ name.
+      let few = p.tab_names name in
+      let many = length_permutation _ _ (IsPermutation-filter (λ (t : Tab). bytes_eq t.name name) _ _ same.tabs) in
+      omega (arith, few, many);
+}
+
+pub one_contents : (l : Layout) (c d : Contents) (db : Trees) → IsFile l c db → (IsFile l d db ↔ HaveSameRows l c d)
+one_contents l c d db is = (
+  (λ other. same_rows l c d db is.holds other.holds),
+  (λ same. record { declared = is.declared; sound = is.sound; holds = holds_too l c d db is.holds same }),
+)
+
+-- ---- what was read
+
+abbrev less_rowid : Row → Row
+less_rowid = drop 1
+
+tabs_less : (tabs : List StoredTab) → map less_rowid (map stored_tab_row tabs) ≡ map tab_row (map (λ t. t.row) tabs)
+tabs_less [] = refl
+tabs_less (t ∷ tabs) = ap (λ rows. tab_row t.row ∷ rows) (tabs_less tabs)
+
+rows_less : (rows : List Row) → map less_rowid (map stored_tab_columns rows) ≡ map tab_columns rows
+rows_less [] = refl
+rows_less (r ∷ rows) = ap (λ more. tab_columns r ∷ more) (rows_less rows)
+
+tabs_listed : (tabs : List StoredTab) (rows : List Row) → Lists stored_tab_row stored_tab_columns tabs rows → Lists tab_row tab_columns (map (λ t. t.row) tabs) rows
+tabs_listed tabs rows lists = subst₂ IsPermutation (tabs_less tabs) (rows_less rows) (IsPermutation-map less_rowid _ _ lists)
+
+names_of : (tabs : List StoredTab) → map (λ (t : StoredTab). t.row.name) tabs ≡ map (λ (t : Tab). t.name) (map (λ t. t.row) tabs)
+names_of [] = refl
+names_of (t ∷ tabs) = ap (λ names. t.row.name ∷ names) (names_of tabs)
+
+all_same : (l : Layout) (db : Trees) (tables : List Table) → AllByRecursion (λ t. IsOther l t.tree → db t.tree ≡ db t.tree) tables
+all_same l db [] = tt
+all_same l db (t ∷ tables) = ((λ other. refl), all_same l db tables)
+
+pub is_file : (l : Layout) (rows : Rows) (db : Trees) → AreDeclared l → IsSound l.schema db → AreRows l rows db → AreApart rows → IsFile l (contents_of rows db) db
+is_file l rows db declared sound are apart = record {
+  declared = declared;
+  sound = sound;
+  holds = record {
+    books = are.books;
+    tabs = tabs_listed rows.tabs (db l.tab) are.tabs;
+    paras = are.paras;
+    corrs = are.corrs;
+    marks = are.marks;
+    others = all_same l db l.schema.tables;
+    book_ids = have_rowids book_row book_columns (λ b. b.id) (λ b. refl) (λ r. refl) rows.books _ are.books apart.books;
+    tab_ids = have_rowids stored_tab_row stored_tab_columns (λ t. t.rowid) (λ t. refl) (λ r. refl) rows.tabs _ are.tabs apart.tabs;
+    para_ids = have_rowids para_row para_columns (λ p. p.id) (λ p. refl) (λ r. refl) rows.paras _ are.paras apart.paras;
+    mark_ids = have_rowids mark_row mark_columns (λ m. m.id) (λ m. refl) (λ r. refl) rows.marks _ are.marks apart.marks;
+    tab_names = λ name. once bytes_eq bytes_eq-Decides (λ (t : Tab). t.name) name (map (λ t. t.row) rows.tabs) (subst (IsDistinct bytes_eq) (names_of rows.tabs) apart.names);
+  };
+}

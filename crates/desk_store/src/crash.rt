@@ -1,0 +1,61 @@
+//! A crash, and what is opened after it.
+
+ghost use Rattle.std.specs.Prelude.{◌≡◌, ◌⊎◌, false, IfOk, OnOk};
+ghost use Rattle.sqlite.specs.Held.{state};
+ghost use Rattle.sqlite.specs.State.{HasCleanDisk, IsLive, Opens};
+ghost use Rattle.desk_store.specs.Contents.{Contents};
+ghost use Rattle.desk_store.specs.Layout.{Layout};
+ghost use Rattle.desk_store.specs.Puts.{with_puts};
+ghost use Rattle.desk_store.specs.States.{IsFile, Leaves, Shows};
+
+use crate::fault::ReadFault;
+use crate::open::open_file;
+use crate::transaction::write;
+use desk_book::rows::Put;
+use sqlite::{Alter, Connection, Error};
+use sqlite_trees::error::StoreError;
+use sqlite_trees::store::Reopen;
+use std::alloc::Global;
+
+/// Has the store crash under a connection, and opens what is left.
+pub fn reopen<S: Alter + Reopen + Drop>(
+    alloc: Global,
+    conn: Connection<S>,
+) -> Result<Connection<S>, ReadFault>
+    ensures opens { IfOk result (λ after. HasCleanDisk (state S.Store after) → Opens (state S.Store after) × IsLive (state S.Store after)) }
+    ensures found { IfOk result (λ after. HasCleanDisk (state S.Store after) → (state S.Store conn).may_leave (state S.Store after).now.trees) }
+    ensures shows { IfOk result (λ after. HasCleanDisk (state S.Store after) → (l : Layout) (c d : Contents) → Leaves (λ db. IsFile l c db ⊎ IsFile l d db) (state S.Store conn)
+        → Shows l c (state S.Store after) ⊎ Shows l d (state S.Store after)) }
+    ensures idle { IfOk result (λ after. after.in_transaction ≡ false) }
+    ensures clean { IfOk result (λ after. HasCleanDisk (state S.Store after) → HasCleanDisk (state S.Store conn)) }
+{
+    let mut store = conn.into_store();
+    match store.crash_and_reopen() {
+        Ok(()) => {}
+        Err(StoreError::OutOfMemory) => return Err(ReadFault::NoMemory),
+        Err(_) => return Err(ReadFault::Lost),
+    }
+    match open_file(alloc, store) {
+        Ok(after) => Ok(after),
+        Err((fault, _)) => Err(fault),
+    }
+}
+
+/// Puts these, has the store crash whatever the answer, and opens what is left: it shows the rows from before, or those with all of
+/// these, which at `Ok` are there.
+pub fn reopen_after_write<S: Alter + Reopen + Drop>(
+    alloc: Global,
+    mut conn: Connection<S>,
+    puts: &[Put<'_>],
+) -> Result<(Result<(), Error>, Connection<S>), ReadFault>
+    requires { conn.in_transaction ≡ false }
+    ensures idle { IfOk result (λ it. it.1.in_transaction ≡ false) }
+    ensures crash { IfOk result (λ it. HasCleanDisk (state S.Store it.1) → (l : Layout) (c : Contents) → Shows l c (state S.Store conn) → Leaves (IsFile l c) (state S.Store conn)
+        → Shows l c (state S.Store it.1) ⊎ Shows l (with_puts puts.now c) (state S.Store it.1)) }
+    ensures kept { IfOk result (λ it. HasCleanDisk (state S.Store it.1) → (l : Layout) (c : Contents) → Shows l c (state S.Store conn)
+        → OnOk it.0 (Shows l (with_puts puts.now c) (state S.Store it.1))) }
+{
+    let answer = write(&mut conn, puts);
+    let after = reopen(alloc, conn)?;
+    Ok((answer, after))
+}
