@@ -7,11 +7,11 @@
 //!
 //! A statement that a limit on steps stops is told as refused.
 
-ghost use Rattle.std.specs.Prelude.{◌≡◌, ◌≢◌, ◌<◌, ℕ, false, None, [], length, IfOk, IfErr, OnOk, map};
-ghost use Rattle.std.specs.Ordering.{int_cmp, is_lt, nat_cmp, ordering_then};
+ghost use Rattle.std.specs.Prelude.{◌≡◌, ◌≢◌, ◌<◌, ℕ, false, None, [], length, IfOk, IfErr, OnOk, map, IsPermutation};
+ghost use Rattle.std.specs.Ordering.{int_cmp, int_eq, is_lt, nat_cmp, ordering_then};
 ghost use Rattle.std.specs.Cmp.Lexicographic.{slice_cmp};
 ghost use Rattle.desk_book.specs.declared.rows.BookRow.{BookRow as Book};
-ghost use Rattle.std.specs.List.{AllByRecursion};
+ghost use Rattle.std.specs.List.{AllByRecursion, IsDistinct};
 ghost use Rattle.std.specs.List.Sorted.{IsSortedBy, IsSortedByKey};
 ghost use Rattle.sqlite_value.specs.Order.{column};
 ghost use Rattle.sqlite.specs.declared.error.Error.{Error as Failure};
@@ -19,10 +19,11 @@ ghost use Rattle.sqlite.specs.Held.{state};
 ghost use Rattle.sqlite.specs.State.{HasCleanDisk, CommitsShowing, FailsToQuery, IsUnchanged, Shown, Survives};
 ghost use Rattle.desk_store.specs.Asked.{Gives, FailsAs, books_asked, tabs_asked, paras_asked, corrs_asked, marks_asked};
 ghost use Rattle.desk_store.specs.Kinds.{HasKinds, HaveIntegerRowids, HaveUtf8Texts};
-ghost use Rattle.desk_store.specs.Contents.{Lists, three_columns, six_columns, seven_columns, eight_columns, book_row, stored_tab_row, para_row, corr_row, mark_row, book_columns, stored_tab_columns, para_columns, corr_columns, mark_columns};
+ghost use Rattle.desk_store.specs.Contents.{Contents, Lists, three_columns, six_columns, seven_columns, eight_columns, book_row, stored_tab_row, para_row, corr_row, mark_row, book_columns, stored_tab_columns, para_columns, corr_columns, mark_columns};
+ghost use Rattle.desk_store.specs.Layout.{Layout};
 ghost use Rattle.desk_store.specs.Tables as tables;
 ghost use Rattle.desk_store.specs.Fault.{IsToldAs};
-ghost use Rattle.desk_store.specs.States.{HasTable};
+ghost use Rattle.desk_store.specs.States.{HasTable, Shows};
 
 use crate::fault::ReadFault;
 use desk_book::rows::{BookRow, CorrRow, MarkRow, ParaRow, StoredTab, TabRow};
@@ -92,6 +93,7 @@ pub fn read_books<S: Alter>(
     ensures gives { HasCleanDisk (state S.Store conn.new) → IfOk result (λ xs. Gives books_asked book_row (state S.Store conn.old) (state S.Store conn.new) xs.items) }
     ensures rows { HasCleanDisk (state S.Store conn.new) → (tree : ℕ) → HasTable (tables.book tree) (state S.Store conn.old) → IfOk result (λ xs.
         Lists book_row book_columns xs.items ((state S.Store conn.old).now.trees tree) × IsSortedByKey (λ (b : Book). b.id) int_cmp xs.items) }
+    ensures shows { HasCleanDisk (state S.Store conn.new) → (l : Layout) (c : Contents) → Shows l c (state S.Store conn.old) → IfOk result (λ xs. IsPermutation c.books xs.items) }
     ensures unchanged { HasCleanDisk (state S.Store conn.new) → OnOk result (IsUnchanged (state S.Store conn.old) (state S.Store conn.new)) }
     ensures told { HasCleanDisk (state S.Store conn.new) → IfErr result (FailsAs books_asked (state S.Store conn.old) (state S.Store conn.new)) }
     ensures refused { HasCleanDisk (state S.Store conn.new) → IfErr result (λ fault. fault ≡ ReadFault.Refused → IsUnchanged (state S.Store conn.old) (state S.Store conn.new)) }
@@ -143,6 +145,8 @@ pub fn read_tabs<S: Alter>(
     ensures gives { HasCleanDisk (state S.Store conn.new) → IfOk result (λ xs. Gives tabs_asked stored_tab_row (state S.Store conn.old) (state S.Store conn.new) xs.items) }
     ensures rows { HasCleanDisk (state S.Store conn.new) → (tree : ℕ) → HasTable (tables.tab tree) (state S.Store conn.old) → IfOk result (λ xs.
         Lists stored_tab_row stored_tab_columns xs.items ((state S.Store conn.old).now.trees tree) × IsSortedByKey (λ t. t.row.name) (slice_cmp nat_cmp) xs.items) }
+    ensures shows { HasCleanDisk (state S.Store conn.new) → (l : Layout) (c : Contents) → Shows l c (state S.Store conn.old) → IfOk result (λ xs.
+        IsPermutation c.tabs (map (λ t. t.row) xs.items) × IsDistinct int_eq (map (λ t. t.rowid) xs.items)) }
     ensures unchanged { HasCleanDisk (state S.Store conn.new) → OnOk result (IsUnchanged (state S.Store conn.old) (state S.Store conn.new)) }
     ensures told { HasCleanDisk (state S.Store conn.new) → IfErr result (FailsAs tabs_asked (state S.Store conn.old) (state S.Store conn.new)) }
     ensures refused { HasCleanDisk (state S.Store conn.new) → IfErr result (λ fault. fault ≡ ReadFault.Refused → IsUnchanged (state S.Store conn.old) (state S.Store conn.new)) }
@@ -197,6 +201,7 @@ pub fn read_paras<S: Alter>(
     ensures gives { HasCleanDisk (state S.Store conn.new) → IfOk result (λ xs. Gives paras_asked para_row (state S.Store conn.old) (state S.Store conn.new) xs.items) }
     ensures rows { HasCleanDisk (state S.Store conn.new) → (tree : ℕ) → HasTable (tables.para tree) (state S.Store conn.old) → IfOk result (λ xs.
         Lists para_row para_columns xs.items ((state S.Store conn.old).now.trees tree) × IsSortedByKey (λ p. p.id) int_cmp xs.items) }
+    ensures shows { HasCleanDisk (state S.Store conn.new) → (l : Layout) (c : Contents) → Shows l c (state S.Store conn.old) → IfOk result (λ xs. IsPermutation c.paras xs.items) }
     ensures unchanged { HasCleanDisk (state S.Store conn.new) → OnOk result (IsUnchanged (state S.Store conn.old) (state S.Store conn.new)) }
     ensures told { HasCleanDisk (state S.Store conn.new) → IfErr result (FailsAs paras_asked (state S.Store conn.old) (state S.Store conn.new)) }
     ensures refused { HasCleanDisk (state S.Store conn.new) → IfErr result (λ fault. fault ≡ ReadFault.Refused → IsUnchanged (state S.Store conn.old) (state S.Store conn.new)) }
@@ -252,6 +257,7 @@ pub fn read_corrs<S: Alter>(
     ensures gives { HasCleanDisk (state S.Store conn.new) → IfOk result (λ xs. Gives corrs_asked corr_row (state S.Store conn.old) (state S.Store conn.new) xs.items) }
     ensures rows { HasCleanDisk (state S.Store conn.new) → (tree : ℕ) → HasTable (tables.corr tree) (state S.Store conn.old) → IfOk result (λ xs.
         Lists corr_row corr_columns xs.items ((state S.Store conn.old).now.trees tree) × IsSortedBy (λ a b. is_lt (ordering_then (int_cmp a.para b.para) (int_cmp a.seq b.seq))) xs.items) }
+    ensures shows { HasCleanDisk (state S.Store conn.new) → (l : Layout) (c : Contents) → Shows l c (state S.Store conn.old) → IfOk result (λ xs. IsPermutation c.corrs xs.items) }
     ensures unchanged { HasCleanDisk (state S.Store conn.new) → OnOk result (IsUnchanged (state S.Store conn.old) (state S.Store conn.new)) }
     ensures told { HasCleanDisk (state S.Store conn.new) → IfErr result (FailsAs corrs_asked (state S.Store conn.old) (state S.Store conn.new)) }
     ensures refused { HasCleanDisk (state S.Store conn.new) → IfErr result (λ fault. fault ≡ ReadFault.Refused → IsUnchanged (state S.Store conn.old) (state S.Store conn.new)) }
@@ -308,6 +314,7 @@ pub fn read_marks<S: Alter>(
     ensures gives { HasCleanDisk (state S.Store conn.new) → IfOk result (λ xs. Gives marks_asked mark_row (state S.Store conn.old) (state S.Store conn.new) xs.items) }
     ensures rows { HasCleanDisk (state S.Store conn.new) → (tree : ℕ) → HasTable (tables.mark tree) (state S.Store conn.old) → IfOk result (λ xs.
         Lists mark_row mark_columns xs.items ((state S.Store conn.old).now.trees tree) × IsSortedByKey (λ m. m.id) int_cmp xs.items) }
+    ensures shows { HasCleanDisk (state S.Store conn.new) → (l : Layout) (c : Contents) → Shows l c (state S.Store conn.old) → IfOk result (λ xs. IsPermutation c.marks xs.items) }
     ensures unchanged { HasCleanDisk (state S.Store conn.new) → OnOk result (IsUnchanged (state S.Store conn.old) (state S.Store conn.new)) }
     ensures told { HasCleanDisk (state S.Store conn.new) → IfErr result (FailsAs marks_asked (state S.Store conn.old) (state S.Store conn.new)) }
     ensures refused { HasCleanDisk (state S.Store conn.new) → IfErr result (λ fault. fault ≡ ReadFault.Refused → IsUnchanged (state S.Store conn.old) (state S.Store conn.new)) }

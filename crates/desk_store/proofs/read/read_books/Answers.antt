@@ -3,8 +3,10 @@ use Rattle.std.specs.List.{AllByRecursion}
 use Rattle.std.proofs.lemmas.Result.{IfOk-weaker, err_from_is_err_and}
 use Rattle.sqlite.specs.Held.{state}
 use Rattle.desk_store.specs.Asked.{books_asked}
-use Rattle.desk_store.specs.Contents.{three_columns}
+use Rattle.desk_store.specs.Contents.{three_columns, book_columns}
 use Rattle.desk_store.specs.Kinds.{HasKinds}
+use Rattle.desk_store.proofs.OneList.{one_books}
+use Rattle.desk_store.proofs.Showing.{has_table}
 use Rattle.desk_store.proofs.Quiet.{commits_nothing, on_ok, on_err, shown_quietly, refused_as_it_was, never_refused, not_refused}
 use Rattle.desk_store.proofs.Asking.{fails_to_read, fails_to_ask}
 use Rattle.desk_store.proofs.ReadBook.{text, reads_only, book_read, book_kinds, book_fails}
@@ -60,3 +62,8 @@ pub returns-in_err-rows-clause-told : goal.returns-in_err-rows-clause-told
 returns-in_err-rows-clause-told g c clean =
     let p = err_from_is_err_and c.from_residual.result c.from_residual.ensures.1 in
     rw (p.1, p.2) (fails_to_ask books_asked (state g.S.Store c.args.conn.now) (state g.S.Store c.ask.new.conn) _ (c.in_err-rows.ensures.failed clean))
+
+pub returns-clause-shows : goal.returns-clause-shows
+returns-clause-shows g c clean l contents shows =
+    IfOk-weaker c.books_of.result _ _ (λ xs found. one_books book_columns _ _ _ shows.is.holds.books found.0)
+    (returns-clause-rows g c clean l.book (has_table l contents (state g.S.Store c.args.conn.now) shows _ shows.is.declared.book))

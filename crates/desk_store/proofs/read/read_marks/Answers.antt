@@ -3,8 +3,10 @@ use Rattle.std.specs.List.{AllByRecursion}
 use Rattle.std.proofs.lemmas.Result.{IfOk-weaker, err_from_is_err_and}
 use Rattle.sqlite.specs.Held.{state}
 use Rattle.desk_store.specs.Asked.{marks_asked}
-use Rattle.desk_store.specs.Contents.{seven_columns}
+use Rattle.desk_store.specs.Contents.{seven_columns, mark_columns}
 use Rattle.desk_store.specs.Kinds.{HasKinds}
+use Rattle.desk_store.proofs.OneList.{one_marks}
+use Rattle.desk_store.proofs.Showing.{has_table}
 use Rattle.desk_store.proofs.Quiet.{commits_nothing, on_ok, on_err, shown_quietly, refused_as_it_was, never_refused, not_refused}
 use Rattle.desk_store.proofs.Asking.{fails_to_read, fails_to_ask}
 use Rattle.desk_store.proofs.ReadMark.{text, reads_only, mark_read, mark_kinds, mark_fails}
@@ -60,3 +62,8 @@ pub returns-in_err-rows-clause-told : goal.returns-in_err-rows-clause-told
 returns-in_err-rows-clause-told g c clean =
     let p = err_from_is_err_and c.from_residual.result c.from_residual.ensures.1 in
     rw (p.1, p.2) (fails_to_ask marks_asked (state g.S.Store c.args.conn.now) (state g.S.Store c.ask.new.conn) _ (c.in_err-rows.ensures.failed clean))
+
+pub returns-clause-shows : goal.returns-clause-shows
+returns-clause-shows g c clean l contents shows =
+    IfOk-weaker c.marks_of.result _ _ (λ xs found. one_marks mark_columns _ _ _ shows.is.holds.marks found.0)
+    (returns-clause-rows g c clean l.mark (has_table l contents (state g.S.Store c.args.conn.now) shows _ shows.is.declared.mark))

@@ -5,6 +5,7 @@ use Rattle.sqlite.specs.Held.{state}
 use Rattle.desk_store.specs.Asked.{tabs_asked}
 use Rattle.desk_store.specs.Contents.{three_columns}
 use Rattle.desk_store.specs.Kinds.{HasKinds}
+use Rattle.desk_store.proofs.Showing.{has_table, tabs_found}
 use Rattle.desk_store.proofs.Quiet.{commits_nothing, on_ok, on_err, shown_quietly, refused_as_it_was, never_refused, not_refused}
 use Rattle.desk_store.proofs.Asking.{fails_to_read, fails_to_ask}
 use Rattle.desk_store.proofs.ReadTab.{text, reads_only, tab_read, tab_kinds, tab_fails}
@@ -60,3 +61,8 @@ pub returns-in_err-rows-clause-told : goal.returns-in_err-rows-clause-told
 returns-in_err-rows-clause-told g c clean =
     let p = err_from_is_err_and c.from_residual.result c.from_residual.ensures.1 in
     rw (p.1, p.2) (fails_to_ask tabs_asked (state g.S.Store c.args.conn.now) (state g.S.Store c.ask.new.conn) _ (c.in_err-rows.ensures.failed clean))
+
+pub returns-clause-shows : goal.returns-clause-shows
+returns-clause-shows g c clean l contents shows =
+    IfOk-weaker c.tabs_of.result _ _ (λ xs found. tabs_found l contents (state g.S.Store c.args.conn.now) shows xs.items found.0)
+    (returns-clause-rows g c clean l.tab (has_table l contents (state g.S.Store c.args.conn.now) shows _ shows.is.declared.tab))
