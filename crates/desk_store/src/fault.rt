@@ -11,7 +11,8 @@ pub enum ReadFault {
     NoMemory,
     /// The store failed: reading or writing, damage of the pages, size, or a shut database.
     Lost,
-    /// The statement or a value was refused for another cause: a missing table or column, or a value of another kind.
+    /// The statement or a value was refused for another cause: a missing table or column, a limit on steps, or a value of
+    /// another kind.
     Refused,
 }
 

@@ -1,9 +1,9 @@
 //! The statements that read a table whole.
 //!
-//! Each answers what its statement shows in any file, as values of the kinds that its columns are declared with, and
-//! changes nothing. Over a clean disk, where its table is declared as a new file has it, these are the rows as they
-//! stand, in order. Where they also have integer rowids and texts in UTF-8, and the steps have no limit, only memory or
-//! the store makes it fail.
+//! Each answers what its statement shows in any file, and changes nothing; a value that has not the kind that a new
+//! file declares for its column is refused. Over a clean disk, where the table is declared as in a new file, the answer
+//! is its rows as they stand, in order. Where these have integer rowids and texts in UTF-8 too, and the steps have no
+//! limit, only memory or the store makes it fail.
 //!
 //! A statement that a limit on steps stops is told as refused.
 
