@@ -36,6 +36,32 @@ module _ {X K : Type 0} (e : K → K → Bool) (decides : (a b : K) → Decides 
       go true is more = let nothing = ap length (none_later k xs (subst (λ a. AllByRecursion (λ y. e a y ≡ false) (map key xs)) ((decides (key x) k).0 is) (IsDistinct-head e _ _ apart))) in omega (arith, nothing)
       go false is more = more
 
+  none_of : (k : K) (xs : List X) → length (filter (λ x. e (key x) k) xs) ≤ 0 → AllByRecursion (λ y. e k y ≡ false) (map key xs)
+  none_of k [] few = tt
+  none_of k (x ∷ xs) few = go (e (key x) k) refl (none_of k xs) few
+    where
+      go : (b : Bool) → e (key x) k ≡ b → (length (filter (λ y. e (key y) k) xs) ≤ 0 → AllByRecursion (λ y. e k y ≡ false) (map key xs))
+          → length (cond b (x ∷ filter (λ y. e (key y) k) xs) (filter (λ y. e (key y) k) xs)) ≤ 0 → AllByRecursion (λ y. e k y ≡ false) (key x ∷ map key xs)
+      go true is more few = absurd (omega (arith, few))
+      go false is more few = (flips (key x) k is, more few)
+
+  none_more : (x : X) (later : List X) (b : Bool) → b ≡ true → length (cond b (x ∷ later) later) ≤ 1 → length later ≤ 0
+  none_more x later true is few = omega (arith, few)
+  none_more x later false is few = absurd (true≢false (sym is))
+
+  fewer : (x : X) (later : List X) (b : Bool) → length (cond b (x ∷ later) later) ≤ 1 → length later ≤ 1
+  fewer x later true few = omega (arith, few)
+  fewer x later false few = few
+
+  -- keys that are found once at most differ
+  pub apart : (xs : List X) → ((k : K) → length (filter (λ x. e (key x) k) xs) ≤ 1) → IsDistinct e (map key xs)
+  unfolding IsDistinct
+  apart [] few = tt
+  apart (x ∷ xs) few = (
+    none_of (key x) xs (none_more x (filter (λ y. e (key y) (key x)) xs) (e (key x) (key x)) ((decides (key x) (key x)).1 refl) (few (key x))),
+    apart xs (λ k. fewer x (filter (λ y. e (key y) k) xs) (e (key x) k) (few k)),
+  )
+
 module _ {X : Type 0} (written : X → Row) (columns : Row → Row) (key : X → ℤ) (written_key : (x : X) → column (written x) 0 ≡ Int (key x)) (shown_key : (r : Row) → column (columns r) 0 ≡ rowid r) where
   abbrev has_integer : Row → Type 0
   has_integer s = IsTrue (is_int (column s 0))
@@ -56,7 +82,8 @@ module _ {X : Type 0} (written : X → Row) (columns : Row → Row) (key : X →
   each_shown id [] = tt
   each_shown id (r ∷ rows) = (rw (shown_key r), each_shown id rows)
 
-  as_many : (id : ℤ) (xs : List X) (rows : List Row) → Lists written columns xs rows → length (filter (has_rowid id) rows) ≡ length (filter (λ x. int_eq (key x) id) xs)
+  -- as many rows as values have a number
+  pub as_many : (id : ℤ) (xs : List X) (rows : List Row) → Lists written columns xs rows → length (filter (has_rowid id) rows) ≡ length (filter (λ x. int_eq (key x) id) xs)
   as_many id xs rows lists =
       let left : filter (has_rowid id) (map written xs) ≡ map written (filter (λ x. int_eq (key x) id) xs) = filter-map (has_rowid id) written xs ∙ ap (map written) (filter_same _ _ xs (each_written id xs)) in
       let right : filter (has_rowid id) (map columns rows) ≡ map columns (filter (has_rowid id) rows) = filter-map (has_rowid id) columns rows ∙ ap (map columns) (filter_same _ _ rows (each_shown id rows)) in

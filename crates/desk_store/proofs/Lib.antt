@@ -26,6 +26,8 @@ pub mod SetVersion
 pub mod Committing
 pub mod Orders
 pub mod Quiet
+pub mod Asking
+pub mod Showing
 pub mod Faults
 pub mod Reading
 pub mod RowKinds

@@ -16,8 +16,7 @@ use Rattle.sqlite.specs.declared.error.Error.{Error}
 use Rattle.sqlite.specs.Clock.{timed as filled}
 use Rattle.sqlite.specs.Listing.{understood, reads_listing, listing_schema, if_select, is_select}
 use Rattle.sqlite.specs.State.{State, store_error, IsUnchanged, IsNotRun, FailsToShow, FailsToQuery, Shown, ShowsRows, Survives, CommitsShowing}
-use Rattle.sqlite_trees.specs.declared.error.StoreError.TheVariants.{OutOfMemory, Io, Corrupt, Full, Broken, Unstorable}
-use Rattle.desk_store.specs.Fault.{told}
+use Rattle.desk_store.specs.Fault.{IsToldAs}
 use Rattle.desk_store.specs.declared.fault.ReadFault.{ReadFault}
 use Rattle.desk_store.specs.declared.fault.ReadFault.TheVariants.{NoMemory, Refused}
 use Rattle.sqlite.proofs.StateLemmas.{survives_weaker}
@@ -60,19 +59,10 @@ pub on_err : {A E : Type 0} (r : Result A E) (P : E → Type 0) → ((e : E) →
 on_err (Ok a) P p = tt
 on_err (Err e) P p = p e
 
--- a failure of the store is no other cause
-pub store_is_told : (cause : StoreError) → told (store_error cause) ≢ Refused
-store_is_told OutOfMemory e = absurd (cc)
-store_is_told Io e = absurd (cc)
-store_is_told Corrupt e = absurd (cc)
-store_is_told Full e = absurd (cc)
-store_is_told Broken e = absurd (cc)
-store_is_told Unstorable e = absurd (cc)
-
 -- where only the store makes a query fail, it is told as that
 pub never_refused : (text : List ℕ) (params : Row) (old new : State) (fault : ReadFault) → ((e : Error) → FailsToQuery text params old new e → (cause : StoreError) × (e ≡ store_error cause))
-    → (e : Error) × FailsToQuery text params old new e × (fault ≡ told e) → fault ≢ Refused
-never_refused text params old new fault fails (e, failed, is) refused = let store = fails e failed in store_is_told store.0 (ap told (sym store.1) ∙ sym is ∙ refused)
+    → (e : Error) × FailsToQuery text params old new e × IsToldAs e fault → fault ≢ Refused
+never_refused text params old new fault fails (e, failed, told) refused = let store = fails e failed in subst (IsToldAs e) refused told store.0 store.1
 
 -- want of memory is no refusal
 pub not_refused : {A : Type 0} (r : Result A ReadFault) → IfErr r (λ fault. fault ≡ NoMemory) → IfErr r (λ fault. fault ≢ Refused)
@@ -126,8 +116,8 @@ module _ (text : List ℕ) (is : reads (first text) ≡ true) where
       it.3
 
   -- a fault of another cause than the store's is told of a file that is as it was
-  pub refused_as_it_was : (params : Row) (old new : State) (fault : ReadFault) → (e : Error) × FailsToQuery text params old new e × (fault ≡ told e) → fault ≡ Refused → IsUnchanged old new
-  refused_as_it_was params old new fault (e, failed, is) refused = elim (refused_quietly params old new e failed) [
-    | inl store ↦ absurd (store_is_told store.0 (ap told (sym store.1) ∙ sym is ∙ refused))
+  pub refused_as_it_was : (params : Row) (old new : State) (fault : ReadFault) → (e : Error) × FailsToQuery text params old new e × IsToldAs e fault → fault ≡ Refused → IsUnchanged old new
+  refused_as_it_was params old new fault (e, failed, told) refused = elim (refused_quietly params old new e failed) [
+    | inl store ↦ absurd (subst (IsToldAs e) refused told store.0 store.1)
     | inr same ↦ same
   ]

@@ -15,6 +15,7 @@ use Rattle.sqlite.specs.declared.error.Error.{Error}
 use Rattle.sqlite.specs.State.{State, Shown, FailsToQuery}
 use Rattle.sqlite_tied.specs.Compute.{everything}
 use Rattle.desk_book.specs.declared.rows.BookRow.{BookRow}
+use Rattle.desk_store.specs.Asked.{books_asked}
 use Rattle.desk_store.specs.Contents.{Lists, book_row, book_columns}
 use Rattle.desk_store.specs.Kinds.{HaveIntegerRowids, HasKinds, kinds_of}
 use Rattle.desk_store.specs.Layout.{IsDeclared}
@@ -29,7 +30,7 @@ use Rattle.desk_store.proofs.WholeTables.{IsRead, rows_are, fails_by_store}
 use Rattle.sqlite_resolve.specs.Compile.{first}
 
 abbrev pub text : List ℕ
-text = codes "SELECT id, format, version FROM book ORDER BY id"
+text = books_asked.text
 
 abbrev outs : ℕ → List Output
 outs tree = column_output (book tree) 0 (needed (codes "id") Integer) ∷ column_output (book tree) 1 (needed (codes "format") Integer) ∷ column_output (book tree) 2 (needed (codes "version") Integer) ∷ []

@@ -15,6 +15,7 @@ use Rattle.sqlite.specs.declared.error.Error.{Error}
 use Rattle.sqlite.specs.State.{State, Shown, FailsToQuery}
 use Rattle.sqlite_tied.specs.Compute.{everything}
 use Rattle.desk_book.specs.Rows.{Corr}
+use Rattle.desk_store.specs.Asked.{corrs_asked}
 use Rattle.desk_store.specs.Contents.{Lists, corr_row, corr_columns}
 use Rattle.desk_store.specs.Kinds.{HaveUtf8Texts, IsUtf8Text, HasKinds, kinds_of}
 use Rattle.desk_store.specs.Layout.{IsDeclared}
@@ -29,7 +30,7 @@ use Rattle.desk_store.proofs.WholeTables.{IsRead, rows_are, fails_by_store}
 use Rattle.sqlite_resolve.specs.Compile.{first}
 
 abbrev pub text : List ℕ
-text = codes "SELECT para, seq, kind, start, len, body FROM corr ORDER BY para, seq"
+text = corrs_asked.text
 
 abbrev outs : ℕ → List Output
 outs tree = column_output (corr tree) 0 (needed (codes "para") Integer) ∷ column_output (corr tree) 1 (needed (codes "seq") Integer) ∷ column_output (corr tree) 2 (needed (codes "kind") Integer) ∷ column_output (corr tree) 3 (needed (codes "start") Integer) ∷ column_output (corr tree) 4 (needed (codes "len") Integer) ∷ column_output (corr tree) 5 (needed (codes "body") Text) ∷ []

@@ -15,6 +15,7 @@ use Rattle.sqlite.specs.declared.error.Error.{Error}
 use Rattle.sqlite.specs.State.{State, Shown, FailsToQuery}
 use Rattle.sqlite_tied.specs.Compute.{everything}
 use Rattle.desk_book.specs.Rows.{Mark}
+use Rattle.desk_store.specs.Asked.{marks_asked}
 use Rattle.desk_store.specs.Contents.{Lists, mark_row, mark_columns}
 use Rattle.desk_store.specs.Kinds.{HaveIntegerRowids, HaveUtf8Texts, IsUtf8Text, HasKinds, kinds_of}
 use Rattle.desk_store.specs.Layout.{IsDeclared}
@@ -29,7 +30,7 @@ use Rattle.desk_store.proofs.WholeTables.{IsRead, rows_are, fails_by_store}
 use Rattle.sqlite_resolve.specs.Compile.{first}
 
 abbrev pub text : List ℕ
-text = codes "SELECT id, para, start, stop, note, touched, resolved FROM mark ORDER BY id"
+text = marks_asked.text
 
 abbrev outs : ℕ → List Output
 outs tree = column_output (mark tree) 0 (needed (codes "id") Integer) ∷ column_output (mark tree) 1 (needed (codes "para") Integer) ∷ column_output (mark tree) 2 (needed (codes "start") Integer) ∷ column_output (mark tree) 3 (needed (codes "stop") Integer) ∷ column_output (mark tree) 4 (needed (codes "note") Text) ∷ column_output (mark tree) 5 (needed (codes "touched") Integer) ∷ column_output (mark tree) 6 (needed (codes "resolved") Integer) ∷ []

@@ -15,6 +15,7 @@ use Rattle.sqlite.specs.declared.error.Error.{Error}
 use Rattle.sqlite.specs.State.{State, Shown, FailsToQuery}
 use Rattle.sqlite_tied.specs.Compute.{everything}
 use Rattle.desk_book.specs.Rows.{Para}
+use Rattle.desk_store.specs.Asked.{paras_asked}
 use Rattle.desk_store.specs.Contents.{Lists, para_row, para_columns}
 use Rattle.desk_store.specs.Kinds.{HaveIntegerRowids, HaveUtf8Texts, IsUtf8Text, HasKinds, kinds_of}
 use Rattle.desk_store.specs.Layout.{IsDeclared}
@@ -29,7 +30,7 @@ use Rattle.desk_store.proofs.WholeTables.{IsRead, rows_are, fails_by_store}
 use Rattle.sqlite_resolve.specs.Compile.{first}
 
 abbrev pub text : List ℕ
-text = codes "SELECT id, place, tab, original, print, style, volume, struck FROM para ORDER BY id"
+text = paras_asked.text
 
 abbrev outs : ℕ → List Output
 outs tree = column_output (para tree) 0 (needed (codes "id") Integer) ∷ column_output (para tree) 1 (needed (codes "place") Integer) ∷ column_output (para tree) 2 (needed (codes "tab") Text) ∷ column_output (para tree) 3 (needed (codes "original") Text) ∷ column_output (para tree) 4 (needed (codes "print") Text) ∷ column_output (para tree) 5 (needed (codes "style") Integer) ∷ column_output (para tree) 6 (needed (codes "volume") Integer) ∷ column_output (para tree) 7 (needed (codes "struck") Integer) ∷ []

@@ -17,6 +17,7 @@ use Rattle.sqlite.specs.declared.error.Error.{Error}
 use Rattle.sqlite.specs.State.{State, Shown, FailsToQuery}
 use Rattle.sqlite_tied.specs.Compute.{everything}
 use Rattle.desk_book.specs.Rows.{StoredTab}
+use Rattle.desk_store.specs.Asked.{tabs_asked}
 use Rattle.desk_store.specs.Contents.{Lists, stored_tab_row, stored_tab_columns}
 use Rattle.desk_store.specs.Kinds.{HaveIntegerRowids, HaveUtf8Texts, IsUtf8Text, HasKinds, kinds_of}
 use Rattle.desk_store.specs.Layout.{IsDeclared}
@@ -31,7 +32,7 @@ use Rattle.desk_store.proofs.WholeTables.{IsRead, rows_are, fails_by_store}
 use Rattle.sqlite_resolve.specs.Compile.{first}
 
 abbrev pub text : List ℕ
-text = codes "SELECT rowid, name, body FROM tab ORDER BY name"
+text = tabs_asked.text
 
 abbrev outs : ℕ → List Output
 outs tree = rowid_output ∷ column_output (tab tree) 0 (needed (codes "name") Text) ∷ column_output (tab tree) 1 (needed (codes "body") Blob) ∷ []

@@ -91,7 +91,7 @@ module _ (key : Option ℕ) (row : Row) where
   kinds_from : (at : ℕ) (cs : List Column) (vs : Row) → GoesOn at vs row → ((place : ℕ) → at ≤ place → is_key key place ≡ false)
       → list_all (λ c. c.is_strict && c.not_null) cs ≡ true → AllByRecursion (λ c. c.kind ≡ Text → AllByRecursion IsUtf8Text row) cs
       → are_typed key at cs vs ≡ true → are_present key at cs row ≡ true → HasKinds (map (λ c. c.kind) cs) (columns_from (at + 1) cs row)
-  kinds_from at [] vs on apart needed utf8 typed present = refl
+  kinds_from at [] vs on apart needed utf8 typed present = tt
   kinds_from at (c ∷ cs) vs on apart needed utf8 typed present =
       let here : (c.is_strict ≡ true) × (c.not_null ≡ true) = and_parts _ _ (and_parts _ _ needed).0 in
       let free = apart at (omega arith) in

@@ -69,7 +69,7 @@ rows_less : (rows : List Row) → map less_rowid (map stored_tab_columns rows) �
 rows_less [] = refl
 rows_less (r ∷ rows) = ap (λ more. tab_columns r ∷ more) (rows_less rows)
 
-tabs_listed : (tabs : List StoredTab) (rows : List Row) → Lists stored_tab_row stored_tab_columns tabs rows → Lists tab_row tab_columns (map (λ t. t.row) tabs) rows
+pub tabs_listed : (tabs : List StoredTab) (rows : List Row) → Lists stored_tab_row stored_tab_columns tabs rows → Lists tab_row tab_columns (map (λ t. t.row) tabs) rows
 tabs_listed tabs rows lists = subst₂ IsPermutation (tabs_less tabs) (rows_less rows) (IsPermutation-map less_rowid _ _ lists)
 
 all_same : (l : Layout) (db : Trees) (tables : List Table) → AllByRecursion (λ t. IsOther l t.tree → db t.tree ≡ db t.tree) tables

@@ -49,9 +49,6 @@ book_columns r = column r 0 ∷ column r 2 ∷ column r 3 ∷ []
 abbrev pub tab_columns : Row → Row
 tab_columns r = column r 1 ∷ column r 2 ∷ []
 
-abbrev pub stored_tab_columns : Row → Row
-stored_tab_columns r = column r 0 ∷ column r 1 ∷ column r 2 ∷ []
-
 abbrev pub para_columns : Row → Row
 para_columns r = column r 0 ∷ column r 2 ∷ column r 3 ∷ column r 4 ∷ column r 5 ∷ column r 6 ∷ column r 7 ∷ column r 8 ∷ []
 
@@ -64,6 +61,10 @@ mark_columns r = column r 0 ∷ column r 2 ∷ column r 3 ∷ column r 4 ∷ col
 -- the first columns of a row that a query shows
 abbrev pub three_columns : Row → Row
 three_columns r = column r 0 ∷ column r 1 ∷ column r 2 ∷ []
+
+-- those of a row of `tab` as its tree keeps it, with its rowid
+abbrev pub stored_tab_columns : Row → Row
+stored_tab_columns = three_columns
 
 abbrev pub six_columns : Row → Row
 six_columns r = column r 0 ∷ column r 1 ∷ column r 2 ∷ column r 3 ∷ column r 4 ∷ column r 5 ∷ []

@@ -1,21 +1,14 @@
 -- How an error of the database is told.
+use Rattle.std.specs.Prelude.{◌≡◌, ◌≢◌}
+use Rattle.sqlite_trees.specs.declared.error.StoreError.{StoreError}
+use Rattle.sqlite_trees.specs.declared.error.StoreError.TheVariants.{OutOfMemory}
 use Rattle.sqlite.specs.declared.error.Error.{Error}
-use Rattle.sqlite.specs.declared.error.Error.TheVariants.{SqliteFailure}
-use Rattle.sqlite.specs.declared.error.ErrorCode.{ErrorCode}
-use Rattle.sqlite.specs.declared.error.ErrorCode.TheVariants as code
+use Rattle.sqlite.specs.State.{store_error}
 use Rattle.desk_store.specs.declared.fault.ReadFault.{ReadFault}
 use Rattle.desk_store.specs.declared.fault.ReadFault.TheVariants.{NoMemory, Lost, Refused}
 
--- no memory, a store that failed, or another cause
-abbrev pub told_code : ErrorCode → ReadFault
-told_code code.OutOfMemory = NoMemory
-told_code code.SystemIoFailure = Lost
-told_code code.DatabaseCorrupt = Lost
-told_code code.DiskFull = Lost
-told_code code.Closed = Lost
-told_code code.TooBig = Lost
-told_code _ = Refused
-
-abbrev pub told : Error → ReadFault
-told (SqliteFailure code) = told_code code
-told _ = Refused
+-- no memory where the store had none, lost where it failed for another cause, and refused where the error is none of the store's
+abbrev pub IsToldAs : Error → ReadFault → Type 0
+IsToldAs e NoMemory = e ≡ store_error OutOfMemory
+IsToldAs e Lost = (cause : StoreError) × (cause ≢ OutOfMemory) × (e ≡ store_error cause)
+IsToldAs e Refused = (cause : StoreError) → e ≢ store_error cause

@@ -19,9 +19,9 @@ IsOfKind Text v = (t : _) × (v ≡ value.Text t) × IsUtf8 t
 IsOfKind Blob v = (b : _) × (v ≡ value.Blob b)
 IsOfKind Any v = ⊤
 
--- one value of each kind
+-- a value of each kind in turn, whatever stands behind them
 abbrev pub HasKinds : List Kind → Row → Type 0
-HasKinds [] row = row ≡ []
+HasKinds [] row = ⊤
 HasKinds (k ∷ kinds) [] = ⊥
 HasKinds (k ∷ kinds) (v ∷ row) = IsOfKind k v × HasKinds kinds row
 

@@ -5,5 +5,6 @@ pub mod Contents
 pub mod States
 pub mod Puts
 pub mod Fault
+pub mod Asked
 pub mod Making
 pub mod Whole

@@ -2,12 +2,13 @@
 use Rattle.std.specs.Prelude.{◌≡◌, true}
 use Rattle.sqlite_trees.specs.Tree.{Trees}
 use Rattle.sqlite_trees.specs.declared.store.Store.{Ghosts}
+use Rattle.sqlite_schema.specs.declared.schema.Table.{Table}
 use Rattle.sqlite_catalog.specs.Listing.{IsSound}
 use Rattle.sqlite.specs.Effect.{Database}
 use Rattle.sqlite.specs.Held.{state}
 use Rattle.sqlite.specs.State.{State}
 use Rattle.sqlite.specs.declared.transaction.Transaction.{Transaction}
-use Rattle.desk_store.specs.Layout.{Layout, AreDeclared}
+use Rattle.desk_store.specs.Layout.{Layout, IsDeclared, AreDeclared}
 use Rattle.desk_store.specs.Contents.{Contents, Holds}
 
 -- what a transaction shows
@@ -35,8 +36,7 @@ pub record IsUnder (committed : Database) (l : Layout) (c : Contents) (s : State
 abbrev pub Leaves : (Trees → Type 0) → State → Type 0
 Leaves P s = (db : Trees) → s.may_leave db → P db
 
--- the connection shows a database in which the five tables are declared
-pub record IsLaidOut (l : Layout) (s : State) : Type 0 where
-  pub schema : s.now.schema ≡ l.schema
-  pub declared : AreDeclared l
-  pub sound : IsSound l.schema s.now.trees
+-- the connection shows a database in which this table is declared
+pub record HasTable (table : Table) (s : State) : Type 0 where
+  pub declared : IsDeclared s.now.schema table
+  pub sound : IsSound s.now.schema s.now.trees

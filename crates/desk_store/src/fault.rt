@@ -1,7 +1,6 @@
 //! Why the rows can't be read.
 
-ghost use Rattle.std.specs.Prelude.{◌≡◌};
-ghost use Rattle.desk_store.specs.Fault.{told};
+ghost use Rattle.desk_store.specs.Fault.{IsToldAs};
 
 use sqlite::{Error, ErrorCode};
 
@@ -12,14 +11,15 @@ pub enum ReadFault {
     NoMemory,
     /// The store failed: reading or writing, damage of the pages, size, or a shut database.
     Lost,
-    /// The statement or a value was refused for another cause: a missing table or column, or a value of another kind.
+    /// The statement or a value was refused for another cause: a missing table or column, a limit on steps, or a value of
+    /// another kind.
     Refused,
 }
 
 impl ReadFault {
     /// How an error of the database is told.
     pub(crate) fn of(error: Error) -> ReadFault
-        ensures { result ≡ told error }
+        ensures { IsToldAs error result }
     {
         match error {
             Error::SqliteFailure(ErrorCode::OutOfMemory) => ReadFault::NoMemory,

@@ -1,18 +1,21 @@
-use Rattle.std.proofs.Common.{[], map, sym, ap, subst, ◌∙◌}
+use Rattle.std.proofs.Common.{[], map, refl, sym, ap, subst, ◌∙◌}
 use Rattle.std.specs.List.{AllByRecursion}
 use Rattle.std.proofs.lemmas.Result.{IfOk-weaker, err_from_is_err_and}
 use Rattle.sqlite.specs.Held.{state}
-use Rattle.desk_store.specs.Contents.{three_columns}
-use Rattle.desk_store.specs.Kinds.{HasKinds, kinds_of}
-use Rattle.desk_store.specs.Tables.{book}
+use Rattle.desk_store.specs.Asked.{books_asked}
+use Rattle.desk_store.specs.Contents.{three_columns, book_columns}
+use Rattle.desk_store.specs.Kinds.{HasKinds}
+use Rattle.desk_store.proofs.OneList.{one_books}
+use Rattle.desk_store.proofs.Showing.{has_table}
 use Rattle.desk_store.proofs.Quiet.{commits_nothing, on_ok, on_err, shown_quietly, refused_as_it_was, never_refused, not_refused}
+use Rattle.desk_store.proofs.Asking.{fails_to_read, fails_to_ask}
 use Rattle.desk_store.proofs.ReadBook.{text, reads_only, book_read, book_kinds, book_fails}
 use Rattle.desk_store.proofs.read.read_books.Goals as goal
 
 pub returns-clause-rows : goal.returns-clause-rows
-returns-clause-rows g c clean l was =
+returns-clause-rows g c clean tree has =
     IfOk-weaker c.books_of.result _ _ (λ xs made.
-    book_read l.schema l.book was.declared.book (state g.S.Store c.args.conn.now) (state g.S.Store c.ask.new.conn) was.schema was.sound c.in_ok-rows.rows.items xs.items (c.in_ok-rows.ensures.shown clean)
+    book_read (state g.S.Store c.args.conn.now).now.schema tree has.declared (state g.S.Store c.args.conn.now) (state g.S.Store c.ask.new.conn) refl has.sound c.in_ok-rows.rows.items xs.items (c.in_ok-rows.ensures.shown clean)
     (ap (map three_columns) (sym c.deref.ensures.value) ∙ made)) c.books_of.ensures.reads
 
 pub returns-clause-unchanged : goal.returns-clause-unchanged
@@ -29,19 +32,38 @@ returns-in_err-rows-clause-refused g c clean =
     rw (p.1, p.2) (refused_as_it_was text reads_only [] (state g.S.Store c.args.conn.now) (state g.S.Store c.ask.new.conn) _ (c.in_err-rows.ensures.failed clean))
 
 pub returns-clause-cause : goal.returns-clause-cause
-returns-clause-cause g c clean l was unlimited ids =
-    not_refused c.books_of.result (c.books_of.ensures.kinds (subst (AllByRecursion (HasKinds (kinds_of (book 0)))) (sym c.deref.ensures.value)
-    (book_kinds l.schema l.book was.declared.book (state g.S.Store c.args.conn.now) (state g.S.Store c.ask.new.conn) was.schema was.sound c.in_ok-rows.rows.items (c.in_ok-rows.ensures.shown clean) ids)))
+returns-clause-cause g c clean tree has unlimited ids =
+    not_refused c.books_of.result (c.books_of.ensures.kinds (subst (AllByRecursion (HasKinds books_asked.kinds)) (sym c.deref.ensures.value)
+    (book_kinds (state g.S.Store c.args.conn.now).now.schema tree has.declared (state g.S.Store c.args.conn.now) (state g.S.Store c.ask.new.conn) refl has.sound c.in_ok-rows.rows.items (c.in_ok-rows.ensures.shown clean) ids)))
 
 pub returns-in_err-rows-clause-cause : goal.returns-in_err-rows-clause-cause
-returns-in_err-rows-clause-cause g c clean l was unlimited ids =
+returns-in_err-rows-clause-cause g c clean tree has unlimited ids =
     let p = err_from_is_err_and c.from_residual.result c.from_residual.ensures.1 in
     rw (p.1, p.2)
     (never_refused text [] (state g.S.Store c.args.conn.now) (state g.S.Store c.ask.new.conn) _
-    (book_fails l.schema l.book was.declared.book (state g.S.Store c.args.conn.now) (state g.S.Store c.ask.new.conn) was.schema was.sound unlimited) (c.in_err-rows.ensures.failed clean))
+    (book_fails (state g.S.Store c.args.conn.now).now.schema tree has.declared (state g.S.Store c.args.conn.now) (state g.S.Store c.ask.new.conn) refl has.sound unlimited) (c.in_err-rows.ensures.failed clean))
 
 pub returns-clause-survives : goal.returns-clause-survives
 returns-clause-survives g c = commits_nothing text reads_only [] (state g.S.Store c.args.conn.now) (state g.S.Store c.ask.new.conn) c.ask.ensures.survives
 
 pub returns-in_err-rows-clause-survives : goal.returns-in_err-rows-clause-survives
 returns-in_err-rows-clause-survives g c = commits_nothing text reads_only [] (state g.S.Store c.args.conn.now) (state g.S.Store c.ask.new.conn) c.ask.ensures.survives
+
+pub returns-clause-gives : goal.returns-clause-gives
+returns-clause-gives g c clean =
+    IfOk-weaker c.books_of.result _ _ (λ xs made. (c.in_ok-rows.rows.items, c.in_ok-rows.ensures.shown clean, ap (map three_columns) (sym c.deref.ensures.value) ∙ made)) c.books_of.ensures.reads
+
+pub returns-clause-told : goal.returns-clause-told
+returns-clause-told g c clean =
+    fails_to_read books_asked (state g.S.Store c.args.conn.now) (state g.S.Store c.ask.new.conn) c.in_ok-rows.rows.items (c.in_ok-rows.ensures.shown clean) c.books_of.result c.books_of.ensures.kept
+    (λ all. c.books_of.ensures.kinds (subst (AllByRecursion (HasKinds books_asked.kinds)) (sym c.deref.ensures.value) all))
+
+pub returns-in_err-rows-clause-told : goal.returns-in_err-rows-clause-told
+returns-in_err-rows-clause-told g c clean =
+    let p = err_from_is_err_and c.from_residual.result c.from_residual.ensures.1 in
+    rw (p.1, p.2) (fails_to_ask books_asked (state g.S.Store c.args.conn.now) (state g.S.Store c.ask.new.conn) _ (c.in_err-rows.ensures.failed clean))
+
+pub returns-clause-shows : goal.returns-clause-shows
+returns-clause-shows g c clean l contents shows =
+    IfOk-weaker c.books_of.result _ _ (λ xs found. one_books book_columns _ _ _ shows.is.holds.books found.0)
+    (returns-clause-rows g c clean l.book (has_table l contents (state g.S.Store c.args.conn.now) shows _ shows.is.declared.book))

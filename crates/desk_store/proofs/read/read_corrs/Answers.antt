@@ -1,18 +1,21 @@
-use Rattle.std.proofs.Common.{[], map, sym, ap, subst, ◌∙◌}
+use Rattle.std.proofs.Common.{[], map, refl, sym, ap, subst, ◌∙◌}
 use Rattle.std.specs.List.{AllByRecursion}
 use Rattle.std.proofs.lemmas.Result.{IfOk-weaker, err_from_is_err_and}
 use Rattle.sqlite.specs.Held.{state}
-use Rattle.desk_store.specs.Contents.{six_columns}
-use Rattle.desk_store.specs.Kinds.{HasKinds, kinds_of}
-use Rattle.desk_store.specs.Tables.{corr}
+use Rattle.desk_store.specs.Asked.{corrs_asked}
+use Rattle.desk_store.specs.Contents.{six_columns, corr_columns}
+use Rattle.desk_store.specs.Kinds.{HasKinds}
+use Rattle.desk_store.proofs.OneList.{one_corrs}
+use Rattle.desk_store.proofs.Showing.{has_table}
 use Rattle.desk_store.proofs.Quiet.{commits_nothing, on_ok, on_err, shown_quietly, refused_as_it_was, never_refused, not_refused}
+use Rattle.desk_store.proofs.Asking.{fails_to_read, fails_to_ask}
 use Rattle.desk_store.proofs.ReadCorr.{text, reads_only, corr_read, corr_kinds, corr_fails}
 use Rattle.desk_store.proofs.read.read_corrs.Goals as goal
 
 pub returns-clause-rows : goal.returns-clause-rows
-returns-clause-rows g c clean l was =
+returns-clause-rows g c clean tree has =
     IfOk-weaker c.corrs_of.result _ _ (λ xs made.
-    corr_read l.schema l.corr was.declared.corr (state g.S.Store c.args.conn.now) (state g.S.Store c.ask.new.conn) was.schema was.sound c.in_ok-rows.rows.items xs.items (c.in_ok-rows.ensures.shown clean)
+    corr_read (state g.S.Store c.args.conn.now).now.schema tree has.declared (state g.S.Store c.args.conn.now) (state g.S.Store c.ask.new.conn) refl has.sound c.in_ok-rows.rows.items xs.items (c.in_ok-rows.ensures.shown clean)
     (ap (map six_columns) (sym c.deref.ensures.value) ∙ made)) c.corrs_of.ensures.reads
 
 pub returns-clause-unchanged : goal.returns-clause-unchanged
@@ -29,19 +32,38 @@ returns-in_err-rows-clause-refused g c clean =
     rw (p.1, p.2) (refused_as_it_was text reads_only [] (state g.S.Store c.args.conn.now) (state g.S.Store c.ask.new.conn) _ (c.in_err-rows.ensures.failed clean))
 
 pub returns-clause-cause : goal.returns-clause-cause
-returns-clause-cause g c clean l was unlimited utf8 =
-    not_refused c.corrs_of.result (c.corrs_of.ensures.kinds (subst (AllByRecursion (HasKinds (kinds_of (corr 0)))) (sym c.deref.ensures.value)
-    (corr_kinds l.schema l.corr was.declared.corr (state g.S.Store c.args.conn.now) (state g.S.Store c.ask.new.conn) was.schema was.sound c.in_ok-rows.rows.items (c.in_ok-rows.ensures.shown clean) utf8)))
+returns-clause-cause g c clean tree has unlimited utf8 =
+    not_refused c.corrs_of.result (c.corrs_of.ensures.kinds (subst (AllByRecursion (HasKinds corrs_asked.kinds)) (sym c.deref.ensures.value)
+    (corr_kinds (state g.S.Store c.args.conn.now).now.schema tree has.declared (state g.S.Store c.args.conn.now) (state g.S.Store c.ask.new.conn) refl has.sound c.in_ok-rows.rows.items (c.in_ok-rows.ensures.shown clean) utf8)))
 
 pub returns-in_err-rows-clause-cause : goal.returns-in_err-rows-clause-cause
-returns-in_err-rows-clause-cause g c clean l was unlimited utf8 =
+returns-in_err-rows-clause-cause g c clean tree has unlimited utf8 =
     let p = err_from_is_err_and c.from_residual.result c.from_residual.ensures.1 in
     rw (p.1, p.2)
     (never_refused text [] (state g.S.Store c.args.conn.now) (state g.S.Store c.ask.new.conn) _
-    (corr_fails l.schema l.corr was.declared.corr (state g.S.Store c.args.conn.now) (state g.S.Store c.ask.new.conn) was.schema was.sound unlimited) (c.in_err-rows.ensures.failed clean))
+    (corr_fails (state g.S.Store c.args.conn.now).now.schema tree has.declared (state g.S.Store c.args.conn.now) (state g.S.Store c.ask.new.conn) refl has.sound unlimited) (c.in_err-rows.ensures.failed clean))
 
 pub returns-clause-survives : goal.returns-clause-survives
 returns-clause-survives g c = commits_nothing text reads_only [] (state g.S.Store c.args.conn.now) (state g.S.Store c.ask.new.conn) c.ask.ensures.survives
 
 pub returns-in_err-rows-clause-survives : goal.returns-in_err-rows-clause-survives
 returns-in_err-rows-clause-survives g c = commits_nothing text reads_only [] (state g.S.Store c.args.conn.now) (state g.S.Store c.ask.new.conn) c.ask.ensures.survives
+
+pub returns-clause-gives : goal.returns-clause-gives
+returns-clause-gives g c clean =
+    IfOk-weaker c.corrs_of.result _ _ (λ xs made. (c.in_ok-rows.rows.items, c.in_ok-rows.ensures.shown clean, ap (map six_columns) (sym c.deref.ensures.value) ∙ made)) c.corrs_of.ensures.reads
+
+pub returns-clause-told : goal.returns-clause-told
+returns-clause-told g c clean =
+    fails_to_read corrs_asked (state g.S.Store c.args.conn.now) (state g.S.Store c.ask.new.conn) c.in_ok-rows.rows.items (c.in_ok-rows.ensures.shown clean) c.corrs_of.result c.corrs_of.ensures.kept
+    (λ all. c.corrs_of.ensures.kinds (subst (AllByRecursion (HasKinds corrs_asked.kinds)) (sym c.deref.ensures.value) all))
+
+pub returns-in_err-rows-clause-told : goal.returns-in_err-rows-clause-told
+returns-in_err-rows-clause-told g c clean =
+    let p = err_from_is_err_and c.from_residual.result c.from_residual.ensures.1 in
+    rw (p.1, p.2) (fails_to_ask corrs_asked (state g.S.Store c.args.conn.now) (state g.S.Store c.ask.new.conn) _ (c.in_err-rows.ensures.failed clean))
+
+pub returns-clause-shows : goal.returns-clause-shows
+returns-clause-shows g c clean l contents shows =
+    IfOk-weaker c.corrs_of.result _ _ (λ xs found. one_corrs corr_columns _ _ _ shows.is.holds.corrs found.0)
+    (returns-clause-rows g c clean l.corr (has_table l contents (state g.S.Store c.args.conn.now) shows _ shows.is.declared.corr))
