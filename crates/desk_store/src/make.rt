@@ -8,7 +8,7 @@ ghost use Rattle.sqlite.specs.Does.{lacks_sequence};
 ghost use Rattle.sqlite.specs.Effect.{Database};
 ghost use Rattle.sqlite.specs.Held.{state};
 ghost use Rattle.sqlite.specs.State.{HasCleanDisk, IsLive, KeepsCommit, Survives};
-ghost use Rattle.desk_store.specs.Fault.{told};
+ghost use Rattle.desk_store.specs.Fault.{IsToldAs};
 ghost use Rattle.desk_store.specs.Making.{AreAbsent, AreFree, FreesNone, HasCounter, IndexesLow, IsMade, IsMaking, IsNew, IsUndone, after_para, made};
 ghost use Rattle.desk_store.specs.States.{IsUnder, Leaves, Shows, seen};
 ghost use Rattle.desk_store.specs.Tables as tables;
@@ -150,7 +150,7 @@ pub fn make_tables<S: Alter>(conn: &mut Connection<S>) -> Result<(), Error>
     ensures settled { HasCleanDisk (state S.Store conn.new) → OnOk result (Leaves (IsMade (state S.Store conn.old)) (state S.Store conn.new)) }
     ensures undone { HasCleanDisk (state S.Store conn.new) → OnErr result (IsUndone (state S.Store conn.old) (state S.Store conn.new)) }
     // After a refusal a crash leaves nothing new.
-    ensures refused { HasCleanDisk (state S.Store conn.new) → IfErr result (λ e. told e ≡ ReadFault.Refused → Survives (state S.Store conn.old) (state S.Store conn.new) (λ _. ⊥)) }
+    ensures refused { HasCleanDisk (state S.Store conn.new) → IfErr result (λ e. IsToldAs e ReadFault.Refused → Survives (state S.Store conn.old) (state S.Store conn.new) (λ _. ⊥)) }
 {
     let mut tx = conn.transaction();
     create_first(&mut tx)?;
