@@ -1,5 +1,5 @@
 -- How the columns of the one table of a query are read.
-use Rattle.std.proofs.Common.{◌≡◌, ℕ, suc, ◌+◌, ◌-◌, ◌<◌, ◌^◌, Bool, true, false, nat_lt, List, [], ◌∷◌, ◌++◌, length, codes, slice_get, Option, Some, None, Ok, refl, sym, ap, ◌∙◌, arith, append-nil, append_assoc, map, cond, unwrap_or}
+use Rattle.std.proofs.Common.{◌≡◌, ℕ, suc, ◌+◌, ◌-◌, ◌<◌, ◌^◌, Bool, true, false, nat_lt, List, [], ◌∷◌, ◌++◌, length, codes, slice_get, Some, None, Ok, refl, sym, ap, ◌∙◌, arith, append-nil, append_assoc, map, cond, unwrap_or}
 use Rattle.std.specs.List.{AllZip}
 use Rattle.std.proofs.lemmas.Bool.Decides.{nat_tests}
 use Rattle.sqlite_value.specs.declared.keys.Key.{Key}

@@ -1,5 +1,5 @@
 -- Lists in order, by neighbours.
-use Rattle.std.proofs.Common.{◌≡◌, ℕ, zero, suc, ◌+◌, ◌<◌, ◌≤◌, Bool, false, List, [], ◌∷◌, map, length, slice_index_or, refl, sym, ap, subst, ◌∙◌, arith}
+use Rattle.std.proofs.Common.{◌≡◌, ℕ, zero, suc, ◌+◌, ◌<◌, Bool, false, List, [], ◌∷◌, map, length, slice_index_or, sym, subst, ◌∙◌, arith}
 use Rattle.std.specs.List.Sorted.{IsSortedBy}
 
 -- no element is below the one before it

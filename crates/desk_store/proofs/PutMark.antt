@@ -3,7 +3,6 @@ use Rattle.std.proofs.Common.{◌≡◌, ℕ, List, [], ◌∷◌, ◌++◌, dro
 use Rattle.sqlite_value.specs.declared.value.Value.TheVariants.{Null, Int, Text}
 use Rattle.sqlite_value.specs.Order.{Row}
 use Rattle.sqlite_trees.specs.Tree.{rowid}
-use Rattle.sqlite_ast.specs.declared.Upsert.{Upsert}
 use Rattle.sqlite_sql.specs.Term.{Term, lit, col, eval_all}
 use Rattle.sqlite_rules.specs.Cast.{cast_row}
 use Rattle.sqlite_rules.specs.Edit.{id_in}
@@ -19,7 +18,7 @@ use Rattle.desk_store.specs.Tables.{mark}
 use Rattle.desk_store.proofs.Holding.{mark_holds}
 use Rattle.desk_store.proofs.Meaning.{parse_of, rows_in, clause_in}
 use Rattle.desk_store.proofs.Staying.{stays, cast_null, cast_int}
-use Rattle.desk_store.proofs.Upserts.{IsUpsert, PutsRow, puts_row}
+use Rattle.desk_store.proofs.Upserts.{IsUpsert, puts_row}
 
 abbrev text : List ℕ
 text = codes "INSERT INTO mark VALUES (?1, ?2, ?3, ?4, ?5, ?6, ?7) ON CONFLICT (id) DO UPDATE SET para = ?2, start = ?3, stop = ?4, note = ?5, touched = ?6, resolved = ?7"

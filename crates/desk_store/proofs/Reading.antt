@@ -1,7 +1,7 @@
 -- What SELECT of a whole table in order shows.
-use Rattle.std.proofs.Common.{◌≡◌, ℕ, Bool, List, [], ◌∷◌, map, Some, None, refl, sym, ap, subst, ◌∙◌, is_lt, IsPermutation}
+use Rattle.std.proofs.Common.{◌≡◌, ℕ, List, [], ◌∷◌, map, refl, sym, ap, subst, ◌∙◌, is_lt, IsPermutation}
 use Rattle.std.specs.List.{AllByRecursion, flat_map}
-use Rattle.std.proofs.lemmas.List.Sorted.{IsPermutation-map, IsPermutation-sym}
+use Rattle.std.proofs.lemmas.List.Sorted.{IsPermutation-map}
 use Rattle.sqlite_value.specs.declared.keys.Key.{Key}
 use Rattle.sqlite_value.specs.declared.keys.Collation.TheVariants.{Binary}
 use Rattle.sqlite_value.specs.Keys.{ascending}
@@ -10,7 +10,7 @@ use Rattle.sqlite_trees.specs.Tree.{Trees}
 use Rattle.sqlite_trees.proofs.ListLemmas.{all-permutation}
 use Rattle.sqlite_sql.specs.Term.{Term, eval_all}
 use Rattle.sqlite_sql.specs.Query.{Query, Output, IsAnswer, output, output_cmp}
-use Rattle.desk_store.proofs.OneTable.{Parts, query_on}
+use Rattle.desk_store.proofs.OneTable.{query_on}
 use Rattle.desk_store.proofs.Orders.{Rises, rises}
 
 module _ (tree : ℕ) (project terms : List Term) (show key : Row → Row) (shows : (r : Row) → eval_all project ([] ∷ r ∷ []) ≡ show r) (sorts : (r : Row) → eval_all terms ([] ∷ r ∷ []) ≡ key (show r)) where

@@ -1,5 +1,5 @@
 -- Rows in a tree.
-use Rattle.std.proofs.Common.{◌≡◌, ◌⊎◌, inl, inr, ℕ, ℤ, ◌+◌, ◌≤◌, Bool, true, false, not, cond, List, [], ◌∷◌, map, filter, length, refl, sym, ap, subst, ◌∙◌, Ordering, Less, Equal, Greater, is_lt, is_eq, IsTrue, int_cmp, true≢false, IsPermutation, arith, ◌<ℤ◌}
+use Rattle.std.proofs.Common.{◌≡◌, inl, inr, ℤ, ◌≤◌, Bool, true, false, not, cond, List, [], ◌∷◌, map, filter, length, refl, sym, ap, ◌∙◌, Ordering, Less, Equal, Greater, is_eq, int_cmp, true≢false, IsPermutation, arith, ◌<ℤ◌}
 use Rattle.std.specs.List.{AllByRecursion, list_any}
 use Rattle.std.specs.Ordering.{match_ordering, ordering_reverse, MatchOrdering}
 use Rattle.std.proofs.lemmas.Bool.{or_parts}
@@ -9,7 +9,6 @@ use Rattle.sqlite_value.specs.declared.value.Value.TheVariants.{Int}
 use Rattle.sqlite_value.specs.Order.{Row, value_cmp}
 use Rattle.sqlite_value.proofs.OrderLemmas.{value_cmp-Int, value_cmp_total}
 use Rattle.sqlite_trees.specs.Tree.{rowid, has_rowid, put_row, without_rowid}
-use Rattle.sqlite_trees.specs.View.{is_int}
 use Rattle.sqlite_trees.proofs.ListLemmas.{all-permutation, IsPermutation-filter}
 use Rattle.sqlite_rules.specs.Lists.{Has}
 use Rattle.desk_store.specs.Contents.{HaveRowids, Lists}

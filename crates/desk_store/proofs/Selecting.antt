@@ -1,7 +1,6 @@
 -- What SELECT of columns of one table in the order of some means, whatever else the schema has.
-use Rattle.std.proofs.Common.{◌≡◌, ℕ, ◌+◌, ◌-◌, ◌<◌, ◌^◌, pos, negsuc, Bool, true, false, nat_lt, ◌==◌, List, [], ◌∷◌, ◌++◌, length, map, slice_get, Option, Some, None, Ok, refl, sym, ap, ◌∙◌, arith}
+use Rattle.std.proofs.Common.{◌≡◌, ℕ, ◌+◌, ◌-◌, ◌<◌, negsuc, true, false, List, [], ◌∷◌, length, map, slice_get, Some, None, Ok, refl, arith}
 use Rattle.std.specs.List.{AllZip}
-use Rattle.sqlite_value.specs.declared.keys.Collation.{Collation}
 use Rattle.sqlite_value.specs.declared.keys.Collation.TheVariants.{Binary}
 use Rattle.sqlite_value.specs.Keys.{ascending}
 use Rattle.sqlite_value.specs.declared.value.Value.TheVariants.{Int}
@@ -35,7 +34,7 @@ use Rattle.sqlite_schema.specs.declared.command.Command.TheVariants.{Select as S
 use Rattle.sqlite_ast.specs.declared.Statement.{Statement}
 use Rattle.desk_store.proofs.Meaning.{parse_of}
 use Rattle.desk_store.proofs.OneTable.{draft_of}
-use Rattle.desk_store.proofs.Columns.{clear, bound, over, IsShown, IsKey, outputs_are, sorts_are}
+use Rattle.desk_store.proofs.Columns.{clear, bound, IsShown, IsKey, outputs_are, sorts_are}
 
 -- FROM names one table and no more
 pub record IsFrom (s : Source) (name : Name) : Type 0 where

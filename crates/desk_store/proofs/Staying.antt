@@ -1,5 +1,5 @@
 -- A statement within a transaction goes on over the same commit.
-use Rattle.std.proofs.Common.{◌≡◌, refl, ap, subst, ◌∙◌, cond, Bool, true, false, ℤ}
+use Rattle.std.proofs.Common.{◌≡◌, refl, subst, ◌∙◌, cond, Bool, true, false, ℤ}
 use Rattle.sqlite_value.specs.declared.value.Value.{Value}
 use Rattle.sqlite_value.specs.declared.value.Value.TheVariants.{Null, Int}
 use Rattle.sqlite_schema.specs.declared.schema.Kind.TheVariants.{Integer}

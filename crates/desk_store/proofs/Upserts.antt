@@ -1,5 +1,5 @@
 -- The texts that put a row by its rowid, whatever else the schema has.
-use Rattle.std.proofs.Common.{◌≡◌, ℕ, ℤ, ◌+◌, ◌<◌, ◌/◌, false, true, ◌==◌, List, [], ◌∷◌, ◌++◌, drop, length, Some, None, Ok, refl, ap, ◌∙◌}
+use Rattle.std.proofs.Common.{◌≡◌, ℕ, ℤ, ◌+◌, ◌<◌, ◌/◌, false, true, ◌==◌, List, [], ◌∷◌, ◌++◌, drop, length, Some, Ok, refl, ap, ◌∙◌}
 use Rattle.sqlite_value.specs.declared.keys.Collation.TheVariants.{Binary}
 use Rattle.sqlite_value.specs.declared.value.Value.TheVariants.{Int}
 use Rattle.sqlite_value.specs.Order.{Row, column}
@@ -14,7 +14,6 @@ use Rattle.sqlite_schema.specs.declared.command.Conflict.TheVariants.{Abort}
 use Rattle.sqlite_schema.specs.declared.command.Source.TheVariants.{Values}
 use Rattle.sqlite_schema.specs.declared.schema.Column.{Column}
 use Rattle.sqlite_schema.specs.declared.schema.Schema.{Schema}
-use Rattle.sqlite_typing.specs.Types.{row_classes, table_classes}
 use Rattle.sqlite_resolve.specs.Compile.{small, new_rows}
 use Rattle.sqlite_resolve.specs.Given.{do_update, key_meant}
 use Rattle.sqlite_resolve.specs.Terms.{equal}

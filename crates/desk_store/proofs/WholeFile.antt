@@ -6,7 +6,7 @@ use Rattle.sqlite_schema.specs.declared.schema.Table.{Table}
 use Rattle.sqlite_value.specs.Order.{Row}
 use Rattle.sqlite_trees.specs.Tree.{Trees}
 use Rattle.sqlite_catalog.specs.Listing.{IsSound}
-use Rattle.desk_book.specs.Rows.{Tab, StoredTab}
+use Rattle.desk_book.specs.Rows.{StoredTab}
 use Rattle.desk_store.specs.Contents.{Contents, Lists, Holds, book_row, tab_row, stored_tab_row, para_row, corr_row, mark_row, book_columns, tab_columns, stored_tab_columns, para_columns, corr_columns, mark_columns}
 use Rattle.desk_store.specs.Layout.{Layout, AreDeclared, IsOther}
 use Rattle.desk_store.specs.States.{IsFile}
