@@ -1,7 +1,7 @@
 # make          proves all crates and builds build/braildesk
 # make demo     does that, and shows the main job on a sample
-# make test     the gate: proves from nothing, tries the must-fail edits, runs the tests and the stored run, and holds a
-#               file beside sqlite3, which has to be installed
+# make test     the gate: proves from nothing, tries the must-fail edits, runs the tests and the stored run, and
+#               compares files with sqlite3, which has to be installed
 # make bench    measures speed
 # make install  copies the program to $(DESTDIR)$(PREFIX)/bin
 

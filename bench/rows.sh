@@ -56,7 +56,7 @@ for count in 100 1000 10000; do
     report put "$count" here $(best_of none here_put "$count")
     report put "$count" 'by sqlite3' $(best_of none sqlite3_put)
     none; here_put "$count"; sqlite3_put > "$scratch/out"
-    [ "$(here_read)" = "$count" ] || { echo "the file has not $count paragraphs" >&2; exit 1; }
+    [ "$(here_read)" = "$count" ] || { echo "the file doesn't have $count paragraphs" >&2; exit 1; }
     report read "$count" here $(best_of true here_read)
     report read "$count" 'by sqlite3' $(best_of true sqlite3_read)
 done

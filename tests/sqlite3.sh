@@ -1,5 +1,5 @@
 #!/bin/bash
-# Holds the rows' file beside sqlite3: a file that make_tables and write made is shown by sqlite3 with the same rows and
+# Compares files with sqlite3: a file that make_tables and write made is shown by sqlite3 with the same rows and
 # declarations, and a file that sqlite3 made is read here with the same rows.
 #   tests/sqlite3.sh
 # The program tests/rows.rattle, which makes and shows the files, is built by `rt try` in a scratch folder, and is not proved.
@@ -68,7 +68,8 @@ echo 'ok  the rows of a file that sqlite3 made'
 # the file that the program made, from the hex digits that it printed
 sed -n 's/^file //p' "$scratch/told" > "$scratch/hex"
 [ -s "$scratch/hex" ] || { cat "$scratch/told" "$scratch/errors" >&2; fail 'the program rows made no file'; }
-python3 -c 'import sys; sys.stdout.buffer.write(bytes.fromhex(sys.stdin.read()))' < "$scratch/hex" > "$scratch/made.db"
+{ echo "SELECT writefile('$scratch/made.db', X'"; tr -d '\n' < "$scratch/hex"; echo "');"; } | tr -d '\n' > "$scratch/write.sql"
+sqlite3 -batch -bail -init /dev/null :memory: < "$scratch/write.sql" > /dev/null
 sed -n '/^== make$/,/^file /p' "$scratch/told" | sed -e 1d -e '$d' > "$scratch/made.rows"
 for table in book tab para corr mark; do
     [ "$(grep -c "^$table|" "$scratch/made.rows")" -ge 5 ] || fail "the file that was made here lacks rows of $table"

@@ -1,4 +1,4 @@
--- What a file holds: the rows of the five tables, and those of the other tables. Texts are in UTF-8, so what is in order of its bytes is
+-- What a file holds: the rows of the five tables, and those of the other trees. Texts are in UTF-8, so what is in order of its bytes is
 -- in order of its code points.
 use Rattle.std.specs.Prelude.{◌≡◌, ℕ, ℤ, pos, ◌≤◌, Bool, not, if◌then◌else◌, List, [], ◌∷◌, map, filter, length, bytes_eq, IsPermutation}
 use Rattle.std.specs.List.{AllByRecursion}
@@ -94,7 +94,7 @@ pub record Holds (l : Layout) (c : Contents) (db : Trees) : Type 0 where
   pub others : AllByRecursion (λ t. IsOther l t.tree → db t.tree ≡ c.others t.tree) l.schema.tables
   -- and each tree that is no index, among them those that the database keeps as they are, the list of its schema and its user version
   pub aside : (tree : ℕ) → IsOther l tree → IsNoIndex l.schema tree → db tree ≡ c.others tree
-  -- the rows that may be replaced are told apart, those of `tab` by their hidden rowids too
+  -- the rows that may be changed are told apart, those of `tab` by their hidden rowids too
   pub book_ids : HaveRowids (db l.book)
   pub tab_ids : HaveRowids (db l.tab)
   pub para_ids : HaveRowids (db l.para)

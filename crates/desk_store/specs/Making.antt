@@ -91,10 +91,10 @@ pub record AreFree (names : List (List ℕ)) (s : State) : Type 0 where
 abbrev pub FreesNone : State → State → Type 0
 FreesNone old new = (name : List ℕ) → is_used new.now.schema name ≡ false → is_used old.now.schema name ≡ false
 
--- What making adds to what a crash may leave: where the names were free, the file with the five tables.
+-- What making adds to what a crash may leave: only where the names were free, and then, if the counter is there, the file with the five tables.
 abbrev pub IsMade : State → Trees → Type 0
 IsMade s db = AreAbsent s.now.schema × (IsLive s → HasCounter s.now.schema → IsNew s.now.schema s.now.trees (λ c. IsFile (made s.now.schema) c db))
 
--- The last commit is that of before, and the connection shows it, if it is open still.
+-- If the connection is open still, its last commit is that of before, and it shows it.
 abbrev pub IsUndone : State → State → Type 0
 IsUndone old new = KeepsCommit old new × (IsTrue new.is_open → new.now ≡ new.committed)

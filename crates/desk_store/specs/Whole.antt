@@ -39,7 +39,7 @@ pub record AreRows (l : Layout) (rows : Rows) (db : Trees) : Type 0 where
 abbrev pub DifferBy : {X : Type 0} → (X → ℤ) → List X → Type 0
 DifferBy key xs = IsDistinct int_eq (map key xs)
 
--- the rows that may be replaced differ by their keys, those of `tab` by their rowids
+-- the rows that may be changed differ by their keys, those of `tab` by their rowids
 pub record AreApart (rows : Rows) : Type 0 where
   pub books : DifferBy (λ b. b.id) rows.books
   pub tabs : DifferBy (λ t. t.rowid) rows.tabs

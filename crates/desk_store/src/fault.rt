@@ -1,10 +1,10 @@
-//! Why the rows can't be read.
+//! Why a file can't be opened, or its rows can't be read.
 
 ghost use Rattle.desk_store.specs.Fault.{IsToldAs};
 
 use sqlite::{Error, ErrorCode};
 
-/// Why the rows can't be read.
+/// Why a file can't be opened, or its rows can't be read.
 #[derive(Clone, Copy, Debug, PartialEq, Eq)]
 pub enum ReadFault {
     /// A growth was refused.
@@ -12,7 +12,7 @@ pub enum ReadFault {
     /// The store failed: reading or writing, damage of the pages, size, or a shut database.
     Lost,
     /// The statement or a value was refused for another cause: a missing table or column, a limit on steps, or a value of
-    /// another kind.
+    /// another kind; or what was opened is no database.
     Refused,
 }
 

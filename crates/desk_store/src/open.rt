@@ -1,4 +1,4 @@
-//! A file that is there, opened again.
+//! A file that is there, opened.
 
 ghost use Rattle.std.specs.Prelude.{◌≡◌, ◌<◌, ◌^◌, ◌-◌, false, IfOk, IfErr};
 ghost use Rattle.sqlite_trees.specs.View.{IsClean, IsQuiet};
@@ -25,7 +25,7 @@ pub fn open_file<S: Alter + Drop>(alloc: Global, store: S) -> Result<Connection<
     ensures crash { IfOk result (λ conn. HasCleanDisk (state S.Store conn) → Leaves (λ db. db ≡ (S.Store.view store).trees) (state S.Store conn)) }
     // What is a file of any layout is never refused.
     ensures refused { IfErr result (λ e. IsClean (S.Store.view e.1) → e.0 ≡ ReadFault.Refused → (l : Layout) (c : Contents) → ¬ IsFile l c (S.Store.view store).trees) }
-    // It is lost only where the store failed, which it counts up to this number.
+    // It is lost only where the store counts more failures, unless its count stands at its limit.
     ensures lost { IfErr result (λ e. IsClean (S.Store.view e.1) → e.0 ≡ ReadFault.Lost → S.Store.faults e.1 < 2 ^ 64 - 1 → S.Store.faults store < S.Store.faults e.1) }
     // After an error it leaves nothing new.
     ensures quiet { IfErr result (λ e. IsQuiet S.Store.view S.Store.faults S.Store.recovers S.Store.is_shielded store e.1) }

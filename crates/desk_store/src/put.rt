@@ -173,7 +173,7 @@ pub(crate) fn set_place<S: Alter>(
     Ok(())
 }
 
-/// Sets the version of the book.
+/// Sets the version in the row of `book` with id 1, if it is there.
 pub(crate) fn set_version<S: Alter>(tx: &mut Transaction<'_, S>, version: i64) -> Result<(), Error>
     ensures same_reference { tx.new.conn.ghost_name ≡ tx.old.conn.ghost_name }
     ensures put { HasCleanDisk (seen S.Store tx.new) → (committed : Database) (l : Layout) (c : Contents) → IsUnder committed l c (seen S.Store tx.old)

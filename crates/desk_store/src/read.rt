@@ -1,6 +1,6 @@
 //! The statements that read a table whole.
 //!
-//! Each answers what its statement shows in any file, and changes nothing; a value that has not the kind that a new
+//! Each answers what its statement shows in any file, and changes nothing; a value that isn't of the kind that a new
 //! file declares for its column is refused. Over a clean disk, where the table is declared as in a new file, the answer
 //! is its rows as they stand, in order. Where these have integer rowids and texts in UTF-8 too, and the steps have no
 //! limit, only memory or the store makes it fail.
