@@ -18,7 +18,7 @@ for crate in crates/*/; do
 done
 cp "bench/$name.rattle" "$copy/crates/$name/src/main.rt"
 cp HANDLES "$copy"
-cat crates.txt bench/programs > "$copy/crates.txt"
+{ cat crates.txt; grep "^$name:" bench/programs; } > "$copy/crates.txt"
 echo "Proving and building bench/$name.rattle, with all that it stands on. The first time this takes some minutes." >&2
 told=$(mktemp); trap 'rm -f "$told"' EXIT
 (cd "$copy/crates/$name" && "${RT:-rt}" run -- "$@") > "$told" 2>&1 < /dev/null || { cat "$told" >&2; exit 1; }
