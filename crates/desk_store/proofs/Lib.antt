@@ -45,3 +45,4 @@ pub mod Schemas
 pub mod Apart
 pub mod OneList
 pub mod WholeFile
+pub mod RowTexts
