@@ -140,7 +140,7 @@ module _ (s : Schema) (none : AreAbsent s) (counts : HasCounter s) where
           let there = has_left _ _ t (has_left _ _ t (has_left _ _ t (has_left _ _ t (has_left s.tables _ t has)))) in
           all_has _ (after_mark s).tables t m.kept there ∙ rw (is_below t.tree (next_tree s) (table_below s t has)) refl
 
-      pub finished : IsUnder committed (made s) (no_contents now.now.trees) now × KeepsRows s.tables rows now.now.trees × KeepsAside rows now.now.trees
+      pub finished : IsUnder committed (made s) (no_contents now.now.trees) now × KeepsRows s.tables rows now.now.trees × KeepsAside s rows now.now.trees
       finished =
           let d = all_declared in
           let l = made s in
@@ -192,7 +192,8 @@ begins_making g old sound = record {
   schema = refl;
   sound = sound;
   kept = rows_there (state g old).now.schema (state g old).now.trees (state g old).now.schema.tables (table_below (state g old).now.schema);
-  aside = record { texts = λ row has foreign. has; version = refl };
+  foreign = λ tree is. is;
+  aside = record { rows = λ tree is. refl; texts = λ row has foreign. has; version = refl };
   later = omega arith;
   inside = refl;
   over = refl;
