@@ -47,3 +47,4 @@ pub mod Apart
 pub mod OneList
 pub mod WholeFile
 pub mod RowTexts
+pub mod Kept

@@ -2,6 +2,7 @@
 ghost use Rattle.desk_store.specs.Contents.{Contents};
 ghost use Rattle.desk_store.specs.Kinds.{HaveIntegerRowids, HaveUtf8Texts};
 ghost use Rattle.desk_store.specs.Layout.{AreDeclared, Layout};
+ghost use Rattle.desk_store.specs.Making.{IsNew, KeepsAside, made};
 ghost use Rattle.desk_store.specs.States.{IsFile, Leaves, Shows};
 ghost use Rattle.desk_store.specs.Whole.{AreApart, AreRows, AreUtf8, HaveSameRows, Rows, contents_of};
 ghost use Rattle.sqlite.specs.Held.{state};
@@ -43,4 +44,9 @@ pub fn read_whole()
 pub fn texts_as_written()
     ensures { (l : Layout) (c : Contents) (db : Trees) → IsFile l c db → AreUtf8 c
         → HaveUtf8Texts (db l.tab) × HaveUtf8Texts (db l.para) × (HaveIntegerRowids (db l.corr) → HaveUtf8Texts (db l.corr)) × HaveUtf8Texts (db l.mark) }
+{}
+
+/// A file where the five tables were made keeps what the database keeps aside.
+pub fn made_keeps()
+    ensures { (s : Schema) (rows db : Trees) → IsNew s rows (λ c. IsFile (made s) c db) → KeepsAside s rows db }
 {}
