@@ -1,3 +1,4 @@
+pub mod Frozen
 pub mod Making
 pub mod Taking
 pub mod MadeTables
@@ -45,3 +46,5 @@ pub mod Schemas
 pub mod Apart
 pub mod OneList
 pub mod WholeFile
+pub mod RowTexts
+pub mod Kept

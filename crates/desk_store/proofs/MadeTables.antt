@@ -19,7 +19,7 @@ use Rattle.sqlite.specs.Does.{lacks_sequence}
 use Rattle.sqlite.specs.State.{State, HasCleanDisk, IsLive}
 use Rattle.desk_store.specs.Contents.{HaveRowids}
 use Rattle.desk_store.specs.Layout.{Layout, IsDeclared, AreDeclared, IsOther}
-use Rattle.desk_store.specs.Making.{AreAbsent, AreFree, FreesNone, HasCounter, IndexesLow, IsMaking, IsNew, first_rows, after_book, after_tab, after_para, after_corr, after_mark, made, no_contents}
+use Rattle.desk_store.specs.Making.{AreAbsent, AreFree, FreesNone, HasCounter, IndexesLow, IsMaking, IsNew, KeepsAside, first_rows, after_book, after_tab, after_para, after_corr, after_mark, made, no_contents}
 use Rattle.desk_store.specs.States.{IsUnder, Shows}
 use Rattle.desk_store.specs.Tables as tables
 use Rattle.desk_store.proofs.Creating.{sound_is_low, low_still, declares, declared_stays, free_still, counts_still}
@@ -140,7 +140,7 @@ module _ (s : Schema) (none : AreAbsent s) (counts : HasCounter s) where
           let there = has_left _ _ t (has_left _ _ t (has_left _ _ t (has_left _ _ t (has_left s.tables _ t has)))) in
           all_has _ (after_mark s).tables t m.kept there ∙ rw (is_below t.tree (next_tree s) (table_below s t has)) refl
 
-      pub finished : IsUnder committed (made s) (no_contents now.now.trees) now × KeepsRows s.tables rows now.now.trees
+      pub finished : IsUnder committed (made s) (no_contents now.now.trees) now × KeepsRows s.tables rows now.now.trees × KeepsAside s rows now.now.trees
       finished =
           let d = all_declared in
           let l = made s in
@@ -178,6 +178,7 @@ module _ (s : Schema) (none : AreAbsent s) (counts : HasCounter s) where
               over = m.over;
             },
             all_from _ s.tables keeps_row,
+            m.aside,
           )
 
 rows_there : (s : Schema) (rows : Trees) (tables : List Table) → ((t : Table) → Has tables t → t.tree < next_tree s) → AllByRecursion (λ t. rows t.tree ≡ first_rows s rows t.tree) tables
@@ -191,6 +192,8 @@ begins_making g old sound = record {
   schema = refl;
   sound = sound;
   kept = rows_there (state g old).now.schema (state g old).now.trees (state g old).now.schema.tables (table_below (state g old).now.schema);
+  foreign = λ tree is. is;
+  aside = record { rows = λ tree is. refl; texts = λ row has foreign. has; version = refl };
   later = omega arith;
   inside = refl;
   over = refl;
@@ -214,5 +217,5 @@ module _ {S : Type 0} (g : Ghosts S) (old begun mid last : Held S) (begins : beg
             let rows = (state g old).now.trees in
             let half = first (earlier clean) (state g old).committed old.schema rows none counts (rw begins (begins_making g old sound)) in
             let done = rest clean (state g old).committed old.schema rows none counts (sound_is_low old.schema rows sound) half in
-            (done.0, done.1, done.2.shows),
+            (done.0, done.1, done.2, done.3.shows),
       )

@@ -16,12 +16,13 @@ use Rattle.sqlite_catalog.proofs.StepLemmas.{table_below}
 use Rattle.sqlite_rules.proofs.ListLemmas.{has_right}
 use Rattle.sqlite.proofs.Callers.{statement_of}
 use Rattle.sqlite.specs.Does.{lacks_sequence}
-use Rattle.sqlite.specs.Effect.{Database}
+use Rattle.sqlite.specs.Effect.{Database, SparesFrozen}
 use Rattle.sqlite.specs.State.{State, ExecutesInside}
 use Rattle.sqlite_tied.specs.Compute.{everything}
-use Rattle.desk_store.specs.Making.{IsMaking, first_rows}
+use Rattle.desk_store.specs.Making.{IsForeignTree, IsMaking, KeepsAside, first_rows}
 use Rattle.desk_store.specs.Tables.{book, tab, para, corr, mark}
 use Rattle.desk_store.proofs.Creating.{counts_still}
+use Rattle.desk_store.proofs.Frozen.{foreign_still, is_frozen}
 use Rattle.desk_store.proofs.Meaning.{IsText, parse_of, create_is}
 use Rattle.desk_store.proofs.Running.{create_ran}
 use Rattle.std.proofs.Common.{inl}
@@ -89,6 +90,17 @@ kept_rows : (old new first : Trees) (tables : List Table) → AllByRecursion (λ
 kept_rows old new first [] was same more these = these
 kept_rows old new first (t ∷ ts) was same more these = (same.0 ∙ was.0, kept_rows old new first ts was.1 same.1 more these)
 
+-- what was kept aside so far is kept by one more statement
+kept_aside : (first before : Schema) (rows : Trees) (old new : Database) → ((tree : ℕ) → IsForeignTree first tree → IsForeignTree before tree) → IsSound before old.trees → KeepsAside first rows old.trees → SparesFrozen old new
+    → KeepsAside first rows new.trees
+kept_aside first before rows old new foreign sound was spares = record {
+  rows = λ tree is.
+      let frozen = is_frozen before old.trees sound tree (foreign tree is) in
+      spares.rows tree (λ e. omega (arith, frozen.0, e)) (λ e. omega (arith, frozen.0, e)) frozen.1 ∙ was.rows tree is;
+  texts = λ row has foreign. spares.texts row (was.texts row has foreign) foreign;
+  version = spares.version ∙ was.version;
+}
+
 pub makes : (text : List ℕ) (table : Table) (m : IsMake text table) (committed : Database) (first : Schema) (rows : Trees) (before : Schema) (old new : State) (count : ℕ) → IsMaking committed first rows before old
     → is_used before table.name ≡ false → lacks_sequence before ≡ false → ExecutesInside 0 text [] old new (Ok count) → IsMaking committed first rows (created before table) new
 makes text table m committed first rows before old new count was free counts h =
@@ -103,6 +115,8 @@ makes text table m committed first rows before old new count was free counts h =
       schema = made.schema;
       sound = subst (λ s. IsSound s new.now.trees) made.schema made.sound;
       kept = kept_rows old.now.trees new.now.trees (first_rows first rows) before.tables was.kept made.others (new_table ∷ []) (empty, tt);
+      foreign = λ tree is. foreign_still before table tree (was.foreign tree is);
+      aside = kept_aside first before rows old.now new.now was.foreign was.sound was.aside made.frozen;
       later = omega (arith, above, later);
       inside = made.shown.mode ∙ was.inside;
       over = (rw was.inside at made.shown.committed_is) ∙ was.over;

@@ -74,15 +74,15 @@ columns_from at [] row = []
 columns_from at (c ∷ cs) row = column row at ∷ columns_from (at + 1) cs row
 
 -- the row goes on so from the place behind this one
-abbrev GoesOn : ℕ → Row → Row → Type 0
+abbrev pub GoesOn : ℕ → Row → Row → Type 0
 GoesOn at vs row = (i k : ℕ) → k ≡ at + 1 + i → column vs i ≡ column row k
 
-goes_on : (row : Row) → GoesOn 0 (drop 1 row) row
+pub goes_on : (row : Row) → GoesOn 0 (drop 1 row) row
 goes_on [] i k e = refl
 goes_on (v ∷ row) i zero e = absurd (omega (arith, e))
 goes_on (v ∷ row) i (suc k) e = let same : i ≡ k = omega (arith, e) in ap (column row) same
 
-later : (at : ℕ) (vs row : Row) → GoesOn at vs row → GoesOn (at + 1) (drop 1 vs) row
+pub later : (at : ℕ) (vs row : Row) → GoesOn at vs row → GoesOn (at + 1) (drop 1 vs) row
 later at [] row on i k e = on (suc i) k (omega (arith, e))
 later at (v ∷ vs) row on i k e = on (suc i) k (omega (arith, e))
 
@@ -141,7 +141,7 @@ module _ (schema : Schema) (table : Table) (d : IsDeclared schema table) (db : T
   passing : (rule : Constraint) → AllByRecursion (λ row. passes rule schema db table row ≡ true) (db table.tree)
   passing rule = all_has (λ t. AllByRecursion (λ row. passes rule schema db t row ≡ true) (db t.tree)) schema.tables table (sound.obeys.rules rule) (has_table schema table d)
 
-  kept : AllByRecursion (IsKept table) (db table.tree)
+  pub kept : AllByRecursion (IsKept table) (db table.tree)
   kept = kept_from (db table.tree) (passing Datatype) (passing NotNull)
 
   module _ (P : Row → Type 0) (show : Row → Row) (kinds : List Kind) (each : (row : Row) → IsKept table row → P row → HasKinds kinds (show row)) where

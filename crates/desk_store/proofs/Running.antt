@@ -16,7 +16,7 @@ use Rattle.sqlite_rules.specs.Edit.{with_rowid}
 use Rattle.sqlite_resolve.specs.Compile.{table_defined_by}
 use Rattle.sqlite_catalog.specs.Change.{created, next_tree, KeepsRows}
 use Rattle.sqlite.specs.Does.{Tally, Does, lacks_sequence}
-use Rattle.sqlite.specs.Effect.{Database, IsDatabase, value_rows}
+use Rattle.sqlite.specs.Effect.{Database, IsDatabase, SparesFrozen, value_rows}
 use Rattle.sqlite.specs.Listing.{understood}
 use Rattle.sqlite.specs.Rows.{Written, stamped, Updates}
 use Rattle.sqlite.specs.State.{State, mode_of, Writes, Executes, Shows}
@@ -87,6 +87,7 @@ pub record Created (before : Schema) (table : Table) (old new : State) : Type 0 
   pub sound : IsDatabase new.now
   pub empty : new.now.trees (next_tree before) ≡ []
   pub others : KeepsRows before.tables old.now.trees new.now.trees
+  pub frozen : SparesFrozen old.now new.now
   pub shown : Shows old new new.now (if old.in_transaction then old.committed else new.now) old.in_transaction
 
 pub create_ran : (before : Schema) (table : Table) (text : List ℕ) (old new : State) (count : ℕ) → old.now.schema ≡ before → Means before text CreateTable → statement_of text (understood before text) ≡ text
@@ -106,5 +107,6 @@ create_ran before table text old new count has means spelled defined uncounted h
       sound = w.sound;
       empty = ap (λ (d : Database). d.trees (next_tree before)) now ∙ subst (λ s. first.0.trees (next_tree s) ≡ []) has made.empty;
       others = subst (λ (d : Database). KeepsRows before.tables old.now.trees d.trees) (sym now) (subst (λ (s : Schema). KeepsRows s.tables old.now.trees first.0.trees) has made.others);
+      frozen = w.frozen;
       shown = w.shown;
     }

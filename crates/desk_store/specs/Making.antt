@@ -1,10 +1,14 @@
 -- What making the five tables makes of a file that has none of them.
-use Rattle.std.specs.Prelude.{◌≡◌, ℕ, ◌<◌, ◌≤◌, pos, true, false, if◌then◌else◌, nat_lt, List, [], ◌∷◌, codes, IsTrue}
+use Rattle.std.specs.Prelude.{◌≡◌, ◌≢◌, ℕ, IsSome, ◌<◌, ◌≤◌, pos, true, false, if◌then◌else◌, nat_lt, List, [], ◌∷◌, codes, IsTrue}
 use Rattle.std.specs.List.{AllByRecursion}
+use Rattle.sqlite_trees.specs.Objects.{catalog_tree, version_tree}
 use Rattle.sqlite_trees.specs.Tree.{Trees}
 use Rattle.sqlite_schema.specs.declared.schema.Index.{Index}
+use Rattle.sqlite_schema.specs.declared.schema.View.{View as Stored}
 use Rattle.sqlite_schema.specs.declared.schema.Schema.{Schema}
+use Rattle.sqlite_rules.specs.Edit.{IsNoIndex}
 use Rattle.sqlite_rules.specs.Lists.{Has}
+use Rattle.sqlite_catalog.specs.Calls.{KeepsForeign}
 use Rattle.sqlite_catalog.specs.Change.{KeepsRows, created, next_tree, is_used}
 use Rattle.sqlite_catalog.specs.Listing.{IsSound}
 use Rattle.sqlite.specs.Does.{lacks_sequence}
@@ -69,15 +73,33 @@ no_contents others = record { books = []; tabs = []; paras = []; corrs = []; mar
 abbrev pub first_contents : Trees → Contents
 first_contents others = record (no_contents others) { books = record { id = pos 1; format = pos 1; version = pos 0 } ∷ [] }
 
--- the contents of a new file, beside the tables that were there with the rows that they had
+-- A tree that the database keeps as it is: that of a table that it doesn't understand or that something binds, or of an index on one
+-- whose text it understands. Such a tree is listed among the schema's views.
+pub record IsForeignTree (s : Schema) (tree : ℕ) : Type 0 where
+  pub view : Stored
+  pub listed : Has s.views view
+  pub there : view.tree ≡ tree
+  pub alone : AllByRecursion (λ w. w.tree ≡ tree → IsSome w.foreign × (w.binds ≡ false)) s.views
+  pub no_table : AllByRecursion (λ t. t.tree ≢ tree) s.tables
+  pub no_index : IsNoIndex s tree
+
+-- The rows of such trees stay, and so do the user version and each row of sqlite_schema that lists such a table or a trigger.
+pub record KeepsAside (s : Schema) (old new : Trees) : Type 0 where
+  pub rows : (tree : ℕ) → IsForeignTree s tree → new tree ≡ old tree
+  pub texts : KeepsForeign (old catalog_tree) (new catalog_tree)
+  pub version : new version_tree ≡ old version_tree
+
+-- The contents of a new file, beside the tables that were there with the rows that they had, and what the database keeps aside.
 abbrev pub IsNew : Schema → Trees → (Contents → Type 0) → Type 0
-IsNew s rows P = (others : Trees) × KeepsRows s.tables rows others × P (first_contents others)
+IsNew s rows P = (others : Trees) × KeepsRows s.tables rows others × KeepsAside s rows others × P (first_contents others)
 
 -- within a transaction over this commit the schema has come so far, and the tables have those rows
 pub record IsMaking (committed : Database) (first : Schema) (rows : Trees) (now : Schema) (s : State) : Type 0 where
   pub schema : s.now.schema ≡ now
   pub sound : IsSound now s.now.trees
   pub kept : AllByRecursion (λ t. s.now.trees t.tree ≡ first_rows first rows t.tree) now.tables
+  pub foreign : (tree : ℕ) → IsForeignTree first tree → IsForeignTree now tree
+  pub aside : KeepsAside first rows s.now.trees
   pub later : next_tree first ≤ next_tree now
   pub inside : s.in_transaction ≡ true
   pub over : s.committed ≡ committed

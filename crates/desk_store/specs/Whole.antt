@@ -1,5 +1,5 @@
 -- The rows of a whole file.
-use Rattle.std.specs.Prelude.{◌≡◌, ℕ, ℤ, List, map, IsPermutation}
+use Rattle.std.specs.Prelude.{◌≡◌, ℕ, ℤ, List, map, IsPermutation, IsUtf8}
 use Rattle.std.specs.List.{AllByRecursion, IsDistinct}
 use Rattle.std.specs.Ordering.{int_eq}
 use Rattle.sqlite_trees.specs.Tree.{Trees}
@@ -49,3 +49,10 @@ pub record AreApart (rows : Rows) : Type 0 where
 -- these rows, beside those of the other tables
 abbrev pub contents_of : Rows → Trees → Contents
 contents_of rows db = record { books = rows.books; tabs = map (λ t. t.row) rows.tabs; paras = rows.paras; corrs = rows.corrs; marks = rows.marks; others = db }
+
+-- each text is UTF-8
+pub record AreUtf8 (c : Contents) : Type 0 where
+  pub tabs : AllByRecursion (λ t. IsUtf8 t.name) c.tabs
+  pub paras : AllByRecursion (λ p. IsUtf8 p.tab × IsUtf8 p.original × IsUtf8 p.print) c.paras
+  pub corrs : AllByRecursion (λ e. IsUtf8 e.body) c.corrs
+  pub marks : AllByRecursion (λ m. IsUtf8 m.note) c.marks

@@ -1,8 +1,10 @@
 //! Laws of files, and of the connections that show them.
 ghost use Rattle.desk_store.specs.Contents.{Contents};
+ghost use Rattle.desk_store.specs.Kinds.{HaveIntegerRowids, HaveUtf8Texts};
 ghost use Rattle.desk_store.specs.Layout.{AreDeclared, Layout};
+ghost use Rattle.desk_store.specs.Making.{IsNew, KeepsAside, made};
 ghost use Rattle.desk_store.specs.States.{IsFile, Leaves, Shows};
-ghost use Rattle.desk_store.specs.Whole.{AreApart, AreRows, HaveSameRows, Rows, contents_of};
+ghost use Rattle.desk_store.specs.Whole.{AreApart, AreRows, AreUtf8, HaveSameRows, Rows, contents_of};
 ghost use Rattle.sqlite.specs.Held.{state};
 ghost use Rattle.sqlite.specs.State.{IsLive, Opens};
 ghost use Rattle.sqlite_catalog.specs.Listing.{IsSound};
@@ -36,4 +38,15 @@ pub fn one_contents()
 /// What was read whole, and differs by its keys, is what the file holds.
 pub fn read_whole()
     ensures { (l : Layout) (rows : Rows) (db : Trees) → AreDeclared l → IsSound l.schema db → AreRows l rows db → AreApart rows → IsFile l (contents_of rows db) db }
+{}
+
+/// Where the texts of a file are UTF-8, so are those in its rows. Of the entries of the histories, the rowids are hidden.
+pub fn texts_as_written()
+    ensures { (l : Layout) (c : Contents) (db : Trees) → IsFile l c db → AreUtf8 c
+        → HaveUtf8Texts (db l.tab) × HaveUtf8Texts (db l.para) × (HaveIntegerRowids (db l.corr) → HaveUtf8Texts (db l.corr)) × HaveUtf8Texts (db l.mark) }
+{}
+
+/// A file where the five tables were made keeps what the database keeps aside.
+pub fn made_keeps()
+    ensures { (s : Schema) (rows db : Trees) → IsNew s rows (λ c. IsFile (made s) c db) → KeepsAside s rows db }
 {}

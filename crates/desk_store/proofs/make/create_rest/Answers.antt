@@ -13,7 +13,7 @@ returns-clause-made g c clean committed s rows none counts low was =
     let mark = c.in_ok-create_mark.ensures.made late committed s rows (after_corr s) corr (mark_free s none counts) (mark_counts s none counts) in
     let done = finished s none counts low committed rows (seen g.S.Store c.create_mark.new.tx) mark in
     let others = (seen g.S.Store c.create_mark.new.tx).now.trees in
-    (others, done.1, c.in_ok-put_book.ensures.put clean committed (made s) (no_contents others) done.0)
+    (others, done.1, done.2, c.in_ok-put_book.ensures.put clean committed (made s) (no_contents others) done.0)
 
 pub returns-clause-taken : goal.returns-clause-taken
 returns-clause-taken g c clean =

@@ -1,0 +1,49 @@
+-- What the database keeps aside in a file is what it kept before the tables were made.
+use Rattle.std.proofs.Common.{◌≡◌, ◌≢◌, ℕ, ◌≤◌, sym, subst, ◌∙◌, arith}
+use Rattle.sqlite_trees.specs.Objects.{catalog_tree, version_tree}
+use Rattle.sqlite_trees.specs.Tree.{Trees}
+use Rattle.sqlite_schema.specs.declared.schema.Schema.{Schema}
+use Rattle.sqlite_schema.specs.declared.schema.Table.{Table}
+use Rattle.sqlite_rules.specs.Edit.{IsNoIndex}
+use Rattle.sqlite_rules.specs.Lists.{Has}
+use Rattle.sqlite_rules.proofs.ListLemmas.{all_from, all_has}
+use Rattle.sqlite_catalog.specs.Calls.{KeepsForeign}
+use Rattle.sqlite_catalog.specs.Listing.{IsIndexRow, IsTableRow}
+use Rattle.sqlite_catalog.proofs.LayoutLemmas.{zipped_left}
+use Rattle.desk_store.specs.Contents.{Contents}
+use Rattle.desk_store.specs.Layout.{Layout}
+use Rattle.desk_store.specs.Making.{IsNew, KeepsAside, after_book, after_tab, after_para, after_corr, made}
+use Rattle.desk_store.specs.States.{IsFile}
+use Rattle.desk_store.specs.Tables as tables
+use Rattle.desk_store.proofs.Declaring.{has_table}
+use Rattle.desk_store.proofs.Frozen.{foreign_still}
+
+module _ (l : Layout) (c : Contents) (db : Trees) (is : IsFile l c db) where
+  -- a tree of no table and no index is beside the five
+  aside : (tree : ℕ) → ((t : Table) → Has l.schema.tables t → t.tree ≢ tree) → IsNoIndex l.schema tree → db tree ≡ c.others tree
+  aside tree no_table no_index = is.holds.aside tree (record {
+    book = λ e. no_table (tables.book l.book) (has_table l.schema (tables.book l.book) is.declared.book) (sym e);
+    tab = λ e. no_table (tables.tab l.tab) (has_table l.schema (tables.tab l.tab) is.declared.tab) (sym e);
+    para = λ e. no_table (tables.para l.para) (has_table l.schema (tables.para l.para) is.declared.para) (sym e);
+    corr = λ e. no_table (tables.corr l.corr) (has_table l.schema (tables.corr l.corr) is.declared.corr) (sym e);
+    mark = λ e. no_table (tables.mark l.mark) (has_table l.schema (tables.mark l.mark) is.declared.mark) (sym e);
+  }) no_index
+
+  -- the list of the schema and the user version stand past all of them
+  past_all : (tree : ℕ) → 65536 ≤ tree → db tree ≡ c.others tree
+  past_all tree high = aside tree
+      (λ t has same. let low = (zipped_left IsTableRow _ l.schema.tables t is.sound.lists.listed.tables has).2.described.low in absurd (omega (arith, low, high, same)))
+      (all_from _ l.schema.indexes (λ i has same. let low = (zipped_left (IsIndexRow l.schema.tables) _ l.schema.indexes i is.sound.lists.listed.indexes has).2.described.low in absurd (omega (arith, low, high, same))))
+
+pub made_keeps : (s : Schema) (rows db : Trees) → IsNew s rows (λ c. IsFile (made s) c db) → KeepsAside s rows db
+made_keeps s rows db new =
+    let is = new.3 in
+    let kept = new.2 in
+    let list : db catalog_tree ≡ new.0 catalog_tree = past_all (made s) _ db is catalog_tree (omega arith) in
+    record {
+      rows = λ tree foreign.
+          let stays = foreign_still (after_corr s) (tables.mark 0) tree (foreign_still (after_para s) (tables.corr 0) tree (foreign_still (after_tab s) (tables.para 0) tree (foreign_still (after_book s) (tables.tab 0) tree (foreign_still s (tables.book 0) tree foreign)))) in
+          aside (made s) _ db is tree (λ t has. all_has _ (made s).schema.tables t stays.no_table has) stays.no_index ∙ kept.rows tree foreign;
+      texts = subst (KeepsForeign (rows catalog_tree)) (sym list) kept.texts;
+      version = past_all (made s) _ db is version_tree (omega arith) ∙ kept.version;
+    }
