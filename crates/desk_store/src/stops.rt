@@ -111,7 +111,7 @@ fn make_change<S: Alter>(conn: &mut Connection<S>, what: Change<'_>) -> bool {
     }
 }
 
-/// How far a run came whose files were closed so.
+/// How far a run came, by whether the change was told to be made and how the files were closed.
 fn reached(told: bool, closed: Ended) -> Ended {
     if told { closed } else { Ended::Early }
 }

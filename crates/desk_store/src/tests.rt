@@ -305,7 +305,8 @@ para (1, 1, 0, 0, 0) (\"en\", \"a\", \"a\")
     Ok(())
 }
 
-/// Makes the tables where a view has one's name, and answers whether they were made, how the books are then read, and what the view shows.
+/// Makes the tables where a view has the name of one. The answer is whether they were made, how the books are then read, and what the
+/// view shows.
 fn make_beside_view(
     alloc: Global,
     conn: &mut Connection<MemStore>,
