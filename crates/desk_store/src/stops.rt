@@ -6,11 +6,11 @@
 
 use super::tests::{para, tab};
 use crate::{make_tables, read_books, read_corrs, read_marks, read_paras, read_tabs, write};
-use desk_book::rows::{BookRow, CorrRow, MarkRow, ParaRow, Put, TabRow};
+use desk_book::rows::{BookRow, CorrRow, MarkRow, ParaRow, Put, StoredTab, TabRow};
 use sqlite::{Alter, Connection, FileStore, Files, Options};
 use sqlite_disk::{Crash, Disk, Fuse, Memory};
 use std::alloc::Global;
-use std::fmt::Write;
+use std::fmt::{self, Write};
 use std::io;
 use std::test::Fail;
 
@@ -111,52 +111,45 @@ fn make_change<S: Alter>(conn: &mut Connection<S>, what: Change<'_>) -> bool {
     }
 }
 
+/// How far a run came, by whether the change was told to be made and how the files were closed.
+fn reached(told: bool, closed: Ended) -> Ended {
+    if told { closed } else { Ended::Early }
+}
+
+fn change_and_close<D: Disk + Drop>(
+    mut conn: Connection<FileStore<D>>,
+    what: Change<'_>,
+) -> (Ended, Files<D>) {
+    let told = make_change(&mut conn, what);
+    let (closed, files) = close(conn);
+    (reached(told, closed), files)
+}
+
 /// Opens the files, changes the rows and closes the files.
 fn run<D: Disk + Drop>(alloc: Global, files: Files<D>, what: Change<'_>) -> (Ended, Files<D>) {
     match open(alloc, files) {
-        Ok(mut conn) => {
-            let told = make_change(&mut conn, what);
-            let (ended, files) = close(conn);
-            (if told { ended } else { Ended::Early }, files)
-        }
+        Ok(conn) => change_and_close(conn, what),
         Err(files) => (Ended::Early, files),
     }
 }
 
-fn list_books<S: Alter>(
-    alloc: Global,
-    conn: &mut Connection<S>,
-    text: &mut String,
-) -> Result<(), Fail> {
-    for row in &read_books(alloc, conn)? {
-        writeln!(text, "{row:?}")?;
+fn add_books(text: &mut String, books: &[BookRow]) -> fmt::Result {
+    for book in books {
+        writeln!(text, "{book:?}")?;
     }
     Ok(())
 }
 
-fn list_tabs<S: Alter>(
-    alloc: Global,
-    conn: &mut Connection<S>,
-    text: &mut String,
-) -> Result<(), Fail> {
-    for tab in &read_tabs(alloc, conn)? {
-        writeln!(
-            text,
-            "tab {} {:?} {:?}",
-            tab.rowid,
-            tab.row.name.as_str(),
-            tab.row.body.as_slice()
-        )?;
+fn add_tabs(text: &mut String, tabs: &[StoredTab]) -> fmt::Result {
+    for tab in tabs {
+        let (name, body) = (tab.row.name.as_str(), tab.row.body.as_slice());
+        writeln!(text, "tab {} {name:?} {body:?}", tab.rowid)?;
     }
     Ok(())
 }
 
-fn list_paras<S: Alter>(
-    alloc: Global,
-    conn: &mut Connection<S>,
-    text: &mut String,
-) -> Result<(), Fail> {
-    for para in &read_paras(alloc, conn)? {
+fn add_paras(text: &mut String, paras: &[ParaRow]) -> fmt::Result {
+    for para in paras {
         let texts = (
             para.tab.as_str(),
             para.original.as_str(),
@@ -168,24 +161,16 @@ fn list_paras<S: Alter>(
     Ok(())
 }
 
-fn list_corrs<S: Alter>(
-    alloc: Global,
-    conn: &mut Connection<S>,
-    text: &mut String,
-) -> Result<(), Fail> {
-    for corr in &read_corrs(alloc, conn)? {
+fn add_corrs(text: &mut String, corrs: &[CorrRow]) -> fmt::Result {
+    for corr in corrs {
         let numbers = (corr.para, corr.seq, corr.kind, corr.start, corr.len);
         writeln!(text, "corr {numbers:?} {:?}", corr.body.as_str())?;
     }
     Ok(())
 }
 
-fn list_marks<S: Alter>(
-    alloc: Global,
-    conn: &mut Connection<S>,
-    text: &mut String,
-) -> Result<(), Fail> {
-    for mark in &read_marks(alloc, conn)? {
+fn add_marks(text: &mut String, marks: &[MarkRow]) -> fmt::Result {
+    for mark in marks {
         let numbers = (mark.id, mark.para, mark.start, mark.stop);
         let flags = (mark.touched, mark.resolved);
         writeln!(text, "mark {numbers:?} {flags:?} {:?}", mark.note.as_str())?;
@@ -193,27 +178,42 @@ fn list_marks<S: Alter>(
     Ok(())
 }
 
+/// Adds the rows of the five tables to a text.
+fn add_all<S: Alter>(
+    alloc: Global,
+    conn: &mut Connection<S>,
+    text: &mut String,
+) -> Result<(), Fail> {
+    add_books(text, read_books(alloc, conn)?.as_slice())?;
+    add_tabs(text, read_tabs(alloc, conn)?.as_slice())?;
+    add_paras(text, read_paras(alloc, conn)?.as_slice())?;
+    add_corrs(text, read_corrs(alloc, conn)?.as_slice())?;
+    add_marks(text, read_marks(alloc, conn)?.as_slice())?;
+    Ok(())
+}
+
 /// All rows of the five tables, or nothing where there is no table at all.
-fn list<S: Alter>(alloc: Global, conn: &mut Connection<S>) -> Result<String, Fail> {
+pub(crate) fn list<S: Alter>(alloc: Global, conn: &mut Connection<S>) -> Result<String, Fail> {
     let mut text = String::new(alloc);
     if !conn.schema().tables.is_empty() {
-        list_books(alloc, conn, &mut text)?;
-        list_tabs(alloc, conn, &mut text)?;
-        list_paras(alloc, conn, &mut text)?;
-        list_corrs(alloc, conn, &mut text)?;
-        list_marks(alloc, conn, &mut text)?;
+        add_all(alloc, conn, &mut text)?;
     }
     Ok(text)
+}
+
+fn list_and_close<D: Disk + Drop>(
+    alloc: Global,
+    mut conn: Connection<FileStore<D>>,
+) -> Result<String, Fail> {
+    let text = list(alloc, &mut conn);
+    let (_, _files) = close(conn);
+    text
 }
 
 /// The rows that these files show.
 fn shown_by<D: Disk + Drop>(alloc: Global, files: Files<D>) -> Result<String, Fail> {
     match open(alloc, files) {
-        Ok(mut conn) => {
-            let text = list(alloc, &mut conn);
-            let (_, _files) = close(conn);
-            text
-        }
+        Ok(conn) => list_and_close(alloc, conn),
         Err(_files) => Err("the files can't be opened again".into()),
     }
 }
@@ -431,25 +431,50 @@ fn new_rows(alloc: Global, word: &str, seq: i64) -> Result<Rows, Fail> {
     Ok(rows)
 }
 
-/// These rows, two places and a version: twenty puts.
-fn puts<'a>(alloc: Global, rows: &'a Rows) -> Result<Vec<Put<'a>>, Fail> {
-    let mut puts = Vec::new(alloc);
-    puts.push(Put::Book(&rows.book))?;
-    for tab in &rows.tabs {
+fn put_tabs<'a>(puts: &mut Vec<Put<'a>>, tabs: &'a [TabRow]) -> Result<(), Fail> {
+    for tab in tabs {
         puts.push(Put::Tab(tab))?;
     }
-    for para in &rows.paras {
+    Ok(())
+}
+
+fn put_paras<'a>(puts: &mut Vec<Put<'a>>, paras: &'a [ParaRow]) -> Result<(), Fail> {
+    for para in paras {
         puts.push(Put::Para(para))?;
     }
-    for corr in &rows.corrs {
+    Ok(())
+}
+
+fn put_corrs<'a>(puts: &mut Vec<Put<'a>>, corrs: &'a [CorrRow]) -> Result<(), Fail> {
+    for corr in corrs {
         puts.push(Put::Corr(corr))?;
     }
-    for mark in &rows.marks {
+    Ok(())
+}
+
+fn put_marks<'a>(puts: &mut Vec<Put<'a>>, marks: &'a [MarkRow]) -> Result<(), Fail> {
+    for mark in marks {
         puts.push(Put::Mark(mark))?;
     }
+    Ok(())
+}
+
+fn put_all<'a>(puts: &mut Vec<Put<'a>>, rows: &'a Rows) -> Result<(), Fail> {
+    puts.push(Put::Book(&rows.book))?;
+    put_tabs(puts, &rows.tabs)?;
+    put_paras(puts, &rows.paras)?;
+    put_corrs(puts, &rows.corrs)?;
+    put_marks(puts, &rows.marks)?;
     puts.push(Put::Place { id: 1, place: 20 })?;
     puts.push(Put::Place { id: 5, place: 21 })?;
     puts.push(Put::Version(8))?;
+    Ok(())
+}
+
+/// These rows, two places and a version: twenty puts.
+fn puts<'a>(alloc: Global, rows: &'a Rows) -> Result<Vec<Put<'a>>, Fail> {
+    let mut puts = Vec::new(alloc);
+    put_all(&mut puts, rows)?;
     Ok(puts)
 }
 
