@@ -1,8 +1,7 @@
 -- What a schema declares once a table is made in it.
-use Rattle.std.proofs.Common.{◌≡◌, ◌≢◌, inl, inr, ℕ, zero, suc, ◌+◌, Bool, true, false, cond, ◌==◌, ◌||◌, List, [], ◌∷◌, ◌++◌, filter, length, slice_get, is_some, Option, Some, None, refl, ap, ◌∙◌, true≢false, append-nil, arith}
-use Rattle.std.specs.List.{AllZip, list_any, position_from}
-use Rattle.std.proofs.Common.{not, ◌&&◌, codes, option_and_then}
-use Rattle.sqlite.specs.Does.{lacks_sequence}
+use Rattle.std.proofs.Common.{◌≡◌, ◌≢◌, inl, inr, ℕ, zero, suc, ◌+◌, Bool, true, false, cond, ◌==◌, List, [], ◌∷◌, ◌++◌, filter, length, slice_get, is_some, Option, Some, None, refl, ap, ◌∙◌, true≢false, append-nil, arith}
+use Rattle.std.specs.List.{AllZip, position_from}
+use Rattle.std.proofs.Common.{◌&&◌}
 use Rattle.std.proofs.lemmas.Bool.{or_parts}
 use Rattle.std.proofs.lemmas.Bool.Decides.{nat_tests}
 use Rattle.std.proofs.lemmas.List.Elements.{filter-append}
@@ -94,25 +93,26 @@ low_still s table low i has =
       | inr more ↦ let is = all_automatic new 0 (next_tree s + 1) table.uniques i more in omega (arith, above, is)
     ]
 
-module _ (before : Schema) (index_low : IndexesLow before) (table : Table) (free : is_used before table.name ≡ false) (itself : same_name table.name table.name ≡ true) where
+module _ (before : Schema) (table : Table) where
   abbrev made : Table
   made = record table { tree = next_tree before }
 
   abbrev after : Schema
   after = created before table
 
-  unnamed : table_named before table.name ≡ None
-  unnamed = none_if (table_named before table.name) (or_parts _ _ (or_parts _ _ free).0).0
+  unnamed : is_used before table.name ≡ false → table_named before table.name ≡ None
+  unnamed free = none_if (table_named before table.name) (or_parts _ _ (or_parts _ _ free).0).0
     where
       none_if : (o : Option ℕ) → is_some o ≡ false → o ≡ None
       none_if None e = refl
       none_if (Some x) e = absurd (true≢false e)
 
   -- the new table is declared
-  pub declares : (keys : (tree : ℕ) → filter (λ i. i.is_unique && (i.table == tree)) (automatics (record table { tree = tree }) 0 (tree + 1) table.uniques) ≡ automatics (record table { tree = tree }) 0 (tree + 1) table.uniques) → IsDeclared after made
-  declares keys = record {
+  pub declares : IndexesLow before → is_used before table.name ≡ false → same_name table.name table.name ≡ true
+      → ((tree : ℕ) → filter (λ i. i.is_unique && (i.table == tree)) (automatics (record table { tree = tree }) 0 (tree + 1) table.uniques) ≡ automatics (record table { tree = tree }) 0 (tree + 1) table.uniques) → IsDeclared after made
+  declares index_low free itself keys = record {
     at = length before.tables;
-    named = placed_last (λ t. same_name t.name table.name) before.tables made 0 unnamed itself ∙ ap Some (let same : 0 + length before.tables ≡ length before.tables = omega arith in same);
+    named = placed_last (λ t. same_name t.name table.name) before.tables made 0 (unnamed free) itself ∙ ap Some (let same : 0 + length before.tables ≡ length before.tables = omega arith in same);
     there = got_last before.tables made;
     alone = λ other has same. elim (has_either before.tables (made ∷ []) other has) [
       | inl old ↦ let low = table_below before other old in absurd (omega (arith, low, same))
@@ -162,21 +162,3 @@ free_still s table name free other indexes =
     let tables = none_placed (λ t. same_name t.name name) s.tables (record table { tree = next_tree s } ∷ []) 0 first.0 (λ from. rw other) in
     let keys = none_placed (λ i. same_name i.name name) s.indexes (automatics (record table { tree = next_tree s }) 0 (next_tree s + 1) table.uniques) 0 first.1 (indexes (next_tree s)) in
     rw (tables, keys, both.1)
-
-counted_still : (tables : List Table) (table : Table) → table.is_counted ≡ false → list_any (λ t. t.is_counted) (tables ++ table ∷ []) ≡ list_any (λ t. t.is_counted) tables
-counted_still [] table plain = rw plain
-counted_still (t ∷ ts) table plain = ap (λ b. t.is_counted || b) (counted_still ts table plain)
-
--- a schema whose counting tables have a counter has it still
-pub counts_still : (s : Schema) (table : Table) → table.is_counted ≡ false → lacks_sequence s ≡ false → lacks_sequence (created s table) ≡ false
-counts_still s table plain lacks = rw (counted_still s.tables (record table { tree = next_tree s }) plain) (go (list_any (λ t. t.is_counted) s.tables) (table_named s (codes "sqlite_sequence")) refl lacks)
-  where
-    go : (b : Bool) (at : Option ℕ) → table_named s (codes "sqlite_sequence") ≡ at → (b && not (is_some (option_and_then (slice_get s.tables) at))) ≡ false
-        → (b && not (is_some (option_and_then (slice_get (s.tables ++ record table { tree = next_tree s } ∷ [])) (position_from (λ t. same_name t.name (codes "sqlite_sequence")) 0 (s.tables ++ record table { tree = next_tree s } ∷ []))))) ≡ false
-    go false at is h = refl
-    go true None is h = absurd (true≢false h)
-    go true (Some at) is h = rw (placed_first (λ t. same_name t.name (codes "sqlite_sequence")) s.tables (record table { tree = next_tree s } ∷ []) 0 at is) (found (slice_get s.tables at) refl h)
-      where
-        found : (t : Option Table) → slice_get s.tables at ≡ t → not (is_some t) ≡ false → not (is_some (slice_get (s.tables ++ record table { tree = next_tree s } ∷ []) at)) ≡ false
-        found None e h = absurd (true≢false h)
-        found (Some t) e h = rw (got_first s.tables (record table { tree = next_tree s } ∷ []) at t e)

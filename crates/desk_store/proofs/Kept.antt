@@ -15,6 +15,7 @@ use Rattle.desk_store.specs.Layout.{Layout}
 use Rattle.desk_store.specs.Making.{IsNew, KeepsAside, after_book, after_tab, after_para, after_corr, made}
 use Rattle.desk_store.specs.States.{IsFile}
 use Rattle.desk_store.specs.Tables as tables
+use Rattle.desk_store.proofs.Counting.{foreign_first}
 use Rattle.desk_store.proofs.Declaring.{has_table}
 use Rattle.desk_store.proofs.Frozen.{foreign_still}
 
@@ -37,12 +38,12 @@ module _ (l : Layout) (c : Contents) (db : Trees) (is : IsFile l c db) where
 
 pub made_keeps : (s : Schema) (rows db : Trees) → IsNew s rows (λ c. IsFile (made s) c db) → KeepsAside s rows db
 made_keeps s rows db new =
-    let is = new.3 in
-    let kept = new.2 in
+    let is = new.4 in
+    let kept = new.3 in
     let list : db catalog_tree ≡ new.0 catalog_tree = past_all (made s) _ db is catalog_tree (omega arith) in
     record {
       rows = λ tree foreign.
-          let stays = foreign_still (after_corr s) (tables.mark 0) tree (foreign_still (after_para s) (tables.corr 0) tree (foreign_still (after_tab s) (tables.para 0) tree (foreign_still (after_book s) (tables.tab 0) tree (foreign_still s (tables.book 0) tree foreign)))) in
+          let stays = foreign_still (after_corr s) (tables.mark 0) tree (foreign_still (after_para s) (tables.corr 0) tree (foreign_still (after_tab s) (tables.para 0) tree (foreign_still (after_book s) (tables.tab 0) tree (foreign_first s (tables.book 0) tree foreign)))) in
           aside (made s) _ db is tree (λ t has. all_has _ (made s).schema.tables t stays.no_table has) stays.no_index ∙ kept.rows tree foreign;
       texts = subst (KeepsForeign (rows catalog_tree)) (sym list) kept.texts;
       version = past_all (made s) _ db is version_tree (omega arith) ∙ kept.version;

@@ -3,6 +3,7 @@ pub mod Making
 pub mod Taking
 pub mod MadeTables
 pub mod Creating
+pub mod Counting
 pub mod Meaning
 pub mod OneTable
 pub mod Columns

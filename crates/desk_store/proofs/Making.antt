@@ -1,5 +1,5 @@
 -- The texts that make the tables.
-use Rattle.std.proofs.Common.{◌≡◌, ℕ, ◌≤◌, true, false, nat_lt, ◌==◌, List, [], ◌∷◌, ◌++◌, length, codes, slice_range, Ok, refl, ap, subst, ◌∙◌, arith}
+use Rattle.std.proofs.Common.{◌≡◌, ℕ, ◌≤◌, Bool, true, false, nat_lt, if◌then◌else◌, ◌==◌, List, [], ◌∷◌, ◌++◌, length, codes, slice_range, Ok, refl, sym, ap, subst, ◌∙◌, arith, MatchBool}
 use Rattle.std.specs.List.{AllByRecursion}
 use Rattle.std.proofs.lemmas.Bool.Decides.{nat_tests}
 use Rattle.sqlite_trees.specs.Tree.{Trees}
@@ -8,24 +8,22 @@ use Rattle.sqlite_ast.specs.declared.Statement.{Statement}
 use Rattle.sqlite_ast.specs.declared.Statement.TheVariants.{CreateTable}
 use Rattle.sqlite_schema.specs.declared.schema.Schema.{Schema}
 use Rattle.sqlite_schema.specs.declared.schema.Table.{Table}
+use Rattle.sqlite_schema.specs.Names.{same_name}
 use Rattle.sqlite_resolve.specs.Compile.{is_reserved, table_defined_by}
 use Rattle.sqlite_resolve.specs.Define as define
 use Rattle.sqlite_catalog.specs.Change.{created, is_used, next_tree, KeepsRows}
 use Rattle.sqlite_catalog.specs.Listing.{IsSound}
-use Rattle.sqlite_catalog.proofs.StepLemmas.{table_below}
-use Rattle.sqlite_rules.proofs.ListLemmas.{has_right}
 use Rattle.sqlite.proofs.Callers.{statement_of}
 use Rattle.sqlite.specs.Does.{lacks_sequence}
 use Rattle.sqlite.specs.Effect.{Database, SparesFrozen}
 use Rattle.sqlite.specs.State.{State, ExecutesInside}
 use Rattle.sqlite_tied.specs.Compute.{everything}
-use Rattle.desk_store.specs.Making.{IsForeignTree, IsMaking, KeepsAside, first_rows}
-use Rattle.desk_store.specs.Tables.{book, tab, para, corr, mark}
-use Rattle.desk_store.proofs.Creating.{counts_still}
-use Rattle.desk_store.proofs.Frozen.{foreign_still, is_frozen}
+use Rattle.desk_store.specs.Making.{IsForeignTree, IsMaking, KeepsAside, first_created, first_rows}
+use Rattle.desk_store.specs.Tables.{book, tab, para, corr, mark, counter}
+use Rattle.desk_store.proofs.Counting.{foreign_first, lacks_as_before, plain_first, rising, rising_first}
+use Rattle.desk_store.proofs.Frozen.{is_frozen}
 use Rattle.desk_store.proofs.Meaning.{IsText, parse_of, create_is}
-use Rattle.desk_store.proofs.Running.{create_ran}
-use Rattle.std.proofs.Common.{inl}
+use Rattle.desk_store.proofs.Running.{Grows, create_ran}
 
 -- the text makes this table
 pub record IsMake (text : List ℕ) (table : Table) : Type 0 where
@@ -40,6 +38,7 @@ pub record IsMake (text : List ℕ) (table : Table) : Type 0 where
   pub spelled : slice_range text (parse_of text).start (parse_of text).end ≡ text
   pub made : table_defined_by text ≡ Ok table
   pub uncounted : table.is_counted ≡ false
+  pub other : same_name table.name (codes "sqlite_sequence") ≡ false
 
 abbrev no_def : create.CreateTable
 no_def = record { if_missing = false; name = []; body = record { columns = []; rules = [] }; is_strict = false; resolves = false }
@@ -53,35 +52,35 @@ book_text = codes "CREATE TABLE book (id INTEGER NOT NULL PRIMARY KEY, format IN
 
 pub makes_book : IsMake book_text (book 0)
 unfolding everything
-makes_book = record { def = def_in (parse_of book_text).statement; is_text = record { parsed = refl; statement = refl; timeless = refl }; name = refl; always = refl; own = refl; defined = refl; plain = refl; unresolved = refl; spelled = refl; made = refl; uncounted = refl }
+makes_book = record { def = def_in (parse_of book_text).statement; is_text = record { parsed = refl; statement = refl; timeless = refl }; name = refl; always = refl; own = refl; defined = refl; plain = refl; unresolved = refl; spelled = refl; made = refl; uncounted = refl; other = refl }
 
 abbrev pub tab_text : List ℕ
 tab_text = codes "CREATE TABLE tab (name TEXT NOT NULL PRIMARY KEY, body BLOB NOT NULL) STRICT"
 
 pub makes_tab : IsMake tab_text (tab 0)
 unfolding everything
-makes_tab = record { def = def_in (parse_of tab_text).statement; is_text = record { parsed = refl; statement = refl; timeless = refl }; name = refl; always = refl; own = refl; defined = refl; plain = refl; unresolved = refl; spelled = refl; made = refl; uncounted = refl }
+makes_tab = record { def = def_in (parse_of tab_text).statement; is_text = record { parsed = refl; statement = refl; timeless = refl }; name = refl; always = refl; own = refl; defined = refl; plain = refl; unresolved = refl; spelled = refl; made = refl; uncounted = refl; other = refl }
 
 abbrev pub para_text : List ℕ
 para_text = codes "CREATE TABLE para (id INTEGER NOT NULL PRIMARY KEY, place INTEGER NOT NULL, tab TEXT NOT NULL, original TEXT NOT NULL, print TEXT NOT NULL, style INTEGER NOT NULL, volume INTEGER NOT NULL, struck INTEGER NOT NULL) STRICT"
 
 pub makes_para : IsMake para_text (para 0)
 unfolding everything
-makes_para = record { def = def_in (parse_of para_text).statement; is_text = record { parsed = refl; statement = refl; timeless = refl }; name = refl; always = refl; own = refl; defined = refl; plain = refl; unresolved = refl; spelled = refl; made = refl; uncounted = refl }
+makes_para = record { def = def_in (parse_of para_text).statement; is_text = record { parsed = refl; statement = refl; timeless = refl }; name = refl; always = refl; own = refl; defined = refl; plain = refl; unresolved = refl; spelled = refl; made = refl; uncounted = refl; other = refl }
 
 abbrev pub corr_text : List ℕ
 corr_text = codes "CREATE TABLE corr (para INTEGER NOT NULL, seq INTEGER NOT NULL, kind INTEGER NOT NULL, start INTEGER NOT NULL, len INTEGER NOT NULL, body TEXT NOT NULL, PRIMARY KEY (para, seq)) STRICT"
 
 pub makes_corr : IsMake corr_text (corr 0)
 unfolding everything
-makes_corr = record { def = def_in (parse_of corr_text).statement; is_text = record { parsed = refl; statement = refl; timeless = refl }; name = refl; always = refl; own = refl; defined = refl; plain = refl; unresolved = refl; spelled = refl; made = refl; uncounted = refl }
+makes_corr = record { def = def_in (parse_of corr_text).statement; is_text = record { parsed = refl; statement = refl; timeless = refl }; name = refl; always = refl; own = refl; defined = refl; plain = refl; unresolved = refl; spelled = refl; made = refl; uncounted = refl; other = refl }
 
 abbrev pub mark_text : List ℕ
 mark_text = codes "CREATE TABLE mark (id INTEGER NOT NULL PRIMARY KEY, para INTEGER NOT NULL, start INTEGER NOT NULL, stop INTEGER NOT NULL, note TEXT NOT NULL, touched INTEGER NOT NULL, resolved INTEGER NOT NULL) STRICT"
 
 pub makes_mark : IsMake mark_text (mark 0)
 unfolding everything
-makes_mark = record { def = def_in (parse_of mark_text).statement; is_text = record { parsed = refl; statement = refl; timeless = refl }; name = refl; always = refl; own = refl; defined = refl; plain = refl; unresolved = refl; spelled = refl; made = refl; uncounted = refl }
+makes_mark = record { def = def_in (parse_of mark_text).statement; is_text = record { parsed = refl; statement = refl; timeless = refl }; name = refl; always = refl; own = refl; defined = refl; plain = refl; unresolved = refl; spelled = refl; made = refl; uncounted = refl; other = refl }
 
 pub none_below : (m n : ℕ) → n ≤ m → nat_lt m n ≡ false
 none_below m n low = grind (arith, nat_tests)
@@ -101,23 +100,44 @@ kept_aside first before rows old new foreign sound was spares = record {
   version = spares.version ∙ was.version;
 }
 
-pub makes : (text : List ℕ) (table : Table) (m : IsMake text table) (committed : Database) (first : Schema) (rows : Trees) (before : Schema) (old new : State) (count : ℕ) → IsMaking committed first rows before old
-    → is_used before table.name ≡ false → lacks_sequence before ≡ false → ExecutesInside 0 text [] old new (Ok count) → IsMaking committed first rows (created before table) new
-makes text table m committed first rows before old new count was free counts h =
+-- a new table has no rows, and the others have theirs
+kept_with : (first before : Schema) (rows old new : Trees) (table : Table) → next_tree first ≤ next_tree before → AllByRecursion (λ t. old t.tree ≡ first_rows first rows t.tree) before.tables → Grows before old new
+    → AllByRecursion (λ t. new t.tree ≡ first_rows first rows t.tree) (created before table).tables
+kept_with first before rows old new table later was grows =
+    let empty : new (next_tree before) ≡ first_rows first rows (next_tree before) = grows.empty ∙ rw (none_below (next_tree before) (next_tree first) later) in
+    kept_rows old new (first_rows first rows) before.tables was grows.others (record table { tree = next_tree before } ∷ []) (empty, tt)
+
+-- and so has the counter that comes with it
+kept_counting : (first before : Schema) (rows old mid new : Trees) (table : Table) (lacks : Bool) → next_tree first ≤ next_tree before → AllByRecursion (λ t. old t.tree ≡ first_rows first rows t.tree) before.tables → Grows before old mid
+    → MatchBool lacks (Grows (created before table) mid new) (new ≡ mid) → AllByRecursion (λ t. new t.tree ≡ first_rows first rows t.tree) (if lacks then created (created before table) (counter 0) else created before table).tables
+kept_counting first before rows old mid new table true later was grows more =
+    let above = rising before table in
+    kept_with first (created before table) rows mid new (counter 0) (omega (arith, later, above)) (kept_with first before rows old mid table later was grows) more
+kept_counting first before rows old mid new table false later was grows same =
+    subst (λ (db : Trees). AllByRecursion (λ t. db t.tree ≡ first_rows first rows t.tree) (created before table).tables) (sym same) (kept_with first before rows old mid table later was grows)
+
+-- the first table that is made
+pub makes_first : (text : List ℕ) (table : Table) (m : IsMake text table) (committed : Database) (first : Schema) (rows : Trees) (before : Schema) (old new : State) (count : ℕ) → IsMaking committed first rows before old
+    → is_used before table.name ≡ false → ExecutesInside 0 text [] old new (Ok count) → IsMaking committed first rows (first_created before table) new
+makes_first text table m committed first rows before old new count was free h =
     let means = create_is before text m.def table m.is_text (ap (is_used before) m.name ∙ free) m.own m.defined m.plain m.unresolved in
     let spelled = ap (statement_of text) means ∙ m.spelled in
-    let made = create_ran before table text old new count was.schema means spelled m.made (counts_still before table m.uncounted counts) h.0 in
-    let new_table : Table = record table { tree = next_tree before } in
-    let empty : new.now.trees (next_tree before) ≡ first_rows first rows (next_tree before) = made.empty ∙ rw (none_below (next_tree before) (next_tree first) was.later) in
-    let above = table_below (created before table) new_table (has_right before.tables (new_table ∷ []) new_table (inl refl)) in
+    let made = create_ran before table text old new count was.schema means spelled m.made (lacks_as_before before table m.uncounted m.other) h.0 in
+    let above = rising_first before table in
     let later = was.later in
     record {
       schema = made.schema;
       sound = subst (λ s. IsSound s new.now.trees) made.schema made.sound;
-      kept = kept_rows old.now.trees new.now.trees (first_rows first rows) before.tables was.kept made.others (new_table ∷ []) (empty, tt);
-      foreign = λ tree is. foreign_still before table tree (was.foreign tree is);
+      kept = kept_counting first before rows old.now.trees made.mid new.now.trees table (lacks_sequence before) later was.kept made.grows made.counter;
+      foreign = λ tree is. foreign_first before table tree (was.foreign tree is);
       aside = kept_aside first before rows old.now new.now was.foreign was.sound was.aside made.frozen;
       later = omega (arith, above, later);
       inside = made.shown.mode ∙ was.inside;
       over = (rw was.inside at made.shown.committed_is) ∙ was.over;
     }
+
+-- one that is made after it
+pub makes : (text : List ℕ) (table : Table) (m : IsMake text table) (committed : Database) (first : Schema) (rows : Trees) (before : Schema) (old new : State) (count : ℕ) → IsMaking committed first rows before old
+    → is_used before table.name ≡ false → lacks_sequence before ≡ false → ExecutesInside 0 text [] old new (Ok count) → IsMaking committed first rows (created before table) new
+makes text table m committed first rows before old new count was free counts h =
+    subst (λ s. IsMaking committed first rows s new) (plain_first before table counts) (makes_first text table m committed first rows before old new count was free h)

@@ -1,6 +1,7 @@
 -- From a statement that ran to what it wrote.
-use Rattle.std.proofs.Common.{◌≡◌, ℕ, false, List, [], ◌∷◌, Option, Some, None, Ok, refl, sym, ap, subst, ◌∙◌, length, slice_get, if◌then◌else◌, ◌/◌}
+use Rattle.std.proofs.Common.{◌≡◌, ℕ, false, List, [], ◌∷◌, Bool, true, Option, Some, None, Ok, refl, sym, ap, subst, ◌∙◌, length, slice_get, if◌then◌else◌, ◌/◌, MatchBool}
 use Rattle.sqlite_value.specs.Order.{Row}
+use Rattle.sqlite_trees.specs.Tree.{Trees}
 use Rattle.sqlite_sql.specs.Term.{Term}
 use Rattle.sqlite_schema.specs.declared.command.Command.{Command}
 use Rattle.sqlite_schema.specs.declared.command.Command.TheVariants.{InsertOr, Insert, Update, CreateTable}
@@ -15,12 +16,15 @@ use Rattle.sqlite_rules.specs.Cast.{cast_row}
 use Rattle.sqlite_rules.specs.Edit.{with_rowid}
 use Rattle.sqlite_resolve.specs.Compile.{table_defined_by}
 use Rattle.sqlite_catalog.specs.Change.{created, next_tree, KeepsRows}
-use Rattle.sqlite.specs.Does.{Tally, Does, lacks_sequence}
+use Rattle.sqlite.specs.Does.{Tally, Does, MakesTable, lacks_sequence, sequence_text}
 use Rattle.sqlite.specs.Effect.{Database, IsDatabase, SparesFrozen, value_rows}
 use Rattle.sqlite.specs.Listing.{understood}
-use Rattle.sqlite.specs.Rows.{Written, stamped, Updates}
+use Rattle.sqlite.specs.Rows.{Gives, Written, stamped, Updates}
 use Rattle.sqlite.specs.State.{State, mode_of, Writes, Executes, Shows}
 use Rattle.sqlite.proofs.Callers.{IsPlain, command_of, statement_of, runs_as}
+use Rattle.sqlite_tied.specs.Compute.{everything}
+use Rattle.desk_store.specs.Making.{first_created}
+use Rattle.desk_store.specs.Tables as tables
 use Rattle.desk_store.proofs.Meaning.{parse_of}
 use Rattle.desk_store.proofs.Writing.{Ends, IsAdded, task, inserts, adds, went, same_value}
 
@@ -81,18 +85,38 @@ module _ (schema : Schema) (at : ℕ) (table : Table) (there : slice_get schema.
         (done.0, done.1, ap (λ (d : Database). d.trees) now),
       )
 
--- a text that makes this table made it
+counter_defined : table_defined_by sequence_text ≡ Ok (tables.counter 0)
+unfolding everything
+counter_defined = refl
+
+-- the trees with a table more, which has no rows
+pub record Grows (before : Schema) (old new : Trees) : Type 0 where
+  pub empty : new (next_tree before) ≡ []
+  pub others : KeepsRows before.tables old new
+
+-- a text that makes this table made it, and then the counter where that was missing
 pub record Created (before : Schema) (table : Table) (old new : State) : Type 0 where
-  pub schema : new.now.schema ≡ created before table
+  pub schema : new.now.schema ≡ first_created before table
   pub sound : IsDatabase new.now
-  pub empty : new.now.trees (next_tree before) ≡ []
-  pub others : KeepsRows before.tables old.now.trees new.now.trees
+  pub mid : Trees
+  pub grows : Grows before old.now.trees mid
+  pub counter : MatchBool (lacks_sequence before) (Grows (created before table) mid new.now.trees) (new.now.trees ≡ mid)
   pub frozen : SparesFrozen old.now new.now
   pub shown : Shows old new new.now (if old.in_transaction then old.committed else new.now) old.in_transaction
 
+counter_ran : (before : Schema) (table : Table) (lacks : Bool) (mid after : Database) → mid.schema ≡ created before table → MatchBool lacks (MakesTable sequence_text mid (Ok after)) (Gives mid (Ok after))
+    → (after.schema ≡ (if lacks then created (created before table) (tables.counter 0) else created before table)) × MatchBool lacks (Grows (created before table) mid.trees after.trees) (after.trees ≡ mid.trees)
+counter_ran before table true mid after is made =
+    let both : Ok made.table ≡ Ok (tables.counter 0) = sym made.defined ∙ counter_defined in
+    let same : made.table ≡ tables.counter 0 = same_value both in (
+      made.is ∙ ap (λ s. created s made.table) is ∙ ap (created (created before table)) same,
+      record { empty = subst (λ s. after.trees (next_tree s) ≡ []) is made.empty; others = subst (λ (s : Schema). KeepsRows s.tables mid.trees after.trees) is made.others },
+    )
+counter_ran before table false mid after is made = let same : after ≡ mid = same_value made in (ap (λ (d : Database). d.schema) same ∙ is, ap (λ (d : Database). d.trees) same)
+
 pub create_ran : (before : Schema) (table : Table) (text : List ℕ) (old new : State) (count : ℕ) → old.now.schema ≡ before → Means before text CreateTable → statement_of text (understood before text) ≡ text
-    → table_defined_by text ≡ Ok table → lacks_sequence (created before table) ≡ false → Executes text [] old new (Ok count) → Created before table old new
-create_ran before table text old new count has means spelled defined uncounted h =
+    → table_defined_by text ≡ Ok table → lacks_sequence (created before table) ≡ lacks_sequence before → Executes text [] old new (Ok count) → Created before table old new
+create_ran before table text old new count has means spelled defined lacks h =
     let w = subst (λ t. Writes old new None CreateTable t [] count) spelled (runs_as text [] old new before has CreateTable (ap command_of means) (plain_if before text CreateTable means) count h) in
     let all = went w.changed in
     let first = went all.1 in
@@ -100,13 +124,18 @@ create_ran before table text old new count has means spelled defined uncounted h
     let both : Ok made.table ≡ Ok table = sym made.defined ∙ defined in
     let same : made.table ≡ table = same_value both in
     let schema : first.0.schema ≡ created before table = made.is ∙ ap (λ s. created s made.table) has ∙ ap (created before) same in
-    let plain : lacks_sequence first.0.schema ≡ false = ap lacks_sequence schema ∙ uncounted in
-    let now : new.now ≡ first.0 = ap (λ (p : Tally × Database). p.1) (same_value all.2) ∙ same_value (rw plain at first.2) in
+    let missing : lacks_sequence first.0.schema ≡ lacks_sequence before = ap lacks_sequence schema ∙ lacks in
+    let counter = counter_ran before table (lacks_sequence before) first.0 all.0 schema (subst (λ b. MatchBool b (MakesTable sequence_text first.0 (Ok all.0)) (Gives first.0 (Ok all.0))) missing first.2) in
+    let now : new.now ≡ all.0 = ap (λ (p : Tally × Database). p.1) (same_value all.2) in
     record {
-      schema = ap (λ (d : Database). d.schema) now ∙ schema;
+      schema = ap (λ (d : Database). d.schema) now ∙ counter.0;
       sound = w.sound;
-      empty = ap (λ (d : Database). d.trees (next_tree before)) now ∙ subst (λ s. first.0.trees (next_tree s) ≡ []) has made.empty;
-      others = subst (λ (d : Database). KeepsRows before.tables old.now.trees d.trees) (sym now) (subst (λ (s : Schema). KeepsRows s.tables old.now.trees first.0.trees) has made.others);
+      mid = first.0.trees;
+      grows = record {
+        empty = subst (λ s. first.0.trees (next_tree s) ≡ []) has made.empty;
+        others = subst (λ (s : Schema). KeepsRows s.tables old.now.trees first.0.trees) has made.others;
+      };
+      counter = subst (λ (d : Database). MatchBool (lacks_sequence before) (Grows (created before table) first.0.trees d.trees) (d.trees ≡ first.0.trees)) (sym now) counter.1;
       frozen = w.frozen;
       shown = w.shown;
     }

@@ -6,6 +6,7 @@ use Rattle.sqlite_trees.specs.Tree.{Trees}
 use Rattle.sqlite_schema.specs.declared.schema.Index.{Index}
 use Rattle.sqlite_schema.specs.declared.schema.View.{View as Stored}
 use Rattle.sqlite_schema.specs.declared.schema.Schema.{Schema}
+use Rattle.sqlite_schema.specs.declared.schema.Table.{Table}
 use Rattle.sqlite_rules.specs.Edit.{IsNoIndex}
 use Rattle.sqlite_rules.specs.Lists.{Has}
 use Rattle.sqlite_catalog.specs.Calls.{KeepsForeign}
@@ -27,17 +28,18 @@ pub record AreAbsent (s : Schema) : Type 0 where
   pub corr : is_used s (codes "corr") ≡ false
   pub mark : is_used s (codes "mark") ≡ false
 
--- A schema with a table that counts its rowids has the counter too. Where it hasn't, making a table makes the counter.
-abbrev pub HasCounter : Schema → Type 0
-HasCounter s = lacks_sequence s ≡ false
-
 -- each index is on a table, so below the tree that the next table takes
 abbrev pub IndexesLow : Schema → Type 0
 IndexesLow s = (i : Index) → Has s.indexes i → i.table < next_tree s
 
--- the schema after each table is made, one upon another
+-- The schema after a first table is made. Where a table counts its rowids and the database's counter of them isn't there, the database
+-- makes the counter right after it.
+abbrev pub first_created : Schema → Table → Schema
+first_created s table = if lacks_sequence s then created (created s table) (tables.counter 0) else created s table
+
+-- the schema after each of the five is made, one upon another
 abbrev pub after_book : Schema → Schema
-after_book s = created s (tables.book 0)
+after_book s = first_created s (tables.book 0)
 
 abbrev pub after_tab : Schema → Schema
 after_tab s = created (after_book s) (tables.tab 0)
@@ -89,9 +91,14 @@ pub record KeepsAside (s : Schema) (old new : Trees) : Type 0 where
   pub texts : KeepsForeign (old catalog_tree) (new catalog_tree)
   pub version : new version_tree ≡ old version_tree
 
--- The contents of a new file, beside the tables that were there with the rows that they had, and what the database keeps aside.
+-- The counter, where it was missing and is made, has no rows.
+abbrev pub CountsNone : Schema → Trees → Type 0
+CountsNone s db = lacks_sequence s ≡ true → db (next_tree (created s (tables.book 0))) ≡ []
+
+-- The contents of a new file, beside the tables that were there with the rows that they had, an empty counter where it was missing, and
+-- what the database keeps aside.
 abbrev pub IsNew : Schema → Trees → (Contents → Type 0) → Type 0
-IsNew s rows P = (others : Trees) × KeepsRows s.tables rows others × KeepsAside s rows others × P (first_contents others)
+IsNew s rows P = (others : Trees) × KeepsRows s.tables rows others × CountsNone s others × KeepsAside s rows others × P (first_contents others)
 
 -- within a transaction over this commit the schema has come so far, and the tables have those rows
 pub record IsMaking (committed : Database) (first : Schema) (rows : Trees) (now : Schema) (s : State) : Type 0 where
@@ -113,9 +120,9 @@ pub record AreFree (names : List (List ℕ)) (s : State) : Type 0 where
 abbrev pub FreesNone : State → State → Type 0
 FreesNone old new = (name : List ℕ) → is_used new.now.schema name ≡ false → is_used old.now.schema name ≡ false
 
--- What making adds to what a crash may leave: only where the names were free, and then, if the counter is there, the file with the five tables.
+-- What making adds to what a crash may leave: only where the names were free, and then the file with the five tables.
 abbrev pub IsMade : State → Trees → Type 0
-IsMade s db = AreAbsent s.now.schema × (IsLive s → HasCounter s.now.schema → IsNew s.now.schema s.now.trees (λ c. IsFile (made s.now.schema) c db))
+IsMade s db = AreAbsent s.now.schema × (IsLive s → IsNew s.now.schema s.now.trees (λ c. IsFile (made s.now.schema) c db))
 
 -- If the connection is open still, its last commit is that of before, and it shows it.
 abbrev pub IsUndone : State → State → Type 0

@@ -9,7 +9,7 @@ ghost use Rattle.sqlite.specs.Effect.{Database};
 ghost use Rattle.sqlite.specs.Held.{state};
 ghost use Rattle.sqlite.specs.State.{HasCleanDisk, IsLive, KeepsCommit, Survives};
 ghost use Rattle.desk_store.specs.Fault.{IsToldAs};
-ghost use Rattle.desk_store.specs.Making.{AreAbsent, AreFree, FreesNone, HasCounter, IndexesLow, IsMade, IsMaking, IsNew, IsUndone, after_para, made};
+ghost use Rattle.desk_store.specs.Making.{AreAbsent, AreFree, FreesNone, IndexesLow, IsMade, IsMaking, IsNew, IsUndone, after_para, first_created, made};
 ghost use Rattle.desk_store.specs.States.{IsUnder, Leaves, Shows, seen};
 ghost use Rattle.desk_store.specs.Tables as tables;
 
@@ -18,11 +18,11 @@ use crate::put::put_book;
 use desk_book::rows::BookRow;
 use sqlite::{Alter, Connection, Error, Transaction};
 
-/// Makes `book`.
+/// Makes `book`, and with it the counter of rowids where it is missing.
 fn create_book<S: Alter>(tx: &mut Transaction<'_, S>) -> Result<(), Error>
     ensures same_reference { tx.new.conn.ghost_name ≡ tx.old.conn.ghost_name }
     ensures made { HasCleanDisk (seen S.Store tx.new) → (committed : Database) (first : Schema) (rows : Trees) (before : Schema) → IsMaking committed first rows before (seen S.Store tx.old)
-        → is_used before (codes "book") ≡ false → lacks_sequence before ≡ false → OnOk result (IsMaking committed first rows (created before (tables.book 0)) (seen S.Store tx.new)) }
+        → is_used before (codes "book") ≡ false → OnOk result (IsMaking committed first rows (first_created before (tables.book 0)) (seen S.Store tx.new)) }
     ensures taken { HasCleanDisk (seen S.Store tx.new) → OnOk result (AreFree (codes "book" ∷ []) (seen S.Store tx.old) × FreesNone (seen S.Store tx.old) (seen S.Store tx.new)) }
     ensures kept { HasCleanDisk (seen S.Store tx.new) → KeepsCommit (seen S.Store tx.old) (seen S.Store tx.new) }
     ensures survives { Survives (seen S.Store tx.old) (seen S.Store tx.new) (λ _. ⊥) }
@@ -101,7 +101,7 @@ fn create_mark<S: Alter>(tx: &mut Transaction<'_, S>) -> Result<(), Error>
 /// Makes the first three tables.
 fn create_first<S: Alter>(tx: &mut Transaction<'_, S>) -> Result<(), Error>
     ensures same_reference { tx.new.conn.ghost_name ≡ tx.old.conn.ghost_name }
-    ensures made { HasCleanDisk (seen S.Store tx.new) → (committed : Database) (s : Schema) (rows : Trees) → AreAbsent s → HasCounter s → IsMaking committed s rows s (seen S.Store tx.old)
+    ensures made { HasCleanDisk (seen S.Store tx.new) → (committed : Database) (s : Schema) (rows : Trees) → AreAbsent s → IsMaking committed s rows s (seen S.Store tx.old)
         → OnOk result (IsMaking committed s rows (after_para s) (seen S.Store tx.new)) }
     ensures taken { HasCleanDisk (seen S.Store tx.new) → OnOk result (AreFree (codes "book" ∷ codes "tab" ∷ codes "para" ∷ []) (seen S.Store tx.old) × FreesNone (seen S.Store tx.old) (seen S.Store tx.new)) }
     ensures kept { HasCleanDisk (seen S.Store tx.new) → KeepsCommit (seen S.Store tx.old) (seen S.Store tx.new) }
@@ -116,7 +116,7 @@ fn create_first<S: Alter>(tx: &mut Transaction<'_, S>) -> Result<(), Error>
 /// Makes the other two, and puts the book's row.
 fn create_rest<S: Alter>(tx: &mut Transaction<'_, S>) -> Result<(), Error>
     ensures same_reference { tx.new.conn.ghost_name ≡ tx.old.conn.ghost_name }
-    ensures made { HasCleanDisk (seen S.Store tx.new) → (committed : Database) (s : Schema) (rows : Trees) → AreAbsent s → HasCounter s → IndexesLow s → IsMaking committed s rows (after_para s) (seen S.Store tx.old)
+    ensures made { HasCleanDisk (seen S.Store tx.new) → (committed : Database) (s : Schema) (rows : Trees) → AreAbsent s → IndexesLow s → IsMaking committed s rows (after_para s) (seen S.Store tx.old)
         → OnOk result (IsNew s rows (λ c. IsUnder committed (made s) c (seen S.Store tx.new))) }
     ensures taken { HasCleanDisk (seen S.Store tx.new) → OnOk result (AreFree (codes "corr" ∷ codes "mark" ∷ []) (seen S.Store tx.old)) }
     ensures inside { HasCleanDisk (seen S.Store tx.new) → OnOk result ((seen S.Store tx.new).in_transaction ≡ true) }
@@ -134,14 +134,15 @@ fn create_rest<S: Alter>(tx: &mut Transaction<'_, S>) -> Result<(), Error>
     Ok(())
 }
 
-/// Makes the five tables with the row of a new book, in format 1 and at version 0, as one. The error is the database's, and a crash then
-/// leaves none of the tables or all of them.
+/// Makes the five tables with the row of a new book, in format 1 and at version 0, as one. Where a table counts its rowids and the
+/// database's counter is missing, the counter is made too, with no rows. The error is the database's, and a crash then leaves none of the
+/// tables or all of them.
 pub fn make_tables<S: Alter>(conn: &mut Connection<S>) -> Result<(), Error>
     requires { conn.old.in_transaction ≡ false }
     ensures idle { conn.new.in_transaction ≡ false }
     // Where a name is taken, the answer is an error.
     ensures free { HasCleanDisk (state S.Store conn.new) → OnOk result (AreAbsent (state S.Store conn.old).now.schema) }
-    ensures made { HasCleanDisk (state S.Store conn.new) → IsLive (state S.Store conn.old) → HasCounter (state S.Store conn.old).now.schema
+    ensures made { HasCleanDisk (state S.Store conn.new) → IsLive (state S.Store conn.old)
         → OnOk result (IsNew (state S.Store conn.old).now.schema (state S.Store conn.old).now.trees (λ c. Shows (made (state S.Store conn.old).now.schema) c (state S.Store conn.new))) }
     ensures open { HasCleanDisk (state S.Store conn.new) → OnOk result (IsTrue (state S.Store conn.new).is_open × ((state S.Store conn.new).committed ≡ (state S.Store conn.new).now)) }
     // Of a crash at any exit: nothing new is left but all of it, and that only where no name was taken.

@@ -6,12 +6,12 @@ use Rattle.desk_store.proofs.MadeTables.{tab_free, tab_counts, para_free, para_c
 use Rattle.desk_store.proofs.make.create_first.Goals as goal
 
 pub returns-clause-made : goal.returns-clause-made
-returns-clause-made g c clean committed s rows none counts was =
+returns-clause-made g c clean committed s rows none was =
     let late : HasCleanDisk (seen g.S.Store c.create_tab.new.tx) = omega (arith, c.create_para.ensures.survives.clean) in
     let early : HasCleanDisk (seen g.S.Store c.create_book.new.tx) = omega (arith, c.create_tab.ensures.survives.clean) in
-    let book = c.in_ok-create_book.ensures.made early committed s rows s was none.book counts in
-    let tab = c.in_ok-create_tab.ensures.made late committed s rows (after_book s) book (tab_free s none counts) (tab_counts s none counts) in
-    c.in_ok-create_para.ensures.made clean committed s rows (after_tab s) tab (para_free s none counts) (para_counts s none counts)
+    let book = c.in_ok-create_book.ensures.made early committed s rows s was none.book in
+    let tab = c.in_ok-create_tab.ensures.made late committed s rows (after_book s) book (tab_free s none) (tab_counts s none) in
+    c.in_ok-create_para.ensures.made clean committed s rows (after_tab s) tab (para_free s none) (para_counts s none)
 
 pub returns-clause-taken : goal.returns-clause-taken
 returns-clause-taken g c clean =

@@ -10,7 +10,7 @@ use Rattle.desk_store.proofs.MadeTables.{whole}
 use Rattle.desk_store.proofs.make.make_tables.Goals as goal
 
 pub returns-clause-made : goal.returns-clause-made
-returns-clause-made g c clean live counts =
+returns-clause-made g c clean live =
     let old = c.args.conn.now in
     let l = made old.schema in
     let mid = c.create_first.new.tx.conn.now in
@@ -20,8 +20,8 @@ returns-clause-made g c clean live counts =
     let late : HasCleanDisk (state g.S.Store end) = search rules in
     let ran = whole g.S.Store old c.transaction-tx.result.conn.now mid last c.transaction-tx.ensures.begun (λ clean. omega (arith, c.create_rest.ensures.survives.clean, clean))
     c.in_ok-create_first.ensures.taken c.in_ok-create_rest.ensures.taken c.in_ok-create_first.ensures.made c.in_ok-create_rest.ensures.made in
-    let shows = (ran (omega (arith, c.commit.ensures.survives.clean))).1 live counts in
-    (shows.0, shows.1, shows.2, subst (λ h. Shows l (first_contents shows.0) (state g.S.Store h)) same (shows_on (state g.S.Store last) (state g.S.Store end) l (first_contents shows.0) (c.in_ok-commit.ensures.ok late).1.now_is shows.3))
+    let shows = (ran (omega (arith, c.commit.ensures.survives.clean))).1 live in
+    (shows.0, shows.1, shows.2, shows.3, subst (λ h. Shows l (first_contents shows.0) (state g.S.Store h)) same (shows_on (state g.S.Store last) (state g.S.Store end) l (first_contents shows.0) (c.in_ok-commit.ensures.ok late).1.now_is shows.4))
 
 pub returns-clause-crash : goal.returns-clause-crash
 returns-clause-crash g c =
@@ -33,7 +33,7 @@ returns-clause-crash g c =
     let ran = whole g.S.Store old begun mid last c.transaction-tx.ensures.begun (λ clean. omega (arith, c.create_rest.ensures.survives.clean, clean))
     c.in_ok-create_first.ensures.taken c.in_ok-create_rest.ensures.taken c.in_ok-create_first.ensures.made c.in_ok-create_rest.ensures.made in
     let inside = survives_then (state g.S.Store begun) (state g.S.Store mid) (state g.S.Store last) _ _ (λ _. ⊥) (λ _ db none. none) (λ _ db none. none) c.create_first.ensures.survives c.create_rest.ensures.survives in
-    let all = commits g.S.Store old last end (IsMade (state g.S.Store old)) (rw c.transaction-tx.ensures.begun at inside) c.commit.ensures.survives (λ clean. let done = ran clean in (done.0, λ live counts. let new = done.1 live counts in (new.0, new.1, new.2, new.3.is))) in
+    let all = commits g.S.Store old last end (IsMade (state g.S.Store old)) (rw c.transaction-tx.ensures.begun at inside) c.commit.ensures.survives (λ clean. let done = ran clean in (done.0, λ live. let new = done.1 live in (new.0, new.1, new.2, new.3, new.4.is))) in
     let same : end ≡ c.conn-2-1.given.0 = search rules in
     subst (λ h. Survives (state g.S.Store old) (state g.S.Store h) (IsMade (state g.S.Store old))) same all
 
@@ -47,7 +47,7 @@ returns-in_err-commit-clause-crash g c =
     let ran = whole g.S.Store old begun mid last c.transaction-tx.ensures.begun (λ clean. omega (arith, c.create_rest.ensures.survives.clean, clean))
     c.in_ok-create_first.ensures.taken c.in_ok-create_rest.ensures.taken c.in_ok-create_first.ensures.made c.in_ok-create_rest.ensures.made in
     let inside = survives_then (state g.S.Store begun) (state g.S.Store mid) (state g.S.Store last) _ _ (λ _. ⊥) (λ _ db none. none) (λ _ db none. none) c.create_first.ensures.survives c.create_rest.ensures.survives in
-    let all = commits g.S.Store old last end (IsMade (state g.S.Store old)) (rw c.transaction-tx.ensures.begun at inside) c.commit.ensures.survives (λ clean. let done = ran clean in (done.0, λ live counts. let new = done.1 live counts in (new.0, new.1, new.2, new.3.is))) in
+    let all = commits g.S.Store old last end (IsMade (state g.S.Store old)) (rw c.transaction-tx.ensures.begun at inside) c.commit.ensures.survives (λ clean. let done = ran clean in (done.0, λ live. let new = done.1 live in (new.0, new.1, new.2, new.3, new.4.is))) in
     let same : end ≡ c.conn-2-1.given.0 = search rules in
     subst (λ h. Survives (state g.S.Store old) (state g.S.Store h) (IsMade (state g.S.Store old))) same all
 
@@ -64,5 +64,5 @@ returns-clause-settled g c clean =
     let stands = ran (omega (arith, c.commit.ensures.survives.clean)) in
     let done = (c.in_ok-commit.ensures.ok late).1 in
     let all : Leaves (IsMade (state g.S.Store old)) (state g.S.Store end) = λ db left.
-    subst (IsMade (state g.S.Store old)) (sym (g.met.S.Store.settled end.store db done.is_open left ∙ ap (λ (d : Database). d.trees) done.committed_is)) (stands.0, λ live counts. let new = stands.1 live counts in (new.0, new.1, new.2, new.3.is)) in
+    subst (IsMade (state g.S.Store old)) (sym (g.met.S.Store.settled end.store db done.is_open left ∙ ap (λ (d : Database). d.trees) done.committed_is)) (stands.0, λ live. let new = stands.1 live in (new.0, new.1, new.2, new.3, new.4.is)) in
     subst (λ h. Leaves (IsMade (state g.S.Store old)) (state g.S.Store h)) same all
