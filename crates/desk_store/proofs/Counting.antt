@@ -2,6 +2,7 @@
 use Rattle.std.proofs.Common.{◌≡◌, ℕ, zero, suc, ◌+◌, ◌<◌, Bool, true, false, not, ◌&&◌, ◌||◌, cond, if◌then◌else◌, List, [], ◌∷◌, ◌++◌, slice_get, option_and_then, is_some, Option, Some, None, codes, refl, sym, ap, ap₂, subst, ◌∙◌, arith, inl}
 use Rattle.std.specs.List.{list_any, position_from}
 use Rattle.std.proofs.lemmas.Bool.{and_right}
+use Rattle.sqlite_trees.specs.Tree.{Trees}
 use Rattle.sqlite_schema.specs.declared.schema.Schema.{Schema}
 use Rattle.sqlite_schema.specs.declared.schema.Table.{Table}
 use Rattle.sqlite_schema.specs.Names.{same_name, table_named}
@@ -102,8 +103,12 @@ module _ (s : Schema) (table : Table) where
   pub declared_first : (a : Table) → IsDeclared (created s table) a → IsDeclared (first_created s table) a
   declared_first a d = by_counter (λ after. IsDeclared after a) d (declared_stays (created s table) (counter 0) a d (λ tree other. refl))
 
-  pub foreign_first : (tree : ℕ) → IsForeignTree s tree → IsForeignTree (first_created s table) tree
-  foreign_first tree is = let still = foreign_still s table tree is in by_counter (λ after. IsForeignTree after tree) still (foreign_still (created s table) (counter 0) tree still)
+  pub foreign_first : (db : Trees) (tree : ℕ) → IsForeignTree s db tree → IsForeignTree (first_created s table) db tree
+  foreign_first db tree is = let still = foreign_still s table db tree is in by_counter (λ after. IsForeignTree after db tree) still (foreign_still (created s table) (counter 0) db tree still)
+
+  -- no table is a view
+  pub views_first : (first_created s table).views ≡ s.views
+  views_first = by_counter (λ after. after.views ≡ s.views) refl refl
 
   pub has_first : (t : Table) → Has s.tables t → Has (first_created s table).tables t
   has_first t has = let there = has_left s.tables _ t has in by_counter (λ after. Has after.tables t) there (has_left (created s table).tables _ t there)

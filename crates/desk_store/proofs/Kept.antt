@@ -43,7 +43,9 @@ made_keeps s rows db new =
     let list : db catalog_tree ≡ new.0 catalog_tree = past_all (made s) _ db is catalog_tree (omega arith) in
     record {
       rows = λ tree foreign.
-          let stays = foreign_still (after_corr s) (tables.mark 0) tree (foreign_still (after_para s) (tables.corr 0) tree (foreign_still (after_tab s) (tables.para 0) tree (foreign_still (after_book s) (tables.tab 0) tree (foreign_first s (tables.book 0) tree foreign)))) in
+          let with_tab = foreign_still (after_book s) (tables.tab 0) rows tree (foreign_first s (tables.book 0) rows tree foreign) in
+          let with_corr = foreign_still (after_para s) (tables.corr 0) rows tree (foreign_still (after_tab s) (tables.para 0) rows tree with_tab) in
+          let stays = foreign_still (after_corr s) (tables.mark 0) rows tree with_corr in
           aside (made s) _ db is tree (λ t has. all_has _ (made s).schema.tables t stays.no_table has) stays.no_index ∙ kept.rows tree foreign;
       texts = subst (KeepsForeign (rows catalog_tree)) (sym list) kept.texts;
       version = past_all (made s) _ db is version_tree (omega arith) ∙ kept.version;

@@ -1,3 +1,4 @@
+pub mod OneName
 pub mod Frozen
 pub mod Making
 pub mod Taking

@@ -20,8 +20,8 @@ use Rattle.sqlite.specs.State.{State, ExecutesInside}
 use Rattle.sqlite_tied.specs.Compute.{everything}
 use Rattle.desk_store.specs.Making.{IsForeignTree, IsMaking, KeepsAside, first_created, first_rows}
 use Rattle.desk_store.specs.Tables.{book, tab, para, corr, mark, counter}
-use Rattle.desk_store.proofs.Counting.{foreign_first, lacks_as_before, plain_first, rising, rising_first}
-use Rattle.desk_store.proofs.Frozen.{is_frozen}
+use Rattle.desk_store.proofs.Counting.{foreign_first, lacks_as_before, plain_first, rising, rising_first, views_first}
+use Rattle.desk_store.proofs.Frozen.{is_frozen, still_frozen}
 use Rattle.desk_store.proofs.Meaning.{IsText, parse_of, create_is}
 use Rattle.desk_store.proofs.Running.{Grows, create_ran}
 
@@ -90,7 +90,7 @@ kept_rows old new first [] was same more these = these
 kept_rows old new first (t ∷ ts) was same more these = (same.0 ∙ was.0, kept_rows old new first ts was.1 same.1 more these)
 
 -- what was kept aside so far is kept by one more statement
-kept_aside : (first before : Schema) (rows : Trees) (old new : Database) → ((tree : ℕ) → IsForeignTree first tree → IsForeignTree before tree) → IsSound before old.trees → KeepsAside first rows old.trees → SparesFrozen old new
+kept_aside : (first before : Schema) (rows : Trees) (old new : Database) → ((tree : ℕ) → IsForeignTree first rows tree → IsForeignTree before old.trees tree) → IsSound before old.trees → KeepsAside first rows old.trees → SparesFrozen old new
     → KeepsAside first rows new.trees
 kept_aside first before rows old new foreign sound was spares = record {
   rows = λ tree is.
@@ -123,13 +123,14 @@ makes_first text table m committed first rows before old new count was free h =
     let means = create_is before text m.def table m.is_text (ap (is_used before) m.name ∙ free) m.own m.defined m.plain m.unresolved in
     let spelled = ap (statement_of text) means ∙ m.spelled in
     let made = create_ran before table text old new count was.schema means spelled m.made (lacks_as_before before table m.uncounted m.other) h.0 in
+    let sound = subst (λ s. IsSound s new.now.trees) made.schema made.sound in
     let above = rising_first before table in
     let later = was.later in
     record {
       schema = made.schema;
-      sound = subst (λ s. IsSound s new.now.trees) made.schema made.sound;
+      sound = sound;
       kept = kept_counting first before rows old.now.trees made.mid new.now.trees table (lacks_sequence before) later was.kept made.grows made.counter;
-      foreign = λ tree is. foreign_first before table tree (was.foreign tree is);
+      foreign = λ tree is. still_frozen before (first_created before table) old.now.trees new.now.trees (views_first before table) was.sound sound made.frozen.texts tree (foreign_first before table old.now.trees tree (was.foreign tree is));
       aside = kept_aside first before rows old.now new.now was.foreign was.sound was.aside made.frozen;
       later = omega (arith, above, later);
       inside = made.shown.mode ∙ was.inside;

@@ -1,8 +1,9 @@
 -- What making the five tables makes of a file that has none of them.
-use Rattle.std.specs.Prelude.{◌≡◌, ◌≢◌, ℕ, IsSome, ◌<◌, ◌≤◌, pos, true, false, if◌then◌else◌, nat_lt, List, [], ◌∷◌, codes, IsTrue}
+use Rattle.std.specs.Prelude.{◌≡◌, ◌≢◌, ℕ, ◌+◌, ◌%◌, ◌<◌, ◌≤◌, pos, true, false, if◌then◌else◌, nat_lt, List, [], ◌∷◌, codes, IsTrue}
 use Rattle.std.specs.List.{AllByRecursion}
-use Rattle.sqlite_trees.specs.Objects.{catalog_tree, version_tree}
-use Rattle.sqlite_trees.specs.Tree.{Trees}
+use Rattle.sqlite_value.specs.Order.{column}
+use Rattle.sqlite_trees.specs.Objects.{catalog_tree, version_tree, number_in}
+use Rattle.sqlite_trees.specs.Tree.{Trees, has_rowid}
 use Rattle.sqlite_schema.specs.declared.schema.Index.{Index}
 use Rattle.sqlite_schema.specs.declared.schema.View.{View as Stored}
 use Rattle.sqlite_schema.specs.declared.schema.Schema.{Schema}
@@ -75,19 +76,20 @@ no_contents others = record { books = []; tabs = []; paras = []; corrs = []; mar
 abbrev pub first_contents : Trees → Contents
 first_contents others = record (no_contents others) { books = record { id = pos 1; format = pos 1; version = pos 0 } ∷ [] }
 
--- A tree that the database keeps as it is: that of a table that it doesn't understand or that something binds, or of an index on one
--- whose text it understands. Such a tree is listed among the schema's views.
-pub record IsForeignTree (s : Schema) (tree : ℕ) : Type 0 where
+-- A tree that the database keeps as it is: that of a table that it doesn't understand or that something binds, or of an index on one,
+-- whether it understands the index or not. Such a tree is listed among the schema's views, and sqlite_schema lists it with the code of one
+-- that is frozen.
+pub record IsForeignTree (s : Schema) (db : Trees) (tree : ℕ) : Type 0 where
   pub view : Stored
   pub listed : Has s.views view
   pub there : view.tree ≡ tree
-  pub alone : AllByRecursion (λ w. w.tree ≡ tree → IsSome w.foreign × (w.binds ≡ false)) s.views
+  pub frozen : AllByRecursion (λ row. has_rowid (pos (tree + 1)) row ≡ true → 4 ≤ number_in (column row 5) % 8) (db catalog_tree)
   pub no_table : AllByRecursion (λ t. t.tree ≢ tree) s.tables
   pub no_index : IsNoIndex s tree
 
--- The rows of such trees stay, and so do the user version and each row of sqlite_schema that lists such a table or a trigger.
+-- The rows of such trees stay, and so do the user version and each row of sqlite_schema that lists such a tree or a trigger.
 pub record KeepsAside (s : Schema) (old new : Trees) : Type 0 where
-  pub rows : (tree : ℕ) → IsForeignTree s tree → new tree ≡ old tree
+  pub rows : (tree : ℕ) → IsForeignTree s old tree → new tree ≡ old tree
   pub texts : KeepsForeign (old catalog_tree) (new catalog_tree)
   pub version : new version_tree ≡ old version_tree
 
@@ -105,7 +107,7 @@ pub record IsMaking (committed : Database) (first : Schema) (rows : Trees) (now 
   pub schema : s.now.schema ≡ now
   pub sound : IsSound now s.now.trees
   pub kept : AllByRecursion (λ t. s.now.trees t.tree ≡ first_rows first rows t.tree) now.tables
-  pub foreign : (tree : ℕ) → IsForeignTree first tree → IsForeignTree now tree
+  pub foreign : (tree : ℕ) → IsForeignTree first rows tree → IsForeignTree now s.now.trees tree
   pub aside : KeepsAside first rows s.now.trees
   pub later : next_tree first ≤ next_tree now
   pub inside : s.in_transaction ≡ true
