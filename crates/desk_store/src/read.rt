@@ -2,8 +2,8 @@
 //!
 //! Each answers what its statement shows in any file, and changes nothing; a value that isn't of the kind that a new
 //! file declares for its column is refused. Over a clean disk, where the table is declared as in a new file, the answer
-//! is its rows as they stand, in order. Where these have integer rowids and texts in UTF-8 too, and the steps have no
-//! limit, only memory or the store makes it fail.
+//! is its rows as they stand, in order. Where these have integer rowids (of `corr`, any) and texts in UTF-8 too, and the
+//! steps have no limit, only memory or the store makes it fail.
 //!
 //! A statement that a limit on steps stops is told as refused.
 
