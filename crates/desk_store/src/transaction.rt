@@ -10,7 +10,7 @@ ghost use Rattle.desk_store.specs.Making.{IsUndone};
 ghost use Rattle.desk_store.specs.Puts.{with_puts};
 ghost use Rattle.desk_store.specs.States.{IsFile, Leaves, Shows};
 
-use crate::fault::ReadFault;
+use crate::fault::Fault;
 use crate::put::put_all;
 use desk_book::rows::Put;
 use sqlite::{Alter, Connection, Error};
@@ -28,7 +28,7 @@ pub fn write<S: Alter>(conn: &mut Connection<S>, puts: &[Put<'_>]) -> Result<(),
     ensures settled { HasCleanDisk (state S.Store conn.new) → (l : Layout) (c : Contents) → Shows l c (state S.Store conn.old) → OnOk result (Leaves (IsFile l (with_puts puts.now c)) (state S.Store conn.new)) }
     ensures undone { HasCleanDisk (state S.Store conn.new) → OnErr result (IsUndone (state S.Store conn.old) (state S.Store conn.new)) }
     // After a refusal a crash leaves nothing new.
-    ensures refused { HasCleanDisk (state S.Store conn.new) → IfErr result (λ e. IsToldAs e ReadFault.Refused → Survives (state S.Store conn.old) (state S.Store conn.new) (λ _. ⊥)) }
+    ensures refused { HasCleanDisk (state S.Store conn.new) → IfErr result (λ e. IsToldAs e Fault.Refused → Survives (state S.Store conn.old) (state S.Store conn.new) (λ _. ⊥)) }
 {
     let mut tx = conn.transaction();
     put_all(&mut tx, puts)?;
