@@ -17,8 +17,8 @@ use Rattle.sqlite.specs.Clock.{timed as filled}
 use Rattle.sqlite.specs.Listing.{understood, reads_listing, listing_schema, if_select, is_select}
 use Rattle.sqlite.specs.State.{State, store_error, IsUnchanged, IsNotRun, FailsToShow, FailsToQuery, Shown, ShowsRows, Survives, CommitsShowing}
 use Rattle.desk_store.specs.Fault.{IsToldAs}
-use Rattle.desk_store.specs.declared.fault.ReadFault.{ReadFault}
-use Rattle.desk_store.specs.declared.fault.ReadFault.TheVariants.{NoMemory, Refused}
+use Rattle.desk_store.specs.declared.fault.Fault.{Fault}
+use Rattle.desk_store.specs.declared.fault.Fault.TheVariants.{NoMemory, Refused}
 use Rattle.sqlite.proofs.StateLemmas.{survives_weaker}
 
 abbrev selects : Statement → Bool
@@ -60,12 +60,12 @@ on_err (Ok a) P p = tt
 on_err (Err e) P p = p e
 
 -- where only the store makes a query fail, it is told as that
-pub never_refused : (text : List ℕ) (params : Row) (old new : State) (fault : ReadFault) → ((e : Error) → FailsToQuery text params old new e → (cause : StoreError) × (e ≡ store_error cause))
+pub never_refused : (text : List ℕ) (params : Row) (old new : State) (fault : Fault) → ((e : Error) → FailsToQuery text params old new e → (cause : StoreError) × (e ≡ store_error cause))
     → (e : Error) × FailsToQuery text params old new e × IsToldAs e fault → fault ≢ Refused
 never_refused text params old new fault fails (e, failed, told) refused = let store = fails e failed in subst (IsToldAs e) refused told store.0 store.1
 
 -- want of memory is no refusal
-pub not_refused : {A : Type 0} (r : Result A ReadFault) → IfErr r (λ fault. fault ≡ NoMemory) → IfErr r (λ fault. fault ≢ Refused)
+pub not_refused : {A : Type 0} (r : Result A Fault) → IfErr r (λ fault. fault ≡ NoMemory) → IfErr r (λ fault. fault ≢ Refused)
 not_refused (Ok a) none = tt
 not_refused (Err fault) none = λ refused. absurd (let both = sym none ∙ refused in cc)
 
@@ -116,7 +116,7 @@ module _ (text : List ℕ) (is : reads (first text) ≡ true) where
       it.3
 
   -- a fault of another cause than the store's is told of a file that is as it was
-  pub refused_as_it_was : (params : Row) (old new : State) (fault : ReadFault) → (e : Error) × FailsToQuery text params old new e × IsToldAs e fault → fault ≡ Refused → IsUnchanged old new
+  pub refused_as_it_was : (params : Row) (old new : State) (fault : Fault) → (e : Error) × FailsToQuery text params old new e × IsToldAs e fault → fault ≡ Refused → IsUnchanged old new
   refused_as_it_was params old new fault (e, failed, told) refused = elim (refused_quietly params old new e failed) [
     | inl store ↦ absurd (subst (IsToldAs e) refused told store.0 store.1)
     | inr same ↦ same

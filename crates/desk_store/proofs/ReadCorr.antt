@@ -1,5 +1,5 @@
 -- The text that reads corr whole, in order of para and seq.
-use Rattle.std.proofs.Common.{◌≡◌, ℕ, true, List, [], ◌∷◌, map, codes, None, refl, ap, ◌∙◌, is_lt, int_cmp, ap₂, lit<, lit≤}
+use Rattle.std.proofs.Common.{◌≡◌, ℕ, true, List, [], ◌∷◌, drop, map, codes, None, refl, ap, ◌∙◌, is_lt, int_cmp, ap₂, lit<, lit≤}
 use Rattle.std.specs.List.{AllByRecursion}
 use Rattle.std.specs.Ordering.{ordering_then}
 use Rattle.std.specs.List.Sorted.{IsSortedBy}
@@ -116,7 +116,7 @@ module _ (schema : Schema) (tree : ℕ) (d : IsDeclared schema (corr tree)) (old
   unfolding is_read
   corr_kinds rows h utf8 =
       let found = rows_are (codes "corr") (corr 0).columns None (1 ∷ 2 ∷ []) ((1 ∷ 2 ∷ []) ∷ []) (plain ∷ []) text is_read schema tree d old new has sound corr_columns (λ s. column s 0 ∷ column s 1 ∷ []) (λ r. refl) (λ r. refl) rows h in
-      all_shown schema (corr tree) d old.now.trees sound (AllByRecursion IsUtf8Text) corr_columns (kinds_of (corr 0))
+      all_shown schema (corr tree) d old.now.trees sound (λ r. AllByRecursion IsUtf8Text (drop 1 r)) corr_columns (kinds_of (corr 0))
       (λ row kept is. hidden_kinds (corr tree) row kept refl refl (all_texts _ (corr tree).columns is))
       rows utf8 found.0
 

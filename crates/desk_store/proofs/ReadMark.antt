@@ -116,7 +116,7 @@ module _ (schema : Schema) (tree : ℕ) (d : IsDeclared schema (mark tree)) (old
   unfolding is_read
   mark_kinds rows h ids utf8 =
       let found = rows_are (codes "mark") (mark 0).columns (Some 0) (0 ∷ []) [] [] text is_read schema tree d old new has sound mark_columns (λ s. column s 0 ∷ []) (λ r. refl) (λ r. refl) rows h in
-      all_shown schema (mark tree) d old.now.trees sound (λ r. IsTrue (is_int (rowid r)) × AllByRecursion IsUtf8Text r) mark_columns (kinds_of (mark 0))
+      all_shown schema (mark tree) d old.now.trees sound (λ r. IsTrue (is_int (rowid r)) × AllByRecursion IsUtf8Text (drop 1 r)) mark_columns (kinds_of (mark 0))
       (λ row kept is. (integer_of (rowid row) is.0, numbered_kinds (mark tree) row _ _ kept refl refl refl (all_texts _ (drop 1 (mark tree).columns) is.1)))
       rows (all_both _ _ _ ids utf8) found.0
 

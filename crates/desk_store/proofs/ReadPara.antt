@@ -119,7 +119,7 @@ module _ (schema : Schema) (tree : ℕ) (d : IsDeclared schema (para tree)) (old
   unfolding is_read
   para_kinds rows h ids utf8 =
       let found = rows_are (codes "para") (para 0).columns (Some 0) (0 ∷ []) [] [] text is_read schema tree d old new has sound para_columns (λ s. column s 0 ∷ []) (λ r. refl) (λ r. refl) rows h in
-      all_shown schema (para tree) d old.now.trees sound (λ r. IsTrue (is_int (rowid r)) × AllByRecursion IsUtf8Text r) para_columns (kinds_of (para 0))
+      all_shown schema (para tree) d old.now.trees sound (λ r. IsTrue (is_int (rowid r)) × AllByRecursion IsUtf8Text (drop 1 r)) para_columns (kinds_of (para 0))
       (λ row kept is. (integer_of (rowid row) is.0, numbered_kinds (para tree) row _ _ kept refl refl refl (all_texts _ (drop 1 (para tree).columns) is.1)))
       rows (all_both _ _ _ ids utf8) found.0
 

@@ -1,5 +1,5 @@
 -- The text that reads tab whole, in order of name.
-use Rattle.std.proofs.Common.{◌≡◌, IsTrue, ℕ, true, List, [], ◌∷◌, map, codes, None, refl, ap, ◌∙◌, is_lt, nat_cmp, lit<, lit≤}
+use Rattle.std.proofs.Common.{◌≡◌, IsTrue, ℕ, true, List, [], ◌∷◌, drop, map, codes, None, refl, ap, ◌∙◌, is_lt, nat_cmp, lit<, lit≤}
 use Rattle.std.specs.List.{AllByRecursion}
 use Rattle.std.specs.Cmp.Lexicographic.{slice_cmp}
 use Rattle.std.specs.List.Sorted.{IsSortedBy}
@@ -106,7 +106,7 @@ module _ (schema : Schema) (tree : ℕ) (d : IsDeclared schema (tab tree)) (old 
   unfolding is_read
   tab_kinds rows h ids utf8 =
       let found = rows_are (codes "tab") (tab 0).columns None (1 ∷ []) ((1 ∷ []) ∷ []) (plain ∷ []) text is_read schema tree d old new has sound stored_tab_columns (λ s. column s 1 ∷ []) (λ r. refl) (λ r. refl) rows h in
-      all_shown schema (tab tree) d old.now.trees sound (λ r. IsTrue (is_int (rowid r)) × AllByRecursion IsUtf8Text r) stored_tab_columns (Integer ∷ kinds_of (tab 0))
+      all_shown schema (tab tree) d old.now.trees sound (λ r. IsTrue (is_int (rowid r)) × AllByRecursion IsUtf8Text (drop 1 r)) stored_tab_columns (Integer ∷ kinds_of (tab 0))
       (λ row kept is. (integer_of (rowid row) is.0, hidden_kinds (tab tree) row kept refl refl (all_texts _ (tab tree).columns is.1)))
       rows (all_both _ _ _ ids utf8) found.0
 

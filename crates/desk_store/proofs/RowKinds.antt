@@ -1,5 +1,5 @@
 -- The kinds of the values in a tree's rows, by what a sound database asks of them.
-use Rattle.std.proofs.Common.{◌≡◌, ℕ, zero, suc, ◌+◌, ◌≤◌, Bool, true, false, not, cond, ◌&&◌, ◌||◌, ◌==◌, List, [], ◌∷◌, drop, map, Option, Some, None, refl, sym, ap, ◌∙◌, true≢false, IsTrue, IsPermutation, arith}
+use Rattle.std.proofs.Common.{◌≡◌, ℕ, zero, suc, ◌+◌, ◌≤◌, Bool, true, false, not, cond, ◌&&◌, ◌||◌, ◌==◌, List, [], ◌∷◌, drop, map, Option, Some, None, refl, sym, ap, subst, ◌∙◌, true≢false, IsTrue, IsPermutation, arith}
 use Rattle.std.specs.List.{AllByRecursion, list_all}
 use Rattle.std.proofs.lemmas.Bool.{and_parts}
 use Rattle.std.proofs.lemmas.Bool.Decides.{nat_tests}
@@ -89,7 +89,7 @@ later at (v ∷ vs) row on i k e = on (suc i) k (omega (arith, e))
 -- where the columns are STRICT and NOT NULL, and the texts UTF-8
 module _ (key : Option ℕ) (row : Row) where
   kinds_from : (at : ℕ) (cs : List Column) (vs : Row) → GoesOn at vs row → ((place : ℕ) → at ≤ place → is_key key place ≡ false)
-      → list_all (λ c. c.is_strict && c.not_null) cs ≡ true → AllByRecursion (λ c. c.kind ≡ Text → AllByRecursion IsUtf8Text row) cs
+      → list_all (λ c. c.is_strict && c.not_null) cs ≡ true → AllByRecursion (λ c. c.kind ≡ Text → AllByRecursion IsUtf8Text (drop 1 row)) cs
       → are_typed key at cs vs ≡ true → are_present key at cs row ≡ true → HasKinds (map (λ c. c.kind) cs) (columns_from (at + 1) cs row)
   kinds_from at [] vs on apart needed utf8 typed present = tt
   kinds_from at (c ∷ cs) vs on apart needed utf8 typed present =
@@ -98,7 +98,7 @@ module _ (key : Option ℕ) (row : Row) where
       let first : column vs 0 ≡ column row (at + 1) = on 0 (at + 1) (omega arith) in
       let is : is_of c.kind (column row (at + 1)) ≡ true = ap (is_of c.kind) (sym first) ∙ typed_first key at c cs vs typed free here.0 in
       let null : is_null (column row (at + 1)) ≡ false = there (is_key key at) c.not_null (is_null (column row (at + 1))) (and_parts _ _ present).0 free here.1 in (
-        of_kind c.kind (column row (at + 1)) is null (λ text. utf8_at row (at + 1) (utf8.0 text)),
+        of_kind c.kind (column row (at + 1)) is null (λ text. subst IsUtf8Text (goes_on row at (at + 1) (omega arith)) (utf8_at (drop 1 row) at (utf8.0 text))),
         kinds_from (at + 1) cs (drop 1 vs) (later at vs row on) (λ place over. apart place (omega (arith, over))) (and_parts _ _ needed).1 utf8.1 (typed_later key at c cs vs typed) (and_parts _ _ present).1,
       )
 
@@ -109,13 +109,13 @@ pub record IsKept (table : Table) (row : Row) : Type 0 where
 
 -- the columns of a table whose rowid is hidden
 pub hidden_kinds : (table : Table) (row : Row) → IsKept table row → table.key ≡ None → list_all (λ c. c.is_strict && c.not_null) table.columns ≡ true
-    → AllByRecursion (λ c. c.kind ≡ Text → AllByRecursion IsUtf8Text row) table.columns → HasKinds (map (λ c. c.kind) table.columns) (columns_from 1 table.columns row)
+    → AllByRecursion (λ c. c.kind ≡ Text → AllByRecursion IsUtf8Text (drop 1 row)) table.columns → HasKinds (map (λ c. c.kind) table.columns) (columns_from 1 table.columns row)
 hidden_kinds table row kept hidden needed utf8 =
     kinds_from table.key row 0 table.columns (drop 1 row) (goes_on row) (λ place over. ap (λ key. is_key key place) hidden) needed utf8 kept.typed kept.present
 
 -- the columns behind a first one that is the rowid
 pub numbered_kinds : (table : Table) (row : Row) (c : Column) (cs : List Column) → IsKept table row → table.key ≡ Some 0 → table.columns ≡ c ∷ cs → list_all (λ c. c.is_strict && c.not_null) cs ≡ true
-    → AllByRecursion (λ c. c.kind ≡ Text → AllByRecursion IsUtf8Text row) cs → HasKinds (map (λ c. c.kind) cs) (columns_from 2 cs row)
+    → AllByRecursion (λ c. c.kind ≡ Text → AllByRecursion IsUtf8Text (drop 1 row)) cs → HasKinds (map (λ c. c.kind) cs) (columns_from 2 cs row)
 numbered_kinds table row c cs kept first are needed utf8 =
     let typed : are_typed table.key 0 (c ∷ cs) (drop 1 row) ≡ true = ap (λ columns. are_typed table.key 0 columns (drop 1 row)) (sym are) ∙ kept.typed in
     let present : are_present table.key 0 (c ∷ cs) row ≡ true = ap (λ columns. are_present table.key 0 columns row) (sym are) ∙ kept.present in

@@ -1,5 +1,5 @@
 -- The texts in the rows of a file's tables are those of its contents.
-use Rattle.std.proofs.Common.{◌≡◌, ℕ, ◌+◌, Bool, true, false, cond, List, [], ◌∷◌, drop, map, Option, refl, sym, subst, true≢false, IsTrue, arith}
+use Rattle.std.proofs.Common.{◌≡◌, ℕ, ◌+◌, Bool, true, false, cond, List, [], ◌∷◌, drop, map, Option, refl, sym, subst, true≢false, arith}
 use Rattle.std.specs.Prelude.{⊤}
 use Rattle.std.specs.List.{AllByRecursion}
 use Rattle.std.proofs.lemmas.Bool.{and_parts}
@@ -7,7 +7,6 @@ use Rattle.sqlite_value.specs.declared.value.Value.{Value}
 use Rattle.sqlite_value.specs.declared.value.Value.TheVariants as value
 use Rattle.sqlite_value.specs.Order.{Row, column}
 use Rattle.sqlite_trees.specs.Tree.{Trees}
-use Rattle.sqlite_trees.specs.View.{is_int}
 use Rattle.sqlite_trees.proofs.ListLemmas.{all-permutation}
 use Rattle.sqlite_sql.specs.Ops.{is_null}
 use Rattle.sqlite_schema.specs.declared.schema.Column.{Column}
@@ -15,7 +14,7 @@ use Rattle.sqlite_schema.specs.declared.schema.Table.{Table}
 use Rattle.sqlite_schema.specs.Names.{is_key}
 use Rattle.sqlite_schema.specs.Rules.{are_typed, suits}
 use Rattle.desk_store.specs.Contents.{Contents, Lists, tab_row, para_row, corr_row, mark_row, tab_columns, para_columns, corr_columns, mark_columns}
-use Rattle.desk_store.specs.Kinds.{HaveIntegerRowids, HaveUtf8Texts, IsUtf8Text}
+use Rattle.desk_store.specs.Kinds.{HaveUtf8Texts, IsUtf8Text}
 use Rattle.desk_store.specs.Layout.{Layout}
 use Rattle.desk_store.specs.States.{IsFile}
 use Rattle.desk_store.specs.Tables as tables
@@ -28,13 +27,6 @@ of_null (value.Int n) is = tt
 of_null (value.Real x) is = tt
 of_null (value.Text t) is = absurd (true≢false (sym is))
 of_null (value.Blob b) is = tt
-
-of_integer : (v : Value) → IsTrue (is_int v) → IsUtf8Text v
-of_integer (value.Text t) is = absurd (true≢false (sym is))
-of_integer value.Null is = tt
-of_integer (value.Int n) is = tt
-of_integer (value.Real x) is = tt
-of_integer (value.Blob b) is = tt
 
 -- the values for these columns are so, but for the one that the rowid stands for
 abbrev AreUtf8From : Option ℕ → ℕ → List Column → Row → Type 0
@@ -52,13 +44,9 @@ module _ (key : Option ℕ) (row : Row) where
       here true is fits = of_null v fits
       here false is fits = subst IsUtf8Text (sym (on 0 (at + 1) (omega arith))) (shown.0 is)
 
-with_first : (row : Row) → IsUtf8Text (column row 0) → AllByRecursion IsUtf8Text (drop 1 row) → AllByRecursion IsUtf8Text row
-with_first [] first more = tt
-with_first (v ∷ vs) first more = (first, more)
-
 -- a row has no more than its rowid and a value for each column
-whole : (table : Table) (row : Row) → IsKept table row → IsUtf8Text (column row 0) → AreUtf8From table.key 0 table.columns row → AllByRecursion IsUtf8Text row
-whole table row kept first shown = with_first row first (texts_from table.key row 0 table.columns (drop 1 row) (goes_on row) shown kept.typed)
+behind : (table : Table) (row : Row) → IsKept table row → AreUtf8From table.key 0 table.columns row → AllByRecursion IsUtf8Text (drop 1 row)
+behind table row kept shown = texts_from table.key row 0 table.columns (drop 1 row) (goes_on row) shown kept.typed
 
 module _ {X : Type 0} (written : X → Row) (columns : Row → Row) where
   unmapped : (rows : List Row) → AllByRecursion (AllByRecursion IsUtf8Text) (map columns rows) → AllByRecursion (λ row. AllByRecursion IsUtf8Text (columns row)) rows
@@ -81,35 +69,35 @@ module _ (l : Layout) (c : Contents) (db : Trees) (is : IsFile l c db) (utf8 : A
   tab_texts : HaveUtf8Texts (db l.tab)
   tab_texts =
       let texts = in_rows tab_row tab_columns _ (λ t name. (name, (tt, tt))) c.tabs (db l.tab) utf8.tabs is.holds.tabs in
-      each_of _ _ (db l.tab) (λ row both. whole (tables.tab l.tab) row both.0 (of_integer _ both.1.0) ((λ no. both.1.1.0), ((λ no. both.1.1.1.0), tt)))
-      (all_both _ _ (db l.tab) (kept l.schema (tables.tab l.tab) is.declared.tab db is.sound) (all_both _ _ (db l.tab) is.holds.tab_ids.integers texts))
+      each_of _ _ (db l.tab) (λ row both. behind (tables.tab l.tab) row both.0 ((λ no. both.1.0), ((λ no. both.1.1.0), tt)))
+      (all_both _ _ (db l.tab) (kept l.schema (tables.tab l.tab) is.declared.tab db is.sound) texts)
 
   para_texts : HaveUtf8Texts (db l.para)
   para_texts =
       let texts = in_rows para_row para_columns _ (λ p all. (tt, (tt, (all.0, (all.1, (all.2, (tt, (tt, (tt, tt))))))))) c.paras (db l.para) utf8.paras is.holds.paras in
-      each_of _ _ (db l.para) (λ row both. let t = both.1 in whole (tables.para l.para) row both.0 t.0 (
+      each_of _ _ (db l.para) (λ row both. let t = both.1 in behind (tables.para l.para) row both.0 (
         (λ no. absurd (true≢false no)),
         ((λ no. t.1.0), ((λ no. t.1.1.0), ((λ no. t.1.1.1.0), ((λ no. t.1.1.1.1.0), ((λ no. t.1.1.1.1.1.0), ((λ no. t.1.1.1.1.1.1.0), ((λ no. t.1.1.1.1.1.1.1.0), tt))))))),
       ))
       (all_both _ _ (db l.para) (kept l.schema (tables.para l.para) is.declared.para db is.sound) texts)
 
-  corr_texts : HaveIntegerRowids (db l.corr) → HaveUtf8Texts (db l.corr)
-  corr_texts integers =
+  corr_texts : HaveUtf8Texts (db l.corr)
+  corr_texts =
       let texts = in_rows corr_row corr_columns _ (λ e body. (tt, (tt, (tt, (tt, (tt, (body, tt))))))) c.corrs (db l.corr) utf8.corrs is.holds.corrs in
-      each_of _ _ (db l.corr) (λ row both. let t = both.1.1 in whole (tables.corr l.corr) row both.0 (of_integer _ both.1.0) (
+      each_of _ _ (db l.corr) (λ row both. let t = both.1 in behind (tables.corr l.corr) row both.0 (
         (λ no. t.0),
         ((λ no. t.1.0), ((λ no. t.1.1.0), ((λ no. t.1.1.1.0), ((λ no. t.1.1.1.1.0), ((λ no. t.1.1.1.1.1.0), tt))))),
       ))
-      (all_both _ _ (db l.corr) (kept l.schema (tables.corr l.corr) is.declared.corr db is.sound) (all_both _ _ (db l.corr) integers texts))
+      (all_both _ _ (db l.corr) (kept l.schema (tables.corr l.corr) is.declared.corr db is.sound) texts)
 
   mark_texts : HaveUtf8Texts (db l.mark)
   mark_texts =
       let texts = in_rows mark_row mark_columns _ (λ m note. (tt, (tt, (tt, (tt, (note, (tt, (tt, tt)))))))) c.marks (db l.mark) utf8.marks is.holds.marks in
-      each_of _ _ (db l.mark) (λ row both. let t = both.1 in whole (tables.mark l.mark) row both.0 t.0 (
+      each_of _ _ (db l.mark) (λ row both. let t = both.1 in behind (tables.mark l.mark) row both.0 (
         (λ no. absurd (true≢false no)),
         ((λ no. t.1.0), ((λ no. t.1.1.0), ((λ no. t.1.1.1.0), ((λ no. t.1.1.1.1.0), ((λ no. t.1.1.1.1.1.0), ((λ no. t.1.1.1.1.1.1.0), tt)))))),
       ))
       (all_both _ _ (db l.mark) (kept l.schema (tables.mark l.mark) is.declared.mark db is.sound) texts)
 
-  pub texts_as_written : HaveUtf8Texts (db l.tab) × HaveUtf8Texts (db l.para) × (HaveIntegerRowids (db l.corr) → HaveUtf8Texts (db l.corr)) × HaveUtf8Texts (db l.mark)
+  pub texts_as_written : HaveUtf8Texts (db l.tab) × HaveUtf8Texts (db l.para) × HaveUtf8Texts (db l.corr) × HaveUtf8Texts (db l.mark)
   texts_as_written = (tab_texts, para_texts, corr_texts, mark_texts)

@@ -10,8 +10,8 @@ use Rattle.desk_store.specs.Contents.{three_columns, six_columns, seven_columns,
 use Rattle.desk_store.specs.Fault.{IsToldAs}
 use Rattle.desk_store.specs.Kinds.{HasKinds, kinds_of}
 use Rattle.desk_store.specs.Tables as tables
-use Rattle.desk_store.specs.declared.fault.ReadFault.{ReadFault}
-use Rattle.desk_store.specs.declared.fault.ReadFault.TheVariants.{NoMemory, Refused}
+use Rattle.desk_store.specs.declared.fault.Fault.{Fault}
+use Rattle.desk_store.specs.declared.fault.Fault.TheVariants.{NoMemory, Refused}
 
 -- A statement, the columns that are read of a row that it shows, and the kinds that these must have.
 pub record Asked : Type 0 where
@@ -40,7 +40,7 @@ abbrev pub Gives : {X : Type 0} → Asked → (X → Row) → State → State �
 Gives asked written before after xs = (rows : List Row) × Shown asked.text [] before after rows × (map asked.columns rows ≡ map written xs)
 
 -- Why nothing is read: the statement failed, or of the rows that it showed not all have the kinds, or there was no memory for them.
-pub data FailsAs (asked : Asked) (before after : State) (fault : ReadFault) : Type 0 where
+pub data FailsAs (asked : Asked) (before after : State) (fault : Fault) : Type 0 where
   failed : (e : Error) → FailsToQuery asked.text [] before after e → IsToldAs e fault → FailsAs asked before after fault
   unreadable : (rows : List Row) → Shown asked.text [] before after rows → ¬ AllByRecursion (HasKinds asked.kinds) rows → fault ≡ Refused → FailsAs asked before after fault
   no_memory : (rows : List Row) → Shown asked.text [] before after rows → fault ≡ NoMemory → FailsAs asked before after fault

@@ -4,11 +4,11 @@ use Rattle.sqlite_trees.specs.declared.error.StoreError.{StoreError}
 use Rattle.sqlite_trees.specs.declared.error.StoreError.TheVariants.{OutOfMemory}
 use Rattle.sqlite.specs.declared.error.Error.{Error}
 use Rattle.sqlite.specs.State.{store_error}
-use Rattle.desk_store.specs.declared.fault.ReadFault.{ReadFault}
-use Rattle.desk_store.specs.declared.fault.ReadFault.TheVariants.{NoMemory, Lost, Refused}
+use Rattle.desk_store.specs.declared.fault.Fault.{Fault}
+use Rattle.desk_store.specs.declared.fault.Fault.TheVariants.{NoMemory, Lost, Refused}
 
 -- no memory where the store had none, lost where it failed for another cause, and refused where the error is none of the store's
-abbrev pub IsToldAs : Error → ReadFault → Type 0
+abbrev pub IsToldAs : Error → Fault → Type 0
 IsToldAs e NoMemory = e ≡ store_error OutOfMemory
 IsToldAs e Lost = (cause : StoreError) × (cause ≢ OutOfMemory) × (e ≡ store_error cause)
 IsToldAs e Refused = (cause : StoreError) → e ≢ store_error cause

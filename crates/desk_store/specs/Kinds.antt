@@ -1,5 +1,5 @@
 -- What the rows of a table must be to be read, as its columns are declared.
-use Rattle.std.specs.Prelude.{◌≡◌, List, [], ◌∷◌, map, IsTrue, IsUtf8, ⊤}
+use Rattle.std.specs.Prelude.{◌≡◌, List, [], ◌∷◌, drop, map, IsTrue, IsUtf8, ⊤}
 use Rattle.std.specs.List.{AllByRecursion}
 use Rattle.sqlite_value.specs.declared.value.Value.{Value}
 use Rattle.sqlite_value.specs.declared.value.Value.TheVariants as value
@@ -39,6 +39,6 @@ abbrev pub IsUtf8Text : Value → Type 0
 IsUtf8Text (value.Text t) = IsUtf8 t
 IsUtf8Text _ = ⊤
 
--- each text in the rows is UTF-8
+-- each text in the columns of the rows is UTF-8, whatever stands as their rowids
 abbrev pub HaveUtf8Texts : List Row → Type 0
-HaveUtf8Texts = AllByRecursion (AllByRecursion IsUtf8Text)
+HaveUtf8Texts = AllByRecursion (λ r. AllByRecursion IsUtf8Text (drop 1 r))

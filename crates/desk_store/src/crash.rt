@@ -8,7 +8,7 @@ ghost use Rattle.desk_store.specs.Layout.{Layout};
 ghost use Rattle.desk_store.specs.Puts.{with_puts};
 ghost use Rattle.desk_store.specs.States.{IsFile, Leaves, Shows};
 
-use crate::fault::ReadFault;
+use crate::fault::Fault;
 use crate::open::open_file;
 use crate::transaction::write;
 use desk_book::rows::Put;
@@ -21,7 +21,7 @@ use std::alloc::Global;
 pub fn reopen<S: Alter + Reopen + Drop>(
     alloc: Global,
     conn: Connection<S>,
-) -> Result<Connection<S>, ReadFault>
+) -> Result<Connection<S>, Fault>
     ensures opens { IfOk result (λ after. HasCleanDisk (state S.Store after) → Opens (state S.Store after) × IsLive (state S.Store after)) }
     ensures found { IfOk result (λ after. HasCleanDisk (state S.Store after) → (state S.Store conn).may_leave (state S.Store after).now.trees) }
     ensures shows { IfOk result (λ after. HasCleanDisk (state S.Store after) → (l : Layout) (c d : Contents) → Leaves (λ db. IsFile l c db ⊎ IsFile l d db) (state S.Store conn)
@@ -32,8 +32,8 @@ pub fn reopen<S: Alter + Reopen + Drop>(
     let mut store = conn.into_store();
     match store.crash_and_reopen() {
         Ok(()) => {}
-        Err(StoreError::OutOfMemory) => return Err(ReadFault::NoMemory),
-        Err(_) => return Err(ReadFault::Lost),
+        Err(StoreError::OutOfMemory) => return Err(Fault::NoMemory),
+        Err(_) => return Err(Fault::Lost),
     }
     match open_file(alloc, store) {
         Ok(after) => Ok(after),
@@ -47,7 +47,7 @@ pub fn reopen_after_write<S: Alter + Reopen + Drop>(
     alloc: Global,
     mut conn: Connection<S>,
     puts: &[Put<'_>],
-) -> Result<(Result<(), Error>, Connection<S>), ReadFault>
+) -> Result<(Result<(), Error>, Connection<S>), Fault>
     requires { conn.in_transaction ≡ false }
     ensures idle { IfOk result (λ it. it.1.in_transaction ≡ false) }
     ensures crash { IfOk result (λ it. HasCleanDisk (state S.Store it.1) → (l : Layout) (c : Contents) → Shows l c (state S.Store conn) → Leaves (IsFile l c) (state S.Store conn)

@@ -6,7 +6,7 @@ use sqlite::{Error, ErrorCode};
 
 /// Why a file can't be opened, or its rows can't be read.
 #[derive(Clone, Copy, Debug, PartialEq, Eq)]
-pub enum ReadFault {
+pub enum Fault {
     /// A growth was refused.
     NoMemory,
     /// The store failed: reading or writing, damage of the pages, size, or a shut database.
@@ -16,21 +16,21 @@ pub enum ReadFault {
     Refused,
 }
 
-impl ReadFault {
+impl Fault {
     /// How an error of the database is told.
-    pub(crate) fn of(error: Error) -> ReadFault
+    pub(crate) fn of(error: Error) -> Fault
         ensures { IsToldAs error result }
     {
         match error {
-            Error::SqliteFailure(ErrorCode::OutOfMemory) => ReadFault::NoMemory,
+            Error::SqliteFailure(ErrorCode::OutOfMemory) => Fault::NoMemory,
             Error::SqliteFailure(
                 ErrorCode::SystemIoFailure
                 | ErrorCode::DatabaseCorrupt
                 | ErrorCode::DiskFull
                 | ErrorCode::Closed
                 | ErrorCode::TooBig,
-            ) => ReadFault::Lost,
-            _ => ReadFault::Refused,
+            ) => Fault::Lost,
+            _ => Fault::Refused,
         }
     }
 }

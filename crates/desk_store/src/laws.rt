@@ -40,10 +40,13 @@ pub fn read_whole()
     ensures { (l : Layout) (rows : Rows) (db : Trees) → AreDeclared l → IsSound l.schema db → AreRows l rows db → AreApart rows → IsFile l (contents_of rows db) db }
 {}
 
-/// Where the texts of a file are UTF-8, so are those in its rows. Of the entries of the histories, the rowids are hidden.
+/// The rows of a file have what reading them asks for: integers as the rowids that are read, and texts in UTF-8 where those of the file
+/// are.
 pub fn texts_as_written()
-    ensures { (l : Layout) (c : Contents) (db : Trees) → IsFile l c db → AreUtf8 c
-        → HaveUtf8Texts (db l.tab) × HaveUtf8Texts (db l.para) × (HaveIntegerRowids (db l.corr) → HaveUtf8Texts (db l.corr)) × HaveUtf8Texts (db l.mark) }
+    ensures rowids { (l : Layout) (c : Contents) (db : Trees) → IsFile l c db
+        → HaveIntegerRowids (db l.book) × HaveIntegerRowids (db l.tab) × HaveIntegerRowids (db l.para) × HaveIntegerRowids (db l.mark) }
+    ensures texts { (l : Layout) (c : Contents) (db : Trees) → IsFile l c db → AreUtf8 c
+        → HaveUtf8Texts (db l.tab) × HaveUtf8Texts (db l.para) × HaveUtf8Texts (db l.corr) × HaveUtf8Texts (db l.mark) }
 {}
 
 /// A file where the five tables were made keeps what the database keeps aside.

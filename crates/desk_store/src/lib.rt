@@ -11,7 +11,7 @@ mod read;
 mod transaction;
 
 pub use crash::{reopen, reopen_after_write};
-pub use fault::ReadFault;
+pub use fault::Fault;
 pub use make::make_tables;
 pub use open::open_file;
 pub use read::{read_books, read_corrs, read_marks, read_paras, read_tabs};

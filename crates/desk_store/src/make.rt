@@ -13,7 +13,7 @@ ghost use Rattle.desk_store.specs.Making.{AreAbsent, AreFree, FreesNone, Indexes
 ghost use Rattle.desk_store.specs.States.{IsUnder, Leaves, Shows, seen};
 ghost use Rattle.desk_store.specs.Tables as tables;
 
-use crate::fault::ReadFault;
+use crate::fault::Fault;
 use crate::put::put_book;
 use desk_book::rows::BookRow;
 use sqlite::{Alter, Connection, Error, Transaction};
@@ -151,7 +151,7 @@ pub fn make_tables<S: Alter>(conn: &mut Connection<S>) -> Result<(), Error>
     ensures settled { HasCleanDisk (state S.Store conn.new) → OnOk result (Leaves (IsMade (state S.Store conn.old)) (state S.Store conn.new)) }
     ensures undone { HasCleanDisk (state S.Store conn.new) → OnErr result (IsUndone (state S.Store conn.old) (state S.Store conn.new)) }
     // After a refusal a crash leaves nothing new.
-    ensures refused { HasCleanDisk (state S.Store conn.new) → IfErr result (λ e. IsToldAs e ReadFault.Refused → Survives (state S.Store conn.old) (state S.Store conn.new) (λ _. ⊥)) }
+    ensures refused { HasCleanDisk (state S.Store conn.new) → IfErr result (λ e. IsToldAs e Fault.Refused → Survives (state S.Store conn.old) (state S.Store conn.new) (λ _. ⊥)) }
 {
     let mut tx = conn.transaction();
     create_first(&mut tx)?;

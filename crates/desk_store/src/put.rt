@@ -1,7 +1,8 @@
 //! The statements that put rows.
 //!
-//! Each runs within a transaction and takes out no row. At `Ok` the rows of its table are those before with the row in place of the
-//! one with its key, or with it more, those of the other tables stay, and nothing is committed. The error is the database's.
+//! Each runs within a transaction, takes out no row and commits nothing. At `Ok` the rows of its table are those before with the row in
+//! place of the one with its key, or with it more, those of the other tables stay, and the transaction goes on. The error is the
+//! database's.
 
 ghost use Rattle.std.specs.Prelude.{◌≡◌, true, [], ◌∷◌, OnOk};
 ghost use Rattle.sqlite_value.specs.declared.value.Value.TheVariants.{Int};
@@ -105,6 +106,8 @@ pub(crate) fn put_tab<S: Alter>(tx: &mut Transaction<'_, S>, row: &TabRow) -> Re
     ensures same_reference { tx.new.conn.ghost_name ≡ tx.old.conn.ghost_name }
     ensures put { HasCleanDisk (seen S.Store tx.new) → (committed : Database) (l : Layout) (c : Contents) → IsUnder committed l c (seen S.Store tx.old)
         → OnOk result (IsUnder committed l (with_tab row.now c) (seen S.Store tx.new)) }
+    ensures inside { HasCleanDisk (seen S.Store tx.new) → OnOk result ((seen S.Store tx.new).in_transaction ≡ true) }
+    ensures kept { HasCleanDisk (seen S.Store tx.new) → KeepsCommit (seen S.Store tx.old) (seen S.Store tx.new) }
     ensures survives { Survives (seen S.Store tx.old) (seen S.Store tx.new) (λ _. ⊥) }
 {
     let columns = tab_columns(row);
@@ -120,6 +123,8 @@ pub(crate) fn put_para<S: Alter>(tx: &mut Transaction<'_, S>, row: &ParaRow) -> 
     ensures same_reference { tx.new.conn.ghost_name ≡ tx.old.conn.ghost_name }
     ensures put { HasCleanDisk (seen S.Store tx.new) → (committed : Database) (l : Layout) (c : Contents) → IsUnder committed l c (seen S.Store tx.old)
         → OnOk result (IsUnder committed l (with_para row.now c) (seen S.Store tx.new)) }
+    ensures inside { HasCleanDisk (seen S.Store tx.new) → OnOk result ((seen S.Store tx.new).in_transaction ≡ true) }
+    ensures kept { HasCleanDisk (seen S.Store tx.new) → KeepsCommit (seen S.Store tx.old) (seen S.Store tx.new) }
     ensures survives { Survives (seen S.Store tx.old) (seen S.Store tx.new) (λ _. ⊥) }
 {
     let columns = para_columns(row);
@@ -135,6 +140,8 @@ pub(crate) fn put_corr<S: Alter>(tx: &mut Transaction<'_, S>, row: &CorrRow) -> 
     ensures same_reference { tx.new.conn.ghost_name ≡ tx.old.conn.ghost_name }
     ensures put { HasCleanDisk (seen S.Store tx.new) → (committed : Database) (l : Layout) (c : Contents) → IsUnder committed l c (seen S.Store tx.old)
         → OnOk result (IsUnder committed l (with_corr row.now c) (seen S.Store tx.new)) }
+    ensures inside { HasCleanDisk (seen S.Store tx.new) → OnOk result ((seen S.Store tx.new).in_transaction ≡ true) }
+    ensures kept { HasCleanDisk (seen S.Store tx.new) → KeepsCommit (seen S.Store tx.old) (seen S.Store tx.new) }
     ensures survives { Survives (seen S.Store tx.old) (seen S.Store tx.new) (λ _. ⊥) }
 {
     let columns = corr_columns(row);
@@ -147,6 +154,8 @@ pub(crate) fn put_mark<S: Alter>(tx: &mut Transaction<'_, S>, row: &MarkRow) -> 
     ensures same_reference { tx.new.conn.ghost_name ≡ tx.old.conn.ghost_name }
     ensures put { HasCleanDisk (seen S.Store tx.new) → (committed : Database) (l : Layout) (c : Contents) → IsUnder committed l c (seen S.Store tx.old)
         → OnOk result (IsUnder committed l (with_mark row.now c) (seen S.Store tx.new)) }
+    ensures inside { HasCleanDisk (seen S.Store tx.new) → OnOk result ((seen S.Store tx.new).in_transaction ≡ true) }
+    ensures kept { HasCleanDisk (seen S.Store tx.new) → KeepsCommit (seen S.Store tx.old) (seen S.Store tx.new) }
     ensures survives { Survives (seen S.Store tx.old) (seen S.Store tx.new) (λ _. ⊥) }
 {
     let columns = mark_columns(row);
@@ -166,6 +175,8 @@ pub(crate) fn set_place<S: Alter>(
     ensures same_reference { tx.new.conn.ghost_name ≡ tx.old.conn.ghost_name }
     ensures put { HasCleanDisk (seen S.Store tx.new) → (committed : Database) (l : Layout) (c : Contents) → IsUnder committed l c (seen S.Store tx.old)
         → OnOk result (IsUnder committed l (with_place id place c) (seen S.Store tx.new)) }
+    ensures inside { HasCleanDisk (seen S.Store tx.new) → OnOk result ((seen S.Store tx.new).in_transaction ≡ true) }
+    ensures kept { HasCleanDisk (seen S.Store tx.new) → KeepsCommit (seen S.Store tx.old) (seen S.Store tx.new) }
     ensures survives { Survives (seen S.Store tx.old) (seen S.Store tx.new) (λ _. ⊥) }
 {
     let columns = numbers(id, place);
@@ -178,6 +189,8 @@ pub(crate) fn set_version<S: Alter>(tx: &mut Transaction<'_, S>, version: i64) -
     ensures same_reference { tx.new.conn.ghost_name ≡ tx.old.conn.ghost_name }
     ensures put { HasCleanDisk (seen S.Store tx.new) → (committed : Database) (l : Layout) (c : Contents) → IsUnder committed l c (seen S.Store tx.old)
         → OnOk result (IsUnder committed l (with_version version c) (seen S.Store tx.new)) }
+    ensures inside { HasCleanDisk (seen S.Store tx.new) → OnOk result ((seen S.Store tx.new).in_transaction ≡ true) }
+    ensures kept { HasCleanDisk (seen S.Store tx.new) → KeepsCommit (seen S.Store tx.old) (seen S.Store tx.new) }
     ensures survives { Survives (seen S.Store tx.old) (seen S.Store tx.new) (λ _. ⊥) }
 {
     let columns = numbers(1, version);
@@ -190,6 +203,8 @@ fn put<S: Alter>(tx: &mut Transaction<'_, S>, put: &Put<'_>) -> Result<(), Error
     ensures same_reference { tx.new.conn.ghost_name ≡ tx.old.conn.ghost_name }
     ensures put { HasCleanDisk (seen S.Store tx.new) → (committed : Database) (l : Layout) (c : Contents) → IsUnder committed l c (seen S.Store tx.old)
         → OnOk result (IsUnder committed l (with_put c put.now) (seen S.Store tx.new)) }
+    ensures inside { HasCleanDisk (seen S.Store tx.new) → OnOk result ((seen S.Store tx.new).in_transaction ≡ true) }
+    ensures kept { HasCleanDisk (seen S.Store tx.new) → KeepsCommit (seen S.Store tx.old) (seen S.Store tx.new) }
     ensures survives { Survives (seen S.Store tx.old) (seen S.Store tx.new) (λ _. ⊥) }
 {
     match put {
@@ -208,6 +223,8 @@ pub(crate) fn put_all<S: Alter>(tx: &mut Transaction<'_, S>, puts: &[Put<'_>]) -
     ensures same_reference { tx.new.conn.ghost_name ≡ tx.old.conn.ghost_name }
     ensures put { HasCleanDisk (seen S.Store tx.new) → (committed : Database) (l : Layout) (c : Contents) → IsUnder committed l c (seen S.Store tx.old)
         → OnOk result (IsUnder committed l (with_puts puts.now c) (seen S.Store tx.new)) }
+    ensures inside { HasCleanDisk (seen S.Store tx.new) → (seen S.Store tx.old).in_transaction ≡ true → OnOk result ((seen S.Store tx.new).in_transaction ≡ true) }
+    ensures kept { HasCleanDisk (seen S.Store tx.new) → KeepsCommit (seen S.Store tx.old) (seen S.Store tx.new) }
     ensures survives { Survives (seen S.Store tx.old) (seen S.Store tx.new) (λ _. ⊥) }
 {
     for one in puts {

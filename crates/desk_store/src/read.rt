@@ -2,8 +2,8 @@
 //!
 //! Each answers what its statement shows in any file, and changes nothing; a value that isn't of the kind that a new
 //! file declares for its column is refused. Over a clean disk, where the table is declared as in a new file, the answer
-//! is its rows as they stand, in order. Where these have integer rowids and texts in UTF-8 too, and the steps have no
-//! limit, only memory or the store makes it fail.
+//! is its rows as they stand, in order. Where these have integer rowids (of `corr`, any) and texts in UTF-8 too, and the
+//! steps have no limit, only memory or the store makes it fail.
 //!
 //! A statement that a limit on steps stops is told as refused.
 
@@ -25,14 +25,14 @@ ghost use Rattle.desk_store.specs.Tables as tables;
 ghost use Rattle.desk_store.specs.Fault.{IsToldAs};
 ghost use Rattle.desk_store.specs.States.{HasTable, Shows};
 
-use crate::fault::ReadFault;
+use crate::fault::Fault;
 use desk_book::rows::{BookRow, CorrRow, MarkRow, ParaRow, StoredTab, TabRow};
 use sqlite::types::FromSql;
 use sqlite::{Alter, Connection, Row};
 use std::alloc::Global;
 
 /// The rows that a query shows.
-fn ask<S: Alter>(conn: &mut Connection<S>, sql: &str) -> Result<Vec<Row>, ReadFault>
+fn ask<S: Alter>(conn: &mut Connection<S>, sql: &str) -> Result<Vec<Row>, Fault>
     ensures shown { HasCleanDisk (state S.Store conn.new) → IfOk result (λ rows. Shown sql.now [] (state S.Store conn.old) (state S.Store conn.new) rows.items) }
     ensures failed { HasCleanDisk (state S.Store conn.new) → IfErr result (λ fault. (e : Failure) × FailsToQuery sql.now [] (state S.Store conn.old) (state S.Store conn.new) e × IsToldAs e fault) }
     ensures mode { conn.old.in_transaction ≡ false → conn.new.in_transaction ≡ false }
@@ -40,27 +40,27 @@ fn ask<S: Alter>(conn: &mut Connection<S>, sql: &str) -> Result<Vec<Row>, ReadFa
 {
     match conn.query_all(sql, &[]) {
         Ok(rows) => Ok(rows),
-        Err(error) => Err(ReadFault::of(error)),
+        Err(error) => Err(Fault::of(error)),
     }
 }
 
 /// The value in a column.
-fn value<T: FromSql>(row: &Row, at: usize) -> Result<T, ReadFault>
+fn value<T: FromSql>(row: &Row, at: usize) -> Result<T, Fault>
     ensures reads { IfOk result (λ x. T.FromSql.reads_as (column row.now at) x) }
-    ensures kind { at < length row.now → T.FromSql.is_readable (column row.now at) → IfErr result (λ fault. fault ≡ ReadFault.NoMemory) }
-    ensures kept { IfErr result (λ fault. fault ≢ ReadFault.Lost) }
+    ensures kind { at < length row.now → T.FromSql.is_readable (column row.now at) → IfErr result (λ fault. fault ≡ Fault.NoMemory) }
+    ensures not_lost { IfErr result (λ fault. fault ≢ Fault.Lost) }
 {
     match row.get(at) {
         Ok(value) => Ok(value),
-        Err(error) => Err(ReadFault::of(error)),
+        Err(error) => Err(Fault::of(error)),
     }
 }
 
 /// The row of the book from its columns.
-fn book_of(row: &Row) -> Result<BookRow, ReadFault>
+fn book_of(row: &Row) -> Result<BookRow, Fault>
     ensures reads { IfOk result (λ x. three_columns row.now ≡ book_row x) }
-    ensures kinds { HasKinds books_asked.kinds row.now → IfErr result (λ fault. fault ≡ ReadFault.NoMemory) }
-    ensures kept { IfErr result (λ fault. fault ≢ ReadFault.Lost) }
+    ensures kinds { HasKinds books_asked.kinds row.now → IfErr result (λ fault. fault ≡ Fault.NoMemory) }
+    ensures not_lost { IfErr result (λ fault. fault ≢ Fault.Lost) }
 {
     Ok(BookRow {
         id: value(row, 0)?,
@@ -70,35 +70,32 @@ fn book_of(row: &Row) -> Result<BookRow, ReadFault>
 }
 
 /// Each of the rows, in turn.
-fn books_of(alloc: Global, rows: &[Row]) -> Result<Vec<BookRow>, ReadFault>
+fn books_of(alloc: Global, rows: &[Row]) -> Result<Vec<BookRow>, Fault>
     ensures reads { IfOk result (λ xs. map three_columns rows.now ≡ map book_row xs.items) }
-    ensures kinds { AllByRecursion (HasKinds books_asked.kinds) rows.now → IfErr result (λ fault. fault ≡ ReadFault.NoMemory) }
-    ensures kept { IfErr result (λ fault. fault ≢ ReadFault.Lost) }
+    ensures kinds { AllByRecursion (HasKinds books_asked.kinds) rows.now → IfErr result (λ fault. fault ≡ Fault.NoMemory) }
+    ensures not_lost { IfErr result (λ fault. fault ≢ Fault.Lost) }
 {
     let mut books = Vec::new(alloc);
     for row in rows {
         let book = book_of(row)?;
         if books.push(book).is_err() {
-            return Err(ReadFault::NoMemory);
+            return Err(Fault::NoMemory);
         }
     }
     Ok(books)
 }
 
 /// The rows of `book`, in order of their ids.
-pub fn read_books<S: Alter>(
-    alloc: Global,
-    conn: &mut Connection<S>,
-) -> Result<Vec<BookRow>, ReadFault>
+pub fn read_books<S: Alter>(alloc: Global, conn: &mut Connection<S>) -> Result<Vec<BookRow>, Fault>
     ensures gives { HasCleanDisk (state S.Store conn.new) → IfOk result (λ xs. Gives books_asked book_row (state S.Store conn.old) (state S.Store conn.new) xs.items) }
     ensures rows { HasCleanDisk (state S.Store conn.new) → (tree : ℕ) → HasTable (tables.book tree) (state S.Store conn.old) → IfOk result (λ xs.
         Lists book_row book_columns xs.items ((state S.Store conn.old).now.trees tree) × IsSortedByKey (λ (b : Book). b.id) int_cmp xs.items) }
     ensures shows { HasCleanDisk (state S.Store conn.new) → (l : Layout) (c : Contents) → Shows l c (state S.Store conn.old) → IfOk result (λ xs. IsPermutation c.books xs.items) }
     ensures unchanged { HasCleanDisk (state S.Store conn.new) → OnOk result (IsUnchanged (state S.Store conn.old) (state S.Store conn.new)) }
     ensures told { HasCleanDisk (state S.Store conn.new) → IfErr result (FailsAs books_asked (state S.Store conn.old) (state S.Store conn.new)) }
-    ensures refused { HasCleanDisk (state S.Store conn.new) → IfErr result (λ fault. fault ≡ ReadFault.Refused → IsUnchanged (state S.Store conn.old) (state S.Store conn.new)) }
+    ensures refused { HasCleanDisk (state S.Store conn.new) → IfErr result (λ fault. fault ≡ Fault.Refused → IsUnchanged (state S.Store conn.old) (state S.Store conn.new)) }
     ensures cause { HasCleanDisk (state S.Store conn.new) → (tree : ℕ) → HasTable (tables.book tree) (state S.Store conn.old) → (state S.Store conn.old).step_limit ≡ None →
-        HaveIntegerRowids ((state S.Store conn.old).now.trees tree) → IfErr result (λ fault. fault ≢ ReadFault.Refused) }
+        HaveIntegerRowids ((state S.Store conn.old).now.trees tree) → IfErr result (λ fault. fault ≢ Fault.Refused) }
     ensures mode { conn.old.in_transaction ≡ false → conn.new.in_transaction ≡ false }
     ensures survives { Survives (state S.Store conn.old) (state S.Store conn.new) (λ _. ⊥) }
 {
@@ -107,10 +104,10 @@ pub fn read_books<S: Alter>(
 }
 
 /// A braille table from its columns.
-fn tab_of(row: &Row) -> Result<StoredTab, ReadFault>
+fn tab_of(row: &Row) -> Result<StoredTab, Fault>
     ensures reads { IfOk result (λ x. three_columns row.now ≡ stored_tab_row x) }
-    ensures kinds { HasKinds tabs_asked.kinds row.now → IfErr result (λ fault. fault ≡ ReadFault.NoMemory) }
-    ensures kept { IfErr result (λ fault. fault ≢ ReadFault.Lost) }
+    ensures kinds { HasKinds tabs_asked.kinds row.now → IfErr result (λ fault. fault ≡ Fault.NoMemory) }
+    ensures not_lost { IfErr result (λ fault. fault ≢ Fault.Lost) }
 {
     Ok(StoredTab {
         rowid: value(row, 0)?,
@@ -122,26 +119,23 @@ fn tab_of(row: &Row) -> Result<StoredTab, ReadFault>
 }
 
 /// Each of the rows, in turn.
-fn tabs_of(alloc: Global, rows: &[Row]) -> Result<Vec<StoredTab>, ReadFault>
+fn tabs_of(alloc: Global, rows: &[Row]) -> Result<Vec<StoredTab>, Fault>
     ensures reads { IfOk result (λ xs. map three_columns rows.now ≡ map stored_tab_row xs.items) }
-    ensures kinds { AllByRecursion (HasKinds tabs_asked.kinds) rows.now → IfErr result (λ fault. fault ≡ ReadFault.NoMemory) }
-    ensures kept { IfErr result (λ fault. fault ≢ ReadFault.Lost) }
+    ensures kinds { AllByRecursion (HasKinds tabs_asked.kinds) rows.now → IfErr result (λ fault. fault ≡ Fault.NoMemory) }
+    ensures not_lost { IfErr result (λ fault. fault ≢ Fault.Lost) }
 {
     let mut tabs = Vec::new(alloc);
     for row in rows {
         let tab = tab_of(row)?;
         if tabs.push(tab).is_err() {
-            return Err(ReadFault::NoMemory);
+            return Err(Fault::NoMemory);
         }
     }
     Ok(tabs)
 }
 
 /// The braille tables, in order of the bytes of their names, which is that of the names' code points.
-pub fn read_tabs<S: Alter>(
-    alloc: Global,
-    conn: &mut Connection<S>,
-) -> Result<Vec<StoredTab>, ReadFault>
+pub fn read_tabs<S: Alter>(alloc: Global, conn: &mut Connection<S>) -> Result<Vec<StoredTab>, Fault>
     ensures gives { HasCleanDisk (state S.Store conn.new) → IfOk result (λ xs. Gives tabs_asked stored_tab_row (state S.Store conn.old) (state S.Store conn.new) xs.items) }
     ensures rows { HasCleanDisk (state S.Store conn.new) → (tree : ℕ) → HasTable (tables.tab tree) (state S.Store conn.old) → IfOk result (λ xs.
         Lists stored_tab_row stored_tab_columns xs.items ((state S.Store conn.old).now.trees tree) × IsSortedByKey (λ t. t.row.name) (slice_cmp nat_cmp) xs.items) }
@@ -149,9 +143,9 @@ pub fn read_tabs<S: Alter>(
         IsPermutation c.tabs (map (λ t. t.row) xs.items) × IsDistinct int_eq (map (λ t. t.rowid) xs.items)) }
     ensures unchanged { HasCleanDisk (state S.Store conn.new) → OnOk result (IsUnchanged (state S.Store conn.old) (state S.Store conn.new)) }
     ensures told { HasCleanDisk (state S.Store conn.new) → IfErr result (FailsAs tabs_asked (state S.Store conn.old) (state S.Store conn.new)) }
-    ensures refused { HasCleanDisk (state S.Store conn.new) → IfErr result (λ fault. fault ≡ ReadFault.Refused → IsUnchanged (state S.Store conn.old) (state S.Store conn.new)) }
+    ensures refused { HasCleanDisk (state S.Store conn.new) → IfErr result (λ fault. fault ≡ Fault.Refused → IsUnchanged (state S.Store conn.old) (state S.Store conn.new)) }
     ensures cause { HasCleanDisk (state S.Store conn.new) → (tree : ℕ) → HasTable (tables.tab tree) (state S.Store conn.old) → (state S.Store conn.old).step_limit ≡ None →
-        HaveIntegerRowids ((state S.Store conn.old).now.trees tree) → HaveUtf8Texts ((state S.Store conn.old).now.trees tree) → IfErr result (λ fault. fault ≢ ReadFault.Refused) }
+        HaveIntegerRowids ((state S.Store conn.old).now.trees tree) → HaveUtf8Texts ((state S.Store conn.old).now.trees tree) → IfErr result (λ fault. fault ≢ Fault.Refused) }
     ensures mode { conn.old.in_transaction ≡ false → conn.new.in_transaction ≡ false }
     ensures survives { Survives (state S.Store conn.old) (state S.Store conn.new) (λ _. ⊥) }
 {
@@ -160,10 +154,10 @@ pub fn read_tabs<S: Alter>(
 }
 
 /// A paragraph from its columns.
-fn para_of(row: &Row) -> Result<ParaRow, ReadFault>
+fn para_of(row: &Row) -> Result<ParaRow, Fault>
     ensures reads { IfOk result (λ x. eight_columns row.now ≡ para_row x) }
-    ensures kinds { HasKinds paras_asked.kinds row.now → IfErr result (λ fault. fault ≡ ReadFault.NoMemory) }
-    ensures kept { IfErr result (λ fault. fault ≢ ReadFault.Lost) }
+    ensures kinds { HasKinds paras_asked.kinds row.now → IfErr result (λ fault. fault ≡ Fault.NoMemory) }
+    ensures not_lost { IfErr result (λ fault. fault ≢ Fault.Lost) }
 {
     Ok(ParaRow {
         id: value(row, 0)?,
@@ -178,35 +172,32 @@ fn para_of(row: &Row) -> Result<ParaRow, ReadFault>
 }
 
 /// Each of the rows, in turn.
-fn paras_of(alloc: Global, rows: &[Row]) -> Result<Vec<ParaRow>, ReadFault>
+fn paras_of(alloc: Global, rows: &[Row]) -> Result<Vec<ParaRow>, Fault>
     ensures reads { IfOk result (λ xs. map eight_columns rows.now ≡ map para_row xs.items) }
-    ensures kinds { AllByRecursion (HasKinds paras_asked.kinds) rows.now → IfErr result (λ fault. fault ≡ ReadFault.NoMemory) }
-    ensures kept { IfErr result (λ fault. fault ≢ ReadFault.Lost) }
+    ensures kinds { AllByRecursion (HasKinds paras_asked.kinds) rows.now → IfErr result (λ fault. fault ≡ Fault.NoMemory) }
+    ensures not_lost { IfErr result (λ fault. fault ≢ Fault.Lost) }
 {
     let mut paras = Vec::new(alloc);
     for row in rows {
         let para = para_of(row)?;
         if paras.push(para).is_err() {
-            return Err(ReadFault::NoMemory);
+            return Err(Fault::NoMemory);
         }
     }
     Ok(paras)
 }
 
 /// The paragraphs, in order of their ids.
-pub fn read_paras<S: Alter>(
-    alloc: Global,
-    conn: &mut Connection<S>,
-) -> Result<Vec<ParaRow>, ReadFault>
+pub fn read_paras<S: Alter>(alloc: Global, conn: &mut Connection<S>) -> Result<Vec<ParaRow>, Fault>
     ensures gives { HasCleanDisk (state S.Store conn.new) → IfOk result (λ xs. Gives paras_asked para_row (state S.Store conn.old) (state S.Store conn.new) xs.items) }
     ensures rows { HasCleanDisk (state S.Store conn.new) → (tree : ℕ) → HasTable (tables.para tree) (state S.Store conn.old) → IfOk result (λ xs.
         Lists para_row para_columns xs.items ((state S.Store conn.old).now.trees tree) × IsSortedByKey (λ p. p.id) int_cmp xs.items) }
     ensures shows { HasCleanDisk (state S.Store conn.new) → (l : Layout) (c : Contents) → Shows l c (state S.Store conn.old) → IfOk result (λ xs. IsPermutation c.paras xs.items) }
     ensures unchanged { HasCleanDisk (state S.Store conn.new) → OnOk result (IsUnchanged (state S.Store conn.old) (state S.Store conn.new)) }
     ensures told { HasCleanDisk (state S.Store conn.new) → IfErr result (FailsAs paras_asked (state S.Store conn.old) (state S.Store conn.new)) }
-    ensures refused { HasCleanDisk (state S.Store conn.new) → IfErr result (λ fault. fault ≡ ReadFault.Refused → IsUnchanged (state S.Store conn.old) (state S.Store conn.new)) }
+    ensures refused { HasCleanDisk (state S.Store conn.new) → IfErr result (λ fault. fault ≡ Fault.Refused → IsUnchanged (state S.Store conn.old) (state S.Store conn.new)) }
     ensures cause { HasCleanDisk (state S.Store conn.new) → (tree : ℕ) → HasTable (tables.para tree) (state S.Store conn.old) → (state S.Store conn.old).step_limit ≡ None →
-        HaveIntegerRowids ((state S.Store conn.old).now.trees tree) → HaveUtf8Texts ((state S.Store conn.old).now.trees tree) → IfErr result (λ fault. fault ≢ ReadFault.Refused) }
+        HaveIntegerRowids ((state S.Store conn.old).now.trees tree) → HaveUtf8Texts ((state S.Store conn.old).now.trees tree) → IfErr result (λ fault. fault ≢ Fault.Refused) }
     ensures mode { conn.old.in_transaction ≡ false → conn.new.in_transaction ≡ false }
     ensures survives { Survives (state S.Store conn.old) (state S.Store conn.new) (λ _. ⊥) }
 {
@@ -218,10 +209,10 @@ pub fn read_paras<S: Alter>(
 }
 
 /// An entry of a history from its columns.
-fn corr_of(row: &Row) -> Result<CorrRow, ReadFault>
+fn corr_of(row: &Row) -> Result<CorrRow, Fault>
     ensures reads { IfOk result (λ x. six_columns row.now ≡ corr_row x) }
-    ensures kinds { HasKinds corrs_asked.kinds row.now → IfErr result (λ fault. fault ≡ ReadFault.NoMemory) }
-    ensures kept { IfErr result (λ fault. fault ≢ ReadFault.Lost) }
+    ensures kinds { HasKinds corrs_asked.kinds row.now → IfErr result (λ fault. fault ≡ Fault.NoMemory) }
+    ensures not_lost { IfErr result (λ fault. fault ≢ Fault.Lost) }
 {
     Ok(CorrRow {
         para: value(row, 0)?,
@@ -234,35 +225,32 @@ fn corr_of(row: &Row) -> Result<CorrRow, ReadFault>
 }
 
 /// Each of the rows, in turn.
-fn corrs_of(alloc: Global, rows: &[Row]) -> Result<Vec<CorrRow>, ReadFault>
+fn corrs_of(alloc: Global, rows: &[Row]) -> Result<Vec<CorrRow>, Fault>
     ensures reads { IfOk result (λ xs. map six_columns rows.now ≡ map corr_row xs.items) }
-    ensures kinds { AllByRecursion (HasKinds corrs_asked.kinds) rows.now → IfErr result (λ fault. fault ≡ ReadFault.NoMemory) }
-    ensures kept { IfErr result (λ fault. fault ≢ ReadFault.Lost) }
+    ensures kinds { AllByRecursion (HasKinds corrs_asked.kinds) rows.now → IfErr result (λ fault. fault ≡ Fault.NoMemory) }
+    ensures not_lost { IfErr result (λ fault. fault ≢ Fault.Lost) }
 {
     let mut corrs = Vec::new(alloc);
     for row in rows {
         let corr = corr_of(row)?;
         if corrs.push(corr).is_err() {
-            return Err(ReadFault::NoMemory);
+            return Err(Fault::NoMemory);
         }
     }
     Ok(corrs)
 }
 
 /// The entries of the histories, in order of their paragraphs and numbers.
-pub fn read_corrs<S: Alter>(
-    alloc: Global,
-    conn: &mut Connection<S>,
-) -> Result<Vec<CorrRow>, ReadFault>
+pub fn read_corrs<S: Alter>(alloc: Global, conn: &mut Connection<S>) -> Result<Vec<CorrRow>, Fault>
     ensures gives { HasCleanDisk (state S.Store conn.new) → IfOk result (λ xs. Gives corrs_asked corr_row (state S.Store conn.old) (state S.Store conn.new) xs.items) }
     ensures rows { HasCleanDisk (state S.Store conn.new) → (tree : ℕ) → HasTable (tables.corr tree) (state S.Store conn.old) → IfOk result (λ xs.
         Lists corr_row corr_columns xs.items ((state S.Store conn.old).now.trees tree) × IsSortedBy (λ a b. is_lt (ordering_then (int_cmp a.para b.para) (int_cmp a.seq b.seq))) xs.items) }
     ensures shows { HasCleanDisk (state S.Store conn.new) → (l : Layout) (c : Contents) → Shows l c (state S.Store conn.old) → IfOk result (λ xs. IsPermutation c.corrs xs.items) }
     ensures unchanged { HasCleanDisk (state S.Store conn.new) → OnOk result (IsUnchanged (state S.Store conn.old) (state S.Store conn.new)) }
     ensures told { HasCleanDisk (state S.Store conn.new) → IfErr result (FailsAs corrs_asked (state S.Store conn.old) (state S.Store conn.new)) }
-    ensures refused { HasCleanDisk (state S.Store conn.new) → IfErr result (λ fault. fault ≡ ReadFault.Refused → IsUnchanged (state S.Store conn.old) (state S.Store conn.new)) }
+    ensures refused { HasCleanDisk (state S.Store conn.new) → IfErr result (λ fault. fault ≡ Fault.Refused → IsUnchanged (state S.Store conn.old) (state S.Store conn.new)) }
     ensures cause { HasCleanDisk (state S.Store conn.new) → (tree : ℕ) → HasTable (tables.corr tree) (state S.Store conn.old) → (state S.Store conn.old).step_limit ≡ None →
-        HaveUtf8Texts ((state S.Store conn.old).now.trees tree) → IfErr result (λ fault. fault ≢ ReadFault.Refused) }
+        HaveUtf8Texts ((state S.Store conn.old).now.trees tree) → IfErr result (λ fault. fault ≢ Fault.Refused) }
     ensures mode { conn.old.in_transaction ≡ false → conn.new.in_transaction ≡ false }
     ensures survives { Survives (state S.Store conn.old) (state S.Store conn.new) (λ _. ⊥) }
 {
@@ -274,10 +262,10 @@ pub fn read_corrs<S: Alter>(
 }
 
 /// A mark from its columns.
-fn mark_of(row: &Row) -> Result<MarkRow, ReadFault>
+fn mark_of(row: &Row) -> Result<MarkRow, Fault>
     ensures reads { IfOk result (λ x. seven_columns row.now ≡ mark_row x) }
-    ensures kinds { HasKinds marks_asked.kinds row.now → IfErr result (λ fault. fault ≡ ReadFault.NoMemory) }
-    ensures kept { IfErr result (λ fault. fault ≢ ReadFault.Lost) }
+    ensures kinds { HasKinds marks_asked.kinds row.now → IfErr result (λ fault. fault ≡ Fault.NoMemory) }
+    ensures not_lost { IfErr result (λ fault. fault ≢ Fault.Lost) }
 {
     Ok(MarkRow {
         id: value(row, 0)?,
@@ -291,35 +279,32 @@ fn mark_of(row: &Row) -> Result<MarkRow, ReadFault>
 }
 
 /// Each of the rows, in turn.
-fn marks_of(alloc: Global, rows: &[Row]) -> Result<Vec<MarkRow>, ReadFault>
+fn marks_of(alloc: Global, rows: &[Row]) -> Result<Vec<MarkRow>, Fault>
     ensures reads { IfOk result (λ xs. map seven_columns rows.now ≡ map mark_row xs.items) }
-    ensures kinds { AllByRecursion (HasKinds marks_asked.kinds) rows.now → IfErr result (λ fault. fault ≡ ReadFault.NoMemory) }
-    ensures kept { IfErr result (λ fault. fault ≢ ReadFault.Lost) }
+    ensures kinds { AllByRecursion (HasKinds marks_asked.kinds) rows.now → IfErr result (λ fault. fault ≡ Fault.NoMemory) }
+    ensures not_lost { IfErr result (λ fault. fault ≢ Fault.Lost) }
 {
     let mut marks = Vec::new(alloc);
     for row in rows {
         let mark = mark_of(row)?;
         if marks.push(mark).is_err() {
-            return Err(ReadFault::NoMemory);
+            return Err(Fault::NoMemory);
         }
     }
     Ok(marks)
 }
 
 /// The marks, in order of their ids.
-pub fn read_marks<S: Alter>(
-    alloc: Global,
-    conn: &mut Connection<S>,
-) -> Result<Vec<MarkRow>, ReadFault>
+pub fn read_marks<S: Alter>(alloc: Global, conn: &mut Connection<S>) -> Result<Vec<MarkRow>, Fault>
     ensures gives { HasCleanDisk (state S.Store conn.new) → IfOk result (λ xs. Gives marks_asked mark_row (state S.Store conn.old) (state S.Store conn.new) xs.items) }
     ensures rows { HasCleanDisk (state S.Store conn.new) → (tree : ℕ) → HasTable (tables.mark tree) (state S.Store conn.old) → IfOk result (λ xs.
         Lists mark_row mark_columns xs.items ((state S.Store conn.old).now.trees tree) × IsSortedByKey (λ m. m.id) int_cmp xs.items) }
     ensures shows { HasCleanDisk (state S.Store conn.new) → (l : Layout) (c : Contents) → Shows l c (state S.Store conn.old) → IfOk result (λ xs. IsPermutation c.marks xs.items) }
     ensures unchanged { HasCleanDisk (state S.Store conn.new) → OnOk result (IsUnchanged (state S.Store conn.old) (state S.Store conn.new)) }
     ensures told { HasCleanDisk (state S.Store conn.new) → IfErr result (FailsAs marks_asked (state S.Store conn.old) (state S.Store conn.new)) }
-    ensures refused { HasCleanDisk (state S.Store conn.new) → IfErr result (λ fault. fault ≡ ReadFault.Refused → IsUnchanged (state S.Store conn.old) (state S.Store conn.new)) }
+    ensures refused { HasCleanDisk (state S.Store conn.new) → IfErr result (λ fault. fault ≡ Fault.Refused → IsUnchanged (state S.Store conn.old) (state S.Store conn.new)) }
     ensures cause { HasCleanDisk (state S.Store conn.new) → (tree : ℕ) → HasTable (tables.mark tree) (state S.Store conn.old) → (state S.Store conn.old).step_limit ≡ None →
-        HaveIntegerRowids ((state S.Store conn.old).now.trees tree) → HaveUtf8Texts ((state S.Store conn.old).now.trees tree) → IfErr result (λ fault. fault ≢ ReadFault.Refused) }
+        HaveIntegerRowids ((state S.Store conn.old).now.trees tree) → HaveUtf8Texts ((state S.Store conn.old).now.trees tree) → IfErr result (λ fault. fault ≢ Fault.Refused) }
     ensures mode { conn.old.in_transaction ≡ false → conn.new.in_transaction ≡ false }
     ensures survives { Survives (state S.Store conn.old) (state S.Store conn.new) (λ _. ⊥) }
 {

@@ -1,7 +1,7 @@
 ghost use Rattle.std.specs.Prelude.{◌≡◌, false, OnOk};
 
 use super::stops::list;
-use crate::{ReadFault, make_tables, read_books, read_paras, reopen_after_write, write};
+use crate::{Fault, make_tables, read_books, read_paras, reopen_after_write, write};
 use desk_book::rows::{BookRow, CorrRow, MarkRow, ParaRow, Put, TabRow};
 use sqlite::{Connection, Error, MemStore};
 use std::alloc::Global;
@@ -244,14 +244,14 @@ corr (1, 1, 0, 0, 3) \"\"
 }
 
 /// How the paragraphs of a file with no table are read.
-fn fault_with_no_table(alloc: Global) -> Result<Option<ReadFault>, Fail> {
+fn fault_with_no_table(alloc: Global) -> Result<Option<Fault>, Fail> {
     let mut conn = Connection::open_in_memory(alloc)?;
     Ok(read_paras(alloc, &mut conn).err())
 }
 
 #[test]
 fn a_missing_table_is_refused(rt: HostRuntime) -> Result<(), Fail> {
-    assert!(rt; fault_with_no_table(rt.alloc())? == Some(ReadFault::Refused));
+    assert!(rt; fault_with_no_table(rt.alloc())? == Some(Fault::Refused));
     Ok(())
 }
 
@@ -310,7 +310,7 @@ para (1, 1, 0, 0, 0) (\"en\", \"a\", \"a\")
 fn make_beside_view(
     alloc: Global,
     conn: &mut Connection<MemStore>,
-) -> Result<(bool, Option<ReadFault>, i64), Fail> {
+) -> Result<(bool, Option<Fault>, i64), Fail> {
     run_all(conn, "CREATE VIEW Corr AS SELECT 1 AS one;")?;
     let made = make_tables(conn).is_ok();
     let fault = read_books(alloc, conn).err();
@@ -318,7 +318,7 @@ fn make_beside_view(
     Ok((made, fault, one))
 }
 
-fn made_beside_view(alloc: Global) -> Result<(bool, Option<ReadFault>, i64), Fail> {
+fn made_beside_view(alloc: Global) -> Result<(bool, Option<Fault>, i64), Fail> {
     let mut conn = Connection::open_in_memory(alloc)?;
     make_beside_view(alloc, &mut conn)
 }
@@ -326,7 +326,7 @@ fn made_beside_view(alloc: Global) -> Result<(bool, Option<ReadFault>, i64), Fai
 #[test]
 fn a_taken_name_is_refused_and_kept(rt: HostRuntime) -> Result<(), Fail> {
     let answer = made_beside_view(rt.alloc())?;
-    assert!(rt; answer == (false, Some(ReadFault::Refused), 1));
+    assert!(rt; answer == (false, Some(Fault::Refused), 1));
     Ok(())
 }
 

@@ -1,18 +1,22 @@
 //! A change of the rows, as one transaction.
 
-ghost use Rattle.std.specs.Prelude.{◌≡◌, false, IsTrue, OnOk};
+ghost use Rattle.std.specs.Prelude.{◌≡◌, false, IfErr, IsTrue, OnErr, OnOk};
 ghost use Rattle.sqlite.specs.Held.{state};
 ghost use Rattle.sqlite.specs.State.{HasCleanDisk, Survives};
 ghost use Rattle.desk_store.specs.Layout.{Layout};
 ghost use Rattle.desk_store.specs.Contents.{Contents};
+ghost use Rattle.desk_store.specs.Fault.{IsToldAs};
+ghost use Rattle.desk_store.specs.Making.{IsUndone};
 ghost use Rattle.desk_store.specs.Puts.{with_puts};
 ghost use Rattle.desk_store.specs.States.{IsFile, Leaves, Shows};
 
+use crate::fault::Fault;
 use crate::put::put_all;
 use desk_book::rows::Put;
 use sqlite::{Alter, Connection, Error};
 
-/// Puts these in turn and commits them, as one. The error is the database's, and a crash then leaves the rows from before or all of these.
+/// Puts these in turn and commits them, as one. The error is the database's. A connection that is open then shows the last commit, which is
+/// that of before, and a crash leaves the rows from before or, where the store failed, all of these.
 pub fn write<S: Alter>(conn: &mut Connection<S>, puts: &[Put<'_>]) -> Result<(), Error>
     requires { conn.old.in_transaction ≡ false }
     ensures idle { conn.new.in_transaction ≡ false }
@@ -22,6 +26,9 @@ pub fn write<S: Alter>(conn: &mut Connection<S>, puts: &[Put<'_>]) -> Result<(),
     ensures crash { (l : Layout) (c : Contents) → Shows l c (state S.Store conn.old) → Survives (state S.Store conn.old) (state S.Store conn.new) (IsFile l (with_puts puts.now c)) }
     // At `Ok` it leaves nothing else.
     ensures settled { HasCleanDisk (state S.Store conn.new) → (l : Layout) (c : Contents) → Shows l c (state S.Store conn.old) → OnOk result (Leaves (IsFile l (with_puts puts.now c)) (state S.Store conn.new)) }
+    ensures undone { HasCleanDisk (state S.Store conn.new) → OnErr result (IsUndone (state S.Store conn.old) (state S.Store conn.new)) }
+    // After a refusal a crash leaves nothing new.
+    ensures refused { HasCleanDisk (state S.Store conn.new) → IfErr result (λ e. IsToldAs e Fault.Refused → Survives (state S.Store conn.old) (state S.Store conn.new) (λ _. ⊥)) }
 {
     let mut tx = conn.transaction();
     put_all(&mut tx, puts)?;

@@ -1,6 +1,7 @@
 use Rattle.std.proofs.Common.{◌≡◌, ◌+◌, arith, sym, subst, take, take_all, ap, ◌∙◌}
 use Rattle.std.proofs.lemmas.List.Sums.{fold_more}
 use Rattle.sqlite.specs.State.{HasCleanDisk}
+use Rattle.sqlite.proofs.InsideLemmas.{keeps_then}
 use Rattle.sqlite.proofs.StateLemmas.{survives_then}
 use Rattle.desk_store.specs.Puts.{with_put, with_puts}
 use Rattle.desk_store.specs.States.{IsUnder, seen}
@@ -16,6 +17,8 @@ loop-one-preserved g c =
     record {
       same = c.put.ensures.same_reference ∙ c.loop-one.invariant.same;
       survives = survives_then old now new _ _ _ (λ _ db none. none) (λ _ db none. none) c.loop-one.invariant.survives c.put.ensures.survives;
+      kept = λ clean. keeps_then old now new (c.loop-one.invariant.kept (omega (arith, c.put.ensures.survives.clean))) (c.put.ensures.kept clean);
+      inside = λ clean was. c.in_ok-put.ensures.inside clean;
       put = λ clean committed l contents was.
           let early : HasCleanDisk now = omega (arith, c.put.ensures.survives.clean) in
           let next = c.in_ok-put.ensures.put clean committed l (with_puts (take at puts) contents) (c.loop-one.invariant.put early committed l contents was) in

@@ -1,6 +1,6 @@
-use Rattle.std.proofs.Common.{◌≡◌, take}
+use Rattle.std.proofs.Common.{◌≡◌, true, take}
 use Rattle.sqlite.specs.Effect.{Database}
-use Rattle.sqlite.specs.State.{HasCleanDisk, Survives}
+use Rattle.sqlite.specs.State.{HasCleanDisk, KeepsCommit, Survives}
 use Rattle.desk_store.specs.Contents.{Contents}
 use Rattle.desk_store.specs.Layout.{Layout}
 use Rattle.desk_store.specs.Puts.{with_puts}
@@ -15,5 +15,7 @@ invariant-loop-one g l =
     record {
       same : l.tx.conn.ghost_name ≡ l.fn.tx.conn.ghost_name;
       survives : Survives old now (λ _. ⊥);
+      kept : HasCleanDisk now → KeepsCommit old now;
+      inside : HasCleanDisk now → old.in_transaction ≡ true → now.in_transaction ≡ true;
       put : HasCleanDisk now → (committed : Database) (layout : Layout) (c : Contents) → IsUnder committed layout c old → IsUnder committed layout (with_puts (take l.one-index l.puts) c) now;
     }

@@ -55,7 +55,7 @@ returns-clause-gives g c clean =
 
 pub returns-clause-told : goal.returns-clause-told
 returns-clause-told g c clean =
-    fails_to_read corrs_asked (state g.S.Store c.args.conn.now) (state g.S.Store c.ask.new.conn) c.in_ok-rows.rows.items (c.in_ok-rows.ensures.shown clean) c.corrs_of.result c.corrs_of.ensures.kept
+    fails_to_read corrs_asked (state g.S.Store c.args.conn.now) (state g.S.Store c.ask.new.conn) c.in_ok-rows.rows.items (c.in_ok-rows.ensures.shown clean) c.corrs_of.result c.corrs_of.ensures.not_lost
     (λ all. c.corrs_of.ensures.kinds (subst (AllByRecursion (HasKinds corrs_asked.kinds)) (sym c.deref.ensures.value) all))
 
 pub returns-in_err-rows-clause-told : goal.returns-in_err-rows-clause-told
