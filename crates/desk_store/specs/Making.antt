@@ -15,7 +15,7 @@ use Rattle.sqlite_catalog.specs.Change.{KeepsRows, created, next_tree, is_used}
 use Rattle.sqlite_catalog.specs.Listing.{IsSound}
 use Rattle.sqlite.specs.Does.{lacks_sequence}
 use Rattle.sqlite.specs.Effect.{Database}
-use Rattle.sqlite.specs.State.{State, IsLive, KeepsCommit}
+use Rattle.sqlite.specs.State.{State, IsLive}
 use Rattle.desk_store.specs.Contents.{Contents}
 use Rattle.desk_store.specs.Layout.{Layout}
 use Rattle.desk_store.specs.States.{IsFile}
@@ -125,7 +125,3 @@ FreesNone old new = (name : List ℕ) → is_used new.now.schema name ≡ false 
 -- What making adds to what a crash may leave: only where the names were free, and then the file with the five tables.
 abbrev pub IsMade : State → Trees → Type 0
 IsMade s db = AreAbsent s.now.schema × (IsLive s → IsNew s.now.schema s.now.trees (λ c. IsFile (made s.now.schema) c db))
-
--- If the connection is open still, its last commit is that of before, and it shows it.
-abbrev pub IsUndone : State → State → Type 0
-IsUndone old new = KeepsCommit old new × (IsTrue new.is_open → new.now ≡ new.committed)

@@ -9,8 +9,8 @@ ghost use Rattle.sqlite.specs.Effect.{Database};
 ghost use Rattle.sqlite.specs.Held.{state};
 ghost use Rattle.sqlite.specs.State.{HasCleanDisk, IsLive, KeepsCommit, Survives};
 ghost use Rattle.desk_store.specs.Fault.{IsToldAs};
-ghost use Rattle.desk_store.specs.Making.{AreAbsent, AreFree, FreesNone, IndexesLow, IsMade, IsMaking, IsNew, IsUndone, after_para, first_created, made};
-ghost use Rattle.desk_store.specs.States.{IsUnder, Leaves, Shows, seen};
+ghost use Rattle.desk_store.specs.Making.{AreAbsent, AreFree, FreesNone, IndexesLow, IsMade, IsMaking, IsNew, after_para, first_created, made};
+ghost use Rattle.desk_store.specs.States.{IsUnder, IsUndone, Leaves, Shows, seen};
 ghost use Rattle.desk_store.specs.Tables as tables;
 
 use crate::fault::Fault;

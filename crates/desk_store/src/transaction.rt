@@ -6,9 +6,8 @@ ghost use Rattle.sqlite.specs.State.{HasCleanDisk, Survives};
 ghost use Rattle.desk_store.specs.Layout.{Layout};
 ghost use Rattle.desk_store.specs.Contents.{Contents};
 ghost use Rattle.desk_store.specs.Fault.{IsToldAs};
-ghost use Rattle.desk_store.specs.Making.{IsUndone};
 ghost use Rattle.desk_store.specs.Puts.{with_puts};
-ghost use Rattle.desk_store.specs.States.{IsFile, Leaves, Shows};
+ghost use Rattle.desk_store.specs.States.{IsFile, IsUndone, Leaves, Shows};
 
 use crate::fault::Fault;
 use crate::put::put_all;
