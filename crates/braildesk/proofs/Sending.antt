@@ -16,6 +16,11 @@ pub at_err : {T E : Type 0} (r : Result T E) (P : Type 0) → OnErr r P → is_o
 at_err (Ok x) P h e = absurd cc
 at_err (Err x) P h e = h
 
+-- what holds is said of an Ok too
+pub on_ok : {T E : Type 0} (r : Result T E) (P : Type 0) → P → OnOk r P
+on_ok (Ok x) P h = h
+on_ok (Err x) P h = tt
+
 pub Keeps-Appends : (a b : Option (List ℕ)) → Keeps a b → Appends a b []
 Keeps-Appends a b h = Appends-kept a a b [] (Appends-nil a) h
 

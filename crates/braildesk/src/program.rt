@@ -1,10 +1,12 @@
 //! What the program does with its words and its three ends.
 ghost use Rattle.braildesk.specs.Program.{AsksToTranslate, Translated};
-ghost use Rattle.std.specs.Prelude.{◌≡◌, ◌≢◌, ◌≤◌, ◌⊎◌, ◌∷◌, [], MatchOption, codes, map};
+ghost use Rattle.louis_table.specs.Table.{Means};
+ghost use Rattle.std.specs.Prelude.{◌≡◌, ◌≢◌, ◌≤◌, ◌⊎◌, ◌∷◌, ℕ, [], List, MatchOption, codes, map};
 
 use super::fault::Fault;
 use super::table_file::read_table;
 use super::translate::{Ended, translate_lines};
+use louis_table::Table;
 use louis_translate::PlainRules;
 use std::convert::AsStr;
 use std::io::{Read, Write};
@@ -53,7 +55,7 @@ pub fn program<F: Files + AllocGlobal, S: AsStr, R: Read, W: Write, E: Write>(
         return explain_use(errors);
     };
     match read_table(rt, path) {
-        Ok(table) => status_of(translate_lines(reader, writer, &PlainRules::new(table))),
+        Ok(table) => translate_by(table, reader, writer),
         Err(fault) => refuse(errors, &fault),
     }
 }
@@ -69,6 +71,16 @@ fn table_path<S: AsStr>(words: &[S]) -> Option<&str>
         return None;
     }
     Some(path.as_str())
+}
+
+/// Answers each line of the reader by a table that was read, and gives the exit status.
+fn translate_by<R: Read, W: Write>(table: Table, reader: &mut R, writer: &mut W) -> u8
+    requires { (bytes : List ℕ) × Means bytes table }
+    ensures done { result ≡ DONE → Translated Ended.Done (R.remaining reader.old) (R.remaining reader.new) (W.contents writer.old) (W.contents writer.new) }
+    ensures failed { result ≡ ENDS_FAILED → (ended : Ended) × (ended ≢ Ended.Done) × Translated ended (R.remaining reader.old) (R.remaining reader.new) (W.contents writer.old) (W.contents writer.new) }
+    ensures either { (result ≡ DONE) ⊎ (result ≡ ENDS_FAILED) }
+{
+    status_of(translate_lines(reader, writer, &PlainRules::new(table)))
 }
 
 /// The exit status of a run over the lines.

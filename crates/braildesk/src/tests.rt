@@ -1,12 +1,12 @@
 //! Runs over known inputs, and over ends that fail in mid-stream.
 //!
-//! A rule book stands in a function with one way out behind it, and each assertion in one of its own, since the
-//! proof of a function that has both takes minutes.
+//! One function lets a rule book go, with one way out behind it, and each assertion stands in one of its own, since
+//! the proof of a function that has both takes minutes.
 ghost use Rattle.std.specs.Prelude.{Some};
 
 use super::ends::{Memory, Sink, Source};
-use super::translate::{Ended, MOST_BYTES, MOST_CHARACTERS, run, translate_lines};
-use louis_table::{EN, ReadFault, Table};
+use super::translate::{Ended, MOST_BYTES, MOST_CHARACTERS, run};
+use louis_table::{EN, Table};
 use louis_translate::PlainRules;
 use std::alloc::{AllocError, Global};
 use std::io::{self, Error, ErrorKind, Read, Write};
@@ -122,42 +122,31 @@ impl Write for Full {
     }
 }
 
-/// How a run by a table text ended, and what was written.
-type Outcome = (Ended, Vec<u8>);
+/// How a run by a table text ended, and what was written: no ending where the table was not read.
+type Outcome = (Option<Ended>, Vec<u8>);
 
-/// The rule book of a table text.
-fn rules_of(alloc: Global, table: &str) -> Result<PlainRules, ReadFault> {
-    Ok(PlainRules::new(Table::read(alloc, table.as_bytes())?))
+/// How a run by a table ended.
+fn ended_by<S: Source, K: Sink>(table: Table, source: &mut S, sink: &mut K) -> Ended {
+    run(source, sink, &PlainRules::new(table))
 }
 
 /// How a run by a table text ended.
-fn ended<R: Read, W: Write>(
-    alloc: Global,
-    table: &str,
-    reader: &mut R,
-    writer: &mut W,
-) -> Result<Ended, ReadFault> {
-    let book = rules_of(alloc, table)?;
-    Ok(translate_lines(reader, writer, &book))
-}
-
-/// The same over ends that say whether they can fail.
-fn ended_honestly<S: Source, K: Sink>(
+fn ended<S: Source, K: Sink>(
     alloc: Global,
     table: &str,
     source: &mut S,
     sink: &mut K,
-) -> Result<Ended, ReadFault> {
-    let book = rules_of(alloc, table)?;
-    Ok(run(source, sink, &book))
+) -> Option<Ended> {
+    let table = Table::read(alloc, table.as_bytes()).ok()?;
+    Some(ended_by(table, source, sink))
 }
 
 /// The outcome of a run over an input.
-fn outcome_of(alloc: Global, table: &str, input: &[u8]) -> Result<Outcome, ReadFault> {
+fn outcome_of(alloc: Global, table: &str, input: &[u8]) -> Outcome {
     let mut reader = input;
-    let mut out = Vec::new(alloc);
-    let ended = ended(alloc, table, &mut reader, &mut out)?;
-    Ok((ended, out))
+    let mut written = Vec::new(alloc);
+    let ended = ended(alloc, table, &mut reader, &mut written);
+    (ended, written)
 }
 
 /// So many `a` and an ending.
@@ -167,38 +156,32 @@ fn long_input(alloc: Global, count: usize, ending: &str) -> Result<Vec<u8>, Allo
     Ok(input)
 }
 
-/// The outcome of a run over so many `a` and an ending.
-fn outcome_of_long(alloc: Global, row: &LongRow) -> Result<Outcome, Fail> {
-    let input = long_input(alloc, row.1, row.2)?;
-    Ok(outcome_of(alloc, row.0, input.as_slice())?)
-}
-
 /// The outcome of a run of which so many reads don't fail.
-fn outcome_of_cut(alloc: Global, reads_left: usize) -> Result<Outcome, ReadFault> {
+fn outcome_of_cut(alloc: Global, reads_left: usize) -> Outcome {
     let mut reader = Cut {
         bytes: INPUT,
         reads_left,
     };
-    let mut out = Vec::new(alloc);
-    let ended = ended(alloc, LETTER, &mut reader, &mut out)?;
-    Ok((ended, out))
+    let mut written = Vec::new(alloc);
+    let ended = ended(alloc, LETTER, &mut reader, &mut written);
+    (ended, written)
 }
 
 /// The outcome of a run that can write so many bytes, in steps.
-fn outcome_of_full(alloc: Global, room: usize, step: usize) -> Result<Outcome, ReadFault> {
+fn outcome_of_full(alloc: Global, room: usize, step: usize) -> Outcome {
     let mut reader = INPUT;
     let mut writer = Full {
         taken: Vec::new(alloc),
         room,
         step,
     };
-    let ended = ended(alloc, LETTER, &mut reader, &mut writer)?;
-    Ok((ended, writer.taken))
+    let ended = ended(alloc, LETTER, &mut reader, &mut writer);
+    (ended, writer.taken)
 }
 
 /// Asserts how a run ended, and what it wrote.
 fn assert_outcome(rt: &impl Abort, outcome: &Outcome, ended: Ended, wanted: &[u8]) {
-    assert_eq!(rt; (outcome.0, outcome.1.as_slice()), (ended, wanted));
+    assert_eq!(rt; (outcome.0, outcome.1.as_slice()), (Some(ended), wanted));
 }
 
 /// Asserts that a run is done and wrote so many bytes, with these at the end.
@@ -206,55 +189,58 @@ fn assert_long(rt: &impl Abort, outcome: &Outcome, row: &LongRow) {
     let is_last = outcome.1.as_slice().ends_with(row.4.as_bytes());
     assert_eq!(rt;
         (outcome.0, outcome.1.len(), is_last),
-        (Ended::Done, row.3, true)
+        (Some(Ended::Done), row.3, true)
     );
 }
 
 #[test]
-fn answers_each_line(rt: HostRuntime) -> Result<(), Fail> {
+fn answers_each_line(rt: HostRuntime) {
     for (table, input, wanted) in ANSWERS {
-        let outcome = outcome_of(rt.alloc(), table, input)?;
+        let outcome = outcome_of(rt.alloc(), table, input);
         assert_outcome(&rt, &outcome, Ended::Done, wanted.as_bytes());
     }
+}
+
+/// Asserts the answer to so many `a` and an ending.
+fn assert_long_row(rt: &impl Abort, alloc: Global, row: &LongRow) -> Result<(), Fail> {
+    let input = long_input(alloc, row.1, row.2)?;
+    assert_long(rt, &outcome_of(alloc, row.0, input.as_slice()), row);
     Ok(())
 }
 
 #[test]
 fn keeps_the_limits(rt: HostRuntime) -> Result<(), Fail> {
     for row in LONG {
-        assert_long(&rt, &outcome_of_long(rt.alloc(), row)?, row);
+        assert_long_row(&rt, rt.alloc(), row)?;
     }
     Ok(())
 }
 
 #[test]
-fn ends_where_a_read_fails(rt: HostRuntime) -> Result<(), Fail> {
+fn ends_where_a_read_fails(rt: HostRuntime) {
     for (reads, wanted, ended) in CUTS {
-        let outcome = outcome_of_cut(rt.alloc(), *reads)?;
+        let outcome = outcome_of_cut(rt.alloc(), *reads);
         assert_outcome(&rt, &outcome, *ended, wanted.as_bytes());
     }
-    Ok(())
 }
 
 #[test]
-fn ends_where_a_write_fails(rt: HostRuntime) -> Result<(), Fail> {
+fn ends_where_a_write_fails(rt: HostRuntime) {
     for room in 0..OUTPUT.len() {
-        let outcome = outcome_of_full(rt.alloc(), room, 1 + room % 3)?;
+        let outcome = outcome_of_full(rt.alloc(), room, 1 + room % 3);
         assert_outcome(&rt, &outcome, Ended::Output, &OUTPUT.as_bytes()[..room]);
     }
-    let outcome = outcome_of_full(rt.alloc(), OUTPUT.len(), 1)?;
+    let outcome = outcome_of_full(rt.alloc(), OUTPUT.len(), 1);
     assert_outcome(&rt, &outcome, Ended::Done, OUTPUT.as_bytes());
-    Ok(())
 }
 
 #[test]
-fn ends_where_no_byte_is_taken(rt: HostRuntime) -> Result<(), Fail> {
+fn ends_where_no_byte_is_taken(rt: HostRuntime) {
     let mut writer = Full {
         taken: Vec::new(rt.alloc()),
         room: 9,
         step: 0,
     };
-    let ended = ended_honestly(rt.alloc(), LETTER, &mut Memory(b"a\n"), &mut writer)?;
-    assert_eq!(rt; ended, Ended::Output);
-    Ok(())
+    let ended = ended(rt.alloc(), LETTER, &mut Memory(b"a\n"), &mut writer);
+    assert_eq!(rt; ended, Some(Ended::Output));
 }

@@ -67,6 +67,10 @@ pub sign_at-other : (meaning : Meaning) (print : List ℕ) (i : ℕ) → is_digi
 sign_at-other meaning print i digit le =
     third (is_digit (class_at meaning print i)) (is_capital_at meaning print i) _ _ _ digit (is_capital_at-run meaning print i ∙ grind (arith, nat_tests))
 
+-- the sign of a print that is known under another name
+pub sign_at-same : (meaning table : Meaning) (print p : List ℕ) (i k : ℕ) → meaning ≡ table → print ≡ p → i ≡ k → sign_at table p k ≡ sign_at meaning print i
+sign_at-same meaning table print p i k e f h = rw (e, f, h) refl
+
 -- characters that a folded print has from a place on begin with the character there
 pub first_folded : (fold : ℕ → ℕ) (print : List ℕ) (i : ℕ) (chars : List ℕ) → i < length print → map fold (take (length chars) (drop i print)) ≡ chars → 0 < length chars → slice_get chars 0 ≡ Some (fold (get_or print i 0))
 first_folded fold print i [] lt e h = absurd (omega arith)

@@ -257,17 +257,17 @@ fn answer(alloc: Global, book: &PlainRules, asked: Asked, print: &str) -> Result
     }
 }
 
-/// The rule book of a table text.
-fn rules_of(alloc: Global, text: &str) -> Result<PlainRules, Fail> {
-    Ok(PlainRules::new(Table::read(alloc, text.as_bytes())?))
+/// What the rule book of a table answers. It alone lets a table go, since the proof of a function that does is long.
+fn table_answer(alloc: Global, table: Table, asked: Asked, print: &str) -> Result<String, Fail> {
+    answer(alloc, &PlainRules::new(table), asked, print)
 }
 
 /// What the table of some lines and those of a row answers.
 fn row_answer(alloc: Global, lines: &str, row: &Row) -> Result<String, Fail> {
     let (asked, more, print, _) = row;
     let text = format!(in alloc; "{lines}{more}")?;
-    let book = rules_of(alloc, text.as_str())?;
-    answer(alloc, &book, *asked, print)
+    let table = Table::read(alloc, text.as_bytes())?;
+    table_answer(alloc, table, *asked, print)
 }
 
 /// Asserts the answer of a row. The proof of a function grows with the square of its steps, so that this one

@@ -1,7 +1,7 @@
 //! The words, the statuses, and what stands on standard error.
 use super::{DONE, ENDS_FAILED, OTHER_WORDS, REFUSED, program};
 use std::io::{self, Error, ErrorKind, Read, Write};
-use std::path::PathBuf;
+use std::path::{Path, PathBuf};
 use std::process::Abort;
 use std::test::Fail;
 use std::{env, fs, process};
@@ -94,20 +94,24 @@ fn outcome_of(rt: &HostRuntime, words: &[&str], input: &[u8]) -> Outcome {
     }
 }
 
-/// A file of this name and of this test run, that holds the text.
-fn file_of(rt: &HostRuntime, name: &str, text: &[u8]) -> Result<PathBuf, Fail> {
-    let name = format!(in rt.alloc(); "braildesk-{}-{name}", process::id(rt.process()))?;
-    let path = env::temp_dir(rt)?.join(rt.alloc(), name.as_str())?;
-    fs::write(rt, path.as_path(), text)?;
-    Ok(path)
+/// The path of this test run's own file.
+fn path_of(rt: &HostRuntime) -> Result<PathBuf, Fail> {
+    let name = format!(in rt.alloc(); "braildesk-{}-cases", process::id(rt.process()))?;
+    Ok(env::temp_dir(rt)?.join(rt.alloc(), name.as_str())?)
+}
+
+/// The outcome of a run by a file at this path, that gets the text and goes again.
+fn outcome_at(rt: &HostRuntime, path: &Path, table: &[u8], input: &[u8]) -> Result<Outcome, Fail> {
+    fs::write(rt, path, table)?;
+    let outcome = outcome_of(rt, &["translate", path.as_str()], input);
+    fs::remove_file(rt, path)?;
+    Ok(outcome)
 }
 
 /// The outcome of a run by a file with this text.
 fn outcome_by(rt: &HostRuntime, table: &[u8], input: &[u8]) -> Result<Outcome, Fail> {
-    let path = file_of(rt, "cases", table)?;
-    let outcome = outcome_of(rt, &["translate", path.as_path().as_str()], input);
-    fs::remove_file(rt, path.as_path())?;
-    Ok(outcome)
+    let path = path_of(rt)?;
+    outcome_at(rt, &path.as_path(), table, input)
 }
 
 /// Asserts a status, what was written and what was told.
@@ -120,11 +124,15 @@ fn assert_outcome(rt: &impl Abort, outcome: &Outcome, status: u8, output: &str, 
     assert_eq!(rt; given, (status, output.as_bytes(), told.as_bytes()));
 }
 
+/// Asserts what a row wants.
+fn assert_row(rt: &impl Abort, outcome: &Outcome, row: &Row) {
+    assert_outcome(rt, outcome, row.2, row.3, row.4);
+}
+
 #[test]
 fn translates_by_a_file(rt: HostRuntime) -> Result<(), Fail> {
-    for (table, input, status, output, told) in BY_A_FILE {
-        let outcome = outcome_by(&rt, table, input)?;
-        assert_outcome(&rt, &outcome, *status, output, told);
+    for row in BY_A_FILE {
+        assert_row(&rt, &outcome_by(&rt, row.0, row.1)?, row);
     }
     Ok(())
 }

@@ -1,10 +1,20 @@
-use Rattle.std.proofs.Common.{ap, is_ok, [], sym, ◌∙◌}
+use Rattle.std.proofs.Common.{ap, is_ok, [], refl, sym, ◌∙◌}
+use Rattle.std.proofs.Math.ListN.{drop_of_length-le}
 use Rattle.std.proofs.lemmas.Bool.{ne_eqb}
 use Rattle.std.proofs.lemmas.Result.{err_from_is_err_and}
-use Rattle.braildesk.proofs.Sending.{Sending-fails, Sending-more, Sending-same}
+use Rattle.braildesk.specs.Machine.{after, sent}
+use Rattle.braildesk.proofs.Sending.{Sending-end, Sending-fails, Sending-more, Sending-none, Sending-same, Sent-flushed, on_ok}
 use Rattle.braildesk.proofs.Stepping.{after-byte, after-feed, sent-byte, sent-feed}
 use Rattle.braildesk.proofs.translate.answer_chunk.Goals as goal
 use Rattle.braildesk.proofs.translate.answer_chunk.Goals.{then-byte-eq10+in_ok-answer, else-byte-eq10}
+
+pub loop-byte-init : goal.loop-byte-init
+loop-byte-init g c = record { line_is = refl; sending = λ answers right. Sending-none _ [] _ _ refl }
+
+pub returns-in_err-answer-clause-line : goal.returns-in_err-answer-clause-line
+returns-in_err-answer-clause-line g c =
+    let p = err_from_is_err_and c.from_residual.result c.from_residual.ensures.1 in
+    rw p.1 tt
 
 pub returns-in_err-answer-clause-sent : goal.returns-in_err-answer-clause-sent
 returns-in_err-answer-clause-sent g c =
@@ -35,3 +45,13 @@ loop-byte-preserved g c =
             sending = λ answers right. Sending-same _ _ [] _ _ _ (inv.sending answers right) (sent-byte answers c.loop-byte.line bytes i here other);
           })
     ]
+
+pub returns-clause-line : goal.returns-clause-line
+returns-clause-line g c =
+    on_ok c.flush.result _ (ap (after c.loop-byte.line) (sym (drop_of_length-le c.args.bytes.now c.loop-byte-test.false)) ∙ c.loop-byte.invariant.line_is)
+
+pub returns-clause-sent : goal.returns-clause-sent
+returns-clause-sent g c =
+    λ answers right.
+    Sending-end g.K.Sink.can_fail _ _ _ [] [] _ _ _ (c.loop-byte.invariant.sending answers right) (ap (sent answers c.loop-byte.line) (drop_of_length-le c.args.bytes.now c.loop-byte-test.false))
+    (Sent-flushed g.K.Sink.can_fail _ _ c.flush.result c.flush.ensures.bytes c.flush.ensures.fails)

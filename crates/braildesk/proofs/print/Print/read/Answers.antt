@@ -2,8 +2,15 @@ use Rattle.std.proofs.Common.{◌≡◌, ◌<◌, ◌≤◌, ◌++◌, ◌∷◌
 use Rattle.std.specs.Str.{chars}
 use Rattle.std.specs.Str.Iter.{chars_rest}
 use Rattle.std.proofs.lemmas.Str.{chars_past_char, IsUtf8-past_char, chars-nil}
-use Rattle.std.proofs.lemmas.List.{append-nil, take_more_set, length_push, length-set, nil_from_length}
+use Rattle.std.proofs.lemmas.List.{append-nil, take_more_set, length-append, length_push, length-set, nil_from_length}
 use Rattle.braildesk.proofs.print.Print.read.Goals as goal
+
+pub returns-then-len-eq-MOST_CHARACTERS-clause-many : goal.returns-then-len-eq-MOST_CHARACTERS-clause-many
+returns-then-len-eq-MOST_CHARACTERS-clause-many c =
+    let inv = c.loop-character.invariant in
+    let step = c.in-Some.ensures.steps in
+    let rest = chars (chars_rest c.loop-character.character-iterator) in
+    omega (arith, c.if-len-eq-MOST_CHARACTERS.true, inv.count, ap length inv.others, length-append c.loop-character.yielded rest, ap length (chars_past_char _ _ c.in-Some.character inv.is_text step.0))
 
 pub loop-character-preserved : goal.loop-character-preserved
 loop-character-preserved c =
