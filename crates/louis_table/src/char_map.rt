@@ -11,7 +11,6 @@ use std::marker::Model;
 const DIRECT: usize = 128;
 
 /// A map from characters to values, in the order in which they came. Contracts see the list of its entries.
-#[derive(Drop)]
 pub(crate) struct CharMap<V> {
     entries: IndexMap<char, V>,
     // for each character below `DIRECT`, one more than its entry's index, or 0 where it has none
@@ -27,6 +26,16 @@ impl<V> Model for CharMap<V> {
     ghost view = { λ m. m.entries.entries };
 
     ghost invariant = { λ m. AreIn m.places m.entries.entries };
+}
+
+// Written out, as the drop of a table is.
+impl<V: Drop> Drop for CharMap<V> {
+    fn drop(self) {
+        let CharMap {
+            entries: _,
+            places: _,
+        } = self;
+    }
 }
 
 impl<V: Drop> CharMap<V> {

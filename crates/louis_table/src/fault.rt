@@ -5,7 +5,7 @@ ghost use Rattle.std.specs.Prelude.{◌≡◌};
 use thiserror::Error;
 
 /// What is wrong, with the number that a fault tells.
-#[derive(Clone, Copy, Debug, PartialEq, Eq)]
+#[derive(Clone, Copy)]
 pub(crate) enum Cause {
     /// The first field of a line is no opcode.
     UnknownOpcode = 1,
@@ -37,7 +37,7 @@ impl Cause {
 }
 
 /// Why a line was not taken into its table.
-#[derive(Clone, Copy, Debug, PartialEq, Eq)]
+#[derive(Clone, Copy)]
 pub(crate) enum LineFault {
     Bad(Cause),
     NoMemory,

@@ -22,7 +22,7 @@ const COMMENT: char = '#';
 pub const MOST_RULE_CHARACTERS: usize = 60;
 
 /// What a line gives to its table.
-#[derive(Debug, Drop)]
+#[derive(Drop)]
 pub(crate) enum Given {
     /// The line has no field, or is a comment.
     Nothing,

@@ -7,7 +7,7 @@ use super::definition::Class;
 use super::rule::RuleKind;
 
 /// A sign that stands before print of some kind.
-#[derive(Clone, Copy, Debug, PartialEq, Eq)]
+#[derive(Clone, Copy)]
 pub(crate) enum Sign {
     /// Before a number.
     Number,
@@ -18,7 +18,7 @@ pub(crate) enum Sign {
 }
 
 /// What the first field of a line says that the line does.
-#[derive(Clone, Copy, Debug, PartialEq, Eq)]
+#[derive(Clone, Copy)]
 pub(crate) enum Opcode {
     /// Defines a character of this class.
     Define(Class),

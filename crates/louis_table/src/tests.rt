@@ -1,7 +1,8 @@
 //! Table texts and what they mean, or the line and the cause that is told of them: the rules of the format, by example.
 //!
 //! The examples stand in texts, one to a row, since the proof of a test with long arrays takes minutes: what must come
-//! out, ` | `, and the table text. In that text a pilcrow is a line feed, and `{x×3}` is `xxx`.
+//! out, ` | `, and the table text, which is that of English where the row has none. In that text a pilcrow is a line
+//! feed, and `{x×3}` is `xxx`.
 use super::{EN, ReadFault, Rule, Table};
 use cell_core::Cell;
 use std::alloc::{AllocError, Global};
@@ -11,52 +12,259 @@ use std::test::Fail;
 
 /// What comes out of a row, and what goes in.
 fn sides(row: &str) -> (&str, &str) {
-    row.split_once(" | ").unwrap_or((row, ""))
+    row.split_once(" | ").unwrap_or((row, EN))
+}
+
+/// Adds what stands between two closing braces.
+fn push_part(text: &mut String, part: &str) -> Result<(), Fail> {
+    let (plain, repeated) = part.split_once('{').unwrap_or((part, ""));
+    let (piece, count) = repeated.split_once('×').unwrap_or((repeated, "0"));
+    text.push_str(plain)?;
+    text.extend(iter::repeat_n(piece, count.parse()?))?;
+    Ok(())
+}
+
+/// Adds a text with its repetitions written out.
+fn push_parts(text: &mut String, written: &str) -> Result<(), Fail> {
+    for part in written.split('}') {
+        push_part(text, part)?;
+    }
+    Ok(())
 }
 
 /// The table text that a row writes.
 fn text_of(alloc: Global, written: &str) -> Result<String, Fail> {
     let mut text = String::new(alloc);
-    for part in written.split('}') {
-        let (plain, repeated) = part.split_once('{').unwrap_or((part, ""));
-        let (piece, count) = repeated.split_once('×').unwrap_or((repeated, "0"));
-        text.push_str(plain)?;
-        text.extend(iter::repeat_n(piece, count.parse()?))?;
-    }
+    push_parts(&mut text, written)?;
     let characters = text.chars().map(|c| if c == '¶' { '\n' } else { c });
     Ok(characters.collect(alloc)?)
 }
 
-/// A fault as rows have it: its line and its cause.
-fn shown(alloc: Global, fault: Option<ReadFault>) -> Result<String, AllocError> {
+/// Adds a fault as rows have it: its line and its cause.
+fn push_fault(found: &mut String, fault: Option<ReadFault>) -> Result<(), AllocError> {
     match fault {
-        None => String::from_str(alloc, "accepted"),
-        Some(ReadFault::Table(fault)) => format!(in alloc; "{} {}", fault.line, fault.cause),
-        Some(ReadFault::NoMemory) => String::from_str(alloc, "no memory"),
+        None => found.push_str("accepted"),
+        Some(ReadFault::Table(fault)) => write!(found, "{} {}", fault.line, fault.cause),
+        Some(ReadFault::NoMemory) => found.push_str("no memory"),
     }
 }
 
-/// What is told of a text.
-fn told(alloc: Global, text: &[u8]) -> Result<String, AllocError> {
-    shown(alloc, Table::read(alloc, text).err())
+/// Adds what is told of a text.
+fn push_told(found: &mut String, alloc: Global, text: &[u8]) -> Result<(), AllocError> {
+    push_fault(found, Table::read(alloc, text).err())
 }
 
-/// Compares what is told of each row's text.
-fn judge(rt: &impl Abort, alloc: Global, rows: &str) -> Result<(), Fail> {
+/// Adds what is told of bytes, each written as the character with its number.
+fn push_told_of_bytes(found: &mut String, alloc: Global, text: &str) -> Result<(), Fail> {
+    let bytes: Vec<u8> = text
+        .chars()
+        .filter_map(|c| u8::try_from(c).ok())
+        .collect(alloc)?;
+    push_told(found, alloc, bytes.as_slice())?;
+    Ok(())
+}
+
+/// Adds what is told of a text with these lines as the third and the fourth.
+fn push_told_with(
+    found: &mut String,
+    alloc: Global,
+    third: &str,
+    fourth: &str,
+) -> Result<(), Fail> {
+    let text = format!(in alloc; "letter a 1\nnumsign 1\n{third}\n{fourth}")?;
+    push_told_of_bytes(found, alloc, text.as_str())
+}
+
+/// Adds what is told where each of the faulty lines stands behind this one.
+fn push_told_behind(found: &mut String, alloc: Global, third: &str) -> Result<(), Fail> {
+    for fourth in FAULTY.split('\n') {
+        push_told_with(found, alloc, third, fourth)?;
+        found.push_str(", ")?;
+    }
+    Ok(())
+}
+
+/// Adds the cells as braille.
+fn push_braille(found: &mut String, cells: &[Cell]) -> Result<(), AllocError> {
+    found.extend(cells.iter().map(|cell| cell.to_unicode()))
+}
+
+/// The character with this number in hexadecimal digits.
+fn character_of(number: &str) -> char {
+    let number = u32::from_str_radix(number, 16).unwrap_or(u32::MAX);
+    char::from_u32(number).unwrap_or(char::REPLACEMENT_CHARACTER)
+}
+
+/// The number that begins what must come out of a row.
+fn number_of(wanted: &str) -> &str {
+    let (number, _) = wanted.split_once(' ').unwrap_or((wanted, ""));
+    number
+}
+
+/// Adds the number of a character, its class and its cells.
+fn push_defined(found: &mut String, table: &Table, number: &str) -> Result<(), AllocError> {
+    match table.definition(character_of(number)) {
+        None => write!(found, "{number} undefined"),
+        Some(definition) => {
+            write!(found, "{number} {:?} ", definition.class)?;
+            push_braille(found, definition.cells.as_slice())
+        }
+    }
+}
+
+/// Adds the number of a character, what it folds to, whether it is a capital, and its class.
+fn push_folded(found: &mut String, table: &Table, number: &str) -> Result<(), AllocError> {
+    let character = character_of(number);
+    let fold = table.fold(character);
+    let capital = table.capital(character);
+    let class = table.class(character);
+    write!(found, "{number} {fold} {capital} {class:?}")
+}
+
+/// Adds a rule: its line, its kind, its characters and its cells.
+fn push_rule(found: &mut String, rule: &Rule) -> Result<(), AllocError> {
+    write!(found, "{} {:?} ", rule.line, rule.kind)?;
+    found.extend(rule.chars.as_slice().iter().copied())?;
+    found.push(' ')?;
+    push_braille(found, rule.cells.as_slice())?;
+    found.push_str(", ")
+}
+
+/// Adds the rules of a table.
+fn push_rules(found: &mut String, table: &Table) -> Result<(), AllocError> {
+    for rule in table.rules() {
+        push_rule(found, rule)?;
+    }
+    Ok(())
+}
+
+/// Adds a sign of a table.
+fn push_sign(found: &mut String, cells: &[Cell]) -> Result<(), AllocError> {
+    push_braille(found, cells)?;
+    found.push(',')
+}
+
+/// Adds the signs of a table: that of numbers, that of one capital and that of a run of capitals.
+fn push_signs(found: &mut String, table: &Table) -> Result<(), AllocError> {
+    push_sign(found, table.numsign())?;
+    push_sign(found, table.capsletter())?;
+    push_sign(found, table.begcapsword())
+}
+
+/// How many of the first characters of Unicode a table defines.
+fn count_defined(table: &Table) -> usize {
+    (0..0x3000)
+        .filter_map(char::from_u32)
+        .filter(|character| table.definition(*character).is_some())
+        .count()
+}
+
+/// What is asked of a table.
+#[derive(Clone, Copy)]
+enum Part {
+    /// The class and the cells of the character whose number begins the row.
+    Definition,
+    /// What that character folds to, whether it is a capital, and its class.
+    Fold,
+    /// The rules.
+    Rules,
+    /// The signs.
+    Signs,
+    /// How many of the first characters of Unicode it defines.
+    Count,
+}
+
+/// Adds what a table answers.
+fn push_part_of(
+    found: &mut String,
+    table: &Table,
+    part: Part,
+    wanted: &str,
+) -> Result<(), AllocError> {
+    match part {
+        Part::Definition => push_defined(found, table, number_of(wanted)),
+        Part::Fold => push_folded(found, table, number_of(wanted)),
+        Part::Rules => push_rules(found, table),
+        Part::Signs => push_signs(found, table),
+        Part::Count => write!(found, "{}", count_defined(table)),
+    }
+}
+
+/// Adds what the table of a text answers.
+fn push_answer(
+    found: &mut String,
+    alloc: Global,
+    text: &[u8],
+    part: Part,
+    wanted: &str,
+) -> Result<(), Fail> {
+    let table = Table::read(alloc, text)?;
+    push_part_of(found, &table, part, wanted)?;
+    Ok(())
+}
+
+/// What is asked of the text of a row.
+#[derive(Clone, Copy)]
+enum Asked {
+    /// What is told of it.
+    Fault,
+    /// What is told of the bytes that its characters number.
+    FaultOfBytes,
+    /// What is told where it is the third line of a text, by each faulty line as the fourth.
+    FaultsBehind,
+    /// How many lines it has.
+    Lines,
+    /// A part of its table.
+    Table(Part),
+}
+
+/// Adds what comes out of a text.
+fn push_found(
+    found: &mut String,
+    alloc: Global,
+    asked: Asked,
+    wanted: &str,
+    text: &str,
+) -> Result<(), Fail> {
+    match asked {
+        Asked::Fault => Ok(push_told(found, alloc, text.as_bytes())?),
+        Asked::FaultOfBytes => push_told_of_bytes(found, alloc, text),
+        Asked::FaultsBehind => push_told_behind(found, alloc, text),
+        Asked::Lines => Ok(write!(found, "{}", text.lines().count())?),
+        Asked::Table(part) => push_answer(found, alloc, text.as_bytes(), part, wanted),
+    }
+}
+
+/// Adds what comes out of a row.
+fn push_row(found: &mut String, alloc: Global, asked: Asked, row: &str) -> Result<(), Fail> {
+    let (wanted, text) = sides(row);
+    let text = text_of(alloc, text)?;
+    push_found(found, alloc, asked, wanted, text.as_str())
+}
+
+/// Compares what came out of a row with what must.
+fn compare(rt: &impl Abort, found: &str, row: &str) {
+    let (wanted, _) = sides(row);
+    assert_eq!(rt; found, wanted, "{row}");
+}
+
+/// Compares what comes out of each row.
+fn ask(rt: &impl Abort, alloc: Global, asked: Asked, rows: &str) -> Result<(), Fail> {
+    let mut found = String::new(alloc);
     for row in rows.split('\n') {
-        let (wanted, text) = sides(row);
-        let text = text_of(alloc, text)?;
-        let told = told(alloc, text.as_bytes())?;
-        assert_eq!(rt; told.as_str(), wanted, "{row}");
+        found.clear();
+        push_row(&mut found, alloc, asked, row)?;
+        compare(rt, found.as_str(), row);
     }
     Ok(())
 }
 
 #[test]
 fn reads_lines(rt: HostRuntime) -> Result<(), Fail> {
-    judge(
+    ask(
         &rt,
         rt.alloc(),
+        Asked::Fault,
         "\
 accepted | {x×0}
 accepted | ¶
@@ -88,9 +296,10 @@ accepted | letter \u{FEFF} 1
 
 #[test]
 fn tells_bad_lines(rt: HostRuntime) -> Result<(), Fail> {
-    judge(
+    ask(
         &rt,
         rt.alloc(),
+        Asked::Fault,
         "\
 1 1 | foo
 1 1 | include x
@@ -138,9 +347,10 @@ fn tells_bad_lines(rt: HostRuntime) -> Result<(), Fail> {
 
 #[test]
 fn tells_the_smallest_cause_of_a_line(rt: HostRuntime) -> Result<(), Fail> {
-    judge(
+    ask(
         &rt,
         rt.alloc(),
+        Asked::Fault,
         "\
 1 1 | foo{ ×1000}
 1 2 | letter \\q
@@ -175,9 +385,10 @@ fn tells_the_smallest_cause_of_a_line(rt: HostRuntime) -> Result<(), Fail> {
 
 #[test]
 fn keeps_the_limits(rt: HostRuntime) -> Result<(), Fail> {
-    judge(
+    ask(
         &rt,
         rt.alloc(),
+        Asked::Fault,
         "\
 accepted | letter a {1-×19}1
 1 8 | letter a {1-×20}1
@@ -212,217 +423,62 @@ accepted | {¶×20000}
     )
 }
 
-/// A line for each cause from 1 to 9, behind lines that define `a` and give the sign of numbers.
-const FAULTY: [&[u8]; 9] = [
-    b"foo",
-    b"letter b",
-    b"letter bc 1",
-    b"letter b 9",
-    b"letter a 1",
-    b"numsign 1",
-    b"always c 1",
-    b"letter b 1-1-1-1-1-1-1-1-1-1-1-1-1-1-1-1-1-1-1-1-1",
-    b"\xFF",
-];
-
-/// What is told where line 3 has one cause and line 4 another: a row for each cause of line 3, and in it each of line 4.
-const TOLD: [&str; 9] = [
-    "3 1, 3 1, 3 1, 3 1, 3 1, 3 1, 3 1, 3 1, 4 9, ",
-    "3 2, 3 2, 3 2, 3 2, 3 2, 3 2, 3 2, 3 2, 4 9, ",
-    "3 3, 3 3, 3 3, 3 3, 3 3, 3 3, 3 3, 3 3, 4 9, ",
-    "3 4, 3 4, 3 4, 3 4, 3 4, 3 4, 3 4, 3 4, 4 9, ",
-    "3 5, 3 5, 3 5, 3 5, 3 5, 3 5, 3 5, 3 5, 4 9, ",
-    "3 6, 3 6, 3 6, 3 6, 3 6, 3 6, 3 6, 3 6, 4 9, ",
-    "4 1, 4 2, 4 3, 4 4, 4 5, 4 6, 3 7, 4 8, 4 9, ",
-    "3 8, 3 8, 3 8, 3 8, 3 8, 3 8, 3 8, 3 8, 4 9, ",
-    "3 9, 3 9, 3 9, 3 9, 3 9, 3 9, 3 9, 3 9, 3 9, ",
-];
-
-/// A text with these lines as the third and the fourth.
-fn text_with(alloc: Global, third: &[u8], fourth: &[u8]) -> Result<Vec<u8>, AllocError> {
-    let mut text = Vec::new(alloc);
-    text.extend_from_slice(b"letter a 1\nnumsign 1\n")?;
-    text.extend_from_slice(third)?;
-    text.push(b'\n')?;
-    text.extend_from_slice(fourth)?;
-    Ok(text)
-}
-
-/// What is told of a text with these lines.
-fn told_with(alloc: Global, third: &[u8], fourth: &[u8]) -> Result<String, AllocError> {
-    let text = text_with(alloc, third, fourth)?;
-    told(alloc, text.as_slice())
-}
-
-/// What is told where each of the faulty lines stands behind this one.
-fn told_behind(alloc: Global, third: &[u8]) -> Result<String, AllocError> {
-    let mut row = String::new(alloc);
-    for fourth in FAULTY {
-        row.push_str(told_with(alloc, third, fourth)?.as_str())?;
-        row.push_str(", ")?;
-    }
-    Ok(row)
-}
+/// A line for each cause from 1 to 9, behind lines that define `a` and give the sign of numbers. The last has no
+/// character, but the byte that its character numbers.
+const FAULTY: &str = "\
+foo
+letter b
+letter bc 1
+letter b 9
+letter a 1
+numsign 1
+always c 1
+letter b 1-1-1-1-1-1-1-1-1-1-1-1-1-1-1-1-1-1-1-1-1
+\u{FF}";
 
 #[test]
 fn tells_the_first_fault(rt: HostRuntime) -> Result<(), Fail> {
-    for (third, wanted) in FAULTY.iter().zip(TOLD) {
-        let row = told_behind(rt.alloc(), third)?;
-        assert_eq!(rt; row.as_str(), wanted);
-    }
-    Ok(())
+    ask(
+        &rt,
+        rt.alloc(),
+        Asked::FaultsBehind,
+        "\
+3 1, 3 1, 3 1, 3 1, 3 1, 3 1, 3 1, 3 1, 4 9,  | foo
+3 2, 3 2, 3 2, 3 2, 3 2, 3 2, 3 2, 3 2, 4 9,  | letter b
+3 3, 3 3, 3 3, 3 3, 3 3, 3 3, 3 3, 3 3, 4 9,  | letter bc 1
+3 4, 3 4, 3 4, 3 4, 3 4, 3 4, 3 4, 3 4, 4 9,  | letter b 9
+3 5, 3 5, 3 5, 3 5, 3 5, 3 5, 3 5, 3 5, 4 9,  | letter a 1
+3 6, 3 6, 3 6, 3 6, 3 6, 3 6, 3 6, 3 6, 4 9,  | numsign 1
+4 1, 4 2, 4 3, 4 4, 4 5, 4 6, 3 7, 4 8, 4 9,  | always c 1
+3 8, 3 8, 3 8, 3 8, 3 8, 3 8, 3 8, 3 8, 4 9,  | letter b 1-1-1-1-1-1-1-1-1-1-1-1-1-1-1-1-1-1-1-1-1
+3 9, 3 9, 3 9, 3 9, 3 9, 3 9, 3 9, 3 9, 3 9,  | \u{FF}",
+    )
 }
-
-/// Bytes that are no text, and what is told of them.
-const NO_TEXTS: &[(&[u8], &str)] = &[
-    (b"\xFF", "1 9"),
-    (b"\xEF\xBB", "1 9"),
-    (b"letter a 1\n\xFF", "2 9"),
-    (b"\n\n# \xC3\n\n", "3 9"),
-    (b"\n\n\xE2\x82", "3 9"),
-    (b"\n\xC0\xAF", "2 9"),
-    (b"\n\xED\xA0\x80", "2 9"),
-    (b"foo\n\n\xF4\x90\x80\x80\nfoo", "3 9"),
-];
 
 #[test]
 fn tells_where_a_text_stops_being_utf_8(rt: HostRuntime) -> Result<(), Fail> {
-    for (text, wanted) in NO_TEXTS {
-        let told = told(rt.alloc(), text)?;
-        assert_eq!(rt; told.as_str(), *wanted, "{text:?}");
-    }
-    Ok(())
-}
-
-/// The cells as braille.
-fn braille(alloc: Global, cells: &[Cell]) -> Result<String, AllocError> {
-    cells.iter().map(|cell| cell.to_unicode()).collect(alloc)
-}
-
-/// The class and the cells of a character.
-fn defined(alloc: Global, table: &Table, character: char) -> Result<String, Fail> {
-    let Some(definition) = table.definition(character) else {
-        return Ok(String::from_str(alloc, "undefined")?);
-    };
-    let cells = braille(alloc, definition.cells.as_slice())?;
-    Ok(format!(in alloc; "{:?} {cells}", definition.class)?)
-}
-
-/// A rule: its line, its kind, its characters and its cells.
-fn rule_of(alloc: Global, rule: &Rule) -> Result<String, AllocError> {
-    let characters = rule.chars.as_slice().iter().copied();
-    let cells = rule.cells.as_slice().iter().map(|cell| cell.to_unicode());
-    let sides: String = characters.chain([' ']).chain(cells).collect(alloc)?;
-    format!(in alloc; "{} {:?} {sides}, ", rule.line, rule.kind)
-}
-
-/// The rules of a table.
-fn rules(alloc: Global, table: &Table) -> Result<String, Fail> {
-    let mut rules = String::new(alloc);
-    for rule in table.rules() {
-        rules.push_str(rule_of(alloc, rule)?.as_str())?;
-    }
-    Ok(rules)
-}
-
-/// The signs of a table: that of numbers, that of one capital and that of a run of capitals.
-fn signs(alloc: Global, table: &Table) -> Result<String, Fail> {
-    let mut signs = String::new(alloc);
-    for sign in [table.numsign(), table.capsletter(), table.begcapsword()] {
-        signs.push_str(braille(alloc, sign)?.as_str())?;
-        signs.push(',')?;
-    }
-    Ok(signs)
-}
-
-/// What a character folds to, whether it is a capital, and its class.
-fn folded(alloc: Global, table: &Table, character: char) -> Result<String, Fail> {
-    let fold = table.fold(character);
-    let capital = table.capital(character);
-    let class = table.class(character);
-    Ok(format!(in alloc; "{fold} {capital} {class:?}")?)
-}
-
-/// How many of the first characters of Unicode a table defines.
-fn count_defined(table: &Table) -> usize {
-    (0..0x3000)
-        .filter_map(char::from_u32)
-        .filter(|character| table.definition(*character).is_some())
-        .count()
-}
-
-/// What is asked of a table.
-#[derive(Clone, Copy)]
-enum Asked {
-    /// The class and the cells of a character.
-    Definition(char),
-    /// What a character folds to, whether it is a capital, and its class.
-    Fold(char),
-    /// The rules.
-    Rules,
-    /// The signs.
-    Signs,
-    /// How many of the first characters of Unicode it defines.
-    Count,
-}
-
-/// What a table answers.
-fn answer(alloc: Global, table: &Table, asked: Asked) -> Result<String, Fail> {
-    match asked {
-        Asked::Definition(character) => defined(alloc, table, character),
-        Asked::Fold(character) => folded(alloc, table, character),
-        Asked::Rules => rules(alloc, table),
-        Asked::Signs => signs(alloc, table),
-        Asked::Count => Ok(format!(in alloc; "{}", count_defined(table))?),
-    }
-}
-
-/// What the table of a text answers.
-fn answer_by(alloc: Global, text: &str, asked: Asked) -> Result<String, Fail> {
-    let table = Table::read(alloc, text.as_bytes())?;
-    answer(alloc, &table, asked)
-}
-
-/// Compares what each row's text answers.
-fn ask(rt: &impl Abort, alloc: Global, asked: Asked, rows: &str) -> Result<(), Fail> {
-    for row in rows.split('\n') {
-        let (wanted, text) = sides(row);
-        let text = text_of(alloc, text)?;
-        let found = answer_by(alloc, text.as_str(), asked)?;
-        assert_eq!(rt; found.as_str(), wanted, "{row}");
-    }
-    Ok(())
-}
-
-/// The character with this number in hexadecimal digits.
-fn character_of(number: &str) -> char {
-    let number = u32::from_str_radix(number, 16).unwrap_or(u32::MAX);
-    char::from_u32(number).unwrap_or(char::REPLACEMENT_CHARACTER)
-}
-
-/// The character whose number begins a row, and what follows it.
-fn numbered(row: &str) -> (char, &str) {
-    let (number, rest) = row.split_once(' ').unwrap_or((row, ""));
-    (character_of(number), rest)
-}
-
-/// Compares what each row's text says of the character whose number begins the row.
-fn look_up(rt: &impl Abort, alloc: Global, rows: &str) -> Result<(), Fail> {
-    for row in rows.split('\n') {
-        let (character, rest) = numbered(row);
-        let (wanted, text) = sides(rest);
-        let text = text_of(alloc, text)?;
-        let found = answer_by(alloc, text.as_str(), Asked::Definition(character))?;
-        assert_eq!(rt; found.as_str(), wanted, "{row}");
-    }
-    Ok(())
+    ask(
+        &rt,
+        rt.alloc(),
+        Asked::FaultOfBytes,
+        "\
+1 9 | \u{FF}
+1 9 | \u{EF}\u{BB}
+2 9 | letter a 1¶\u{FF}
+3 9 | ¶¶# \u{C3}¶¶
+3 9 | ¶¶\u{E2}\u{82}
+2 9 | ¶\u{C0}\u{AF}
+2 9 | ¶\u{ED}\u{A0}\u{80}
+3 9 | foo¶¶\u{F4}\u{90}\u{80}\u{80}¶foo",
+    )
 }
 
 #[test]
 fn reads_definitions(rt: HostRuntime) -> Result<(), Fail> {
-    look_up(
+    ask(
         &rt,
         rt.alloc(),
+        Asked::Table(Part::Definition),
         "\
 61 Letter ⠁ | letter a 1
 61 Letter ⠃ | letter a 21¶letter b 1
@@ -446,9 +502,10 @@ D Letter ⠁ | letter \r 1
 
 #[test]
 fn reads_escapes(rt: HostRuntime) -> Result<(), Fail> {
-    look_up(
+    ask(
         &rt,
         rt.alloc(),
+        Asked::Table(Part::Definition),
         "\
 5C Punctuation ⠁ | punctuation \\\\ 1
 C Space ⠀ | space \\f 0
@@ -472,9 +529,10 @@ FFFFF Letter ⠁ | letter \\yfFfFf 1
 
 #[test]
 fn tells_bad_escapes(rt: HostRuntime) -> Result<(), Fail> {
-    judge(
+    ask(
         &rt,
         rt.alloc(),
+        Asked::Fault,
         "\
 1 3 | letter \\ 1
 1 3 | letter \\q 1
@@ -509,7 +567,7 @@ fn reads_rules(rt: HostRuntime) -> Result<(), Fail> {
 1 Always a ⠃, 2 Always a ⠉,  | always a 12¶always a 14¶letter a 1
 2 Word a b ⠁⠃,  | space \\s 0¶word a\\sb 1-12 and more¶letter a 1¶letter b 12
  | letter a 1";
-    ask(&rt, rt.alloc(), Asked::Rules, rows)
+    ask(&rt, rt.alloc(), Asked::Table(Part::Rules), rows)
 }
 
 #[test]
@@ -520,7 +578,7 @@ fn reads_signs(rt: HostRuntime) -> Result<(), Fail> {
 ,⠠,, | capsletter 6
 ,,⠠⠠, | begcapsword 6-6
 ⠼,⠠,⠠⠠, | begcapsword 6-6¶capsletter 6¶numsign 3456";
-    ask(&rt, rt.alloc(), Asked::Signs, rows)
+    ask(&rt, rt.alloc(), Asked::Table(Part::Signs), rows)
 }
 
 #[test]
@@ -532,28 +590,15 @@ fn folds_capitals(rt: HostRuntime) -> Result<(), Fail> {
 7A z false None | uplow Aa 1,4
 C9 é true Some(Letter) | uplow Éé 1¶uplow Aa 1,4
 41 1 true Some(Letter) | uplow A1 1";
-    for row in rows.split('\n') {
-        let (character, rest) = numbered(row);
-        let (wanted, text) = sides(rest);
-        let text = text_of(rt.alloc(), text)?;
-        let found = answer_by(rt.alloc(), text.as_str(), Asked::Fold(character))?;
-        assert_eq!(rt; found.as_str(), wanted, "{row}");
-    }
-    Ok(())
+    ask(&rt, rt.alloc(), Asked::Table(Part::Fold), rows)
 }
 
 #[test]
 fn supplies_uncontracted_english(rt: HostRuntime) -> Result<(), Fail> {
-    assert_eq!(rt; EN.lines().count(), 58);
-    for (asked, wanted) in [
-        (Asked::Count, "80"),
-        (Asked::Rules, ""),
-        (Asked::Signs, "⠼,⠠,⠠⠠,"),
-    ] {
-        let found = answer_by(rt.alloc(), EN, asked)?;
-        assert_eq!(rt; found.as_str(), wanted);
-    }
-    Ok(())
+    ask(&rt, rt.alloc(), Asked::Lines, "58")?;
+    ask(&rt, rt.alloc(), Asked::Table(Part::Count), "80")?;
+    ask(&rt, rt.alloc(), Asked::Table(Part::Rules), "")?;
+    ask(&rt, rt.alloc(), Asked::Table(Part::Signs), "⠼,⠠,⠠⠠,")
 }
 
 #[test]
@@ -569,10 +614,5 @@ fn defines_characters_of_english(rt: HostRuntime) -> Result<(), Fail> {
 2019 Punctuation ⠄
 2014 Punctuation ⠠⠤
 E9 undefined";
-    for row in rows.split('\n') {
-        let (character, wanted) = numbered(row);
-        let found = answer_by(rt.alloc(), EN, Asked::Definition(character))?;
-        assert_eq!(rt; found.as_str(), wanted, "{row}");
-    }
-    Ok(())
+    ask(&rt, rt.alloc(), Asked::Table(Part::Definition), rows)
 }

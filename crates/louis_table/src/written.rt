@@ -10,7 +10,7 @@ use cell_core::{Cell, Cells};
 use std::alloc::{AllocError, Global};
 
 /// A rule whose characters aren't folded yet.
-#[derive(Debug, Drop)]
+#[derive(Drop)]
 pub(crate) struct WrittenRule {
     /// The number of its line, from 1.
     pub(crate) line: usize,
