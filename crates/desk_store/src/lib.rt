@@ -18,6 +18,8 @@ pub use read::{read_books, read_corrs, read_marks, read_paras, read_tabs};
 pub use transaction::write;
 
 #[cfg(test)]
+mod lines;
+#[cfg(test)]
 mod stops;
 #[cfg(test)]
 mod tests;

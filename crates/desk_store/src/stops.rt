@@ -2,26 +2,141 @@
 //!
 //! A run opens the two files of a database, changes the rows and closes them. From some call on one of the files fails, as where the
 //! machine stops there. Whether what was written since the last sync stays or is lost, the files are then opened again, and have to
-//! show the rows from before or those from after, and those from after where the change was told to be made.
+//! show the rows from before or those from after, and those from after where the change was told to be made. Which rows these are is
+//! written here.
 
-use super::tests::{para, tab};
-use crate::{make_tables, read_books, read_corrs, read_marks, read_paras, read_tabs, write};
-use desk_book::rows::{BookRow, CorrRow, MarkRow, ParaRow, Put, StoredTab, TabRow};
+use super::lines::{list, puts, read_lines};
+use super::tests::{NOTES, judge};
+use crate::{make_tables, write};
+use desk_book::rows::Put;
 use sqlite::{Alter, Connection, FileStore, Files, Options};
 use sqlite_disk::{Crash, Disk, Fuse, Memory};
 use std::alloc::Global;
-use std::fmt::{self, Write};
 use std::io;
+use std::process::Abort;
 use std::test::Fail;
 
 /// More calls than a run makes.
 const MOST_CALLS: u64 = 10_000;
 
+/// The notes that stand in a file from the start.
+const NOTE: &str = "note 0 apart\n";
+
+/// The row of a new book.
+const MADE: &str = "book 1 1 0\n";
+
+/// The row of a new book beside the notes.
+const MADE_BESIDE_NOTES: &str = "\
+book 1 1 0
+note 0 apart
+";
+
+/// What is put first.
+const FIRST_PUTS: &str = "\
+book 1 1 7
+tab en one
+tab de two
+tab old three
+para 1 5 en o1 p1 11 12 13
+para 2 4 de o2 p2 21 22 23
+para 3 3 en o3 p3 31 32 33
+para 4 2 en o4 p4 41 42 43
+para 5 1 de o5 _ 51 52 53
+corr 1 1 11 12 13 a
+corr 2 1 21 22 23 b
+corr 3 1 31 32 33 c
+corr 4 1 41 42 43 d
+corr 5 1 51 52 53 _
+mark 1 2 11 12 m1 13 14
+mark 2 3 21 22 m2 23 24
+mark 3 4 31 32 m3 33 34
+place 1 20
+place 5 21
+version 8";
+
+/// The rows that are there then, and a note on a paragraph.
+const FIRST_ROWS: &str = "\
+book 1 1 8
+tab 2 de two
+tab 1 en one
+tab 3 old three
+para 1 20 en o1 p1 11 12 13
+para 2 4 de o2 p2 21 22 23
+para 3 3 en o3 p3 31 32 33
+para 4 2 en o4 p4 41 42 43
+para 5 21 de o5 _ 51 52 53
+corr 1 1 11 12 13 a
+corr 2 1 21 22 23 b
+corr 3 1 31 32 33 c
+corr 4 1 41 42 43 d
+corr 5 1 51 52 53 _
+mark 1 2 11 12 m1 13 14
+mark 2 3 21 22 m2 23 24
+mark 3 4 31 32 m3 33 34
+note 0 apart,1 first
+";
+
+/// What is put then: twenty puts, each of which shows.
+const LATER_PUTS: &str = "\
+book 1 2 17
+tab en four
+tab de five
+tab new six
+para 1 6 de O1 P1 61 62 63
+para 2 7 en O2 P2 71 72 73
+para 3 8 de O3 P3 81 82 83
+para 4 9 de O4 _ 91 92 93
+para 6 1 en O5 P5 1 2 3
+corr 5 2 61 62 63 e
+corr 4 2 71 72 73 f
+corr 3 2 81 82 83 g
+corr 2 2 91 92 93 h
+corr 1 2 1 2 3 i
+mark 1 5 61 62 n1 63 64
+mark 2 4 71 72 n2 73 74
+mark 4 1 1 2 n4 3 4
+place 1 30
+place 5 31
+version 18";
+
+/// The rows that are there in the end.
+const LATER_ROWS: &str = "\
+book 1 2 18
+tab 2 de five
+tab 1 en four
+tab 4 new six
+tab 3 old three
+para 1 30 de O1 P1 61 62 63
+para 2 7 en O2 P2 71 72 73
+para 3 8 de O3 P3 81 82 83
+para 4 9 de O4 _ 91 92 93
+para 5 31 de o5 _ 51 52 53
+para 6 1 en O5 P5 1 2 3
+corr 1 1 11 12 13 a
+corr 1 2 1 2 3 i
+corr 2 1 21 22 23 b
+corr 2 2 91 92 93 h
+corr 3 1 31 32 33 c
+corr 3 2 81 82 83 g
+corr 4 1 41 42 43 d
+corr 4 2 71 72 73 f
+corr 5 1 51 52 53 _
+corr 5 2 61 62 63 e
+mark 1 5 61 62 n1 63 64
+mark 2 4 71 72 n2 73 74
+mark 3 4 31 32 m3 33 34
+mark 4 1 1 2 n4 3 4
+note 0 apart,1 first
+";
+
 /// What a run does.
 #[derive(Clone, Copy)]
-enum Change<'a> {
-    Making,
-    Putting(&'a [Put<'a>]),
+enum Task<'a> {
+    /// Statements.
+    Run(&'a str),
+    Make,
+    Write(&'a [Put<'a>]),
+    List,
 }
 
 /// The file that is stopped.
@@ -34,10 +149,10 @@ enum Stopped {
 /// How far a run came.
 #[derive(Clone, Copy, PartialEq, Eq)]
 enum Ended {
-    /// The change wasn't told to be made.
+    /// The task wasn't told to be done.
     Early,
     /// It was, and then the files weren't closed in order.
-    Made,
+    Done,
     Closed,
 }
 
@@ -48,21 +163,12 @@ struct Bytes {
     db: Vec<u8>,
 }
 
-/// The rows that are shown before a change and after it.
-#[derive(Drop)]
-struct Shows {
-    before: String,
-    after: String,
-}
-
-/// The rows of all kinds that are put.
-#[derive(Drop)]
-struct Rows {
-    book: BookRow,
-    tabs: Vec<TabRow>,
-    paras: Vec<ParaRow>,
-    corrs: Vec<CorrRow>,
-    marks: Vec<MarkRow>,
+/// A task that changes rows, with those before it and those after it.
+#[derive(Clone, Copy)]
+struct Change<'a> {
+    task: Task<'a>,
+    before: &'a str,
+    after: &'a str,
 }
 
 /// A file with these bytes, which passes so many calls on.
@@ -74,10 +180,21 @@ fn fused(alloc: Global, bytes: &[u8], calls: u64) -> io::Result<Fuse<Memory>> {
 }
 
 /// Files with these bytes, each of which passes so many calls on.
-fn both(alloc: Global, held: &Bytes, log: u64, db: u64) -> io::Result<Files<Fuse<Memory>>> {
-    let log = fused(alloc, held.log.as_slice(), log)?;
-    let db = fused(alloc, held.db.as_slice(), db)?;
+fn both(
+    alloc: Global,
+    log: &[u8],
+    db: &[u8],
+    log_calls: u64,
+    db_calls: u64,
+) -> io::Result<Files<Fuse<Memory>>> {
+    let log = fused(alloc, log, log_calls)?;
+    let db = fused(alloc, db, db_calls)?;
     Ok(Files { log, db })
+}
+
+/// Files with these bytes, which pass all calls on.
+fn whole(alloc: Global, log: &[u8], db: &[u8]) -> io::Result<Files<Fuse<Memory>>> {
+    both(alloc, log, db, u64::MAX, u64::MAX)
 }
 
 fn open<D: Disk + Drop>(
@@ -96,133 +213,62 @@ fn open<D: Disk + Drop>(
 fn close<D: Disk + Drop>(conn: Connection<FileStore<D>>) -> (Ended, Files<D>) {
     match conn.close_files() {
         Ok(files) => (Ended::Closed, files),
-        Err((_, store)) => (Ended::Made, store.close()),
+        Err((_, store)) => (Ended::Done, store.close()),
     }
 }
 
-/// Whether the change was told to be made.
-fn make_change<S: Alter>(conn: &mut Connection<S>, what: Change<'_>) -> bool {
+/// Does a task. The answer is what is listed, and else no text; there is none where the task wasn't told to be done.
+fn carry_out<S: Alter>(alloc: Global, conn: &mut Connection<S>, task: Task<'_>) -> Option<String> {
     if !conn.is_autocommit() {
-        return false;
+        return None;
     }
-    match what {
-        Change::Making => make_tables(conn).is_ok(),
-        Change::Putting(puts) => write(conn, puts).is_ok(),
+    match task {
+        Task::Run(sql) => conn.execute_batch(sql).ok()?,
+        Task::Make => make_tables(conn).ok()?,
+        Task::Write(puts) => write(conn, puts).ok()?,
+        Task::List => return list(alloc, conn),
+    }
+    Some(String::new(alloc))
+}
+
+/// Does a task and closes the files.
+fn carry_out_and_close<D: Disk + Drop>(
+    alloc: Global,
+    mut conn: Connection<FileStore<D>>,
+    task: Task<'_>,
+) -> (Option<String>, Ended, Files<D>) {
+    let answer = carry_out(alloc, &mut conn, task);
+    let (closed, files) = close(conn);
+    (answer, closed, files)
+}
+
+/// Opens the files, does a task and closes the files.
+fn run<D: Disk + Drop>(
+    alloc: Global,
+    files: Files<D>,
+    task: Task<'_>,
+) -> (Option<String>, Ended, Files<D>) {
+    match open(alloc, files) {
+        Ok(conn) => carry_out_and_close(alloc, conn, task),
+        Err(files) => (None, Ended::Early, files),
     }
 }
 
-/// How far a run came, by whether the change was told to be made and how the files were closed.
+/// How far a run came, by whether the task was told to be done and how the files were closed.
 fn reached(told: bool, closed: Ended) -> Ended {
     if told { closed } else { Ended::Early }
 }
 
-fn change_and_close<D: Disk + Drop>(
-    mut conn: Connection<FileStore<D>>,
-    what: Change<'_>,
-) -> (Ended, Files<D>) {
-    let told = make_change(&mut conn, what);
-    let (closed, files) = close(conn);
-    (reached(told, closed), files)
-}
-
-/// Opens the files, changes the rows and closes the files.
-fn run<D: Disk + Drop>(alloc: Global, files: Files<D>, what: Change<'_>) -> (Ended, Files<D>) {
-    match open(alloc, files) {
-        Ok(conn) => change_and_close(conn, what),
-        Err(files) => (Ended::Early, files),
-    }
-}
-
-fn add_books(text: &mut String, books: &[BookRow]) -> fmt::Result {
-    for book in books {
-        writeln!(text, "{book:?}")?;
-    }
-    Ok(())
-}
-
-fn add_tabs(text: &mut String, tabs: &[StoredTab]) -> fmt::Result {
-    for tab in tabs {
-        let (name, body) = (tab.row.name.as_str(), tab.row.body.as_slice());
-        writeln!(text, "tab {} {name:?} {body:?}", tab.rowid)?;
-    }
-    Ok(())
-}
-
-fn add_paras(text: &mut String, paras: &[ParaRow]) -> fmt::Result {
-    for para in paras {
-        let texts = (
-            para.tab.as_str(),
-            para.original.as_str(),
-            para.print.as_str(),
-        );
-        let numbers = (para.id, para.place, para.style, para.volume, para.struck);
-        writeln!(text, "para {numbers:?} {texts:?}")?;
-    }
-    Ok(())
-}
-
-fn add_corrs(text: &mut String, corrs: &[CorrRow]) -> fmt::Result {
-    for corr in corrs {
-        let numbers = (corr.para, corr.seq, corr.kind, corr.start, corr.len);
-        writeln!(text, "corr {numbers:?} {:?}", corr.body.as_str())?;
-    }
-    Ok(())
-}
-
-fn add_marks(text: &mut String, marks: &[MarkRow]) -> fmt::Result {
-    for mark in marks {
-        let numbers = (mark.id, mark.para, mark.start, mark.stop);
-        let flags = (mark.touched, mark.resolved);
-        writeln!(text, "mark {numbers:?} {flags:?} {:?}", mark.note.as_str())?;
-    }
-    Ok(())
-}
-
-/// Adds the rows of the five tables to a text.
-fn add_all<S: Alter>(
-    alloc: Global,
-    conn: &mut Connection<S>,
-    text: &mut String,
-) -> Result<(), Fail> {
-    add_books(text, read_books(alloc, conn)?.as_slice())?;
-    add_tabs(text, read_tabs(alloc, conn)?.as_slice())?;
-    add_paras(text, read_paras(alloc, conn)?.as_slice())?;
-    add_corrs(text, read_corrs(alloc, conn)?.as_slice())?;
-    add_marks(text, read_marks(alloc, conn)?.as_slice())?;
-    Ok(())
-}
-
-/// All rows of the five tables, or nothing where there is no table at all.
-pub(crate) fn list<S: Alter>(alloc: Global, conn: &mut Connection<S>) -> Result<String, Fail> {
-    let mut text = String::new(alloc);
-    if !conn.schema().tables.is_empty() {
-        add_all(alloc, conn, &mut text)?;
-    }
-    Ok(text)
-}
-
-fn list_and_close<D: Disk + Drop>(
-    alloc: Global,
-    mut conn: Connection<FileStore<D>>,
-) -> Result<String, Fail> {
-    let text = list(alloc, &mut conn);
-    let (_, _files) = close(conn);
-    text
-}
-
-/// The rows that these files show.
-fn shown_by<D: Disk + Drop>(alloc: Global, files: Files<D>) -> Result<String, Fail> {
-    match open(alloc, files) {
-        Ok(conn) => list_and_close(alloc, conn),
-        Err(_files) => Err("the files can't be opened again".into()),
-    }
+/// The rows that these files show, if they can be opened and listed.
+fn listed(alloc: Global, files: Files<Fuse<Memory>>) -> Option<String> {
+    let (answer, _, _files) = run(alloc, files, Task::List);
+    answer
 }
 
 /// The rows that files with these bytes show.
 fn shown(alloc: Global, log: &[u8], db: &[u8]) -> Result<String, Fail> {
-    let log = fused(alloc, log, u64::MAX)?;
-    let db = fused(alloc, db, u64::MAX)?;
-    shown_by(alloc, Files { log, db })
+    let files = whole(alloc, log, db)?;
+    Ok(listed(alloc, files).ok_or("the files can't be opened again and listed")?)
 }
 
 fn held(alloc: Global, files: &Files<Fuse<Memory>>) -> Result<Bytes, Fail> {
@@ -233,12 +279,20 @@ fn held(alloc: Global, files: &Files<Fuse<Memory>>) -> Result<Bytes, Fail> {
 }
 
 /// What is left where no file is stopped.
-fn unstopped(alloc: Global, start: &Bytes, what: Change<'_>) -> Result<Bytes, Fail> {
-    let (ended, files) = run(alloc, both(alloc, start, u64::MAX, u64::MAX)?, what);
-    if ended != Ended::Closed {
+fn unstopped(alloc: Global, start: &Bytes, task: Task<'_>) -> Result<Bytes, Fail> {
+    let files = whole(alloc, start.log.as_slice(), start.db.as_slice())?;
+    let (answer, closed, files) = run(alloc, files, task);
+    if reached(answer.is_some(), closed) != Ended::Closed {
         return Err("a run failed with no stop".into());
     }
     held(alloc, &files)
+}
+
+/// Compares the rows that these files show.
+fn judge_rows(rt: &impl Abort, alloc: Global, files: &Bytes, wanted: &str) -> Result<(), Fail> {
+    let text = shown(alloc, files.log.as_slice(), files.db.as_slice())?;
+    judge(rt, text.as_str(), wanted);
+    Ok(())
 }
 
 /// Whether the file passes no call on any more.
@@ -247,13 +301,19 @@ fn is_blown(file: &mut Fuse<Memory>) -> bool {
 }
 
 /// Whether a run that came so far may leave these rows.
-fn is_allowed(shows: &Shows, ended: Ended, text: &str) -> bool {
-    text == shows.after.as_str() || (ended == Ended::Early && text == shows.before.as_str())
+fn is_allowed(change: Change<'_>, ended: Ended, text: &str) -> bool {
+    text == change.after || (ended == Ended::Early && text == change.before)
 }
 
-fn look(alloc: Global, log: &[u8], db: &[u8], shows: &Shows, ended: Ended) -> Result<(), Fail> {
+fn look(
+    alloc: Global,
+    log: &[u8],
+    db: &[u8],
+    change: Change<'_>,
+    ended: Ended,
+) -> Result<(), Fail> {
     let text = shown(alloc, log, db)?;
-    if is_allowed(shows, ended, text.as_str()) {
+    if is_allowed(change, ended, text.as_str()) {
         Ok(())
     } else {
         Err("neither the rows from before nor those from after".into())
@@ -264,7 +324,7 @@ fn look(alloc: Global, log: &[u8], db: &[u8], shows: &Shows, ended: Ended) -> Re
 fn look_again(
     alloc: Global,
     mut files: Files<Fuse<Memory>>,
-    shows: &Shows,
+    change: Change<'_>,
     ended: Ended,
 ) -> Result<(), Fail> {
     let written = held(alloc, &files)?;
@@ -275,30 +335,38 @@ fn look_again(
         alloc,
         written.log.as_slice(),
         written.db.as_slice(),
-        shows,
+        change,
         ended,
     )?;
     look(
         alloc,
         written.log.as_slice(),
         synced.db.as_slice(),
-        shows,
+        change,
         ended,
     )?;
     look(
         alloc,
         synced.log.as_slice(),
         written.db.as_slice(),
-        shows,
+        change,
         ended,
     )?;
     look(
         alloc,
         synced.log.as_slice(),
         synced.db.as_slice(),
-        shows,
+        change,
         ended,
     )
+}
+
+/// How many calls the journal and the database's file pass on, where one of them is stopped after so many.
+fn limits(stopped: Stopped, calls: u64) -> (u64, u64) {
+    match stopped {
+        Stopped::Database => (u64::MAX, calls),
+        Stopped::Journal => (calls, u64::MAX),
+    }
 }
 
 /// The same files, one of which passes only so many calls on.
@@ -308,10 +376,14 @@ fn stopped_after(
     stopped: Stopped,
     calls: u64,
 ) -> io::Result<Files<Fuse<Memory>>> {
-    match stopped {
-        Stopped::Database => both(alloc, start, u64::MAX, calls),
-        Stopped::Journal => both(alloc, start, calls, u64::MAX),
-    }
+    let (log_calls, db_calls) = limits(stopped, calls);
+    both(
+        alloc,
+        start.log.as_slice(),
+        start.db.as_slice(),
+        log_calls,
+        db_calls,
+    )
 }
 
 fn is_stopped(files: &mut Files<Fuse<Memory>>, stopped: Stopped) -> bool {
@@ -325,18 +397,18 @@ fn is_stopped(files: &mut Files<Fuse<Memory>>, stopped: Stopped) -> bool {
 fn stop(
     alloc: Global,
     start: &Bytes,
-    what: Change<'_>,
+    change: Change<'_>,
     stopped: Stopped,
     calls: u64,
-    shows: &Shows,
 ) -> Result<bool, Fail> {
     let files = stopped_after(alloc, start, stopped, calls)?;
-    let (ended, mut files) = run(alloc, files, what);
+    let (answer, closed, mut files) = run(alloc, files, change.task);
+    let ended = reached(answer.is_some(), closed);
     let was_stopped = is_stopped(&mut files, stopped);
     if ended != Ended::Closed && !was_stopped {
         return Err("a run failed with no stop".into());
     }
-    look_again(alloc, files, shows, ended)?;
+    look_again(alloc, files, change, ended)?;
     Ok(was_stopped)
 }
 
@@ -345,12 +417,11 @@ fn stop(
 fn stop_at_each(
     alloc: Global,
     start: &Bytes,
-    what: Change<'_>,
+    change: Change<'_>,
     stopped: Stopped,
-    shows: &Shows,
 ) -> Result<u64, Fail> {
     for calls in 0..MOST_CALLS {
-        if !stop(alloc, start, what, stopped, calls, shows)? {
+        if !stop(alloc, start, change, stopped, calls)? {
             return Ok(calls.saturating_sub(1));
         }
     }
@@ -358,17 +429,17 @@ fn stop_at_each(
 }
 
 /// Stops each of the files at each call of a change.
-fn stop_everywhere(alloc: Global, start: &Bytes, what: Change<'_>) -> Result<(), Fail> {
-    let end = unstopped(alloc, start, what)?;
-    let shows = Shows {
-        before: shown(alloc, start.log.as_slice(), start.db.as_slice())?,
-        after: shown(alloc, end.log.as_slice(), end.db.as_slice())?,
-    };
-    if shows.before.as_str() == shows.after.as_str() {
-        return Err("the change shows nothing".into());
-    }
+fn stop_everywhere(
+    rt: &impl Abort,
+    alloc: Global,
+    start: &Bytes,
+    change: Change<'_>,
+) -> Result<(), Fail> {
+    let end = unstopped(alloc, start, change.task)?;
+    judge_rows(rt, alloc, start, change.before)?;
+    judge_rows(rt, alloc, &end, change.after)?;
     for stopped in [Stopped::Database, Stopped::Journal] {
-        if stop_at_each(alloc, start, what, stopped, &shows)? == 0 {
+        if stop_at_each(alloc, start, change, stopped)? == 0 {
             return Err("nothing was stopped".into());
         }
     }
@@ -382,119 +453,54 @@ fn nothing(alloc: Global) -> Bytes {
     }
 }
 
-fn corr(alloc: Global, para: i64, seq: i64, text: &str) -> Result<CorrRow, Fail> {
-    Ok(CorrRow {
-        para,
-        seq,
-        kind: 0,
-        start: 0,
-        len: 1,
-        body: String::from_str(alloc, text)?,
-    })
-}
-
-fn mark(alloc: Global, id: i64, note: &str) -> Result<MarkRow, Fail> {
-    Ok(MarkRow {
-        id,
-        para: 1,
-        start: 0,
-        stop: 1,
-        note: String::from_str(alloc, note)?,
-        touched: 0,
-        resolved: 0,
-    })
-}
-
-/// Rows of all kinds, with texts of their own.
-fn new_rows(alloc: Global, word: &str, seq: i64) -> Result<Rows, Fail> {
-    let mut rows = Rows {
-        book: BookRow {
-            id: 1,
-            format: 1,
-            version: 7,
-        },
-        tabs: Vec::new(alloc),
-        paras: Vec::new(alloc),
-        corrs: Vec::new(alloc),
-        marks: Vec::new(alloc),
-    };
-    for name in ["en", "de", word] {
-        rows.tabs.push(tab(alloc, name, word.as_bytes())?)?;
-    }
-    for (id, place) in [(1, 5), (2, 4), (3, 3), (4, 2), (5, 1)] {
-        rows.paras.push(para(alloc, id, place, word)?)?;
-        rows.corrs.push(corr(alloc, id, seq, word)?)?;
-    }
-    for id in 1..4 {
-        rows.marks.push(mark(alloc, id, word)?)?;
-    }
-    Ok(rows)
-}
-
-fn put_tabs<'a>(puts: &mut Vec<Put<'a>>, tabs: &'a [TabRow]) -> Result<(), Fail> {
-    for tab in tabs {
-        puts.push(Put::Tab(tab))?;
-    }
-    Ok(())
-}
-
-fn put_paras<'a>(puts: &mut Vec<Put<'a>>, paras: &'a [ParaRow]) -> Result<(), Fail> {
-    for para in paras {
-        puts.push(Put::Para(para))?;
-    }
-    Ok(())
-}
-
-fn put_corrs<'a>(puts: &mut Vec<Put<'a>>, corrs: &'a [CorrRow]) -> Result<(), Fail> {
-    for corr in corrs {
-        puts.push(Put::Corr(corr))?;
-    }
-    Ok(())
-}
-
-fn put_marks<'a>(puts: &mut Vec<Put<'a>>, marks: &'a [MarkRow]) -> Result<(), Fail> {
-    for mark in marks {
-        puts.push(Put::Mark(mark))?;
-    }
-    Ok(())
-}
-
-fn put_all<'a>(puts: &mut Vec<Put<'a>>, rows: &'a Rows) -> Result<(), Fail> {
-    puts.push(Put::Book(&rows.book))?;
-    put_tabs(puts, &rows.tabs)?;
-    put_paras(puts, &rows.paras)?;
-    put_corrs(puts, &rows.corrs)?;
-    put_marks(puts, &rows.marks)?;
-    puts.push(Put::Place { id: 1, place: 20 })?;
-    puts.push(Put::Place { id: 5, place: 21 })?;
-    puts.push(Put::Version(8))?;
-    Ok(())
-}
-
-/// These rows, two places and a version: twenty puts.
-fn puts<'a>(alloc: Global, rows: &'a Rows) -> Result<Vec<Put<'a>>, Fail> {
-    let mut puts = Vec::new(alloc);
-    put_all(&mut puts, rows)?;
-    Ok(puts)
+/// A file with the notes alone.
+fn noted(alloc: Global) -> Result<Bytes, Fail> {
+    unstopped(alloc, &nothing(alloc), Task::Run(NOTES))
 }
 
 /// A file with rows of all kinds.
 fn filled(alloc: Global) -> Result<Bytes, Fail> {
-    let made = unstopped(alloc, &nothing(alloc), Change::Making)?;
-    let rows = new_rows(alloc, "old", 1)?;
-    let puts = puts(alloc, &rows)?;
-    unstopped(alloc, &made, Change::Putting(puts.as_slice()))
+    let lines = read_lines(alloc, FIRST_PUTS)?;
+    let puts = puts(alloc, &lines)?;
+    let made = unstopped(alloc, &noted(alloc)?, Task::Make)?;
+    let put = unstopped(alloc, &made, Task::Write(&puts))?;
+    unstopped(
+        alloc,
+        &put,
+        Task::Run("INSERT INTO note VALUES (1, 'first')"),
+    )
 }
 
 #[test]
 fn a_stop_while_the_tables_are_made(rt: HostRuntime) -> Result<(), Fail> {
-    stop_everywhere(rt.alloc(), &nothing(rt.alloc()), Change::Making)
+    let change = Change {
+        task: Task::Make,
+        before: "",
+        after: MADE,
+    };
+    stop_everywhere(&rt, rt.alloc(), &nothing(rt.alloc()), change)
+}
+
+#[test]
+fn a_stop_while_the_tables_are_made_beside_notes(rt: HostRuntime) -> Result<(), Fail> {
+    let change = Change {
+        task: Task::Make,
+        before: NOTE,
+        after: MADE_BESIDE_NOTES,
+    };
+    let start = noted(rt.alloc())?;
+    stop_everywhere(&rt, rt.alloc(), &start, change)
 }
 
 #[test]
 fn a_stop_while_rows_are_put(rt: HostRuntime) -> Result<(), Fail> {
     let start = filled(rt.alloc())?;
-    let rows = new_rows(rt.alloc(), "new", 2)?;
-    let puts = puts(rt.alloc(), &rows)?;
-    stop_everywhere(rt.alloc(), &start, Change::Putting(puts.as_slice()))
+    let lines = read_lines(rt.alloc(), LATER_PUTS)?;
+    let puts = puts(rt.alloc(), &lines)?;
+    let change = Change {
+        task: Task::Write(&puts),
+        before: FIRST_ROWS,
+        after: LATER_ROWS,
+    };
+    stop_everywhere(&rt, rt.alloc(), &start, change)
 }

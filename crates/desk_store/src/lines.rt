@@ -1,0 +1,258 @@
+//! Rows as the lines of a text.
+//!
+//! A line begins with the name of a table, and the columns stand behind it in order; `place 1 20` moves a paragraph, and
+//! `version 8` sets the book's version. Words stand apart by one space, and `_` is a text with no character.
+
+use crate::{read_books, read_corrs, read_marks, read_paras, read_tabs};
+use desk_book::rows::{BookRow, CorrRow, MarkRow, ParaRow, Put, StoredTab, TabRow};
+use sqlite::{Alter, Connection};
+use std::alloc::Global;
+use std::fmt::{self, Write};
+use std::test::Fail;
+
+/// A row that a line writes, or a value that it sets.
+#[derive(Drop)]
+pub(crate) enum Line {
+    Book(BookRow),
+    Tab(TabRow),
+    Para(ParaRow),
+    Place { id: i64, place: i64 },
+    Corr(CorrRow),
+    Mark(MarkRow),
+    Version(i64),
+}
+
+impl Line {
+    /// What puts this.
+    fn put(&self) -> Put<'_> {
+        match self {
+            Line::Book(row) => Put::Book(row),
+            Line::Tab(row) => Put::Tab(row),
+            Line::Para(row) => Put::Para(row),
+            Line::Place { id, place } => Put::Place {
+                id: *id,
+                place: *place,
+            },
+            Line::Corr(row) => Put::Corr(row),
+            Line::Mark(row) => Put::Mark(row),
+            Line::Version(version) => Put::Version(*version),
+        }
+    }
+}
+
+/// The word at a place of a line, counted from 0, or nothing.
+fn word(line: &str, at: usize) -> &str {
+    line.split(' ').nth(at).unwrap_or("")
+}
+
+/// The number that a word writes, or 0.
+fn number(line: &str, at: usize) -> i64 {
+    word(line, at).parse().unwrap_or(0)
+}
+
+/// The text that a word writes.
+fn text(alloc: Global, line: &str, at: usize) -> Result<String, Fail> {
+    Ok(String::from_str(alloc, word(line, at).trim_matches('_'))?)
+}
+
+fn book(line: &str) -> BookRow {
+    BookRow {
+        id: number(line, 1),
+        format: number(line, 2),
+        version: number(line, 3),
+    }
+}
+
+fn tab(alloc: Global, line: &str) -> Result<TabRow, Fail> {
+    Ok(TabRow {
+        name: text(alloc, line, 1)?,
+        body: Vec::from_slice(alloc, word(line, 2).as_bytes())?,
+    })
+}
+
+fn para(alloc: Global, line: &str) -> Result<ParaRow, Fail> {
+    Ok(ParaRow {
+        id: number(line, 1),
+        place: number(line, 2),
+        tab: text(alloc, line, 3)?,
+        original: text(alloc, line, 4)?,
+        print: text(alloc, line, 5)?,
+        style: number(line, 6),
+        volume: number(line, 7),
+        struck: number(line, 8),
+    })
+}
+
+fn corr(alloc: Global, line: &str) -> Result<CorrRow, Fail> {
+    Ok(CorrRow {
+        para: number(line, 1),
+        seq: number(line, 2),
+        kind: number(line, 3),
+        start: number(line, 4),
+        len: number(line, 5),
+        body: text(alloc, line, 6)?,
+    })
+}
+
+fn mark(alloc: Global, line: &str) -> Result<MarkRow, Fail> {
+    Ok(MarkRow {
+        id: number(line, 1),
+        para: number(line, 2),
+        start: number(line, 3),
+        stop: number(line, 4),
+        note: text(alloc, line, 5)?,
+        touched: number(line, 6),
+        resolved: number(line, 7),
+    })
+}
+
+fn read(alloc: Global, line: &str) -> Result<Line, Fail> {
+    match word(line, 0) {
+        "book" => Ok(Line::Book(book(line))),
+        "tab" => Ok(Line::Tab(tab(alloc, line)?)),
+        "para" => Ok(Line::Para(para(alloc, line)?)),
+        "place" => Ok(Line::Place {
+            id: number(line, 1),
+            place: number(line, 2),
+        }),
+        "corr" => Ok(Line::Corr(corr(alloc, line)?)),
+        "mark" => Ok(Line::Mark(mark(alloc, line)?)),
+        "version" => Ok(Line::Version(number(line, 1))),
+        _ => Err("no row has this name".into()),
+    }
+}
+
+/// The rows that a text writes, each in a line of its own.
+pub(crate) fn read_lines(alloc: Global, text: &str) -> Result<Vec<Line>, Fail> {
+    let mut lines = Vec::new(alloc);
+    for line in text.lines() {
+        lines.push(read(alloc, line)?)?;
+    }
+    Ok(lines)
+}
+
+/// What puts these in turn.
+pub(crate) fn puts<'a>(alloc: Global, lines: &'a [Line]) -> Result<Vec<Put<'a>>, Fail> {
+    let mut puts = Vec::new(alloc);
+    for line in lines {
+        puts.push(line.put())?;
+    }
+    Ok(puts)
+}
+
+/// A row that is listed.
+trait Listed {
+    /// Adds its line.
+    fn add(&self, text: &mut String) -> fmt::Result;
+}
+
+/// What a line writes for a text.
+fn written(text: &str) -> &str {
+    if text.is_empty() { "_" } else { text }
+}
+
+/// What a line writes for the bytes of a text.
+fn written_bytes(bytes: &[u8]) -> &str {
+    written(str::from_utf8(bytes).unwrap_or("?"))
+}
+
+impl Listed for BookRow {
+    fn add(&self, text: &mut String) -> fmt::Result {
+        writeln!(text, "book {} {} {}", self.id, self.format, self.version)?;
+        Ok(())
+    }
+}
+
+/// The rowid stands before the columns.
+impl Listed for StoredTab {
+    fn add(&self, text: &mut String) -> fmt::Result {
+        let name = written(self.row.name.as_str());
+        let body = written_bytes(self.row.body.as_slice());
+        writeln!(text, "tab {} {name} {body}", self.rowid)?;
+        Ok(())
+    }
+}
+
+impl Listed for ParaRow {
+    fn add(&self, text: &mut String) -> fmt::Result {
+        let tab = written(self.tab.as_str());
+        let original = written(self.original.as_str());
+        let print = written(self.print.as_str());
+        write!(
+            text,
+            "para {} {} {tab} {original} {print}",
+            self.id, self.place
+        )?;
+        writeln!(text, " {} {} {}", self.style, self.volume, self.struck)?;
+        Ok(())
+    }
+}
+
+impl Listed for CorrRow {
+    fn add(&self, text: &mut String) -> fmt::Result {
+        let body = written(self.body.as_str());
+        write!(text, "corr {} {} {}", self.para, self.seq, self.kind)?;
+        writeln!(text, " {} {} {body}", self.start, self.len)?;
+        Ok(())
+    }
+}
+
+impl Listed for MarkRow {
+    fn add(&self, text: &mut String) -> fmt::Result {
+        let note = written(self.note.as_str());
+        write!(
+            text,
+            "mark {} {} {} {}",
+            self.id, self.para, self.start, self.stop
+        )?;
+        writeln!(text, " {note} {} {}", self.touched, self.resolved)?;
+        Ok(())
+    }
+}
+
+/// Adds the lines of these rows.
+fn add_rows<T: Listed>(text: &mut String, rows: &[T]) -> fmt::Result {
+    for row in rows {
+        row.add(text)?;
+    }
+    Ok(())
+}
+
+/// Adds the lines of rows that were read, if they were.
+fn add_read<T: Listed + Drop>(text: &mut String, rows: Option<Vec<T>>) -> Option<()> {
+    add_rows(text, rows?.as_slice()).ok()
+}
+
+/// Adds the rows of the five tables.
+fn add_tables<S: Alter>(alloc: Global, conn: &mut Connection<S>, text: &mut String) -> Option<()> {
+    add_read(text, read_books(alloc, conn).ok())?;
+    add_read(text, read_tabs(alloc, conn).ok())?;
+    add_read(text, read_paras(alloc, conn).ok())?;
+    add_read(text, read_corrs(alloc, conn).ok())?;
+    add_read(text, read_marks(alloc, conn).ok())
+}
+
+/// The paragraphs and words of the notes, with 0 for no paragraph.
+fn notes<S: Alter>(conn: &mut Connection<S>) -> Option<String> {
+    let listed = "SELECT group_concat(coalesce(para, 0) || ' ' || word) FROM note";
+    conn.query_row(listed, &[]).ok()?.get(0).ok()
+}
+
+/// Adds the rows of the table that stands beside the five.
+fn add_notes<S: Alter>(conn: &mut Connection<S>, text: &mut String) -> Option<()> {
+    let notes = notes(conn)?;
+    writeln!(text, "note {notes}").ok()
+}
+
+/// All rows of a file: those of the five tables, where there is one of these, and the notes, where they are there.
+pub(crate) fn list<S: Alter>(alloc: Global, conn: &mut Connection<S>) -> Option<String> {
+    let mut text = String::new(alloc);
+    let has_notes = conn.schema().table_named(b"note").is_some();
+    if conn.schema().tables.as_slice().len() > usize::from(has_notes) {
+        add_tables(alloc, conn, &mut text)?;
+    }
+    if has_notes {
+        add_notes(conn, &mut text)?;
+    }
+    Some(text)
+}
