@@ -15,12 +15,18 @@ use std::alloc::{AllocError, Global};
 use std::marker::Model;
 
 /// A table of a book: its text, and its rules.
-#[derive(Drop)]
 pub(crate) struct BookTable {
     /// The text.
     pub(crate) text: Bytes,
     /// What it says.
     pub(crate) rules: PlainRules,
+}
+
+// Written out, as the drop of a paragraph is.
+impl Drop for BookTable {
+    fn drop(self) {
+        let BookTable { text: _, rules: _ } = self;
+    }
 }
 
 impl BookTable {
