@@ -12,7 +12,8 @@ use Rattle.louis_translate.specs.Position.{AreDefined, IsFirstUndefined}
 use Rattle.louis_translate.specs.Braille.{braille}
 use Rattle.louis_translate.proofs.Tilings.{one_tiling}
 use Rattle.braildesk.specs.Machine.{AnswersLines, output_of}
-use Rattle.braildesk.specs.Reply.{AnswersPrint, AreAnswers, IsAnswer, IsOutput, IsText, refusal, refusal_at, text_of, undefined, shown, no_text, too_long, a_print}
+use Rattle.desk_ends.specs.Cells.{text_of}
+use Rattle.braildesk.specs.Reply.{AnswersPrint, AreAnswers, IsAnswer, IsOutput, IsText, refusal, refusal_at, undefined, shown, no_text, too_long, a_print}
 
 is_some-none : (o : Option Definition) → is_some o ≡ false → o ≡ None
 is_some-none None e = refl

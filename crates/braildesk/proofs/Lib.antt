@@ -1,7 +1,4 @@
 pub mod Answering
-pub mod Sending
 pub mod Putting
-pub mod Encoding
-pub mod Numerals
 pub mod Cuts
 pub mod Stepping

@@ -8,10 +8,10 @@ use Rattle.louis_translate.specs.Piece.{IsPieceAt}
 use Rattle.louis_translate.specs.Sign.{sign_at}
 use Rattle.louis_translate.specs.Tiling.{Covers}
 use Rattle.louis_translate.proofs.Tilings.{Covers-next}
-use Rattle.braildesk.specs.Reply.{text_of}
-use Rattle.braildesk.specs.Sent.{Sent}
-use Rattle.braildesk.proofs.Encoding.{text_of-append}
-use Rattle.braildesk.proofs.Sending.{Sending, Sending-done, Sending-fails, Sending-more, Sending-same}
+use Rattle.desk_ends.specs.Cells.{text_of}
+use Rattle.desk_ends.specs.Sent.{Sent}
+use Rattle.desk_ends.proofs.Encoding.{text_of-append}
+use Rattle.desk_ends.proofs.Sending.{Sending, Sending-done, Sending-fails, Sending-more, Sending-same}
 
 -- the choices from place i on are still to come
 pub record Putting (meaning : Meaning) (print : List ℕ) (i : ℕ) (old now : Option (List ℕ)) (block whole : List ℕ) : Type 0 where

@@ -1,17 +1,19 @@
 -- One byte and one line of the machine, and what a run did in its words.
 use Rattle.std.proofs.Common.{◌≡◌, ℕ, ◌+◌, ◌<◌, ◌≤◌, ◌^◌, ◌⊎◌, Bool, true, false, cond, eqb, List, [], ◌∷◌, ◌++◌, length, get_or, drop, Option, None, Some, refl, sym, ap, subst, ◌∙◌, append_assoc, inl, inr}
+use Rattle.std.specs.Prelude.{IfSome}
 use Rattle.std.specs.Io.BufRead.{strip_last}
 use Rattle.std.specs.Option.{option_map}
 use Rattle.std.specs.Io.KnownBytes.{Appends, Consumes, IsAtEnd, Keeps}
-use Rattle.std.proofs.KnownBytes.{Appends-nil, Appends-trans, Consumes-kept, Consumes-nil, Consumes-trans, Consumes-whole}
+use Rattle.std.proofs.KnownBytes.{Appends-trans, Consumes-kept, Consumes-nil, Consumes-trans, Consumes-whole}
 use Rattle.std.proofs.lemmas.List.{append-nil, drop_more, length-append}
 use Rattle.louis_table.specs.Meaning.{Meaning}
 use Rattle.braildesk.specs.declared.translate.Ended.{Ended}
 use Rattle.braildesk.specs.declared.translate.Ended.TheVariants.{Done, Input, Output}
 use Rattle.braildesk.specs.Machine.{output_of, pushed, reply_to, after, sent, closing}
 use Rattle.braildesk.specs.Reply.{IsOutput}
-use Rattle.braildesk.specs.Run.{Answers, AnswersBeginning, HonestRun, IsBeginning, IsHonest, ReadsAll, whole_lines}
-use Rattle.braildesk.specs.Sent.{Sent}
+use Rattle.braildesk.specs.Run.{Answers, AnswersBeginning, EndsFlushed, HonestRun, IsBeginning, IsHonest, ReadsAll, whole_lines}
+use Rattle.desk_ends.specs.Sent.{Sent}
+use Rattle.desk_ends.proofs.Sending.{Keeps-Appends}
 use Rattle.braildesk.proofs.Answering.{answer_to, answer_to-over, IsOutput-output_of}
 use Rattle.braildesk.proofs.Cuts.{after-append, output_of-sent, output_of-whole_lines, sent-append, sent-IsBeginning}
 
@@ -97,8 +99,8 @@ begins_all meaning (Some input) (Some left) v w taken out c h p =
     (output_of (answer_to meaning) input, out, IsOutput-output_of meaning input, subst (λ (t : List ℕ). IsBeginning out (output_of (answer_to meaning) t)) (sym c) (IsBeginning-trans out _ _ p (sent-IsBeginning (answer_to meaning) (answer_to-over meaning) taken left)), h)
 
 module _ {meaning : Meaning} {ended : Ended} {a b v w : Option (List ℕ)} {ReadsFail WritesFail : Type 0} (s : Stepped meaning ended a b v w ReadsFail WritesFail) where
-  pub HonestRun-Stepped : HonestRun meaning ended a b v w ReadsFail WritesFail
-  HonestRun-Stepped =
+  pub HonestRun-Stepped : (f : Option (List ℕ)) → EndsFlushed ended w f → HonestRun meaning ended a b v w f ReadsFail WritesFail
+  HonestRun-Stepped f flushed =
       record {
         run = record {
           taken = s.taken;
@@ -109,7 +111,15 @@ module _ {meaning : Meaning} {ended : Ended} {a b v w : Option (List ℕ)} {Read
           ends = reads_all meaning ended s.taken s.out b s.steps;
         };
         honest = s.honest;
+        flushed = flushed;
       }
+
+  -- where all is read, all is answered
+  pub IsOutput-Stepped : ended ≡ Done → IfSome a (λ input. (output : List ℕ) × IsOutput meaning input output × Appends v w output)
+  IsOutput-Stepped e =
+      let steps = subst (λ (x : Ended). Steps meaning x s.taken s.out b) e s.steps in
+      Consumes-whole a b s.taken (λ input. (output : List ℕ) × IsOutput meaning input output × Appends v w output) s.consumes steps.0
+      (s.out, is_output meaning s.taken s.out steps.1, s.appends)
 
   pub AnswersBeginning-Stepped : AnswersBeginning meaning a v w
   AnswersBeginning-Stepped =
@@ -130,8 +140,13 @@ pub record Took (meaning : Meaning) (a b v w : Option (List ℕ)) (line : Option
   pub line_is : line ≡ after (Some []) taken
   pub total_is : length taken ≡ total
 
-pub Took-none : (meaning : Meaning) (a v line : Option (List ℕ)) → line ≡ Some [] → Took meaning a a v v line 0
-Took-none meaning a v line e = record { taken = []; consumes = Consumes-nil a; appends = Appends-nil v; line_is = e; total_is = refl }
+pub Took-none : (meaning : Meaning) (a v w line : Option (List ℕ)) → Keeps v w → line ≡ Some [] → Took meaning a a v w line 0
+Took-none meaning a v w line h e = record { taken = []; consumes = Consumes-nil a; appends = Keeps-Appends v w h; line_is = e; total_is = refl }
+
+-- nothing was read, for a flush failed
+pub Stepped-unread : (meaning : Meaning) (a v w : Option (List ℕ)) (ReadsFail WritesFail : Type 0) → Keeps v w → WritesFail → Stepped meaning Output a a v w ReadsFail WritesFail
+Stepped-unread meaning a v w ReadsFail WritesFail h fails =
+    record { taken = []; out = []; consumes = Consumes-nil a; appends = Keeps-Appends v w h; steps = inl ([], refl); honest = fails }
 
 -- what is whole went out
 Sent-Appends : (F : Type 0) (a b : Option (List ℕ)) (text : List ℕ) (ok : Bool) → Sent F a b text [] ok → ok ≡ true → Appends a b text

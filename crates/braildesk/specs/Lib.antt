@@ -1,7 +1,7 @@
 pub mod Reply
-pub mod Sent
 pub mod Refusal
 pub mod Run
 pub mod Machine
+pub mod Shelf
 pub mod Fault
 pub mod Program

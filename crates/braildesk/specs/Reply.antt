@@ -1,7 +1,7 @@
 -- What is written for an input line.
-use Rattle.std.specs.Prelude.{◌≡◌, ℕ, ◌<◌, ◌≤◌, ◌++◌, ◌∷◌, [], List, length, map, codes, decimal}
-use Rattle.std.specs.Str.{chars, IsUtf8, encode_utf8_all}
-use Rattle.cell_core.specs.Cell.{braille_character}
+use Rattle.std.specs.Prelude.{◌≡◌, ℕ, ◌<◌, ◌≤◌, ◌++◌, ◌∷◌, [], List, length, codes, decimal}
+use Rattle.std.specs.Str.{chars, IsUtf8}
+use Rattle.desk_ends.specs.Cells.{text_of}
 use Rattle.louis_table.specs.Lines.{lines_of}
 use Rattle.louis_table.specs.Meaning.{Meaning}
 use Rattle.louis_translate.specs.declared.choices.Choice.{Choice}
@@ -20,10 +20,6 @@ abbrev pub most_characters : ℕ
 most_characters = 4000
 
 -- ---- the texts that are written
-
--- cells as characters of the block Braille Patterns, in UTF-8
-abbrev pub text_of : List ℕ → List ℕ
-text_of cells = encode_utf8_all (map braille_character cells)
 
 -- a refusal by its number alone
 abbrev pub refusal : ℕ → List ℕ

@@ -1,6 +1,7 @@
 -- What a run did to the bytes that a reader has left and a writer holds.
 use Rattle.std.specs.Prelude.{◌≡◌, ℕ, ◌^◌, ◌≤◌, ◌⊎◌, ◌==◌, if◌then◌else◌, List, [], ◌∷◌, ◌++◌, Option, IfSome, length}
 use Rattle.std.specs.Io.KnownBytes.{Appends, Consumes, IsAtEnd}
+use Rattle.desk_ends.specs.Ends.{IsFlushed}
 use Rattle.louis_table.specs.Meaning.{Meaning}
 use Rattle.braildesk.specs.declared.translate.Ended.{Ended}
 use Rattle.braildesk.specs.declared.translate.Ended.TheVariants.{Done, Input, Output}
@@ -56,7 +57,14 @@ IsHonest Done taken ReadsFail WritesFail = Unit {0}
 IsHonest Input taken ReadsFail WritesFail = (2 ^ 62 ≤ taken) ⊎ ReadsFail
 IsHonest Output taken ReadsFail WritesFail = WritesFail
 
+-- all that was written is flushed, but where a write or a flush failed
+abbrev pub EndsFlushed : Ended → Option (List ℕ) → Option (List ℕ) → Type 0
+EndsFlushed Done written flushed = IsFlushed written flushed
+EndsFlushed Input written flushed = IsFlushed written flushed
+EndsFlushed Output written flushed = Unit {0}
+
 -- a run with an honest end
-pub record HonestRun (meaning : Meaning) (ended : Ended) (read_old read_new write_old write_new : Option (List ℕ)) (ReadsFail WritesFail : Type 0) : Type 0 where
+pub record HonestRun (meaning : Meaning) (ended : Ended) (read_old read_new write_old write_new flushed_new : Option (List ℕ)) (ReadsFail WritesFail : Type 0) : Type 0 where
   pub run : Run meaning ended read_old read_new write_old write_new
   pub honest : IsHonest ended (length run.taken) ReadsFail WritesFail
+  pub flushed : EndsFlushed ended write_new flushed_new

@@ -2,17 +2,15 @@
 ghost use Rattle.braildesk.specs.Machine.{AnswersLines, closing, reply_to};
 ghost use Rattle.braildesk.specs.Refusal.{IsRefused, refusal_text};
 ghost use Rattle.braildesk.specs.Reply.{AnswersPrint, IsAnswer, IsText, most_characters};
-ghost use Rattle.braildesk.specs.Sent.{Sent};
-ghost use Rattle.std.specs.Prelude.{List, MatchResult, [], is_ok, length, ◌++◌, ◌≡◌, ◌≤◌, ◌∷◌, ℕ};
+ghost use Rattle.desk_ends.specs.Ends.{IsFlushed};
+ghost use Rattle.desk_ends.specs.Sent.{Sent};
+ghost use Rattle.std.specs.Prelude.{List, MatchResult, OnOk, [], is_ok, length, ◌++◌, ◌≡◌, ◌≤◌, ◌∷◌, ℕ};
 ghost use Rattle.std.specs.Str.{chars};
 
-use super::block::Block;
 use super::braille::send_braille;
-use super::ends::{Failed, Sink};
-use super::line::Line;
+use super::line::{Line, MOST_BYTES};
 use super::print::Print;
-use super::send::send;
-use super::translate::MOST_BYTES;
+use desk_ends::{Block, Failed, Sink, send, send_parts};
 use itoa::Buffer;
 use louis_translate::{RuleBook, undefined_place};
 
@@ -36,8 +34,23 @@ pub struct Workspace {
     pub block: Block,
 }
 
+/// Answers what is left at the end of the input, and flushes all answers.
+pub fn answer_end<K: Sink, B: RuleBook>(
+    sink: &mut K,
+    space: &mut Workspace,
+    book: &B,
+    line: &Line,
+) -> Result<(), Failed>
+    ensures flushed { OnOk result (IsFlushed (K.contents sink.new) (K.flushed sink.new)) }
+    ensures sent { (answers : List ℕ → List ℕ) → AnswersLines (B.meaning book.now) answers
+        → Sent K.can_fail (K.contents sink.old) (K.contents sink.new) (closing answers line.now) [] (is_ok result) }
+{
+    answer_last(sink, space, book, line)?;
+    sink.flush()
+}
+
 /// Answers a line, if it has a byte.
-pub fn answer_last<K: Sink, B: RuleBook>(
+fn answer_last<K: Sink, B: RuleBook>(
     sink: &mut K,
     space: &mut Workspace,
     book: &B,
@@ -96,7 +109,7 @@ fn read_print(print: &mut Print, line: &[u8]) -> Result<(), Refusal>
     let Ok(text) = str::from_utf8(line) else {
         return Err(Refusal::NoText);
     };
-    if !print.read(text) {
+    if print.read(text).is_err() {
         return Err(Refusal::TooLong);
     }
     Ok(())
@@ -133,8 +146,6 @@ fn refuse<K: Sink>(sink: &mut K, refusal: Refusal) -> Result<(), Failed>
 fn refuse_place<K: Sink>(sink: &mut K, place: usize) -> Result<(), Failed>
     ensures { Sent K.can_fail (K.contents sink.old) (K.contents sink.new) (refusal_text (Refusal.Undefined place) ++ 10 ∷ []) [] (is_ok result) }
 {
-    send(sink, b"no 7 ")?;
     let mut digits = Buffer::new();
-    send(sink, digits.format(place).as_bytes())?;
-    send(sink, b"\n")
+    send_parts(sink, &[b"no 7 ", digits.format(place).as_bytes(), b"\n"])
 }

@@ -3,8 +3,8 @@ use louis_table::TableFault;
 use std::io::{Error as IoError, ErrorKind};
 use thiserror::Error;
 
-/// A fault that ends the program before it reads or writes a line. It is shown by its number and
-/// details, as `no 8 LINE CAUSE`.
+/// A fault that ends the program before it reads or writes a line. It is told by its number and details,
+/// as `no 8 LINE CAUSE`.
 #[derive(Debug, Drop, Error)]
 pub enum Fault {
     /// The table text is bad.
@@ -19,9 +19,10 @@ pub enum Fault {
 }
 
 impl From<IoError> for Fault {
-    ghost use Rattle.braildesk.specs.Fault.{IsOfFile};
+    ghost use Rattle.std.specs.IoError.{error_kind};
+    ghost use Rattle.braildesk.specs.Fault.{IsIoFault};
 
-    ghost from_gives = { λ _ fault. IsOfFile fault };
+    ghost from_gives = { λ error fault. IsIoFault (error_kind error) fault };
 
     fn from(error: IoError) -> Self {
         match error.kind() {

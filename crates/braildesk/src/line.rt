@@ -4,8 +4,10 @@ ghost use Rattle.std.specs.Io.BufRead.{strip_last};
 ghost use Rattle.std.specs.Option.{option_copied, option_map};
 ghost use Rattle.std.specs.Prelude.{IsTrue, Some, [], ◌≡◌, ◌↔◌};
 
-use super::translate::MOST_BYTES;
 use std::marker::Model;
+
+/// The most bytes that a line may have, its ending aside.
+pub const MOST_BYTES: usize = 65_536;
 
 /// One byte more than a line may have, for a carriage return at its end.
 pub const ROOM: usize = MOST_BYTES + 1;

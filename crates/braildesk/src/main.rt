@@ -2,14 +2,12 @@
 #![tactic(auto)]
 
 mod answer;
-mod block;
 mod braille;
-mod ends;
 mod fault;
 mod line;
 mod print;
 mod program;
-mod send;
+mod shelf;
 mod table_file;
 #[cfg(test)]
 mod tests;

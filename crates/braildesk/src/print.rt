@@ -1,11 +1,18 @@
 //! The print of the line that is being answered.
 ghost use Rattle.braildesk.specs.Reply.{most_characters};
-ghost use Rattle.std.specs.Bool.{OnFalse, OnTrue};
-ghost use Rattle.std.specs.Prelude.{[], length, ◌<◌, ◌≡◌, ◌≤◌};
+ghost use Rattle.std.specs.Prelude.{OnErr, OnOk, [], length, ◌<◌, ◌≡◌, ◌≤◌};
 ghost use Rattle.std.specs.Str.{chars};
 
-use super::translate::MOST_CHARACTERS;
 use std::marker::Model;
+use thiserror::Error;
+
+/// The most characters that a line may have.
+pub const MOST_CHARACTERS: usize = 4_000;
+
+/// A text has more than `MOST_CHARACTERS` characters.
+#[derive(Debug, Drop, Error)]
+#[error("more than 4000 characters")]
+pub struct TooManyCharacters;
 
 /// The characters of a line, at most `MOST_CHARACTERS` of them. Contracts see their list.
 #[derive(Drop)]
@@ -16,7 +23,7 @@ pub struct Print {
 
 impl Model for Print {
     ghost use Rattle.std.specs.Prelude.{List, take, ℕ, ◌≤◌};
-    ghost use Rattle.braildesk.specs.declared.translate.TheConstants.{MOST_CHARACTERS};
+    ghost use Rattle.braildesk.specs.declared.print.TheConstants.{MOST_CHARACTERS};
 
     ghost Value = { List ℕ };
 
@@ -44,20 +51,20 @@ impl Print {
     }
 
     /// Takes the characters of a text in place of its own, if they are not too many.
-    pub fn read(&mut self, text: &str) -> bool
-        ensures yes { OnTrue result (self.new ≡ chars text.now) }
-        ensures few { OnTrue result (length (chars text.now) ≤ most_characters) }
-        ensures many { OnFalse result (most_characters < length (chars text.now)) }
+    pub fn read(&mut self, text: &str) -> Result<(), TooManyCharacters>
+        ensures read { OnOk result (self.new ≡ chars text.now) }
+        ensures few { OnOk result (length (chars text.now) ≤ most_characters) }
+        ensures many { OnErr result (most_characters < length (chars text.now)) }
     {
         let mut len = 0;
         for character in text.chars() {
             if len == MOST_CHARACTERS {
-                return false;
+                return Err(TooManyCharacters);
             }
             self.characters[len] = character;
             len += 1;
         }
         self.len = len;
-        true
+        Ok(())
     }
 }

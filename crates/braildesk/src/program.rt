@@ -1,16 +1,21 @@
-//! What the program does with its words and its three ends.
-ghost use Rattle.braildesk.specs.Program.{AsksToTranslate, Translated};
+//! What the program does with its words and its ends.
+ghost use Rattle.braildesk.specs.Fault.{TextAt, fault_line};
+ghost use Rattle.braildesk.specs.Program.{AsksToTranslate, NamesTable, Refused, TableOf, Tells, use_line};
+ghost use Rattle.braildesk.specs.Run.{HonestRun};
+ghost use Rattle.desk_ends.specs.Sent.{Sent};
+ghost use Rattle.louis_table.specs.Meaning.{Meaning};
 ghost use Rattle.louis_table.specs.Table.{Means};
-ghost use Rattle.std.specs.Prelude.{◌≡◌, ◌≢◌, ◌≤◌, ◌⊎◌, ◌∷◌, ℕ, [], List, MatchOption, codes, map};
+ghost use Rattle.std.specs.Prelude.{◌≡◌, ◌≢◌, ◌≤◌, ◌⊎◌, [], MatchOption, is_ok, map};
 
 use super::fault::Fault;
+use super::shelf::Shelf;
 use super::table_file::read_table;
 use super::translate::{Ended, translate_lines};
-use louis_table::Table;
+use desk_ends::{Failed, Sink, Source, send, send_parts};
+use itoa::Buffer;
+use louis_table::{Table, TableFault};
 use louis_translate::PlainRules;
 use std::convert::AsStr;
-use std::io::{Read, Write};
-use std::rt::Files;
 
 /// The exit status where every line is answered.
 pub const DONE: u8 = 0;
@@ -24,45 +29,57 @@ pub const REFUSED: u8 = 2;
 /// The exit status where standard input or standard output failed.
 pub const ENDS_FAILED: u8 = 3;
 
-/// Does what the words behind the program's name ask, over the three given ends, and answers the exit
-/// status.
+/// Does what the words behind the program's name ask, over the given ends, and answers the exit status.
 ///
-/// `translate TABLE` answers each line of the reader on the writer by the table in the file TABLE, or by
+/// `translate TABLE` answers each line of the source on the sink by the table in the file TABLE, or by
 /// the supplied table where TABLE is `@en`: by its definitions, rules and signs. A table that is refused is
 /// told in one line on `errors`, and so is how to use the program where the words are others.
-pub fn program<F: Files + AllocGlobal, S: AsStr, R: Read, W: Write, E: Write>(
+pub fn program<F: Shelf + AllocGlobal, W: AsStr, S: Source, K: Sink, E: Sink>(
     rt: &F,
-    words: &[S],
-    reader: &mut R,
-    writer: &mut W,
+    words: &[W],
+    source: &mut S,
+    sink: &mut K,
     errors: &mut E,
 ) -> u8
     ensures status { result ≤ ENDS_FAILED }
 
     // The words alone decide whether they are the program's.
-    ensures words { result ≡ OTHER_WORDS → ¬ AsksToTranslate (map S.text words.now) }
-    ensures other_words { ¬ AsksToTranslate (map S.text words.now) → result ≡ OTHER_WORDS }
+    ensures words { result ≡ OTHER_WORDS → ¬ AsksToTranslate (map W.text words.now) }
+    ensures other_words { ¬ AsksToTranslate (map W.text words.now) → result ≡ OTHER_WORDS }
+    ensures use_told { result ≡ OTHER_WORDS
+        → Tells E.can_fail (E.contents errors.old) (E.contents errors.new) use_line }
 
-    // Lines are answered by a table that was read, and a failed end is told by the status alone.
-    ensures done { result ≡ DONE → Translated Ended.Done (R.remaining reader.old) (R.remaining reader.new) (W.contents writer.old) (W.contents writer.new) }
-    ensures failed { result ≡ ENDS_FAILED → (ended : Ended) × (ended ≢ Ended.Done) × Translated ended (R.remaining reader.old) (R.remaining reader.new) (W.contents writer.old) (W.contents writer.new) }
+    // Lines are answered by the table that the words name.
+    ensures done { result ≡ DONE → (meaning : Meaning) × TableOf (F.at rt.now) (map W.text words.now) meaning
+        × HonestRun meaning Ended.Done (S.remaining source.old) (S.remaining source.new)
+        (K.contents sink.old) (K.contents sink.new) (K.flushed sink.new) S.can_fail K.can_fail }
+
+    // A failed end is told by the status alone.
+    ensures failed { result ≡ ENDS_FAILED → (meaning : Meaning) × TableOf (F.at rt.now) (map W.text words.now) meaning
+        × ((ended : Ended) × (ended ≢ Ended.Done)
+        × HonestRun meaning ended (S.remaining source.old) (S.remaining source.new)
+        (K.contents sink.old) (K.contents sink.new) (K.flushed sink.new) S.can_fail K.can_fail) }
     ensures silent { (result ≡ DONE) ⊎ (result ≡ ENDS_FAILED) → errors.new ≡ errors.old }
 
-    // A refusal comes before the first line.
-    ensures untouched { (result ≡ OTHER_WORDS) ⊎ (result ≡ REFUSED) → (reader.new ≡ reader.old) × (writer.new ≡ writer.old) }
+    // A table is refused for a fault of its own, and before the first line.
+    ensures refused { result ≡ REFUSED → Refused (F.can_fail ⊎ F.File.can_fail) (F.at rt.now)
+        (map W.text words.now) E.can_fail (E.contents errors.old) (E.contents errors.new) }
+    ensures untouched { (result ≡ OTHER_WORDS) ⊎ (result ≡ REFUSED) → (source.new ≡ source.old) × (sink.new ≡ sink.old) }
 {
     let Some(path) = table_path(words) else {
         return explain_use(errors);
     };
     match read_table(rt, path) {
-        Ok(table) => translate_by(table, reader, writer),
+        Ok(table) => translate_by(table, source, sink),
         Err(fault) => refuse(errors, &fault),
     }
 }
 
 /// The path in the words `translate TABLE`.
-fn table_path<S: AsStr>(words: &[S]) -> Option<&str>
-    ensures { MatchOption result (¬ AsksToTranslate (map S.text words.now)) (λ path. map S.text words.now ≡ codes "translate" ∷ path.now ∷ []) }
+fn table_path<W: AsStr>(words: &[W]) -> Option<&str>
+    ensures { MatchOption result
+        (¬ AsksToTranslate (map W.text words.now))
+        (λ path. NamesTable (map W.text words.now) path.now) }
 {
     let [command, path] = words else {
         return None;
@@ -73,14 +90,17 @@ fn table_path<S: AsStr>(words: &[S]) -> Option<&str>
     Some(path.as_str())
 }
 
-/// Answers each line of the reader by a table that was read, and gives the exit status.
-fn translate_by<R: Read, W: Write>(table: Table, reader: &mut R, writer: &mut W) -> u8
-    requires { (bytes : List ℕ) × Means bytes table }
-    ensures done { result ≡ DONE → Translated Ended.Done (R.remaining reader.old) (R.remaining reader.new) (W.contents writer.old) (W.contents writer.new) }
-    ensures failed { result ≡ ENDS_FAILED → (ended : Ended) × (ended ≢ Ended.Done) × Translated ended (R.remaining reader.old) (R.remaining reader.new) (W.contents writer.old) (W.contents writer.new) }
+/// Answers each line of the source by a table that was read, and gives the exit status.
+fn translate_by<S: Source, K: Sink>(table: Table, source: &mut S, sink: &mut K) -> u8
+    ensures done { result ≡ DONE → HonestRun table Ended.Done
+        (S.remaining source.old) (S.remaining source.new)
+        (K.contents sink.old) (K.contents sink.new) (K.flushed sink.new) S.can_fail K.can_fail }
+    ensures failed { result ≡ ENDS_FAILED → (ended : Ended) × (ended ≢ Ended.Done) × HonestRun table ended
+        (S.remaining source.old) (S.remaining source.new)
+        (K.contents sink.old) (K.contents sink.new) (K.flushed sink.new) S.can_fail K.can_fail }
     ensures either { (result ≡ DONE) ⊎ (result ≡ ENDS_FAILED) }
 {
-    status_of(translate_lines(reader, writer, &PlainRules::new(table)))
+    status_of(translate_lines(source, sink, &PlainRules::new(table)))
 }
 
 /// The exit status of a run over the lines.
@@ -96,19 +116,53 @@ fn status_of(ended: Ended) -> u8
 }
 
 /// Says how to use the program. A failure to say it changes nothing.
-fn explain_use<E: Write>(errors: &mut E) -> u8
-    ensures { result ≡ OTHER_WORDS }
+pub fn explain_use<E: Sink>(errors: &mut E) -> u8
+    ensures status { result ≡ OTHER_WORDS }
+    ensures told { Tells E.can_fail (E.contents errors.old) (E.contents errors.new) use_line }
 {
-    let _ = writeln!(errors, "use: braildesk translate TABLE < PRINT > BRAILLE");
+    let _ = send(
+        errors,
+        b"use: braildesk translate TABLE < PRINT > BRAILLE\n",
+    );
     OTHER_WORDS
 }
 
 /// Tells why nothing is translated. A failure to tell it changes nothing.
-pub fn refuse<E: Write>(errors: &mut E, fault: &Fault) -> u8
-    ensures { result ≡ REFUSED }
+pub fn refuse<E: Sink>(errors: &mut E, fault: &Fault) -> u8
+    ensures status { result ≡ REFUSED }
+    ensures told { Tells E.can_fail (E.contents errors.old) (E.contents errors.new) (fault_line fault.now) }
 {
-    let _ = writeln!(errors, "braildesk: {fault}");
+    let _ = tell(errors, fault);
     REFUSED
+}
+
+/// Sends the line of a fault.
+fn tell<E: Sink>(errors: &mut E, fault: &Fault) -> Result<(), Failed>
+    ensures { Sent E.can_fail (E.contents errors.old) (E.contents errors.new) (fault_line fault.now) [] (is_ok result) }
+{
+    match fault {
+        Fault::Table(fault) => tell_table(errors, *fault),
+        Fault::NoMemory => send(errors, b"braildesk: no 90\n"),
+        Fault::File => send(errors, b"braildesk: no 98\n"),
+    }
+}
+
+/// Sends the line of a bad table, with its own line and cause.
+fn tell_table<E: Sink>(errors: &mut E, fault: TableFault) -> Result<(), Failed>
+    ensures { Sent E.can_fail (E.contents errors.old) (E.contents errors.new) (fault_line (Fault.Table fault)) [] (is_ok result) }
+{
+    let mut line = Buffer::new();
+    let mut cause = Buffer::new();
+    send_parts(
+        errors,
+        &[
+            b"braildesk: no 8 ",
+            line.format(fault.line).as_bytes(),
+            b" ",
+            cause.format(fault.cause).as_bytes(),
+            b"\n",
+        ],
+    )
 }
 
 #[cfg(test)]

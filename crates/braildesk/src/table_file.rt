@@ -1,25 +1,29 @@
 //! Tables in files, and the supplied one.
-ghost use Rattle.braildesk.specs.Fault.{IsFaultOf, IsOfFile};
+ghost use Rattle.braildesk.specs.Fault.{FaultAt, IsFaultOf, IsOfFile, TextAt};
+ghost use Rattle.braildesk.specs.Shelf.{IsRead, left_in};
 ghost use Rattle.louis_table.specs.Table.{Means};
-ghost use Rattle.std.specs.Prelude.{◌≤◌, ℕ, IfErr, IfOk, List, MatchResult, vec_len};
+ghost use Rattle.std.specs.Prelude.{◌⊎◌, ℕ, List, MatchResult};
 
 use super::fault::Fault;
+use super::shelf::Shelf;
+use desk_ends::Source;
 use louis_table::{EN, ReadFault, Table};
 use std::alloc::Global;
-use std::fs::File;
-use std::io::Read;
-use std::rt::Files;
 
 /// The most bytes that a table file may have. No table has as many.
-pub const MOST_FILE_BYTES: u64 = 1 << 27;
+pub const MOST_FILE_BYTES: usize = 1 << 27;
+
+/// How many bytes are read at a time.
+const CHUNK_BYTES: usize = 1 << 16;
 
 /// What is written in place of a path for the supplied table. A file of this name is reached as `./@en`.
 pub const SUPPLIED: &str = "@en";
 
 /// Reads the supplied table, or the table in the file at this path.
-pub fn read_table<F: Files + AllocGlobal>(rt: &F, path: &str) -> Result<Table, Fault>
-    ensures table { IfOk result (λ table. (bytes : List ℕ) × Means bytes table) }
-    ensures fault { IfErr result (λ fault. (bytes : List ℕ) × IsFaultOf bytes fault) }
+pub fn read_table<F: Shelf + AllocGlobal>(rt: &F, path: &str) -> Result<Table, Fault>
+    ensures { MatchResult result
+        (λ table. (text : List ℕ) × TextAt (F.at rt.now) path.now text × Means text table)
+        (FaultAt (F.can_fail ⊎ F.File.can_fail) (F.at rt.now) path.now) }
 {
     if path == SUPPLIED {
         return read_text(rt.alloc(), EN.as_bytes());
@@ -42,15 +46,33 @@ fn read_text(alloc: Global, text: &[u8]) -> Result<Table, Fault>
 }
 
 /// The bytes of the file at this path, if they are not too many.
-fn read_file<F: Files + AllocGlobal>(rt: &F, path: &str) -> Result<Vec<u8>, Fault>
-    ensures size { IfOk result (λ bytes. vec_len bytes ≤ MOST_FILE_BYTES) }
-    ensures fault { IfErr result IsOfFile }
+fn read_file<F: Shelf + AllocGlobal>(rt: &F, path: &str) -> Result<Vec<u8>, Fault>
+    ensures { MatchResult result
+        (λ bytes. IsRead (F.at rt.now path.now) bytes.items)
+        (IsOfFile (F.can_fail ⊎ F.File.can_fail) (F.at rt.now path.now)) }
 {
-    let file = File::open(rt, path)?;
-    let mut bytes = Vec::new(rt.alloc());
-    file.take(MOST_FILE_BYTES + 1).read_to_end(&mut bytes)?;
-    if bytes.len() as u64 > MOST_FILE_BYTES {
-        return Err(Fault::File);
+    let mut file = rt.open(path)?;
+    read_all(rt.alloc(), &mut file)
+}
+
+/// The bytes of a source, if they are not too many.
+fn read_all<S: Source>(alloc: Global, source: &mut S) -> Result<Vec<u8>, Fault>
+    ensures { MatchResult result
+        (λ bytes. IsRead (left_in (S.remaining source.old)) bytes.items)
+        (IsOfFile S.can_fail (left_in (S.remaining source.old))) }
+{
+    let mut bytes = Vec::new(alloc);
+    let mut chunk = [0u8; CHUNK_BYTES];
+    while bytes.len() <= MOST_FILE_BYTES {
+        let Ok(count) = source.pull(&mut chunk) else {
+            return Err(Fault::File);
+        };
+        if count == 0 {
+            return Ok(bytes);
+        }
+        if bytes.extend_from_slice(&chunk[..count]).is_err() {
+            return Err(Fault::NoMemory);
+        }
     }
-    Ok(bytes)
+    Err(Fault::File)
 }

@@ -4,8 +4,10 @@
 //! the proof of a function that has both takes minutes.
 ghost use Rattle.std.specs.Prelude.{Some};
 
-use super::ends::{Memory, Sink, Source};
-use super::translate::{Ended, MOST_BYTES, MOST_CHARACTERS, run};
+use super::line::MOST_BYTES;
+use super::print::MOST_CHARACTERS;
+use super::translate::{Ended, translate_lines};
+use desk_ends::{Memory, Sink, Source};
 use louis_table::{EN, Table};
 use louis_translate::PlainRules;
 use std::alloc::{AllocError, Global};
@@ -66,7 +68,7 @@ const INPUT: &[u8] = b"a\nb\naaa";
 /// What is written of that input.
 const OUTPUT: &str = "⠁\nno 7 0\n⠁⠁⠁\n";
 
-/// How many reads of that input don't fail, what is written then, and how the run ends.
+/// How many reads of that input don't fail, what is flushed then, and how the run ends.
 const CUTS: &[(usize, &str, Ended)] = &[
     (0, "", Ended::Input),
     (1, "⠁\n", Ended::Input),
@@ -76,7 +78,18 @@ const CUTS: &[(usize, &str, Ended)] = &[
     (5, OUTPUT, Ended::Done),
 ];
 
-/// Gives its bytes two at a time, and fails after so many reads.
+/// How many flushes of what is written don't fail, and what they pass on. There is one before the first
+/// read, one after each, and one at the end.
+const FLUSHES: &[(usize, &str)] = &[
+    (0, ""),
+    (1, ""),
+    (2, "⠁\n"),
+    (3, "⠁\nno 7 0\n"),
+    (4, "⠁\nno 7 0\n"),
+    (5, "⠁\nno 7 0\n"),
+];
+
+/// Gives its bytes two at a time, fails once after so many reads, and then goes on.
 #[derive(Drop)]
 struct Cut<'a> {
     bytes: &'a [u8],
@@ -88,6 +101,7 @@ impl<'a> Read for Cut<'a> {
 
     fn read(&mut self, buf: &mut [u8]) -> io::Result<usize> {
         if self.reads_left == 0 {
+            self.reads_left = usize::MAX;
             return Err(Error::from(ErrorKind::Interrupted));
         }
         self.reads_left -= 1;
@@ -96,7 +110,7 @@ impl<'a> Read for Cut<'a> {
     }
 }
 
-/// Takes so many bytes, at most `step` at a time, and then fails.
+/// Takes so many bytes, at most `step` at a time, fails once, and then goes on.
 #[derive(Drop)]
 struct Full {
     taken: Vec<u8>,
@@ -109,6 +123,7 @@ impl Write for Full {
 
     fn write(&mut self, buf: &[u8]) -> io::Result<usize> {
         if self.room == 0 {
+            self.room = usize::MAX;
             return Err(Error::from(ErrorKind::Interrupted));
         }
         let few = buf.len().min(self.room).min(self.step);
@@ -122,12 +137,37 @@ impl Write for Full {
     }
 }
 
+/// Holds its bytes until it is flushed. After so many flushes one fails, and then they go on.
+#[derive(Drop)]
+struct Held {
+    passed: Vec<u8>,
+    held: Vec<u8>,
+    flushes_left: usize,
+}
+
+impl Write for Held {
+    fn write(&mut self, buf: &[u8]) -> io::Result<usize> {
+        self.held.write(buf)
+    }
+
+    fn flush(&mut self) -> io::Result<()> {
+        if self.flushes_left == 0 {
+            self.flushes_left = usize::MAX;
+            return Err(Error::from(ErrorKind::Interrupted));
+        }
+        self.flushes_left -= 1;
+        self.passed.write_all(self.held.as_slice())?;
+        self.held.clear();
+        Ok(())
+    }
+}
+
 /// How a run by a table text ended, and what was written: no ending where the table was not read.
 type Outcome = (Option<Ended>, Vec<u8>);
 
 /// How a run by a table ended.
 fn ended_by<S: Source, K: Sink>(table: Table, source: &mut S, sink: &mut K) -> Ended {
-    run(source, sink, &PlainRules::new(table))
+    translate_lines(source, sink, &PlainRules::new(table))
 }
 
 /// How a run by a table text ended.
@@ -156,15 +196,19 @@ fn long_input(alloc: Global, count: usize, ending: &str) -> Result<Vec<u8>, Allo
     Ok(input)
 }
 
-/// The outcome of a run of which so many reads don't fail.
-fn outcome_of_cut(alloc: Global, reads_left: usize) -> Outcome {
+/// The outcome of a run of which so many reads and so many flushes don't fail: what of it was flushed.
+fn outcome_of_cut(alloc: Global, reads_left: usize, flushes_left: usize) -> Outcome {
     let mut reader = Cut {
         bytes: INPUT,
         reads_left,
     };
-    let mut written = Vec::new(alloc);
-    let ended = ended(alloc, LETTER, &mut reader, &mut written);
-    (ended, written)
+    let mut writer = Held {
+        passed: Vec::new(alloc),
+        held: Vec::new(alloc),
+        flushes_left,
+    };
+    let ended = ended(alloc, LETTER, &mut reader, &mut writer);
+    (ended, writer.passed)
 }
 
 /// The outcome of a run that can write so many bytes, in steps.
@@ -219,8 +263,16 @@ fn keeps_the_limits(rt: HostRuntime) -> Result<(), Fail> {
 #[test]
 fn ends_where_a_read_fails(rt: HostRuntime) {
     for (reads, wanted, ended) in CUTS {
-        let outcome = outcome_of_cut(rt.alloc(), *reads);
+        let outcome = outcome_of_cut(rt.alloc(), *reads, usize::MAX);
         assert_outcome(&rt, &outcome, *ended, wanted.as_bytes());
+    }
+}
+
+#[test]
+fn ends_where_a_flush_fails(rt: HostRuntime) {
+    for (flushes, wanted) in FLUSHES {
+        let outcome = outcome_of_cut(rt.alloc(), usize::MAX, *flushes);
+        assert_outcome(&rt, &outcome, Ended::Output, wanted.as_bytes());
     }
 }
 

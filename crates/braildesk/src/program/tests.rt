@@ -28,6 +28,7 @@ const BY_A_FILE: &[Row] = &[
         "",
         "braildesk: no 8 2 2\n",
     ),
+    (b"# x\nfoo\n", b"a\n", REFUSED, "", "braildesk: no 8 2 1\n"),
 ];
 
 /// Words that are not the program's.
@@ -59,6 +60,20 @@ impl Write for Broken {
 
     fn flush(&mut self) -> io::Result<()> {
         Err(Error::from(ErrorKind::Other))
+    }
+}
+
+/// Takes all bytes, and fails to flush them.
+#[derive(Drop)]
+struct Unflushed;
+
+impl Write for Unflushed {
+    fn write(&mut self, buf: &[u8]) -> io::Result<usize> {
+        Ok(buf.len())
+    }
+
+    fn flush(&mut self) -> io::Result<()> {
+        Err(Error::from(ErrorKind::StorageFull))
     }
 }
 
@@ -162,6 +177,8 @@ fn says_nothing_of_failed_ends(rt: HostRuntime) {
     assert_silent(&rt, &ended(&rt, &words, &mut Broken, &mut output));
     let mut input: &[u8] = b"a\n";
     assert_silent(&rt, &ended(&rt, &words, &mut input, &mut Broken));
+    let mut again: &[u8] = b"a\n";
+    assert_silent(&rt, &ended(&rt, &words, &mut again, &mut Unflushed));
 }
 
 #[test]

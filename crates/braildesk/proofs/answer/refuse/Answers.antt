@@ -1,4 +1,4 @@
-use Rattle.braildesk.proofs.Numerals.{decimal-1, decimal-14}
+use Rattle.desk_ends.proofs.Numerals.{decimal-1, decimal-14}
 use Rattle.braildesk.proofs.answer.refuse.Goals as goal
 
 pub returns-in-NoText : goal.returns-in-NoText

@@ -2,7 +2,7 @@ use Rattle.std.proofs.Common.{◌≡◌, ◌++◌, List}
 use Rattle.louis_translate.specs.declared.choices.Choice.{Choice}
 use Rattle.louis_translate.specs.Braille.{braille}
 use Rattle.louis_translate.specs.Tiling.{Tiles}
-use Rattle.braildesk.specs.Reply.{text_of}
+use Rattle.desk_ends.specs.Cells.{text_of}
 use Rattle.braildesk.proofs.Putting.{Putting}
 use Rattle.braildesk.proofs.braille.put_print.Given as goal
 

@@ -1,6 +1,6 @@
 use Rattle.std.proofs.Common.{[], ◌∷◌, is_ok, refl, ap}
 use Rattle.std.proofs.lemmas.Result.{err_from_is_err_and}
-use Rattle.braildesk.proofs.Sending.{Sending-fails, Sending-last, Sending-more, Sending-none}
+use Rattle.desk_ends.proofs.Sending.{Sending-fails, Sending-last, Sending-more, Sending-none}
 use Rattle.braildesk.proofs.braille.send_braille.Goals as goal
 
 pub returns-in_err-put_print : goal.returns-in_err-put_print

@@ -11,7 +11,7 @@ map_two f (x ∷ y ∷ z ∷ xs) a b low high p q = absurd (omega arith)
 
 pub returns : goal.returns
 returns g c =
-    let words = map_two g.S.AsStr.text c.args.words.now _ _ c.in-len2.len_at_least c.in-len2.len_below c.command-item.is c.path-item.is in
+    let words = map_two g.W.AsStr.text c.args.words.now _ _ c.in-len2.len_at_least c.in-len2.len_below c.command-item.is c.path-item.is in
     let same = (bytes_eq-Decides c.as_str.result.now (codes "translate")).0 (not-false _ (sym c.ne.ensures ∙ c.if-ne.false)) in
-    words ∙ (ap (λ (w : List ℕ). w ∷ g.S.AsStr.text c.path-item.result ∷ []) (sym c.as_str.ensures ∙ same)
+    words ∙ (ap (λ (w : List ℕ). w ∷ g.W.AsStr.text c.path-item.result ∷ []) (sym c.as_str.ensures ∙ same)
     ∙ ap (λ (p : List ℕ). codes "translate" ∷ p ∷ []) (sym c.as_str-2.ensures))

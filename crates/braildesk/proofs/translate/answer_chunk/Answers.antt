@@ -3,7 +3,7 @@ use Rattle.std.proofs.Math.ListN.{drop_of_length-le}
 use Rattle.std.proofs.lemmas.Bool.{ne_eqb}
 use Rattle.std.proofs.lemmas.Result.{err_from_is_err_and}
 use Rattle.braildesk.specs.Machine.{after, sent}
-use Rattle.braildesk.proofs.Sending.{Sending-end, Sending-fails, Sending-more, Sending-none, Sending-same, Sent-flushed, on_ok}
+use Rattle.desk_ends.proofs.Sending.{Sending-end, Sending-fails, Sending-more, Sending-none, Sending-same, Sent-flushed, on_ok}
 use Rattle.braildesk.proofs.Stepping.{after-byte, after-feed, sent-byte, sent-feed}
 use Rattle.braildesk.proofs.translate.answer_chunk.Goals as goal
 use Rattle.braildesk.proofs.translate.answer_chunk.Goals.{then-byte-eq10+in_ok-answer, else-byte-eq10}
@@ -13,6 +13,11 @@ loop-byte-init g c = record { line_is = refl; sending = λ answers right. Sendin
 
 pub returns-in_err-answer-clause-line : goal.returns-in_err-answer-clause-line
 returns-in_err-answer-clause-line g c =
+    let p = err_from_is_err_and c.from_residual.result c.from_residual.ensures.1 in
+    rw p.1 tt
+
+pub returns-in_err-answer-clause-flushed : goal.returns-in_err-answer-clause-flushed
+returns-in_err-answer-clause-flushed g c =
     let p = err_from_is_err_and c.from_residual.result c.from_residual.ensures.1 in
     rw p.1 tt
 

@@ -1,6 +1,6 @@
 use Rattle.std.proofs.Common.{◌≡◌, ℕ, List, [], drop}
 use Rattle.braildesk.specs.Machine.{AnswersLines, after, sent}
-use Rattle.braildesk.proofs.Sending.{Sending}
+use Rattle.desk_ends.proofs.Sending.{Sending}
 use Rattle.braildesk.proofs.translate.answer_chunk.Given as goal
 
 abbrev pub invariant-loop-byte : goal.invariant-loop-byte

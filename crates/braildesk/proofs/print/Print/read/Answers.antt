@@ -32,8 +32,8 @@ loop-character-preserved c =
           ∙ (ap (λ (t : List ℕ). c.loop-character.yielded ++ t) (sym (chars_past_char _ _ x inv.is_text step.0)) ∙ inv.others);
     }
 
-pub returns-clause-yes : goal.returns-clause-yes
-returns-clause-yes c =
+pub returns-clause-read : goal.returns-clause-read
+returns-clause-read c =
     let inv = c.loop-character.invariant in
     let empty : chars_rest c.loop-character.character-iterator ≡ [] = nil_from_length _ c.in-None.ensures.steps.0.0 in
     inv.front ∙ (sym (append-nil c.loop-character.yielded) ∙ (ap (λ (t : List ℕ). c.loop-character.yielded ++ t) (sym (ap chars empty ∙ chars-nil)) ∙ inv.others))

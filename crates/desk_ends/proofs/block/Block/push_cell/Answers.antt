@@ -1,7 +1,7 @@
 use Rattle.std.proofs.Common.{◌≡◌, ◌+◌, ◌/◌, ◌%◌, ◌<◌, ◌≤◌, ◌++◌, ◌∷◌, [], List, ℕ, length, set, take, ap, ◌∙◌, append_assoc, arith}
 use Rattle.std.proofs.lemmas.List.{length-set, length-take, take_more_set}
-use Rattle.braildesk.proofs.Encoding.{encode-braille_character}
-use Rattle.braildesk.proofs.block.Block.push_cell.Goals as goal
+use Rattle.desk_ends.proofs.Encoding.{encode-braille_character}
+use Rattle.desk_ends.proofs.block.Block.push_cell.Goals as goal
 
 -- three elements behind the first n
 take_three_set : (xs : List ℕ) (n a b c : ℕ) → n + 3 ≤ length xs → take (n + 3) (set (set (set xs n a) (n + 1) b) (n + 2) c) ≡ take n xs ++ (a ∷ b ∷ c ∷ [])

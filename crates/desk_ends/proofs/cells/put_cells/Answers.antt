@@ -4,9 +4,9 @@ use Rattle.std.proofs.lemmas.Result.{err_from_is_err_and}
 use Rattle.std.proofs.Math.ListN.{drop_of_length-le}
 use Rattle.std.specs.Char.{encode_utf8}
 use Rattle.cell_core.specs.Cell.{braille_character}
-use Rattle.braildesk.specs.Reply.{text_of}
-use Rattle.braildesk.proofs.Sending.{Sending-done, Sending-fails, Sending-more, Sent-push}
-use Rattle.braildesk.proofs.braille.put_cells.Goals as goal
+use Rattle.desk_ends.specs.Cells.{text_of}
+use Rattle.desk_ends.proofs.Sending.{Sending-done, Sending-fails, Sending-more, Sent-push}
+use Rattle.desk_ends.proofs.cells.put_cells.Goals as goal
 
 pub returns-in_err-make_room : goal.returns-in_err-make_room
 returns-in_err-make_room g c =

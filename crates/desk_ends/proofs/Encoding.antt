@@ -6,7 +6,7 @@ use Rattle.std.specs.Str.{encode_utf8_all}
 use Rattle.std.proofs.lemmas.Bool.{lt-ltb, le-ltb}
 use Rattle.std.proofs.lemmas.List.{map-append}
 use Rattle.std.proofs.lemmas.Str.{encodes-append}
-use Rattle.braildesk.specs.Reply.{text_of}
+use Rattle.desk_ends.specs.Cells.{text_of}
 use Rattle.cell_core.specs.Cell.{braille_character}
 
 pub encode-braille_character : (mask : ℕ) → mask < 256 → encode_utf8 (braille_character mask) ≡ 226 ∷ (160 + mask / 64) ∷ (128 + mask % 64) ∷ []

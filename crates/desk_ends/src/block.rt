@@ -20,7 +20,7 @@ pub struct Block {
 
 impl Model for Block {
     ghost use Rattle.std.specs.Prelude.{List, take, ℕ, ◌≤◌};
-    ghost use Rattle.braildesk.specs.declared.block.TheConstants.{BLOCK_BYTES};
+    ghost use Rattle.desk_ends.specs.declared.block.TheConstants.{BLOCK_BYTES};
 
     ghost Value = { List ℕ };
 

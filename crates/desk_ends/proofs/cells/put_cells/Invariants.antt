@@ -1,7 +1,7 @@
 use Rattle.std.proofs.Common.{◌++◌, drop}
-use Rattle.braildesk.specs.Reply.{text_of}
-use Rattle.braildesk.proofs.Sending.{Sending}
-use Rattle.braildesk.proofs.braille.put_cells.Given as goal
+use Rattle.desk_ends.specs.Cells.{text_of}
+use Rattle.desk_ends.proofs.Sending.{Sending}
+use Rattle.desk_ends.proofs.cells.put_cells.Given as goal
 
 abbrev pub invariant-loop-cell : goal.invariant-loop-cell
 invariant-loop-cell g l =

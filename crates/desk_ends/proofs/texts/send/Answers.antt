@@ -1,7 +1,7 @@
 use Rattle.std.proofs.Common.{[], true, take, drop, sym, refl, take-append-drop}
 use Rattle.std.proofs.lemmas.List.{take_rest}
-use Rattle.braildesk.proofs.Sending.{Sending-more, Sent-whole}
-use Rattle.braildesk.proofs.send.send.Goals as goal
+use Rattle.desk_ends.proofs.Sending.{Sending-more, Sent-whole}
+use Rattle.desk_ends.proofs.texts.send.Goals as goal
 
 pub loop-rest-preserved : goal.loop-rest-preserved
 loop-rest-preserved g c =

@@ -1,7 +1,7 @@
 use Rattle.std.proofs.Common.{[], ◌∷◌, is_ok, refl, ap, ◌∙◌}
 use Rattle.std.proofs.lemmas.Result.{err_from_is_err_and}
-use Rattle.braildesk.proofs.Sending.{Sending-end, Sending-fails, Sending-more, Sending-none, Sent-push}
-use Rattle.braildesk.proofs.braille.send_block.Goals as goal
+use Rattle.desk_ends.proofs.Sending.{Sending-end, Sending-fails, Sending-more, Sending-none, Sent-push}
+use Rattle.desk_ends.proofs.cells.send_block.Goals as goal
 
 pub returns-in_err-make_room : goal.returns-in_err-make_room
 returns-in_err-make_room g c =

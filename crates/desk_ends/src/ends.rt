@@ -1,10 +1,12 @@
-//! The two ends of a run: where its bytes come from, and where they go.
+//! The ends of a run: where its bytes come from, and where they go.
 //!
-//! std's `Read` and `Write` don't say when they fail. The traits here do, so that a contract can say
-//! that a run ended early only because an end could fail.
+//! std's `Read` and `Write` don't say when they fail, nor what a flush passes on. The traits here do, so
+//! that a contract can say that a run ended early only because an end could fail, and with all it wrote
+//! flushed.
+ghost use Rattle.desk_ends.specs.Ends.{IsFlushed};
 ghost use Rattle.std.specs.Io.{ReadsAtMost, WritesAtMost};
 ghost use Rattle.std.specs.Io.KnownBytes.{Keeps, ReadConsumes, WriteAppends};
-ghost use Rattle.std.specs.Prelude.{IfOk, List, OnErr, Option, length, ℕ, ◌<◌};
+ghost use Rattle.std.specs.Prelude.{IfOk, List, OnErr, OnOk, Option, length, ℕ, ◌<◌};
 
 use std::io::{Read, Write};
 use thiserror::Error;
@@ -34,6 +36,9 @@ pub trait Sink {
     // The bytes that went in, where they are known.
     ghost contents: { Self → Option (List ℕ) };
 
+    // What of it was passed on by flushes, where that is known.
+    ghost flushed: { Self → Option (List ℕ) };
+
     // Whether a write or a flush can fail.
     ghost can_fail: { Type 0 };
 
@@ -48,6 +53,7 @@ pub trait Sink {
     /// Passes on what is held back.
     fn flush(&mut self) -> Result<(), Failed>
         ensures bytes { Keeps (contents self.old) (contents self.new) }
+        ensures all { OnOk result (IsFlushed (contents self.new) (flushed self.new)) }
         ensures fails { OnErr result can_fail };
 }
 
@@ -64,11 +70,14 @@ impl<R: Read> Source for R {
     }
 }
 
-// Any writer is a sink. Its writes can fail, and one that takes no byte has failed.
+// Any writer is a sink. Its writes can fail, and one that takes no byte has failed. It doesn't tell what
+// its flushes pass on.
 impl<W: Write> Sink for W {
-    ghost use Rattle.std.specs.Prelude.{⊤};
+    ghost use Rattle.std.specs.Prelude.{None, ⊤};
 
     ghost contents = { λ s. W.contents s };
+
+    ghost flushed = { λ _. None };
 
     ghost can_fail = { ⊤ };
 

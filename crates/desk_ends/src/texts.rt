@@ -1,5 +1,6 @@
 //! Sends texts to a sink without memory, and without a second try.
-ghost use Rattle.braildesk.specs.Sent.{Sent};
+ghost use Rattle.desk_ends.specs.Sent.{Sent};
+ghost use Rattle.std.specs.List.{flat_map};
 ghost use Rattle.std.specs.Prelude.{[], is_ok};
 
 use super::ends::{Failed, Sink};
@@ -12,6 +13,16 @@ pub fn send<K: Sink>(sink: &mut K, text: &[u8]) -> Result<(), Failed>
     while !rest.is_empty() {
         let count = sink.put(rest)?;
         rest = &rest[count..];
+    }
+    Ok(())
+}
+
+/// Writes the texts one after another, or a beginning of them.
+pub fn send_parts<K: Sink>(sink: &mut K, parts: &[&[u8]]) -> Result<(), Failed>
+    ensures { Sent K.can_fail (K.contents sink.old) (K.contents sink.new) (flat_map (λ part. part.now) parts.now) [] (is_ok result) }
+{
+    for part in parts {
+        send(sink, part)?;
     }
     Ok(())
 }

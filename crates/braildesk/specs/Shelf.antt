@@ -1,0 +1,29 @@
+-- What stands at a path, as far as that is known.
+use Rattle.std.specs.Prelude.{◌≡◌, ℕ, ◌≤◌, List, length, Option, Some, None}
+
+-- the bytes that a table file may have
+abbrev pub most_file_bytes : ℕ
+most_file_bytes = 134217728
+
+-- nothing is known, no file, or a file with these bytes
+pub data Shelved : Type 0 where
+  unknown : Shelved
+  missing : Shelved
+  holds : List ℕ → Shelved
+
+-- what is left in a file that was opened
+abbrev pub Opens : Shelved → Option (List ℕ) → Type 0
+Opens unknown left = Unit {0}
+Opens missing left = ⊥
+Opens (holds bytes) left = left ≡ Some bytes
+
+-- what was read as a whole file is all of it, and not too much
+abbrev pub IsRead : Shelved → List ℕ → Type 0
+IsRead unknown text = length text ≤ most_file_bytes
+IsRead missing text = ⊥
+IsRead (holds bytes) text = (text ≡ bytes) × (length bytes ≤ most_file_bytes)
+
+-- what is left in a source, as a file of its own
+abbrev pub left_in : Option (List ℕ) → Shelved
+left_in None = unknown
+left_in (Some bytes) = holds bytes

@@ -1,0 +1,23 @@
+use Rattle.std.proofs.Common.{true, is_ok, refl, ap, [], drop}
+use Rattle.std.specs.List.{flat_map}
+use Rattle.std.proofs.lemmas.List.{drop_more}
+use Rattle.std.proofs.lemmas.Result.{err_from_is_err_and}
+use Rattle.std.proofs.Math.ListN.{drop_of_length-le}
+use Rattle.desk_ends.proofs.Sending.{Sending-done, Sending-fails, Sending-more}
+use Rattle.desk_ends.proofs.texts.send_parts.Goals as goal
+
+pub returns-in_err-send : goal.returns-in_err-send
+returns-in_err-send g c =
+    let p = err_from_is_err_and c.from_residual.result c.from_residual.ensures.1 in
+    let parts = ap (flat_map (λ part. part.now)) (drop_more c.args.parts.now c.loop-part.part-index _ c.loop-part-test.true) in
+    Sending-fails g.K.Sink.can_fail _ _ _ [] [] _ _ _ c.loop-part.invariant _ _ parts c.send.ensures _ _ (ap is_ok c.in_err-send.was) (ap is_ok p.1)
+
+pub loop-part-preserved : goal.loop-part-preserved
+loop-part-preserved g c =
+    let parts = ap (flat_map (λ part. part.now)) (drop_more c.args.parts.now c.loop-part.part-index _ c.loop-part-test.true) in
+    Sending-more g.K.Sink.can_fail _ _ _ [] [] _ _ _ c.loop-part.invariant _ _ parts c.send.ensures (ap is_ok c.in_ok-send.was)
+
+pub returns : goal.returns
+returns g c =
+    Sending-done g.K.Sink.can_fail _ _ [] _ true
+    (rw (drop_of_length-le c.args.parts.now c.loop-part-test.false) at c.loop-part.invariant) refl

@@ -1,0 +1,43 @@
+//! Cells as text, sent in blocks.
+ghost use Rattle.desk_ends.specs.Cells.{text_of};
+ghost use Rattle.desk_ends.specs.Sent.{Sent};
+ghost use Rattle.std.specs.Prelude.{OnOk, [], is_ok, length, ◌+◌, ◌++◌, ◌≤◌, ◌∷◌};
+
+use super::block::{BLOCK_BYTES, Block, CELL_BYTES};
+use super::ends::{Failed, Sink};
+use super::texts::send;
+use cell_core::Cell;
+
+/// Sends the block and a line feed.
+pub fn send_block<K: Sink>(sink: &mut K, block: &mut Block) -> Result<(), Failed>
+    ensures { Sent K.can_fail (K.contents sink.old) (K.contents sink.new) (block.old ++ 10 ∷ []) [] (is_ok result) }
+{
+    make_room(sink, block)?;
+    block.push(b'\n');
+    send(sink, block.as_slice())
+}
+
+/// Puts the cells, as characters, behind the block, and sends it whenever it is full.
+#[inline(always)]
+pub fn put_cells<K: Sink>(sink: &mut K, block: &mut Block, cells: &[Cell]) -> Result<(), Failed>
+    ensures { Sent K.can_fail (K.contents sink.old) (K.contents sink.new) (block.old ++ text_of cells.now) block.new (is_ok result) }
+{
+    for cell in cells {
+        make_room(sink, block)?;
+        block.push_cell(*cell);
+    }
+    Ok(())
+}
+
+/// Sends the block if it has no room for one more cell.
+#[inline(always)]
+fn make_room<K: Sink>(sink: &mut K, block: &mut Block) -> Result<(), Failed>
+    ensures sent { Sent K.can_fail (K.contents sink.old) (K.contents sink.new) block.old block.new (is_ok result) }
+    ensures room { OnOk result (length block.new + CELL_BYTES ≤ BLOCK_BYTES) }
+{
+    if !block.has_room() {
+        send(sink, block.as_slice())?;
+        block.clear();
+    }
+    Ok(())
+}

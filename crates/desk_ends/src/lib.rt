@@ -1,0 +1,26 @@
+//! Where bytes come from and where they go, by ends that tell: what is left to read, what was written, what
+//! of it is flushed, and whether they can fail.
+//!
+//! ```rust
+//! use desk_ends::{Sink, send_parts};
+//!
+//! send_parts(sink, &[b"no 7 ", place, b"\n"])?;
+//! sink.flush()?;
+//! ```
+//!
+//! Every reader of std is a `Source` and every writer a `Sink`. What lines mean is left to the crates above.
+#![tactic(auto)]
+
+mod block;
+mod cells;
+mod ends;
+mod texts;
+
+pub use block::Block;
+pub use cells::{put_cells, send_block};
+pub use ends::{Failed, Memory, Sink, Source};
+pub use texts::{send, send_parts};
+
+
+#[cfg(test)]
+mod tests;
