@@ -1,5 +1,6 @@
 -- What the program does with its words and its ends.
-use Rattle.std.specs.Prelude.{◌≡◌, ℕ, List, [], ◌∷◌, ◌++◌, Bool, Option, codes}
+use Rattle.std.specs.Prelude.{◌≡◌, ℕ, List, [], ◌∷◌, ◌++◌, Bool, Option, codes, map}
+use Rattle.std.specs.Borrow.{Bor}
 use Rattle.desk_ends.specs.Sent.{Sent}
 use Rattle.louis_table.specs.Meaning.{Meaning}
 use Rattle.louis_table.specs.Table.{Means}
@@ -8,6 +9,10 @@ use Rattle.braildesk.specs.Fault.{TextAt, FaultAt, fault_line}
 use Rattle.braildesk.specs.Shelf.{Shelved}
 
 -- ---- the words
+
+-- the bytes of each word
+abbrev pub texts_of : List (Bor (List ℕ)) → List (List ℕ)
+texts_of words = map (λ word. word.now) words
 
 -- the words are `translate` and this path
 abbrev pub NamesTable : List (List ℕ) → List ℕ → Type 0

@@ -1,5 +1,6 @@
 //! Why the program ends before its first line.
 use louis_table::TableFault;
+use std::alloc::AllocError;
 use std::io::{Error as IoError, ErrorKind};
 use thiserror::Error;
 
@@ -29,5 +30,16 @@ impl From<IoError> for Fault {
             ErrorKind::OutOfMemory => Fault::NoMemory,
             _ => Fault::File,
         }
+    }
+}
+
+impl From<AllocError> for Fault {
+    ghost use Rattle.braildesk.specs.declared.fault.Fault.TheVariants.{NoMemory};
+    ghost use Rattle.std.specs.Prelude.{◌≡◌};
+
+    ghost from_gives = { λ _ fault. fault ≡ NoMemory };
+
+    fn from(_error: AllocError) -> Self {
+        Fault::NoMemory
     }
 }

@@ -15,25 +15,56 @@ mod translate;
 
 use fault::Fault;
 use program::{program as run_program, refuse};
-use std::env;
-use std::io::{self, BufWriter, Write};
+use std::alloc::AllocError;
+use std::env::FillError;
+use std::io::{BufWriter, Write};
 use std::process::ExitCode;
+use std::rt::Env;
 
 /// The size of the buffer in front of standard output, in bytes.
 const OUTPUT_BYTES: usize = 1 << 16;
 
+/// The most bytes of a word of the command line. The system gives no longer ones.
+const MOST_WORD_BYTES: usize = 1 << 17;
+
+/// The words behind the program's name.
+fn read_words(rt: &HostRuntime) -> Result<Vec<Vec<u8>>, Fault> {
+    let mut buffer = vec![in rt.alloc(); 0u8; MOST_WORD_BYTES]?;
+    let mut words = Vec::new(rt.alloc());
+    for i in 1..usize::MAX {
+        match rt.arg(i, buffer.as_mut_slice()) {
+            Ok(len) => add_copy(rt, &mut words, &buffer.as_slice()[..len])?,
+            Err(FillError::NotPresent) => break,
+            Err(FillError::TooLong) => return Err(Fault::NoMemory),
+        }
+    }
+    Ok(words)
+}
+
+/// Adds a word, in memory of its own.
+fn add_copy(rt: &HostRuntime, words: &mut Vec<Vec<u8>>, word: &[u8]) -> Result<(), AllocError> {
+    let mut copy = Vec::new(rt.alloc());
+    copy.extend_from_slice(word)?;
+    words.push(copy)?;
+    Ok(())
+}
+
 /// Runs the program over the words of the command line and the standard ends.
-fn start<E: Write>(rt: &HostRuntime, errors: &mut E) -> io::Result<u8> {
-    let words: Vec<String> = env::args(rt)?.skip(1).collect(rt.alloc())?;
+fn start<E: Write>(rt: &HostRuntime, errors: &mut E) -> Result<u8, Fault> {
+    let words = read_words(rt)?;
+    let texts: Vec<&[u8]> = words
+        .iter()
+        .map(|word| word.as_slice())
+        .collect(rt.alloc())?;
     let mut writer = BufWriter::with_capacity(rt.alloc(), OUTPUT_BYTES, rt.stdout())?;
-    Ok(run_program(rt, words.as_slice(), &mut rt.stdin(), &mut writer, errors))
+    Ok(run_program(rt, texts.as_slice(), &mut rt.stdin(), &mut writer, errors))
 }
 
 fn main(rt: HostRuntime) -> ExitCode {
     let mut errors = rt.stderr();
     let status = match start(&rt, &mut errors) {
         Ok(status) => status,
-        Err(error) => refuse(&mut errors, &Fault::from(error)),
+        Err(fault) => refuse(&mut errors, &fault),
     };
     ExitCode::from(status)
 }

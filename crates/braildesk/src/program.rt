@@ -1,11 +1,11 @@
 //! What the program does with its words and its ends.
 ghost use Rattle.braildesk.specs.Fault.{TextAt, fault_line};
-ghost use Rattle.braildesk.specs.Program.{AsksToTranslate, NamesTable, Refused, TableOf, Tells, use_line};
+ghost use Rattle.braildesk.specs.Program.{AsksToTranslate, NamesTable, Refused, TableOf, Tells, texts_of, use_line};
 ghost use Rattle.braildesk.specs.Run.{HonestRun};
 ghost use Rattle.desk_ends.specs.Sent.{Sent};
 ghost use Rattle.louis_table.specs.Meaning.{Meaning};
 ghost use Rattle.louis_table.specs.Table.{Means};
-ghost use Rattle.std.specs.Prelude.{◌≡◌, ◌≢◌, ◌≤◌, ◌⊎◌, [], MatchOption, is_ok, map};
+ghost use Rattle.std.specs.Prelude.{◌≡◌, ◌≢◌, ◌≤◌, ◌⊎◌, [], MatchOption, is_ok};
 
 use super::fault::Fault;
 use super::shelf::Shelf;
@@ -15,7 +15,6 @@ use desk_ends::{Failed, Sink, Source, send, send_parts};
 use itoa::Buffer;
 use louis_table::{Table, TableFault};
 use louis_translate::PlainRules;
-use std::convert::AsStr;
 
 /// The exit status where every line is answered.
 pub const DONE: u8 = 0;
@@ -30,13 +29,14 @@ pub const REFUSED: u8 = 2;
 pub const ENDS_FAILED: u8 = 3;
 
 /// Does what the words behind the program's name ask, over the given ends, and answers the exit status.
+/// Words are bytes: one that isn't UTF-8 names no file, and no command.
 ///
 /// `translate TABLE` answers each line of the source on the sink by the table in the file TABLE, or by
 /// the supplied table where TABLE is `@en`: by its definitions, rules and signs. A table that is refused is
 /// told in one line on `errors`, and so is how to use the program where the words are others.
-pub fn program<F: Shelf + AllocGlobal, W: AsStr, S: Source, K: Sink, E: Sink>(
+pub fn program<F: Shelf + AllocGlobal, S: Source, K: Sink, E: Sink>(
     rt: &F,
-    words: &[W],
+    words: &[&[u8]],
     source: &mut S,
     sink: &mut K,
     errors: &mut E,
@@ -44,18 +44,18 @@ pub fn program<F: Shelf + AllocGlobal, W: AsStr, S: Source, K: Sink, E: Sink>(
     ensures status { result ≤ ENDS_FAILED }
 
     // The words alone decide whether they are the program's.
-    ensures words { result ≡ OTHER_WORDS → ¬ AsksToTranslate (map W.text words.now) }
-    ensures other_words { ¬ AsksToTranslate (map W.text words.now) → result ≡ OTHER_WORDS }
+    ensures words { result ≡ OTHER_WORDS → ¬ AsksToTranslate (texts_of words.now) }
+    ensures other_words { ¬ AsksToTranslate (texts_of words.now) → result ≡ OTHER_WORDS }
     ensures use_told { result ≡ OTHER_WORDS
         → Tells E.can_fail (E.contents errors.old) (E.contents errors.new) use_line }
 
     // Lines are answered by the table that the words name.
-    ensures done { result ≡ DONE → (meaning : Meaning) × TableOf (F.at rt.now) (map W.text words.now) meaning
+    ensures done { result ≡ DONE → (meaning : Meaning) × TableOf (F.at rt.now) (texts_of words.now) meaning
         × HonestRun meaning Ended.Done (S.remaining source.old) (S.remaining source.new)
         (K.contents sink.old) (K.contents sink.new) (K.flushed sink.new) S.can_fail K.can_fail }
 
     // A failed end is told by the status alone.
-    ensures failed { result ≡ ENDS_FAILED → (meaning : Meaning) × TableOf (F.at rt.now) (map W.text words.now) meaning
+    ensures failed { result ≡ ENDS_FAILED → (meaning : Meaning) × TableOf (F.at rt.now) (texts_of words.now) meaning
         × ((ended : Ended) × (ended ≢ Ended.Done)
         × HonestRun meaning ended (S.remaining source.old) (S.remaining source.new)
         (K.contents sink.old) (K.contents sink.new) (K.flushed sink.new) S.can_fail K.can_fail) }
@@ -63,7 +63,7 @@ pub fn program<F: Shelf + AllocGlobal, W: AsStr, S: Source, K: Sink, E: Sink>(
 
     // A table is refused for a fault of its own, and before the first line.
     ensures refused { result ≡ REFUSED → Refused (F.can_fail ⊎ F.File.can_fail) (F.at rt.now)
-        (map W.text words.now) E.can_fail (E.contents errors.old) (E.contents errors.new) }
+        (texts_of words.now) E.can_fail (E.contents errors.old) (E.contents errors.new) }
     ensures untouched { (result ≡ OTHER_WORDS) ⊎ (result ≡ REFUSED) → (source.new ≡ source.old) × (sink.new ≡ sink.old) }
 {
     let Some(path) = table_path(words) else {
@@ -76,18 +76,18 @@ pub fn program<F: Shelf + AllocGlobal, W: AsStr, S: Source, K: Sink, E: Sink>(
 }
 
 /// The path in the words `translate TABLE`.
-fn table_path<W: AsStr>(words: &[W]) -> Option<&str>
+fn table_path<'a>(words: &[&'a [u8]]) -> Option<&'a [u8]>
     ensures { MatchOption result
-        (¬ AsksToTranslate (map W.text words.now))
-        (λ path. NamesTable (map W.text words.now) path.now) }
+        (¬ AsksToTranslate (texts_of words.now))
+        (λ path. NamesTable (texts_of words.now) path.now) }
 {
     let [command, path] = words else {
         return None;
     };
-    if command.as_str() != "translate" {
+    if *command != b"translate".as_slice() {
         return None;
     }
-    Some(path.as_str())
+    Some(path)
 }
 
 /// Answers each line of the source by a table that was read, and gives the exit status.

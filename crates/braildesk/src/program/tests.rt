@@ -32,12 +32,20 @@ const BY_A_FILE: &[Row] = &[
 ];
 
 /// Words that are not the program's.
-const OTHERS: &[&[&str]] = &[
+const OTHERS: &[&[&[u8]]] = &[
     &[],
-    &["translate"],
-    &["translate", "a", "b"],
-    &["check", "a"],
-    &["Translate", "a"],
+    &[b"translate"],
+    &[b"translate", b"a", b"b"],
+    &[b"check", b"a"],
+    &[b"Translate", b"a"],
+    &[b"\xFF", b"a"],
+];
+
+/// Words that name a file which isn't there.
+const NO_FILES: &[&[&[u8]]] = &[
+    &[b"translate", b"no/such/table"],
+    &[b"translate", b"\xFF"],
+    &[b"translate", b"@EN"],
 ];
 
 /// What is told of them.
@@ -88,7 +96,7 @@ struct Outcome {
 /// The status of a run over two ends, and what it told.
 fn ended<R: Read, W: Write>(
     rt: &HostRuntime,
-    words: &[&str],
+    words: &[&[u8]],
     reader: &mut R,
     writer: &mut W,
 ) -> (u8, Vec<u8>) {
@@ -98,7 +106,7 @@ fn ended<R: Read, W: Write>(
 }
 
 /// The outcome of a run over an input.
-fn outcome_of(rt: &HostRuntime, words: &[&str], input: &[u8]) -> Outcome {
+fn outcome_of(rt: &HostRuntime, words: &[&[u8]], input: &[u8]) -> Outcome {
     let mut reader = input;
     let mut output = Vec::new(rt.alloc());
     let (status, told) = ended(rt, words, &mut reader, &mut output);
@@ -118,7 +126,7 @@ fn path_of(rt: &HostRuntime) -> Result<PathBuf, Fail> {
 /// The outcome of a run by a file at this path, that gets the text and goes again.
 fn outcome_at(rt: &HostRuntime, path: &Path, table: &[u8], input: &[u8]) -> Result<Outcome, Fail> {
     fs::write(rt, path, table)?;
-    let outcome = outcome_of(rt, &["translate", path.as_str()], input);
+    let outcome = outcome_of(rt, &[b"translate", path.as_str().as_bytes()], input);
     fs::remove_file(rt, path)?;
     Ok(outcome)
 }
@@ -161,8 +169,10 @@ fn takes_no_other_words(rt: HostRuntime) {
 
 #[test]
 fn tells_a_file_that_is_not_there(rt: HostRuntime) {
-    let outcome = outcome_of(&rt, &["translate", "no/such/table"], b"a\n");
-    assert_outcome(&rt, &outcome, REFUSED, "", "braildesk: no 98\n");
+    for words in NO_FILES {
+        let outcome = outcome_of(&rt, words, b"a\n");
+        assert_outcome(&rt, &outcome, REFUSED, "", "braildesk: no 98\n");
+    }
 }
 
 /// Asserts that a run ended with a failed end, and told nothing.
@@ -172,7 +182,7 @@ fn assert_silent(rt: &impl Abort, ended: &(u8, Vec<u8>)) {
 
 #[test]
 fn says_nothing_of_failed_ends(rt: HostRuntime) {
-    let words = ["translate", "@en"];
+    let words: [&[u8]; 2] = [b"translate", b"@en"];
     let mut output = Vec::new(rt.alloc());
     assert_silent(&rt, &ended(&rt, &words, &mut Broken, &mut output));
     let mut input: &[u8] = b"a\n";
@@ -183,6 +193,6 @@ fn says_nothing_of_failed_ends(rt: HostRuntime) {
 
 #[test]
 fn translates_by_the_supplied_table(rt: HostRuntime) {
-    let outcome = outcome_of(&rt, &["translate", "@en"], "ab 1.\n’\nø\n".as_bytes());
+    let outcome = outcome_of(&rt, &[b"translate", b"@en"], "ab 1.\n’\nø\n".as_bytes());
     assert_outcome(&rt, &outcome, DONE, "⠁⠃⠀⠼⠁⠲\n⠄\nno 7 0\n", "");
 }
