@@ -29,11 +29,11 @@ const MOST_WORD_BYTES: usize = 1 << 17;
 
 /// The words behind the program's name.
 fn read_words(rt: &HostRuntime) -> Result<Vec<Vec<u8>>, Fault> {
-    let mut buffer = vec![in rt.alloc(); 0u8; MOST_WORD_BYTES]?;
+    let mut buffer = [0u8; MOST_WORD_BYTES];
     let mut words = Vec::new(rt.alloc());
     for i in 1..usize::MAX {
-        match rt.arg(i, buffer.as_mut_slice()) {
-            Ok(len) => add_copy(rt, &mut words, &buffer.as_slice()[..len])?,
+        match rt.arg(i, &mut buffer) {
+            Ok(len) => add_copy(rt, &mut words, &buffer[..len])?,
             Err(FillError::NotPresent) => break,
             Err(FillError::TooLong) => return Err(Fault::NoMemory),
         }
@@ -57,7 +57,10 @@ fn start<E: Write>(rt: &HostRuntime, errors: &mut E) -> Result<u8, Fault> {
         .map(|word| word.as_slice())
         .collect(rt.alloc())?;
     let mut writer = BufWriter::with_capacity(rt.alloc(), OUTPUT_BYTES, rt.stdout())?;
-    Ok(run_program(rt, texts.as_slice(), &mut rt.stdin(), &mut writer, errors))
+    let status = run_program(rt, texts.as_slice(), &mut rt.stdin(), &mut writer, errors);
+    // Dropped, the writer would write again what a failure has left in its buffer.
+    let _ = writer.into_parts();
+    Ok(status)
 }
 
 fn main(rt: HostRuntime) -> ExitCode {
