@@ -2,6 +2,7 @@
 # make demo     does that, and shows the main job on a sample
 # make test     the gate: proves from nothing, tries the must-fail edits, runs the tests and the stored run, and
 #               compares files with sqlite3, which has to be installed
+# make attacks  tries the wrong bodies that the gate leaves out
 # make bench    measures speed
 # make install  copies the program to $(DESTDIR)$(PREFIX)/bin
 
@@ -10,7 +11,7 @@ RT ?= rt
 PROGRAM := build/braildesk
 SOURCES := crates.txt HANDLES $(shell find crates -type f \( -path '*/src/*' -o -path '*/specs/*' -o -path '*/proofs/*' \) -not -path '*/out/*')
 
-.PHONY: all demo test bench install clean
+.PHONY: all demo test attacks bench install clean
 
 all: $(PROGRAM)
 
@@ -32,6 +33,9 @@ demo: $(PROGRAM)
 test:
 	$(RT) ci
 	RT='$(RT)' tests/sqlite3.sh
+
+attacks:
+	RT='$(RT)' tests/attacks.sh
 
 bench: $(PROGRAM)
 	bench/translate.sh
