@@ -13,8 +13,8 @@ use super::table_file::read_table;
 use super::translate::{Ended, translate_lines};
 use desk_ends::{Failed, Sink, Source, send, send_parts};
 use itoa::Buffer;
-use louis_table::{Table, TableFault};
-use louis_translate::PlainRules;
+use louis_table::TableFault;
+use louis_translate::RuleIndex;
 
 /// The exit status where every line is answered.
 pub const DONE: u8 = 0;
@@ -70,7 +70,7 @@ pub fn program<F: Shelf + AllocGlobal, S: Source, K: Sink, E: Sink>(
         return explain_use(errors);
     };
     match read_table(rt, path) {
-        Ok(table) => translate_by(table, source, sink),
+        Ok(index) => translate_by(&index, source, sink),
         Err(fault) => refuse(errors, &fault),
     }
 }
@@ -91,16 +91,16 @@ fn table_path<'a>(words: &[&'a [u8]]) -> Option<&'a [u8]>
 }
 
 /// Answers each line of the source by a table that was read, and gives the exit status.
-fn translate_by<S: Source, K: Sink>(table: Table, source: &mut S, sink: &mut K) -> u8
-    ensures done { result ≡ DONE → HonestRun table Ended.Done
+fn translate_by<S: Source, K: Sink>(index: &RuleIndex, source: &mut S, sink: &mut K) -> u8
+    ensures done { result ≡ DONE → HonestRun index.now Ended.Done
         (S.remaining source.old) (S.remaining source.new)
         (K.contents sink.old) (K.contents sink.new) (K.flushed sink.new) S.can_fail K.can_fail }
-    ensures failed { result ≡ ENDS_FAILED → (ended : Ended) × (ended ≢ Ended.Done) × HonestRun table ended
+    ensures failed { result ≡ ENDS_FAILED → (ended : Ended) × (ended ≢ Ended.Done) × HonestRun index.now ended
         (S.remaining source.old) (S.remaining source.new)
         (K.contents sink.old) (K.contents sink.new) (K.flushed sink.new) S.can_fail K.can_fail }
     ensures either { (result ≡ DONE) ⊎ (result ≡ ENDS_FAILED) }
 {
-    status_of(translate_lines(source, sink, &PlainRules::new(table)))
+    status_of(translate_lines(source, sink, index))
 }
 
 /// The exit status of a run over the lines.

@@ -8,6 +8,7 @@ use super::fault::Fault;
 use super::shelf::Shelf;
 use desk_ends::Source;
 use louis_table::{EN, ReadFault, Table};
+use louis_translate::RuleIndex;
 use std::alloc::Global;
 
 /// The most bytes that a table file may have. No table has as many.
@@ -20,19 +21,32 @@ const CHUNK_BYTES: usize = 1 << 16;
 pub const SUPPLIED: &str = "@en";
 
 /// Reads the supplied table, or the table in the file at this path. A path that isn't UTF-8 names no file.
-pub fn read_table<F: Shelf + AllocGlobal>(rt: &F, path: &[u8]) -> Result<Table, Fault>
+pub fn read_table<F: Shelf + AllocGlobal>(rt: &F, path: &[u8]) -> Result<RuleIndex, Fault>
     ensures { MatchResult result
         (λ table. (text : List ℕ) × TextAt (F.at rt.now) path.now text × Means text table)
         (FaultAt (F.can_fail ⊎ F.File.can_fail) (F.at rt.now) path.now) }
 {
     if path == SUPPLIED.as_bytes() {
-        return read_text(rt.alloc(), EN.as_bytes());
+        return index_text(rt.alloc(), EN.as_bytes());
     }
     let Ok(path) = str::from_utf8(path) else {
         return Err(Fault::File);
     };
     match read_file(rt, path) {
-        Ok(text) => read_text(rt.alloc(), text.as_slice()),
+        Ok(text) => index_text(rt.alloc(), text.as_slice()),
+        Err(fault) => Err(fault),
+    }
+}
+
+/// The index of the rules of the table in a text.
+fn index_text(alloc: Global, text: &[u8]) -> Result<RuleIndex, Fault>
+    ensures { MatchResult result (Means text.now) (IsFaultOf text.now) }
+{
+    match read_text(alloc, text) {
+        Ok(table) => match RuleIndex::new(alloc, table) {
+            Ok(index) => Ok(index),
+            Err(_) => Err(Fault::NoMemory),
+        },
         Err(fault) => Err(fault),
     }
 }

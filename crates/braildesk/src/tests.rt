@@ -32,7 +32,7 @@ const ANSWERS: &[(&str, &[u8], &str)] = &[
     (LETTER, b"a\n\r", "⠁\n\n"),
     (LETTER, b"\n", "\n"),
     (LETTER, b"", ""),
-    (EN, b"Hello\nTV\n3.14 5a\n", "⠠⠓⠑⠇⠇⠕\n⠠⠠⠞⠧\n⠼⠉⠲⠼⠁⠙⠀⠼⠑⠁\n"),
+    (EN, b"Hello\nTV\n3.14 5a\n", "⠠⠓⠑⠇⠇⠕\n⠠⠠⠞⠧\n⠼⠉⠲⠁⠙⠀⠼⠑⠰⠁\n"),
     (WORD, b"a aa\n", "⠿⠀⠁⠁\n"),
 ];
 

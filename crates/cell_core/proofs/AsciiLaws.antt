@@ -1,9 +1,10 @@
 -- Each byte of Braille ASCII has a cell, and each cell of the dots 1 to 6 a byte.
-use Rattle.std.proofs.Common.{◌≡◌, ℕ, zero, suc, ◌+◌, ◌-◌, ◌<◌, ◌≤◌, Bool, true, false, ◌&&◌, cond, eqb, ltb, List, [], ◌∷◌, length, Option, Some, None, refl, sym, ap, subst, ◌∙◌, arith, inl, inr}
-use Rattle.std.specs.Prelude.{slice_get, slice_index, option_map}
-use Rattle.std.proofs.lemmas.Bool.{cases_Bool, eqb-true, le-ltb, lt-ltb, cond-false, cases_lt}
+use Rattle.std.proofs.Common.{◌≡◌, ℕ, zero, suc, ◌+◌, ◌-◌, ◌<◌, ◌≤◌, Bool, true, false, ◌&&◌, eqb, List, [], ◌∷◌, length, Option, Some, None, refl, sym, ap, ◌∙◌, arith, inl, inr}
+use Rattle.std.specs.Prelude.{slice_get, slice_index}
+use Rattle.std.proofs.lemmas.Bool.{eqb-true, le-ltb, lt-ltb, cond-false, cases_lt}
 use Rattle.std.proofs.lemmas.Option.{slice_get-get_or, slice_get_past, slice_get_within, get_or_from_slice_get}
 use Rattle.cell_core.specs.Ascii.{ascii_masks, ascii_cell}
+use Rattle.cell_core.specs.Cell.{HasDot}
 
 -- the bytes in the order of their masks
 abbrev pub ascii_bytes : List ℕ
@@ -74,3 +75,11 @@ byte_of-cell byte mask e =
 -- two bytes of one cell are the same
 pub same_byte : (byte other mask : ℕ) → ascii_cell byte ≡ Some mask → ascii_cell other ≡ Some mask → byte ≡ other
 same_byte byte other mask e f = let h = byte_of-cell byte mask e in let k = byte_of-cell other mask f in cc
+
+-- each byte of the table has a cell of the dots 1 to 6
+pub byte_cell : (byte : ℕ) → 0x20 ≤ byte → byte ≤ 0x5F → (mask : ℕ) × (ascii_cell byte ≡ Some mask) × (¬ HasDot mask 7) × (¬ HasDot mask 8)
+byte_cell byte first last =
+    let within : byte - 32 < 64 = omega arith in
+    let mask : ℕ = slice_index ascii_masks (byte - 32) in
+    let small : mask < 64 = slice_get_within ascii_bytes mask _ (masks_again (byte - 32) within) in
+    (mask, ascii_cell-masks byte (byte - 32) (first, refl) within, (λ h. omega arith), (λ h. omega arith))

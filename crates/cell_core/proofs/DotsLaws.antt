@@ -176,22 +176,3 @@ Dots-encoded characters cells = (
   λ dots. subst (λ (t : List ℕ). Dots t cells) (encodes_same (encode_utf8_all characters) characters (encodes-IsAscii (encode_utf8_all characters) (IsAscii-from_Dots (encode_utf8_all characters) cells dots))) dots,
   λ dots. rw (encodes-IsAscii characters (IsAscii-from_Dots characters cells dots)) dots,
 )
-
-none_from : (a : Option (List ℕ)) → ((cells : List ℕ) → ¬ (a ≡ Some cells)) → a ≡ None
-none_from None none = refl
-none_from (Some cells) none = absurd (none cells refl)
-
-same_options : (a b : Option (List ℕ)) → ((cells : List ℕ) → ((a ≡ Some cells) ↔ (b ≡ Some cells))) → a ≡ b
-same_options a None both = none_from a (λ cells e. none-some cells ((both cells).0 e))
-same_options a (Some cells) both = (both cells).1 refl
-
--- the same of the reader
-pub cells_in-encoded : (characters cells : List ℕ) → (cells_in (encode_utf8_all characters) ≡ Some cells) ↔ (cells_in characters ≡ Some cells)
-cells_in-encoded characters cells = (
-  λ e. cells_in-from_Dots characters cells ((Dots-encoded characters cells).0 (Dots-from_cells_in (encode_utf8_all characters) cells e)),
-  λ e. cells_in-from_Dots (encode_utf8_all characters) cells ((Dots-encoded characters cells).1 (Dots-from_cells_in characters cells e)),
-)
-
--- the reader gives the same for characters and for the bytes of them
-pub cells_in-encode_utf8_all : (characters : List ℕ) → cells_in (encode_utf8_all characters) ≡ cells_in characters
-cells_in-encode_utf8_all characters = same_options (cells_in (encode_utf8_all characters)) (cells_in characters) (cells_in-encoded characters)

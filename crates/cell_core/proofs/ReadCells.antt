@@ -20,9 +20,6 @@ option_map_nil (Some cells) = refl
 take_nil : (n : ℕ) → [] ≡ take {A = ℕ} n []
 take_nil n = sym (take_all n [] (omega arith))
 
-pub ReadSoFar-none : (pieces : List (List ℕ)) (row : List ℕ) → ReadSoFar pieces row 0
-ReadSoFar-none pieces row = record { cells = []; counted = refl; kept = take_nil (length row); left = option_map_nil (cells_of pieces) }
-
 -- a piece that stands at a place, at the head of what is left
 cells_of-drop : (pieces : List (List ℕ)) (count : ℕ) (piece : List ℕ) → count < length pieces → piece ≡ get_or pieces count piece → cells_of (drop count pieces) ≡ cells_of (piece ∷ drop (count + 1) pieces)
 cells_of-drop pieces count piece within is =

@@ -137,9 +137,3 @@ pub Contains-there : {X : Type 0} (xs : List X) (i : ℕ) (x : X) → slice_get 
 Contains-there [] i x e = absurd (cc)
 Contains-there (y ∷ xs) zero x e = (0, omega arith, (let same : y ≡ x = cc in same))
 Contains-there (y ∷ xs) (suc i) x e = let rest = Contains-there xs i x e in (suc rest.0, (let lt = rest.1 in omega arith), rest.2)
-
-pub HavePrints-kept : (version : ℕ) (tables : KeptTables) (paragraphs : KeptParagraphs) → IsKept version tables paragraphs → HavePrints paragraphs
-HavePrints-kept version tables paragraphs is =
-    let few = is.sound.few_paragraphs in
-    let many = length-map paragraphs paragraph_kept in
-    (omega arith, All-weaker (IsKeptParagraph tables) (λ entry. entry.1.print ≡ print_of (paragraph_kept entry)) (λ entry kept. kept.print) paragraphs is.translated)

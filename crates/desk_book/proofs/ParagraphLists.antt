@@ -107,21 +107,6 @@ pub found-with_change : (id : ℕ) (change : Paragraph → Paragraph) → ((p : 
 found-with_change id change keeps ps other =
     find-map (λ p. nat_eq p.id other) (changed id change) (λ p. ap (λ (n : ℕ). nat_eq n other) (id-changed id change keeps p)) ps
 
--- the changed one
-pub found-changed : (id : ℕ) (change : Paragraph → Paragraph) → ((p : Paragraph) → (change p).id ≡ p.id) → (ps : List Paragraph) (p : Paragraph) → found id ps ≡ Some p → found id (with_change id change ps) ≡ Some (change p)
-found-changed id change keeps ps p e =
-    found-with_change id change keeps ps id
-    ∙ (ap (option_map (changed id change)) e
-    ∙ ap {B = Option Paragraph} Some (cond-true (nat_eq p.id id) (change p) p (eq-eqb p.id id (id-found id ps p e))))
-
--- any other
-pub found-unchanged : (id : ℕ) (change : Paragraph → Paragraph) → ((p : Paragraph) → (change p).id ≡ p.id) → (ps : List Paragraph) (other : ℕ) → other ≢ id → found other (with_change id change ps) ≡ found other ps
-found-unchanged id change keeps ps other apart = found-with_change id change keeps ps other ∙ by (found other ps) refl
-  where
-    by : (x : Option Paragraph) → found other ps ≡ x → option_map (changed id change) x ≡ x
-    by None e = refl
-    by (Some p) e = ap {B = Option Paragraph} Some (cond-false (nat_eq p.id id) (change p) p (ne_eqb p.id id (λ same. apart (sym (id-found other ps p e) ∙ same))))
-
 -- what holds of each paragraph, and of the changed one, holds of each after the change
 pub All-with_change : (P : Paragraph → Type 0) (id : ℕ) (change : Paragraph → Paragraph) (ps : List Paragraph) → All P ps → ((p : Paragraph) → Contains ps p → p.id ≡ id → P p → P (change p)) → All P (with_change id change ps)
 All-with_change P id change [] all here = All-nil P
@@ -249,10 +234,3 @@ IsPermutation-with_move book id anchor p apart e there =
           (IsPermutation-trans ps (p ∷ others) (put p) out
           (IsPermutation-with_paragraph anchor p others (AreApart-rest p others (AreApart-permutation ps (p ∷ others) out apart)) (behind_others id anchor p ps apart e elsewhere there)))
     ]
-
--- all paragraphs are found as before
-pub found-with_move : (book : Book) (id : ℕ) (anchor : Anchor) (p : Paragraph) → AreApart book.paragraphs → paragraph_of book id ≡ Some p
-    → ((other : ℕ) → Contains (paragraph_before anchor) other → (q : Paragraph) × (paragraph_of book other ≡ Some q))
-    → (other : ℕ) → found other (with_move id anchor book) ≡ paragraph_of book other
-found-with_move book id anchor p apart e there other =
-    found-permutation other book.paragraphs (with_move id anchor book) (IsPermutation-with_move book id anchor p apart e there) apart

@@ -104,10 +104,6 @@ text_among name tables = lookup (pointwise nat_eq name) tables
 abbrev pub with_text : List ℕ → List ℕ → List (List ℕ × List ℕ) → List (List ℕ × List ℕ)
 with_text name text tables = put (slice_cmp nat_cmp) name text tables
 
--- it is the search by the order of the names
-pub text-find : (name : List ℕ) (tables : List (List ℕ × List ℕ)) → text_among name tables ≡ find (slice_cmp nat_cmp) name tables
-text-find = lookup-find (slice_cmp nat_cmp) (pointwise nat_eq) names_tie
-
 pub text-put : (other name text : List ℕ) (tables : List (List ℕ × List ℕ)) → text_among other (with_text name text tables) ≡ cond (pointwise nat_eq other name) (Some text) (text_among other tables)
 text-put other name text tables = lookup-put (slice_cmp nat_cmp) (pointwise nat_eq) names_tie nat_list_cmp_total other name text tables
 

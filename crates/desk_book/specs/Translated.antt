@@ -4,7 +4,8 @@ use Rattle.louis_table.specs.Meaning.{Meaning}
 use Rattle.louis_table.specs.Table.{Means}
 use Rattle.louis_translate.specs.declared.choices.Choice.{Choice}
 use Rattle.louis_translate.specs.Tiling.{Tiles}
-use Rattle.louis_translate.specs.Braille.{braille, output_place, print_place}
+use Rattle.louis_translate.specs.Braille.{braille}
+use Rattle.louis_translate.specs.Braille as places
 use Rattle.desk_book.specs.Book.{Book, Paragraph, text_of, paragraph_of}
 use Rattle.desk_book.specs.Print.{print_of}
 
@@ -21,18 +22,18 @@ IsBraille book paragraph cells =
     (meaning : Meaning) × (choices : List Choice) × IsTranslatedBy book paragraph meaning choices
     × (cells ≡ braille meaning (print_of paragraph) choices)
 
--- the place of the print is there, and so many cells stand before those of the choice that covers it
+-- the place of the print is there, and this is its output place
 abbrev pub IsOutputPlace : Book → Paragraph → (place cell : ℕ) → Type 0
 IsOutputPlace book paragraph place cell =
     (meaning : Meaning) × (choices : List Choice) × IsTranslatedBy book paragraph meaning choices
-    × (place < length (print_of paragraph)) × (cell ≡ output_place meaning (print_of paragraph) choices place)
+    × (place < length (print_of paragraph)) × places.IsOutputPlace meaning (print_of paragraph) choices place cell
 
--- the cell is there, and the choice that made it begins at this place of the print
+-- the cell is there, and this is its print place
 abbrev pub IsPrintPlace : Book → Paragraph → (cell place : ℕ) → Type 0
 IsPrintPlace book paragraph cell place =
     (meaning : Meaning) × (choices : List Choice) × IsTranslatedBy book paragraph meaning choices
     × (cell < length (braille meaning (print_of paragraph) choices))
-    × (place ≡ print_place meaning (print_of paragraph) choices cell)
+    × places.IsPrintPlace meaning (print_of paragraph) choices cell place
 
 -- the book has the paragraph, but the print of it doesn't have the place
 pub record LacksPlace (book : Book) (id place : ℕ) : Type 0 where

@@ -4,13 +4,13 @@ ghost use Rattle.louis_translate.specs.Position.{AreDefined};
 ghost use Rattle.std.specs.Prelude.{IfOk};
 
 use cell_core::Cells;
-use louis_translate::{Pieces, PlainRules};
+use louis_translate::{Pieces, RuleIndex};
 use std::alloc::{AllocError, Global};
 
 /// The cells of a print of defined characters.
 pub(crate) fn cells_of(
     alloc: Global,
-    rules: &PlainRules,
+    rules: &RuleIndex,
     print: &[char],
 ) -> Result<Cells, AllocError>
     requires { AreDefined rules.now print.now }

@@ -26,7 +26,7 @@ use super::tables::{BookTable, TablesRoom};
 use super::text::{Bytes, Text};
 use cell_core::Cells;
 use louis_table::{Characters, ReadFault};
-use louis_translate::{PlainRules, RuleBook, undefined_place};
+use louis_translate::{RuleIndex, RuleBook, undefined_place};
 use std::alloc::{AllocError, Global};
 
 impl From<AllocError> for Refusal {
@@ -59,7 +59,7 @@ fn text_of_print(alloc: Global, print: &[char]) -> Result<Text, AllocError>
 fn new_paragraph(
     alloc: Global,
     table: &Text,
-    rules: &PlainRules,
+    rules: &RuleIndex,
     print: Vec<char>,
 ) -> Result<Paragraph, AllocError>
     requires { AreDefined rules.now print.items }
@@ -432,7 +432,7 @@ impl Book {
     }
 
     /// A table of these rules defines the print of each paragraph that uses its name.
-    fn check_users(&self, name: &Text, rules: &PlainRules) -> Result<(), Refusal>
+    fn check_users(&self, name: &Text, rules: &RuleIndex) -> Result<(), Refusal>
         ensures defined { OnOk result (All (DefinesUser rules.now name.now) self.now.paragraphs) }
         ensures undefined { IfErr result (λ refusal. (id : _) × (place : _)
             × (refusal ≡ Refusal.Untranslatable id place)
@@ -451,7 +451,7 @@ impl Book {
         &self,
         alloc: Global,
         name: &Text,
-        rules: &PlainRules,
+        rules: &RuleIndex,
     ) -> Result<Vec<Option<Cells>>, AllocError>
         requires { All (DefinesUser rules.now name.now) self.now.paragraphs }
         ensures { IfOk result (λ cells. AreRenewed self.now name.now rules.now cells.items) }
@@ -480,7 +480,7 @@ fn check_user(
     id: u64,
     paragraph: &Paragraph,
     name: &Text,
-    rules: &PlainRules,
+    rules: &RuleIndex,
 ) -> Result<(), Refusal>
     ensures defined { OnOk result
         (paragraph.now.table ≡ name.now → AreDefined rules.now paragraph.now.print) }
@@ -504,7 +504,7 @@ fn user_cells(
     alloc: Global,
     paragraph: &Paragraph,
     name: &Text,
-    rules: &PlainRules,
+    rules: &RuleIndex,
 ) -> Result<Option<Cells>, AllocError>
     requires { paragraph.now.table ≡ name.now → AreDefined rules.now paragraph.now.print }
     ensures { IfOk result (λ cells. MatchOption cells

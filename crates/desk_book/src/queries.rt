@@ -10,11 +10,11 @@ use super::list::List;
 use super::paragraphs::Paragraph;
 use super::refusal::Refusal;
 use cell_core::Cell;
-use louis_translate::{PlainRules, output_place, print_place};
+use louis_translate::{RuleIndex, output_place, print_place};
 
 impl Book {
     /// A paragraph as it is kept, and the rules of its table.
-    fn translated(&self, id: u64) -> Result<(&Paragraph, &PlainRules), Refusal>
+    fn translated(&self, id: u64) -> Result<(&Paragraph, &RuleIndex), Refusal>
         ensures found { IfOk result (λ shown. IsShown self.now id shown.0.now shown.1.now) }
         ensures missing { IfErr result (λ refusal. (refusal ≡ Refusal.NoParagraph) × (paragraph_of self.now id ≡ None)) }
     {

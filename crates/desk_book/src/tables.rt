@@ -10,7 +10,7 @@ ghost use Rattle.std.specs.Str.{chars};
 use super::text::{Bytes, Text};
 use indexmap::IndexMap;
 use louis_table::{ReadFault, Table};
-use louis_translate::PlainRules;
+use louis_translate::RuleIndex;
 use std::alloc::{AllocError, Global};
 use std::marker::Model;
 
@@ -19,13 +19,25 @@ pub(crate) struct BookTable {
     /// The text.
     pub(crate) text: Bytes,
     /// What it says.
-    pub(crate) rules: PlainRules,
+    pub(crate) rules: RuleIndex,
 }
 
 // Written out, as the drop of a paragraph is.
 impl Drop for BookTable {
     fn drop(self) {
         let BookTable { text: _, rules: _ } = self;
+    }
+}
+
+/// Reads the rules in the text of a table.
+fn read_rules(alloc: Global, text: &[u8]) -> Result<RuleIndex, ReadFault>
+    ensures means { IfOk result (Means text.now) }
+    ensures bad { IfErr result (Tells text.now) }
+{
+    let table = Table::read(alloc, text)?;
+    match RuleIndex::new(alloc, table) {
+        Ok(rules) => Ok(rules),
+        Err(_) => Err(ReadFault::NoMemory),
     }
 }
 
@@ -37,7 +49,7 @@ impl BookTable {
         ensures means { IfOk result (λ table. Means text.now table.rules) }
         ensures bad { IfErr result (Tells text.now) }
     {
-        let rules = PlainRules::new(Table::read(alloc, text)?);
+        let rules = read_rules(alloc, text)?;
         let copy = Vec::from_slice(alloc, text).map_err(|_| ReadFault::NoMemory)?;
         Ok(BookTable {
             text: Bytes::from_vec(copy),

@@ -29,11 +29,6 @@ pub Sent-whole : (F : Type 0) (a b : Option (List ℕ)) (text : List ℕ) (ok : 
 Sent-whole F a b text ok h t =
     record { out = text; rest = []; appends = h; begins = append-nil text; holds = λ _. refl; fails = λ f. absurd (both_ways ok f t) }
 
--- nothing went out
-pub Sent-none : (F : Type 0) (a b : Option (List ℕ)) (text : List ℕ) (ok : Bool) → Keeps a b → F → ok ≡ false → Sent F a b text [] ok
-Sent-none F a b text ok h x f =
-    record { out = []; rest = text; appends = Keeps-Appends a b h; begins = refl; holds = λ t. absurd (both_ways ok f t); fails = λ _. x }
-
 -- a flush
 pub Sent-flushed : {E : Type 0} (F : Type 0) (a b : Option (List ℕ)) (r : Result (Unit {0}) E) → Keeps a b → OnErr r F → Sent F a b [] [] (is_ok r)
 Sent-flushed F a b r h e =

@@ -48,10 +48,6 @@ abbrev pub rows_in : Statement → Rows
 rows_in (Insert how name columns rows clauses shown) = rows
 rows_in _ = Defaults
 
-abbrev pub clauses_in : Statement → List Upsert
-clauses_in (Insert how name columns rows clauses shown) = clauses
-clauses_in _ = []
-
 abbrev pub no_clause : Upsert
 no_clause = record { target = []; sets = []; filter = None }
 

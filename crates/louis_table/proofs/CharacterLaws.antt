@@ -1,13 +1,13 @@
 -- The characters that are read are those that are spelled.
-use Rattle.std.proofs.Common.{◌≡◌, ◌≢◌, ℕ, zero, suc, ◌+◌, ◌*◌, ◌<◌, ◌≤◌, Bool, true, false, cond, eqb, ltb, List, [], ◌∷◌, ◌++◌, length, take, drop, Option, Some, None, option_map, refl, sym, ap, subst, ◌∙◌, ◌⊎◌, inl, inr, arith, append_assoc}
+use Rattle.std.proofs.Common.{◌≡◌, ℕ, zero, suc, ◌+◌, ◌*◌, ◌<◌, ◌≤◌, Bool, true, false, cond, eqb, ltb, List, [], ◌∷◌, ◌++◌, length, take, drop, Option, Some, None, option_map, refl, sym, ap, subst, ◌∙◌, ◌⊎◌, inl, inr, arith, append_assoc}
 use Rattle.std.specs.List.{AllByRecursion}
 use Rattle.std.specs.Option.{option_and_then}
-use Rattle.std.specs.Char.{digit_value, IsScalar}
+use Rattle.std.specs.Char.{digit_value}
 use lib.Utf8.{scalar}
 use Rattle.std.proofs.lemmas.Bool.{eqb-true, eqb-false, ne_eqb, ltb-true, ltb-false, lt-ltb, le-ltb}
-use Rattle.std.proofs.lemmas.List.{append-nil, take-append-drop, length-take, length-append, take_at, drop_at}
+use Rattle.std.proofs.lemmas.List.{take-append-drop, length-take, length-append, take_at, drop_at}
 use Rattle.louis_table.specs.Characters.{escaped, digits_behind, spelled_behind, Writes, itself, escape, number, Spells}
-use Rattle.louis_table.specs.Reading.{with_rest, hex_value, scalar_from, number_at, escape_by, escape_at, character_at, characters_within, characters_in}
+use Rattle.louis_table.specs.Reading.{with_rest, hex_value, scalar_from, number_at, escape_by, character_at, characters_within, characters_in}
 
 -- which way a test went
 pub chosen : {A : Type 0} (b : Bool) (x y z : A) → cond b x y ≡ z → ((b ≡ true) × (x ≡ z)) ⊎ ((b ≡ false) × (y ≡ z))
@@ -195,17 +195,3 @@ SpellsOn-more operand front (x ∷ rest) after c s e lt = by s.most s.enough s.w
               ∙ (ap (λ (o : Option (ℕ × List ℕ)). option_map (λ more. front ++ more) (option_and_then (λ (f : ℕ × List ℕ). option_map (λ more. f.0 ∷ more) (characters_within n f.1)) o)) e
               ∙ map_twice front c (characters_within n after));
         }
-
-pub SpellsOn-all : (operand front : List ℕ) → SpellsOn operand front [] → characters_in operand ≡ Some front
-SpellsOn-all operand front s = s.whole ∙ ap Some (append-nil front)
-
-pub SpellsOn-bad : (operand front rest : List ℕ) → SpellsOn operand front rest → rest ≢ [] → character_at rest ≡ None → characters_in operand ≡ None
-SpellsOn-bad operand front [] s ne e = absurd (ne refl)
-SpellsOn-bad operand front (x ∷ rest) s ne e = by s.most s.whole
-  where
-    by : (n : ℕ) → characters_in operand ≡ option_map (λ more. front ++ more) (characters_within n (x ∷ rest)) → characters_in operand ≡ None
-    by zero w = w
-    by (suc n) w = w ∙ ap (λ (o : Option (ℕ × List ℕ)). option_map (λ more. front ++ more) (option_and_then (λ (f : ℕ × List ℕ). option_map (λ more. f.0 ∷ more) (characters_within n f.1)) o)) e
-
-pub nothing_read : {A B : Type 0} (o : Option A) (f : A → B) (p : Option B) → option_map f o ≡ p → o ≡ None → p ≡ None
-nothing_read o f p e n = sym e ∙ ap (option_map f) n

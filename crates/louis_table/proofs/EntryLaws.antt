@@ -1,25 +1,28 @@
 -- What is read of a line is what it says.
-use Rattle.std.proofs.Common.{◌≡◌, ◌≢◌, ℕ, ◌<◌, ◌≤◌, Bool, true, false, cond, ◌||◌, eqb, ltb, List, [], ◌∷◌, length, Option, Some, None, option_map, Result, Ok, Err, codes, refl, sym, ap, subst, ◌∙◌, ◌⊎◌, inl, inr, arith, lit≤}
-use Rattle.std.specs.Prelude.{slice_index}
+use Rattle.std.proofs.Common.{◌≡◌, ◌≢◌, ℕ, ◌<◌, ◌≤◌, Bool, true, false, ◌||◌, eqb, ltb, List, [], ◌∷◌, length, Option, Some, None, option_map, Result, Ok, Err, refl, sym, ap, subst, ◌∙◌, ◌⊎◌, inl, inr, arith, lit≤}
+use Rattle.std.specs.Prelude.{map}
 use Rattle.std.specs.Str.{bytes_eq}
 use Rattle.std.proofs.lemmas.Bool.{cases_Bool, eqb-true, eqb-false, eq-eqb, ne_eqb, lt-ltb, ltb-true}
 use Rattle.std.proofs.lemmas.Slice.Eq.{bytes_eq-Decides}
-use Rattle.cell_core.specs.Dots.{Dots, most_cells}
+use Rattle.cell_core.specs.Dots.{most_cells}
 use Rattle.cell_core.specs.Reading.{cells_in}
 use Rattle.cell_core.proofs.DotsLaws.{Dots-from_cells_in, cells_in-from_Dots}
-use Rattle.louis_table.specs.declared.definition.Class.{Class}
-use Rattle.louis_table.specs.declared.definition.Class.TheVariants.{Space, Punctuation, Digit, Letter}
+use Rattle.louis_table.specs.declared.definition.Class.TheVariants as classes
 use Rattle.louis_table.specs.declared.rule.RuleKind.{RuleKind}
-use Rattle.louis_table.specs.declared.rule.RuleKind.TheVariants.{Always, Word, BegWord, MidWord, EndWord}
-use Rattle.louis_table.specs.declared.opcode.Sign.{Sign}
-use Rattle.louis_table.specs.declared.opcode.Sign.TheVariants.{Number, Capital, CapitalWord}
+use Rattle.louis_table.specs.declared.rule.RuleKind.TheVariants as kinds
+use Rattle.louis_table.specs.declared.sign.Sign.{Sign}
+use Rattle.louis_table.specs.declared.sign.Sign.TheVariants as signs
+use Rattle.louis_table.specs.declared.character_set.CharacterSet.{CharacterSet}
+use Rattle.louis_table.specs.declared.character_set.CharacterSet.TheVariants as sets
 use Rattle.louis_table.specs.declared.opcode.Opcode.{Opcode}
-use Rattle.louis_table.specs.declared.opcode.Opcode.TheVariants.{Define, UpLow, Replace, Announce}
+use Rattle.louis_table.specs.declared.opcode.Opcode.TheVariants.{Define, UpLow, Replace, Announce, Collect}
+use Rattle.louis_table.specs.declared.opcode.TheConstants.{OPCODES}
 use Rattle.louis_table.specs.Fields.{IsGap, IsField, Begins, HasFields}
 use Rattle.louis_table.specs.Characters.{Spells}
-use Rattle.louis_table.specs.Opcode.{class_name, kind_name, sign_name, name_of}
-use Rattle.louis_table.specs.Reading.{field_at, characters_in, class_named, kind_named, sign_named, first_named, opcode_named, pair_in, rule_in, or_cause, entry_from, entry_with, entry_of_two, entry_of_one, entry_of_fields, entry_at, as_some, opcode_gives, fields_give, line_gives, are_many, are_many_written, is_large}
-use Rattle.louis_table.specs.Table.{Entry, Defines, Pairs, Replaces, Announces, AreCharactersFor, HasCharacters, HasDots, PairDots, RuleDots, IsDotsFor, WritesCells, most_rule_characters, IsComment, SaysNothing, blank, comment, Gives, definition_line, pair_line, rule_line, sign_line, Fault, unknown_opcode, missing_operand, bad_characters, bad_dots, long_rule, many_cells}
+use Rattle.louis_table.specs.Profile.{WithNumericMode}
+use Rattle.louis_table.specs.Opcode.{name_of, HasOpcode}
+use Rattle.louis_table.specs.Reading.{field_at, characters_in, opcode_among, opcode_named, pair_in, rule_in, or_cause, entry_from, entry_with, entry_of_two, entry_of_one, entry_of_set, entry_of_fields, entry_at, as_some, opcode_gives, fields_give, line_gives, are_many, are_many_written, is_large}
+use Rattle.louis_table.specs.Table.{Entry, Defines, Pairs, Replaces, Announces, Collects, AreCharactersFor, HasCharacters, HasDots, HasOperands, AreTooManyFor, RuleDots, IsDotsFor, WritesCells, most_rule_characters, IsComment, SaysNothing, blank, comment, Gives, definition_line, pair_line, rule_line, sign_line, set_line, Fault, unknown_opcode, missing_operand, bad_characters, bad_dots, many_characters, many_cells}
 use Rattle.louis_table.proofs.FieldLaws.{field_at-Begins, Begins-field_at, IsGap-field_at, field_at-gap, gap_without_field}
 use Rattle.louis_table.proofs.CharacterLaws.{chosen, map_some, characters_in-Spells, Spells-characters_in}
 use Rattle.louis_table.proofs.OperandLaws.{pair_in-PairDots, PairDots-pair_in, rule_in-RuleDots, RuleDots-rule_in}
@@ -28,85 +31,43 @@ use Rattle.louis_table.proofs.OperandLaws.{pair_in-PairDots, PairDots-pair_in, r
 
 pub opcode_named-name_of : (opcode : Opcode) → opcode_named (name_of opcode) ≡ Some opcode
 unfolding opcode_named
-opcode_named-name_of (Define Space) = refl
-opcode_named-name_of (Define Punctuation) = refl
-opcode_named-name_of (Define Digit) = refl
-opcode_named-name_of (Define Letter) = refl
+opcode_named-name_of (Define classes.Space) = refl
+opcode_named-name_of (Define classes.Punctuation) = refl
+opcode_named-name_of (Define classes.Digit) = refl
+opcode_named-name_of (Define classes.Letter) = refl
 opcode_named-name_of UpLow = refl
-opcode_named-name_of (Replace Always) = refl
-opcode_named-name_of (Replace Word) = refl
-opcode_named-name_of (Replace BegWord) = refl
-opcode_named-name_of (Replace MidWord) = refl
-opcode_named-name_of (Replace EndWord) = refl
-opcode_named-name_of (Announce Number) = refl
-opcode_named-name_of (Announce Capital) = refl
-opcode_named-name_of (Announce CapitalWord) = refl
+opcode_named-name_of (Replace kinds.Always) = refl
+opcode_named-name_of (Replace kinds.Word) = refl
+opcode_named-name_of (Replace kinds.BegWord) = refl
+opcode_named-name_of (Replace kinds.MidWord) = refl
+opcode_named-name_of (Replace kinds.EndWord) = refl
+opcode_named-name_of (Announce signs.Number) = refl
+opcode_named-name_of (Announce signs.Capital) = refl
+opcode_named-name_of (Announce signs.CapitalWord) = refl
+opcode_named-name_of (Announce signs.NoContraction) = refl
+opcode_named-name_of (Collect sets.NumericMode) = refl
+opcode_named-name_of (Collect sets.NoContraction) = refl
 
-by_name : {A : Type 0} (name : A → List ℕ) (field : List ℕ) (this that : A) → bytes_eq field (name this) ≡ true → (let s : Option A = Some this in s) ≡ Some that → field ≡ name that
-by_name name field this that t s = let same : this ≡ that = cc in (bytes_eq-Decides field (name this)).0 t ∙ ap name same
+-- the opcodes of the list stand beside their names
+abbrev AreNamed : List (List ℕ × Opcode) → Type 0
+AreNamed [] = Unit {0}
+AreNamed (opcode ∷ opcodes) = (opcode.0 ≡ name_of opcode.1) × AreNamed opcodes
 
-class_named-Some : (field : List ℕ) (class : Class) → class_named field ≡ Some class → field ≡ class_name class
-class_named-Some field class e =
-    elim (chosen (bytes_eq field (codes "space")) _ _ _ e) [
-      | inl p ↦ by_name class_name field Space class p.0 p.1
-      | inr p ↦ elim (chosen (bytes_eq field (codes "punctuation")) _ _ _ p.1) [
-        | inl q ↦ by_name class_name field Punctuation class q.0 q.1
-        | inr q ↦ elim (chosen (bytes_eq field (codes "digit")) _ _ _ q.1) [
-          | inl r ↦ by_name class_name field Digit class r.0 r.1
-          | inr r ↦ elim (chosen (bytes_eq field (codes "letter")) _ _ _ r.1) [
-            | inl s ↦ by_name class_name field Letter class s.0 s.1
-            | inr s ↦ absurd cc
-          ]
-        ]
-      ]
-    ]
-
-kind_named-Some : (field : List ℕ) (kind : RuleKind) → kind_named field ≡ Some kind → field ≡ kind_name kind
-kind_named-Some field kind e =
-    elim (chosen (bytes_eq field (codes "always")) _ _ _ e) [
-      | inl p ↦ by_name kind_name field Always kind p.0 p.1
-      | inr p ↦ elim (chosen (bytes_eq field (codes "word")) _ _ _ p.1) [
-        | inl q ↦ by_name kind_name field Word kind q.0 q.1
-        | inr q ↦ elim (chosen (bytes_eq field (codes "begword")) _ _ _ q.1) [
-          | inl r ↦ by_name kind_name field BegWord kind r.0 r.1
-          | inr r ↦ elim (chosen (bytes_eq field (codes "midword")) _ _ _ r.1) [
-            | inl s ↦ by_name kind_name field MidWord kind s.0 s.1
-            | inr s ↦ elim (chosen (bytes_eq field (codes "endword")) _ _ _ s.1) [
-              | inl t ↦ by_name kind_name field EndWord kind t.0 t.1
-              | inr t ↦ absurd cc
-            ]
-          ]
-        ]
-      ]
-    ]
-
-sign_named-Some : (field : List ℕ) (sign : Sign) → sign_named field ≡ Some sign → field ≡ sign_name sign
-sign_named-Some field sign e =
-    elim (chosen (bytes_eq field (codes "numsign")) _ _ _ e) [
-      | inl p ↦ by_name sign_name field Number sign p.0 p.1
-      | inr p ↦ elim (chosen (bytes_eq field (codes "capsletter")) _ _ _ p.1) [
-        | inl q ↦ by_name sign_name field Capital sign q.0 q.1
-        | inr q ↦ elim (chosen (bytes_eq field (codes "begcapsword")) _ _ _ q.1) [
-          | inl r ↦ by_name sign_name field CapitalWord sign r.0 r.1
-          | inr r ↦ absurd cc
-        ]
-      ]
+opcode_among-Some : (opcodes : List (List ℕ × Opcode)) (field : List ℕ) (opcode : Opcode) → AreNamed opcodes → opcode_among opcodes field ≡ Some opcode → field ≡ name_of opcode
+opcode_among-Some [] field opcode named e = absurd cc
+opcode_among-Some (first ∷ opcodes) field opcode named e =
+    elim (chosen (bytes_eq field first.0) _ _ _ e) [
+      | inl p ↦ let same : first.1 ≡ opcode = cc in (bytes_eq-Decides field first.0).0 p.0 ∙ (named.0 ∙ ap name_of same)
+      | inr p ↦ opcode_among-Some opcodes field opcode named.1 p.1
     ]
 
 pub opcode_named-Some : (field : List ℕ) (opcode : Opcode) → opcode_named field ≡ Some opcode → field ≡ name_of opcode
 unfolding opcode_named
-opcode_named-Some field opcode e = by (class_named field) (bytes_eq field (codes "uplow")) (kind_named field) (sign_named field) refl refl refl refl e
-  where
-    by : (class : Option Class) (uplow : Bool) (kind : Option RuleKind) (sign : Option Sign) → class_named field ≡ class → bytes_eq field (codes "uplow") ≡ uplow
-        → kind_named field ≡ kind → sign_named field ≡ sign → first_named class uplow kind sign ≡ Some opcode → field ≡ name_of opcode
-    by (Some class) uplow kind sign c u k s e = let same : Define class ≡ opcode = cc in class_named-Some field class c ∙ ap name_of same
-    by None true kind sign c u k s e = let same : UpLow ≡ opcode = cc in (bytes_eq-Decides field (codes "uplow")).0 u ∙ ap name_of same
-    by None false (Some kind) sign c u k s e = let same : Replace kind ≡ opcode = cc in kind_named-Some field kind k ∙ ap name_of same
-    by None false None (Some sign) c u k s e = let same : Announce sign ≡ opcode = cc in sign_named-Some field sign s ∙ ap name_of same
-    by None false None None c u k s e = absurd cc
+opcode_named-Some field opcode e =
+    opcode_among-Some (map (λ o. (o.0.now, o.1)) OPCODES) field opcode (refl, (refl, (refl, (refl, (refl, (refl, (refl, (refl, (refl, (refl, (refl, (refl, (refl, (refl, (refl, (refl, tt)))))))))))))))) e
 
-opcode_named-None : (field : List ℕ) → opcode_named field ≡ None → (opcode : Opcode) → field ≢ name_of opcode
-opcode_named-None field e opcode h = let s : opcode_named field ≡ Some opcode = ap opcode_named h ∙ opcode_named-name_of opcode in absurd cc
+opcode_named-None : (field : List ℕ) → opcode_named field ≡ None → (opcode : Opcode) → HasOpcode WithNumericMode opcode → field ≢ name_of opcode
+opcode_named-None field e opcode has h = let s : opcode_named field ≡ Some opcode = ap opcode_named h ∙ opcode_named-name_of opcode in absurd cc
 
 -- the opcode takes characters and dots
 abbrev pub TakesBoth : Opcode → Type 0
@@ -114,24 +75,28 @@ TakesBoth (Define class) = Unit {0}
 TakesBoth UpLow = Unit {0}
 TakesBoth (Replace kind) = Unit {0}
 TakesBoth (Announce sign) = ⊥
+TakesBoth (Collect set) = ⊥
 
 HasDots-both : (line characters dots : List ℕ) (opcode : Opcode) → TakesBoth opcode → HasFields line (name_of opcode ∷ characters ∷ dots ∷ []) → HasDots line opcode dots
 HasDots-both line characters dots (Define class) b h = (characters, h)
 HasDots-both line characters dots UpLow b h = (characters, h)
 HasDots-both line characters dots (Replace kind) b h = (characters, h)
 HasDots-both line characters dots (Announce sign) b h = absurd b
+HasDots-both line characters dots (Collect set) b h = absurd b
 
 both-HasDots : (line dots : List ℕ) (opcode : Opcode) → TakesBoth opcode → HasDots line opcode dots → (characters : List ℕ) × HasFields line (name_of opcode ∷ characters ∷ dots ∷ [])
 both-HasDots line dots (Define class) b h = h
 both-HasDots line dots UpLow b h = h
 both-HasDots line dots (Replace kind) b h = h
 both-HasDots line dots (Announce sign) b h = absurd b
+both-HasDots line dots (Collect set) b h = absurd b
 
 HasCharacters-both : (line characters : List ℕ) (opcode : Opcode) → TakesBoth opcode → HasFields line (name_of opcode ∷ characters ∷ []) → HasCharacters line opcode characters
 HasCharacters-both line characters (Define class) b h = h
 HasCharacters-both line characters UpLow b h = h
 HasCharacters-both line characters (Replace kind) b h = h
 HasCharacters-both line characters (Announce sign) b h = absurd b
+HasCharacters-both line characters (Collect set) b h = absurd b
 
 front_field : (line name characters dots : List ℕ) → HasFields line (name ∷ characters ∷ dots ∷ []) → HasFields line (name ∷ characters ∷ [])
 front_field line name characters dots h = (h.0, h.1, (h.2.0, h.2.1, tt))
@@ -167,7 +132,7 @@ module _ (line characters dots : List ℕ) where
   wrong_says : (opcode : Opcode) (text : List ℕ) → TakesBoth opcode → HasFields line (name_of opcode ∷ characters ∷ dots ∷ []) → characters_in characters ≡ Some text
       → ¬ AreCharactersFor opcode text → (before : List (List ℕ)) → Fault before line 3
   wrong_says opcode text b h e n before =
-      bad_characters opcode characters (HasCharacters-both line characters opcode b (front_field line (name_of opcode) characters dots h)) (wrong_length opcode characters text e n) refl
+      bad_characters opcode characters tt (HasCharacters-both line characters opcode b (front_field line (name_of opcode) characters dots h)) (wrong_length opcode characters text e n) refl
 
   text_says : (opcode : Opcode) (text : List ℕ) → TakesBoth opcode → HasFields line (name_of opcode ∷ characters ∷ dots ∷ []) → characters_in characters ≡ Some text
       → Says line (as_some (entry_from opcode text dots))
@@ -175,28 +140,29 @@ module _ (line characters dots : List ℕ) where
   text_says (Define class) (c ∷ []) b h e =
       or_cause_says line 4 _
       (λ entry s. let m = map_some (λ (cells : List ℕ). Defines c (record { class = class; cells = cells })) (cells_in dots) entry s in
-      definition_line class characters dots c m.0 h (characters_in-Spells characters (c ∷ []) e) (Dots-from_cells_in dots m.0 m.1) (sym m.2))
-      (λ n before. bad_dots (Define class) dots (characters, h) (λ d. unread (cells_in dots) d.0 (map_none _ _ n) (cells_in-from_Dots dots d.0 d.1)) refl)
+      definition_line class characters dots c m.0 tt h (characters_in-Spells characters (c ∷ []) e) (Dots-from_cells_in dots m.0 m.1) (sym m.2))
+      (λ n before. bad_dots (Define class) dots tt (characters, h) (λ d. unread (cells_in dots) d.0 (map_none _ _ n) (cells_in-from_Dots dots d.0 d.1)) refl)
   text_says (Define class) (c ∷ d ∷ text) b h e = wrong_says (Define class) (c ∷ d ∷ text) tt h e (λ n. omega arith)
   text_says UpLow [] b h e = wrong_says UpLow [] tt h e (λ n. omega arith)
   text_says UpLow (u ∷ []) b h e = wrong_says UpLow (u ∷ []) tt h e (λ n. omega arith)
   text_says UpLow (u ∷ l ∷ []) b h e =
       or_cause_says line 4 _
       (λ entry s. let m = map_some (λ (cells : List ℕ × List ℕ). Pairs u cells.0 l cells.1) (pair_in dots) entry s in
-      pair_line characters dots u l m.0.0 m.0.1 h (characters_in-Spells characters (u ∷ l ∷ []) e) (pair_in-PairDots dots m.0.0 m.0.1 m.1) (sym m.2))
-      (λ n before. bad_dots UpLow dots (characters, h) (λ d. unread (pair_in dots) (d.0, d.1) (map_none _ _ n) (PairDots-pair_in dots d.0 d.1 d.2)) refl)
+      pair_line characters dots u l m.0.0 m.0.1 tt h (characters_in-Spells characters (u ∷ l ∷ []) e) (pair_in-PairDots dots m.0.0 m.0.1 m.1) (sym m.2))
+      (λ n before. bad_dots UpLow dots tt (characters, h) (λ d. unread (pair_in dots) (d.0, d.1) (map_none _ _ n) (PairDots-pair_in dots d.0 d.1 d.2)) refl)
   text_says UpLow (u ∷ l ∷ d ∷ text) b h e = wrong_says UpLow (u ∷ l ∷ d ∷ text) tt h e (λ n. omega arith)
   text_says (Replace kind) text b h e =
       or_cause_says line 4 _
       (λ entry s. let m = map_some (λ (cells : Option (List ℕ)). Replaces kind text cells) (rule_in dots) entry s in
-      rule_line kind characters dots text m.0 h (characters_in-Spells characters text e) (rule_in-RuleDots dots m.0 m.1) (sym m.2))
-      (λ n before. bad_dots (Replace kind) dots (characters, h) (λ d. unread (rule_in dots) d.0 (map_none _ _ n) (RuleDots-rule_in dots d.0 d.1)) refl)
+      rule_line kind characters dots text m.0 tt h (characters_in-Spells characters text e) (rule_in-RuleDots dots m.0 m.1) (sym m.2))
+      (λ n before. bad_dots (Replace kind) dots tt (characters, h) (λ d. unread (rule_in dots) d.0 (map_none _ _ n) (RuleDots-rule_in dots d.0 d.1)) refl)
   text_says (Announce sign) text b h e = absurd b
+  text_says (Collect set) text b h e = absurd b
 
   both_says : (opcode : Opcode) (o : Option (List ℕ)) → characters_in characters ≡ o → TakesBoth opcode → HasFields line (name_of opcode ∷ characters ∷ dots ∷ [])
       → Says line (as_some (entry_with opcode o dots))
   both_says opcode None e b h =
-      λ before. bad_characters opcode characters (HasCharacters-both line characters opcode b (front_field line (name_of opcode) characters dots h))
+      λ before. bad_characters opcode characters tt (HasCharacters-both line characters opcode b (front_field line (name_of opcode) characters dots h))
       (λ text a s. unread (characters_in characters) text e (Spells-characters_in characters text s)) refl
   both_says opcode (Some text) e b h = text_says opcode text b h e
 
@@ -204,8 +170,17 @@ module _ (line characters dots : List ℕ) where
   sign_says sign h =
       or_cause_says line 4 _
       (λ entry s. let m = map_some (λ (cells : List ℕ). Announces sign cells) (cells_in dots) entry s in
-      sign_line sign dots m.0 h (Dots-from_cells_in dots m.0 m.1) (sym m.2))
-      (λ n before. bad_dots (Announce sign) dots h (λ d. unread (cells_in dots) d.0 (map_none _ _ n) (cells_in-from_Dots dots d.0 d.1)) refl)
+      sign_line sign dots m.0 tt h (Dots-from_cells_in dots m.0 m.1) (sym m.2))
+      (λ n before. bad_dots (Announce sign) dots tt h (λ d. unread (cells_in dots) d.0 (map_none _ _ n) (cells_in-from_Dots dots d.0 d.1)) refl)
+
+-- what a set's operand gives is said
+set_says : (line characters : List ℕ) (set : CharacterSet) → HasFields line (name_of (Collect set) ∷ characters ∷ [])
+    → Says line (as_some (or_cause 3 (option_map (λ text. Collects set text) (characters_in characters))))
+set_says line characters set h =
+    or_cause_says line 3 _
+    (λ entry s. let m = map_some (λ (text : List ℕ). Collects set text) (characters_in characters) entry s in
+    set_line set characters m.0 tt h (characters_in-Spells characters m.0 m.1) (sym m.2))
+    (λ n before. bad_characters (Collect set) characters tt h (λ text a s. unread (characters_in characters) text (map_none _ _ n) (Spells-characters_in characters text s)) refl)
 
 same_rest : (text field rest other : List ℕ) → Begins text field rest → Begins text field other → other ≡ rest
 same_rest text field rest other b d = sym (Begins-field_at text field other d).1 ∙ (Begins-field_at text field rest b).1
@@ -213,10 +188,26 @@ same_rest text field rest other b d = sym (Begins-field_at text field other d).1
 same_rest_of : (text field rest others other : List ℕ) → Begins text field rest → Begins text others other → other ≡ rest
 same_rest_of text field rest others other b d = sym (Begins-field_at text others other d).1 ∙ (Begins-field_at text field rest b).1
 
+operands-both : (line : List ℕ) (opcode : Opcode) → TakesBoth opcode → HasOperands line opcode → (dots : List ℕ) × HasDots line opcode dots
+operands-both line (Define class) two h = h
+operands-both line UpLow two h = h
+operands-both line (Replace kind) two h = h
+operands-both line (Announce sign) two h = h
+operands-both line (Collect set) two h = absurd two
+
+both-operands : (line dots : List ℕ) (opcode : Opcode) → HasDots line opcode dots → HasOperands line opcode
+both-operands line dots (Define class) h = (dots, h)
+both-operands line dots UpLow h = (dots, h)
+both-operands line dots (Replace kind) h = (dots, h)
+both-operands line dots (Announce sign) h = (dots, h)
+both-operands line dots (Collect set) h = absurd h
+
 missing_both : (line rest : List ℕ) (opcode : Opcode) → TakesBoth opcode → Begins line (name_of opcode) rest
-    → ((characters dots : List ℕ) → ¬ HasFields rest (characters ∷ dots ∷ [])) → (dots : List ℕ) → ¬ HasDots line opcode dots
-missing_both line rest opcode two b n dots h =
-    let f = both-HasDots line dots opcode two h in
+    → ((characters dots : List ℕ) → ¬ HasFields rest (characters ∷ dots ∷ [])) → ¬ HasOperands line opcode
+missing_both line rest opcode two b n has =
+    let some = operands-both line opcode two has in
+    let dots : List ℕ = some.0 in
+    let f = both-HasDots line dots opcode two some.1 in
     n f.0 dots (subst (λ (r : List ℕ). HasFields r (f.0 ∷ dots ∷ [])) (same_rest line (name_of opcode) rest f.1.0 b f.1.1) f.1.2)
 
 two_say : (line rest characters more dots end : List ℕ) (opcode : Opcode) → TakesBoth opcode → Begins line (name_of opcode) rest
@@ -224,9 +215,9 @@ two_say : (line rest characters more dots end : List ℕ) (opcode : Opcode) → 
     → (dots ≢ [] → Begins more dots end) → (dots ≡ [] → IsGap more)
     → Says line (as_some (entry_of_two opcode characters dots))
 two_say line rest [] more dots end opcode two b f n g m =
-    λ before. missing_operand opcode rest b (missing_both line rest opcode two b (λ characters dots h. gap_without_field rest characters h.0 (n refl) h.1)) refl
+    λ before. missing_operand opcode rest tt b (missing_both line rest opcode two b (λ characters dots h. gap_without_field rest characters h.0 (n refl) h.1)) refl
 two_say line rest (x ∷ characters) more [] end opcode two b f n g m =
-    λ before. missing_operand opcode rest b
+    λ before. missing_operand opcode rest tt b
     (missing_both line rest opcode two b (λ others dots h. gap_without_field h.0 dots h.2.0 (subst IsGap (sym (same_rest_of rest (x ∷ characters) more others h.0 (f (λ e. cc)) h.1)) (m refl)) h.2.1)) refl
 two_say line rest (x ∷ characters) more (y ∷ dots) end opcode two b f n g m =
     both_says line (x ∷ characters) (y ∷ dots) opcode _ refl two (rest, b, (more, f (λ e. cc), (end, g (λ e. cc), tt)))
@@ -234,9 +225,16 @@ two_say line rest (x ∷ characters) more (y ∷ dots) end opcode two b f n g m 
 one_say : (line rest dots more : List ℕ) (sign : Sign) → Begins line (name_of (Announce sign)) rest → (dots ≢ [] → Begins rest dots more) → (dots ≡ [] → IsGap rest)
     → Says line (as_some (entry_of_one (Announce sign) dots))
 one_say line rest [] more sign b f n =
-    λ before. missing_operand (Announce sign) rest b
-    (λ dots h. gap_without_field h.0 dots h.2.0 (subst IsGap (sym (same_rest line (name_of (Announce sign)) rest h.0 b h.1)) (n refl)) h.2.1) refl
+    λ before. missing_operand (Announce sign) rest tt b
+    (λ (dots, h). gap_without_field h.0 dots h.2.0 (subst IsGap (sym (same_rest line (name_of (Announce sign)) rest h.0 b h.1)) (n refl)) h.2.1) refl
 one_say line rest (y ∷ dots) more sign b f n = sign_says line [] (y ∷ dots) sign (rest, b, (more, f (λ e. cc), tt))
+
+set_say : (line rest characters more : List ℕ) (set : CharacterSet) → Begins line (name_of (Collect set)) rest → (characters ≢ [] → Begins rest characters more) → (characters ≡ [] → IsGap rest)
+    → Says line (as_some (entry_of_set set characters))
+set_say line rest [] more set b f n =
+    λ before. missing_operand (Collect set) rest tt b
+    (λ (characters, h). gap_without_field h.0 characters h.2.0 (subst IsGap (sym (same_rest line (name_of (Collect set)) rest h.0 b h.1)) (n refl)) h.2.1) refl
+set_say line rest (y ∷ characters) more set b f n = set_says line (y ∷ characters) set (rest, b, (more, f (λ e. cc), tt))
 
 entry_says : (line rest : List ℕ) (opcode : Opcode) → Begins line (name_of opcode) rest → Says line (as_some (entry_at opcode rest))
 unfolding entry_at
@@ -252,6 +250,7 @@ entry_says line rest opcode b = by opcode b
     by UpLow b = two UpLow tt b
     by (Replace kind) b = two (Replace kind) tt b
     by (Announce sign) b = one_say line rest (field_at rest).0 (field_at rest).1 sign b (field_at-Begins rest) (IsGap-field_at rest)
+    by (Collect set) b = set_say line rest (field_at rest).0 (field_at rest).1 set b (field_at-Begins rest) (IsGap-field_at rest)
 
 opcode_says : (line field rest : List ℕ) (opcode : Option Opcode) → opcode_named field ≡ opcode → Begins line field rest → ¬ IsComment field → Says line (opcode_gives opcode rest)
 opcode_says line field rest None e b n = λ before. unknown_opcode field rest b n (opcode_named-None field e) refl
@@ -281,19 +280,22 @@ first_gives line field rest b =
 
 opcode_field : (opcode : Opcode) (rest : List ℕ) → fields_give (name_of opcode) rest ≡ as_some (entry_at opcode rest)
 unfolding opcode_named
-opcode_field (Define Space) rest = refl
-opcode_field (Define Punctuation) rest = refl
-opcode_field (Define Digit) rest = refl
-opcode_field (Define Letter) rest = refl
+opcode_field (Define classes.Space) rest = refl
+opcode_field (Define classes.Punctuation) rest = refl
+opcode_field (Define classes.Digit) rest = refl
+opcode_field (Define classes.Letter) rest = refl
 opcode_field UpLow rest = refl
-opcode_field (Replace Always) rest = refl
-opcode_field (Replace Word) rest = refl
-opcode_field (Replace BegWord) rest = refl
-opcode_field (Replace MidWord) rest = refl
-opcode_field (Replace EndWord) rest = refl
-opcode_field (Announce Number) rest = refl
-opcode_field (Announce Capital) rest = refl
-opcode_field (Announce CapitalWord) rest = refl
+opcode_field (Replace kinds.Always) rest = refl
+opcode_field (Replace kinds.Word) rest = refl
+opcode_field (Replace kinds.BegWord) rest = refl
+opcode_field (Replace kinds.MidWord) rest = refl
+opcode_field (Replace kinds.EndWord) rest = refl
+opcode_field (Announce signs.Number) rest = refl
+opcode_field (Announce signs.Capital) rest = refl
+opcode_field (Announce signs.CapitalWord) rest = refl
+opcode_field (Announce signs.NoContraction) rest = refl
+opcode_field (Collect sets.NumericMode) rest = refl
+opcode_field (Collect sets.NoContraction) rest = refl
 
 pub entry_at-both : (opcode : Opcode) (rest : List ℕ) → TakesBoth opcode → entry_at opcode rest ≡ entry_of_fields opcode rest
 unfolding entry_at
@@ -301,10 +303,15 @@ entry_at-both (Define class) rest b = refl
 entry_at-both UpLow rest b = refl
 entry_at-both (Replace kind) rest b = refl
 entry_at-both (Announce sign) rest b = absurd b
+entry_at-both (Collect set) rest b = absurd b
 
 pub entry_at-sign : (sign : Sign) (rest : List ℕ) → entry_at (Announce sign) rest ≡ entry_of_one (Announce sign) (field_at rest).0
 unfolding entry_at
 entry_at-sign sign rest = refl
+
+pub entry_at-set : (set : CharacterSet) (rest : List ℕ) → entry_at (Collect set) rest ≡ entry_of_set set (field_at rest).0
+unfolding entry_at
+entry_at-set set rest = refl
 
 operands_at : (opcode : Opcode) (rest characters more dots : List ℕ) → Begins rest characters more → (field_at more).0 ≡ dots
     → entry_of_fields opcode rest ≡ entry_of_two opcode characters dots
@@ -323,11 +330,16 @@ operand_one : (opcode : Opcode) (dots : List ℕ) → IsField dots → entry_of_
 operand_one opcode [] f = absurd f
 operand_one opcode (y ∷ dots) f = refl
 
+pub operand_set : (set : CharacterSet) (characters : List ℕ) → IsField characters
+    → entry_of_set set characters ≡ or_cause 3 (option_map (λ text. Collects set text) (characters_in characters))
+operand_set set [] f = absurd f
+operand_set set (y ∷ characters) f = refl
+
 field_of : (text field rest : List ℕ) → Begins text field rest → IsField field
 field_of text field rest b = b.is_field
 
 -- a line that begins with an opcode
-opcode_line : (line rest : List ℕ) (opcode : Opcode) → Begins line (name_of opcode) rest → line_gives line ≡ as_some (entry_at opcode rest)
+pub opcode_line : (line rest : List ℕ) (opcode : Opcode) → Begins line (name_of opcode) rest → line_gives line ≡ as_some (entry_at opcode rest)
 opcode_line line rest opcode b = first_gives line (name_of opcode) rest b ∙ opcode_field opcode rest
 
 -- a line with both operands
@@ -353,6 +365,15 @@ one_gives line dots sign h =
     ∙ (ap (entry_of_one (Announce sign)) (Begins-field_at h.0 dots h.2.0 h.2.1).0
     ∙ operand_one (Announce sign) dots (field_of h.0 dots h.2.0 h.2.1)))
 
+-- a line of a set
+set_gives : (line characters : List ℕ) (set : CharacterSet) → HasFields line (name_of (Collect set) ∷ characters ∷ [])
+    → line_gives line ≡ as_some (or_cause 3 (option_map (λ text. Collects set text) (characters_in characters)))
+set_gives line characters set h =
+    opcode_line line h.0 (Collect set) h.1
+    ∙ ap as_some (entry_at-set set h.0
+    ∙ (ap (entry_of_set set) (Begins-field_at h.0 characters h.2.0 h.2.1).0
+    ∙ operand_set set characters (field_of h.0 characters h.2.0 h.2.1)))
+
 pub line_gives-nothing : (line : List ℕ) → SaysNothing line → line_gives line ≡ Ok None
 unfolding line_gives
 line_gives-nothing line (blank gap) = ap (λ (f : List ℕ). fields_give f (field_at line).1) (field_at-gap line gap)
@@ -366,17 +387,19 @@ some_entry : {A : Type 0} (f : A → Entry) (cause : ℕ) (o : Option A) (x : A)
 some_entry f cause o x entry e s = ap (λ p. as_some (or_cause cause (option_map f p))) e ∙ ap (λ (y : Entry). Ok (Some y)) (sym s)
 
 pub line_gives-entry : (line : List ℕ) (entry : Entry) → Gives line entry → line_gives line ≡ Ok (Some entry)
-line_gives-entry line entry (definition_line class characters dots c cells h s d e) =
+line_gives-entry line entry (definition_line class characters dots c cells has h s d e) =
     text_gives line characters dots (c ∷ []) (Define class) tt h s
     ∙ some_entry (λ (cells : List ℕ). Defines c (record { class = class; cells = cells })) 4 (cells_in dots) cells entry (cells_in-from_Dots dots cells d) e
-line_gives-entry line entry (pair_line characters dots upper lower upper_cells lower_cells h s d e) =
+line_gives-entry line entry (pair_line characters dots upper lower upper_cells lower_cells has h s d e) =
     text_gives line characters dots (upper ∷ lower ∷ []) UpLow tt h s
     ∙ some_entry (λ (cells : List ℕ × List ℕ). Pairs upper cells.0 lower cells.1) 4 (pair_in dots) (upper_cells, lower_cells) entry (PairDots-pair_in dots upper_cells lower_cells d) e
-line_gives-entry line entry (rule_line kind characters dots text cells h s d e) =
+line_gives-entry line entry (rule_line kind characters dots text cells has h s d e) =
     text_gives line characters dots text (Replace kind) tt h s
     ∙ some_entry (λ (cells : Option (List ℕ)). Replaces kind text cells) 4 (rule_in dots) cells entry (RuleDots-rule_in dots cells d) e
-line_gives-entry line entry (sign_line sign dots cells h d e) =
+line_gives-entry line entry (sign_line sign dots cells has h d e) =
     one_gives line dots sign h ∙ some_entry (λ (cells : List ℕ). Announces sign cells) 4 (cells_in dots) cells entry (cells_in-from_Dots dots cells d) e
+line_gives-entry line entry (set_line set characters text has h s e) =
+    set_gives line characters set h ∙ some_entry (λ (text : List ℕ). Collects set text) 3 (characters_in characters) text entry (Spells-characters_in characters text s) e
 
 -- ---- causes
 
@@ -384,42 +407,48 @@ line_gives-entry line entry (sign_line sign dots cells h d e) =
 abbrev pub FailsBy : List ℕ → ℕ → Type 0
 FailsBy line cause = (least : ℕ) × (line_gives line ≡ Err least) × (least ≤ cause)
 
-pub unknown_fails : (line field rest : List ℕ) → Begins line field rest → ¬ IsComment field → ((opcode : Opcode) → field ≢ name_of opcode) → FailsBy line 1
+pub unknown_fails : (line field rest : List ℕ) → Begins line field rest → ¬ IsComment field → ((opcode : Opcode) → HasOpcode WithNumericMode opcode → field ≢ name_of opcode) → FailsBy line 1
 unknown_fails line field rest b n u = (1, first_gives line field rest b ∙ unknown field b.is_field n u, lit≤ tt)
   where
-    no_opcode : (field : List ℕ) → ((opcode : Opcode) → field ≢ name_of opcode) → (o : Option Opcode) → opcode_named field ≡ o → opcode_gives o rest ≡ Err 1
+    no_opcode : (field : List ℕ) → ((opcode : Opcode) → HasOpcode WithNumericMode opcode → field ≢ name_of opcode) → (o : Option Opcode) → opcode_named field ≡ o → opcode_gives o rest ≡ Err 1
     no_opcode field u None e = refl
-    no_opcode field u (Some opcode) e = absurd (u opcode (opcode_named-Some field opcode e))
+    no_opcode field u (Some opcode) e = absurd (u opcode tt (opcode_named-Some field opcode e))
 
-    unknown : (field : List ℕ) → IsField field → ¬ IsComment field → ((opcode : Opcode) → field ≢ name_of opcode) → fields_give field rest ≡ Err 1
+    unknown : (field : List ℕ) → IsField field → ¬ IsComment field → ((opcode : Opcode) → HasOpcode WithNumericMode opcode → field ≢ name_of opcode) → fields_give field rest ≡ Err 1
     unknown [] f n u = absurd f
     unknown (x ∷ field) f n u = rw (ne_eqb x 35 n) (no_opcode (x ∷ field) u (opcode_named (x ∷ field)) refl)
 
 module _ (line rest : List ℕ) where
-  two_missing : (opcode : Opcode) (characters dots : List ℕ) → TakesBoth opcode → Begins line (name_of opcode) rest → ((dots : List ℕ) → ¬ HasDots line opcode dots)
+  two_missing : (opcode : Opcode) (characters dots : List ℕ) → TakesBoth opcode → Begins line (name_of opcode) rest → ¬ HasOperands line opcode
       → (characters ≢ [] → Begins rest characters (field_at rest).1)
       → (dots ≢ [] → Begins (field_at rest).1 dots (field_at (field_at rest).1).1) → entry_of_two opcode characters dots ≡ Err 2
   two_missing opcode [] dots two b n f g = refl
   two_missing opcode (x ∷ characters) [] two b n f g = refl
   two_missing opcode (x ∷ characters) (y ∷ dots) two b n f g =
-      absurd (n (y ∷ dots) (HasDots-both line (x ∷ characters) (y ∷ dots) opcode two (rest, b, ((field_at rest).1, f (λ e. cc), ((field_at (field_at rest).1).1, g (λ e. cc), tt)))))
+      absurd (n (both-operands line (y ∷ dots) opcode (HasDots-both line (x ∷ characters) (y ∷ dots) opcode two (rest, b, ((field_at rest).1, f (λ e. cc), ((field_at (field_at rest).1).1, g (λ e. cc), tt))))))
 
-  one_missing : (sign : Sign) (dots : List ℕ) → Begins line (name_of (Announce sign)) rest → ((dots : List ℕ) → ¬ HasDots line (Announce sign) dots)
+  one_missing : (sign : Sign) (dots : List ℕ) → Begins line (name_of (Announce sign)) rest → ¬ HasOperands line (Announce sign)
       → (dots ≢ [] → Begins rest dots (field_at rest).1) → entry_of_one (Announce sign) dots ≡ Err 2
   one_missing sign [] b n f = refl
-  one_missing sign (y ∷ dots) b n f = absurd (n (y ∷ dots) (rest, b, ((field_at rest).1, f (λ e. cc), tt)))
+  one_missing sign (y ∷ dots) b n f = absurd (n (y ∷ dots, (rest, b, ((field_at rest).1, f (λ e. cc), tt))))
 
-  both_missing : (opcode : Opcode) → TakesBoth opcode → Begins line (name_of opcode) rest → ((dots : List ℕ) → ¬ HasDots line opcode dots) → entry_at opcode rest ≡ Err 2
+  set_missing : (set : CharacterSet) (characters : List ℕ) → Begins line (name_of (Collect set)) rest → ¬ HasOperands line (Collect set)
+      → (characters ≢ [] → Begins rest characters (field_at rest).1) → entry_of_set set characters ≡ Err 2
+  set_missing set [] b n f = refl
+  set_missing set (y ∷ characters) b n f = absurd (n (y ∷ characters, (rest, b, ((field_at rest).1, f (λ e. cc), tt))))
+
+  both_missing : (opcode : Opcode) → TakesBoth opcode → Begins line (name_of opcode) rest → ¬ HasOperands line opcode → entry_at opcode rest ≡ Err 2
   both_missing opcode two b n =
       entry_at-both opcode rest two ∙ two_missing opcode (field_at rest).0 (field_at (field_at rest).1).0 two b n (field_at-Begins rest) (field_at-Begins (field_at rest).1)
 
-  missing_at : (opcode : Opcode) → Begins line (name_of opcode) rest → ((dots : List ℕ) → ¬ HasDots line opcode dots) → entry_at opcode rest ≡ Err 2
+  missing_at : (opcode : Opcode) → Begins line (name_of opcode) rest → ¬ HasOperands line opcode → entry_at opcode rest ≡ Err 2
   missing_at (Define class) b n = both_missing (Define class) tt b n
   missing_at UpLow b n = both_missing UpLow tt b n
   missing_at (Replace kind) b n = both_missing (Replace kind) tt b n
   missing_at (Announce sign) b n = entry_at-sign sign rest ∙ one_missing sign (field_at rest).0 b n (field_at-Begins rest)
+  missing_at (Collect set) b n = entry_at-set set rest ∙ set_missing set (field_at rest).0 b n (field_at-Begins rest)
 
-pub missing_fails : (line rest : List ℕ) (opcode : Opcode) → Begins line (name_of opcode) rest → ((dots : List ℕ) → ¬ HasDots line opcode dots) → FailsBy line 2
+pub missing_fails : (line rest : List ℕ) (opcode : Opcode) → Begins line (name_of opcode) rest → ¬ HasOperands line opcode → FailsBy line 2
 missing_fails line rest opcode b n = (2, opcode_line line rest opcode b ∙ ap as_some (missing_at line rest opcode b n), lit≤ tt)
 
 -- an entry fails by a cause that is at most this one
@@ -436,6 +465,7 @@ wrong_entry UpLow (u ∷ l ∷ []) dots b n = absurd (n refl)
 wrong_entry UpLow (u ∷ l ∷ d ∷ text) dots b n = refl
 wrong_entry (Replace kind) text dots b n = absurd (n tt)
 wrong_entry (Announce sign) text dots b n = absurd b
+wrong_entry (Collect set) text dots b n = absurd b
 
 -- a line with the characters operand alone, or with both
 with_characters : (line characters : List ℕ) (opcode : Opcode) → TakesBoth opcode → HasFields line (name_of opcode ∷ characters ∷ [])
@@ -467,27 +497,31 @@ two_characters_fail line characters opcode two h n =
     by dots None e = refl
     by dots (Some text) e = wrong_entry opcode text dots two (λ a. n text a (characters_in-Spells characters text e))
 
+unwritten : {A : Type 0} (f : A → Entry) (cause : ℕ) (o : Option A) → ((x : A) → o ≡ Some x → ⊥) → Fails (or_cause cause (option_map f o)) cause
+unwritten f cause None n = (cause, refl, omega arith)
+unwritten f cause (Some x) n = absurd (n x refl)
+
 pub characters_fail : (line characters : List ℕ) (opcode : Opcode) → HasCharacters line opcode characters
     → ((text : List ℕ) → AreCharactersFor opcode text → ¬ Spells characters text) → FailsBy line 3
 characters_fail line characters (Define class) h n = two_characters_fail line characters (Define class) tt h n
 characters_fail line characters UpLow h n = two_characters_fail line characters UpLow tt h n
 characters_fail line characters (Replace kind) h n = two_characters_fail line characters (Replace kind) tt h n
 characters_fail line characters (Announce sign) h n = absurd h
-
-unwritten : {A : Type 0} (f : A → Entry) (o : Option A) → ((x : A) → o ≡ Some x → ⊥) → Fails (or_cause 4 (option_map f o)) 4
-unwritten f None n = (4, refl, lit≤ tt)
-unwritten f (Some x) n = absurd (n x refl)
+characters_fail line characters (Collect set) h n =
+    let u = unwritten (λ (text : List ℕ). Collects set text) 3 (characters_in characters) (λ text e. n text tt (characters_in-Spells characters text e)) in
+    (u.0, set_gives line characters set h ∙ ap as_some u.1, u.2)
 
 dots_entry : (opcode : Opcode) (text dots : List ℕ) → ¬ IsDotsFor opcode dots → Fails (entry_from opcode text dots) 4
 dots_entry (Define class) [] dots n = (3, refl, lit≤ tt)
-dots_entry (Define class) (c ∷ []) dots n = unwritten _ (cells_in dots) (λ cells e. n (cells, Dots-from_cells_in dots cells e))
+dots_entry (Define class) (c ∷ []) dots n = unwritten _ 4 (cells_in dots) (λ cells e. n (cells, Dots-from_cells_in dots cells e))
 dots_entry (Define class) (c ∷ d ∷ text) dots n = (3, refl, lit≤ tt)
 dots_entry UpLow [] dots n = (3, refl, lit≤ tt)
 dots_entry UpLow (u ∷ []) dots n = (3, refl, lit≤ tt)
-dots_entry UpLow (u ∷ l ∷ []) dots n = unwritten _ (pair_in dots) (λ cells e. n (cells.0, cells.1, pair_in-PairDots dots cells.0 cells.1 e))
+dots_entry UpLow (u ∷ l ∷ []) dots n = unwritten _ 4 (pair_in dots) (λ cells e. n (cells.0, cells.1, pair_in-PairDots dots cells.0 cells.1 e))
 dots_entry UpLow (u ∷ l ∷ d ∷ text) dots n = (3, refl, lit≤ tt)
-dots_entry (Replace kind) text dots n = unwritten _ (rule_in dots) (λ cells e. n (cells, rule_in-RuleDots dots cells e))
-dots_entry (Announce sign) text dots n = unwritten _ (cells_in dots) (λ cells e. n (cells, Dots-from_cells_in dots cells e))
+dots_entry (Replace kind) text dots n = unwritten _ 4 (rule_in dots) (λ cells e. n (cells, rule_in-RuleDots dots cells e))
+dots_entry (Announce sign) text dots n = unwritten _ 4 (cells_in dots) (λ cells e. n (cells, Dots-from_cells_in dots cells e))
+dots_entry (Collect set) text dots n = (4, refl, lit≤ tt)
 
 two_dots_fail : (line dots : List ℕ) (opcode : Opcode) → TakesBoth opcode → HasDots line opcode dots → ¬ IsDotsFor opcode dots → FailsBy line 4
 two_dots_fail line dots opcode two h n =
@@ -506,6 +540,7 @@ dots_fail line dots (Replace kind) h n = two_dots_fail line dots (Replace kind) 
 dots_fail line dots (Announce sign) h n =
     let o = dots_entry (Announce sign) [] dots n in
     (o.0, one_gives line dots sign h ∙ ap as_some o.1, o.2)
+dots_fail line dots (Collect set) h n = absurd h
 
 -- ---- limits of operands
 
@@ -536,7 +571,7 @@ rule_large : (kind : RuleKind) (text : List ℕ) (o : Option (Option (List ℕ))
 rule_large kind text None lt = inl (4, refl, lit≤ tt)
 rule_large kind text (Some cells) lt = inr (Replaces kind text cells, refl, or_left _ _ (lt-ltb _ _ lt))
 
-pub long_rule_large : (line characters text : List ℕ) (kind : RuleKind) → HasCharacters line (Replace kind) characters → Spells characters text → most_rule_characters < length text → IsLargeBy line
+long_rule_large : (line characters text : List ℕ) (kind : RuleKind) → HasCharacters line (Replace kind) characters → Spells characters text → most_rule_characters < length text → IsLargeBy line
 long_rule_large line characters text kind h s lt =
     elim (with_characters line characters (Replace kind) tt h) [
       | inl e ↦ inl (2, e, lit≤ tt)
@@ -548,6 +583,15 @@ long_rule_large line characters text kind h s lt =
 
 some_large : {A : Type 0} (f : A → Entry) (o : Option A) (x : A) → o ≡ Some x → is_large (f x) ≡ true → IsLargeEntry (or_cause 4 (option_map f o))
 some_large f o x e h = inr (f x, ap (λ p. or_cause 4 (option_map f p)) e, h)
+
+pub many_characters_large : (line characters text : List ℕ) (opcode : Opcode) → HasCharacters line opcode characters → Spells characters text → AreTooManyFor opcode text → IsLargeBy line
+many_characters_large line characters text (Define class) h s many = absurd many
+many_characters_large line characters text UpLow h s many = absurd many
+many_characters_large line characters text (Replace kind) h s many = long_rule_large line characters text kind h s many
+many_characters_large line characters text (Announce sign) h s many = absurd many
+many_characters_large line characters text (Collect set) h s many =
+    large_line line _ (set_gives line characters set h)
+    (inr (Collects set text, ap (λ p. or_cause 3 (option_map (λ text. Collects set text) p)) (Spells-characters_in characters text s), lt-ltb _ _ many))
 
 cells_large : (opcode : Opcode) (text dots cells : List ℕ) → WritesCells opcode dots cells → most_cells < length cells → IsLargeEntry (entry_from opcode text dots)
 cells_large (Define class) [] dots cells w lt = inl (3, refl, lit≤ tt)
@@ -566,6 +610,7 @@ cells_large (Replace kind) text dots cells w lt =
     some_large (λ (x : Option (List ℕ)). Replaces kind text x) (rule_in dots) (Some cells) (RuleDots-rule_in dots (Some cells) w)
     (or_right (ltb most_rule_characters (length text)) _ (lt-ltb _ _ lt))
 cells_large (Announce sign) text dots cells w lt = some_large _ (cells_in dots) cells (cells_in-from_Dots dots cells w) (lt-ltb _ _ lt)
+cells_large (Collect set) text dots cells w lt = absurd w
 
 two_cells_large : (line dots cells : List ℕ) (opcode : Opcode) → TakesBoth opcode → HasDots line opcode dots → WritesCells opcode dots cells → most_cells < length cells → IsLargeBy line
 two_cells_large line dots cells opcode two h w lt =
@@ -582,24 +627,27 @@ many_cells_large line dots cells UpLow h w lt = two_cells_large line dots cells 
 many_cells_large line dots cells (Replace kind) h w lt = two_cells_large line dots cells (Replace kind) tt h w lt
 many_cells_large line dots cells (Announce sign) h w lt =
     large_line line (entry_from (Announce sign) [] dots) (one_gives line dots sign h) (cells_large (Announce sign) [] dots cells w lt)
+many_cells_large line dots cells (Collect set) h w lt = absurd h
 
 -- an entry with an operand beyond its limit is a fault
 pub large_fault : (before : List (List ℕ)) (line : List ℕ) (entry : Entry) → Gives line entry → is_large entry ≡ true → Fault before line 8
-large_fault before line entry (definition_line class characters dots c cells h s d e) t =
-    many_cells (Define class) dots cells (characters, h) d (ltb-true _ _ (sym (ap is_large e) ∙ t)) refl
-large_fault before line entry (pair_line characters dots upper lower upper_cells lower_cells h s d e) t =
+large_fault before line entry (definition_line class characters dots c cells has h s d e) t =
+    many_cells (Define class) dots cells tt (characters, h) d (ltb-true _ _ (sym (ap is_large e) ∙ t)) refl
+large_fault before line entry (pair_line characters dots upper lower upper_cells lower_cells has h s d e) t =
     elim (or_cases (are_many upper_cells) (are_many lower_cells) (sym (ap is_large e) ∙ t)) [
-      | inl m ↦ many_cells UpLow dots upper_cells (characters, h) (upper_cells, lower_cells, d, inl refl) (ltb-true _ _ m) refl
-      | inr m ↦ many_cells UpLow dots lower_cells (characters, h) (upper_cells, lower_cells, d, inr refl) (ltb-true _ _ m) refl
+      | inl m ↦ many_cells UpLow dots upper_cells tt (characters, h) (upper_cells, lower_cells, d, inl refl) (ltb-true _ _ m) refl
+      | inr m ↦ many_cells UpLow dots lower_cells tt (characters, h) (upper_cells, lower_cells, d, inr refl) (ltb-true _ _ m) refl
     ]
-large_fault before line entry (rule_line kind characters dots text cells h s d e) t =
+large_fault before line entry (rule_line kind characters dots text cells has h s d e) t =
     elim (or_cases (ltb most_rule_characters (length text)) (are_many_written cells) (sym (ap is_large e) ∙ t)) [
-      | inl m ↦ long_rule kind characters text (front_field line (kind_name kind) characters dots h) s (ltb-true _ _ m) refl
+      | inl m ↦ many_characters (Replace kind) characters text tt (front_field line (name_of (Replace kind)) characters dots h) s (ltb-true _ _ m) refl
       | inr m ↦ written cells d m
     ]
   where
     written : (cells : Option (List ℕ)) → RuleDots dots cells → are_many_written cells ≡ true → Fault before line 8
     written None d m = absurd cc
-    written (Some cells) d m = many_cells (Replace kind) dots cells (characters, h) d (ltb-true _ _ m) refl
-large_fault before line entry (sign_line sign dots cells h d e) t =
-    many_cells (Announce sign) dots cells h d (ltb-true _ _ (sym (ap is_large e) ∙ t)) refl
+    written (Some cells) d m = many_cells (Replace kind) dots cells tt (characters, h) d (ltb-true _ _ m) refl
+large_fault before line entry (sign_line sign dots cells has h d e) t =
+    many_cells (Announce sign) dots cells tt h d (ltb-true _ _ (sym (ap is_large e) ∙ t)) refl
+large_fault before line entry (set_line set characters text has h s e) t =
+    many_characters (Collect set) characters text tt h s (ltb-true _ _ (sym (ap is_large e) ∙ t)) refl

@@ -11,3 +11,6 @@ pub mod OneMeaning
 mod StepLaws
 mod MeaningLaws
 mod PlaceLaws
+pub mod ProfileLaws
+pub mod ProfileOutcome
+pub mod CellLaws

@@ -1,5 +1,5 @@
 -- A text has one meaning, or one fault that is told.
-use Rattle.std.proofs.Common.{◌≡◌, ℕ, ◌+◌, ◌≤◌, ◌<◌, Bool, true, false, cond, List, [], ◌∷◌, ◌++◌, length, Option, Some, None, Result, Ok, Err, Contains, refl, sym, ap, subst, ◌∙◌, ◌⊎◌, inl, inr, arith, true≢false}
+use Rattle.std.proofs.Common.{◌≡◌, ℕ, ◌+◌, ◌≤◌, Bool, false, cond, List, [], ◌∷◌, ◌++◌, length, Option, Some, None, Result, Ok, Err, Contains, refl, sym, ap, subst, ◌∙◌, ◌⊎◌, inl, inr, arith, true≢false}
 use Rattle.std.specs.List.{flat_map}
 use Rattle.std.specs.Prelude.{map, nat_eq, unwrap_or}
 use Rattle.std.specs.Map.{lookup}
@@ -10,11 +10,17 @@ use Rattle.louis_table.specs.declared.definition.Definition.{Definition}
 use Rattle.louis_table.specs.declared.fault.ReadFault.{ReadFault}
 use Rattle.louis_table.specs.declared.fault.ReadFault.TheVariants as faults
 use Rattle.louis_table.specs.declared.rule.Rule.{Rule}
-use Rattle.louis_table.specs.declared.written.WrittenRule.{WrittenRule}
+use Rattle.louis_table.specs.declared.sign.Sign.{Sign}
+use Rattle.louis_table.specs.declared.sign.Sign.TheVariants as signs
+use Rattle.louis_table.specs.declared.character_set.CharacterSet.{CharacterSet}
+use Rattle.louis_table.specs.declared.character_set.CharacterSet.TheVariants as sets
+use Rattle.louis_table.specs.declared.written.Written.{Written}
+use Rattle.louis_table.specs.declared.written.Written.TheVariants as writtens
 use Rattle.louis_table.specs.Lines.{lines_of}
-use Rattle.louis_table.specs.Meaning.{Meaning, definition_of, folded}
-use Rattle.louis_table.specs.Reading.{no_meaning, with_given, written_in, finished, first_lacking, is_complete, Gathers, LinesGive, LinesMean, IsTold, IsLackingIn, LinesTell, judge}
-use Rattle.louis_table.specs.Table.{Entry, Defines, Pairs, Replaces, Announces, Gives, GiveFrom, definitions_in, partners_in, numsign_in, capsletter_in, begcapsword_in, rules_in, HasCause, IsToldNoLater, text_lines, line_of_stop, without_byte_order_mark, IsMadeOf, IsLacking, Bad, no_text, bad_line, undefined_character, Means}
+use Rattle.louis_table.specs.Meaning.{Meaning, definition_of, folded, sign_cells, set_characters}
+use Rattle.louis_table.specs.Profile.{Profile, WithNumericMode}
+use Rattle.louis_table.specs.Reading.{no_meaning, with_given, written_in, is_known, are_defined, finished, first_lacking, is_complete, line_of, Gathers, LinesGive, LinesMean, IsTold, IsLackingIn, LinesTell, judge}
+use Rattle.louis_table.specs.Table.{Entry, Defines, Pairs, Replaces, Announces, Collects, Gives, GivesIn, definition_line, pair_line, rule_line, sign_line, set_line, GiveFromIn, rules_in, IsToldNoLater, text_lines, line_of_stop, without_byte_order_mark, IsMadeOf, IsLacking, Bad, BadIn, no_text, bad_line, undefined_character, Means, MeansIn}
 use Rattle.louis_table.specs.Tells.{Tells}
 use Rattle.louis_table.proofs.VerdictLaws.{one_entry, nothing_or_entry}
 use Rattle.louis_table.proofs.ReadingLaws.{Reached, Reached-none, Reached-more, Reached-fault, Reached-all}
@@ -22,68 +28,94 @@ use Rattle.louis_table.proofs.RuleLaws.{finished_entries, first_in, first_lackin
 
 -- ---- one meaning
 
-same_entries : (n : ℕ) (lines : List (List ℕ)) (es fs : List (ℕ × Entry)) → GiveFrom n lines es → GiveFrom n lines fs → es ≡ fs
-same_entries n [] es fs g h = g ∙ sym h
-same_entries n (line ∷ lines) es fs (inl (s, g)) (inl (t, h)) = same_entries (n + 1) lines es fs g h
-same_entries n (line ∷ lines) es fs (inl (s, g)) (inr (f, rest, gives, e, h)) = absurd (nothing_or_entry line f s gives)
-same_entries n (line ∷ lines) es fs (inr (d, left, given, i, g)) (inl (t, h)) = absurd (nothing_or_entry line d t given)
-same_entries n (line ∷ lines) es fs (inr (d, left, given, i, g)) (inr (f, rest, gives, e, h)) =
-    let first : d ≡ f = one_entry line d f given gives in
-    let others : left ≡ rest = same_entries (n + 1) lines left rest g h in
+-- what a line gives in a profile it gives in the last one too
+pub in_last : (profile : Profile) (line : List ℕ) (entry : Entry) → GivesIn profile line entry → Gives line entry
+in_last profile line entry (definition_line class characters dots c cells has h s d e) = definition_line class characters dots c cells tt h s d e
+in_last profile line entry (pair_line characters dots upper lower upper_cells lower_cells has h s d e) = pair_line characters dots upper lower upper_cells lower_cells tt h s d e
+in_last profile line entry (rule_line kind characters dots text cells has h s d e) = rule_line kind characters dots text cells tt h s d e
+in_last profile line entry (sign_line sign dots cells has h d e) = sign_line sign dots cells tt h d e
+in_last profile line entry (set_line set characters text has h s e) = set_line set characters text tt h s e
+
+same_entries : (profile : Profile) (n : ℕ) (lines : List (List ℕ)) (es fs : List (ℕ × Entry)) → GiveFromIn profile n lines es → GiveFromIn profile n lines fs → es ≡ fs
+same_entries profile n [] es fs g h = g ∙ sym h
+same_entries profile n (line ∷ lines) es fs (inl (s, g)) (inl (t, h)) = same_entries profile (n + 1) lines es fs g h
+same_entries profile n (line ∷ lines) es fs (inl (s, g)) (inr (f, rest, gives, e, h)) = absurd (nothing_or_entry line f s (in_last profile line f gives))
+same_entries profile n (line ∷ lines) es fs (inr (d, left, given, i, g)) (inl (t, h)) = absurd (nothing_or_entry line d t (in_last profile line d given))
+same_entries profile n (line ∷ lines) es fs (inr (d, left, given, i, g)) (inr (f, rest, gives, e, h)) =
+    let first : d ≡ f = one_entry line d f (in_last profile line d given) (in_last profile line f gives) in
+    let others : left ≡ rest = same_entries profile (n + 1) lines left rest g h in
     i ∙ (ap (λ (x : Entry). (n, x) ∷ left) first ∙ (ap (λ (xs : List (ℕ × Entry)). (n, f) ∷ xs) others ∙ sym e))
 
 -- a meaning, by its parts
-abbrev whole : List (ℕ × Definition) → List (ℕ × ℕ) → List Rule → List ℕ → List ℕ → List ℕ → Meaning
-whole definitions partners rules numsign capsletter begcapsword =
-    record { definitions = definitions; partners = partners; rules = rules; numsign = numsign; capsletter = capsletter; begcapsword = begcapsword }
+abbrev whole : List (ℕ × Definition) → List (ℕ × ℕ) → List Rule → List ℕ → List ℕ → List ℕ → List ℕ → List ℕ → List ℕ → Meaning
+whole definitions partners rules numsign capsletter begcapsword nocontractsign mode_chars nocontract_chars =
+    record {
+      definitions = definitions;
+      partners = partners;
+      rules = rules;
+      numsign = numsign;
+      capsletter = capsletter;
+      begcapsword = begcapsword;
+      nocontractsign = nocontractsign;
+      mode_chars = mode_chars;
+      nocontract_chars = nocontract_chars;
+    }
 
-same_parts : (ds es : List (ℕ × Definition)) (ps qs : List (ℕ × ℕ)) (rs ss : List Rule) (a b c d e f : List ℕ) → ds ≡ es → ps ≡ qs → rs ≡ ss → a ≡ d → b ≡ e → c ≡ f
-    → whole ds ps rs a b c ≡ whole es qs ss d e f
-same_parts ds es ps qs rs ss a b c d e f u v w x y z =
-    ap (λ t. whole t ps rs a b c) u
-    ∙ (ap (λ t. whole es t rs a b c) v
-    ∙ (ap (λ t. whole es qs t a b c) w
-    ∙ (ap (λ t. whole es qs ss t b c) x
-    ∙ (ap (λ t. whole es qs ss d t c) y
-    ∙ ap (λ t. whole es qs ss d e t) z))))
+-- the same signs and sets
+pub record Agree (t u : Meaning) : Type 0 where
+  pub signs : (sign : Sign) → sign_cells t sign ≡ sign_cells u sign
+  pub sets : (set : CharacterSet) → set_characters t set ≡ set_characters u set
 
--- what the entries make, but for rules
-abbrev base : List (ℕ × Entry) → Meaning
-base entries =
-    whole (flat_map (λ e. definitions_in e.1) entries) (flat_map (λ e. partners_in e.1) entries) []
-    (flat_map (λ e. numsign_in e.1) entries) (flat_map (λ e. capsletter_in e.1) entries) (flat_map (λ e. begcapsword_in e.1) entries)
+same_parts : (t u : Meaning) → t.definitions ≡ u.definitions → t.partners ≡ u.partners → t.rules ≡ u.rules → Agree t u → t ≡ u
+same_parts t u d p r a =
+    ap (λ x. whole x t.partners t.rules t.numsign t.capsletter t.begcapsword t.nocontractsign t.mode_chars t.nocontract_chars) d
+    ∙ (ap (λ x. whole u.definitions x t.rules t.numsign t.capsletter t.begcapsword t.nocontractsign t.mode_chars t.nocontract_chars) p
+    ∙ (ap (λ x. whole u.definitions u.partners x t.numsign t.capsletter t.begcapsword t.nocontractsign t.mode_chars t.nocontract_chars) r
+    ∙ (ap (λ x. whole u.definitions u.partners u.rules x t.capsletter t.begcapsword t.nocontractsign t.mode_chars t.nocontract_chars) (a.signs signs.Number)
+    ∙ (ap (λ x. whole u.definitions u.partners u.rules u.numsign x t.begcapsword t.nocontractsign t.mode_chars t.nocontract_chars) (a.signs signs.Capital)
+    ∙ (ap (λ x. whole u.definitions u.partners u.rules u.numsign u.capsletter x t.nocontractsign t.mode_chars t.nocontract_chars) (a.signs signs.CapitalWord)
+    ∙ (ap (λ x. whole u.definitions u.partners u.rules u.numsign u.capsletter u.begcapsword x t.mode_chars t.nocontract_chars) (a.signs signs.NoContraction)
+    ∙ (ap (λ x. whole u.definitions u.partners u.rules u.numsign u.capsletter u.begcapsword u.nocontractsign x t.nocontract_chars) (a.sets sets.NumericMode)
+    ∙ ap (λ x. whole u.definitions u.partners u.rules u.numsign u.capsletter u.begcapsword u.nocontractsign u.mode_chars x) (a.sets sets.NoContraction))))))))
 
--- the meaning without its rules
-abbrev bare : Meaning → Meaning
-bare meaning = whole meaning.definitions meaning.partners [] meaning.numsign meaning.capsletter meaning.begcapsword
+-- rules are made of the definitions and the partners alone
+rules_by : (t u : Meaning) (entries : List (ℕ × Entry)) → t.definitions ≡ u.definitions → t.partners ≡ u.partners → flat_map (rules_in t) entries ≡ flat_map (rules_in u) entries
+rules_by t u entries d p =
+    as_bare t entries
+    ∙ (ap (λ (ds : List (ℕ × Definition)). flat_map (rules_in (bare ds t.partners)) entries) d
+    ∙ (ap (λ (ps : List (ℕ × ℕ)). flat_map (rules_in (bare u.definitions ps)) entries) p ∙ sym (as_bare u entries)))
+  where
+    bare : List (ℕ × Definition) → List (ℕ × ℕ) → Meaning
+    bare definitions partners = whole definitions partners [] [] [] [] [] [] []
 
-bare_rules : (meaning : Meaning) (entries : List (ℕ × Entry)) → flat_map (rules_in meaning) entries ≡ flat_map (rules_in (bare meaning)) entries
-bare_rules meaning [] = refl
-bare_rules meaning ((n, Defines k definition) ∷ entries) = bare_rules meaning entries
-bare_rules meaning ((n, Pairs u uc l lc) ∷ entries) = bare_rules meaning entries
-bare_rules meaning ((n, Replaces kind text cells) ∷ entries) = ap (λ (rs : List Rule). rules_in meaning (n, Replaces kind text cells) ++ rs) (bare_rules meaning entries)
-bare_rules meaning ((n, Announces sign cells) ∷ entries) = bare_rules meaning entries
-
-made_bare : (entries : List (ℕ × Entry)) (meaning : Meaning) → IsMadeOf entries meaning → bare meaning ≡ base entries
-made_bare entries meaning m = same_parts _ _ _ _ [] [] _ _ _ _ _ _ m.definitions m.partners refl m.numsign m.capsletter m.begcapsword
-
-made_rules : (entries : List (ℕ × Entry)) (meaning : Meaning) → IsMadeOf entries meaning → meaning.rules ≡ flat_map (rules_in (base entries)) entries
-made_rules entries meaning m = m.rules ∙ (bare_rules meaning entries ∙ ap (λ (t : Meaning). flat_map (rules_in t) entries) (made_bare entries meaning m))
+    as_bare : (t : Meaning) (entries : List (ℕ × Entry)) → flat_map (rules_in t) entries ≡ flat_map (rules_in (bare t.definitions t.partners)) entries
+    as_bare t [] = refl
+    as_bare t ((n, Defines k definition) ∷ entries) = as_bare t entries
+    as_bare t ((n, Pairs u uc l lc) ∷ entries) = as_bare t entries
+    as_bare t ((n, Replaces kind text cells) ∷ entries) = ap (λ (rs : List Rule). rules_in t (n, Replaces kind text cells) ++ rs) (as_bare t entries)
+    as_bare t ((n, Announces sign cells) ∷ entries) = as_bare t entries
+    as_bare t ((n, Collects set text) ∷ entries) = as_bare t entries
 
 -- entries make one meaning
 made_once : (entries : List (ℕ × Entry)) (t u : Meaning) → IsMadeOf entries t → IsMadeOf entries u → t ≡ u
 made_once entries t u m n =
-    same_parts _ _ _ _ _ _ _ _ _ _ _ _ (m.definitions ∙ sym n.definitions) (m.partners ∙ sym n.partners) (made_rules entries t m ∙ sym (made_rules entries u n))
-    (m.numsign ∙ sym n.numsign) (m.capsletter ∙ sym n.capsletter) (m.begcapsword ∙ sym n.begcapsword)
+    let definitions = m.definitions ∙ sym n.definitions in
+    let partners = m.partners ∙ sym n.partners in
+    same_parts t u definitions partners (m.rules ∙ (rules_by t u entries definitions partners ∙ sym n.rules))
+    (record { signs = λ sign. m.signs sign ∙ sym (n.signs sign); sets = λ set. m.sets set ∙ sym (n.sets set) })
 
 -- what the lines give makes one meaning
-given_once : (n : ℕ) (lines : List (List ℕ)) (es fs : List (ℕ × Entry)) (t u : Meaning) → GiveFrom n lines es → GiveFrom n lines fs → IsMadeOf es t → IsMadeOf fs u → (es ≡ fs) × (t ≡ u)
-given_once n lines es fs t u g h m k =
-    let same = same_entries n lines es fs g h in
+given_once : (profile : Profile) (n : ℕ) (lines : List (List ℕ)) (es fs : List (ℕ × Entry)) (t u : Meaning) → GiveFromIn profile n lines es → GiveFromIn profile n lines fs → IsMadeOf es t → IsMadeOf fs u
+    → (es ≡ fs) × (t ≡ u)
+given_once profile n lines es fs t u g h m k =
+    let same = same_entries profile n lines es fs g h in
     (same, made_once fs t u (subst (λ (xs : List (ℕ × Entry)). IsMadeOf xs t) same m) k)
 
+pub one_meaning_in : (profile : Profile) (bytes : List ℕ) (t u : Meaning) → MeansIn profile bytes t → MeansIn profile bytes u → t ≡ u
+one_meaning_in profile bytes t u m n = (given_once profile 1 (text_lines bytes) m.entries n.entries t u m.given n.given m.made n.made).1
+
 pub one_meaning : (bytes : List ℕ) (t u : Meaning) → Means bytes t → Means bytes u → t ≡ u
-one_meaning bytes t u m n = (given_once 1 (text_lines bytes) m.entries n.entries t u m.given n.given m.made n.made).1
+one_meaning = one_meaning_in WithNumericMode
 
 -- ---- one fault
 
@@ -97,45 +129,61 @@ told_once n c m d (inr (e, le)) (inr (f, ge)) = (e, omega arith)
 lacks_again : (es fs : List (ℕ × Entry)) (t u : Meaning) (n : ℕ) (rule : Entry) → es ≡ fs → t ≡ u → Contains es (n, rule) → IsLacking t rule → Contains fs (n, rule) × IsLacking u rule
 lacks_again es fs t u n rule e s c l = (subst (λ (xs : List (ℕ × Entry)). Contains xs (n, rule)) e c, subst (λ (x : Meaning). IsLacking x rule) s l)
 
-pub one_fault : (bytes : List ℕ) (n c m d : ℕ) → Bad bytes n c → Bad bytes m d → (n ≡ m) × (c ≡ d)
-one_fault bytes n c m d (no_text u i j) (no_text v k l) = (i ∙ sym k, j ∙ sym l)
-one_fault bytes n c m d (no_text u i j) (bad_line v h first) = absurd (u v)
-one_fault bytes n c m d (no_text u i j) (undefined_character v s es t g k rule a l first e) = absurd (u v)
-one_fault bytes n c m d (bad_line u g least) (no_text v k l) = absurd (v u)
-one_fault bytes n c m d (bad_line u g least) (bad_line v h first) = told_once n c m d (least m d h) (first n c g)
-one_fault bytes n c m d (bad_line u g least) (undefined_character v s es t h k rule a l first e) = absurd (s n c g)
-one_fault bytes n c m d (undefined_character u s es t g k rule a l first e) (no_text v i j) = absurd (v u)
-one_fault bytes n c m d (undefined_character u s es t g k rule a l first e) (bad_line v h least) = absurd (s m d h)
-one_fault bytes n c m d (undefined_character u s es t g k rule a l first e) (undefined_character v z fs w h i other b o least f) =
-    let same = given_once 1 (text_lines bytes) es fs t w g h k i in
+pub one_fault_in : (profile : Profile) (bytes : List ℕ) (n c m d : ℕ) → BadIn profile bytes n c → BadIn profile bytes m d → (n ≡ m) × (c ≡ d)
+one_fault_in profile bytes n c m d (no_text u i j) (no_text v k l) = (i ∙ sym k, j ∙ sym l)
+one_fault_in profile bytes n c m d (no_text u i j) (bad_line v h first) = absurd (u v)
+one_fault_in profile bytes n c m d (no_text u i j) (undefined_character v s es t g k rule a l first e) = absurd (u v)
+one_fault_in profile bytes n c m d (bad_line u g least) (no_text v k l) = absurd (v u)
+one_fault_in profile bytes n c m d (bad_line u g least) (bad_line v h first) = told_once n c m d (least m d h) (first n c g)
+one_fault_in profile bytes n c m d (bad_line u g least) (undefined_character v s es t h k rule a l first e) = absurd (s n c g)
+one_fault_in profile bytes n c m d (undefined_character u s es t g k rule a l first e) (no_text v i j) = absurd (v u)
+one_fault_in profile bytes n c m d (undefined_character u s es t g k rule a l first e) (bad_line v h least) = absurd (s m d h)
+one_fault_in profile bytes n c m d (undefined_character u s es t g k rule a l first e) (undefined_character v z fs w h i other b o least f) =
+    let same = given_once profile 1 (text_lines bytes) es fs t w g h k i in
     let one = lacks_again es fs t w n rule same.0 same.1 a l in
     let two = lacks_again fs es w t m other (sym same.0) (sym same.1) b o in
     let le : n ≤ m = first m other two.0 two.1 in
     let ge : m ≤ n = least n rule one.0 one.1 in
     (omega arith, e ∙ sym f)
 
-pub means_or_bad : (bytes : List ℕ) (t : Meaning) (n c : ℕ) → Means bytes t → ¬ Bad bytes n c
-means_or_bad bytes t n c m (no_text u i j) = u m.is_text
-means_or_bad bytes t n c m (bad_line u h first) = m.is_sound n c h
-means_or_bad bytes t n c m (undefined_character u s es w g k rule a l first e) =
-    let same = given_once 1 (text_lines bytes) es m.entries w t g m.given k m.made in
+pub one_fault : (bytes : List ℕ) (n c m d : ℕ) → Bad bytes n c → Bad bytes m d → (n ≡ m) × (c ≡ d)
+one_fault = one_fault_in WithNumericMode
+
+pub means_or_bad_in : (profile : Profile) (bytes : List ℕ) (t : Meaning) (n c : ℕ) → MeansIn profile bytes t → ¬ BadIn profile bytes n c
+means_or_bad_in profile bytes t n c m (no_text u i j) = u m.is_text
+means_or_bad_in profile bytes t n c m (bad_line u h first) = m.is_sound n c h
+means_or_bad_in profile bytes t n c m (undefined_character u s es w g k rule a l first e) =
+    let same = given_once profile 1 (text_lines bytes) es m.entries w t g m.given k m.made in
     let again = lacks_again es m.entries w t n rule same.0 same.1 a l in
     m.is_complete n rule again.0 again.1
+
+pub means_or_bad : (bytes : List ℕ) (t : Meaning) (n c : ℕ) → Means bytes t → ¬ Bad bytes n c
+means_or_bad = means_or_bad_in WithNumericMode
 
 -- ---- what is read of the lines
 
 same_rules : (meaning : Meaning) (rules : List Rule) (entries : List (ℕ × Entry)) → flat_map (rules_in meaning) entries ≡ flat_map (rules_in (record meaning { rules = rules })) entries
-same_rules meaning rules entries = bare_rules meaning entries ∙ sym (bare_rules (record meaning { rules = rules }) entries)
+same_rules meaning rules entries = rules_by meaning (record meaning { rules = rules }) entries refl refl
 
-made_of : (lines : List (List ℕ)) (meaning : Meaning) (rules : List WrittenRule) (g : Gathers lines meaning rules) → meaning.rules ≡ map (finished meaning) rules → IsMadeOf g.entries meaning
+-- nor do signs and sets depend on rules
+sign_again : (meaning : Meaning) (rules : List Rule) (sign : Sign) → sign_cells (record meaning { rules = rules }) sign ≡ sign_cells meaning sign
+sign_again meaning rules signs.Number = refl
+sign_again meaning rules signs.Capital = refl
+sign_again meaning rules signs.CapitalWord = refl
+sign_again meaning rules signs.NoContraction = refl
+
+set_again : (meaning : Meaning) (rules : List Rule) (set : CharacterSet) → set_characters (record meaning { rules = rules }) set ≡ set_characters meaning set
+set_again meaning rules sets.NumericMode = refl
+set_again meaning rules sets.NoContraction = refl
+
+made_of : (lines : List (List ℕ)) (meaning : Meaning) (rules : List Written) (g : Gathers lines meaning rules) → meaning.rules ≡ flat_map (finished meaning) rules → IsMadeOf g.entries meaning
 made_of lines meaning rules g e =
     record {
       definitions = g.definitions;
       partners = g.partners;
-      numsign = g.numsign;
-      capsletter = g.capsletter;
-      begcapsword = g.begcapsword;
-      rules = e ∙ (ap (map (finished meaning)) g.rules ∙ finished_entries meaning g.entries);
+      signs = g.signs;
+      sets = g.sets;
+      rules = e ∙ (ap (flat_map (finished meaning)) g.written ∙ finished_entries meaning g.entries);
     }
 
 -- what a rule lacks doesn't depend on rules
@@ -149,6 +197,7 @@ lacking_by t w (Replaces kind text cells) d p h = (h.0, h.1, subst (λ (o : Opti
         ap (λ (ps : List (ℕ × ℕ)). lookup (nat_eq (unwrap_or (lookup (nat_eq c) ps) c)) t.definitions) p
         ∙ ap (λ (ds : List (ℕ × Definition)). lookup (nat_eq (folded w c)) ds) d
 lacking_by t w (Announces sign cells) d p h = h
+lacking_by t w (Collects set text) d p h = (h.0, h.1, ap (lookup (nat_eq h.0)) (sym d) ∙ h.2)
 
 module _ (bytes rest : List ℕ) (u : IsUtf8 bytes) (e : rest ≡ without_byte_order_mark bytes) where
   lines_same : map chars (lines_of rest) ≡ text_lines bytes
@@ -159,14 +208,14 @@ module _ (bytes rest : List ℕ) (u : IsUtf8 bytes) (e : rest ≡ without_byte_o
     where
       by : LinesMean (text_lines bytes) meaning → Means bytes meaning
       by m =
-          let g : Gathers (text_lines bytes) meaning m.written = m.gives.gathered in
-          let complete : first_in meaning g.entries ≡ None = sym (first_lacking-first_in meaning g.entries) ∙ (sym (ap (first_lacking meaning) g.rules) ∙ m.complete) in
+          let g : Gathers (text_lines bytes) meaning m.all = m.gives.gathered in
+          let complete : first_in meaning g.entries ≡ None = sym (first_lacking-first_in meaning g.entries) ∙ (sym (ap (first_lacking meaning) g.written) ∙ m.complete) in
           record {
             is_text = u;
             is_sound = m.gives.is_sound;
             entries = g.entries;
             given = g.given;
-            made = made_of (text_lines bytes) meaning m.written g m.rules;
+            made = made_of (text_lines bytes) meaning m.all g m.rules;
             is_complete = λ n rule c. first_in-None meaning g.entries n rule complete c;
           }
 
@@ -180,17 +229,16 @@ module _ (bytes rest : List ℕ) (u : IsUtf8 bytes) (e : rest ≡ without_byte_o
     where
       by : IsLackingIn (text_lines bytes) n → Bad bytes n cause
       by l =
-          let g : Gathers (text_lines bytes) l.meaning l.written = l.gives.gathered in
-          let found : first_in l.meaning g.entries ≡ Some n = sym (first_lacking-first_in l.meaning g.entries) ∙ (sym (ap (first_lacking l.meaning) g.rules) ∙ l.lacking) in
+          let g : Gathers (text_lines bytes) l.meaning l.all = l.gives.gathered in
+          let found : first_in l.meaning g.entries ≡ Some n = sym (first_lacking-first_in l.meaning g.entries) ∙ (sym (ap (first_lacking l.meaning) g.written) ∙ l.lacking) in
           let first = first_in-Some l.meaning 1 (text_lines bytes) g.entries n g.given found in
-          let finished_meaning : Meaning = record l.meaning { rules = map (finished l.meaning) l.written } in
+          let finished_meaning : Meaning = record l.meaning { rules = flat_map (finished l.meaning) l.all } in
           let made : IsMadeOf g.entries finished_meaning = record {
             definitions = g.definitions;
             partners = g.partners;
-            numsign = g.numsign;
-            capsletter = g.capsletter;
-            begcapsword = g.begcapsword;
-            rules = ap (map (finished l.meaning)) g.rules ∙ (finished_entries l.meaning g.entries ∙ same_rules l.meaning (map (finished l.meaning) l.written) g.entries);
+            signs = λ sign. sign_again l.meaning (flat_map (finished l.meaning) l.all) sign ∙ g.signs sign;
+            sets = λ set. set_again l.meaning (flat_map (finished l.meaning) l.all) set ∙ g.sets set;
+            rules = ap (flat_map (finished l.meaning)) g.written ∙ (finished_entries l.meaning g.entries ∙ same_rules l.meaning (flat_map (finished l.meaning) l.all) g.entries);
           } in
           undefined_character u l.gives.is_sound g.entries finished_meaning g.given made
           first.rule first.among (lacking_by l.meaning finished_meaning first.rule refl refl first.lacking)
@@ -204,21 +252,21 @@ module _ (bytes rest : List ℕ) (u : IsUtf8 bytes) (e : rest ≡ without_byte_o
 -- ---- a meaning or a fault
 
 abbrev Outcome : List (List ℕ) → Type 0
-Outcome lines = ((t : Meaning) × (rules : List WrittenRule) × LinesGive lines t rules) ⊎ ((n : ℕ) × (c : ℕ) × IsTold lines n c)
+Outcome lines = ((t : Meaning) × (rules : List Written) × LinesGive lines t rules) ⊎ ((n : ℕ) × (c : ℕ) × IsTold lines n c)
 
-outcome_from : (lines before rest : List (List ℕ)) (meaning : Meaning) (rules : List WrittenRule) → Reached lines before rest meaning rules → Outcome lines
+pub outcome_from : (lines before rest : List (List ℕ)) (meaning : Meaning) (rules : List Written) → Reached lines before rest meaning rules → Outcome lines
 outcome_from lines before [] meaning rules r = inl (meaning, rules, Reached-all lines before meaning rules r)
 outcome_from lines before (line ∷ rest) meaning rules r = by (judge meaning (length before) line) refl (λ old new all s. outcome_from lines old rest new all s)
   where
     by : (v : Result (Option Entry) ℕ) → judge meaning (length before) line ≡ v
-        → ((old : List (List ℕ)) (new : Meaning) (all : List WrittenRule) → Reached lines old rest new all → Outcome lines) → Outcome lines
+        → ((old : List (List ℕ)) (new : Meaning) (all : List Written) → Reached lines old rest new all → Outcome lines) → Outcome lines
     by (Ok given) e more =
         more (before ++ line ∷ []) (with_given meaning given) (rules ++ written_in (length before + 1) given)
         (Reached-more lines before rest line meaning rules r given (with_given meaning given) (rules ++ written_in (length before + 1) given) e refl refl)
     by (Err c) e more = inr (_, c, Reached-fault lines before rest line meaning rules r c e)
 
 -- the rules of a meaning are not among what its lines give directly
-pub LinesGive-rules : (lines : List (List ℕ)) (meaning : Meaning) (written : List WrittenRule) (rules : List Rule) → LinesGive lines meaning written
+pub LinesGive-rules : (lines : List (List ℕ)) (meaning : Meaning) (written : List Written) (rules : List Rule) → LinesGive lines meaning written
     → LinesGive lines (record meaning { rules = rules }) written
 LinesGive-rules lines meaning written rules l =
     record {
@@ -228,38 +276,53 @@ LinesGive-rules lines meaning written rules l =
         given = l.gathered.given;
         definitions = l.gathered.definitions;
         partners = l.gathered.partners;
-        numsign = l.gathered.numsign;
-        capsletter = l.gathered.capsletter;
-        begcapsword = l.gathered.begcapsword;
-        rules = l.gathered.rules;
+        signs = λ sign. sign_again meaning rules sign ∙ l.gathered.signs sign;
+        sets = λ set. set_again meaning rules set ∙ l.gathered.sets set;
+        written = l.gathered.written;
       };
     }
 
+defined_again : (meaning : Meaning) (rules : List Rule) (text : List ℕ) → are_defined (record meaning { rules = rules }) text ≡ are_defined meaning text
+defined_again meaning rules [] = refl
+defined_again meaning rules (c ∷ text) = ap (λ (b : Bool). cond (is_known meaning c) b false) (defined_again meaning rules text)
+
 -- the complete rules, with the rest, are what the lines mean
-pub LinesMean-finished : (lines : List (List ℕ)) (meaning : Meaning) (written : List WrittenRule) (rules : List Rule) → LinesGive lines meaning written → first_lacking meaning written ≡ None
-    → rules ≡ map (finished meaning) written → LinesMean lines (record meaning { rules = rules })
+pub LinesMean-finished : (lines : List (List ℕ)) (meaning : Meaning) (written : List Written) (rules : List Rule) → LinesGive lines meaning written → first_lacking meaning written ≡ None
+    → rules ≡ flat_map (finished meaning) written → LinesMean lines (record meaning { rules = rules })
 LinesMean-finished lines meaning written rules l complete e =
     record {
-      written = written;
+      all = written;
       gives = LinesGive-rules lines meaning written rules l;
       complete = complete_again meaning rules written ∙ complete;
       rules = e ∙ finished_again meaning rules written;
     }
   where
-    complete_again : (meaning : Meaning) (rules : List Rule) (written : List WrittenRule) → first_lacking (record meaning { rules = rules }) written ≡ first_lacking meaning written
+    complete_one : (meaning : Meaning) (rules : List Rule) (one : Written) → is_complete (record meaning { rules = rules }) one ≡ is_complete meaning one
+    complete_one meaning rules (writtens.Rule rule) = defined_again meaning rules (map (folded meaning) rule.characters)
+    complete_one meaning rules (writtens.Set set) = defined_again meaning rules set.characters
+
+    complete_again : (meaning : Meaning) (rules : List Rule) (written : List Written) → first_lacking (record meaning { rules = rules }) written ≡ first_lacking meaning written
     complete_again meaning rules [] = refl
-    complete_again meaning rules (w ∷ written) = ap (λ (o : Option ℕ). cond (is_complete meaning w) o (Some w.line)) (complete_again meaning rules written)
+    complete_again meaning rules (w ∷ written) =
+        ap (λ (b : Bool). cond b (first_lacking (record meaning { rules = rules }) written) (Some (line_of w))) (complete_one meaning rules w)
+        ∙ ap (λ (o : Option ℕ). cond (is_complete meaning w) o (Some (line_of w))) (complete_again meaning rules written)
 
-    finished_again : (meaning : Meaning) (rules : List Rule) (written : List WrittenRule) → map (finished meaning) written ≡ map (finished (record meaning { rules = rules })) written
+    finished_one : (meaning : Meaning) (rules : List Rule) (one : Written) → finished meaning one ≡ finished (record meaning { rules = rules }) one
+    finished_one meaning rules (writtens.Rule rule) = refl
+    finished_one meaning rules (writtens.Set set) = refl
+
+    finished_again : (meaning : Meaning) (rules : List Rule) (written : List Written) → flat_map (finished meaning) written ≡ flat_map (finished (record meaning { rules = rules })) written
     finished_again meaning rules [] = refl
-    finished_again meaning rules (w ∷ written) = ap (λ (rs : List Rule). finished meaning w ∷ rs) (finished_again meaning rules written)
+    finished_again meaning rules (w ∷ written) =
+        ap (λ (rs : List Rule). rs ++ flat_map (finished meaning) written) (finished_one meaning rules w)
+        ∙ ap (λ (rs : List Rule). finished (record meaning { rules = rules }) w ++ rs) (finished_again meaning rules written)
 
-finish : (lines : List (List ℕ)) (meaning : Meaning) (rules : List WrittenRule) → LinesGive lines meaning rules → ((t : Meaning) × LinesMean lines t) ⊎ ((n : ℕ) × IsLackingIn lines n)
+finish : (lines : List (List ℕ)) (meaning : Meaning) (rules : List Written) → LinesGive lines meaning rules → ((t : Meaning) × LinesMean lines t) ⊎ ((n : ℕ) × IsLackingIn lines n)
 finish lines meaning rules l = by (first_lacking meaning rules) refl
   where
     by : (o : Option ℕ) → first_lacking meaning rules ≡ o → ((t : Meaning) × LinesMean lines t) ⊎ ((n : ℕ) × IsLackingIn lines n)
-    by None e = inl (_, LinesMean-finished lines meaning rules (map (finished meaning) rules) l e refl)
-    by (Some n) e = inr (n, record { meaning = meaning; written = rules; gives = l; lacking = e })
+    by None e = inl (_, LinesMean-finished lines meaning rules (flat_map (finished meaning) rules) l e refl)
+    by (Some n) e = inr (n, record { meaning = meaning; all = rules; gives = l; lacking = e })
 
 pub some_meaning : (bytes : List ℕ) → ((t : Meaning) × Means bytes t) ⊎ ((n : ℕ) × (c : ℕ) × Bad bytes n c)
 some_meaning bytes =
@@ -268,7 +331,7 @@ some_meaning bytes =
       | inr f ↦ inr (line_of_stop bytes, 9, no_text (λ u. true≢false (sym (is_utf8-from_IsUtf8 bytes u) ∙ f)) refl refl)
     ]
   where
-    given : IsUtf8 bytes → (meaning : Meaning) (rules : List WrittenRule) → LinesGive (text_lines bytes) meaning rules → ((t : Meaning) × Means bytes t) ⊎ ((n : ℕ) × (c : ℕ) × Bad bytes n c)
+    given : IsUtf8 bytes → (meaning : Meaning) (rules : List Written) → LinesGive (text_lines bytes) meaning rules → ((t : Meaning) × Means bytes t) ⊎ ((n : ℕ) × (c : ℕ) × Bad bytes n c)
     given u meaning rules l =
         elim (finish (text_lines bytes) meaning rules l) [
           | inl (t, m) ↦ inl (t, LinesMean-Means bytes (without_byte_order_mark bytes) u refl t m)

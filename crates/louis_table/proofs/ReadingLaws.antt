@@ -1,6 +1,6 @@
 -- Line by line, the text is read as it means.
-use Rattle.std.proofs.Common.{◌≡◌, ◌≢◌, ℕ, suc, ◌+◌, ◌<◌, ◌≤◌, Bool, true, false, cond, ◌||◌, eqb, List, [], ◌∷◌, ◌++◌, length, Option, Some, None, Result, Ok, Err, is_some, refl, sym, ap, subst, ◌∙◌, ◌⊎◌, append_assoc, inl, inr, arith, lit≤}
-use Rattle.std.specs.List.{flat_map, Contains}
+use Rattle.std.proofs.Common.{◌≡◌, ◌≢◌, ℕ, ◌+◌, ◌<◌, ◌≤◌, Bool, true, false, cond, ◌||◌, List, [], ◌∷◌, ◌++◌, length, Option, Some, None, Ok, Err, is_some, refl, sym, ap, subst, ◌∙◌, ◌⊎◌, append_assoc, inl, inr, arith, lit≤}
+use Rattle.std.specs.List.{flat_map}
 use Rattle.std.specs.Map.{lookup}
 use Rattle.std.specs.Prelude.{map, nat_eq}
 use Rattle.std.specs.Str.{chars}
@@ -9,12 +9,15 @@ use Rattle.std.proofs.lemmas.Bool.{cases_lt}
 use Rattle.std.proofs.lemmas.Grind.{flat_map-append}
 use Rattle.louis_table.specs.declared.definition.Class.TheVariants.{Letter}
 use Rattle.louis_table.specs.declared.definition.Definition.{Definition}
-use Rattle.louis_table.specs.declared.draft.Draft.{Draft}
-use Rattle.louis_table.specs.declared.written.WrittenRule.{WrittenRule}
+use Rattle.louis_table.specs.declared.sign.Sign.{Sign}
+use Rattle.louis_table.specs.declared.sign.Sign.TheVariants as signs
+use Rattle.louis_table.specs.declared.character_set.CharacterSet.{CharacterSet}
+use Rattle.louis_table.specs.declared.character_set.CharacterSet.TheVariants as sets
+use Rattle.louis_table.specs.declared.written.Written.{Written}
 use Rattle.louis_table.specs.Lines.{lines_of}
-use Rattle.louis_table.specs.Meaning.{Meaning, definition_of, partner_of}
-use Rattle.louis_table.specs.Reading.{no_meaning, Gathers, LinesGive, IsTold, Adds, HasDefinedPartners, with_given, written_in, rules_written, judge}
-use Rattle.louis_table.specs.Table.{most_lines, Entry, Defines, Pairs, Replaces, Announces, SaysNothing, Gives, GiveFrom, definitions_in, partners_in, numsign_in, capsletter_in, begcapsword_in, Fault, HasCause, on_line, IsToldNoLater}
+use Rattle.louis_table.specs.Meaning.{Meaning, sign_cells, set_characters}
+use Rattle.louis_table.specs.Reading.{no_meaning, Gathers, LinesGive, IsTold, HasDefinedPartners, with_given, written_in, written_by, judge}
+use Rattle.louis_table.specs.Table.{most_lines, Entry, Defines, Pairs, Replaces, Announces, Collects, SaysNothing, Gives, GiveFrom, definitions_in, partners_in, cells_for, characters_for, Fault, HasCause, on_line, IsToldNoLater}
 use Rattle.louis_table.proofs.EntryLaws.{Says}
 use Rattle.louis_table.proofs.VerdictLaws.{any_gives, lookup-flat_map, judge-Fault, Fault-judge, judge-few, judge-given}
 
@@ -38,8 +41,30 @@ flat_map-push : {X A : Type 0} (f : X → List A) (xs : List X) (x : X) (old : L
 flat_map-push {A = A} f xs x old e =
     ap (λ (ys : List A). ys ++ f x) e ∙ (ap (λ (ys : List A). flat_map f xs ++ ys) (sym (append-nil (f x))) ∙ sym (flat_map-append f xs (x ∷ [])))
 
+-- an entry adds the cells that it gives to a sign, and the characters that it gives to a set
+more_cells : (old : Meaning) (entry : Entry) (sign : Sign) → sign_cells (with_given old (Some entry)) sign ≡ sign_cells old sign ++ cells_for sign entry
+more_cells old entry signs.Number = refl
+more_cells old entry signs.Capital = refl
+more_cells old entry signs.CapitalWord = refl
+more_cells old entry signs.NoContraction = refl
+
+more_characters : (old : Meaning) (entry : Entry) (set : CharacterSet) → set_characters (with_given old (Some entry)) set ≡ set_characters old set ++ characters_for set entry
+more_characters old entry sets.NumericMode = refl
+more_characters old entry sets.NoContraction = refl
+
+-- a table that says nothing has no signs and no sets
+no_cells : (sign : Sign) → sign_cells no_meaning sign ≡ []
+no_cells signs.Number = refl
+no_cells signs.Capital = refl
+no_cells signs.CapitalWord = refl
+no_cells signs.NoContraction = refl
+
+no_characters : (set : CharacterSet) → set_characters no_meaning set ≡ []
+no_characters sets.NumericMode = refl
+no_characters sets.NoContraction = refl
+
 -- what the line gives is gathered with the rest
-Gathers-more : (before : List (List ℕ)) (line : List ℕ) (old new : Meaning) (rules all : List WrittenRule) (given : Option Entry) → Gathers before old rules → Says line (Ok given)
+Gathers-more : (before : List (List ℕ)) (line : List ℕ) (old new : Meaning) (rules all : List Written) (given : Option Entry) → Gathers before old rules → Says line (Ok given)
     → new ≡ with_given old given → all ≡ rules ++ written_in (length before + 1) given → Gathers (before ++ line ∷ []) new all
 Gathers-more before line old new rules all None g s e w =
     record {
@@ -47,10 +72,9 @@ Gathers-more before line old new rules all None g s e w =
       given = GiveFrom-nothing 1 before line g.entries g.given s;
       definitions = ap (λ (m : Meaning). m.definitions) e ∙ g.definitions;
       partners = ap (λ (m : Meaning). m.partners) e ∙ g.partners;
-      numsign = ap (λ (m : Meaning). m.numsign) e ∙ g.numsign;
-      capsletter = ap (λ (m : Meaning). m.capsletter) e ∙ g.capsletter;
-      begcapsword = ap (λ (m : Meaning). m.begcapsword) e ∙ g.begcapsword;
-      rules = w ∙ (append-nil rules ∙ g.rules);
+      signs = λ sign. ap (λ (m : Meaning). sign_cells m sign) e ∙ g.signs sign;
+      sets = λ set. ap (λ (m : Meaning). set_characters m set) e ∙ g.sets set;
+      written = w ∙ (append-nil rules ∙ g.written);
     }
 Gathers-more before line old new rules all (Some entry) g s e w =
     record {
@@ -58,10 +82,9 @@ Gathers-more before line old new rules all (Some entry) g s e w =
       given = GiveFrom-entry 1 (length before + 1) before line g.entries entry (omega arith) g.given s;
       definitions = ap (λ (m : Meaning). m.definitions) e ∙ flat_map-push (λ (x : ℕ × Entry). definitions_in x.1) g.entries (length before + 1, entry) old.definitions g.definitions;
       partners = ap (λ (m : Meaning). m.partners) e ∙ flat_map-push (λ (x : ℕ × Entry). partners_in x.1) g.entries (length before + 1, entry) old.partners g.partners;
-      numsign = ap (λ (m : Meaning). m.numsign) e ∙ flat_map-push (λ (x : ℕ × Entry). numsign_in x.1) g.entries (length before + 1, entry) old.numsign g.numsign;
-      capsletter = ap (λ (m : Meaning). m.capsletter) e ∙ flat_map-push (λ (x : ℕ × Entry). capsletter_in x.1) g.entries (length before + 1, entry) old.capsletter g.capsletter;
-      begcapsword = ap (λ (m : Meaning). m.begcapsword) e ∙ flat_map-push (λ (x : ℕ × Entry). begcapsword_in x.1) g.entries (length before + 1, entry) old.begcapsword g.begcapsword;
-      rules = w ∙ flat_map-push (λ (x : ℕ × Entry). rules_written x.0 x.1) g.entries (length before + 1, entry) rules g.rules;
+      signs = λ sign. ap (λ (m : Meaning). sign_cells m sign) e ∙ (more_cells old entry sign ∙ flat_map-push (λ (x : ℕ × Entry). cells_for sign x.1) g.entries (length before + 1, entry) (sign_cells old sign) (g.signs sign));
+      sets = λ set. ap (λ (m : Meaning). set_characters m set) e ∙ (more_characters old entry set ∙ flat_map-push (λ (x : ℕ × Entry). characters_for set x.1) g.entries (length before + 1, entry) (set_characters old set) (g.sets set));
+      written = w ∙ flat_map-push (λ (x : ℕ × Entry). written_by x.0 x.1) g.entries (length before + 1, entry) rules g.written;
     }
 
 -- an entry that makes a capital defines it
@@ -75,6 +98,7 @@ partners_defined c (Pairs u uc l lc) h = by (nat_eq c u) h
     by false h = refl
 partners_defined c (Replaces kind text cells) h = refl
 partners_defined c (Announces sign cells) h = refl
+partners_defined c (Collects set text) h = refl
 
 none_from : {X : Type 0} (o : Option X) → is_some o ≡ false → o ≡ None
 none_from None e = refl
@@ -93,7 +117,7 @@ undefined_partner c (e ∷ entries) h =
     ∙ undefined_partner c entries both.1
 
 -- each capital that is gathered is defined
-pub Gathers-HasDefinedPartners : (lines : List (List ℕ)) (meaning : Meaning) (rules : List WrittenRule) → Gathers lines meaning rules → HasDefinedPartners meaning
+pub Gathers-HasDefinedPartners : (lines : List (List ℕ)) (meaning : Meaning) (rules : List Written) → Gathers lines meaning rules → HasDefinedPartners meaning
 Gathers-HasDefinedPartners lines meaning rules g c n =
     none_from _
     (ap (λ (ps : List (ℕ × ℕ)). is_some (lookup (nat_eq c) ps)) g.partners
@@ -116,12 +140,12 @@ same_place (w ∷ xs) (z ∷ ys) x y after rest e l =
 -- ---- how far the lines were read
 
 -- these lines stand before the rest, have no fault, and give this
-pub record Reached (lines before rest : List (List ℕ)) (meaning : Meaning) (rules : List WrittenRule) : Type 0 where
+pub record Reached (lines before rest : List (List ℕ)) (meaning : Meaning) (rules : List Written) : Type 0 where
   pub parts : lines ≡ before ++ rest
   pub sound : (n cause : ℕ) → HasCause lines n cause → length before < n
   pub gathered : Gathers before meaning rules
 
-pub Reached-none : (lines : List (List ℕ)) (meaning : Meaning) (rules : List WrittenRule) → meaning ≡ no_meaning → rules ≡ [] → Reached lines [] lines meaning rules
+pub Reached-none : (lines : List (List ℕ)) (meaning : Meaning) (rules : List Written) → meaning ≡ no_meaning → rules ≡ [] → Reached lines [] lines meaning rules
 Reached-none lines meaning rules e w =
     record {
       parts = refl;
@@ -131,24 +155,23 @@ Reached-none lines meaning rules e w =
         given = refl;
         definitions = ap (λ (m : Meaning). m.definitions) e;
         partners = ap (λ (m : Meaning). m.partners) e;
-        numsign = ap (λ (m : Meaning). m.numsign) e;
-        capsletter = ap (λ (m : Meaning). m.capsletter) e;
-        begcapsword = ap (λ (m : Meaning). m.begcapsword) e;
-        rules = w;
+        signs = λ sign. ap (λ (m : Meaning). sign_cells m sign) e ∙ no_cells sign;
+        sets = λ set. ap (λ (m : Meaning). set_characters m set) e ∙ no_characters set;
+        written = w;
       };
     }
   where
     from_one : (n cause : ℕ) → HasCause lines n cause → 0 < n
     from_one n cause (on_line before line after e at f) = omega arith
 
-module _ (lines before rest : List (List ℕ)) (line : List ℕ) (meaning : Meaning) (rules : List WrittenRule) (r : Reached lines before (line ∷ rest) meaning rules) where
+module _ (lines before rest : List (List ℕ)) (line : List ℕ) (meaning : Meaning) (rules : List Written) (r : Reached lines before (line ∷ rest) meaning rules) where
   -- a fault of the line that comes next
   here : (n cause : ℕ) → HasCause lines n cause → n ≡ length before + 1 → Fault before line cause
   here n cause (on_line front other after e at f) h =
       let same = same_place front before other line after rest (sym e ∙ r.parts) (omega arith) in
       subst (λ (b : List (List ℕ)). Fault b line cause) same.0 (subst (λ (l : List ℕ). Fault front l cause) same.1 f)
 
-  pub Reached-more : (given : Option Entry) (new : Meaning) (all : List WrittenRule) → judge meaning (length before) line ≡ Ok given
+  pub Reached-more : (given : Option Entry) (new : Meaning) (all : List Written) → judge meaning (length before) line ≡ Ok given
       → new ≡ with_given meaning given → all ≡ rules ++ written_in (length before + 1) given → Reached lines (before ++ line ∷ []) rest new all
   Reached-more given new all j e w =
       record {
@@ -189,7 +212,7 @@ module _ (lines before rest : List (List ℕ)) (line : List ℕ) (meaning : Mean
           let past : length before < m = r.sound m other h in
           by m other h (elim (cases_lt (length before + 1) m) [ inl lt ↦ inr lt | inr le ↦ inl (omega arith) ])
 
-pub Reached-all : (lines before : List (List ℕ)) (meaning : Meaning) (rules : List WrittenRule) → Reached lines before [] meaning rules → LinesGive lines meaning rules
+pub Reached-all : (lines before : List (List ℕ)) (meaning : Meaning) (rules : List Written) → Reached lines before [] meaning rules → LinesGive lines meaning rules
 Reached-all lines before meaning rules r =
     let whole : lines ≡ before = r.parts ∙ append-nil before in
     record { is_sound = λ n cause h. sound n cause whole h; gathered = subst (λ (ls : List (List ℕ)). Gathers ls meaning rules) (sym whole) r.gathered }
@@ -201,25 +224,25 @@ Reached-all lines before meaning rules r =
         absurd (omega (arith, length-append front (line ∷ after)))
 
 -- the lines that were read, so many, and those of the rest
-pub record ReadsOn (text : List ℕ) (count : ℕ) (rest : List ℕ) (meaning : Meaning) (rules : List WrittenRule) : Type 0 where
+pub record ReadsOn (text : List ℕ) (count : ℕ) (rest : List ℕ) (meaning : Meaning) (rules : List Written) : Type 0 where
   pub before : List (List ℕ)
   pub counted : count ≡ length before
   pub few : count ≤ most_lines
   pub reached : Reached (map chars (lines_of text)) before (map chars (lines_of rest)) meaning rules
 
-pub ReadsOn-none : (text : List ℕ) (meaning : Meaning) (rules : List WrittenRule) → meaning ≡ no_meaning → rules ≡ [] → ReadsOn text 0 text meaning rules
+pub ReadsOn-none : (text : List ℕ) (meaning : Meaning) (rules : List Written) → meaning ≡ no_meaning → rules ≡ [] → ReadsOn text 0 text meaning rules
 ReadsOn-none text meaning rules e w = record { before = []; counted = refl; few = lit≤ tt; reached = Reached-none (map chars (lines_of text)) meaning rules e w }
 
-pub ReadsOn-HasDefinedPartners : (text : List ℕ) (count : ℕ) (rest : List ℕ) (meaning : Meaning) (rules : List WrittenRule) → ReadsOn text count rest meaning rules → HasDefinedPartners meaning
+pub ReadsOn-HasDefinedPartners : (text : List ℕ) (count : ℕ) (rest : List ℕ) (meaning : Meaning) (rules : List Written) → ReadsOn text count rest meaning rules → HasDefinedPartners meaning
 ReadsOn-HasDefinedPartners text count rest meaning rules r = Gathers-HasDefinedPartners r.before meaning rules r.reached.gathered
 
-pub ReadsOn-all : (text : List ℕ) (count : ℕ) (rest : List ℕ) (meaning : Meaning) (rules : List WrittenRule) → ReadsOn text count rest meaning rules → rest ≡ []
+pub ReadsOn-all : (text : List ℕ) (count : ℕ) (rest : List ℕ) (meaning : Meaning) (rules : List Written) → ReadsOn text count rest meaning rules → rest ≡ []
     → LinesGive (map chars (lines_of text)) meaning rules
 ReadsOn-all text count rest meaning rules r e =
     Reached-all (map chars (lines_of text)) r.before meaning rules
     (subst (λ (t : List ℕ). Reached (map chars (lines_of text)) r.before (map chars (lines_of t)) meaning rules) e r.reached)
 
-module _ (text : List ℕ) (count : ℕ) (rest line next characters : List ℕ) (meaning : Meaning) (rules : List WrittenRule) (r : ReadsOn text count rest meaning rules)
+module _ (text : List ℕ) (count : ℕ) (rest line next characters : List ℕ) (meaning : Meaning) (rules : List Written) (r : ReadsOn text count rest meaning rules)
     (l : lines_of rest ≡ line ∷ lines_of next) (c : characters ≡ chars line) where
   reached_line : Reached (map chars (lines_of text)) r.before (characters ∷ map chars (lines_of next)) meaning rules
   reached_line = subst (λ (ls : List (List ℕ)). Reached (map chars (lines_of text)) r.before ls meaning rules) (ap (map chars) l ∙ ap (λ (x : List ℕ). x ∷ map chars (lines_of next)) (sym c)) r.reached
@@ -230,7 +253,7 @@ module _ (text : List ℕ) (count : ℕ) (rest line next characters : List ℕ) 
       (Reached-fault (map chars (lines_of text)) r.before (map chars (lines_of next)) characters meaning rules reached_line cause
       (ap (λ (n : ℕ). judge meaning n characters) (sym r.counted) ∙ j))
 
-  pub ReadsOn-more : (given : Option Entry) (new : Meaning) (all : List WrittenRule) → judge meaning count characters ≡ Ok given
+  pub ReadsOn-more : (given : Option Entry) (new : Meaning) (all : List Written) → judge meaning count characters ≡ Ok given
       → new ≡ with_given meaning given → all ≡ rules ++ written_in (count + 1) given → ReadsOn text (count + 1) next new all
   ReadsOn-more given new all j e w =
       let few : count < most_lines = judge-few meaning count characters given j in

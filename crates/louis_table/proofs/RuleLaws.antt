@@ -1,33 +1,33 @@
 -- The rules that are finished are those that the entries give.
-use Rattle.std.proofs.Common.{◌≡◌, ◌≢◌, ℕ, ◌+◌, ◌<◌, ◌≤◌, Bool, true, false, not, cond, List, [], ◌∷◌, ◌++◌, length, Option, Some, None, Err, is_some, Contains, refl, sym, ap, subst, ◌∙◌, ◌⊎◌, inl, inr, arith}
+use Rattle.std.proofs.Common.{◌≡◌, ℕ, ◌+◌, ◌≤◌, Bool, true, false, cond, List, [], ◌∷◌, ◌++◌, Option, Some, None, Err, is_some, Contains, refl, sym, ap, subst, ◌∙◌, inl, inr, arith}
 use Rattle.std.specs.List.{flat_map}
 use Rattle.std.specs.Prelude.{map}
-use Rattle.std.proofs.lemmas.Bool.{cases_Bool}
-use Rattle.std.proofs.lemmas.List.{map-append}
+use Rattle.std.proofs.lemmas.Grind.{flat_map-append}
 use Rattle.std.proofs.lemmas.List.Elements.{Contains-append_left, Contains-append_right, Contains-append_cases}
 use Rattle.louis_table.specs.declared.rule.Rule.{Rule}
-use Rattle.louis_table.specs.declared.written.WrittenRule.{WrittenRule}
+use Rattle.louis_table.specs.declared.written.Written.{Written}
 use Rattle.louis_table.specs.declared.fault.ReadFault.{ReadFault}
 use Rattle.louis_table.specs.declared.fault.ReadFault.TheVariants as faults
 use Rattle.louis_table.specs.Meaning.{Meaning, definition_of, folded}
-use Rattle.louis_table.specs.Reading.{is_known, are_defined, is_complete, finished, first_lacking, rules_written, FinishesRule, FinishesAll}
-use Rattle.louis_table.specs.Table.{Entry, Defines, Pairs, Replaces, Announces, Gives, GiveFrom, rules_in, IsLacking}
+use Rattle.louis_table.specs.Reading.{is_known, are_defined, is_complete, line_of, finished, first_lacking, written_by, Finishes, FinishesAll}
+use Rattle.louis_table.specs.Table.{Entry, Defines, Pairs, Replaces, Announces, Collects, GiveFrom, rules_in, IsLacking}
 use Rattle.louis_table.proofs.VerdictLaws.{only_one}
 
 -- ---- what is finished
 
-finished_entry : (meaning : Meaning) (n : ℕ) (entry : Entry) → map (finished meaning) (rules_written n entry) ≡ rules_in meaning (n, entry)
+finished_entry : (meaning : Meaning) (n : ℕ) (entry : Entry) → flat_map (finished meaning) (written_by n entry) ≡ rules_in meaning (n, entry)
 finished_entry meaning n (Defines k definition) = refl
 finished_entry meaning n (Pairs u uc l lc) = refl
 finished_entry meaning n (Replaces kind text cells) = refl
 finished_entry meaning n (Announces sign cells) = refl
+finished_entry meaning n (Collects set text) = refl
 
 pub finished_entries : (meaning : Meaning) (entries : List (ℕ × Entry))
-    → map (finished meaning) (flat_map (λ e. rules_written e.0 e.1) entries) ≡ flat_map (rules_in meaning) entries
+    → flat_map (finished meaning) (flat_map (λ e. written_by e.0 e.1) entries) ≡ flat_map (rules_in meaning) entries
 finished_entries meaning [] = refl
 finished_entries meaning (e ∷ entries) =
-    map-append (finished meaning) (rules_written e.0 e.1) (flat_map (λ x. rules_written x.0 x.1) entries)
-    ∙ (ap (λ (rs : List Rule). rs ++ map (finished meaning) (flat_map (λ x. rules_written x.0 x.1) entries)) (finished_entry meaning e.0 e.1)
+    flat_map-append (finished meaning) (written_by e.0 e.1) (flat_map (λ x. written_by x.0 x.1) entries)
+    ∙ (ap (λ (rs : List Rule). rs ++ flat_map (finished meaning) (flat_map (λ x. written_by x.0 x.1) entries)) (finished_entry meaning e.0 e.1)
     ∙ ap (λ (rs : List Rule). rules_in meaning e ++ rs) (finished_entries meaning entries))
 
 -- ---- what is lacking
@@ -61,41 +61,69 @@ character_lacking meaning (x ∷ text) c m n =
     by true e = e
     by false e = refl
 
--- every character of the entry's rule is defined, if it has one
+lacking_of_set : (meaning : Meaning) (text : List ℕ) → are_defined meaning text ≡ false → (character : ℕ) × Contains text character × (definition_of meaning character ≡ None)
+lacking_of_set meaning [] e = absurd cc
+lacking_of_set meaning (c ∷ text) e = by (definition_of meaning c) (λ f. none_from _ f) e (lacking_of_set meaning text)
+  where
+    by : {D : Type 0} (o : Option D) → (is_some o ≡ false → definition_of meaning c ≡ None) → cond (is_some o) (are_defined meaning text) false ≡ false
+        → (are_defined meaning text ≡ false → (character : ℕ) × Contains text character × (definition_of meaning character ≡ None))
+        → (character : ℕ) × Contains (c ∷ text) character × (definition_of meaning character ≡ None)
+    by None n e rec = (c, Contains-append_left (c ∷ []) text c (0, omega arith, refl), n refl)
+    by (Some d) n e rec = let r = rec e in (r.0, Contains-append_right (c ∷ []) text r.0 r.1, r.2)
+
+set_lacking : (meaning : Meaning) (text : List ℕ) (c : ℕ) → Contains text c → definition_of meaning c ≡ None → are_defined meaning text ≡ false
+set_lacking meaning [] c (k, lt, e) n = absurd (omega arith)
+set_lacking meaning (x ∷ text) c m n =
+    elim (Contains-append_cases (x ∷ []) text c m) [
+      | inl here ↦
+          let none : is_known meaning x ≡ false = ap (is_known meaning) (only_one x c here) ∙ ap is_some n in
+          ap (λ (b : Bool). cond b (are_defined meaning text) false) none
+      | inr there ↦ by (is_known meaning x) (set_lacking meaning text c there n)
+    ]
+  where
+    by : (b : Bool) → are_defined meaning text ≡ false → cond b (are_defined meaning text) false ≡ false
+    by true e = e
+    by false e = refl
+
+-- every character of the entry's rule or set is defined, if it has one
 abbrev pub is_whole : Meaning → Entry → Bool
 is_whole meaning (Defines k definition) = true
 is_whole meaning (Pairs u uc l lc) = true
 is_whole meaning (Replaces kind text cells) = are_defined meaning (map (folded meaning) text)
 is_whole meaning (Announces sign cells) = true
+is_whole meaning (Collects set text) = are_defined meaning text
 
 is_whole-IsLacking : (meaning : Meaning) (entry : Entry) → is_whole meaning entry ≡ false → IsLacking meaning entry
 is_whole-IsLacking meaning (Defines k definition) e = absurd cc
 is_whole-IsLacking meaning (Pairs u uc l lc) e = absurd cc
 is_whole-IsLacking meaning (Replaces kind text cells) e = lacking_character meaning text e
 is_whole-IsLacking meaning (Announces sign cells) e = absurd cc
+is_whole-IsLacking meaning (Collects set text) e = lacking_of_set meaning text e
 
 IsLacking-is_whole : (meaning : Meaning) (entry : Entry) → IsLacking meaning entry → is_whole meaning entry ≡ false
 IsLacking-is_whole meaning (Defines k definition) h = absurd h
 IsLacking-is_whole meaning (Pairs u uc l lc) h = absurd h
 IsLacking-is_whole meaning (Replaces kind text cells) h = character_lacking meaning text h.0 h.1 h.2
 IsLacking-is_whole meaning (Announces sign cells) h = absurd h
+IsLacking-is_whole meaning (Collects set text) h = set_lacking meaning text h.0 h.1 h.2
 
 -- the line of the first entry whose rule lacks a definition
 abbrev pub first_in : Meaning → List (ℕ × Entry) → Option ℕ
 first_in meaning [] = None
 first_in meaning (e ∷ entries) = cond (is_whole meaning e.1) (first_in meaning entries) (Some e.0)
 
-first_of : (meaning : Meaning) (n : ℕ) (entry : Entry) (rules : List WrittenRule)
-    → first_lacking meaning (rules_written n entry ++ rules) ≡ cond (is_whole meaning entry) (first_lacking meaning rules) (Some n)
+first_of : (meaning : Meaning) (n : ℕ) (entry : Entry) (rules : List Written)
+    → first_lacking meaning (written_by n entry ++ rules) ≡ cond (is_whole meaning entry) (first_lacking meaning rules) (Some n)
 first_of meaning n (Defines k definition) rules = refl
 first_of meaning n (Pairs u uc l lc) rules = refl
 first_of meaning n (Replaces kind text cells) rules = refl
 first_of meaning n (Announces sign cells) rules = refl
+first_of meaning n (Collects set text) rules = refl
 
-pub first_lacking-first_in : (meaning : Meaning) (entries : List (ℕ × Entry)) → first_lacking meaning (flat_map (λ e. rules_written e.0 e.1) entries) ≡ first_in meaning entries
+pub first_lacking-first_in : (meaning : Meaning) (entries : List (ℕ × Entry)) → first_lacking meaning (flat_map (λ e. written_by e.0 e.1) entries) ≡ first_in meaning entries
 first_lacking-first_in meaning [] = refl
 first_lacking-first_in meaning (e ∷ entries) =
-    first_of meaning e.0 e.1 (flat_map (λ x. rules_written x.0 x.1) entries)
+    first_of meaning e.0 e.1 (flat_map (λ x. written_by x.0 x.1) entries)
     ∙ ap (λ (o : Option ℕ). cond (is_whole meaning e.1) o (Some e.0)) (first_lacking-first_in meaning entries)
 
 pub first_in-None : (meaning : Meaning) (entries : List (ℕ × Entry)) (n : ℕ) (rule : Entry) → first_in meaning entries ≡ None → Contains entries (n, rule) → ¬ IsLacking meaning rule
@@ -172,22 +200,22 @@ first_in-Some meaning k (line ∷ lines) entries n (inr (given, rest, gives, i, 
     by true t e rec = behind t (rec e)
     by false f e rec = at_front f cc
 
--- ---- rule by rule
+-- ---- one by one
 
-pub first_lacking-append : (meaning : Meaning) (done rest : List WrittenRule) → first_lacking meaning done ≡ None → first_lacking meaning (done ++ rest) ≡ first_lacking meaning rest
+pub first_lacking-append : (meaning : Meaning) (done rest : List Written) → first_lacking meaning done ≡ None → first_lacking meaning (done ++ rest) ≡ first_lacking meaning rest
 first_lacking-append meaning [] rest e = refl
 first_lacking-append meaning (w ∷ done) rest e = by (is_complete meaning w) e (first_lacking-append meaning done rest)
   where
-    by : (b : Bool) → cond b (first_lacking meaning done) (Some w.line) ≡ None → (first_lacking meaning done ≡ None → first_lacking meaning (done ++ rest) ≡ first_lacking meaning rest)
-        → cond b (first_lacking meaning (done ++ rest)) (Some w.line) ≡ first_lacking meaning rest
+    by : (b : Bool) → cond b (first_lacking meaning done) (Some (line_of w)) ≡ None → (first_lacking meaning done ≡ None → first_lacking meaning (done ++ rest) ≡ first_lacking meaning rest)
+        → cond b (first_lacking meaning (done ++ rest)) (Some (line_of w)) ≡ first_lacking meaning rest
     by true e rec = rec e
     by false e rec = absurd cc
 
-pub FinishesAll-fault : (meaning : Meaning) (all done rest : List WrittenRule) (written : WrittenRule) (fault : ReadFault) → first_lacking meaning done ≡ None → all ≡ done ++ written ∷ rest
-    → FinishesRule (Err fault) meaning written → FinishesAll (Err fault) meaning all
-FinishesAll-fault meaning all done rest written (faults.Table fault) n e f = (
-  ap (first_lacking meaning) e ∙ (first_lacking-append meaning done (written ∷ rest) n
-      ∙ (ap (λ (b : Bool). cond b (first_lacking meaning rest) (Some written.line)) f.0 ∙ ap Some (sym f.1))),
+pub FinishesAll-fault : (meaning : Meaning) (all done rest : List Written) (one : Written) (old new : List Rule) (fault : ReadFault) → first_lacking meaning done ≡ None → all ≡ done ++ one ∷ rest
+    → Finishes (Err fault) meaning one old new → FinishesAll (Err fault) meaning all
+FinishesAll-fault meaning all done rest one old new (faults.Table fault) n e f = (
+  ap (first_lacking meaning) e ∙ (first_lacking-append meaning done (one ∷ rest) n
+      ∙ (ap (λ (b : Bool). cond b (first_lacking meaning rest) (Some (line_of one))) f.0 ∙ ap Some (sym f.1))),
   f.2,
 )
-FinishesAll-fault meaning all done rest written faults.NoMemory n e f = tt
+FinishesAll-fault meaning all done rest one old new faults.NoMemory n e f = tt

@@ -1,27 +1,27 @@
 -- What the steps of reading a line come to.
-use Rattle.std.proofs.Common.{◌≡◌, ◌≢◌, ℕ, ◌<◌, ◌≤◌, Bool, true, false, not, cond, ◌||◌, eqb, ltb, List, [], ◌∷◌, length, get_or, Option, Some, None, option_map, Result, Ok, Err, Bor, is_some, codes, refl, sym, ap, subst, ◌∙◌, ◌⊎◌, inl, inr, arith, true≢false}
-use Rattle.std.specs.Option.{option_copied, option_zip}
+use Rattle.std.proofs.Common.{◌≡◌, ◌≢◌, ℕ, Bool, true, false, ◌||◌, eqb, List, [], ◌∷◌, length, get_or, Option, Some, None, option_map, Result, Ok, Err, codes, refl, sym, ap, subst, ◌∙◌, ◌⊎◌, inl, inr, arith, true≢false}
+use Rattle.std.specs.Option.{option_zip}
 use Rattle.std.specs.Result.{OnOk, is_err}
 use Rattle.std.specs.Str.{encode_utf8_all, bytes_eq}
-use Rattle.std.proofs.lemmas.Bool.{cases_Bool, eq-eqb, ne_eqb, eqb-true, eqb-false, lt-ltb, le-ltb, cond-true, cond-false}
+use Rattle.std.proofs.lemmas.Bool.{eq-eqb, ne_eqb, eqb-true, cond-true, cond-false}
 use Rattle.std.proofs.lemmas.List.{nil_from_length}
-use Rattle.cell_core.specs.Dots.{Dots, most_cells}
+use Rattle.cell_core.specs.Dots.{Dots}
 use Rattle.cell_core.specs.Reading.{cells_in}
 use Rattle.cell_core.proofs.DotsLaws.{Dots-from_cells_in, cells_in-from_Dots, Dots-encoded}
 use Rattle.louis_table.specs.declared.definition.Class.{Class}
-use Rattle.louis_table.specs.declared.definition.Definition.{Definition}
 use Rattle.louis_table.specs.declared.rule.RuleKind.{RuleKind}
-use Rattle.louis_table.specs.declared.opcode.Sign.{Sign}
+use Rattle.louis_table.specs.declared.sign.Sign.{Sign}
+use Rattle.louis_table.specs.declared.character_set.CharacterSet.{CharacterSet}
 use Rattle.louis_table.specs.declared.opcode.Opcode.{Opcode}
-use Rattle.louis_table.specs.declared.opcode.Opcode.TheVariants.{Define, UpLow, Replace, Announce}
+use Rattle.louis_table.specs.declared.opcode.Opcode.TheVariants.{Define, UpLow, Replace, Announce, Collect}
 use Rattle.louis_table.specs.declared.fault.LineFault.{LineFault}
 use Rattle.louis_table.specs.declared.fault.LineFault.TheVariants as line_faults
 use Rattle.louis_table.specs.declared.fault.Cause.{Cause}
-use Rattle.louis_table.specs.Meaning.{Meaning, definition_of}
-use Rattle.louis_table.specs.Table.{Entry, Defines, Pairs, Replaces, Announces, AreCharactersFor}
-use Rattle.louis_table.specs.Reading.{field_at, only_character, only_pair, characters_in, opcode_named, pair_parts, pair_in, Fits, FitsPair, rule_in, both_of, or_cause, entry_from, entry_with, entry_of_two, entry_of_one, entry_at, both_from, both_at, with_dots, as_some, opcode_gives, fields_give, line_gives, is_taken, is_known, sign_cells, repeats, announces, are_many, are_many_written, is_large, verdict_by, entry_verdict, line_verdict, judge_opcode, judge_line, judge, cause_number, class_named, kind_named, sign_named, first_named, FailsOperands, IsVerdict, ReadsCells, ReadsPair, ReadsRule, TakesLine}
+use Rattle.louis_table.specs.Meaning.{Meaning}
+use Rattle.louis_table.specs.Table.{Entry, Defines, Pairs, Replaces, Announces, Collects, AreCharactersFor}
+use Rattle.louis_table.specs.Reading.{field_at, only_character, only_pair, characters_in, opcode_named, pair_parts, pair_in, Fits, FitsPair, rule_in, both_of, or_cause, entry_from, entry_with, entry_of_two, entry_of_one, entry_of_set, entry_at, both_from, both_at, with_dots, as_some, opcode_gives, fields_give, line_gives, repeats, announces, are_many, is_large, verdict_by, entry_verdict, line_verdict, judge_opcode, judge_line, judge, cause_number, FailsOperands, IsVerdict, ReadsCells, ReadsPair, ReadsRule, TakesLine}
 use Rattle.louis_table.specs.declared.draft.Draft.{Draft}
-use Rattle.louis_table.proofs.EntryLaws.{TakesBoth, or_left, or_right, entry_at-both, entry_at-sign, wrong_entry}
+use Rattle.louis_table.proofs.EntryLaws.{TakesBoth, or_left, or_right, entry_at-both, entry_at-sign, entry_at-set, wrong_entry}
 use Rattle.louis_table.proofs.VerdictLaws.{judge-from_line}
 
 -- ---- lists and tests
@@ -31,10 +31,6 @@ nil_from_test xs b e t = nil_from_length xs (eqb-true _ _ (sym e ∙ t))
 
 pub not_nil_from_test : (xs : List ℕ) (b : Bool) → b ≡ eqb (length xs) 0 → b ≡ false → xs ≢ []
 not_nil_from_test xs b e f n = true≢false (sym (eq-eqb _ _ (ap length n)) ∙ (sym e ∙ f))
-
-pub is_some-copied : {X : Type 0} (o : Option (Bor X)) (p : Option X) → option_copied o ≡ p → is_some p ≡ is_some o
-is_some-copied None p e = ap is_some (sym e)
-is_some-copied (Some x) p e = ap is_some (sym e)
 
 pub on_ok : {T E P : Type 0} (r : Result T E) → OnOk r P → is_err r ≡ false → P
 on_ok (Ok x) h e = h
@@ -99,59 +95,7 @@ rule_told dots told f (cells, e, h) = (Some cells, rule_in-cells dots f ∙ ap (
 pub rule_untold : (dots : List ℕ) → bytes_eq dots (codes "=") ≡ false → ReadsCells (Ok None) (cells_in dots) → ReadsRule (Ok None) (rule_in dots)
 rule_untold dots f (cells, e, h) = (Some cells, rule_in-cells dots f ∙ ap (option_map Some) e, h)
 
--- ---- opcodes
-
-module _ (name : List ℕ) where
-  opcode_by : (class : Option Class) (uplow : Bool) (kind : Option RuleKind) (sign : Option Sign) → class_named name ≡ class → bytes_eq name (codes "uplow") ≡ uplow
-      → kind_named name ≡ kind → sign_named name ≡ sign → opcode_named name ≡ first_named class uplow kind sign
-  unfolding opcode_named
-  opcode_by class uplow kind sign c u k s =
-      ap (λ (x : Option Class). first_named x (bytes_eq name (codes "uplow")) (kind_named name) (sign_named name)) c
-      ∙ (ap (λ (x : Bool). first_named class x (kind_named name) (sign_named name)) u
-      ∙ (ap (λ (x : Option RuleKind). first_named class uplow x (sign_named name)) k
-      ∙ ap (first_named class uplow kind) s))
-
-  pub opcode_named-class : (class : Class) → Some class ≡ class_named name → Some (Define class) ≡ opcode_named name
-  opcode_named-class class c = sym (opcode_by (Some class) _ _ _ (sym c) refl refl refl)
-
-  pub opcode_named-uplow : None ≡ class_named name → bytes_eq name (codes "uplow") ≡ true → Some UpLow ≡ opcode_named name
-  opcode_named-uplow c u = sym (opcode_by None true _ _ (sym c) u refl refl)
-
-  pub opcode_named-kind : (kind : RuleKind) → None ≡ class_named name → bytes_eq name (codes "uplow") ≡ false → Some kind ≡ kind_named name → Some (Replace kind) ≡ opcode_named name
-  opcode_named-kind kind c u k = sym (opcode_by None false (Some kind) _ (sym c) u (sym k) refl)
-
-  pub opcode_named-sign : (sign : Sign) → None ≡ class_named name → bytes_eq name (codes "uplow") ≡ false → None ≡ kind_named name → Some sign ≡ sign_named name → Some (Announce sign) ≡ opcode_named name
-  opcode_named-sign sign c u k s = sym (opcode_by None false None (Some sign) (sym c) u (sym k) (sym s))
-
-  pub opcode_named-nothing : None ≡ class_named name → bytes_eq name (codes "uplow") ≡ false → None ≡ kind_named name → None ≡ sign_named name → (let o : Option Opcode = None in o) ≡ opcode_named name
-  opcode_named-nothing c u k s = sym (opcode_by None false None None (sym c) u (sym k) (sym s))
-
 -- ---- two operands
-
-both_read : (operands characters rest dots : List ℕ) → characters ≡ (field_at operands).0 → rest ≡ (field_at operands).1 → dots ≡ (field_at rest).0
-    → both_at operands ≡ both_from characters dots
-both_read operands characters rest dots c r d =
-    ap (λ (m : List ℕ). both_from (field_at operands).0 (field_at m).0) (sym r)
-    ∙ (ap (λ (f : List ℕ). both_from f (field_at rest).0) (sym c) ∙ ap (both_from characters) (sym d))
-
-pub both_from-missing : (operands characters rest dots : List ℕ) → characters ≡ (field_at operands).0 → rest ≡ (field_at operands).1 → dots ≡ (field_at rest).0
-    → (characters ≡ []) ⊎ (dots ≡ []) → both_at operands ≡ Err 2
-both_from-missing operands characters rest dots c r d h = both_read operands characters rest dots c r d ∙ by characters dots h
-  where
-    by : (characters dots : List ℕ) → (characters ≡ []) ⊎ (dots ≡ []) → both_from characters dots ≡ Err 2
-    by [] dots h = refl
-    by (x ∷ characters) [] h = refl
-    by (x ∷ characters) (y ∷ dots) (inl e) = absurd cc
-    by (x ∷ characters) (y ∷ dots) (inr e) = absurd cc
-
-pub both_from-read : (operands characters rest dots : List ℕ) → characters ≡ (field_at operands).0 → rest ≡ (field_at operands).1 → dots ≡ (field_at rest).0
-    → characters ≢ [] → dots ≢ [] → (o : Option (List ℕ)) → o ≡ characters_in characters → both_at operands ≡ with_dots o dots
-both_from-read operands characters rest dots c r d m n o e = both_read operands characters rest dots c r d ∙ (by characters dots m n ∙ ap (λ (p : Option (List ℕ)). with_dots p dots) (sym e))
-  where
-    by : (characters dots : List ℕ) → characters ≢ [] → dots ≢ [] → both_from characters dots ≡ with_dots (characters_in characters) dots
-    by [] dots m n = absurd (m refl)
-    by (x ∷ characters) [] m n = absurd (n refl)
-    by (x ∷ characters) (y ∷ dots) m n = refl
 
 -- the entry of both operands, or the cause that keeps them from being read
 abbrev pub then_entry : Opcode → Result (List ℕ × List ℕ) ℕ → Result Entry ℕ
@@ -261,6 +205,28 @@ module _ (sign : Sign) (operands dots : List ℕ) (d : dots ≡ (field_at operan
 
   pub sign_at : (cells : List ℕ) → dots ≢ [] → cells_in dots ≡ Some cells → entry_at (Announce sign) operands ≡ Ok (Announces sign cells)
   sign_at cells n e = sign_read (Some cells) n e
+
+-- ---- sets
+
+module _ (set : CharacterSet) (operands characters : List ℕ) (c : characters ≡ (field_at operands).0) where
+  set_operand : entry_at (Collect set) operands ≡ entry_of_set set characters
+  set_operand = entry_at-set set operands ∙ ap (entry_of_set set) (sym c)
+
+  pub set_missing : (meaning : Meaning) → characters ≡ [] → judge_opcode meaning (Collect set) operands ≡ Err 2
+  set_missing meaning e = judge_by meaning (Collect set) operands _ (set_operand ∙ ap (entry_of_set set) e)
+
+  set_read : (o : Option (List ℕ)) → characters ≢ [] → characters_in characters ≡ o → entry_at (Collect set) operands ≡ or_cause 3 (option_map (λ text. Collects set text) o)
+  set_read o n e = set_operand ∙ (by characters n ∙ ap (λ (p : Option (List ℕ)). or_cause 3 (option_map (λ text. Collects set text) p)) e)
+    where
+      by : (characters : List ℕ) → characters ≢ [] → entry_of_set set characters ≡ or_cause 3 (option_map (λ text. Collects set text) (characters_in characters))
+      by [] n = absurd (n refl)
+      by (y ∷ characters) n = refl
+
+  pub set_bad : (meaning : Meaning) → characters ≢ [] → characters_in characters ≡ None → judge_opcode meaning (Collect set) operands ≡ Err 3
+  set_bad meaning n e = judge_by meaning (Collect set) operands _ (set_read None n e)
+
+  pub set_at : (text : List ℕ) → characters ≢ [] → characters_in characters ≡ Some text → entry_at (Collect set) operands ≡ Ok (Collects set text)
+  set_at text n e = set_read (Some text) n e
 
 -- ---- the line
 

@@ -1,22 +1,25 @@
 -- The verdict on a line behind others tells its smallest cause.
-use Rattle.std.proofs.Common.{◌≡◌, ◌≢◌, ℕ, ◌+◌, ◌<◌, ◌≤◌, Bool, true, false, not, cond, ◌||◌, eqb, ltb, leb, List, [], ◌∷◌, ◌++◌, length, Option, Some, None, Result, Ok, Err, is_some, Contains, refl, sym, ap, subst, ◌∙◌, ◌⊎◌, inl, inr, arith, lit≤, true≢false}
+use Rattle.std.proofs.Common.{◌≡◌, ℕ, ◌+◌, ◌<◌, ◌≤◌, Bool, true, false, not, cond, ◌||◌, eqb, ltb, leb, List, [], ◌∷◌, ◌++◌, length, Option, Some, None, Result, Ok, Err, is_some, Contains, refl, sym, ap, subst, ◌∙◌, ◌⊎◌, inl, inr, arith, lit≤, true≢false}
 use Rattle.std.specs.Prelude.{nat_eq, map}
 use Rattle.std.specs.Map.{lookup}
 use Rattle.std.specs.List.{flat_map, list_any}
-use Rattle.std.proofs.lemmas.Bool.{cases_Bool, cases_lt, eqb-true, eqb-false, eq-eqb, ne_eqb, ltb-true, leb-true, lt-ltb, le-leb, ltb-false, leb-false, not-false, not-true}
-use Rattle.std.proofs.lemmas.List.{nil_from_length, length-append}
+use Rattle.std.proofs.lemmas.Bool.{cases_lt, eqb-true, eqb-false, eq-eqb, ne_eqb, ltb-true, leb-true, lt-ltb, le-leb, not-false}
+use Rattle.std.proofs.lemmas.List.{nil_from_length}
 use Rattle.std.proofs.lemmas.List.Elements.{Contains-append_left, Contains-append_right, Contains-push_cases, Contains-append_cases}
 use Rattle.cell_core.specs.Dots.{Dots}
 use Rattle.louis_table.specs.declared.definition.Definition.{Definition}
-use Rattle.louis_table.specs.declared.opcode.Sign.{Sign}
-use Rattle.louis_table.specs.declared.opcode.Sign.TheVariants.{Number, Capital, CapitalWord}
-use Rattle.louis_table.specs.declared.opcode.Opcode.{Opcode}
-use Rattle.louis_table.specs.declared.written.WrittenRule.{WrittenRule}
-use Rattle.louis_table.specs.Meaning.{Meaning, definition_of, partner_of}
-use Rattle.louis_table.specs.Reading.{Gathers, as_some, is_known, is_taken, sign_cells, repeats, announces, is_large, verdict_by, entry_verdict, line_verdict, line_gives, entry_at, judge_opcode, judge_line, within_limits, judge, IsNewFor, CanTake, HasDefinedPartners}
-use Rattle.louis_table.specs.Table.{most_lines, most_line_characters, Entry, Defines, Pairs, Replaces, Announces, SaysNothing, Gives, definition_line, pair_line, rule_line, sign_line, GiveFrom, definitions_in, partners_in, numsign_in, capsletter_in, begcapsword_in, IsDefinedIn, SomeGives, Fault, unknown_opcode, missing_operand, bad_characters, bad_dots, defined_before, defined_twice, announced_before, long_line, line_too_many, long_rule, many_cells}
+use Rattle.louis_table.specs.declared.sign.Sign.{Sign}
+use Rattle.louis_table.specs.declared.sign.Sign.TheVariants as signs
+use Rattle.louis_table.specs.declared.character_set.CharacterSet.{CharacterSet}
+use Rattle.louis_table.specs.declared.character_set.CharacterSet.TheVariants as sets
+use Rattle.louis_table.specs.declared.written.Written.{Written}
+use Rattle.louis_table.specs.Fields.{IsField}
+use Rattle.louis_table.specs.Characters.{Spells}
+use Rattle.louis_table.specs.Meaning.{Meaning, definition_of, sign_cells, set_characters}
+use Rattle.louis_table.specs.Reading.{Gathers, as_some, is_known, repeats, announces, is_large, verdict_by, entry_verdict, line_verdict, line_gives, judge_line, within_limits, judge, IsNewFor, CanTake, HasDefinedPartners}
+use Rattle.louis_table.specs.Table.{most_lines, most_line_characters, Entry, Defines, Pairs, Replaces, Announces, Collects, SaysNothing, Gives, definition_line, pair_line, rule_line, sign_line, set_line, GiveFrom, definitions_in, is_same_sign, is_same_set, cells_for, characters_for, IsDefinedIn, GivesAgain, SomeGives, Fault, unknown_opcode, missing_operand, bad_characters, bad_dots, defined_before, defined_twice, given_before, long_line, line_too_many, many_characters, many_cells}
 use Rattle.louis_table.proofs.CharacterLaws.{chosen}
-use Rattle.louis_table.proofs.EntryLaws.{Says, FailsBy, IsLargeBy, or_right, or_left, or_cases, line_gives-Says, line_gives-nothing, line_gives-entry, unknown_fails, missing_fails, characters_fail, dots_fail, long_rule_large, many_cells_large, large_fault}
+use Rattle.louis_table.proofs.EntryLaws.{Says, FailsBy, IsLargeBy, or_right, or_left, or_cases, line_gives-Says, line_gives-nothing, line_gives-entry, unknown_fails, missing_fails, characters_fail, dots_fail, many_characters_large, many_cells_large, large_fault}
 
 -- ---- lines and entries
 
@@ -114,7 +117,7 @@ Contains-lookup c ((k, x) ∷ xs) m =
 abbrev defines : ℕ → Entry → Bool
 defines c entry = is_some (lookup (nat_eq c) (definitions_in entry))
 
-module _ (lines : List (List ℕ)) (meaning : Meaning) (written : List WrittenRule) (g : Gathers lines meaning written) where
+module _ (lines : List (List ℕ)) (meaning : Meaning) (written : List Written) (g : Gathers lines meaning written) where
   is_known-any : (c : ℕ) → is_known meaning c ≡ any_gives (defines c) g.entries
   is_known-any c = ap (λ (ds : List (ℕ × Definition)). is_some (lookup (nat_eq c) ds)) g.definitions ∙ lookup-flat_map (nat_eq c) definitions_in g.entries
 
@@ -129,15 +132,44 @@ module _ (lines : List (List ℕ)) (meaning : Meaning) (written : List WrittenRu
       ∙ SomeGives-any_gives (defines c) 1 lines g.entries g.given
       (map_SomeGives lines (IsDefinedIn c) (λ entry. defines c entry ≡ true) s (λ line entry gives h. Contains-lookup c (definitions_in entry) h))
 
--- ---- the signs that entries give
+-- ---- the signs and sets that entries give
 
-abbrev cells_for : Sign → Entry → List ℕ
-cells_for Number entry = numsign_in entry
-cells_for Capital entry = capsletter_in entry
-cells_for CapitalWord entry = begcapsword_in entry
+same_sign : (one other : Sign) → is_same_sign one other ≡ true → one ≡ other
+same_sign signs.Number signs.Number e = refl
+same_sign signs.Number signs.Capital e = absurd cc
+same_sign signs.Number signs.CapitalWord e = absurd cc
+same_sign signs.Number signs.NoContraction e = absurd cc
+same_sign signs.Capital signs.Number e = absurd cc
+same_sign signs.Capital signs.Capital e = refl
+same_sign signs.Capital signs.CapitalWord e = absurd cc
+same_sign signs.Capital signs.NoContraction e = absurd cc
+same_sign signs.CapitalWord signs.Number e = absurd cc
+same_sign signs.CapitalWord signs.Capital e = absurd cc
+same_sign signs.CapitalWord signs.CapitalWord e = refl
+same_sign signs.CapitalWord signs.NoContraction e = absurd cc
+same_sign signs.NoContraction signs.Number e = absurd cc
+same_sign signs.NoContraction signs.Capital e = absurd cc
+same_sign signs.NoContraction signs.CapitalWord e = absurd cc
+same_sign signs.NoContraction signs.NoContraction e = refl
+
+own_sign : (sign : Sign) → is_same_sign sign sign ≡ true
+own_sign signs.Number = refl
+own_sign signs.Capital = refl
+own_sign signs.CapitalWord = refl
+own_sign signs.NoContraction = refl
+
+same_set : (one other : CharacterSet) → is_same_set one other ≡ true → one ≡ other
+same_set sets.NumericMode sets.NumericMode e = refl
+same_set sets.NumericMode sets.NoContraction e = absurd cc
+same_set sets.NoContraction sets.NumericMode e = absurd cc
+same_set sets.NoContraction sets.NoContraction e = refl
+
+own_set : (set : CharacterSet) → is_same_set set set ≡ true
+own_set sets.NumericMode = refl
+own_set sets.NoContraction = refl
 
 abbrev are_some : List ℕ → Bool
-are_some cells = not (eqb (length cells) 0)
+are_some xs = not (eqb (length xs) 0)
 
 are_some-append : (xs ys : List ℕ) → are_some (xs ++ ys) ≡ (are_some xs || are_some ys)
 are_some-append [] ys = refl
@@ -150,56 +182,98 @@ are_some-flat_map : (f : Entry → List ℕ) (entries : List (ℕ × Entry)) →
 are_some-flat_map f [] = refl
 are_some-flat_map f (e ∷ entries) = are_some-append (f e.1) (flat_map (λ e. f e.1) entries) ∙ ap (λ (b : Bool). are_some (f e.1) || b) (are_some-flat_map f entries)
 
+-- a list that is there under a condition has something only where that holds
+are_some-cond : (b : Bool) (xs : List ℕ) → are_some (cond b xs []) ≡ true → b ≡ true
+are_some-cond true xs e = refl
+are_some-cond false xs e = absurd cc
+
 cells_for-Announces : (sign : Sign) (entry : Entry) → are_some (cells_for sign entry) ≡ true → (cells : List ℕ) × (entry ≡ Announces sign cells)
-cells_for-Announces Number (Announces Number cells) h = (cells, refl)
-cells_for-Announces Number entry h = absurd cc
-cells_for-Announces Capital (Announces Capital cells) h = (cells, refl)
-cells_for-Announces Capital entry h = absurd cc
-cells_for-Announces CapitalWord (Announces CapitalWord cells) h = (cells, refl)
-cells_for-Announces CapitalWord entry h = absurd cc
+cells_for-Announces sign (Defines character definition) h = absurd cc
+cells_for-Announces sign (Pairs upper upper_cells lower lower_cells) h = absurd cc
+cells_for-Announces sign (Replaces kind text cells) h = absurd cc
+cells_for-Announces sign (Announces other cells) h =
+    (cells, ap (λ (x : Sign). Announces x cells) (sym (same_sign sign other (are_some-cond _ cells h))))
+cells_for-Announces sign (Collects set text) h = absurd cc
+
+characters_for-Collects : (set : CharacterSet) (entry : Entry) → are_some (characters_for set entry) ≡ true → (text : List ℕ) × (entry ≡ Collects set text)
+characters_for-Collects set (Defines character definition) h = absurd cc
+characters_for-Collects set (Pairs upper upper_cells lower lower_cells) h = absurd cc
+characters_for-Collects set (Replaces kind text cells) h = absurd cc
+characters_for-Collects set (Announces sign cells) h = absurd cc
+characters_for-Collects set (Collects other text) h =
+    (text, ap (λ (x : CharacterSet). Collects x text) (sym (same_set set other (are_some-cond _ text h))))
 
 cells_for-own : (sign : Sign) (cells : List ℕ) → cells_for sign (Announces sign cells) ≡ cells
-cells_for-own Number cells = refl
-cells_for-own Capital cells = refl
-cells_for-own CapitalWord cells = refl
+cells_for-own sign cells = ap (λ (b : Bool). cond b cells []) (own_sign sign)
+
+characters_for-own : (set : CharacterSet) (text : List ℕ) → characters_for set (Collects set text) ≡ text
+characters_for-own set text = ap (λ (b : Bool). cond b text []) (own_set set)
 
 Dots-some : (dots cells : List ℕ) → Dots dots cells → are_some cells ≡ true
 Dots-some dots [] d = absurd d
 Dots-some dots (cell ∷ cells) d = ap not (ne_eqb _ _ (λ e. omega arith))
 
+Spells-some : (characters text : List ℕ) → IsField characters → Spells characters text → are_some text ≡ true
+Spells-some [] text f s = absurd f
+Spells-some (x ∷ characters) [] f s = absurd cc
+Spells-some (x ∷ characters) (c ∷ text) f s = ap not (ne_eqb _ _ (λ e. omega arith))
+
 Gives-some : (line : List ℕ) (entry : Entry) (sign : Sign) (cells : List ℕ) → Gives line entry → entry ≡ Announces sign cells → are_some cells ≡ true
-Gives-some line entry sign cells (definition_line class characters dots c others h s d e) same = absurd cc
-Gives-some line entry sign cells (pair_line characters dots upper lower upper_cells lower_cells h s d e) same = absurd cc
-Gives-some line entry sign cells (rule_line kind characters dots text others h s d e) same = absurd cc
-Gives-some line entry sign cells (sign_line other dots others h d e) same =
+Gives-some line entry sign cells (definition_line class characters dots c others has h s d e) same = absurd cc
+Gives-some line entry sign cells (pair_line characters dots upper lower upper_cells lower_cells has h s d e) same = absurd cc
+Gives-some line entry sign cells (rule_line kind characters dots text others has h s d e) same = absurd cc
+Gives-some line entry sign cells (sign_line other dots others has h d e) same =
     let equal : others ≡ cells = cc in
     ap are_some (sym equal) ∙ Dots-some dots others d
+Gives-some line entry sign cells (set_line set characters text has h s e) same = absurd cc
 
-module _ (lines : List (List ℕ)) (meaning : Meaning) (written : List WrittenRule) (g : Gathers lines meaning written) where
-  sign_cells-flat_map : (sign : Sign) → sign_cells meaning sign ≡ flat_map (λ e. cells_for sign e.1) g.entries
-  sign_cells-flat_map Number = g.numsign
-  sign_cells-flat_map Capital = g.capsletter
-  sign_cells-flat_map CapitalWord = g.begcapsword
+Gives-some_text : (line : List ℕ) (entry : Entry) (set : CharacterSet) (text : List ℕ) → Gives line entry → entry ≡ Collects set text → are_some text ≡ true
+Gives-some_text line entry set text (definition_line class characters dots c others has h s d e) same = absurd cc
+Gives-some_text line entry set text (pair_line characters dots upper lower upper_cells lower_cells has h s d e) same = absurd cc
+Gives-some_text line entry set text (rule_line kind characters dots others cells has h s d e) same = absurd cc
+Gives-some_text line entry set text (sign_line other dots others has h d e) same = absurd cc
+Gives-some_text line entry set text (set_line other characters others has h s e) same =
+    let equal : others ≡ text = cc in
+    ap are_some (sym equal) ∙ Spells-some characters others h.2.1.is_field s
 
-  -- an earlier line gives the sign
-  abbrev IsAnnounced : Sign → Type 0
-  IsAnnounced sign = SomeGives lines (λ entry. (others : List ℕ) × (entry ≡ Announces sign others))
-
+module _ (lines : List (List ℕ)) (meaning : Meaning) (written : List Written) (g : Gathers lines meaning written) where
   sign_cells-any : (sign : Sign) → are_some (sign_cells meaning sign) ≡ any_gives (λ entry. are_some (cells_for sign entry)) g.entries
-  sign_cells-any sign = ap are_some (sign_cells-flat_map sign) ∙ are_some-flat_map (cells_for sign) g.entries
+  sign_cells-any sign = ap are_some (g.signs sign) ∙ are_some-flat_map (cells_for sign) g.entries
 
-  pub sign_cells-IsAnnounced : (sign : Sign) → are_some (sign_cells meaning sign) ≡ true → IsAnnounced sign
-  sign_cells-IsAnnounced sign t =
-      map_SomeGives lines (λ entry. are_some (cells_for sign entry) ≡ true) (λ entry. (others : List ℕ) × (entry ≡ Announces sign others))
+  set_characters-any : (set : CharacterSet) → are_some (set_characters meaning set) ≡ any_gives (λ entry. are_some (characters_for set entry)) g.entries
+  set_characters-any set = ap are_some (g.sets set) ∙ are_some-flat_map (characters_for set) g.entries
+
+  -- an earlier line gives the sign or the set of the entry
+  pub announces-SomeGives : (entry : Entry) → announces meaning entry ≡ true → SomeGives lines (GivesAgain entry)
+  announces-SomeGives (Defines k definition) t = absurd cc
+  announces-SomeGives (Pairs u uc l lc) t = absurd cc
+  announces-SomeGives (Replaces kind text cells) t = absurd cc
+  announces-SomeGives (Announces sign cells) t =
+      map_SomeGives lines (λ entry. are_some (cells_for sign entry) ≡ true) (GivesAgain (Announces sign cells))
       (any_gives-SomeGives (λ entry. are_some (cells_for sign entry)) 1 lines g.entries g.given (sym (sign_cells-any sign) ∙ t))
       (λ line entry gives h. cells_for-Announces sign entry h)
+  announces-SomeGives (Collects set text) t =
+      map_SomeGives lines (λ entry. are_some (characters_for set entry) ≡ true) (GivesAgain (Collects set text))
+      (any_gives-SomeGives (λ entry. are_some (characters_for set entry)) 1 lines g.entries g.given (sym (set_characters-any set) ∙ t))
+      (λ line entry gives h. characters_for-Collects set entry h)
 
-  pub IsAnnounced-sign_cells : (sign : Sign) → IsAnnounced sign → are_some (sign_cells meaning sign) ≡ true
-  IsAnnounced-sign_cells sign s =
+  nobody_again : SomeGives lines (λ entry. ⊥) → ⊥
+  nobody_again (line, entry, m, gives, h) = h
+
+  pub SomeGives-announces : (entry : Entry) → SomeGives lines (GivesAgain entry) → announces meaning entry ≡ true
+  SomeGives-announces (Defines k definition) s = absurd (nobody_again s)
+  SomeGives-announces (Pairs u uc l lc) s = absurd (nobody_again s)
+  SomeGives-announces (Replaces kind text cells) s = absurd (nobody_again s)
+  SomeGives-announces (Announces sign cells) s =
       sign_cells-any sign
       ∙ SomeGives-any_gives (λ entry. are_some (cells_for sign entry)) 1 lines g.entries g.given
-      (map_SomeGives lines (λ entry. (others : List ℕ) × (entry ≡ Announces sign others)) (λ entry. are_some (cells_for sign entry) ≡ true) s
+      (map_SomeGives lines (GivesAgain (Announces sign cells)) (λ entry. are_some (cells_for sign entry) ≡ true) s
       (λ line entry gives h. ap (λ (x : Entry). are_some (cells_for sign x)) h.1 ∙ (ap are_some (cells_for-own sign h.0) ∙ Gives-some line entry sign h.0 gives h.1)))
+  SomeGives-announces (Collects set text) s =
+      set_characters-any set
+      ∙ SomeGives-any_gives (λ entry. are_some (characters_for set entry)) 1 lines g.entries g.given
+      (map_SomeGives lines (GivesAgain (Collects set text)) (λ entry. are_some (characters_for set entry) ≡ true) s
+      (λ line entry gives h. ap (λ (x : Entry). are_some (characters_for set x)) h.1 ∙ (ap are_some (characters_for-own set h.0) ∙ Gives-some_text line entry set h.0 gives h.1)))
 
 -- ---- a verdict against a line is a fault
 
@@ -221,7 +295,7 @@ IsLong-is_long before line (inr h) = or_right (ltb most_line_characters (length 
 err_is : (a c : ℕ) → (let r : Result (Option Entry) ℕ = Err a in r) ≡ Err c → c ≡ a
 err_is a c e = cc
 
-module _ (before : List (List ℕ)) (line : List ℕ) (meaning : Meaning) (written : List WrittenRule) (gathered : Gathers before meaning written) where
+module _ (before : List (List ℕ)) (line : List ℕ) (meaning : Meaning) (written : List Written) (gathered : Gathers before meaning written) where
   limits_fault : (given : Option Entry) (c : ℕ) → within_limits (length before) line (Ok given) ≡ Err c → Fault before line c
   limits_fault given c e =
       elim (chosen (is_long (length before) line) _ _ _ e) [
@@ -245,12 +319,10 @@ module _ (before : List (List ℕ)) (line : List ℕ) (meaning : Meaning) (writt
       ]
   repeats_fault (Replaces kind text cells) g t = absurd cc
   repeats_fault (Announces sign cells) g t = absurd cc
+  repeats_fault (Collects set text) g t = absurd cc
 
   announces_fault : (entry : Entry) → Gives line entry → announces meaning entry ≡ true → Fault before line 6
-  announces_fault (Defines k definition) g t = absurd cc
-  announces_fault (Pairs u uc l lc) g t = absurd cc
-  announces_fault (Replaces kind text cells) g t = absurd cc
-  announces_fault (Announces sign cells) g t = announced_before sign cells g (sign_cells-IsAnnounced before meaning written gathered sign t) refl
+  announces_fault entry g t = given_before entry g (announces-SomeGives before meaning written gathered entry t) refl
 
   entry_fault : (entry : Entry) (c : ℕ) → Gives line entry → (r a l : Bool) → repeats meaning entry ≡ r → announces meaning entry ≡ a → is_large entry ≡ l
       → within_limits (length before) line (as_some (verdict_by r a l entry)) ≡ Err c → Fault before line c
@@ -316,16 +388,16 @@ module _ (before : List (List ℕ)) (line : List ℕ) (meaning : Meaning) (writt
 
   fault_small : (c : ℕ) → Fault before line c → c ≤ 8
   fault_small c (unknown_opcode field rest b n u e) = rw e (lit≤ tt)
-  fault_small c (missing_operand opcode rest b n e) = rw e (lit≤ tt)
-  fault_small c (bad_characters opcode characters h n e) = rw e (lit≤ tt)
-  fault_small c (bad_dots opcode dots h n e) = rw e (lit≤ tt)
+  fault_small c (missing_operand opcode rest has b n e) = rw e (lit≤ tt)
+  fault_small c (bad_characters opcode characters has h n e) = rw e (lit≤ tt)
+  fault_small c (bad_dots opcode dots has h n e) = rw e (lit≤ tt)
   fault_small c (defined_before entry k g i s e) = rw e (lit≤ tt)
   fault_small c (defined_twice k uc lc g e) = rw e (lit≤ tt)
-  fault_small c (announced_before sign cells g s e) = rw e (lit≤ tt)
+  fault_small c (given_before entry g s e) = rw e (lit≤ tt)
   fault_small c (long_line h e) = rw e (lit≤ tt)
   fault_small c (line_too_many h e) = rw e (lit≤ tt)
-  fault_small c (long_rule kind characters text h s lt e) = rw e (lit≤ tt)
-  fault_small c (many_cells opcode dots cells h w lt e) = rw e (lit≤ tt)
+  fault_small c (many_characters opcode characters text has h s many e) = rw e (lit≤ tt)
+  fault_small c (many_cells opcode dots cells has h w lt e) = rw e (lit≤ tt)
 
   long_judged : (v : Result (Option Entry) ℕ) → judge_line meaning line ≡ v → IsLong (length before) line → IsJudged 8
   unfolding judge
@@ -344,22 +416,23 @@ module _ (before : List (List ℕ)) (line : List ℕ) (meaning : Meaning) (writt
       ]
   repeats-defined (Replaces kind text cells) c (k, lt, e) t = absurd (omega arith)
   repeats-defined (Announces sign cells) c (k, lt, e) t = absurd (omega arith)
+  repeats-defined (Collects set text) c (k, lt, e) t = absurd (omega arith)
 
   pub Fault-judge : (cause : ℕ) → Fault before line cause → IsJudged cause
   Fault-judge cause (unknown_opcode field rest b n u e) = rw e (fails_judged 1 (unknown_fails line field rest b n u))
-  Fault-judge cause (missing_operand opcode rest b n e) = rw e (fails_judged 2 (missing_fails line rest opcode b n))
-  Fault-judge cause (bad_characters opcode characters h n e) = rw e (fails_judged 3 (characters_fail line characters opcode h n))
-  Fault-judge cause (bad_dots opcode dots h n e) = rw e (fails_judged 4 (dots_fail line dots opcode h n))
+  Fault-judge cause (missing_operand opcode rest has b n e) = rw e (fails_judged 2 (missing_fails line rest opcode b n))
+  Fault-judge cause (bad_characters opcode characters has h n e) = rw e (fails_judged 3 (characters_fail line characters opcode h n))
+  Fault-judge cause (bad_dots opcode dots has h n e) = rw e (fails_judged 4 (dots_fail line dots opcode h n))
   Fault-judge cause (defined_before entry k g i s e) =
       rw e (repeats_judged entry g (repeats-defined entry k i (SomeGives-is_known before meaning written gathered k s)))
   Fault-judge cause (defined_twice k uc lc g e) =
       rw e (repeats_judged (Pairs k uc k lc) g (or_left _ _ (or_left _ _ (eq-eqb k k refl))))
-  Fault-judge cause (announced_before sign cells g s e) =
-      rw e (announces_judged (Announces sign cells) g (IsAnnounced-sign_cells before meaning written gathered sign s))
+  Fault-judge cause (given_before entry g s e) =
+      rw e (announces_judged entry g (SomeGives-announces before meaning written gathered entry s))
   Fault-judge cause (long_line h e) = rw e (long_judged (judge_line meaning line) refl (inl h))
   Fault-judge cause (line_too_many h e) = rw e (long_judged (judge_line meaning line) refl (inr h))
-  Fault-judge cause (long_rule kind characters text h s lt e) = rw e (large_judged (long_rule_large line characters text kind h s lt))
-  Fault-judge cause (many_cells opcode dots cells h w lt e) = rw e (large_judged (many_cells_large line dots cells opcode h w lt))
+  Fault-judge cause (many_characters opcode characters text has h s many e) = rw e (large_judged (many_characters_large line characters text opcode h s many))
+  Fault-judge cause (many_cells opcode dots cells has h w lt e) = rw e (large_judged (many_cells_large line dots cells opcode h w lt))
 
 -- ---- a line that is taken
 
@@ -439,6 +512,7 @@ IsNewFor-tests meaning (Pairs u uc l lc) p r a =
     (absent, none_from _ both.1, eqb-false u l upper.0, p u absent)
 IsNewFor-tests meaning (Replaces kind text cells) p r a = tt
 IsNewFor-tests meaning (Announces sign cells) p r a = nil_from_length _ (eqb-true _ _ (not-false _ a))
+IsNewFor-tests meaning (Collects set text) p r a = nil_from_length _ (eqb-true _ _ (not-false _ a))
 
 -- what is given is new
 pub judge_line-new : (meaning : Meaning) (line : List ℕ) (entry : Entry) → HasDefinedPartners meaning → judge_line meaning line ≡ Ok (Some entry) → IsNewFor meaning entry

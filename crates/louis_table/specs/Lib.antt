@@ -1,6 +1,7 @@
 pub mod Lines
 pub mod Fields
 pub mod Characters
+pub mod Profile
 pub mod Opcode
 pub mod Meaning
 pub mod Table

@@ -1,35 +1,52 @@
--- The opcodes and their names.
-use Rattle.std.specs.Prelude.{ℕ, List, codes}
-use Rattle.louis_table.specs.declared.definition.Class.{Class}
+-- The opcodes: how they are written, and which profiles have them.
+use Rattle.std.specs.Prelude.{ℕ, List}
 use Rattle.louis_table.specs.declared.definition.Class.TheVariants.{Space, Punctuation, Digit, Letter}
-use Rattle.louis_table.specs.declared.rule.RuleKind.{RuleKind}
 use Rattle.louis_table.specs.declared.rule.RuleKind.TheVariants.{Always, Word, BegWord, MidWord, EndWord}
-use Rattle.louis_table.specs.declared.opcode.Sign.{Sign}
-use Rattle.louis_table.specs.declared.opcode.Sign.TheVariants.{Number, Capital, CapitalWord}
+use Rattle.louis_table.specs.declared.sign.Sign.TheVariants.{Number, Capital, CapitalWord, NoContraction}
+use Rattle.louis_table.specs.declared.character_set.CharacterSet.TheVariants as sets
 use Rattle.louis_table.specs.declared.opcode.Opcode.{Opcode}
-use Rattle.louis_table.specs.declared.opcode.Opcode.TheVariants.{Define, UpLow, Replace, Announce}
-
-abbrev pub class_name : Class → List ℕ
-class_name Space = codes "space"
-class_name Punctuation = codes "punctuation"
-class_name Digit = codes "digit"
-class_name Letter = codes "letter"
-
-abbrev pub kind_name : RuleKind → List ℕ
-kind_name Always = codes "always"
-kind_name Word = codes "word"
-kind_name BegWord = codes "begword"
-kind_name MidWord = codes "midword"
-kind_name EndWord = codes "endword"
-
-abbrev pub sign_name : Sign → List ℕ
-sign_name Number = codes "numsign"
-sign_name Capital = codes "capsletter"
-sign_name CapitalWord = codes "begcapsword"
+use Rattle.louis_table.specs.declared.opcode.Opcode.TheVariants as opcodes
+use Rattle.louis_table.specs.declared.opcode.TheConstants as names
+use Rattle.louis_table.specs.Profile.{Profile, WithoutNumericMode, WithNumericMode, Includes}
 
 -- the opcode as it is written
 abbrev pub name_of : Opcode → List ℕ
-name_of (Define class) = class_name class
-name_of UpLow = codes "uplow"
-name_of (Replace kind) = kind_name kind
-name_of (Announce sign) = sign_name sign
+name_of (opcodes.Define Space) = names.SPACE.now
+name_of (opcodes.Define Punctuation) = names.PUNCTUATION.now
+name_of (opcodes.Define Digit) = names.DIGIT.now
+name_of (opcodes.Define Letter) = names.LETTER.now
+name_of opcodes.UpLow = names.UPLOW.now
+name_of (opcodes.Replace Always) = names.ALWAYS.now
+name_of (opcodes.Replace Word) = names.WORD.now
+name_of (opcodes.Replace BegWord) = names.BEGWORD.now
+name_of (opcodes.Replace MidWord) = names.MIDWORD.now
+name_of (opcodes.Replace EndWord) = names.ENDWORD.now
+name_of (opcodes.Announce Number) = names.NUMSIGN.now
+name_of (opcodes.Announce Capital) = names.CAPSLETTER.now
+name_of (opcodes.Announce CapitalWord) = names.BEGCAPSWORD.now
+name_of (opcodes.Announce NoContraction) = names.NOCONTRACTSIGN.now
+name_of (opcodes.Collect sets.NumericMode) = names.NUMERICMODECHARS.now
+name_of (opcodes.Collect sets.NoContraction) = names.NUMERICNOCONTCHARS.now
+
+-- the first profile that has the opcode
+abbrev pub profile_of : Opcode → Profile
+profile_of (opcodes.Define Space) = WithoutNumericMode
+profile_of (opcodes.Define Punctuation) = WithoutNumericMode
+profile_of (opcodes.Define Digit) = WithoutNumericMode
+profile_of (opcodes.Define Letter) = WithoutNumericMode
+profile_of opcodes.UpLow = WithoutNumericMode
+profile_of (opcodes.Replace Always) = WithoutNumericMode
+profile_of (opcodes.Replace Word) = WithoutNumericMode
+profile_of (opcodes.Replace BegWord) = WithoutNumericMode
+profile_of (opcodes.Replace MidWord) = WithoutNumericMode
+profile_of (opcodes.Replace EndWord) = WithoutNumericMode
+profile_of (opcodes.Announce Number) = WithoutNumericMode
+profile_of (opcodes.Announce Capital) = WithoutNumericMode
+profile_of (opcodes.Announce CapitalWord) = WithoutNumericMode
+profile_of (opcodes.Announce NoContraction) = WithNumericMode
+profile_of (opcodes.Collect sets.NumericMode) = WithNumericMode
+profile_of (opcodes.Collect sets.NoContraction) = WithNumericMode
+
+-- the profile has the opcode
+abbrev pub HasOpcode : Profile → Opcode → Type 0
+HasOpcode profile opcode = Includes profile (profile_of opcode)

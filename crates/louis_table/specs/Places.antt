@@ -1,5 +1,5 @@
 -- Where the entries of the first characters stand.
-use Rattle.std.specs.Prelude.{◌≡◌, ℕ, ◌<◌, zero, suc, List, Option, Some, None, length, slice_index, slice_get, nat_eq}
+use Rattle.std.specs.Prelude.{◌≡◌, ℕ, ◌<◌, zero, suc, List, Some, None, length, slice_index, slice_get, nat_eq}
 use Rattle.std.specs.Map.{lookup}
 
 -- the place is 0 and the character has no entry, or it is one more than the index of its entry

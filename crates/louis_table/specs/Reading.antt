@@ -1,5 +1,5 @@
 -- How a table text is read, step by step. Only proofs need these words: `Table` says what a text means.
-use Rattle.std.specs.Prelude.{◌≡◌, ◌≢◌, ℕ, zero, suc, ◌+◌, ◌*◌, ◌<◌, ◌≤◌, Bool, not, ◌||◌, ◌⊎◌, ◌==◌, nat_lt, nat_le, nat_eq, true, false, if◌then◌else◌, List, [], ◌∷◌, ◌++◌, length, take, drop, map, Option, Some, None, option_map, Result, Ok, Err, codes, is_some, Vec}
+use Rattle.std.specs.Prelude.{◌≡◌, ◌≢◌, ℕ, zero, suc, ◌+◌, ◌*◌, Bool, not, ◌||◌, ◌⊎◌, ◌==◌, nat_lt, nat_le, true, false, if◌then◌else◌, List, [], ◌∷◌, ◌++◌, length, take, drop, map, Option, Some, None, option_map, Result, Ok, Err, codes, is_some, Vec}
 use Rattle.std.specs.List.{prefix_len, flat_map}
 use Rattle.std.specs.Char.{digit_value}
 use Rattle.std.specs.Option.{option_and_then}
@@ -8,17 +8,19 @@ use lib.Utf8.{scalar}
 use Rattle.std.specs.declared.alloc.Global.{Global}
 use Rattle.cell_core.specs.Reading.{cells_in}
 use Rattle.cell_core.specs.Dots.{most_cells}
-use Rattle.louis_table.specs.declared.definition.Class.{Class}
-use Rattle.louis_table.specs.declared.definition.Class.TheVariants.{Space, Punctuation, Digit, Letter}
 use Rattle.louis_table.specs.declared.definition.Definition.{Definition}
-use Rattle.louis_table.specs.declared.rule.RuleKind.{RuleKind}
-use Rattle.louis_table.specs.declared.rule.RuleKind.TheVariants.{Always, Word, BegWord, MidWord, EndWord}
 use Rattle.louis_table.specs.declared.rule.Rule.{Rule}
-use Rattle.louis_table.specs.declared.opcode.Sign.{Sign}
-use Rattle.louis_table.specs.declared.opcode.Sign.TheVariants.{Number, Capital, CapitalWord}
+use Rattle.louis_table.specs.declared.sign.Sign.{Sign}
+use Rattle.louis_table.specs.declared.sign.Sign.TheVariants as signs
+use Rattle.louis_table.specs.declared.character_set.CharacterSet.{CharacterSet}
+use Rattle.louis_table.specs.declared.character_set.CharacterSet.TheVariants as sets
 use Rattle.louis_table.specs.declared.opcode.Opcode.{Opcode}
-use Rattle.louis_table.specs.declared.opcode.Opcode.TheVariants.{Define, UpLow, Replace, Announce}
+use Rattle.louis_table.specs.declared.opcode.Opcode.TheVariants.{Define, UpLow, Replace, Announce, Collect}
+use Rattle.louis_table.specs.declared.opcode.TheConstants.{OPCODES}
+use Rattle.louis_table.specs.declared.written.Written.{Written}
+use Rattle.louis_table.specs.declared.written.Written.TheVariants as written
 use Rattle.louis_table.specs.declared.written.WrittenRule.{WrittenRule}
+use Rattle.louis_table.specs.declared.written.WrittenSet.{WrittenSet}
 use Rattle.louis_table.specs.declared.draft.Draft.{Draft}
 use Rattle.louis_table.specs.declared.fault.Cause.{Cause}
 use Rattle.louis_table.specs.declared.fault.Cause.TheVariants as causes
@@ -30,8 +32,8 @@ use Rattle.louis_table.specs.declared.line.Given.{Given}
 use Rattle.louis_table.specs.declared.line.Given.TheVariants as givens
 use Rattle.louis_table.specs.Fields.{is_gap}
 use Rattle.louis_table.specs.Characters.{digits_behind, escaped}
-use Rattle.louis_table.specs.Meaning.{Meaning, definition_of, folded, partner_of}
-use Rattle.louis_table.specs.Table.{most_lines, most_line_characters, most_rule_characters, Entry, Defines, Pairs, Replaces, Announces, GiveFrom, HasCause, IsToldNoLater, cells_in_definition, rule_cells, definitions_in, partners_in, numsign_in, capsletter_in, begcapsword_in}
+use Rattle.louis_table.specs.Meaning.{Meaning, definition_of, folded, partner_of, sign_cells, set_characters}
+use Rattle.louis_table.specs.Table.{most_lines, most_line_characters, most_rule_characters, most_set_characters, Entry, Defines, Pairs, Replaces, Announces, Collects, GiveFrom, HasCause, IsToldNoLater, cells_in_definition, rule_cells, definitions_in, partners_in, cells_for, characters_for}
 
 -- ---- fields
 
@@ -105,38 +107,14 @@ only_pair (c ∷ d ∷ e ∷ text) = None
 
 -- ---- opcodes
 
-abbrev pub class_named : List ℕ → Option Class
-class_named name =
-    if bytes_eq name (codes "space") then Some Space
-    else if bytes_eq name (codes "punctuation") then Some Punctuation
-    else if bytes_eq name (codes "digit") then Some Digit
-    else if bytes_eq name (codes "letter") then Some Letter
-    else None
+-- the first of the opcodes that has the name
+abbrev pub opcode_among : List (List ℕ × Opcode) → List ℕ → Option Opcode
+opcode_among [] name = None
+opcode_among (opcode ∷ opcodes) name = if bytes_eq name opcode.0 then Some opcode.1 else opcode_among opcodes name
 
-abbrev pub kind_named : List ℕ → Option RuleKind
-kind_named name =
-    if bytes_eq name (codes "always") then Some Always
-    else if bytes_eq name (codes "word") then Some Word
-    else if bytes_eq name (codes "begword") then Some BegWord
-    else if bytes_eq name (codes "midword") then Some MidWord
-    else if bytes_eq name (codes "endword") then Some EndWord
-    else None
-
-abbrev pub sign_named : List ℕ → Option Sign
-sign_named name =
-    if bytes_eq name (codes "numsign") then Some Number
-    else if bytes_eq name (codes "capsletter") then Some Capital
-    else if bytes_eq name (codes "begcapsword") then Some CapitalWord
-    else None
-
-abbrev pub first_named : Option Class → Bool → Option RuleKind → Option Sign → Option Opcode
-first_named (Some class) uplow kind sign = Some (Define class)
-first_named None true kind sign = Some UpLow
-first_named None false (Some kind) sign = Some (Replace kind)
-first_named None false None sign = option_map Announce sign
-
+-- the opcode with the name
 unfoldable pub opcode_named : List ℕ → Option Opcode
-opcode_named name = first_named (class_named name) (bytes_eq name (codes "uplow")) (kind_named name) (sign_named name)
+opcode_named = opcode_among (map (λ o. (o.0.now, o.1)) OPCODES)
 
 -- ---- dots operands
 
@@ -179,6 +157,7 @@ entry_from UpLow (upper ∷ lower ∷ []) dots = or_cause 4 (option_map (λ cell
 entry_from UpLow (upper ∷ lower ∷ other ∷ text) dots = Err 3
 entry_from (Replace kind) text dots = or_cause 4 (option_map (λ cells. Replaces kind text cells) (rule_in dots))
 entry_from (Announce sign) text dots = or_cause 4 (option_map (λ cells. Announces sign cells) (cells_in dots))
+entry_from (Collect set) text dots = Err 4
 
 abbrev pub entry_with : Opcode → Option (List ℕ) → List ℕ → Result Entry ℕ
 entry_with opcode None dots = Err 3
@@ -195,6 +174,11 @@ abbrev pub entry_of_one : Opcode → List ℕ → Result Entry ℕ
 entry_of_one opcode [] = Err 2
 entry_of_one opcode (d ∷ dots) = entry_from opcode [] (d ∷ dots)
 
+-- the entry of a set with a characters operand, which may be missing
+abbrev pub entry_of_set : CharacterSet → List ℕ → Result Entry ℕ
+entry_of_set set [] = Err 2
+entry_of_set set (c ∷ characters) = or_cause 3 (option_map (λ text. Collects set text) (characters_in (c ∷ characters)))
+
 abbrev pub entry_of_fields : Opcode → List ℕ → Result Entry ℕ
 entry_of_fields opcode rest = entry_of_two opcode (field_at rest).0 (field_at (field_at rest).1).0
 
@@ -204,6 +188,7 @@ entry_at (Define class) rest = entry_of_fields (Define class) rest
 entry_at UpLow rest = entry_of_fields UpLow rest
 entry_at (Replace kind) rest = entry_of_fields (Replace kind) rest
 entry_at (Announce sign) rest = entry_of_one (Announce sign) (field_at rest).0
+entry_at (Collect set) rest = entry_of_set set (field_at rest).0
 
 abbrev pub as_some : Result Entry ℕ → Result (Option Entry) ℕ
 as_some (Ok entry) = Ok (Some entry)
@@ -229,24 +214,21 @@ is_known meaning character = is_some (definition_of meaning character)
 abbrev pub is_taken : Meaning → ℕ → ℕ → Bool
 is_taken meaning upper lower = (upper == lower) || is_known meaning upper || is_known meaning lower
 
-abbrev pub sign_cells : Meaning → Sign → List ℕ
-sign_cells meaning Number = meaning.numsign
-sign_cells meaning Capital = meaning.capsletter
-sign_cells meaning CapitalWord = meaning.begcapsword
-
 -- the entry defines a character that is defined
 abbrev pub repeats : Meaning → Entry → Bool
 repeats meaning (Defines character definition) = is_known meaning character
 repeats meaning (Pairs upper upper_cells lower lower_cells) = is_taken meaning upper lower
 repeats meaning (Replaces kind text cells) = false
 repeats meaning (Announces sign cells) = false
+repeats meaning (Collects set text) = false
 
--- the entry gives a sign that is given
+-- the entry gives a sign or a set that is given
 abbrev pub announces : Meaning → Entry → Bool
 announces meaning (Defines character definition) = false
 announces meaning (Pairs upper upper_cells lower lower_cells) = false
 announces meaning (Replaces kind text cells) = false
 announces meaning (Announces sign cells) = not (length (sign_cells meaning sign) == 0)
+announces meaning (Collects set text) = not (length (set_characters meaning set) == 0)
 
 abbrev pub are_many : List ℕ → Bool
 are_many cells = nat_lt most_cells (length cells)
@@ -261,6 +243,7 @@ is_large (Defines character definition) = are_many definition.cells
 is_large (Pairs upper upper_cells lower lower_cells) = are_many upper_cells || are_many lower_cells
 is_large (Replaces kind text cells) = nat_lt most_rule_characters (length text) || are_many_written cells
 is_large (Announces sign cells) = are_many cells
+is_large (Collects set text) = nat_lt most_set_characters (length text)
 
 abbrev pub verdict_by : Bool → Bool → Bool → Entry → Result Entry ℕ
 verdict_by repeated announced large entry =
@@ -294,7 +277,18 @@ judge meaning before line = within_limits before line (judge_line meaning line)
 -- ---- a table that grows
 
 abbrev pub no_meaning : Meaning
-no_meaning = record { definitions = []; partners = []; rules = []; numsign = []; capsletter = []; begcapsword = [] }
+no_meaning =
+    record {
+      definitions = [];
+      partners = [];
+      rules = [];
+      numsign = [];
+      capsletter = [];
+      begcapsword = [];
+      nocontractsign = [];
+      mode_chars = [];
+      nocontract_chars = [];
+    }
 
 abbrev pub with_definition : Meaning → ℕ → Definition → Meaning
 with_definition meaning character definition = record meaning { definitions = meaning.definitions ++ (character, definition) ∷ [] }
@@ -308,25 +302,29 @@ with_entry meaning entry = record {
   definitions = meaning.definitions ++ definitions_in entry;
   partners = meaning.partners ++ partners_in entry;
   rules = meaning.rules;
-  numsign = meaning.numsign ++ numsign_in entry;
-  capsletter = meaning.capsletter ++ capsletter_in entry;
-  begcapsword = meaning.begcapsword ++ begcapsword_in entry;
+  numsign = meaning.numsign ++ cells_for signs.Number entry;
+  capsletter = meaning.capsletter ++ cells_for signs.Capital entry;
+  begcapsword = meaning.begcapsword ++ cells_for signs.CapitalWord entry;
+  nocontractsign = meaning.nocontractsign ++ cells_for signs.NoContraction entry;
+  mode_chars = meaning.mode_chars ++ characters_for sets.NumericMode entry;
+  nocontract_chars = meaning.nocontract_chars ++ characters_for sets.NoContraction entry;
 }
 
 abbrev pub with_given : Meaning → Option Entry → Meaning
 with_given meaning None = meaning
 with_given meaning (Some entry) = with_entry meaning entry
 
--- the rule of an entry as it is written
-abbrev pub rules_written : ℕ → Entry → List WrittenRule
-rules_written n (Defines character definition) = []
-rules_written n (Pairs upper upper_cells lower lower_cells) = []
-rules_written n (Replaces kind text cells) = record { line = n; kind = kind; characters = text; cells = cells } ∷ []
-rules_written n (Announces sign cells) = []
+-- what an entry gives that only all definitions can judge, as it is written
+abbrev pub written_by : ℕ → Entry → List Written
+written_by n (Defines character definition) = []
+written_by n (Pairs upper upper_cells lower lower_cells) = []
+written_by n (Replaces kind text cells) = written.Rule (record { line = n; kind = kind; characters = text; cells = cells }) ∷ []
+written_by n (Announces sign cells) = []
+written_by n (Collects set text) = written.Set (record { line = n; characters = text }) ∷ []
 
-abbrev pub written_in : ℕ → Option Entry → List WrittenRule
+abbrev pub written_in : ℕ → Option Entry → List Written
 written_in n None = []
-written_in n (Some entry) = rules_written n entry
+written_in n (Some entry) = written_by n entry
 
 -- what the entry gives isn't in the meaning yet
 abbrev pub IsNewFor : Meaning → Entry → Type 0
@@ -335,6 +333,7 @@ IsNewFor meaning (Pairs upper upper_cells lower lower_cells) =
     (definition_of meaning upper ≡ None) × (definition_of meaning lower ≡ None) × (upper ≢ lower) × (partner_of meaning upper ≡ None)
 IsNewFor meaning (Replaces kind text cells) = Unit {0}
 IsNewFor meaning (Announces sign cells) = sign_cells meaning sign ≡ []
+IsNewFor meaning (Collects set text) = set_characters meaning set ≡ []
 
 abbrev pub CanTake : Meaning → Option Entry → Type 0
 CanTake meaning None = Unit {0}
@@ -355,22 +354,36 @@ are_defined meaning (character ∷ characters) = if is_known meaning character t
 abbrev pub cells_of_all : Meaning → List ℕ → List ℕ
 cells_of_all meaning characters = flat_map (λ c. cells_in_definition (definition_of meaning c)) characters
 
-abbrev pub is_complete : Meaning → WrittenRule → Bool
-is_complete meaning written = are_defined meaning (map (folded meaning) written.characters)
+abbrev pub is_complete_rule : Meaning → WrittenRule → Bool
+is_complete_rule meaning rule = are_defined meaning (map (folded meaning) rule.characters)
+
+-- the meaning defines each character of what is written
+abbrev pub is_complete : Meaning → Written → Bool
+is_complete meaning (written.Rule rule) = is_complete_rule meaning rule
+is_complete meaning (written.Set set) = are_defined meaning set.characters
+
+abbrev pub line_of : Written → ℕ
+line_of (written.Rule rule) = rule.line
+line_of (written.Set set) = set.line
 
 -- the rule with folded characters and all its cells
-abbrev pub finished : Meaning → WrittenRule → Rule
-finished meaning written = record {
-  line = written.line;
-  kind = written.kind;
-  chars = map (folded meaning) written.characters;
-  cells = rule_cells meaning (map (folded meaning) written.characters) written.cells;
+abbrev pub finished_rule : Meaning → WrittenRule → Rule
+finished_rule meaning rule = record {
+  line = rule.line;
+  kind = rule.kind;
+  chars = map (folded meaning) rule.characters;
+  cells = rule_cells meaning (map (folded meaning) rule.characters) rule.cells;
 }
 
--- the line of the first rule with a character that is not defined
-abbrev pub first_lacking : Meaning → List WrittenRule → Option ℕ
+-- the rule of what is written, if it is one
+abbrev pub finished : Meaning → Written → List Rule
+finished meaning (written.Rule rule) = finished_rule meaning rule ∷ []
+finished meaning (written.Set set) = []
+
+-- the line of the first that has a character that is not defined
+abbrev pub first_lacking : Meaning → List Written → Option ℕ
 first_lacking meaning [] = None
-first_lacking meaning (written ∷ more) = if is_complete meaning written then first_lacking meaning more else Some written.line
+first_lacking meaning (one ∷ more) = if is_complete meaning one then first_lacking meaning more else Some (line_of one)
 
 -- ---- what is said of the code
 
@@ -380,7 +393,7 @@ cause_number causes.MissingOperand = 2
 cause_number causes.BadCharacters = 3
 cause_number causes.BadDots = 4
 cause_number causes.DefinedBefore = 5
-cause_number causes.AnnouncedBefore = 6
+cause_number causes.GivenBefore = 6
 cause_number causes.UndefinedCharacter = 7
 cause_number causes.BeyondLimit = 8
 cause_number causes.NotText = 9
@@ -392,6 +405,7 @@ entry_in (givens.Defines character definition) = Some (Defines character definit
 entry_in (givens.Pairs upper upper_cells lower lower_cells) = Some (Pairs upper upper_cells lower lower_cells)
 entry_in (givens.Replaces kind text cells) = Some (Replaces kind text cells)
 entry_in (givens.Announces sign cells) = Some (Announces sign cells)
+entry_in (givens.Collects set text) = Some (Collects set text)
 
 -- the result is the verdict, unless memory was wanting
 abbrev pub IsVerdict : Result Given LineFault → Result (Option Entry) ℕ → Type 0
@@ -449,7 +463,7 @@ ReadsRule (Err line_faults.NoMemory) read = Unit {0}
 -- the draft has what the line gives besides
 pub record Adds (old new : Draft) (n : ℕ) (given : Option Entry) : Type 0 where
   pub table : new.table ≡ with_given old.table given
-  pub rules : new.rules.items ≡ old.rules.items ++ written_in n given
+  pub written : new.written.items ≡ old.written.items ++ written_in n given
 
 -- a line was taken into a draft, or has this fault
 abbrev pub TakesLine : Result (Unit {0}) LineFault → ℕ → Draft → Draft → Result (Option Entry) ℕ → Type 0
@@ -459,50 +473,63 @@ TakesLine (Err line_faults.NoMemory) before old new verdict = Unit {0}
 
 -- a rule was finished, or has a character that is not defined
 abbrev pub FinishesRule : Result Rule ReadFault → Meaning → WrittenRule → Type 0
-FinishesRule (Ok rule) meaning written = (is_complete meaning written ≡ true) × (rule ≡ finished meaning written)
-FinishesRule (Err (faults.Table fault)) meaning written =
-    (is_complete meaning written ≡ false) × (fault.line ≡ written.line) × (fault.cause ≡ 7)
-FinishesRule (Err faults.NoMemory) meaning written = Unit {0}
+FinishesRule (Ok rule) meaning from = (is_complete_rule meaning from ≡ true) × (rule ≡ finished_rule meaning from)
+FinishesRule (Err (faults.Table fault)) meaning from =
+    (is_complete_rule meaning from ≡ false) × (fault.line ≡ from.line) × (fault.cause ≡ 7)
+FinishesRule (Err faults.NoMemory) meaning from = Unit {0}
 
-abbrev pub FinishesAll : Result (Vec Rule Global) ReadFault → Meaning → List WrittenRule → Type 0
-FinishesAll (Ok rules) meaning written = (first_lacking meaning written ≡ None) × (rules.items ≡ map (finished meaning) written)
-FinishesAll (Err (faults.Table fault)) meaning written = (first_lacking meaning written ≡ Some fault.line) × (fault.cause ≡ 7)
-FinishesAll (Err faults.NoMemory) meaning written = Unit {0}
+-- each character of a set is defined, or one is not
+abbrev pub ChecksSet : Result (Unit {0}) ReadFault → Meaning → WrittenSet → Type 0
+ChecksSet (Ok _) meaning set = are_defined meaning set.characters ≡ true
+ChecksSet (Err (faults.Table fault)) meaning set =
+    (are_defined meaning set.characters ≡ false) × (fault.line ≡ set.line) × (fault.cause ≡ 7)
+ChecksSet (Err faults.NoMemory) meaning set = ⊥
 
--- a table without rules and the rules as they are written are what the lines give
-pub record Gathers (lines : List (List ℕ)) (meaning : Meaning) (written : List WrittenRule) : Type 0 where
+-- what is written was finished, its rule put behind the others, or has a character that is not defined
+abbrev pub Finishes : Result (Unit {0}) ReadFault → Meaning → Written → List Rule → List Rule → Type 0
+Finishes (Ok _) meaning one old new = (is_complete meaning one ≡ true) × (new ≡ old ++ finished meaning one)
+Finishes (Err (faults.Table fault)) meaning one old new =
+    (is_complete meaning one ≡ false) × (fault.line ≡ line_of one) × (fault.cause ≡ 7)
+Finishes (Err faults.NoMemory) meaning one old new = Unit {0}
+
+abbrev pub FinishesAll : Result (Vec Rule Global) ReadFault → Meaning → List Written → Type 0
+FinishesAll (Ok rules) meaning all = (first_lacking meaning all ≡ None) × (rules.items ≡ flat_map (finished meaning) all)
+FinishesAll (Err (faults.Table fault)) meaning all = (first_lacking meaning all ≡ Some fault.line) × (fault.cause ≡ 7)
+FinishesAll (Err faults.NoMemory) meaning all = Unit {0}
+
+-- a table without rules, and what only all definitions can judge, are what the lines give
+pub record Gathers (lines : List (List ℕ)) (meaning : Meaning) (all : List Written) : Type 0 where
   pub entries : List (ℕ × Entry)
   pub given : GiveFrom 1 lines entries
   pub definitions : meaning.definitions ≡ flat_map (λ e. definitions_in e.1) entries
   pub partners : meaning.partners ≡ flat_map (λ e. partners_in e.1) entries
-  pub numsign : meaning.numsign ≡ flat_map (λ e. numsign_in e.1) entries
-  pub capsletter : meaning.capsletter ≡ flat_map (λ e. capsletter_in e.1) entries
-  pub begcapsword : meaning.begcapsword ≡ flat_map (λ e. begcapsword_in e.1) entries
-  pub rules : written ≡ flat_map (λ e. rules_written e.0 e.1) entries
+  pub signs : (sign : Sign) → sign_cells meaning sign ≡ flat_map (λ e. cells_for sign e.1) entries
+  pub sets : (set : CharacterSet) → set_characters meaning set ≡ flat_map (λ e. characters_for set e.1) entries
+  pub written : all ≡ flat_map (λ e. written_by e.0 e.1) entries
 
 -- lines without a fault that give this
-pub record LinesGive (lines : List (List ℕ)) (meaning : Meaning) (written : List WrittenRule) : Type 0 where
+pub record LinesGive (lines : List (List ℕ)) (meaning : Meaning) (all : List Written) : Type 0 where
   pub is_sound : (n cause : ℕ) → ¬ HasCause lines n cause
-  pub gathered : Gathers lines meaning written
+  pub gathered : Gathers lines meaning all
 
--- lines without a fault, in whose rules every character is defined, mean this
+-- lines without a fault, in whose rules and sets every character is defined, mean this
 pub record LinesMean (lines : List (List ℕ)) (meaning : Meaning) : Type 0 where
-  pub written : List WrittenRule
-  pub gives : LinesGive lines meaning written
-  pub complete : first_lacking meaning written ≡ None
-  pub rules : meaning.rules ≡ map (finished meaning) written
+  pub all : List Written
+  pub gives : LinesGive lines meaning all
+  pub complete : first_lacking meaning all ≡ None
+  pub rules : meaning.rules ≡ flat_map (finished meaning) all
 
 -- this fault of the lines is told
 pub record IsTold (lines : List (List ℕ)) (n cause : ℕ) : Type 0 where
   pub has : HasCause lines n cause
   pub first : (m other : ℕ) → HasCause lines m other → IsToldNoLater n cause m other
 
--- a rule of lines without a fault lacks a definition
+-- a rule or a set of lines without a fault lacks a definition
 pub record IsLackingIn (lines : List (List ℕ)) (n : ℕ) : Type 0 where
   pub meaning : Meaning
-  pub written : List WrittenRule
-  pub gives : LinesGive lines meaning written
-  pub lacking : first_lacking meaning written ≡ Some n
+  pub all : List Written
+  pub gives : LinesGive lines meaning all
+  pub lacking : first_lacking meaning all ≡ Some n
 
 abbrev pub LinesTellEarly : List (List ℕ) → ReadFault → Type 0
 LinesTellEarly lines (faults.Table fault) = IsTold lines fault.line fault.cause

@@ -1,5 +1,5 @@
 -- What a table text means, and what is bad in it.
-use Rattle.std.specs.Prelude.{◌≡◌, ◌≢◌, ℕ, ◌+◌, ◌<◌, ◌≤◌, ◌⊎◌, ◌==◌, if◌then◌else◌, List, [], ◌∷◌, ◌++◌, length, map, take, drop, count_by, codes, nat_eq, slice_index, Option, Some, None}
+use Rattle.std.specs.Prelude.{◌≡◌, ◌≢◌, ℕ, ◌+◌, ◌<◌, ◌≤◌, ◌⊎◌, ◌==◌, if◌then◌else◌, List, [], ◌∷◌, ◌++◌, length, map, take, drop, count_by, codes, nat_eq, slice_index, Bool, true, false, Option, Some, None}
 use Rattle.std.specs.List.{flat_map, starts_with, Contains}
 use Rattle.std.specs.Str.{chars, IsUtf8}
 use Rattle.std.specs.Str.Lossy.{utf8_valid_len}
@@ -9,28 +9,37 @@ use Rattle.louis_table.specs.declared.definition.Class.TheVariants.{Letter}
 use Rattle.louis_table.specs.declared.definition.Definition.{Definition}
 use Rattle.louis_table.specs.declared.rule.RuleKind.{RuleKind}
 use Rattle.louis_table.specs.declared.rule.Rule.{Rule}
-use Rattle.louis_table.specs.declared.opcode.Sign.{Sign}
-use Rattle.louis_table.specs.declared.opcode.Sign.TheVariants.{Number, Capital, CapitalWord}
+use Rattle.louis_table.specs.declared.sign.Sign.{Sign}
+use Rattle.louis_table.specs.declared.sign.Sign.TheVariants as signs
+use Rattle.louis_table.specs.declared.character_set.CharacterSet.{CharacterSet}
+use Rattle.louis_table.specs.declared.character_set.CharacterSet.TheVariants as sets
 use Rattle.louis_table.specs.declared.opcode.Opcode.{Opcode}
-use Rattle.louis_table.specs.declared.opcode.Opcode.TheVariants.{Define, UpLow, Replace, Announce}
+use Rattle.louis_table.specs.declared.opcode.Opcode.TheVariants.{Define, UpLow, Replace, Announce, Collect}
+use Rattle.louis_table.specs.declared.line.TheConstants.{MOST_RULE_CHARACTERS, MOST_SET_CHARACTERS}
+use Rattle.louis_table.specs.declared.read.TheConstants.{MOST_LINES, MOST_LINE_CHARACTERS}
 use Rattle.louis_table.specs.Lines.{lines_of}
 use Rattle.louis_table.specs.Fields.{IsGap, Begins, HasFields}
 use Rattle.louis_table.specs.Characters.{Spells}
-use Rattle.louis_table.specs.Opcode.{name_of}
-use Rattle.louis_table.specs.Meaning.{Meaning, definition_of, folded}
+use Rattle.louis_table.specs.Profile.{Profile, WithNumericMode}
+use Rattle.louis_table.specs.Opcode.{name_of, HasOpcode}
+use Rattle.louis_table.specs.Meaning.{Meaning, definition_of, folded, sign_cells, set_characters}
 
 -- ---- the limits
 
 abbrev pub most_lines : ℕ
-most_lines = 20000
+most_lines = MOST_LINES
 
 -- characters of a line, comments too
 abbrev pub most_line_characters : ℕ
-most_line_characters = 1000
+most_line_characters = MOST_LINE_CHARACTERS
 
 -- characters of a rule
 abbrev pub most_rule_characters : ℕ
-most_rule_characters = 60
+most_rule_characters = MOST_RULE_CHARACTERS
+
+-- characters of a set
+abbrev pub most_set_characters : ℕ
+most_set_characters = MOST_SET_CHARACTERS
 
 -- ---- the lines
 
@@ -49,22 +58,49 @@ text_lines bytes = map chars (lines_of (without_byte_order_mark bytes))
 -- ---- operands
 
 -- the characters that a characters operand spells for an opcode: one to define, two for `uplow`, any number
--- to replace
+-- to replace or for a set
 abbrev pub AreCharactersFor : Opcode → List ℕ → Type 0
 AreCharactersFor (Define class) characters = length characters ≡ 1
 AreCharactersFor UpLow characters = length characters ≡ 2
 AreCharactersFor (Replace kind) characters = Unit {0}
 AreCharactersFor (Announce sign) characters = ⊥
+AreCharactersFor (Collect set) characters = Unit {0}
 
 -- the opcode and this characters operand stand at the front of the line
 abbrev pub HasCharacters : List ℕ → Opcode → List ℕ → Type 0
+HasCharacters line (Define class) characters = HasFields line (name_of (Define class) ∷ characters ∷ [])
+HasCharacters line UpLow characters = HasFields line (name_of UpLow ∷ characters ∷ [])
+HasCharacters line (Replace kind) characters = HasFields line (name_of (Replace kind) ∷ characters ∷ [])
 HasCharacters line (Announce sign) characters = ⊥
-HasCharacters line opcode characters = HasFields line (name_of opcode ∷ characters ∷ [])
+HasCharacters line (Collect set) characters = HasFields line (name_of (Collect set) ∷ characters ∷ [])
+
+-- the opcode, a characters operand and this dots operand stand at the front of the line
+abbrev pub HasBoth : List ℕ → Opcode → List ℕ → Type 0
+HasBoth line opcode dots = (characters : List ℕ) × HasFields line (name_of opcode ∷ characters ∷ dots ∷ [])
 
 -- the opcode and its operands up to this dots operand stand at the front of the line
 abbrev pub HasDots : List ℕ → Opcode → List ℕ → Type 0
+HasDots line (Define class) dots = HasBoth line (Define class) dots
+HasDots line UpLow dots = HasBoth line UpLow dots
+HasDots line (Replace kind) dots = HasBoth line (Replace kind) dots
 HasDots line (Announce sign) dots = HasFields line (name_of (Announce sign) ∷ dots ∷ [])
-HasDots line opcode dots = (characters : List ℕ) × HasFields line (name_of opcode ∷ characters ∷ dots ∷ [])
+HasDots line (Collect set) dots = ⊥
+
+-- the opcode and all its operands stand at the front of the line
+abbrev pub HasOperands : List ℕ → Opcode → Type 0
+HasOperands line (Define class) = (dots : List ℕ) × HasDots line (Define class) dots
+HasOperands line UpLow = (dots : List ℕ) × HasDots line UpLow dots
+HasOperands line (Replace kind) = (dots : List ℕ) × HasDots line (Replace kind) dots
+HasOperands line (Announce sign) = (dots : List ℕ) × HasDots line (Announce sign) dots
+HasOperands line (Collect set) = (characters : List ℕ) × HasCharacters line (Collect set) characters
+
+-- the characters are too many; where an opcode takes one or two, any others are no operand of it
+abbrev pub AreTooManyFor : Opcode → List ℕ → Type 0
+AreTooManyFor (Define class) characters = ⊥
+AreTooManyFor UpLow characters = ⊥
+AreTooManyFor (Replace kind) characters = most_rule_characters < length characters
+AreTooManyFor (Announce sign) characters = ⊥
+AreTooManyFor (Collect set) characters = most_set_characters < length characters
 
 -- the dots of an upper and a lower character: one operand for both, or two joined by a comma
 abbrev pub PairDots : List ℕ → List ℕ → List ℕ → Type 0
@@ -83,12 +119,16 @@ IsDotsFor (Define class) dots = (cells : List ℕ) × Dots dots cells
 IsDotsFor UpLow dots = (upper : List ℕ) × (lower : List ℕ) × PairDots dots upper lower
 IsDotsFor (Replace kind) dots = (cells : Option (List ℕ)) × RuleDots dots cells
 IsDotsFor (Announce sign) dots = (cells : List ℕ) × Dots dots cells
+IsDotsFor (Collect set) dots = ⊥
 
 -- these cells are written in the dots operand of the opcode
 abbrev pub WritesCells : Opcode → List ℕ → List ℕ → Type 0
+WritesCells (Define class) dots cells = Dots dots cells
 WritesCells UpLow dots cells =
     (upper : List ℕ) × (lower : List ℕ) × PairDots dots upper lower × ((cells ≡ upper) ⊎ (cells ≡ lower))
-WritesCells opcode dots cells = Dots dots cells
+WritesCells (Replace kind) dots cells = Dots dots cells
+WritesCells (Announce sign) dots cells = Dots dots cells
+WritesCells (Collect set) dots cells = ⊥
 
 -- ---- what a line says
 
@@ -102,37 +142,42 @@ pub data SaysNothing (line : List ℕ) : Type 0 where
   comment : (field rest : List ℕ) → Begins line field rest → IsComment field → SaysNothing line
 
 -- what a line gives to its table: a definition; an upper and a lower character, each with its cells; a rule, with
--- no cells where it has an equals sign; the cells of a sign
+-- no cells where it has an equals sign; the cells of a sign; the characters of a set
 pub data Entry : Type 0 where
   Defines : ℕ → Definition → Entry
   Pairs : ℕ → List ℕ → ℕ → List ℕ → Entry
   Replaces : RuleKind → List ℕ → Option (List ℕ) → Entry
   Announces : Sign → List ℕ → Entry
+  Collects : CharacterSet → List ℕ → Entry
 
--- the line is of a form that gives the entry; what follows its last operand is a comment
-pub data Gives (line : List ℕ) (entry : Entry) : Type 0 where
+-- the line is of a form of the profile that gives the entry; what follows its last operand is a comment
+pub data GivesIn (profile : Profile) (line : List ℕ) (entry : Entry) : Type 0 where
   definition_line : (class : Class) (characters dots : List ℕ) (character : ℕ) (cells : List ℕ)
-      → HasFields line (name_of (Define class) ∷ characters ∷ dots ∷ [])
+      → HasOpcode profile (Define class) → HasFields line (name_of (Define class) ∷ characters ∷ dots ∷ [])
       → Spells characters (character ∷ []) → Dots dots cells
-      → entry ≡ Defines character (record { class = class; cells = cells }) → Gives line entry
+      → entry ≡ Defines character (record { class = class; cells = cells }) → GivesIn profile line entry
   pair_line : (characters dots : List ℕ) (upper lower : ℕ) (upper_cells lower_cells : List ℕ)
-      → HasFields line (name_of UpLow ∷ characters ∷ dots ∷ [])
+      → HasOpcode profile UpLow → HasFields line (name_of UpLow ∷ characters ∷ dots ∷ [])
       → Spells characters (upper ∷ lower ∷ []) → PairDots dots upper_cells lower_cells
-      → entry ≡ Pairs upper upper_cells lower lower_cells → Gives line entry
+      → entry ≡ Pairs upper upper_cells lower lower_cells → GivesIn profile line entry
   rule_line : (kind : RuleKind) (characters dots text : List ℕ) (cells : Option (List ℕ))
-      → HasFields line (name_of (Replace kind) ∷ characters ∷ dots ∷ [])
+      → HasOpcode profile (Replace kind) → HasFields line (name_of (Replace kind) ∷ characters ∷ dots ∷ [])
       → Spells characters text → RuleDots dots cells
-      → entry ≡ Replaces kind text cells → Gives line entry
+      → entry ≡ Replaces kind text cells → GivesIn profile line entry
   sign_line : (sign : Sign) (dots cells : List ℕ)
-      → HasFields line (name_of (Announce sign) ∷ dots ∷ []) → Dots dots cells
-      → entry ≡ Announces sign cells → Gives line entry
+      → HasOpcode profile (Announce sign) → HasFields line (name_of (Announce sign) ∷ dots ∷ []) → Dots dots cells
+      → entry ≡ Announces sign cells → GivesIn profile line entry
+  set_line : (set : CharacterSet) (characters text : List ℕ)
+      → HasOpcode profile (Collect set) → HasFields line (name_of (Collect set) ∷ characters ∷ [])
+      → Spells characters text → entry ≡ Collects set text → GivesIn profile line entry
 
 -- these entries and no others are what the lines from number n on give, each with its line's number
-abbrev pub GiveFrom : ℕ → List (List ℕ) → List (ℕ × Entry) → Type 0
-GiveFrom n [] entries = entries ≡ []
-GiveFrom n (line ∷ lines) entries =
-    (SaysNothing line × GiveFrom (n + 1) lines entries)
-    ⊎ ((entry : Entry) × (rest : List (ℕ × Entry)) × Gives line entry × (entries ≡ (n, entry) ∷ rest) × GiveFrom (n + 1) lines rest)
+abbrev pub GiveFromIn : Profile → ℕ → List (List ℕ) → List (ℕ × Entry) → Type 0
+GiveFromIn profile n [] entries = entries ≡ []
+GiveFromIn profile n (line ∷ lines) entries =
+    (SaysNothing line × GiveFromIn profile (n + 1) lines entries)
+    ⊎ ((entry : Entry) × (rest : List (ℕ × Entry)) × GivesIn profile line entry × (entries ≡ (n, entry) ∷ rest)
+    × GiveFromIn profile (n + 1) lines rest)
 
 -- ---- what entries make of a table
 
@@ -143,6 +188,7 @@ definitions_in (Pairs upper upper_cells lower lower_cells) =
     (upper, record { class = Letter; cells = upper_cells }) ∷ (lower, record { class = Letter; cells = lower_cells }) ∷ []
 definitions_in (Replaces kind text cells) = []
 definitions_in (Announces sign cells) = []
+definitions_in (Collects set text) = []
 
 -- the capital of an entry with its lower character
 abbrev pub partners_in : Entry → List (ℕ × ℕ)
@@ -150,19 +196,47 @@ partners_in (Defines character defined) = []
 partners_in (Pairs upper upper_cells lower lower_cells) = (upper, lower) ∷ []
 partners_in (Replaces kind text cells) = []
 partners_in (Announces sign cells) = []
+partners_in (Collects set text) = []
+
+abbrev pub is_same_sign : Sign → Sign → Bool
+is_same_sign signs.Number signs.Number = true
+is_same_sign signs.Number signs.Capital = false
+is_same_sign signs.Number signs.CapitalWord = false
+is_same_sign signs.Number signs.NoContraction = false
+is_same_sign signs.Capital signs.Number = false
+is_same_sign signs.Capital signs.Capital = true
+is_same_sign signs.Capital signs.CapitalWord = false
+is_same_sign signs.Capital signs.NoContraction = false
+is_same_sign signs.CapitalWord signs.Number = false
+is_same_sign signs.CapitalWord signs.Capital = false
+is_same_sign signs.CapitalWord signs.CapitalWord = true
+is_same_sign signs.CapitalWord signs.NoContraction = false
+is_same_sign signs.NoContraction signs.Number = false
+is_same_sign signs.NoContraction signs.Capital = false
+is_same_sign signs.NoContraction signs.CapitalWord = false
+is_same_sign signs.NoContraction signs.NoContraction = true
+
+abbrev pub is_same_set : CharacterSet → CharacterSet → Bool
+is_same_set sets.NumericMode sets.NumericMode = true
+is_same_set sets.NumericMode sets.NoContraction = false
+is_same_set sets.NoContraction sets.NumericMode = false
+is_same_set sets.NoContraction sets.NoContraction = true
 
 -- the cells that an entry gives to the sign
-abbrev pub numsign_in : Entry → List ℕ
-numsign_in (Announces Number cells) = cells
-numsign_in entry = []
+abbrev pub cells_for : Sign → Entry → List ℕ
+cells_for sign (Defines character defined) = []
+cells_for sign (Pairs upper upper_cells lower lower_cells) = []
+cells_for sign (Replaces kind text cells) = []
+cells_for sign (Announces other cells) = if is_same_sign sign other then cells else []
+cells_for sign (Collects set text) = []
 
-abbrev pub capsletter_in : Entry → List ℕ
-capsletter_in (Announces Capital cells) = cells
-capsletter_in entry = []
-
-abbrev pub begcapsword_in : Entry → List ℕ
-begcapsword_in (Announces CapitalWord cells) = cells
-begcapsword_in entry = []
+-- the characters that an entry gives to the set
+abbrev pub characters_for : CharacterSet → Entry → List ℕ
+characters_for set (Defines character defined) = []
+characters_for set (Pairs upper upper_cells lower lower_cells) = []
+characters_for set (Replaces kind text cells) = []
+characters_for set (Announces sign cells) = []
+characters_for set (Collects other text) = if is_same_set set other then text else []
 
 -- the cells of a character's definition
 abbrev pub cells_in_definition : Option Definition → List ℕ
@@ -176,9 +250,12 @@ rule_cells meaning text None = flat_map (λ c. cells_in_definition (definition_o
 
 -- the rule of a line's entry, its characters folded
 abbrev pub rules_in : Meaning → ℕ × Entry → List Rule
+rules_in meaning (n, Defines character defined) = []
+rules_in meaning (n, Pairs upper upper_cells lower lower_cells) = []
 rules_in meaning (n, Replaces kind text cells) =
     record { line = n; kind = kind; chars = map (folded meaning) text; cells = rule_cells meaning (map (folded meaning) text) cells } ∷ []
-rules_in meaning (n, entry) = []
+rules_in meaning (n, Announces sign cells) = []
+rules_in meaning (n, Collects set text) = []
 
 -- ---- what is bad in a line
 
@@ -186,45 +263,59 @@ rules_in meaning (n, entry) = []
 abbrev pub IsDefinedIn : ℕ → Entry → Type 0
 IsDefinedIn character entry = Contains (map (λ d. d.0) (definitions_in entry)) character
 
+-- the other entry gives the same sign or the same set, which may be given once
+abbrev pub GivesAgain : Entry → Entry → Type 0
+GivesAgain (Defines character defined) other = ⊥
+GivesAgain (Pairs upper upper_cells lower lower_cells) other = ⊥
+GivesAgain (Replaces kind text cells) other = ⊥
+GivesAgain (Announces sign cells) other = (others : List ℕ) × (other ≡ Announces sign others)
+GivesAgain (Collects set text) other = (others : List ℕ) × (other ≡ Collects set others)
+
 -- one of the lines gives an entry of which this holds
-abbrev pub SomeGives : List (List ℕ) → (Entry → Type 0) → Type 0
-SomeGives lines Holds = (line : List ℕ) × (entry : Entry) × Contains lines line × Gives line entry × Holds entry
+abbrev pub SomeGivesIn : Profile → List (List ℕ) → (Entry → Type 0) → Type 0
+SomeGivesIn profile lines Holds =
+    (line : List ℕ) × (entry : Entry) × Contains lines line × GivesIn profile line entry × Holds entry
 
 -- the line, behind the lines before it, has a fault with this cause; a repetition is judged between lines that give
 -- an entry: a line that says something and gives none has a cause from 1 to 4 of its own
-pub data Fault (before : List (List ℕ)) (line : List ℕ) (cause : ℕ) : Type 0 where
-  -- the first field is no opcode
+pub data FaultIn (profile : Profile) (before : List (List ℕ)) (line : List ℕ) (cause : ℕ) : Type 0 where
+  -- the first field is no opcode of the profile
   unknown_opcode : (field rest : List ℕ) → Begins line field rest → ¬ IsComment field
-      → ((opcode : Opcode) → field ≢ name_of opcode) → cause ≡ 1 → Fault before line cause
-  -- an operand is missing
-  missing_operand : (opcode : Opcode) (rest : List ℕ) → Begins line (name_of opcode) rest
-      → ((dots : List ℕ) → ¬ HasDots line opcode dots) → cause ≡ 2 → Fault before line cause
+      → ((opcode : Opcode) → HasOpcode profile opcode → field ≢ name_of opcode)
+      → cause ≡ 1 → FaultIn profile before line cause
+  -- the line lacks one of its operands
+  missing_operand : (opcode : Opcode) (rest : List ℕ) → HasOpcode profile opcode → Begins line (name_of opcode) rest
+      → ¬ HasOperands line opcode → cause ≡ 2 → FaultIn profile before line cause
   -- the characters operand is none for the opcode
-  bad_characters : (opcode : Opcode) (characters : List ℕ) → HasCharacters line opcode characters
-      → ((text : List ℕ) → AreCharactersFor opcode text → ¬ Spells characters text) → cause ≡ 3 → Fault before line cause
+  bad_characters : (opcode : Opcode) (characters : List ℕ)
+      → HasOpcode profile opcode → HasCharacters line opcode characters
+      → ((text : List ℕ) → AreCharactersFor opcode text → ¬ Spells characters text)
+      → cause ≡ 3 → FaultIn profile before line cause
   -- the dots operand is none for the opcode
-  bad_dots : (opcode : Opcode) (dots : List ℕ) → HasDots line opcode dots
-      → ¬ IsDotsFor opcode dots → cause ≡ 4 → Fault before line cause
+  bad_dots : (opcode : Opcode) (dots : List ℕ) → HasOpcode profile opcode → HasDots line opcode dots
+      → ¬ IsDotsFor opcode dots → cause ≡ 4 → FaultIn profile before line cause
   -- an earlier line defines a character of this one, or this one defines it twice
-  defined_before : (entry : Entry) (character : ℕ) → Gives line entry → IsDefinedIn character entry
-      → SomeGives before (IsDefinedIn character) → cause ≡ 5 → Fault before line cause
+  defined_before : (entry : Entry) (character : ℕ) → GivesIn profile line entry → IsDefinedIn character entry
+      → SomeGivesIn profile before (IsDefinedIn character) → cause ≡ 5 → FaultIn profile before line cause
   defined_twice : (character : ℕ) (upper_cells lower_cells : List ℕ)
-      → Gives line (Pairs character upper_cells character lower_cells) → cause ≡ 5 → Fault before line cause
-  -- an earlier line gives the sign too
-  announced_before : (sign : Sign) (cells : List ℕ) → Gives line (Announces sign cells)
-      → SomeGives before (λ entry. (others : List ℕ) × (entry ≡ Announces sign others)) → cause ≡ 6 → Fault before line cause
-  -- the line is too long or one too many, a rule is too long, or a dots operand has too many written cells
-  long_line : most_line_characters < length line → cause ≡ 8 → Fault before line cause
-  line_too_many : most_lines ≤ length before → cause ≡ 8 → Fault before line cause
-  long_rule : (kind : RuleKind) (characters text : List ℕ) → HasCharacters line (Replace kind) characters
-      → Spells characters text → most_rule_characters < length text → cause ≡ 8 → Fault before line cause
-  many_cells : (opcode : Opcode) (dots cells : List ℕ) → HasDots line opcode dots → WritesCells opcode dots cells
-      → most_cells < length cells → cause ≡ 8 → Fault before line cause
+      → GivesIn profile line (Pairs character upper_cells character lower_cells)
+      → cause ≡ 5 → FaultIn profile before line cause
+  -- an earlier line gives the sign or the set too
+  given_before : (entry : Entry) → GivesIn profile line entry → SomeGivesIn profile before (GivesAgain entry)
+      → cause ≡ 6 → FaultIn profile before line cause
+  -- the line is too long or one too many, an operand has too many characters, or too many written cells
+  long_line : most_line_characters < length line → cause ≡ 8 → FaultIn profile before line cause
+  line_too_many : most_lines ≤ length before → cause ≡ 8 → FaultIn profile before line cause
+  many_characters : (opcode : Opcode) (characters text : List ℕ)
+      → HasOpcode profile opcode → HasCharacters line opcode characters
+      → Spells characters text → AreTooManyFor opcode text → cause ≡ 8 → FaultIn profile before line cause
+  many_cells : (opcode : Opcode) (dots cells : List ℕ) → HasOpcode profile opcode → HasDots line opcode dots
+      → WritesCells opcode dots cells → most_cells < length cells → cause ≡ 8 → FaultIn profile before line cause
 
 -- line n of the lines, counted from 1, has a fault with this cause
-pub data HasCause (lines : List (List ℕ)) (n cause : ℕ) : Type 0 where
+pub data HasCauseIn (profile : Profile) (lines : List (List ℕ)) (n cause : ℕ) : Type 0 where
   on_line : (before : List (List ℕ)) (line : List ℕ) (after : List (List ℕ)) → lines ≡ before ++ line ∷ after
-      → n ≡ length before + 1 → Fault before line cause → HasCause lines n cause
+      → n ≡ length before + 1 → FaultIn profile before line cause → HasCauseIn profile lines n cause
 
 -- ---- the whole text
 
@@ -236,36 +327,65 @@ IsToldNoLater n cause m other = (n < m) ⊎ ((n ≡ m) × (cause ≤ other))
 abbrev pub line_of_stop : List ℕ → ℕ
 line_of_stop bytes = count_by (λ b. b == 10) (take (utf8_valid_len bytes) bytes) + 1
 
--- the definitions, partners and signs of a table are those of the entries
+-- all that a table has is that of the entries
 pub record IsMadeOf (entries : List (ℕ × Entry)) (meaning : Meaning) : Type 0 where
   pub definitions : meaning.definitions ≡ flat_map (λ e. definitions_in e.1) entries
   pub partners : meaning.partners ≡ flat_map (λ e. partners_in e.1) entries
-  pub numsign : meaning.numsign ≡ flat_map (λ e. numsign_in e.1) entries
-  pub capsletter : meaning.capsletter ≡ flat_map (λ e. capsletter_in e.1) entries
-  pub begcapsword : meaning.begcapsword ≡ flat_map (λ e. begcapsword_in e.1) entries
   pub rules : meaning.rules ≡ flat_map (rules_in meaning) entries
+  pub signs : (sign : Sign) → sign_cells meaning sign ≡ flat_map (λ e. cells_for sign e.1) entries
+  pub sets : (set : CharacterSet) → set_characters meaning set ≡ flat_map (λ e. characters_for set e.1) entries
 
--- the entry is a rule of which a folded character is not defined
+-- a folded character of the entry's rule is not defined, or a character of its set as it is written
 abbrev pub IsLacking : Meaning → Entry → Type 0
+IsLacking meaning (Defines character defined) = ⊥
+IsLacking meaning (Pairs upper upper_cells lower lower_cells) = ⊥
 IsLacking meaning (Replaces kind text cells) =
     (character : ℕ) × Contains text character × (definition_of meaning (folded meaning character) ≡ None)
-IsLacking meaning entry = ⊥
+IsLacking meaning (Announces sign cells) = ⊥
+IsLacking meaning (Collects set text) =
+    (character : ℕ) × Contains text character × (definition_of meaning character ≡ None)
 
--- the text is bad: line n is told, with this cause
-pub data Bad (bytes : List ℕ) (n cause : ℕ) : Type 0 where
-  no_text : ¬ IsUtf8 bytes → n ≡ line_of_stop bytes → cause ≡ 9 → Bad bytes n cause
-  bad_line : IsUtf8 bytes → HasCause (text_lines bytes) n cause
-      → ((m other : ℕ) → HasCause (text_lines bytes) m other → IsToldNoLater n cause m other) → Bad bytes n cause
-  undefined_character : IsUtf8 bytes → ((m other : ℕ) → ¬ HasCause (text_lines bytes) m other)
-      → (entries : List (ℕ × Entry)) (meaning : Meaning) → GiveFrom 1 (text_lines bytes) entries → IsMadeOf entries meaning
-      → (rule : Entry) → Contains entries (n, rule) → IsLacking meaning rule
-      → ((m : ℕ) (other : Entry) → Contains entries (m, other) → IsLacking meaning other → n ≤ m) → cause ≡ 7 → Bad bytes n cause
+-- the text is bad in the profile: line n is told, with this cause
+pub data BadIn (profile : Profile) (bytes : List ℕ) (n cause : ℕ) : Type 0 where
+  no_text : ¬ IsUtf8 bytes → n ≡ line_of_stop bytes → cause ≡ 9 → BadIn profile bytes n cause
+  bad_line : IsUtf8 bytes → HasCauseIn profile (text_lines bytes) n cause
+      → ((m other : ℕ) → HasCauseIn profile (text_lines bytes) m other → IsToldNoLater n cause m other)
+      → BadIn profile bytes n cause
+  undefined_character : IsUtf8 bytes → ((m other : ℕ) → ¬ HasCauseIn profile (text_lines bytes) m other)
+      → (entries : List (ℕ × Entry)) (meaning : Meaning)
+      → GiveFromIn profile 1 (text_lines bytes) entries → IsMadeOf entries meaning
+      → (entry : Entry) → Contains entries (n, entry) → IsLacking meaning entry
+      → ((m : ℕ) (other : Entry) → Contains entries (m, other) → IsLacking meaning other → n ≤ m)
+      → cause ≡ 7 → BadIn profile bytes n cause
 
--- the text is a table with this meaning: what its lines give, and nothing else
-pub record Means (bytes : List ℕ) (meaning : Meaning) : Type 0 where
+-- the text is a table of the profile with this meaning: what its lines give, and nothing else
+pub record MeansIn (profile : Profile) (bytes : List ℕ) (meaning : Meaning) : Type 0 where
   pub is_text : IsUtf8 bytes
-  pub is_sound : (n cause : ℕ) → ¬ HasCause (text_lines bytes) n cause
+  pub is_sound : (n cause : ℕ) → ¬ HasCauseIn profile (text_lines bytes) n cause
   pub entries : List (ℕ × Entry)
-  pub given : GiveFrom 1 (text_lines bytes) entries
+  pub given : GiveFromIn profile 1 (text_lines bytes) entries
   pub made : IsMadeOf entries meaning
-  pub is_complete : (n : ℕ) (rule : Entry) → Contains entries (n, rule) → ¬ IsLacking meaning rule
+  pub is_complete : (n : ℕ) (entry : Entry) → Contains entries (n, entry) → ¬ IsLacking meaning entry
+
+-- ---- tables with the numeric mode, which the crate reads
+
+abbrev pub Gives : List ℕ → Entry → Type 0
+Gives = GivesIn WithNumericMode
+
+abbrev pub GiveFrom : ℕ → List (List ℕ) → List (ℕ × Entry) → Type 0
+GiveFrom = GiveFromIn WithNumericMode
+
+abbrev pub SomeGives : List (List ℕ) → (Entry → Type 0) → Type 0
+SomeGives = SomeGivesIn WithNumericMode
+
+abbrev pub Fault : List (List ℕ) → List ℕ → ℕ → Type 0
+Fault = FaultIn WithNumericMode
+
+abbrev pub HasCause : List (List ℕ) → ℕ → ℕ → Type 0
+HasCause = HasCauseIn WithNumericMode
+
+abbrev pub Bad : List ℕ → ℕ → ℕ → Type 0
+Bad = BadIn WithNumericMode
+
+abbrev pub Means : List ℕ → Meaning → Type 0
+Means = MeansIn WithNumericMode

@@ -1,8 +1,12 @@
 -- What a fault says of a table text.
 use Rattle.std.specs.Prelude.{ℕ, List}
-use Rattle.louis_table.specs.Table.{Bad}
+use Rattle.louis_table.specs.Table.{Bad, line_of_stop}
 use Rattle.louis_table.specs.declared.fault.ReadFault.{ReadFault}
 use Rattle.louis_table.specs.declared.fault.ReadFault.TheVariants as faults
+
+-- what is told of bytes that are not UTF-8
+abbrev pub not_utf_8 : List ℕ → ReadFault
+not_utf_8 bytes = faults.Table (record { line = line_of_stop bytes; cause = 9 })
 
 -- the fault is the one that is told of the text; want of memory says nothing of it
 abbrev pub Tells : List ℕ → ReadFault → Type 0

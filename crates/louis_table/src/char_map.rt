@@ -11,7 +11,7 @@ use std::marker::Model;
 const DIRECT: usize = 128;
 
 /// A map from characters to values, in the order in which they came. Contracts see the list of its entries.
-pub(crate) struct CharMap<V> {
+pub struct CharMap<V> {
     entries: IndexMap<char, V>,
     // for each character below `DIRECT`, one more than its entry's index, or 0 where it has none
     places: [usize; DIRECT],
@@ -40,7 +40,7 @@ impl<V: Drop> Drop for CharMap<V> {
 
 impl<V: Drop> CharMap<V> {
     /// A map without entries.
-    pub(crate) fn new(alloc: Global) -> Self
+    pub fn new(alloc: Global) -> Self
         ensures { result ≡ [] }
     {
         CharMap {
@@ -59,7 +59,7 @@ impl<V: Drop> CharMap<V> {
 
     /// The value of a character, if it has one.
     #[inline(always)]
-    pub(crate) fn get(&self, character: char) -> Option<&V>
+    pub fn get(&self, character: char) -> Option<&V>
         ensures { option_copied result ≡ lookup (nat_eq character) self.now }
     {
         let code = character as usize;
@@ -75,7 +75,7 @@ impl<V: Drop> CharMap<V> {
     }
 
     /// Puts a character that isn't there at the end.
-    pub(crate) fn insert(&mut self, character: char, value: V) -> Result<(), AllocError>
+    pub fn insert(&mut self, character: char, value: V) -> Result<(), AllocError>
         requires { lookup (nat_eq character) self.old ≡ None }
         ensures ok { OnOk result (self.new ≡ self.old ++ (character, value) ∷ []) }
         ensures err { OnErr result (self.new ≡ self.old) }

@@ -3,34 +3,41 @@ ghost use Rattle.louis_table.specs.Reading.{CanTake, entry_in, no_meaning, with_
 ghost use Rattle.std.specs.Prelude.{◌≡◌, ◌++◌, [], OnOk};
 
 use super::line::Given;
+use super::rule::Characters;
 use super::table::Table;
-use super::written::WrittenRule;
+use super::written::{Written, WrittenRule, WrittenSet};
 use std::alloc::{AllocError, Global};
 
-/// What the lines so far give: a table without rules, and the rules as they are written.
+/// What the lines so far give: a table without rules, and what only all definitions can judge, as it is written.
 #[derive(Drop)]
 pub(crate) struct Draft {
     pub(crate) table: Table,
-    pub(crate) rules: Vec<WrittenRule>,
+    pub(crate) written: Vec<Written>,
 }
 
 impl Draft {
     /// What no lines give.
     pub(crate) fn new(alloc: Global) -> Self
         ensures table { result.table ≡ no_meaning }
-        ensures rules { result.rules.items ≡ [] }
+        ensures written { result.written.items ≡ [] }
     {
         Draft {
             table: Table::new(alloc),
-            rules: Vec::new(alloc),
+            written: Vec::new(alloc),
         }
     }
 
     /// Takes what the line with this number gives.
-    pub(crate) fn take(&mut self, line: usize, given: Given) -> Result<(), AllocError>
+    pub(crate) fn take(
+        &mut self,
+        alloc: Global,
+        line: usize,
+        given: Given,
+    ) -> Result<(), AllocError>
         requires { CanTake self.old.table (entry_in given) }
         ensures table { OnOk result (self.new.table ≡ with_given self.old.table (entry_in given)) }
-        ensures rules { OnOk result (self.new.rules.items ≡ self.old.rules.items ++ written_in line (entry_in given)) }
+        ensures written { OnOk result (self.new.written.items ≡ self.old.written.items
+            ++ written_in line (entry_in given)) }
     {
         match given {
             Given::Nothing => Ok(()),
@@ -39,16 +46,25 @@ impl Draft {
                 self.table.pair(upper, upper_cells, lower, lower_cells)
             }
             Given::Replaces(kind, characters, cells) => {
-                self.rules.push(WrittenRule {
+                self.written.push(Written::Rule(WrittenRule {
                     line,
                     kind,
                     characters,
                     cells,
-                })?;
+                }))?;
                 Ok(())
             }
             Given::Announces(sign, cells) => {
                 self.table.announce(sign, cells);
+                Ok(())
+            }
+            Given::Collects(set, characters) => {
+                let copy = Vec::from_slice(alloc, characters.as_slice())?;
+                self.written.push(Written::Set(WrittenSet {
+                    line,
+                    characters: Characters::from_vec(copy),
+                }))?;
+                self.table.collect(set, characters);
                 Ok(())
             }
         }

@@ -1,6 +1,7 @@
 //! The table that is supplied with the crate.
 
-/// Uncontracted English: its letters, digits and marks, and its three signs, in 58 lines.
+/// Uncontracted English: its letters, digits and marks, its signs, and the characters of its numeric mode, in 61
+/// lines.
 pub const EN: &str = "\
 # braildesk: uncontracted English\n\
 space \\s 0\n\
@@ -59,4 +60,7 @@ punctuation \\x2013 6-36\n\
 punctuation \\x2014 6-36\n\
 numsign 3456\n\
 capsletter 6\n\
-begcapsword 6-6\n";
+begcapsword 6-6\n\
+numericmodechars .,\n\
+nocontractsign 56\n\
+numericnocontchars abcdefghij\n";

@@ -17,9 +17,9 @@ pub(crate) enum Cause {
     BadDots = 4,
     /// An earlier line defines the character, or this line defines it twice.
     DefinedBefore = 5,
-    /// An earlier line gives the sign.
-    AnnouncedBefore = 6,
-    /// No line defines a character of a rule.
+    /// An earlier line gives the sign or the set.
+    GivenBefore = 6,
+    /// No line defines a character of a rule or a set.
     UndefinedCharacter = 7,
     /// A line is too long, or one too many, or an operand has too many characters or cells.
     BeyondLimit = 8,
@@ -50,8 +50,8 @@ pub struct TableFault {
     /// The number of the line, from 1.
     pub line: usize,
     /// The cause: 1 unknown opcode, 2 missing operand, 3 bad characters, 4 bad dots, 5 a character that is
-    /// defined before, 6 a sign that is given before, 7 a rule with a character that is not defined, 8 beyond a
-    /// limit, 9 not UTF-8.
+    /// defined before, 6 a sign or a set that is given before, 7 a rule or a set with a character that is not
+    /// defined, 8 beyond a limit, 9 not UTF-8.
     pub cause: u8,
 }
 

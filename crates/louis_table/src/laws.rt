@@ -1,7 +1,8 @@
 //! What holds of every table text.
-ghost use Rattle.louis_table.specs.Meaning.{Meaning};
-ghost use Rattle.louis_table.specs.Table.{Bad, Means};
-ghost use Rattle.std.specs.Prelude.{◌≡◌, ◌⊎◌, ℕ, List};
+ghost use Rattle.louis_table.specs.Meaning.{HasCells, Meaning};
+ghost use Rattle.louis_table.specs.Profile.{Profile, WithoutNumericMode};
+ghost use Rattle.louis_table.specs.Table.{Bad, BadIn, Means, MeansIn};
+ghost use Rattle.std.specs.Prelude.{◌≡◌, ◌⊎◌, ℕ, List, []};
 
 /// Bytes are a table with one meaning, or have one fault that is told, and never both.
 pub fn one_meaning()
@@ -9,4 +10,25 @@ pub fn one_meaning()
     ensures one_fault { (bytes : List ℕ) (n c m d : ℕ) → Bad bytes n c → Bad bytes m d → (n ≡ m) × (c ≡ d) }
     ensures either { (bytes : List ℕ) (t : Meaning) (n c : ℕ) → Means bytes t → ¬ (Bad bytes n c) }
     ensures some { (bytes : List ℕ) → ((t : Meaning) × Means bytes t) ⊎ ((n : ℕ) × (c : ℕ) × Bad bytes n c) }
+{}
+
+/// A table without the numeric mode has the same meaning where the mode is known, and nothing of the mode. In each
+/// profile bytes are a table with one meaning, or have one fault that is told, and never both.
+pub fn profiles()
+    ensures same { (bytes : List ℕ) (t : Meaning) → MeansIn WithoutNumericMode bytes t → Means bytes t }
+    ensures nothing_new { (bytes : List ℕ) (t : Meaning) → MeansIn WithoutNumericMode bytes t
+        → (t.nocontractsign ≡ []) × (t.mode_chars ≡ []) × (t.nocontract_chars ≡ []) }
+    ensures one { (profile : Profile) (bytes : List ℕ) (t u : Meaning)
+        → MeansIn profile bytes t → MeansIn profile bytes u → t ≡ u }
+    ensures one_fault { (profile : Profile) (bytes : List ℕ) (n c m d : ℕ)
+        → BadIn profile bytes n c → BadIn profile bytes m d → (n ≡ m) × (c ≡ d) }
+    ensures either { (profile : Profile) (bytes : List ℕ) (t : Meaning) (n c : ℕ)
+        → MeansIn profile bytes t → ¬ (BadIn profile bytes n c) }
+    ensures some { (profile : Profile) (bytes : List ℕ)
+        → ((t : Meaning) × MeansIn profile bytes t) ⊎ ((n : ℕ) × (c : ℕ) × BadIn profile bytes n c) }
+{}
+
+/// Each definition and each rule of a table that bytes mean has a cell.
+pub fn cells()
+    ensures { (profile : Profile) (bytes : List ℕ) (t : Meaning) → MeansIn profile bytes t → HasCells t }
 {}

@@ -11,6 +11,7 @@
 #![tactic(auto)]
 
 mod char_map;
+mod character_set;
 mod characters;
 mod definition;
 mod dots;
@@ -24,13 +25,15 @@ mod lines;
 mod opcode;
 mod read;
 mod rule;
+mod sign;
 mod table;
 mod written;
 
+pub use char_map::CharMap;
 pub use definition::{Class, Definition};
 pub use en::EN;
 pub use fault::{ReadFault, TableFault};
-pub use line::MOST_RULE_CHARACTERS;
+pub use line::{MOST_RULE_CHARACTERS, MOST_SET_CHARACTERS};
 pub use read::{MOST_LINE_CHARACTERS, MOST_LINES};
 pub use rule::{Characters, Rule, RuleKind};
 pub use table::Table;

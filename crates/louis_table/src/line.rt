@@ -4,13 +4,15 @@ ghost use Rattle.louis_table.specs.Reading.{FailsOperands, IsVerdict, both_at, j
 ghost use Rattle.louis_table.specs.declared.opcode.Opcode.TheVariants as opcodes;
 ghost use Rattle.std.specs.Prelude.{◌≡◌, IfErr, IfOk, Ok};
 
+use super::character_set::CharacterSet;
 use super::characters::{only_character, only_pair, read_characters};
 use super::definition::{Class, Definition};
 use super::dots::{read_cells, read_pair_cells, read_rule_cells};
 use super::fault::{Cause, LineFault};
 use super::fields::next_field;
-use super::opcode::{Opcode, Sign};
+use super::opcode::Opcode;
 use super::rule::{Characters, RuleKind};
+use super::sign::Sign;
 use super::table::Table;
 use cell_core::Cells;
 use std::alloc::Global;
@@ -20,6 +22,9 @@ const COMMENT: char = '#';
 
 /// How many characters a rule may have.
 pub const MOST_RULE_CHARACTERS: usize = 60;
+
+/// How many characters a set may have.
+pub const MOST_SET_CHARACTERS: usize = 60;
 
 /// What a line gives to its table.
 #[derive(Drop)]
@@ -34,6 +39,8 @@ pub(crate) enum Given {
     Replaces(RuleKind, Characters, Option<Cells>),
     /// The cells of a sign.
     Announces(Sign, Cells),
+    /// The characters of a set.
+    Collects(CharacterSet, Characters),
 }
 
 /// The characters of the first operand, and the second one.
@@ -131,12 +138,40 @@ fn read_sign(
     }
     let cells = read_cells(alloc, dots)?;
     if !table.sign(sign).is_empty() {
-        return Err(LineFault::Bad(Cause::AnnouncedBefore));
+        return Err(LineFault::Bad(Cause::GivenBefore));
     }
     let Some(cells) = cells else {
         return Err(LineFault::Bad(Cause::BeyondLimit));
     };
     Ok(Given::Announces(sign, cells))
+}
+
+/// The characters of a set, for a table that has none for it yet.
+fn read_set(
+    alloc: Global,
+    table: &Table,
+    set: CharacterSet,
+    operands: &[char],
+) -> Result<Given, LineFault>
+    ensures { IsVerdict result (judge_opcode table.now (opcodes.Collect set) operands.now) }
+{
+    let (characters, _) = next_field(operands);
+    if characters.is_empty() {
+        return Err(LineFault::Bad(Cause::MissingOperand));
+    }
+    let Ok(read) = read_characters(alloc, characters) else {
+        return Err(LineFault::NoMemory);
+    };
+    let Some(characters) = read else {
+        return Err(LineFault::Bad(Cause::BadCharacters));
+    };
+    if !table.set(set).is_empty() {
+        return Err(LineFault::Bad(Cause::GivenBefore));
+    }
+    if characters.len() > MOST_SET_CHARACTERS {
+        return Err(LineFault::Bad(Cause::BeyondLimit));
+    }
+    Ok(Given::Collects(set, Characters::from_vec(characters)))
 }
 
 /// What a line gives to the table that the lines before it make.
@@ -155,5 +190,6 @@ pub(crate) fn read_line(alloc: Global, table: &Table, line: &[char]) -> Result<G
         Opcode::UpLow => read_pair(alloc, table, operands),
         Opcode::Replace(kind) => read_rule(alloc, kind, operands),
         Opcode::Announce(sign) => read_sign(alloc, table, sign, operands),
+        Opcode::Collect(set) => read_set(alloc, table, set, operands),
     }
 }

@@ -1,21 +1,12 @@
-//! The opcodes of table lines.
-ghost use Rattle.louis_table.specs.Reading.{class_named, kind_named, opcode_named, sign_named};
-ghost use Rattle.std.specs.Prelude.{◌≡◌, codes};
+//! The opcodes of table lines, and their names.
+ghost use Rattle.louis_table.specs.Reading.{opcode_among, opcode_named};
+ghost use Rattle.std.specs.Prelude.{◌≡◌, map};
 ghost use Rattle.std.specs.Str.{bytes_eq};
 
+use super::character_set::CharacterSet;
 use super::definition::Class;
 use super::rule::RuleKind;
-
-/// A sign that stands before print of some kind.
-#[derive(Clone, Copy)]
-pub(crate) enum Sign {
-    /// Before a number.
-    Number,
-    /// Before one capital.
-    Capital,
-    /// Before a run of capitals.
-    CapitalWord,
-}
+use super::sign::Sign;
 
 /// What the first field of a line says that the line does.
 #[derive(Clone, Copy)]
@@ -28,109 +19,101 @@ pub(crate) enum Opcode {
     Replace(RuleKind),
     /// Gives the cells of a sign.
     Announce(Sign),
+    /// Gives the characters of a set.
+    Collect(CharacterSet),
 }
 
-const SPACE: [char; 5] = ['s', 'p', 'a', 'c', 'e'];
+const SPACE: &[u8] = b"space";
 
-const PUNCTUATION: [char; 11] = ['p', 'u', 'n', 'c', 't', 'u', 'a', 't', 'i', 'o', 'n'];
+const PUNCTUATION: &[u8] = b"punctuation";
 
-const DIGIT: [char; 5] = ['d', 'i', 'g', 'i', 't'];
+const DIGIT: &[u8] = b"digit";
 
-const LETTER: [char; 6] = ['l', 'e', 't', 't', 'e', 'r'];
+const LETTER: &[u8] = b"letter";
 
-const UPLOW: [char; 5] = ['u', 'p', 'l', 'o', 'w'];
+const UPLOW: &[u8] = b"uplow";
 
-const ALWAYS: [char; 6] = ['a', 'l', 'w', 'a', 'y', 's'];
+const ALWAYS: &[u8] = b"always";
 
-const WORD: [char; 4] = ['w', 'o', 'r', 'd'];
+const WORD: &[u8] = b"word";
 
-const BEGWORD: [char; 7] = ['b', 'e', 'g', 'w', 'o', 'r', 'd'];
+const BEGWORD: &[u8] = b"begword";
 
-const MIDWORD: [char; 7] = ['m', 'i', 'd', 'w', 'o', 'r', 'd'];
+const MIDWORD: &[u8] = b"midword";
 
-const ENDWORD: [char; 7] = ['e', 'n', 'd', 'w', 'o', 'r', 'd'];
+const ENDWORD: &[u8] = b"endword";
 
-const NUMSIGN: [char; 7] = ['n', 'u', 'm', 's', 'i', 'g', 'n'];
+const NUMSIGN: &[u8] = b"numsign";
 
-const CAPSLETTER: [char; 10] = ['c', 'a', 'p', 's', 'l', 'e', 't', 't', 'e', 'r'];
+const CAPSLETTER: &[u8] = b"capsletter";
 
-const BEGCAPSWORD: [char; 11] = ['b', 'e', 'g', 'c', 'a', 'p', 's', 'w', 'o', 'r', 'd'];
+const BEGCAPSWORD: &[u8] = b"begcapsword";
 
-/// The class that an opcode defines, by its name.
-fn class_named(name: &[char]) -> Option<Class>
-    ensures { result ≡ class_named name.now }
+const NOCONTRACTSIGN: &[u8] = b"nocontractsign";
+
+const NUMERICMODECHARS: &[u8] = b"numericmodechars";
+
+const NUMERICNOCONTCHARS: &[u8] = b"numericnocontchars";
+
+/// Each opcode beside its name.
+const OPCODES: [(&[u8], Opcode); 16] = [
+    (SPACE, Opcode::Define(Class::Space)),
+    (PUNCTUATION, Opcode::Define(Class::Punctuation)),
+    (DIGIT, Opcode::Define(Class::Digit)),
+    (LETTER, Opcode::Define(Class::Letter)),
+    (UPLOW, Opcode::UpLow),
+    (ALWAYS, Opcode::Replace(RuleKind::Always)),
+    (WORD, Opcode::Replace(RuleKind::Word)),
+    (BEGWORD, Opcode::Replace(RuleKind::BegWord)),
+    (MIDWORD, Opcode::Replace(RuleKind::MidWord)),
+    (ENDWORD, Opcode::Replace(RuleKind::EndWord)),
+    (NUMSIGN, Opcode::Announce(Sign::Number)),
+    (CAPSLETTER, Opcode::Announce(Sign::Capital)),
+    (BEGCAPSWORD, Opcode::Announce(Sign::CapitalWord)),
+    (NOCONTRACTSIGN, Opcode::Announce(Sign::NoContraction)),
+    (NUMERICMODECHARS, Opcode::Collect(CharacterSet::NumericMode)),
+    (
+        NUMERICNOCONTCHARS,
+        Opcode::Collect(CharacterSet::NoContraction),
+    ),
+];
+
+/// Whether a field is this name.
+fn is_name(mut field: &[char], mut name: &[u8]) -> bool
+    ensures { result ≡ bytes_eq field.entry.now name.entry.now }
 {
-    if name == SPACE.as_slice() {
-        Some(Class::Space)
-    } else if name == PUNCTUATION.as_slice() {
-        Some(Class::Punctuation)
-    } else if name == DIGIT.as_slice() {
-        Some(Class::Digit)
-    } else if name == LETTER.as_slice() {
-        Some(Class::Letter)
-    } else {
-        None
+    while let [character, characters @ ..] = field {
+        let [byte, bytes @ ..] = name else {
+            return false;
+        };
+        if *character != char::from(*byte) {
+            return false;
+        }
+        field = characters;
+        name = bytes;
     }
+    name.is_empty()
 }
 
-/// The kind of the rules that an opcode makes, by its name.
-fn kind_named(name: &[char]) -> Option<RuleKind>
-    ensures { result ≡ kind_named name.now }
+/// The first opcode of a list of opcodes that has this name.
+fn opcode_among(mut opcodes: &[(&[u8], Opcode)], field: &[char]) -> Option<Opcode>
+    ensures { result ≡ opcode_among (map (λ o. (o.0.now, o.1)) opcodes.entry.now) field.now }
 {
-    if name == ALWAYS.as_slice() {
-        Some(RuleKind::Always)
-    } else if name == WORD.as_slice() {
-        Some(RuleKind::Word)
-    } else if name == BEGWORD.as_slice() {
-        Some(RuleKind::BegWord)
-    } else if name == MIDWORD.as_slice() {
-        Some(RuleKind::MidWord)
-    } else if name == ENDWORD.as_slice() {
-        Some(RuleKind::EndWord)
-    } else {
-        None
+    while let [(name, opcode), rest @ ..] = opcodes {
+        if is_name(field, name) {
+            return Some(*opcode);
+        }
+        opcodes = rest;
     }
-}
-
-/// The sign whose cells an opcode gives, by its name.
-fn sign_named(name: &[char]) -> Option<Sign>
-    ensures { result ≡ sign_named name.now }
-{
-    if name == NUMSIGN.as_slice() {
-        Some(Sign::Number)
-    } else if name == CAPSLETTER.as_slice() {
-        Some(Sign::Capital)
-    } else if name == BEGCAPSWORD.as_slice() {
-        Some(Sign::CapitalWord)
-    } else {
-        None
-    }
-}
-
-/// Whether the name is that of the opcode for an upper and its lower character.
-fn is_uplow(name: &[char]) -> bool
-    ensures { result ≡ bytes_eq name.now (codes "uplow") }
-{
-    name == UPLOW.as_slice()
+    None
 }
 
 impl Opcode {
     /// The opcode with this name, if there is one.
-    pub(crate) fn named(name: &[char]) -> Option<Self>
-        ensures { result ≡ opcode_named name.now }
+    #[tactic(auto, unfolding(crate::specs::Reading::opcode_named))]
+    pub(crate) fn named(field: &[char]) -> Option<Self>
+        ensures { result ≡ opcode_named field.now }
     {
-        if let Some(class) = class_named(name) {
-            return Some(Opcode::Define(class));
-        }
-        if is_uplow(name) {
-            return Some(Opcode::UpLow);
-        }
-        if let Some(kind) = kind_named(name) {
-            return Some(Opcode::Replace(kind));
-        }
-        match sign_named(name) {
-            Some(sign) => Some(Opcode::Announce(sign)),
-            None => None,
-        }
+        opcode_among(&OPCODES, field)
     }
 }

@@ -1,10 +1,10 @@
 //! Reads a table text, line by line.
 ghost use Rattle.louis_table.specs.Lines.{lines_of};
 ghost use Rattle.louis_table.specs.Reading.{HasDefinedPartners, LinesGive, LinesMean, LinesTell, LinesTellEarly, TakesLine, judge};
-ghost use Rattle.louis_table.specs.Table.{Means, line_of_stop};
-ghost use Rattle.louis_table.specs.Tells.{Tells};
-ghost use Rattle.std.specs.Prelude.{◌≡◌, ◌+◌, ◌==◌, ◌≤◌, count_by, length, map, take, IfOk, IfErr};
-ghost use Rattle.std.specs.Str.{chars};
+ghost use Rattle.louis_table.specs.Table.{Means};
+ghost use Rattle.louis_table.specs.Tells.{Tells, not_utf_8};
+ghost use Rattle.std.specs.Prelude.{◌≡◌, ◌+◌, ◌==◌, ◌≤◌, count_by, length, map, take, Err, IfOk, IfErr};
+ghost use Rattle.std.specs.Str.{chars, IsUtf8};
 ghost use Rattle.std.specs.Str.Lossy.{utf8_valid_len};
 
 use super::draft::Draft;
@@ -12,7 +12,7 @@ use super::fault::{Cause, LineFault, ReadFault, TableFault};
 use super::line::read_line;
 use super::lines::{behind_byte_order_mark, next_line, replace_characters};
 use super::table::Table;
-use super::written::finish_rules;
+use super::written::finish_all;
 use std::alloc::Global;
 
 /// How many lines a table text may have.
@@ -43,7 +43,7 @@ fn take_line(
     if line.len() > MOST_LINE_CHARACTERS || before >= MOST_LINES {
         return Err(LineFault::Bad(Cause::BeyondLimit));
     }
-    match draft.take(before + 1, given) {
+    match draft.take(alloc, before + 1, given) {
         Ok(()) => Ok(()),
         Err(_) => Err(LineFault::NoMemory),
     }
@@ -51,7 +51,7 @@ fn take_line(
 
 /// What the lines of a text give.
 fn read_lines(alloc: Global, text: &str) -> Result<Draft, ReadFault>
-    ensures ok { IfOk result (λ draft. LinesGive (map chars (lines_of text.now)) draft.table draft.rules.items) }
+    ensures ok { IfOk result (λ draft. LinesGive (map chars (lines_of text.now)) draft.table draft.written.items) }
     ensures err { IfErr result (LinesTellEarly (map chars (lines_of text.now))) }
 {
     let mut draft = Draft::new(alloc);
@@ -85,24 +85,27 @@ fn read_text(alloc: Global, text: &str) -> Result<Table, ReadFault>
     ensures err { IfErr result (LinesTell (map chars (lines_of text.now))) }
 {
     let draft = read_lines(alloc, text)?;
-    let written = draft.rules;
-    let rules = finish_rules(alloc, &draft.table, written)?;
+    let written = draft.written;
+    let rules = finish_all(alloc, &draft.table, written)?;
     Ok(draft.table.with_rules(rules))
 }
 
 impl Table {
     /// Reads a table text.
     ///
-    /// Each line defines a character or an upper and a lower one, gives a rule or the cells of a sign, is a comment,
-    /// or has no field. Definitions may stand before or after the rules that use them.
+    /// Each line defines a character or an upper and a lower one, gives a rule, the cells of a sign or the characters
+    /// of a set, is a comment, or has no field. Definitions may stand before or after the rules and sets that use
+    /// them.
     ///
     /// # Errors
     ///
-    /// `Table` tells the first line that has a fault, with its smallest cause, and where no line has one, the first
-    /// rule with a character that no line defines. `NoMemory` says that a growth was refused.
+    /// `Table` reports the first line that has a fault, with its smallest cause, and where no line has one, the first
+    /// rule or set with a character that no line defines. `NoMemory` says that a growth was refused; a text that isn't
+    /// UTF-8 is reported without any growth.
     pub fn read(alloc: Global, text: &[u8]) -> Result<Table, ReadFault>
         ensures ok { IfOk result (Means text.now) }
         ensures err { IfErr result (Tells text.now) }
+        ensures not_utf_8 { ¬ IsUtf8 text.now → result ≡ Err (not_utf_8 text.now) }
     {
         match str::from_utf8(text) {
             Ok(text) => read_text(alloc, behind_byte_order_mark(text)),

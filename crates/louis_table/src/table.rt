@@ -1,14 +1,15 @@
 //! A table that was read.
 ghost use Rattle.std.specs.Prelude.{◌≡◌, ◌≢◌, ◌∷◌, ◌++◌, [], None, Some, OnOk, option_map, is_some};
-ghost use Rattle.louis_table.specs.Meaning.{definition_of, folded, partner_of};
-ghost use Rattle.louis_table.specs.Reading.{CanTake, is_known, no_meaning, sign_cells, with_definition, with_given, with_partner};
-ghost use Rattle.louis_table.specs.Table.{Announces, Pairs};
+ghost use Rattle.louis_table.specs.Meaning.{definition_of, folded, partner_of, set_characters, sign_cells};
+ghost use Rattle.louis_table.specs.Reading.{CanTake, is_known, no_meaning, with_definition, with_given, with_partner};
+ghost use Rattle.louis_table.specs.Table.{Announces, Collects, Pairs};
 ghost use Rattle.std.specs.Option.{option_copied};
 
 use super::char_map::CharMap;
+use super::character_set::CharacterSet;
 use super::definition::{Class, Definition};
-use super::opcode::Sign;
-use super::rule::Rule;
+use super::rule::{Characters, Rule};
+use super::sign::Sign;
 use cell_core::{Cell, Cells};
 use std::alloc::{AllocError, Global};
 use std::marker::Model;
@@ -21,6 +22,9 @@ pub struct Table {
     numsign: Cells,
     capsletter: Cells,
     begcapsword: Cells,
+    nocontractsign: Cells,
+    mode_chars: Characters,
+    nocontract_chars: Characters,
 }
 
 impl Model for Table {
@@ -35,6 +39,9 @@ impl Model for Table {
       numsign = t.numsign;
       capsletter = t.capsletter;
       begcapsword = t.begcapsword;
+      nocontractsign = t.nocontractsign;
+      mode_chars = t.mode_chars;
+      nocontract_chars = t.nocontract_chars;
     } };
 }
 
@@ -48,6 +55,9 @@ impl Drop for Table {
             numsign: _,
             capsletter: _,
             begcapsword: _,
+            nocontractsign: _,
+            mode_chars: _,
+            nocontract_chars: _,
         } = self;
     }
 }
@@ -64,6 +74,9 @@ impl Table {
             numsign: Cells::from_vec(Vec::new(alloc)),
             capsletter: Cells::from_vec(Vec::new(alloc)),
             begcapsword: Cells::from_vec(Vec::new(alloc)),
+            nocontractsign: Cells::from_vec(Vec::new(alloc)),
+            mode_chars: Characters::from_vec(Vec::new(alloc)),
+            nocontract_chars: Characters::from_vec(Vec::new(alloc)),
         }
     }
 
@@ -124,6 +137,18 @@ impl Table {
             Sign::Number => self.numsign = cells,
             Sign::Capital => self.capsletter = cells,
             Sign::CapitalWord => self.begcapsword = cells,
+            Sign::NoContraction => self.nocontractsign = cells,
+        }
+    }
+
+    /// Gives a set that has no characters yet its characters.
+    pub(crate) fn collect(&mut self, set: CharacterSet, characters: Characters)
+        requires { set_characters self.old set ≡ [] }
+        ensures { self.new ≡ with_given self.old (Some (Collects set characters)) }
+    {
+        match set {
+            CharacterSet::NumericMode => self.mode_chars = characters,
+            CharacterSet::NoContraction => self.nocontract_chars = characters,
         }
     }
 
@@ -150,6 +175,17 @@ impl Table {
             Sign::Number => self.numsign(),
             Sign::Capital => self.capsletter(),
             Sign::CapitalWord => self.begcapsword(),
+            Sign::NoContraction => self.nocontractsign(),
+        }
+    }
+
+    /// The characters of a set, empty where the table lacks it.
+    pub(crate) fn set(&self, set: CharacterSet) -> &[char]
+        ensures { result.now ≡ set_characters self.now set }
+    {
+        match set {
+            CharacterSet::NumericMode => self.mode_chars(),
+            CharacterSet::NoContraction => self.nocontract_chars(),
         }
     }
 
@@ -211,5 +247,28 @@ impl Table {
         ensures { result.now ≡ self.now.begcapsword }
     {
         self.begcapsword.as_slice()
+    }
+
+    /// The sign before a character that follows a number and would read as part of it, empty where the table lacks it.
+    pub fn nocontractsign(&self) -> &[Cell]
+        ensures { result.now ≡ self.now.nocontractsign }
+    {
+        self.nocontractsign.as_slice()
+    }
+
+    /// The characters that stand within a number beside its digits, as they are written, none where the table lacks
+    /// them.
+    pub fn mode_chars(&self) -> &[char]
+        ensures { result.now ≡ self.now.mode_chars }
+    {
+        self.mode_chars.as_slice()
+    }
+
+    /// The characters that need the sign of no contraction where they follow a number, as they are written, none where
+    /// the table lacks them.
+    pub fn nocontract_chars(&self) -> &[char]
+        ensures { result.now ≡ self.now.nocontract_chars }
+    {
+        self.nocontract_chars.as_slice()
     }
 }

@@ -121,6 +121,13 @@ fn push_folded(found: &mut String, table: &Table, number: &str) -> Result<(), Al
     write!(found, "{number} {fold} {capital} {class:?}")
 }
 
+/// Adds the number of a character, its class, its cells, and the number of what it folds to.
+fn push_character(found: &mut String, table: &Table, number: &str) -> Result<(), AllocError> {
+    push_defined(found, table, number)?;
+    let fold = u32::from(table.fold(character_of(number)));
+    write!(found, " {fold:X}")
+}
+
 /// Adds a rule: its line, its kind, its characters and its cells.
 fn push_rule(found: &mut String, rule: &Rule) -> Result<(), AllocError> {
     write!(found, "{} {:?} ", rule.line, rule.kind)?;
@@ -144,11 +151,26 @@ fn push_sign(found: &mut String, cells: &[Cell]) -> Result<(), AllocError> {
     found.push(',')
 }
 
-/// Adds the signs of a table: that of numbers, that of one capital and that of a run of capitals.
+/// Adds the signs of a table: that of numbers, that of one capital, that of a run of capitals and that of no
+/// contraction.
 fn push_signs(found: &mut String, table: &Table) -> Result<(), AllocError> {
     push_sign(found, table.numsign())?;
     push_sign(found, table.capsletter())?;
-    push_sign(found, table.begcapsword())
+    push_sign(found, table.begcapsword())?;
+    push_sign(found, table.nocontractsign())
+}
+
+/// Adds a set of a table.
+fn push_set(found: &mut String, characters: &[char]) -> Result<(), AllocError> {
+    found.push('[')?;
+    found.extend(characters.iter().copied())?;
+    found.push(']')
+}
+
+/// Adds the sets of a table: the characters within numbers and those that need the sign of no contraction.
+fn push_sets(found: &mut String, table: &Table) -> Result<(), AllocError> {
+    push_set(found, table.mode_chars())?;
+    push_set(found, table.nocontract_chars())
 }
 
 /// How many of the first characters of Unicode a table defines.
@@ -170,6 +192,10 @@ enum Part {
     Rules,
     /// The signs.
     Signs,
+    /// The sets.
+    Sets,
+    /// The class and the cells of the character whose number begins the row, and what it folds to.
+    Character,
     /// How many of the first characters of Unicode it defines.
     Count,
 }
@@ -186,6 +212,8 @@ fn push_part_of(
         Part::Fold => push_folded(found, table, number_of(wanted)),
         Part::Rules => push_rules(found, table),
         Part::Signs => push_signs(found, table),
+        Part::Sets => push_sets(found, table),
+        Part::Character => push_character(found, table, number_of(wanted)),
         Part::Count => write!(found, "{}", count_defined(table)),
     }
 }
@@ -307,15 +335,22 @@ fn tells_bad_lines(rt: HostRuntime) -> Result<(), Fail> {
 1 1 | lette a 1
 1 1 | Letter a 1
 1 1 | noback always a 1
+1 1 | numericmodechar a
+1 1 | nocontractsigns 56
 1 2 | letter
 1 2 | letter a
 1 2 | letter ab
 1 2 | uplow Aa \t
 1 2 | always a
 1 2 | numsign
+1 2 | numericmodechars
+1 2 | numericnocontchars \t
+1 2 | nocontractsign
 1 3 | letter ab 1
 1 3 | uplow a 1
 1 3 | uplow Aaa 1
+1 3 | numericmodechars \\q
+1 3 | numericnocontchars a\\x12
 1 4 | always cat 14-19
 1 4 | letter a =
 1 4 | letter a 1,2
@@ -330,6 +365,8 @@ fn tells_bad_lines(rt: HostRuntime) -> Result<(), Fail> {
 1 4 | numsign =
 1 4 | capsletter 9
 1 4 | begcapsword 6-
+1 4 | nocontractsign =
+1 4 | nocontractsign 9
 2 5 | uplow Aa 1¶letter a 1
 2 5 | letter a 1¶uplow Aa 1
 2 5 | letter A 1¶uplow Aa 1
@@ -338,10 +375,18 @@ fn tells_bad_lines(rt: HostRuntime) -> Result<(), Fail> {
 2 6 | numsign 3456¶numsign 3456
 3 6 | numsign 1¶capsletter 1¶capsletter 1
 2 6 | begcapsword 1¶begcapsword 1
+2 6 | nocontractsign 56¶nocontractsign 56
+3 6 | letter a 1¶numericmodechars a¶numericmodechars a
+3 6 | letter a 1¶numericnocontchars a¶numericnocontchars a
 1 7 | always cat 14
 3 7 | uplow Aa 1,4¶letter b 12¶always AB =
 1 7 | word c 1¶always c 1¶midword a 1¶letter a 1
-2 7 | always b 1¶always ac =¶letter a 1¶letter b 1",
+2 7 | always b 1¶always ac =¶letter a 1¶letter b 1
+1 7 | numericnocontchars ab
+1 7 | numericmodechars ab¶letter a 1
+2 7 | letter a 1¶numericmodechars ab¶always c 1
+2 7 | letter a 1¶always c 1¶numericmodechars ab
+2 7 | letter a 1¶numericmodechars A¶numericnocontchars b",
     )
 }
 
@@ -360,6 +405,7 @@ fn tells_the_smallest_cause_of_a_line(rt: HostRuntime) -> Result<(), Fail> {
 1 2 | letter{ ×1000}
 1 3 | letter ab 9
 2 3 | letter a 1¶letter aa 1
+3 3 | letter a 1¶numericmodechars a¶numericmodechars \\q
 1 3 | always \\q 1
 1 3 | letter ab {1-×20}1
 1 3 | always {a×61}\\q 1
@@ -377,6 +423,8 @@ fn tells_the_smallest_cause_of_a_line(rt: HostRuntime) -> Result<(), Fail> {
 2 5 | letter a 1¶letter a 1{ ×1000}
 2 6 | numsign 1¶numsign {1-×20}1
 2 6 | numsign 1¶numsign 1{ ×1000}
+3 6 | letter a 1¶numericmodechars a¶numericmodechars {a×61}
+1 8 | numericmodechars {c×61}
 1 8 | always {c×61} 1
 1 8 | always c {1-×20}1
 1 8 | always c 1{ ×1000}",
@@ -403,6 +451,12 @@ accepted | letter a 1¶always {a×60} 1
 2 8 | letter a 1¶always {a×61} 1
 accepted | letter a 1¶always {\\x0061×60} =
 2 8 | letter a 1¶always {\\x0061×61} =
+accepted | letter a 1¶numericmodechars {a×60}
+2 8 | letter a 1¶numericmodechars {a×61}
+accepted | letter a 1¶numericnocontchars {\\x0061×60}
+2 8 | letter a 1¶numericnocontchars {\\x0061×61}
+accepted | nocontractsign {1-×19}1
+1 8 | nocontractsign {1-×20}1
 accepted | letter a 1{ ×990}
 1 8 | letter a 1{ ×991}
 accepted | #{x×999}
@@ -573,12 +627,24 @@ fn reads_rules(rt: HostRuntime) -> Result<(), Fail> {
 #[test]
 fn reads_signs(rt: HostRuntime) -> Result<(), Fail> {
     let rows = "\
-,,, | letter a 1
-⠼,,, | numsign 3456 # the sign of numbers
-,⠠,, | capsletter 6
-,,⠠⠠, | begcapsword 6-6
-⠼,⠠,⠠⠠, | begcapsword 6-6¶capsletter 6¶numsign 3456";
+,,,, | letter a 1
+⠼,,,, | numsign 3456 # the sign of numbers
+,⠠,,, | capsletter 6
+,,⠠⠠,, | begcapsword 6-6
+,,,⠰, | nocontractsign 56
+⠼,⠠,⠠⠠,⠰, | nocontractsign 56¶begcapsword 6-6¶capsletter 6¶numsign 3456";
     ask(&rt, rt.alloc(), Asked::Table(Part::Signs), rows)
+}
+
+#[test]
+fn reads_sets(rt: HostRuntime) -> Result<(), Fail> {
+    let rows = "\
+[][] | letter a 1
+[ab][] | letter a 1¶letter b 12¶numericmodechars ab and more
+[][ba] | numericnocontchars ba¶letter a 1¶letter b 12
+[Aa][aA] | numericmodechars Aa¶uplow Aa 1,4¶numericnocontchars aA
+[aba][.] | letter a 1¶numericmodechars ab\\x0061¶letter b 12¶numericnocontchars .¶punctuation . 256";
+    ask(&rt, rt.alloc(), Asked::Table(Part::Sets), rows)
 }
 
 #[test]
@@ -595,24 +661,109 @@ C9 é true Some(Letter) | uplow Éé 1¶uplow Aa 1,4
 
 #[test]
 fn supplies_uncontracted_english(rt: HostRuntime) -> Result<(), Fail> {
-    ask(&rt, rt.alloc(), Asked::Lines, "58")?;
+    ask(&rt, rt.alloc(), Asked::Lines, "61")?;
     ask(&rt, rt.alloc(), Asked::Table(Part::Count), "80")?;
     ask(&rt, rt.alloc(), Asked::Table(Part::Rules), "")?;
-    ask(&rt, rt.alloc(), Asked::Table(Part::Signs), "⠼,⠠,⠠⠠,")
+    ask(&rt, rt.alloc(), Asked::Table(Part::Signs), "⠼,⠠,⠠⠠,⠰,")?;
+    ask(
+        &rt,
+        rt.alloc(),
+        Asked::Table(Part::Sets),
+        "[.,][abcdefghij]",
+    )
 }
+
+/// Each character that uncontracted English defines: its number, its class, its cells, and the number of what it folds
+/// to.
+const ENGLISH: &str = "\
+20 Space ⠀ 20
+21 Punctuation ⠖ 21
+22 Punctuation ⠠⠶ 22
+27 Punctuation ⠄ 27
+28 Punctuation ⠐⠣ 28
+29 Punctuation ⠐⠜ 29
+2C Punctuation ⠂ 2C
+2D Punctuation ⠤ 2D
+2E Punctuation ⠲ 2E
+2F Punctuation ⠸⠌ 2F
+30 Digit ⠚ 30
+31 Digit ⠁ 31
+32 Digit ⠃ 32
+33 Digit ⠉ 33
+34 Digit ⠙ 34
+35 Digit ⠑ 35
+36 Digit ⠋ 36
+37 Digit ⠛ 37
+38 Digit ⠓ 38
+39 Digit ⠊ 39
+3A Punctuation ⠒ 3A
+3B Punctuation ⠆ 3B
+3F Punctuation ⠦ 3F
+41 Letter ⠁ 61
+42 Letter ⠃ 62
+43 Letter ⠉ 63
+44 Letter ⠙ 64
+45 Letter ⠑ 65
+46 Letter ⠋ 66
+47 Letter ⠛ 67
+48 Letter ⠓ 68
+49 Letter ⠊ 69
+4A Letter ⠚ 6A
+4B Letter ⠅ 6B
+4C Letter ⠇ 6C
+4D Letter ⠍ 6D
+4E Letter ⠝ 6E
+4F Letter ⠕ 6F
+50 Letter ⠏ 70
+51 Letter ⠟ 71
+52 Letter ⠗ 72
+53 Letter ⠎ 73
+54 Letter ⠞ 74
+55 Letter ⠥ 75
+56 Letter ⠧ 76
+57 Letter ⠺ 77
+58 Letter ⠭ 78
+59 Letter ⠽ 79
+5A Letter ⠵ 7A
+61 Letter ⠁ 61
+62 Letter ⠃ 62
+63 Letter ⠉ 63
+64 Letter ⠙ 64
+65 Letter ⠑ 65
+66 Letter ⠋ 66
+67 Letter ⠛ 67
+68 Letter ⠓ 68
+69 Letter ⠊ 69
+6A Letter ⠚ 6A
+6B Letter ⠅ 6B
+6C Letter ⠇ 6C
+6D Letter ⠍ 6D
+6E Letter ⠝ 6E
+6F Letter ⠕ 6F
+70 Letter ⠏ 70
+71 Letter ⠟ 71
+72 Letter ⠗ 72
+73 Letter ⠎ 73
+74 Letter ⠞ 74
+75 Letter ⠥ 75
+76 Letter ⠧ 76
+77 Letter ⠺ 77
+78 Letter ⠭ 78
+79 Letter ⠽ 79
+7A Letter ⠵ 7A
+2013 Punctuation ⠠⠤ 2013
+2014 Punctuation ⠠⠤ 2014
+2019 Punctuation ⠄ 2019
+201C Punctuation ⠦ 201C
+201D Punctuation ⠴ 201D";
 
 #[test]
 fn defines_characters_of_english(rt: HostRuntime) -> Result<(), Fail> {
-    let rows = "\
-20 Space ⠀
-41 Letter ⠁
-7A Letter ⠵
-30 Digit ⠚
-35 Digit ⠑
-2F Punctuation ⠸⠌
-22 Punctuation ⠠⠶
-2019 Punctuation ⠄
-2014 Punctuation ⠠⠤
-E9 undefined";
-    ask(&rt, rt.alloc(), Asked::Table(Part::Definition), rows)
+    ask(&rt, rt.alloc(), Asked::Table(Part::Character), ENGLISH)?;
+    ask(
+        &rt,
+        rt.alloc(),
+        Asked::Table(Part::Definition),
+        "E9 undefined",
+    )
 }

@@ -1,6 +1,6 @@
-//! Rules as they are written, until all definitions of their table are known.
+//! Rules and sets as they are written, until all definitions of their table are known.
 ghost use Rattle.louis_table.specs.Meaning.{folded};
-ghost use Rattle.louis_table.specs.Reading.{FinishesAll, FinishesRule, are_defined, cells_of_all};
+ghost use Rattle.louis_table.specs.Reading.{ChecksSet, Finishes, FinishesAll, FinishesRule, are_defined, cells_of_all};
 ghost use Rattle.std.specs.Prelude.{◌≡◌, IfOk, map};
 
 use super::fault::{Cause, ReadFault, TableFault};
@@ -20,6 +20,22 @@ pub(crate) struct WrittenRule {
     pub(crate) characters: Characters,
     /// Its cells, none where they are those of the definitions of its folded characters.
     pub(crate) cells: Option<Cells>,
+}
+
+/// A set whose characters may not be defined.
+#[derive(Drop)]
+pub(crate) struct WrittenSet {
+    /// The number of its line, from 1.
+    pub(crate) line: usize,
+    /// Its characters.
+    pub(crate) characters: Characters,
+}
+
+/// What a line gives that only all definitions can judge.
+#[derive(Drop)]
+pub(crate) enum Written {
+    Rule(WrittenRule),
+    Set(WrittenSet),
 }
 
 /// Puts the lower character in place of each capital.
@@ -87,20 +103,52 @@ fn finish_rule(alloc: Global, table: &Table, written: WrittenRule) -> Result<Rul
     })
 }
 
-/// The rules of a table, in the order of their lines.
-pub(crate) fn finish_rules(
+/// Whether the table defines each character of the set.
+fn check_set(table: &Table, set: WrittenSet) -> Result<(), ReadFault>
+    ensures { ChecksSet result table.now set }
+{
+    if are_defined(table, set.characters.as_slice()) {
+        return Ok(());
+    }
+    let cause = Cause::UndefinedCharacter.number();
+    Err(ReadFault::Table(TableFault {
+        line: set.line,
+        cause,
+    }))
+}
+
+/// Finishes what is written, and puts its rule behind the others.
+fn finish(
     alloc: Global,
     table: &Table,
-    written: Vec<WrittenRule>,
+    written: Written,
+    rules: &mut Vec<Rule>,
+) -> Result<(), ReadFault>
+    ensures { Finishes result table.now written rules.old.items rules.new.items }
+{
+    match written {
+        Written::Rule(rule) => {
+            let rule = finish_rule(alloc, table, rule)?;
+            match rules.push(rule) {
+                Ok(()) => Ok(()),
+                Err(_) => Err(ReadFault::NoMemory),
+            }
+        }
+        Written::Set(set) => check_set(table, set),
+    }
+}
+
+/// The rules of a table, in the order of their lines, if the table defines all characters of its rules and sets.
+pub(crate) fn finish_all(
+    alloc: Global,
+    table: &Table,
+    written: Vec<Written>,
 ) -> Result<Vec<Rule>, ReadFault>
     ensures { FinishesAll result table.now written.items }
 {
     let mut rules = Vec::new(alloc);
-    for rule in written {
-        let rule = finish_rule(alloc, table, rule)?;
-        if rules.push(rule).is_err() {
-            return Err(ReadFault::NoMemory);
-        }
+    for one in written {
+        finish(alloc, table, one, &mut rules)?;
     }
     Ok(rules)
 }

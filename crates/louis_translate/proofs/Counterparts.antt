@@ -1,170 +1,141 @@
 -- One place of a print, or one cell, sought along a tiling.
-use Rattle.std.proofs.Common.{◌≡◌, ℕ, ◌+◌, ◌-◌, ◌<◌, ◌≤◌, ◌^◌, List, [], ◌∷◌, length, refl, sym, ap, subst, ◌∙◌, arith}
-use Rattle.std.proofs.lemmas.Bool.Decides.{nat_tests}
-use Rattle.std.proofs.lemmas.List.{length-append}
+use Rattle.std.proofs.Common.{◌≡◌, ℕ, ◌+◌, ◌-◌, ◌<◌, ◌≤◌, ◌^◌, List, [], ◌∷◌, ◌++◌, length, refl, sym, ap, subst, ◌∙◌, append_assoc, arith}
+use Rattle.std.proofs.lemmas.List.{append-nil, length-append}
+use Rattle.std.proofs.lemmas.List.Concat.{flat_map-append}
 use Rattle.louis_table.specs.Meaning.{Meaning}
 use Rattle.louis_translate.specs.declared.choices.Choice.{Choice}
 use Rattle.louis_translate.specs.declared.pieces.Piece.{Piece}
 use Rattle.louis_translate.specs.Piece.{IsPieceAt}
-use Rattle.louis_translate.specs.Sign.{sign_at}
 use Rattle.louis_translate.specs.Tiling.{Covers, Tiles}
-use Rattle.louis_translate.specs.Braille.{cells_of, chosen_cells, braille, output_place, print_place}
+use Rattle.louis_translate.specs.Braille.{cells_of, braille, IsAmong, IsOutputPlace, MakesCell}
+use Rattle.louis_translate.proofs.PieceLists.{count-piece}
+use Rattle.louis_translate.proofs.PlaceLists.{flat_map-push}
 use Rattle.louis_translate.proofs.Tilings.{Covers-next, one_cover, one_tiling}
 
--- how many cells a piece has
-pub count-cells_of : (meaning : Meaning) (print : List ℕ) (i : ℕ) (piece : Piece) → IsPieceAt meaning print i piece
-    → length (cells_of meaning print piece.choice) ≡ length piece.sign.now + length piece.own.now
-count-cells_of meaning print i piece at =
-    length-append (sign_at meaning print piece.choice.start) (chosen_cells meaning print piece.choice.start piece.choice.rule)
-    ∙ (ap (λ (k : ℕ). length (sign_at meaning print k) + length (chosen_cells meaning print k piece.choice.rule)) at.choice.start
-    ∙ ap (λ (n : ℕ). n + length (chosen_cells meaning print i piece.choice.rule)) (ap length (sym at.sign))
-    ∙ ap (λ (n : ℕ). length piece.sign.now + n) (ap length (sym at.own)))
-
--- what an iterator over this print by this meaning gives
-pub given_at : (m meaning : Meaning) (p print : List ℕ) (i : ℕ) (piece : Piece) → m ≡ meaning → p ≡ print → i < length p → IsPieceAt m p i piece
-    → (i < length print) × IsPieceAt meaning print i piece
-given_at m meaning p print i piece e f lt at =
-    subst (λ (x : Meaning). (i < length print) × IsPieceAt x print i piece) e
-    (subst (λ (q : List ℕ). (i < length q) × IsPieceAt m q i piece) f (lt, at))
-
 module _ (meaning : Meaning) (print : List ℕ) where
-  -- ---- the test of one choice
+  -- a tiling, from place i on of which these choices are left
+  pub record Left (i : ℕ) : Type 0 where
+    pub before : List Choice
+    pub rest : List Choice
+    pub tiles : Tiles meaning print (before ++ rest)
+    pub covers : Covers meaning print i rest (length print)
 
-  output_place-here : (c : Choice) (t : List Choice) (place : ℕ) → place < c.end → output_place meaning print (c ∷ t) place ≡ 0
-  output_place-here c t place lt = grind (arith, nat_tests)
+  abbrev Left-start : Left 0
+  Left-start =
+      let tiling = one_tiling meaning print in
+      record { before = []; rest = tiling.0; tiles = tiling.1; covers = tiling.1 }
 
-  output_place-behind : (c : Choice) (t : List Choice) (place : ℕ) → c.end ≤ place
-      → output_place meaning print (c ∷ t) place ≡ length (cells_of meaning print c) + output_place meaning print t place
-  output_place-behind c t place le = grind (arith, nat_tests)
+  -- the next piece's choice is the first of those left
+  module _ (i : ℕ) (piece : Piece) (left : Left i) (lt : i < length print) (at : IsPieceAt meaning print i piece) where
+    abbrev next : (u : List Choice) × (left.rest ≡ piece.choice ∷ u) × Covers meaning print piece.choice.end u (length print)
+    next = Covers-next meaning print i left.rest piece.choice left.covers lt at.choice
 
-  print_place-here : (c : Choice) (t : List Choice) (cell : ℕ) → cell < length (cells_of meaning print c) → print_place meaning print (c ∷ t) cell ≡ c.start
-  print_place-here c t cell lt = grind (arith, nat_tests)
+    abbrev among : IsAmong (left.before ++ left.rest) left.before piece.choice
+    among = record { after = next.0; parts = ap (λ (t : List Choice). left.before ++ t) next.1 }
 
-  print_place-behind : (c : Choice) (t : List Choice) (cell : ℕ) → length (cells_of meaning print c) ≤ cell
-      → print_place meaning print (c ∷ t) cell ≡ print_place meaning print t (cell - length (cells_of meaning print c))
-  print_place-behind c t cell le = grind (arith, nat_tests)
+    abbrev Left-step : Left piece.choice.end
+    Left-step = record {
+      before = left.before ++ piece.choice ∷ [];
+      rest = next.0;
+      tiles = subst (λ (t : List Choice). Tiles meaning print t)
+          (among.parts ∙ sym (append_assoc left.before (piece.choice ∷ []) next.0)) left.tiles;
+      covers = next.2;
+    }
+
+    -- how many cells come before the next one's
+    count-before : length (braille meaning print (left.before ++ piece.choice ∷ []))
+        ≡ length (braille meaning print left.before) + (length piece.sign.now + length piece.own.now)
+    count-before =
+        ap length (flat_map-push (cells_of meaning print) left.before piece.choice)
+        ∙ (length-append (braille meaning print left.before) (cells_of meaning print piece.choice)
+        ∙ ap (λ (n : ℕ). length (braille meaning print left.before) + n) (count-piece meaning print i piece at))
+
+    -- and how many there are at least
+    count-all : length (braille meaning print left.before) + (length piece.sign.now + length piece.own.now)
+        ≤ length (braille meaning print (left.before ++ left.rest))
+    count-all =
+        let all : length (braille meaning print (left.before ++ left.rest))
+        ≡ length (braille meaning print (left.before ++ piece.choice ∷ [])) + length (braille meaning print next.0) =
+        ap (λ (t : List Choice). length (braille meaning print t)) (among.parts ∙ sym (append_assoc left.before (piece.choice ∷ []) next.0))
+        ∙ (ap length (flat_map-append (cells_of meaning print) (left.before ++ piece.choice ∷ []) next.0)
+        ∙ length-append (braille meaning print (left.before ++ piece.choice ∷ [])) (braille meaning print next.0)) in
+        let first = count-before in
+        omega arith
 
   -- ---- the cells before a place
 
-  -- from place i on, where so many cells come before, the choices of a tiling are left
-  pub record OutputLeft (place i before : ℕ) : Type 0 where
-    pub choices : List Choice
-    pub rest : List Choice
-    pub tiles : Tiles meaning print choices
-    pub covers : Covers meaning print i rest (length print)
-    pub here : before + output_place meaning print rest place ≡ output_place meaning print choices place
-    pub count : before + length (braille meaning print rest) ≡ length (braille meaning print choices)
-    pub countable : length (braille meaning print choices) < 2 ^ 64
+  -- so many cells come before the choices that are left
+  pub record OutputLeft (i before : ℕ) : Type 0 where
+    pub left : Left i
+    pub count : before ≡ length (braille meaning print left.before)
 
-  pub OutputLeft-start : (place : ℕ) → ((choices : List Choice) × Tiles meaning print choices × (length (braille meaning print choices) < 2 ^ 64)) → OutputLeft place 0 0
-  OutputLeft-start place (choices, tiles, fits) = record {
-    choices = choices;
-    rest = choices;
-    tiles = tiles;
-    covers = tiles;
-    here = omega arith;
-    count = omega arith;
-    countable = fits;
-  }
+  pub OutputLeft-start : OutputLeft 0 0
+  OutputLeft-start = record { left = Left-start; count = refl }
 
   -- the cells of the next piece can be counted with those before
-  pub OutputLeft-fits : (place i before : ℕ) (piece : Piece) → OutputLeft place i before → i < length print → IsPieceAt meaning print i piece
+  pub OutputLeft-fits : (i before : ℕ) (piece : Piece) → OutputLeft i before → i < length print → IsPieceAt meaning print i piece
+      → ((choices : List Choice) × Tiles meaning print choices × (length (braille meaning print choices) < 2 ^ 64))
       → before + (length piece.sign.now + length piece.own.now) < 2 ^ 64
-  OutputLeft-fits place i before piece left lt at =
-      let next = Covers-next meaning print i left.rest piece.choice left.covers lt at.choice in
-      let many : length (braille meaning print left.rest) ≡ length (cells_of meaning print piece.choice) + length (braille meaning print next.0) =
-      ap (λ (t : List Choice). length (braille meaning print t)) next.1 ∙ length-append (cells_of meaning print piece.choice) (braille meaning print next.0) in
-      let count = count-cells_of meaning print i piece at in
-      omega (arith, left.count, left.countable)
+  OutputLeft-fits i before piece o lt at (choices, tiles, fits) =
+      let all = count-all i piece o.left lt at in
+      let same = ap (λ (t : List Choice). length (braille meaning print t)) (one_cover meaning print 0 (o.left.before ++ o.left.rest) choices o.left.tiles tiles) in
+      omega (arith, o.count)
 
-  pub OutputLeft-step : (place i before : ℕ) (piece : Piece) → OutputLeft place i before → i < length print → IsPieceAt meaning print i piece → piece.choice.end ≤ place
-      → OutputLeft place piece.choice.end (before + (length piece.sign.now + length piece.own.now))
-  OutputLeft-step place i before piece left lt at past =
-      let c = piece.choice in
-      let next = Covers-next meaning print i left.rest c left.covers lt at.choice in
-      let count = count-cells_of meaning print i piece at in
-      let many : length (braille meaning print left.rest) ≡ length (cells_of meaning print c) + length (braille meaning print next.0) =
-      ap (λ (t : List Choice). length (braille meaning print t)) next.1 ∙ length-append (cells_of meaning print c) (braille meaning print next.0) in
-      let behind : output_place meaning print left.rest place ≡ length (cells_of meaning print c) + output_place meaning print next.0 place =
-      ap (λ (t : List Choice). output_place meaning print t place) next.1 ∙ output_place-behind c next.0 place past in
-      record {
-        choices = left.choices;
-        rest = next.0;
-        tiles = left.tiles;
-        covers = next.2;
-        here = omega (arith, left.here);
-        count = omega (arith, left.count);
-        countable = left.countable;
-      }
+  pub OutputLeft-step : (i before : ℕ) (piece : Piece) → OutputLeft i before → i < length print → IsPieceAt meaning print i piece
+      → OutputLeft piece.choice.end (before + (length piece.sign.now + length piece.own.now))
+  OutputLeft-step i before piece o lt at =
+      let count = count-before i piece o.left lt at in
+      record { left = Left-step i piece o.left lt at; count = omega (arith, o.count) }
 
-  pub OutputLeft-found : (place i before : ℕ) (piece : Piece) → OutputLeft place i before → i < length print → IsPieceAt meaning print i piece → place < piece.choice.end
-      → (choices : List Choice) → Tiles meaning print choices → before ≡ output_place meaning print choices place
-  OutputLeft-found place i before piece left lt at covered choices tiles =
-      let next = Covers-next meaning print i left.rest piece.choice left.covers lt at.choice in
-      let here : output_place meaning print left.rest place ≡ 0 =
-      ap (λ (t : List Choice). output_place meaning print t place) next.1 ∙ output_place-here piece.choice next.0 place covered in
-      let is : before ≡ output_place meaning print left.choices place = omega (arith, left.here) in
-      is ∙ ap (λ (t : List Choice). output_place meaning print t place) (one_cover meaning print 0 left.choices choices left.tiles tiles)
+  pub OutputLeft-found : (place i before : ℕ) (piece : Piece) → OutputLeft i before → i < length print → IsPieceAt meaning print i piece
+      → i ≤ place → place < piece.choice.end
+      → (choices : List Choice) → Tiles meaning print choices → IsOutputPlace meaning print choices place before
+  OutputLeft-found place i before piece o lt at from to choices tiles =
+      let start = at.choice.start in
+      subst (λ (t : List Choice). IsOutputPlace meaning print t place before) (one_cover meaning print 0 (o.left.before ++ o.left.rest) choices o.left.tiles tiles)
+      (record {
+        before = o.left.before;
+        choice = piece.choice;
+        among = among i piece o.left lt at;
+        holds = (omega arith, to);
+        place_is = o.count;
+      })
 
   -- ---- the choice of a cell
 
-  -- from place i on, where so many cells are left of those before and at a cell, the choices of a tiling are left
-  pub record PrintLeft (cell i left : ℕ) : Type 0 where
-    pub choices : List Choice
-    pub rest : List Choice
-    pub tiles : Tiles meaning print choices
-    pub covers : Covers meaning print i rest (length print)
-    pub here : print_place meaning print rest left ≡ print_place meaning print choices cell
-    pub count : left + length (braille meaning print choices) ≡ cell + length (braille meaning print rest)
+  -- so many cells are left up to a cell
+  pub record PrintLeft (cell i n : ℕ) : Type 0 where
+    pub left : Left i
+    pub count : cell ≡ length (braille meaning print left.before) + n
 
   pub PrintLeft-start : (cell : ℕ) → PrintLeft cell 0 cell
-  PrintLeft-start cell =
-      let tiling = one_tiling meaning print in
-      record { choices = tiling.0; rest = tiling.0; tiles = tiling.1; covers = tiling.1; here = refl; count = refl }
+  PrintLeft-start cell = record { left = Left-start; count = omega arith }
 
-  pub PrintLeft-step : (cell i left : ℕ) (piece : Piece) → PrintLeft cell i left → i < length print → IsPieceAt meaning print i piece
-      → length piece.sign.now + length piece.own.now ≤ left
-      → PrintLeft cell piece.choice.end (left - length piece.sign.now - length piece.own.now)
-  PrintLeft-step cell i n piece left lt at past =
-      let c = piece.choice in
-      let next = Covers-next meaning print i left.rest c left.covers lt at.choice in
-      let count = count-cells_of meaning print i piece at in
-      let many : length (braille meaning print left.rest) ≡ length (cells_of meaning print c) + length (braille meaning print next.0) =
-      ap (λ (t : List Choice). length (braille meaning print t)) next.1 ∙ length-append (cells_of meaning print c) (braille meaning print next.0) in
-      let same : n - length piece.sign.now - length piece.own.now ≡ n - length (cells_of meaning print c) = omega arith in
-      record {
-        choices = left.choices;
-        rest = next.0;
-        tiles = left.tiles;
-        covers = next.2;
-        here =
-            ap (print_place meaning print next.0) same
-            ∙ (sym (print_place-behind c next.0 n (omega arith))
-            ∙ (ap (λ (t : List Choice). print_place meaning print t n) (sym next.1) ∙ left.here));
-        count = omega (arith, left.count);
-      }
+  pub PrintLeft-step : (cell i n : ℕ) (piece : Piece) → PrintLeft cell i n → i < length print → IsPieceAt meaning print i piece
+      → length piece.sign.now + length piece.own.now ≤ n
+      → PrintLeft cell piece.choice.end (n - length piece.sign.now - length piece.own.now)
+  PrintLeft-step cell i n piece p lt at past =
+      let count = count-before i piece p.left lt at in
+      record { left = Left-step i piece p.left lt at; count = omega (arith, p.count) }
 
-  pub PrintLeft-found : (cell i left : ℕ) (piece : Piece) → PrintLeft cell i left → i < length print → IsPieceAt meaning print i piece
-      → left < length piece.sign.now + length piece.own.now
-      → (choices : List Choice) → Tiles meaning print choices
-      → (cell < length (braille meaning print choices)) × (piece.choice.start ≡ print_place meaning print choices cell)
-  PrintLeft-found cell i n piece left lt at within choices tiles =
-      let c = piece.choice in
-      let next = Covers-next meaning print i left.rest c left.covers lt at.choice in
-      let count = count-cells_of meaning print i piece at in
-      let many : length (braille meaning print left.rest) ≡ length (cells_of meaning print c) + length (braille meaning print next.0) =
-      ap (λ (t : List Choice). length (braille meaning print t)) next.1 ∙ length-append (cells_of meaning print c) (braille meaning print next.0) in
-      let one = one_cover meaning print 0 left.choices choices left.tiles tiles in
-      let is : c.start ≡ print_place meaning print left.choices cell =
-      sym (print_place-here c next.0 n (omega arith)) ∙ (ap (λ (t : List Choice). print_place meaning print t n) (sym next.1) ∙ left.here) in
-      let within : cell < length (braille meaning print left.choices) = omega (arith, left.count) in
-      (subst (λ (t : List Choice). cell < length (braille meaning print t)) one within, is ∙ ap (λ (t : List Choice). print_place meaning print t cell) one)
+  pub PrintLeft-found : (cell i n : ℕ) (piece : Piece) → PrintLeft cell i n → i < length print → IsPieceAt meaning print i piece
+      → n < length piece.sign.now + length piece.own.now
+      → (choices : List Choice) → Tiles meaning print choices → MakesCell meaning print choices piece.choice cell
+  PrintLeft-found cell i n piece p lt at within choices tiles =
+      let own = count-piece meaning print i piece at in
+      subst (λ (t : List Choice). MakesCell meaning print t piece.choice cell) (one_cover meaning print 0 (p.left.before ++ p.left.rest) choices p.left.tiles tiles)
+      (record {
+        before = p.left.before;
+        among = among i piece p.left lt at;
+        from = omega (arith, p.count);
+        to = omega (arith, p.count);
+      })
 
-  -- behind the last choice there is no cell left
-  pub PrintLeft-past : (cell i left : ℕ) → PrintLeft cell i left → i ≡ length print → (choices : List Choice) → Tiles meaning print choices
+  -- after the last choice there is no cell left
+  pub PrintLeft-past : (cell i n : ℕ) → PrintLeft cell i n → i ≡ length print → (choices : List Choice) → Tiles meaning print choices
       → length (braille meaning print choices) ≤ cell
-  PrintLeft-past cell i n left end choices tiles =
-      let none : left.rest ≡ [] = one_cover meaning print i left.rest [] left.covers end in
-      let many : length (braille meaning print left.rest) ≡ 0 = ap (λ (t : List Choice). length (braille meaning print t)) none in
-      let within : length (braille meaning print left.choices) ≤ cell = omega (arith, left.count) in
-      subst (λ (t : List Choice). length (braille meaning print t) ≤ cell) (one_cover meaning print 0 left.choices choices left.tiles tiles) within
+  PrintLeft-past cell i n p end choices tiles =
+      let none : p.left.rest ≡ [] = one_cover meaning print i p.left.rest [] p.left.covers end in
+      let all : p.left.before ++ p.left.rest ≡ p.left.before = ap (λ (t : List Choice). p.left.before ++ t) none ∙ append-nil p.left.before in
+      let count = ap (λ (t : List Choice). length (braille meaning print t)) (sym all ∙ one_cover meaning print 0 (p.left.before ++ p.left.rest) choices p.left.tiles tiles) in
+      omega (arith, p.count)

@@ -1,5 +1,13 @@
 pub mod Runs
+pub mod Numbers
+pub mod PieceLists
+pub mod Alike
+pub mod CellCounts
+pub mod ItemLists
 pub mod Best
+pub mod Trees
+pub mod Searches
+pub mod Starts
 pub mod Spans
 pub mod Characters
 pub mod Tilings

@@ -1,25 +1,12 @@
 -- The run around a capital is the longest interval of capitals there.
-use Rattle.std.proofs.Common.{◌≡◌, ℕ, zero, suc, ◌-◌, ◌<◌, ◌≤◌, Bool, true, false, List, [], ◌∷◌, length, take, get_or, refl, sym, ap, ◌∙◌, arith, inl, inr}
-use Rattle.std.specs.Prelude.{slice_get}
+use Rattle.std.proofs.Common.{◌≡◌, ℕ, zero, suc, ◌-◌, ◌<◌, ◌≤◌, true, false, List, length, take, get_or, sym, ap, ◌∙◌, arith, inl, inr}
 use Rattle.std.specs.List.{suffix_len}
-use Rattle.std.specs.Option.{option_map_or}
 use Rattle.std.proofs.lemmas.Bool.{cases_Bool, cases_order}
 use Rattle.std.proofs.lemmas.Bool.Decides.{nat_tests}
 use Rattle.std.proofs.lemmas.List.Sums.{suffix_len-take_no, suffix_len-take_yes}
 use Rattle.louis_table.specs.Meaning.{Meaning}
 use Rattle.louis_translate.specs.Sign.{is_capital, is_capital_at, run_end, run_start, AreCapitals, IsRun}
-use Rattle.louis_translate.proofs.Runs.{is_capital_at-run, run_end-inside, run_end-end}
-
--- a test at a place of a list
-passes-below : {X : Type 0} (p : X → Bool) (xs : List X) (i : ℕ) → option_map_or p (slice_get xs i) false ≡ true → i < length xs
-passes-below p [] i h = cc
-passes-below p (x ∷ xs) zero h = omega arith
-passes-below p (x ∷ xs) (suc i) h = let rest = passes-below p xs i h in omega arith
-
-passes-get_or : {X : Type 0} (p : X → Bool) (xs : List X) (i : ℕ) (d : X) → i < length xs → option_map_or p (slice_get xs i) false ≡ p (get_or xs i d)
-passes-get_or p [] i d h = absurd (omega arith)
-passes-get_or p (x ∷ xs) zero d h = refl
-passes-get_or p (x ∷ xs) (suc i) d h = passes-get_or p xs i d (omega arith)
+use Rattle.louis_translate.proofs.Runs.{is_capital_at-run, passes-below, passes-get_or, run_end-inside, run_end-end}
 
 module _ (meaning : Meaning) (print : List ℕ) where
   -- the run before a place grows with a capital, and begins anew behind any other character

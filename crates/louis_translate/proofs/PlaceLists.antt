@@ -1,16 +1,22 @@
--- The cells and places of one more choice, and the lists of places as functions of a place.
-use Rattle.std.proofs.Common.{◌≡◌, ℕ, zero, suc, ◌+◌, ◌-◌, ◌<◌, ◌≤◌, List, [], ◌∷◌, ◌++◌, length, replicate, refl, sym, ap, ◌∙◌, append_assoc, add_assoc, zero-add, arith, cond}
-use Rattle.std.specs.Prelude.{map, nat_lt}
-use Rattle.std.specs.List.{flat_map, range_with_len}
-use Rattle.std.proofs.lemmas.List.{append-nil, length-append, map-append}
+-- The cells and places of one more choice, and what the lists of places have at a place.
+use Rattle.std.proofs.Common.{◌≡◌, ℕ, ◌+◌, ◌-◌, ◌<◌, ◌≤◌, ◌⊎◌, List, [], ◌∷◌, ◌++◌, length, replicate, get_or, refl, sym, ap, subst, ◌∙◌, append_assoc, add_assoc, zero-add, arith, inl, inr}
+use Rattle.std.specs.List.{flat_map}
+use Rattle.std.proofs.Math.ListN.{get_or-append}
+use Rattle.std.proofs.lemmas.Bool.{cases_order}
+use Rattle.std.proofs.lemmas.List.{append-nil, length-append, length-replicate, get_or-append_right, get_or-replicate}
 use Rattle.std.proofs.lemmas.List.Concat.{flat_map-append}
-use Rattle.std.proofs.lemmas.Bool.Decides.{nat_tests}
 use Rattle.louis_table.specs.Meaning.{Meaning}
 use Rattle.louis_translate.specs.declared.choices.Choice.{Choice}
 use Rattle.louis_translate.specs.Tiling.{Covers, Tiles}
 use Rattle.louis_translate.specs.Position.{AreDefined}
-use Rattle.louis_translate.specs.Braille.{cells_of, braille, output_place, print_place, IsTranslation}
+use Rattle.louis_translate.specs.Braille.{cells_of, braille, IsAmong, Holds, IsPrintPlace, IsTranslation}
 use Rattle.louis_translate.specs.Reading.{outputs_from, inputs_of}
+
+cases_below : (a b : ℕ) → (a < b) ⊎ (b ≤ a)
+cases_below a b = elim (cases_order a b) [
+  | inl e ↦ inr (omega arith)
+  | inr ne ↦ elim ne [ inl lt ↦ inl lt | inr gt ↦ inr (omega arith) ]
+]
 
 -- ---- one more choice
 
@@ -26,85 +32,96 @@ outputs_from-push meaning print n (x ∷ t) c =
     (add_assoc n (length (cells_of meaning print x)) (length (braille meaning print t)) ∙ ap (λ (m : ℕ). n + m) (sym (length-append (cells_of meaning print x) (braille meaning print t)))))
     ∙ sym (append_assoc (replicate (x.end - x.start) n) (outputs_from meaning print (n + length (cells_of meaning print x)) t) (replicate (c.end - c.start) (n + length (braille meaning print (x ∷ t)))))
 
--- ---- numbers from a on
-
-range_with_len-append : (a m n : ℕ) → range_with_len a (m + n) ≡ range_with_len a m ++ range_with_len (a + m) n
-range_with_len-append a zero n = ap (λ (k : ℕ). range_with_len a k) (let e : 0 + n ≡ n = omega arith in e) ∙ ap (λ (k : ℕ). range_with_len k n) (let e : a ≡ a + 0 = omega arith in e)
-range_with_len-append a (suc m) n =
-    ap (λ (k : ℕ). range_with_len a k) (let e : suc m + n ≡ suc (m + n) = omega arith in e)
-    ∙ ap (λ (xs : List ℕ). a ∷ xs)
-    (range_with_len-append (a + 1) m n
-    ∙ ap (λ (k : ℕ). range_with_len (a + 1) m ++ range_with_len k n) (let e : a + 1 + m ≡ a + suc m = omega arith in e))
-
-map-range_with_len-same : (f g : ℕ → ℕ) (a n : ℕ) → ((k : ℕ) → a ≤ k → k < a + n → f k ≡ g k) → map f (range_with_len a n) ≡ map g (range_with_len a n)
-map-range_with_len-same f g a zero h = refl
-map-range_with_len-same f g a (suc n) h =
-    ap (λ (x : ℕ). x ∷ map f (range_with_len (a + 1) n)) (h a (omega arith) (omega arith))
-    ∙ ap (λ (xs : List ℕ). g a ∷ xs) (map-range_with_len-same f g (a + 1) n (λ k more less. h k (omega arith) (omega arith)))
-
-map-range_with_len-constant : (x a n : ℕ) → map (λ k. x) (range_with_len a n) ≡ replicate n x
-map-range_with_len-constant x a zero = refl
-map-range_with_len-constant x a (suc n) = ap (λ (xs : List ℕ). x ∷ xs) (map-range_with_len-constant x (a + 1) n)
-
-map-range_with_len-shift : (f : ℕ → ℕ) (a s n : ℕ) → map (λ k. f (k - s)) (range_with_len (a + s) n) ≡ map f (range_with_len a n)
-map-range_with_len-shift f a s zero = refl
-map-range_with_len-shift f a s (suc n) =
-    ap (λ (x : ℕ). f x ∷ map (λ k. f (k - s)) (range_with_len (a + s + 1) n)) (let e : a + s - s ≡ a = omega arith in e)
-    ∙ ap (λ (xs : List ℕ). f a ∷ xs)
-    (ap (λ (x : ℕ). map (λ k. f (k - s)) (range_with_len x n)) (let e : a + s + 1 ≡ a + 1 + s = omega arith in e) ∙ map-range_with_len-shift f (a + 1) s n)
-
--- ---- the places as functions
-
-below_end : (b e : ℕ) (x y : ℕ) → b < e → cond (nat_lt b e) x y ≡ x
-below_end b e x y h = grind (arith, nat_tests)
-
-from_end : (b e : ℕ) (x y : ℕ) → e ≤ b → cond (nat_lt b e) x y ≡ y
-from_end b e x y h = grind (arith, nat_tests)
+-- ---- the places in the lists
 
 pub Covers-le : (meaning : Meaning) (print : List ℕ) (i j : ℕ) (t : List Choice) → Covers meaning print i t j → i ≤ j
 Covers-le meaning print i j [] h = omega arith
 Covers-le meaning print i j (c ∷ t) h = let e = h.1.end in let rest = Covers-le meaning print c.end j t h.2 in omega arith
 
--- a part up to e where f is x, and the rest
-cut_at : (f g : ℕ → ℕ) (x i e j : ℕ) → i ≤ e → e ≤ j → ((k : ℕ) → k < e → f k ≡ x) → ((k : ℕ) → e ≤ k → f k ≡ g k)
-    → map f (range_with_len i (j - i)) ≡ replicate (e - i) x ++ map g (range_with_len e (j - e))
-cut_at f g x i e j first last below above =
-    ap (λ (n : ℕ). map f (range_with_len i n)) (let s : j - i ≡ (e - i) + (j - e) = omega arith in s)
-    ∙ (ap (map f) (range_with_len-append i (e - i) (j - e) ∙ ap (λ (n : ℕ). range_with_len i (e - i) ++ range_with_len n (j - e)) (let s : i + (e - i) ≡ e = omega arith in s))
-    ∙ (map-append f (range_with_len i (e - i)) (range_with_len e (j - e))
-    ∙ (ap (λ (xs : List ℕ). xs ++ map f (range_with_len e (j - e))) (map-range_with_len-same f (λ k. x) i (e - i) (λ k more less. below k (omega arith)) ∙ map-range_with_len-constant x i (e - i))
-    ∙ ap (λ (xs : List ℕ). replicate (e - i) x ++ xs) (map-range_with_len-same f g e (j - e) (λ k more less. above k more)))))
-
-pub outputs_from-all : (meaning : Meaning) (print : List ℕ) (n i j : ℕ) (t : List Choice) → Covers meaning print i t j → outputs_from meaning print n t ≡ map (λ k. n + output_place meaning print t k) (range_with_len i (j - i))
-outputs_from-all meaning print n i j [] h = ap (λ (m : ℕ). map (λ k. n + 0) (range_with_len i m)) (let e : 0 ≡ j - i = omega arith in e)
-outputs_from-all meaning print n i j (c ∷ t) h =
-    let made = length (cells_of meaning print c) in
-    let end = h.1.end in
+-- the list of output places has as many places as the choices cover
+outputs-count : (meaning : Meaning) (print : List ℕ) (n i j : ℕ) (t : List Choice) → Covers meaning print i t j → i + length (outputs_from meaning print n t) ≡ j
+outputs-count meaning print n i j [] h = (omega arith)
+outputs-count meaning print n i j (c ∷ t) h =
     let start = h.1.start in
-    let last = Covers-le meaning print c.end j t h.2 in
-    ap (λ (m : ℕ). replicate m n ++ outputs_from meaning print (n + made) t) (let e : c.end - c.start ≡ c.end - i = omega arith in e)
-    ∙ (ap (λ (xs : List ℕ). replicate (c.end - i) n ++ xs) (outputs_from-all meaning print (n + made) c.end j t h.2)
-    ∙ sym (cut_at (λ k. n + output_place meaning print (c ∷ t) k) (λ k. n + made + output_place meaning print t k) n i c.end j (omega arith) last
-    (λ k lt. ap (λ (m : ℕ). n + m) (below_end k c.end 0 (made + output_place meaning print t k) lt) ∙ (let e : n + 0 ≡ n = omega arith in e))
-    (λ k le. ap (λ (m : ℕ). n + m) (from_end k c.end 0 (made + output_place meaning print t k) le) ∙ sym (add_assoc n made (output_place meaning print t k)))))
-
-pub inputs_of-all : (meaning : Meaning) (print : List ℕ) (t : List Choice) → inputs_of meaning print t ≡ map (print_place meaning print t) (range_with_len 0 (length (braille meaning print t)))
-inputs_of-all meaning print [] = refl
-inputs_of-all meaning print (c ∷ t) =
+    let end = h.1.end in
     let made = length (cells_of meaning print c) in
-    let rest = length (braille meaning print t) in
-    let all : length (braille meaning print (c ∷ t)) ≡ made + rest = length-append (cells_of meaning print c) (braille meaning print t) in
-    let front : made - 0 ≡ made = omega arith in
-    let back : made + rest - 0 ≡ made + rest = omega arith in
-    sym (ap (λ (n : ℕ). map (print_place meaning print (c ∷ t)) (range_with_len 0 n)) (all ∙ sym back)
-    ∙ (cut_at (print_place meaning print (c ∷ t)) (λ k. print_place meaning print t (k - made)) c.start 0 made (made + rest) (omega arith) (omega arith)
-    (λ k lt. below_end k made c.start (print_place meaning print t (k - made)) lt)
-    (λ k le. from_end k made c.start (print_place meaning print t (k - made)) le)
-    ∙ (ap (λ (n : ℕ). replicate n c.start ++ map (λ k. print_place meaning print t (k - made)) (range_with_len made (made + rest - made))) front
-    ∙ ap (λ (xs : List ℕ). replicate made c.start ++ xs)
-    (ap (λ (n : ℕ). map (λ k. print_place meaning print t (k - made)) (range_with_len made n)) (let e : made + rest - made ≡ rest = omega arith in e)
-    ∙ (ap (λ (n : ℕ). map (λ k. print_place meaning print t (k - made)) (range_with_len n rest)) (let e : made ≡ 0 + made = omega arith in e)
-    ∙ (map-range_with_len-shift (print_place meaning print t) 0 made rest ∙ sym (inputs_of-all meaning print t)))))))
+    let rest = outputs-count meaning print (n + made) c.end j t h.2 in
+    let many = length-append (replicate (c.end - c.start) n) (outputs_from meaning print (n + made) t) in
+    let front = length-replicate (c.end - c.start) n in
+    omega arith
+
+-- at a place that the choices cover it has how many cells come before its choice
+outputs-at : (meaning : Meaning) (print : List ℕ) (n i j k : ℕ) (t : List Choice) → Covers meaning print i t j → i ≤ k → k < j
+    → (before : List Choice) × (choice : Choice) × IsAmong t before choice × Holds choice k
+    × (get_or (outputs_from meaning print n t) (k - i) 0 ≡ n + length (braille meaning print before))
+outputs-at meaning print n i j k [] h le lt = absurd (omega arith)
+outputs-at meaning print n i j k (c ∷ t) h le lt =
+    let start = h.1.start in
+    let end = h.1.end in
+    let made = length (cells_of meaning print c) in
+    let count = length-replicate (c.end - c.start) n in
+    elim (cases_below k c.end) [
+      | inl here ↦ (
+        [],
+        c,
+        record { after = t; parts = refl },
+        (omega arith, here),
+        get_or-append (replicate (c.end - c.start) n) (outputs_from meaning print (n + made) t) 0 (k - i) (omega arith)
+            ∙ (get_or-replicate (c.end - c.start) (k - i) n 0 (omega arith) ∙ (let e : n ≡ n + 0 = omega arith in e)),
+      )
+      | inr past ↦
+          let rest = outputs-at meaning print (n + made) c.end j k t h.2 past lt in (
+            c ∷ rest.0,
+            rest.1,
+            record { after = rest.2.after; parts = ap (λ (xs : List Choice). c ∷ xs) rest.2.parts },
+            rest.3,
+            get_or-append_right (replicate (c.end - c.start) n) (outputs_from meaning print (n + made) t) (c.end - c.start) (k - i) 0 count (omega arith)
+                ∙ (ap (λ (m : ℕ). get_or (outputs_from meaning print (n + made) t) m 0) (let e : k - i - (c.end - c.start) ≡ k - c.end = omega arith in e)
+                ∙ (rest.4 ∙ (add_assoc n made (length (braille meaning print rest.0))
+                ∙ ap (λ (m : ℕ). n + m) (sym (length-append (cells_of meaning print c) (braille meaning print rest.0)))))),
+          )
+    ]
+
+-- the list of print places has as many places as there are cells
+inputs-count : (meaning : Meaning) (print : List ℕ) (t : List Choice) → length (inputs_of meaning print t) ≡ length (braille meaning print t)
+inputs-count meaning print [] = refl
+inputs-count meaning print (c ∷ t) =
+    let made = length (cells_of meaning print c) in
+    length-append (replicate made c.start) (inputs_of meaning print t)
+    ∙ (ap (λ (m : ℕ). m + length (inputs_of meaning print t)) (length-replicate made c.start)
+    ∙ (ap (λ (m : ℕ). made + m) (inputs-count meaning print t)
+    ∙ sym (length-append (cells_of meaning print c) (braille meaning print t))))
+
+-- at a cell it has the start of the choice that made it
+inputs-at : (meaning : Meaning) (print : List ℕ) (t : List Choice) (cell : ℕ) → cell < length (braille meaning print t)
+    → IsPrintPlace meaning print t cell (get_or (inputs_of meaning print t) cell 0)
+inputs-at meaning print [] cell lt = absurd (omega arith)
+inputs-at meaning print (c ∷ t) cell lt =
+    let made = length (cells_of meaning print c) in
+    let count = length-replicate made c.start in
+    let all = length-append (cells_of meaning print c) (braille meaning print t) in
+    elim (cases_below cell made) [
+      | inl here ↦ (
+        c,
+        record { before = []; among = record { after = t; parts = refl }; from = omega arith; to = omega arith },
+        get_or-append (replicate made c.start) (inputs_of meaning print t) 0 cell (omega arith) ∙ get_or-replicate made cell c.start 0 here,
+      )
+      | inr past ↦
+          let rest = inputs-at meaning print t (cell - made) (omega arith) in
+          let found = rest.1 in
+          let from = found.from in
+          let to = found.to in
+          let before = length-append (cells_of meaning print c) (braille meaning print found.before) in (
+            rest.0,
+            record {
+              before = c ∷ found.before;
+              among = record { after = found.among.after; parts = ap (λ (xs : List Choice). c ∷ xs) found.among.parts };
+              from = omega arith;
+              to = omega arith;
+            },
+            get_or-append_right (replicate made c.start) (inputs_of meaning print t) made cell 0 count past ∙ rest.2,
+          )
+    ]
 
 -- ---- the cells of one more choice
 
@@ -112,20 +129,31 @@ pub grown : (old mid new sign own s o : List ℕ) → mid ≡ old ++ sign → ne
 grown old mid new sign own s o first second by_sign by_own =
     second ∙ (ap (λ (xs : List ℕ). xs ++ own) first ∙ (append_assoc old sign own ∙ (ap (λ (xs : List ℕ). old ++ (xs ++ own)) by_sign ∙ ap (λ (xs : List ℕ). old ++ (s ++ xs)) by_own)))
 
-outputs_from-tiling : (meaning : Meaning) (print : List ℕ) (t : List Choice) → Tiles meaning print t → outputs_from meaning print 0 t ≡ map (output_place meaning print t) (range_with_len 0 (length print))
-outputs_from-tiling meaning print t tiles =
-    let whole : length print - 0 ≡ length print = omega arith in
-    outputs_from-all meaning print 0 0 (length print) t tiles
-    ∙ (ap (λ (n : ℕ). map (λ k. 0 + output_place meaning print t k) (range_with_len 0 n)) whole
-    ∙ map-range_with_len-same (λ k. 0 + output_place meaning print t k) (output_place meaning print t) 0 (length print) (λ k more less. zero-add (output_place meaning print t k)))
-
 -- the lists that the choices of a tiling make are the translation
 pub IsTranslation-lists : (meaning : Meaning) (print : List ℕ) (t : List Choice) (cells outputs inputs : List ℕ) → AreDefined meaning print → Tiles meaning print t → cells ≡ braille meaning print t → outputs ≡ outputs_from meaning print 0 t → inputs ≡ inputs_of meaning print t → IsTranslation meaning print cells outputs inputs
-IsTranslation-lists meaning print t cells outputs inputs defined tiles made first second = record {
-  defined = defined;
-  choices = t;
-  tiles = tiles;
-  cells_are = made;
-  outputs_are = first ∙ outputs_from-tiling meaning print t tiles;
-  inputs_are = second ∙ (inputs_of-all meaning print t ∙ ap (λ (xs : List ℕ). map (print_place meaning print t) (range_with_len 0 (length xs))) (sym made));
-}
+IsTranslation-lists meaning print t cells outputs inputs defined tiles made first second =
+    let count = outputs-count meaning print 0 0 (length print) t tiles in
+    record {
+      defined = defined;
+      choices = t;
+      tiles = tiles;
+      cells_are = made;
+      output_count = ap length first ∙ (let e : length (outputs_from meaning print 0 t) ≡ length print = omega arith in e);
+      outputs_are = λ i lt.
+          let found = outputs-at meaning print 0 0 (length print) i t tiles (omega arith) lt in
+          let same : i - 0 ≡ i = omega arith in
+          record {
+            before = found.0;
+            choice = found.1;
+            among = found.2;
+            holds = found.3;
+            place_is =
+                ap (λ (xs : List ℕ). get_or xs i 0) first
+                ∙ (ap (λ (k : ℕ). get_or (outputs_from meaning print 0 t) k 0) (sym same)
+                ∙ (found.4 ∙ zero-add (length (braille meaning print found.0))));
+          };
+      input_count = ap length second ∙ (inputs-count meaning print t ∙ sym (ap length made));
+      inputs_are = λ cell lt.
+          subst (λ (xs : List ℕ). IsPrintPlace meaning print t cell (get_or xs cell 0)) (sym second)
+          (inputs-at meaning print t cell (subst (λ (xs : List ℕ). cell < length xs) made lt));
+    }

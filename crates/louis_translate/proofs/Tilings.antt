@@ -29,7 +29,7 @@ one_chosen meaning print i c d h k =
       | inr p ↦ elim (k.first c h.candidate) [ inl q ↦ absurd (omega arith) | inr q ↦ omega arith ]
     ])
 
-same_choice : (meaning : Meaning) (print : List ℕ) (i : ℕ) (c d : Choice) → IsChoiceAt meaning print i c → IsChoiceAt meaning print i d → c ≡ d
+pub same_choice : (meaning : Meaning) (print : List ℕ) (i : ℕ) (c d : Choice) → IsChoiceAt meaning print i c → IsChoiceAt meaning print i d → c ≡ d
 same_choice meaning print i c d h k =
     let rule : c.rule ≡ d.rule = one_chosen meaning print i c.rule d.rule h.chosen k.chosen in
     let start : c.start ≡ d.start = h.start ∙ sym k.start in

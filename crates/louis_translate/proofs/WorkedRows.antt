@@ -1,11 +1,11 @@
 -- A small table and prints of it, worked by the definitions alone: they say what these rows say, and not only what the code does.
-use Rattle.std.proofs.Common.{◌≡◌, ℕ, true, false, List, [], ◌∷◌, refl}
+use Rattle.std.proofs.Common.{◌≡◌, ℕ, true, false, List, [], ◌∷◌, ◌++◌, refl}
 use Rattle.std.specs.Prelude.{Some, None}
 use Rattle.louis_table.specs.Meaning.{Meaning}
-use Rattle.louis_table.specs.declared.definition.Class.TheVariants.{Space, Digit, Letter}
+use Rattle.louis_table.specs.declared.definition.Class.TheVariants.{Space, Punctuation, Digit, Letter}
 use Rattle.louis_table.specs.declared.rule.RuleKind.TheVariants.{Word}
 use Rattle.louis_translate.specs.Position.{fits}
-use Rattle.louis_translate.specs.Sign.{sign_at}
+use Rattle.louis_translate.specs.Sign.{is_in_numeric_mode, plain_sign_at, sign_at}
 use Rattle.louis_translate.specs.Braille.{braille}
 
 -- `space \s 0`, `letter a 1`, `digit 5 15`, `word a 123456` and `numsign 3456`
@@ -17,6 +17,9 @@ small = record {
   numsign = 60 ∷ [];
   capsletter = [];
   begcapsword = [];
+  nocontractsign = [];
+  mode_chars = [];
+  nocontract_chars = [];
 }
 
 -- the print `a 55a`
@@ -44,3 +47,46 @@ braille-of-print : braille small print
     ∷ record { rule = None; start = 4; end = 5 } ∷ [])
     ≡ 63 ∷ 0 ∷ 60 ∷ 17 ∷ 17 ∷ 1 ∷ []
 braille-of-print = refl
+
+-- ---- numeric mode
+
+-- the same table with `punctuation . 256`, `nocontractsign 56`, `numericmodechars .` and `numericnocontchars a`
+abbrev with_mode : Meaning
+with_mode = record small {
+  definitions = small.definitions ++ (46, record { class = Punctuation; cells = 50 ∷ [] }) ∷ [];
+  nocontractsign = 48 ∷ [];
+  mode_chars = 46 ∷ [];
+  nocontract_chars = 97 ∷ [];
+}
+
+-- the print `5.5.a .5`
+abbrev numbers : List ℕ
+numbers = 53 ∷ 46 ∷ 53 ∷ 46 ∷ 97 ∷ 32 ∷ 46 ∷ 53 ∷ []
+
+-- the number goes on over the point, and has one sign
+one-sign-over-a-point : sign_at with_mode numbers 0 ≡ 60 ∷ []
+one-sign-over-a-point = refl
+
+no-sign-after-a-point : sign_at with_mode numbers 2 ≡ []
+no-sign-after-a-point = refl
+
+mode-holds-the-last-point : is_in_numeric_mode with_mode numbers 3 ≡ true
+mode-holds-the-last-point = refl
+
+-- the letter after it is out of the mode, and has the sign that says so
+sign-after-the-number : sign_at with_mode numbers 4 ≡ 48 ∷ []
+sign-after-the-number = refl
+
+-- a point alone begins no number, and the digit after it has the sign
+no-mode-by-a-point : is_in_numeric_mode with_mode numbers 6 ≡ false
+no-mode-by-a-point = refl
+
+sign-after-a-point : sign_at with_mode numbers 7 ≡ 60 ∷ []
+sign-after-a-point = refl
+
+-- without the mode each run of digits has a sign, and the letter none
+plain-sign-after-a-point : plain_sign_at with_mode numbers 2 ≡ 60 ∷ []
+plain-sign-after-a-point = refl
+
+no-plain-sign-after-the-number : plain_sign_at with_mode numbers 4 ≡ []
+no-plain-sign-after-the-number = refl

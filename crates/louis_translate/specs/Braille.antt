@@ -1,6 +1,6 @@
--- The cells of a tiling, and which places of the print and which cells belong together.
-use Rattle.std.specs.Prelude.{◌≡◌, ℕ, ◌+◌, ◌-◌, ◌≤◌, nat_lt, if◌then◌else◌, List, [], ◌∷◌, ◌++◌, length, map, slice_get, Option, Some, None}
-use Rattle.std.specs.List.{flat_map, range_with_len}
+-- The cells of a tiling, and which places of the print and which cells belong together, by the sign before each place.
+use Rattle.std.specs.Prelude.{◌≡◌, ℕ, ◌+◌, ◌<◌, ◌≤◌, List, [], ◌∷◌, ◌++◌, length, slice_get, slice_index, Option, Some, None}
+use Rattle.std.specs.List.{flat_map}
 use Rattle.std.specs.Option.{option_and_then, option_map_or}
 use Rattle.louis_table.specs.Meaning.{Meaning, definition_of}
 use Rattle.louis_table.specs.declared.definition.Definition.{Definition}
@@ -19,27 +19,61 @@ abbrev pub chosen_cells : Meaning → List ℕ → ℕ → Option ℕ → List �
 chosen_cells meaning print i choice = own_cells meaning (option_and_then (definition_of meaning) (slice_get print i)) choice
 
 -- the cells of a choice: the sign at its start, then its own
+abbrev pub cells_of_by : (ℕ → List ℕ) → Meaning → List ℕ → Choice → List ℕ
+cells_of_by sign meaning print choice = sign choice.start ++ chosen_cells meaning print choice.start choice.rule
+
 abbrev pub cells_of : Meaning → List ℕ → Choice → List ℕ
-cells_of meaning print choice = sign_at meaning print choice.start ++ chosen_cells meaning print choice.start choice.rule
+cells_of meaning print = cells_of_by (sign_at meaning print) meaning print
 
 -- the cells of the choices, joined
+abbrev pub braille_by : (ℕ → List ℕ) → Meaning → List ℕ → List Choice → List ℕ
+braille_by sign meaning print choices = flat_map (cells_of_by sign meaning print) choices
+
 abbrev pub braille : Meaning → List ℕ → List Choice → List ℕ
-braille meaning print choices = flat_map (cells_of meaning print) choices
+braille meaning print = braille_by (sign_at meaning print) meaning print
 
--- how many cells come before the choice that covers a place of the print: the number of its first cell, since each
--- choice of a table that was read makes one or more
-abbrev pub output_place : Meaning → List ℕ → List Choice → ℕ → ℕ
-output_place meaning print [] i = 0
-output_place meaning print (choice ∷ choices) i =
-    if nat_lt i choice.end then 0
-    else length (cells_of meaning print choice) + output_place meaning print choices i
+-- one of the choices, with those before it and those after it
+pub record IsAmong (choices before : List Choice) (choice : Choice) : Type 0 where
+  pub after : List Choice
+  pub parts : choices ≡ before ++ choice ∷ after
 
--- the start of the choice that made a cell
-abbrev pub print_place : Meaning → List ℕ → List Choice → ℕ → ℕ
-print_place meaning print [] cell = 0
-print_place meaning print (choice ∷ choices) cell =
-    if nat_lt cell (length (cells_of meaning print choice)) then choice.start
-    else print_place meaning print choices (cell - length (cells_of meaning print choice))
+-- the choice covers the place of the print
+abbrev pub Holds : Choice → ℕ → Type 0
+Holds choice i = (choice.start ≤ i) × (i < choice.end)
+
+-- the output place of a place of the print: as many cells come before those of the choice that covers it
+pub record IsOutputPlaceBy (sign : ℕ → List ℕ) (meaning : Meaning) (print : List ℕ) (choices : List Choice) (i place : ℕ) : Type 0 where
+  pub before : List Choice
+  pub choice : Choice
+  pub among : IsAmong choices before choice
+  pub holds : Holds choice i
+  pub place_is : place ≡ length (braille_by sign meaning print before)
+
+abbrev pub IsOutputPlace : Meaning → List ℕ → List Choice → ℕ → ℕ → Type 0
+IsOutputPlace meaning print = IsOutputPlaceBy (sign_at meaning print) meaning print
+
+-- the choice made the cell: the cells of the choices before it are no more than the cell's number, and with its own there
+-- are more
+pub record MakesCellBy (sign : ℕ → List ℕ) (meaning : Meaning) (print : List ℕ) (choices : List Choice) (choice : Choice) (cell : ℕ) : Type 0 where
+  pub before : List Choice
+  pub among : IsAmong choices before choice
+  pub from : length (braille_by sign meaning print before) ≤ cell
+  pub to : cell < length (braille_by sign meaning print before) + length (cells_of_by sign meaning print choice)
+
+abbrev pub MakesCell : Meaning → List ℕ → List Choice → Choice → ℕ → Type 0
+MakesCell meaning print = MakesCellBy (sign_at meaning print) meaning print
+
+-- the print place of a cell: the start of the choice that made it
+abbrev pub IsPrintPlaceBy : (ℕ → List ℕ) → Meaning → List ℕ → List Choice → ℕ → ℕ → Type 0
+IsPrintPlaceBy sign meaning print choices cell place =
+    (choice : Choice) × MakesCellBy sign meaning print choices choice cell × (place ≡ choice.start)
+
+abbrev pub IsPrintPlace : Meaning → List ℕ → List Choice → ℕ → ℕ → Type 0
+IsPrintPlace meaning print = IsPrintPlaceBy (sign_at meaning print) meaning print
+
+-- where the print ends that a cell stands for: the end of the choice that made it
+abbrev pub IsPrintEnd : Meaning → List ℕ → List Choice → ℕ → ℕ → Type 0
+IsPrintEnd meaning print choices cell end = (choice : Choice) × MakesCell meaning print choices choice cell × (end ≡ choice.end)
 
 -- the print is defined; its cells, the output place of each of its places, and the print place of each cell
 pub record IsTranslation (meaning : Meaning) (print cells outputs inputs : List ℕ) : Type 0 where
@@ -47,8 +81,10 @@ pub record IsTranslation (meaning : Meaning) (print cells outputs inputs : List 
   pub choices : List Choice
   pub tiles : Tiles meaning print choices
   pub cells_are : cells ≡ braille meaning print choices
-  pub outputs_are : outputs ≡ map (output_place meaning print choices) (range_with_len 0 (length print))
-  pub inputs_are : inputs ≡ map (print_place meaning print choices) (range_with_len 0 (length cells))
+  pub output_count : length outputs ≡ length print
+  pub outputs_are : (i : ℕ) → i < length print → IsOutputPlace meaning print choices i (slice_index outputs i)
+  pub input_count : length inputs ≡ length cells
+  pub inputs_are : (cell : ℕ) → cell < length cells → IsPrintPlace meaning print choices cell (slice_index inputs cell)
 
 -- the longest front of the choices whose cells fit in a room
 pub record IsFront (meaning : Meaning) (print : List ℕ) (room : ℕ) (choices front : List Choice) : Type 0 where

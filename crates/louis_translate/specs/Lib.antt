@@ -1,8 +1,14 @@
 pub mod Position
 pub mod Sign
+pub mod Covering
 pub mod Choice
+pub mod Tree
+pub mod Search
+pub mod Start
 pub mod Remainder
 pub mod Tiling
 pub mod Braille
 pub mod Piece
+pub mod Items
+pub mod Profiles
 pub mod Reading

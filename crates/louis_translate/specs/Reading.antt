@@ -1,4 +1,4 @@
--- The places as lists that grow choice by choice, for step-by-step proofs: `IsTranslation` says what the places mean.
+-- The places as lists that grow choice by choice, for step-by-step proofs: `Braille` says what the places mean.
 use Rattle.std.specs.Prelude.{ℕ, ◌+◌, ◌-◌, List, [], ◌∷◌, ◌++◌, length, replicate}
 use Rattle.std.specs.List.{flat_map}
 use Rattle.louis_table.specs.Meaning.{Meaning}

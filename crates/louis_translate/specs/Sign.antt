@@ -1,9 +1,11 @@
--- The signs before numbers and capitals, by the signs of the table and the print.
-use Rattle.std.specs.Prelude.{◌≡◌, ℕ, ◌+◌, ◌-◌, ◌<◌, ◌≤◌, Bool, true, false, ◌&&◌, not, ◌==◌, nat_le, nat_lt, if◌then◌else◌, List, [], length, take, drop, slice_get, is_some}
-use Rattle.std.specs.List.{prefix_len, suffix_len}
+-- The signs before numbers, capitals and what follows a number, by the signs of the table and the print.
+use Rattle.std.specs.Prelude.{◌≡◌, ℕ, ◌+◌, ◌-◌, ◌<◌, ◌≤◌, Bool, true, false, ◌&&◌, ◌||◌, not, ◌==◌, nat_eq, nat_le, nat_lt, if◌then◌else◌, List, [], length, take, drop, slice_get, is_some}
+use Rattle.std.specs.List.{list_all, list_any, prefix_len, range_with_len, suffix_len}
 use Rattle.std.specs.Option.{option_map_or}
 use Rattle.louis_table.specs.Meaning.{Meaning, partner_of}
 use Rattle.louis_translate.specs.Position.{class_at, class_before, is_digit, is_letter}
+
+-- ---- capitals
 
 -- a capital is the upper character of a pair
 abbrev pub is_capital : Meaning → ℕ → Bool
@@ -44,12 +46,70 @@ capital_sign meaning print i =
     then (if run_start meaning print i == i then meaning.begcapsword else [])
     else meaning.capsletter
 
--- before a digit: one sign for each run of digits
-abbrev pub number_sign : Meaning → List ℕ → ℕ → List ℕ
-number_sign meaning print i = if is_digit (class_before meaning print i) then [] else meaning.numsign
+-- ---- numbers
 
--- the sign before a place, empty where there is none
+abbrev pub is_digit_at : Meaning → List ℕ → ℕ → Bool
+is_digit_at meaning print i = is_digit (class_at meaning print i)
+
+-- the table says of the character that it goes on with a number
+abbrev pub is_mode_char : Meaning → ℕ → Bool
+is_mode_char meaning character = list_any (λ c. nat_eq c character) meaning.mode_chars
+
+abbrev pub is_mode_char_at : Meaning → List ℕ → ℕ → Bool
+is_mode_char_at meaning print i = option_map_or (is_mode_char meaning) (slice_get print i) false
+
+-- the character may go on with a number: a digit, or one of which the table says so
+abbrev pub goes_on_at : Meaning → List ℕ → ℕ → Bool
+goes_on_at meaning print i = is_digit_at meaning print i || is_mode_char_at meaning print i
+
+-- a number that begins at place j goes on up to place i: a digit stands at j, and what stands from there to i goes on
+-- with a number
+abbrev pub is_number_from : Meaning → List ℕ → ℕ → ℕ → Bool
+is_number_from meaning print i j =
+    is_digit_at meaning print j && list_all (goes_on_at meaning print) (range_with_len j (i + 1 - j))
+
+-- a place is in numeric mode where a number goes on up to it from some place that is no later
+abbrev pub is_in_numeric_mode : Meaning → List ℕ → ℕ → Bool
+is_in_numeric_mode meaning print i = list_any (is_number_from meaning print i) (range_with_len 0 (i + 1))
+
+-- the same as a relation
+pub record IsInNumericMode (meaning : Meaning) (print : List ℕ) (i : ℕ) : Type 0 where
+  pub from : ℕ
+  pub order : from ≤ i
+  pub digit : is_digit_at meaning print from ≡ true
+  pub goes_on : (k : ℕ) → from ≤ k → k ≤ i → goes_on_at meaning print k ≡ true
+
+-- the place before this one is in numeric mode; there is none before the first
+abbrev pub follows_number : Meaning → List ℕ → ℕ → Bool
+follows_number meaning print i = if i == 0 then false else is_in_numeric_mode meaning print (i - 1)
+
+-- the table says of the character that it takes a sign right after a number
+abbrev pub is_nocontract_char : Meaning → ℕ → Bool
+is_nocontract_char meaning character = list_any (λ c. nat_eq c character) meaning.nocontract_chars
+
+abbrev pub is_nocontract_char_at : Meaning → List ℕ → ℕ → Bool
+is_nocontract_char_at meaning print i = option_map_or (is_nocontract_char meaning) (slice_get print i) false
+
+-- the number has ended before this place, and the character here takes a sign right after a number
+abbrev pub ends_number : Meaning → List ℕ → ℕ → Bool
+ends_number meaning print i =
+    follows_number meaning print i && not (is_in_numeric_mode meaning print i) && is_nocontract_char_at meaning print i
+
+-- ---- the sign before a place, empty where there is none
+
+-- the signs without numeric mode: one for each run of digits, and those before capitals
+abbrev pub plain_sign_at : Meaning → List ℕ → ℕ → List ℕ
+plain_sign_at meaning print i =
+    if is_digit_at meaning print i
+    then (if is_digit (class_before meaning print i) then [] else meaning.numsign)
+    else (if is_capital_at meaning print i then capital_sign meaning print i else [])
+
+-- the signs with numeric mode: one before a digit that no number goes on to, those before capitals, and one before a
+-- character that a number could be read on into
 abbrev pub sign_at : Meaning → List ℕ → ℕ → List ℕ
 sign_at meaning print i =
-    if is_digit (class_at meaning print i) then number_sign meaning print i
-    else (if is_capital_at meaning print i then capital_sign meaning print i else [])
+    if is_digit_at meaning print i
+    then (if follows_number meaning print i then [] else meaning.numsign)
+    else (if is_capital_at meaning print i
+    then capital_sign meaning print i
+    else (if ends_number meaning print i then meaning.nocontractsign else []))

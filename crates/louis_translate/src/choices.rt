@@ -39,28 +39,27 @@ impl<'a, B: RuleBook> Model for Choices<'a, B> {
 }
 
 impl<'a, B: RuleBook> Choices<'a, B> {
+    ghost use Rattle.louis_translate.specs.Items.{whole};
     ghost use Rattle.louis_translate.specs.Position.{AreDefined};
     ghost use Rattle.std.specs.Prelude.{◌≡◌};
 
     /// The choices of a print whose characters the table defines.
     pub fn new(book: &'a B, print: &'a [char]) -> Self
         requires { AreDefined (B.meaning book.now) print.now }
-        ensures { result ≡ record { meaning = B.meaning book.now; print = print.now; at = 0 } }
+        ensures { result ≡ whole (B.meaning book.now) print.now }
     {
         Choices { book, print, at: 0 }
     }
 }
 
 impl<'a, B: RuleBook> Iterator for Choices<'a, B> {
-    ghost use Rattle.louis_translate.specs.Tiling.{IsChoiceAt};
+    ghost use Rattle.louis_translate.specs.Items.{GivesChoice};
     ghost use Rattle.std.specs.Iterator.{at_most};
-    ghost use Rattle.std.specs.Prelude.{◌≡◌, ◌-◌, ◌<◌, length, MatchOption};
+    ghost use Rattle.std.specs.Prelude.{◌-◌, length};
 
     type Item = Choice;
 
-    ghost next_gives = { λ s r t. MatchOption r ((s.at ≡ length s.print) × (t ≡ s))
-        (λ choice. (s.at < length s.print) × IsChoiceAt s.meaning s.print s.at choice
-        × (t ≡ record s { at = choice.end })) };
+    ghost next_gives = { GivesChoice };
 
     ghost remaining = { λ s. at_most (length s.print - s.at) };
 

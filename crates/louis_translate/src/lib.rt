@@ -16,12 +16,15 @@
 //! assert_eq!(rt; part.used, 2);
 //! ```
 //!
-//! A rule book is a table with a way to find the chosen rule: all else is proved once over [`RuleBook`].
+//! A rule book is a table with a way to find the chosen rule: [`PlainRules`] looks at all rules, [`RuleIndex`]
+//! walks along the print down a tree of the rules' characters. All else is proved once over [`RuleBook`].
 //! Reading tables is left to `louis_table`; lines, books and pages to the crates above.
 #![tactic(auto)]
 
 mod choices;
 mod counterpart;
+mod covering;
+mod indexed_table;
 pub mod laws;
 mod pieces;
 mod places;
@@ -29,16 +32,21 @@ mod plain_rules;
 mod position;
 mod print;
 mod rule_book;
+mod rule_index;
+mod rule_tree;
 mod sign;
+mod start;
 mod translation;
+mod tree_search;
 
 pub use choices::{Choice, Choices};
-pub use counterpart::{output_place, print_place};
+pub use counterpart::{choice_of_cell, output_place, print_place};
 pub use pieces::{Piece, Pieces};
 pub use places::Places;
 pub use plain_rules::PlainRules;
 pub use print::{Fault, undefined_place};
 pub use rule_book::RuleBook;
+pub use rule_index::RuleIndex;
 pub use translation::{Part, Translation, translate, translate_string};
 
 #[cfg(test)]

@@ -44,13 +44,14 @@ impl<'a, B: RuleBook> Model for Pieces<'a, B> {
 }
 
 impl<'a, B: RuleBook> Pieces<'a, B> {
+    ghost use Rattle.louis_translate.specs.Items.{whole};
     ghost use Rattle.louis_translate.specs.Position.{AreDefined};
     ghost use Rattle.std.specs.Prelude.{◌≡◌};
 
     /// The pieces of a print whose characters the table defines.
     pub fn new(book: &'a B, print: &'a [char]) -> Self
         requires { AreDefined (B.meaning book.now) print.now }
-        ensures { result ≡ record { meaning = B.meaning book.now; print = print.now; at = 0 } }
+        ensures { result ≡ whole (B.meaning book.now) print.now }
     {
         Pieces {
             book,
@@ -85,15 +86,13 @@ fn own_cells<'a>(
 }
 
 impl<'a, B: RuleBook> Iterator for Pieces<'a, B> {
-    ghost use Rattle.louis_translate.specs.Piece.{IsPieceAt};
+    ghost use Rattle.louis_translate.specs.Items.{GivesPiece};
     ghost use Rattle.std.specs.Iterator.{at_most};
-    ghost use Rattle.std.specs.Prelude.{◌≡◌, ◌-◌, ◌<◌, length, MatchOption};
+    ghost use Rattle.std.specs.Prelude.{◌-◌, length};
 
     type Item = Piece<'a>;
 
-    ghost next_gives = { λ s r t. MatchOption r ((s.at ≡ length s.print) × (t ≡ s))
-        (λ piece. (s.at < length s.print) × IsPieceAt s.meaning s.print s.at piece
-        × (t ≡ record s { at = piece.choice.end })) };
+    ghost next_gives = { GivesPiece };
 
     ghost remaining = { λ s. at_most (length s.print - s.at) };
 

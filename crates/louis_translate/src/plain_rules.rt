@@ -1,13 +1,11 @@
 //! A rule book that looks at all rules.
 ghost use Rattle.louis_table.specs.Meaning.{folded};
 ghost use Rattle.louis_translate.specs.Choice.{IsChosen, Matches};
-ghost use Rattle.louis_translate.specs.Sign.{sign_at};
 ghost use Rattle.std.specs.Bool.{OnTrue, OnFalse};
 ghost use Rattle.std.specs.Prelude.{◌≡◌, ◌≢◌, ◌+◌, ◌<◌, ◌≤◌, ◌⊎◌, ◌↔◌, ℕ, [], None, Some, slice_get, length, map, take, drop, slice_index, IsTrue, MatchBool};
 
-use super::position::fits;
+use super::covering::may_cover;
 use super::rule_book::RuleBook;
-use super::sign::Signs;
 use louis_table::{Rule, Table};
 use std::marker::Model;
 
@@ -63,21 +61,6 @@ fn begins_with(characters: &[char], first: char) -> bool
     }
 }
 
-/// Whether no sign stands between the places `start` and `end`, without these two.
-fn has_no_sign_inside(table: &Table, print: &[char], start: usize, end: usize) -> bool
-    requires order { start < end }
-    requires within { end ≤ length print.now }
-    ensures { IsTrue result ↔ ((k : ℕ) → start < k → k < end → sign_at table.now print.now k ≡ []) }
-{
-    let mut signs = Signs::new(table, print);
-    for place in start + 1..end {
-        if !signs.at(place).is_empty() {
-            return false;
-        }
-    }
-    true
-}
-
 /// Whether a rule may be used at a place whose folded character is `first`. A rule without characters never
 /// is.
 fn matches(table: &Table, rule: &Rule, print: &[char], at: usize, first: char) -> bool
@@ -94,7 +77,7 @@ fn matches(table: &Table, rule: &Rule, print: &[char], at: usize, first: char) -
         return false;
     }
     let end = at + wanted.len();
-    fits(table, print, rule.kind, at, end) && has_no_sign_inside(table, print, at, end)
+    may_cover(table, print, rule.kind, at, end)
 }
 
 /// Whether a rule of `len` characters goes before the choice that was found, of `most` characters.

@@ -1,9 +1,9 @@
-//! The signs before numbers and capitals.
+//! The signs before numbers, capitals and what follows a number.
 ghost use Rattle.louis_translate.specs.Position.{class_at as class_at_lem};
-ghost use Rattle.louis_translate.specs.Sign.{capital_sign as capital_sign_lem, number_sign as number_sign_lem, run_end, run_start, sign_at};
-ghost use Rattle.std.specs.Prelude.{◌≡◌, ◌≤◌, ◌<◌, ◌↔◌, ℕ, length, IsTrue};
+ghost use Rattle.louis_translate.specs.Sign.{capital_sign as capital_sign_lem, ends_number as ends_number_lem, follows_number as follows_number_lem, is_digit_at, is_mode_char as is_mode_char_lem, is_nocontract_char as is_nocontract_char_lem, run_end, run_start, sign_at};
+ghost use Rattle.std.specs.Prelude.{◌≡◌, ◌+◌, ◌≤◌, ◌<◌, ◌↔◌, ◌&&◌, false, not, ℕ, length, IsTrue};
 
-use super::position::{class_at, class_before, is_digit, is_letter};
+use super::position::{class_at, is_digit, is_letter};
 use cell_core::Cell;
 use louis_table::{Class, Table};
 
@@ -51,19 +51,74 @@ fn capital_sign<'a>(table: &'a Table, print: &[char], place: usize, end: usize) 
     }
 }
 
-/// The sign before a digit.
-#[inline(never)]
-fn number_sign<'a>(table: &'a Table, print: &[char], place: usize) -> &'a [Cell]
-    ensures { result.now ≡ number_sign_lem table.now print.now place }
+/// Whether the table says of a character that it goes on with a number.
+fn is_mode_char(table: &Table, character: char) -> bool
+    ensures { result ≡ is_mode_char_lem table.now character }
 {
-    if is_digit(class_before(table, print, place)) {
-        &[]
-    } else {
-        table.numsign()
-    }
+    table.mode_chars().contains(&character)
 }
 
-/// The sign before a place whose character has this class, and around which a run ends at `end`.
+/// Whether a character takes a sign right after a number: it is one of those that do, and none that goes on with one.
+#[inline(never)]
+fn takes_sign_after_number(table: &Table, character: char) -> bool
+    ensures { result ≡ (not (is_mode_char_lem table.now character) && is_nocontract_char_lem table.now character) }
+{
+    !is_mode_char(table, character) && table.nocontract_chars().contains(&character)
+}
+
+/// Whether the place before this one is in numeric mode. The walk back ends at the first digit, and passes over
+/// characters alone that go on with a number.
+#[inline(never)]
+fn follows_number(table: &Table, print: &[char], place: usize) -> bool
+    requires { place ≤ length print.now }
+    ensures { result ≡ follows_number_lem table.now print.now place }
+{
+    let mut at = place;
+    while at > 0 {
+        at -= 1;
+        if is_digit(class_at(table, print, at)) {
+            return true;
+        }
+        if !is_mode_char(table, print[at]) {
+            return false;
+        }
+    }
+    false
+}
+
+/// Whether a number goes on up to a place whose character has this class, and so the next place follows it.
+#[inline(always)]
+fn goes_on(table: &Table, print: &[char], place: usize, class: Option<Class>, follows: bool) -> bool
+    requires place { place < length print.now }
+    requires class { class ≡ class_at_lem table.now print.now place }
+    requires follows { follows ≡ follows_number_lem table.now print.now place }
+    ensures { result ≡ follows_number_lem table.now print.now (place + 1) }
+{
+    if is_digit(class) {
+        return true;
+    }
+    if !follows {
+        return false;
+    }
+    is_mode_char(table, print[place])
+}
+
+/// Whether a number has ended before a place that has no digit, and the character there takes a sign after one.
+#[inline(always)]
+fn ends_number(table: &Table, print: &[char], place: usize, follows: bool) -> bool
+    requires place { place < length print.now }
+    requires digit { is_digit_at table.now print.now place ≡ false }
+    requires follows { follows ≡ follows_number_lem table.now print.now place }
+    ensures { result ≡ ends_number_lem table.now print.now place }
+{
+    if !follows {
+        return false;
+    }
+    takes_sign_after_number(table, print[place])
+}
+
+/// The sign before a place whose character has this class, around which a run ends at `end`, and which follows a
+/// number or doesn't.
 #[inline(always)]
 fn sign<'a>(
     table: &'a Table,
@@ -71,31 +126,41 @@ fn sign<'a>(
     place: usize,
     class: Option<Class>,
     end: usize,
+    follows: bool,
 ) -> &'a [Cell]
     requires class { class ≡ class_at_lem table.now print.now place }
     requires run { end ≡ run_end table.now print.now place }
     requires within { end ≤ length print.now }
+    requires place { place < length print.now }
+    requires follows { follows ≡ follows_number_lem table.now print.now place }
     ensures { result.now ≡ sign_at table.now print.now place }
 {
     if is_digit(class) {
-        number_sign(table, print, place)
+        if follows { &[] } else { table.numsign() }
     } else if place < end {
         capital_sign(table, print, place, end)
+    } else if ends_number(table, print, place, follows) {
+        table.nocontractsign()
     } else {
         &[]
     }
 }
 
-/// The signs along a print. The run around the last capital is remembered, so that a run is walked once
-/// where its places are asked for one after another.
+/// The signs along a print. The run around the last capital is remembered, and whether a number goes on, so that each
+/// is walked once where places are asked for one after another.
 #[derive(Drop)]
 pub(crate) struct Signs<'a> {
     table: &'a Table,
     print: &'a [char],
+    // the run of capitals from here on
     from: usize,
     end: usize,
+    // the place after the last one that was asked for, and whether it follows a number
+    next: usize,
+    follows: bool,
     ghost within: { end ≤ length print.now },
     ghost run: { (k : ℕ) → from ≤ k → k < end → run_end table.now print.now k ≡ end },
+    ghost number: { follows ≡ follows_number_lem table.now print.now next },
 }
 
 impl<'a> Signs<'a> {
@@ -108,6 +173,8 @@ impl<'a> Signs<'a> {
             print,
             from: 0,
             end: 0,
+            next: 0,
+            follows: false,
         }
     }
 
@@ -128,6 +195,25 @@ impl<'a> Signs<'a> {
         self.end
     }
 
+    /// Whether a place whose character has this class follows a number. The same is remembered of the next place.
+    #[inline(always)]
+    fn follows_at(&mut self, place: usize, class: Option<Class>) -> bool
+        requires within { place < length self.old.print.now }
+        requires class { class ≡ class_at_lem self.old.table.now self.old.print.now place }
+        ensures follows { result ≡ follows_number_lem self.old.table.now self.old.print.now place }
+        ensures table { self.new.table.now ≡ self.old.table.now }
+        ensures print { self.new.print.now ≡ self.old.print.now }
+    {
+        let follows = if place == self.next {
+            self.follows
+        } else {
+            follows_number(self.table, self.print, place)
+        };
+        self.follows = goes_on(self.table, self.print, place, class, follows);
+        self.next = place + 1;
+        follows
+    }
+
     /// The sign before a place, empty where there is none.
     pub(crate) fn at(&mut self, place: usize) -> &'a [Cell]
         requires { place < length self.old.print.now }
@@ -138,7 +224,8 @@ impl<'a> Signs<'a> {
         self.at_class(place, class_at(self.table, self.print, place))
     }
 
-    /// The sign before a place whose character has this class. Only at a capital is there a run to look for.
+    /// The sign before a place whose character has this class. Only at a capital is there a run to look for, and without
+    /// a sign after numbers nothing else but a digit has one.
     #[inline(always)]
     pub(crate) fn at_class(&mut self, place: usize, class: Option<Class>) -> &'a [Cell]
         requires within { place < length self.old.print.now }
@@ -147,11 +234,16 @@ impl<'a> Signs<'a> {
         ensures table { self.new.table.now ≡ self.old.table.now }
         ensures print { self.new.print.now ≡ self.old.print.now }
     {
-        let end = if self.table.capital(self.print[place]) {
+        let is_capital = self.table.capital(self.print[place]);
+        if !is_capital && !is_digit(class) && self.table.nocontractsign().is_empty() {
+            return &[];
+        }
+        let end = if is_capital {
             self.end_at(place)
         } else {
             place
         };
-        sign(self.table, self.print, place, class, end)
+        let follows = self.follows_at(place, class);
+        sign(self.table, self.print, place, class, end, follows)
     }
 }

@@ -1,13 +1,16 @@
 //! Prints, and the braille that tables give for them.
 use super::print::defined_characters;
 use super::{
-    Choice, Choices, Fault, Part, PlainRules, RuleBook, Translation, translate, translate_string,
+    Choice, Choices, Fault, Part, PlainRules, RuleBook, RuleIndex, Translation, translate,
+    translate_string,
 };
 use cell_core::Cell;
 use louis_table::{EN, Table};
 use std::alloc::{AllocError, Global};
 use std::process::Abort;
 use std::test::Fail;
+
+mod many_rules;
 
 /// Rules that stand behind the lines of the supplied table.
 const RULES: &str =
@@ -46,7 +49,11 @@ const ENGLISH: &[Row] = &[
     (Asked::Cells, "", "I'M", "⠠⠊⠄⠠⠍"),
     (Asked::Cells, "", "iPHONE", "⠊⠠⠠⠏⠓⠕⠝⠑"),
     (Asked::Cells, "", "AB1", "⠠⠠⠁⠃⠼⠁"),
-    (Asked::Cells, "", "3.14 5a", "⠼⠉⠲⠼⠁⠙⠀⠼⠑⠁"),
+    (Asked::Cells, "", "3.14 5a", "⠼⠉⠲⠁⠙⠀⠼⠑⠰⠁"),
+    (Asked::Cells, "", "1,000.5", "⠼⠁⠂⠚⠚⠚⠲⠑"),
+    (Asked::Cells, "", "3.a", "⠼⠉⠲⠰⠁"),
+    (Asked::Cells, "", ".5", "⠲⠼⠑"),
+    (Asked::Cells, "", "5A 5k 5-6", "⠼⠑⠠⠁⠀⠼⠑⠅⠀⠼⠑⠤⠼⠋"),
     (Asked::Cells, RULES, "The THE tHe THe", "⠠⠮⠀⠠⠠⠮⠀⠞⠠⠓⠑⠀⠠⠞⠠⠓⠑"),
     (Asked::Cells, RULES, "eat seat sea", "⠑⠁⠞⠀⠎⠂⠞⠀⠎⠑⠁"),
     (Asked::Cells, RULES, "sea-eat ea", "⠎⠑⠁⠤⠑⠁⠞⠀⠑⠁"),
@@ -54,7 +61,7 @@ const ENGLISH: &[Row] = &[
     (Asked::Cells, RULES, "best", "⠃⠑⠌"),
     (Asked::Cells, EXCHANGED, "best", "⠃⠑⠃⠌"),
     (Asked::Cells, EXCHANGED, "best5 st", "⠃⠑⠌⠼⠑⠀⠌"),
-    (Asked::Cells, RULES, "but 5but", "⠃⠀⠼⠑⠃⠥⠞"),
+    (Asked::Cells, RULES, "but 5but", "⠃⠀⠼⠑⠰⠃⠥⠞"),
     (Asked::Cells, RULES, "but5 but. bu", "⠃⠥⠞⠼⠑⠀⠃⠲⠀⠃⠥"),
     (Asked::Cells, RULES, "(but)", "⠐⠣⠃⠐⠜"),
     (Asked::Cells, "begword in 35\n", "inA in", "⠔⠠⠁⠀⠊⠝"),
@@ -70,6 +77,7 @@ const PLACES: &[Row] = &[
         "[0, 2, 3, 4, 5] [0, 0, 1, 2, 3, 4]",
     ),
     (Asked::Places, "", "(a", "[0, 2] [0, 0, 1]"),
+    (Asked::Places, "", "5a", "[0, 2] [0, 0, 1, 1]"),
     (
         Asked::Places,
         "letter \\x00E9 123456\n",
@@ -133,6 +141,7 @@ const CHOICES: &[Row] = &[(
 const SMALL: &[Row] = &[
     (Asked::Cells, "always ab 4\n", "aab a", "⠁⠈⠀⠁"),
     (Asked::Cells, "always a 4\n", "aA b", "⠈⠈⠀⠃"),
+    (Asked::Cells, "digit 5 15\nnumsign 3456\n", "5a", "⠼⠑⠁"),
     (
         Asked::Cells,
         "endword ab 3\nalways ab 4\nword ab 5\n",
@@ -192,7 +201,7 @@ fn shown(alloc: Global, cells: &[Cell]) -> Result<String, AllocError> {
 }
 
 /// The answer for cells.
-fn cells_text(alloc: Global, book: &PlainRules, print: &str) -> Result<String, AllocError> {
+fn cells_text<B: RuleBook>(alloc: Global, book: &B, print: &str) -> Result<String, AllocError> {
     match translate(alloc, book, print) {
         Ok(translation) => shown(alloc, translation.cells.as_slice()),
         Err(fault) => format!(in alloc; "{fault}"),
@@ -207,7 +216,7 @@ fn places_in(alloc: Global, translation: Translation) -> Result<String, AllocErr
 }
 
 /// The answer for places.
-fn places_text(alloc: Global, book: &PlainRules, print: &str) -> Result<String, AllocError> {
+fn places_text<B: RuleBook>(alloc: Global, book: &B, print: &str) -> Result<String, AllocError> {
     match translate(alloc, book, print) {
         Ok(translation) => places_in(alloc, translation),
         Err(fault) => format!(in alloc; "{fault}"),
@@ -223,9 +232,9 @@ fn part_in(alloc: Global, part: &Part) -> Result<String, AllocError> {
 }
 
 /// The answer for a room.
-fn room_text(
+fn room_text<B: RuleBook>(
     alloc: Global,
-    book: &PlainRules,
+    book: &B,
     print: &str,
     room: usize,
 ) -> Result<String, AllocError> {
@@ -236,19 +245,19 @@ fn room_text(
 }
 
 /// The choices of a print of defined characters.
-fn choices_of(alloc: Global, book: &PlainRules, print: &str) -> Result<Vec<Choice>, Fail> {
+fn choices_of<B: RuleBook>(alloc: Global, book: &B, print: &str) -> Result<Vec<Choice>, Fail> {
     let print = defined_characters(alloc, book.table(), print)?;
     Ok(Choices::new(book, &print).collect(alloc)?)
 }
 
 /// The answer for choices.
-fn choices_text(alloc: Global, book: &PlainRules, print: &str) -> Result<String, Fail> {
+fn choices_text<B: RuleBook>(alloc: Global, book: &B, print: &str) -> Result<String, Fail> {
     let choices = choices_of(alloc, book, print)?;
     Ok(format!(in alloc; "{choices:?}")?)
 }
 
 /// What a rule book answers.
-fn answer(alloc: Global, book: &PlainRules, asked: Asked, print: &str) -> Result<String, Fail> {
+fn answer<B: RuleBook>(alloc: Global, book: &B, asked: Asked, print: &str) -> Result<String, Fail> {
     match asked {
         Asked::Cells => Ok(cells_text(alloc, book, print)?),
         Asked::Places => Ok(places_text(alloc, book, print)?),
@@ -257,17 +266,45 @@ fn answer(alloc: Global, book: &PlainRules, asked: Asked, print: &str) -> Result
     }
 }
 
-/// What the rule book of a table answers. It alone lets a table go, since the proof of a function that does is long.
-fn table_answer(alloc: Global, table: Table, asked: Asked, print: &str) -> Result<String, Fail> {
+/// A kind of rule book.
+#[derive(Clone, Copy)]
+enum Kind {
+    Plain,
+    Index,
+}
+
+/// What the rules of a table answer, all of which are looked at. It and `index_answer` alone let a table go, since
+/// the proof of a function that does is long.
+fn plain_answer(alloc: Global, table: Table, asked: Asked, print: &str) -> Result<String, Fail> {
     answer(alloc, &PlainRules::new(table), asked, print)
 }
 
-/// What the table of some lines and those of a row answers.
-fn row_answer(alloc: Global, lines: &str, row: &Row) -> Result<String, Fail> {
+/// What the index of a table answers.
+fn index_answer(alloc: Global, table: Table, asked: Asked, print: &str) -> Result<String, Fail> {
+    let index = RuleIndex::new(alloc, table)?;
+    answer(alloc, &index, asked, print)
+}
+
+/// What a rule book of the table in a text answers.
+fn text_answer(
+    alloc: Global,
+    kind: Kind,
+    text: &str,
+    asked: Asked,
+    print: &str,
+) -> Result<String, Fail> {
+    let table = Table::read(alloc, text.as_bytes())?;
+    match kind {
+        Kind::Plain => plain_answer(alloc, table, asked, print),
+        Kind::Index => index_answer(alloc, table, asked, print),
+    }
+}
+
+/// What a rule book of some lines and those of a row answers.
+fn row_answer(alloc: Global, kind: Kind, lines: &str, row: &Row) -> Result<String, Fail> {
     let (asked, more, print, _) = row;
     let text = format!(in alloc; "{lines}{more}")?;
-    let table = Table::read(alloc, text.as_bytes())?;
-    table_answer(alloc, table, *asked, print)
+    text_answer(alloc, kind, text.as_str(), *asked, print)
 }
 
 /// Asserts the answer of a row. The proof of a function grows with the square of its steps, so that this one
@@ -276,10 +313,19 @@ fn assert_answer(rt: &impl Abort, row: &Row, given: &str) {
     assert_eq!(rt; given, row.3, "of {}", row.2);
 }
 
-/// Asserts the answers of rows, by tables that begin with the same lines.
+/// Asserts the answers of rows by both kinds of rule book, of tables that begin with the same lines.
 fn assert_rows(rt: &impl Abort, alloc: Global, lines: &str, rows: &[Row]) -> Result<(), Fail> {
     for row in rows {
-        assert_answer(rt, row, row_answer(alloc, lines, row)?.as_str());
+        assert_answer(
+            rt,
+            row,
+            row_answer(alloc, Kind::Plain, lines, row)?.as_str(),
+        );
+        assert_answer(
+            rt,
+            row,
+            row_answer(alloc, Kind::Index, lines, row)?.as_str(),
+        );
     }
     Ok(())
 }

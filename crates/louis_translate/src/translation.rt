@@ -1,17 +1,14 @@
 //! The cells of a print, and which places belong together.
-ghost use Rattle.louis_translate.specs.Braille.{IsPart, IsTranslation, chosen_cells as chosen_cells_lem};
+ghost use Rattle.louis_translate.specs.Braille.{IsPart, IsTranslation};
 ghost use Rattle.louis_translate.specs.Position.{AreDefined, IsFirstUndefined};
-ghost use Rattle.std.specs.Option.{ForSome};
 ghost use Rattle.std.specs.Prelude.{◌≡◌, ◌+◌, ◌≤◌, ◌<◌, ◌↔◌, ◌++◌, ℕ, Err, IfOk, IsTrue, MatchBool, OnOk, length, replicate};
 ghost use Rattle.std.specs.Str.{chars};
 
-use super::choices::{Choice, Choices};
+use super::pieces::Pieces;
 use super::places::Places;
 use super::print::{Fault, defined_characters};
 use super::rule_book::RuleBook;
-use super::sign::Signs;
 use cell_core::{Cell, Cells};
-use louis_table::Table;
 use std::alloc::{AllocError, Global};
 
 /// The cells of a print, and where they come from.
@@ -34,21 +31,6 @@ pub struct Part {
     pub used: usize,
     /// Whether these are all.
     pub complete: bool,
-}
-
-/// The cells that the table gives for a choice, without a sign.
-pub(crate) fn chosen_cells<'a>(table: &'a Table, print: &[char], choice: Choice) -> &'a [Cell]
-    requires rule { ForSome choice.rule (λ k. k < length table.now.rules) }
-    requires start { choice.start < length print.now }
-    ensures { result.now ≡ chosen_cells_lem table.now print.now choice.start choice.rule }
-{
-    match choice.rule {
-        Some(index) => table.rules()[index].cells.as_slice(),
-        None => match table.definition(print[choice.start]) {
-            Some(definition) => definition.cells.as_slice(),
-            None => &[],
-        },
-    }
 }
 
 /// Adds a place so many times.
@@ -74,13 +56,16 @@ fn translate_print<B: RuleBook>(
     let mut cells = Vec::new(alloc);
     let mut output_pos = Vec::new(alloc);
     let mut input_pos = Vec::new(alloc);
-    let mut signs = Signs::new(book.table(), print);
-    for choice in Choices::new(book, print) {
+    for piece in Pieces::new(book, print) {
         let before = cells.len();
-        push_copies(&mut output_pos, choice.end - choice.start, before)?;
-        cells.extend_from_slice(signs.at(choice.start))?;
-        cells.extend_from_slice(chosen_cells(book.table(), print, choice))?;
-        push_copies(&mut input_pos, cells.len() - before, choice.start)?;
+        push_copies(
+            &mut output_pos,
+            piece.choice.end - piece.choice.start,
+            before,
+        )?;
+        cells.extend_from_slice(piece.sign)?;
+        cells.extend_from_slice(piece.own)?;
+        push_copies(&mut input_pos, cells.len() - before, piece.choice.start)?;
     }
     Ok(Translation {
         cells: Cells::from_vec(cells),
@@ -128,16 +113,13 @@ fn fill<B: RuleBook>(
 {
     let mut cells = Vec::new(alloc);
     let mut used = 0;
-    let mut signs = Signs::new(book.table(), print);
-    for choice in Choices::new(book, print) {
-        let sign = signs.at(choice.start);
-        let own = chosen_cells(book.table(), print, choice);
-        if !have_room(sign, own, room - cells.len()) {
+    for piece in Pieces::new(book, print) {
+        if !have_room(piece.sign, piece.own, room - cells.len()) {
             break;
         }
-        cells.extend_from_slice(sign)?;
-        cells.extend_from_slice(own)?;
-        used = choice.end;
+        cells.extend_from_slice(piece.sign)?;
+        cells.extend_from_slice(piece.own)?;
+        used = piece.choice.end;
     }
     Ok(Part {
         cells: Cells::from_vec(cells),

@@ -15,13 +15,13 @@ pub returns-then-eq : goal.returns-then-eq
 returns-then-eq g c =
     let same = (bytes_eq-Decides c.args.path.now c.as_bytes.result.now).0 (sym c.eq.ensures ∙ c.if-eq.true) ∙ c.as_bytes.ensures.value in
     let at = supplied same c.as_bytes-then-eq.ensures.value in
-    carried c.read_text.result _ _ _ _ (λ table h. (c.as_bytes-then-eq.result.now, at, h)) (λ fault h. of_text c.as_bytes-then-eq.result.now at h) c.read_text.ensures
+    carried c.index_text.result _ _ _ _ (λ table h. (c.as_bytes-then-eq.result.now, at, h)) (λ fault h. of_text c.as_bytes-then-eq.result.now at h) c.index_text.ensures
 
 pub returns-in-Ok-read_file : goal.returns-in-Ok-read_file
 returns-in-Ok-read_file g c =
     let other : c.args.path.now ≢ codes "@en" = λ e. both_ways _ c.if-eq.false (c.eq.ensures ∙ (bytes_eq-Decides c.args.path.now c.as_bytes.result.now).1 (e ∙ sym c.as_bytes.ensures.value)) in
     let at = in_file other (subst (λ (path : List ℕ). IsRead (g.F.Shelf.at c.args.rt.now path) c.in-Ok-read_file.text.items) c.in-Ok.ensures.cases.0 c.in-Ok-read_file.ensures) in
-    carried c.read_text-in-Ok-read_file.result _ _ _ _ (λ table h. (c.in-Ok-read_file.text.items, at, h)) (λ fault h. of_text c.in-Ok-read_file.text.items at h) (rw c.as_slice.ensures.value at c.read_text-in-Ok-read_file.ensures)
+    carried c.index_text-in-Ok-read_file.result _ _ _ _ (λ table h. (c.in-Ok-read_file.text.items, at, h)) (λ fault h. of_text c.in-Ok-read_file.text.items at h) (rw c.as_slice.ensures.value at c.index_text-in-Ok-read_file.ensures)
 
 pub returns-in-Err : goal.returns-in-Err
 returns-in-Err g c =

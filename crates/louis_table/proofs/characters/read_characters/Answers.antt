@@ -1,4 +1,4 @@
-use Rattle.std.proofs.Common.{◌≡◌, ◌++◌, ◌∷◌, [], List, ℕ, sym, subst}
+use Rattle.std.proofs.Common.{List, ℕ, sym, subst}
 use Rattle.louis_table.proofs.CharacterLaws.{SpellsOn, SpellsOn-none, SpellsOn-more}
 use Rattle.louis_table.proofs.characters.read_characters.Goals as goal
 

@@ -1,7 +1,5 @@
-use Rattle.std.proofs.Common.{◌≡◌, List, ℕ, refl, sym, ap, subst, ◌∙◌, Some, Err}
+use Rattle.std.proofs.Common.{refl, sym, ap, ◌∙◌, Err}
 use Rattle.std.proofs.lemmas.Bool.{lt-ltb, le-ltb}
-use Rattle.cell_core.specs.Reading.{cells_in}
-use Rattle.louis_table.specs.Reading.{are_many}
 use Rattle.louis_table.proofs.StepLaws.{cells_in-read, cells_in-unread}
 use Rattle.louis_table.proofs.dots.read_cells.Goals as goal
 

@@ -1,4 +1,4 @@
-use Rattle.std.proofs.Common.{◌≡◌, List, ℕ, None, refl, Err, sym, ap, subst, ◌∙◌, codes}
+use Rattle.std.proofs.Common.{None, refl, Err, sym, ap, subst, ◌∙◌}
 use Rattle.std.proofs.lemmas.Result.{err_from_is_err_and}
 use Rattle.louis_table.specs.Reading.{ReadsRule, rule_in}
 use Rattle.louis_table.proofs.StepLaws.{rule_in-equals, rule_fault, rule_told, rule_untold}

@@ -1,5 +1,5 @@
-use Rattle.std.proofs.Common.{◌≡◌, List, ℕ, Some, sym, ap, subst, ◌∙◌, inl, inr}
-use Rattle.louis_table.specs.declared.opcode.Opcode.TheVariants.{Define, UpLow, Replace, Announce}
+use Rattle.std.proofs.Common.{Some, sym, ap, subst, ◌∙◌, inl, inr}
+use Rattle.louis_table.specs.declared.opcode.Opcode.TheVariants.{Define, UpLow, Replace, Announce, Collect}
 use Rattle.louis_table.specs.Reading.{IsVerdict}
 use Rattle.louis_table.proofs.StepLaws.{nil_from_test, not_nil_from_test, judge_line-skipped, judge_line-unknown, judge_line-known}
 use Rattle.louis_table.proofs.line.read_line.Goals as goal
@@ -31,3 +31,7 @@ returns-in-Replace c =
 pub returns-in-Announce : goal.returns-in-Announce
 returns-in-Announce c =
     subst (IsVerdict c.read_sign.result) (sym (judge_line-known c.args.table.now c.args.line.now c.next_field.result.0.now c.next_field.result.1.now c.next_field.ensures.field c.next_field.ensures.rest (not_nil_from_test _ _ c.is_empty.ensures c.if-is_empty.false) c.index-name-0.result c.index-name-0.is c.if-name-eq-COMMENT.false (Announce c.in-Announce.sign) (ap Some (sym c.in-Announce.is) ∙ c.in-Some.ensures))) c.read_sign.ensures
+
+pub returns-in-Collect : goal.returns-in-Collect
+returns-in-Collect c =
+    subst (IsVerdict c.read_set.result) (sym (judge_line-known c.args.table.now c.args.line.now c.next_field.result.0.now c.next_field.result.1.now c.next_field.ensures.field c.next_field.ensures.rest (not_nil_from_test _ _ c.is_empty.ensures c.if-is_empty.false) c.index-name-0.result c.index-name-0.is c.if-name-eq-COMMENT.false (Collect c.in-Collect.set) (ap Some (sym c.in-Collect.is) ∙ c.in-Some.ensures))) c.read_set.ensures

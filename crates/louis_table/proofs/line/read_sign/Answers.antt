@@ -1,4 +1,4 @@
-use Rattle.std.proofs.Common.{◌≡◌, List, ℕ, true, false, not, eqb, length, refl, Some, Err, sym, ap, subst, ◌∙◌}
+use Rattle.std.proofs.Common.{List, ℕ, true, false, not, eqb, length, refl, Some, Err, sym, ap, subst, ◌∙◌}
 use Rattle.std.proofs.lemmas.Result.{err_from_is_err_and}
 use Rattle.louis_table.specs.declared.opcode.Opcode.TheVariants.{Announce}
 use Rattle.louis_table.specs.Table.{Announces}

@@ -1,4 +1,4 @@
-use Rattle.std.proofs.Common.{◌≡◌, ap, ◌∙◌, Bor, List, ℕ}
+use Rattle.std.proofs.Common.{ap, ◌∙◌, Bor, List, ℕ}
 use Rattle.louis_table.proofs.ReturnLaws.{unwrap_or-strip_last}
 use Rattle.louis_table.proofs.lines.without_return.Goals as goal
 

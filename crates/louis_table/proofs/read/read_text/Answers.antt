@@ -1,4 +1,4 @@
-use Rattle.std.proofs.Common.{◌≡◌, sym, subst}
+use Rattle.std.proofs.Common.{sym, subst}
 use Rattle.std.specs.Prelude.{map}
 use Rattle.std.specs.Str.{chars}
 use Rattle.louis_table.specs.Lines.{lines_of}
@@ -10,4 +10,4 @@ use Rattle.louis_table.proofs.read.read_text.Goals as goal
 pub returns-clause-ok : goal.returns-clause-ok
 returns-clause-ok c =
     subst (λ (meaning : Meaning). LinesMean (map chars (lines_of c.args.text.now)) meaning) (sym c.with_rules.ensures)
-    (LinesMean-finished (map chars (lines_of c.args.text.now)) c.in_ok-draft.draft.table c.in_ok-draft.draft.rules.items c.in_ok-rules.rules.items c.in_ok-draft.ensures.ok c.in_ok-rules.ensures.0 c.in_ok-rules.ensures.1)
+    (LinesMean-finished (map chars (lines_of c.args.text.now)) c.in_ok-draft.draft.table c.in_ok-draft.draft.written.items c.in_ok-rules.rules.items c.in_ok-draft.ensures.ok c.in_ok-rules.ensures.0 c.in_ok-rules.ensures.1)

@@ -1,4 +1,4 @@
-use Rattle.std.proofs.Common.{◌≡◌, Ok, Err, sym, ap, subst, ◌∙◌, inl, inr}
+use Rattle.std.proofs.Common.{Err, sym, ap, subst, ◌∙◌, inl, inr}
 use Rattle.std.proofs.lemmas.Result.{err_from_is_err_and}
 use Rattle.louis_table.specs.Reading.{TakesLine, entry_in, judge}
 use Rattle.louis_table.proofs.VerdictLaws.{judge-beyond, judge-within, judge_line-CanTake}
@@ -27,5 +27,5 @@ pub returns-in-Ok : goal.returns-in-Ok
 returns-in-Ok c = (
   entry_in c.in_ok-given.given,
   judge-within c.args.draft.now.table c.args.before c.args.line.now _ c.in_ok-given.ensures c.if-line-gt-MOST_LINE_CHARACTERS.false c.if-before-ge-MOST_LINES.false,
-  record { table = c.in-Ok.ensures.table; rules = c.in-Ok.ensures.rules },
+  record { table = c.in-Ok.ensures.table; written = c.in-Ok.ensures.written },
 )

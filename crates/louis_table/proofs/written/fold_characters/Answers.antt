@@ -1,4 +1,4 @@
-use Rattle.std.proofs.Common.{◌≡◌, List, ℕ, ◌<◌, length, set, ap, arith, ◌∙◌}
+use Rattle.std.proofs.Common.{ℕ, ◌<◌, length, set, ap, arith, ◌∙◌}
 use Rattle.std.proofs.lemmas.List.{get_or_default}
 use Rattle.std.proofs.lemmas.List.Edits.{map_over_more}
 use Rattle.louis_table.specs.Meaning.{folded}

@@ -1,6 +1,5 @@
 use Rattle.std.proofs.Common.{◌≡◌, ◌++◌, map, take, drop}
 use Rattle.louis_table.specs.Meaning.{folded}
-use Rattle.louis_table.specs.Reading.{are_defined, cells_of_all}
 use Rattle.louis_table.proofs.written.fold_characters.Given as goal
 
 -- the characters so far are folded

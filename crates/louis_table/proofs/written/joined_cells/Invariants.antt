@@ -1,6 +1,5 @@
-use Rattle.std.proofs.Common.{◌≡◌, ◌++◌, map, take, drop}
-use Rattle.louis_table.specs.Meaning.{folded}
-use Rattle.louis_table.specs.Reading.{are_defined, cells_of_all}
+use Rattle.std.proofs.Common.{◌≡◌, take}
+use Rattle.louis_table.specs.Reading.{cells_of_all}
 use Rattle.louis_table.proofs.written.joined_cells.Given as goal
 
 -- the cells of the characters so far

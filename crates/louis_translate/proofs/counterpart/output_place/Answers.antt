@@ -1,7 +1,8 @@
 use Rattle.std.proofs.Common.{◌≡◌, ℕ, ◌+◌, ◌<◌, length, sym, ap, subst, ◌∙◌, arith}
 use Rattle.louis_translate.specs.Remainder.{Remainder}
 use Rattle.louis_translate.specs.Piece.{IsPieceAt}
-use Rattle.louis_translate.proofs.Counterparts.{OutputLeft, OutputLeft-start, OutputLeft-fits, OutputLeft-step, OutputLeft-found, given_at}
+use Rattle.louis_translate.proofs.PieceLists.{given_at}
+use Rattle.louis_translate.proofs.Counterparts.{OutputLeft, OutputLeft-start, OutputLeft-fits, OutputLeft-step, OutputLeft-found}
 use Rattle.louis_translate.proofs.counterpart.output_place.Goals as goal
 
 pub loop-piece-init : goal.loop-piece-init
@@ -14,7 +15,7 @@ loop-piece-init g c =
       meaning_is = ap (λ (r : Remainder). r.meaning) made;
       print_is = ap (λ (r : Remainder). r.print) made;
       from = omega arith;
-      left = subst (λ (i : ℕ). OutputLeft meaning print c.args.place i 0) (sym start) (OutputLeft-start meaning print c.args.place c.requires.countable);
+      left = subst (λ (i : ℕ). OutputLeft meaning print i 0) (sym start) (OutputLeft-start meaning print);
     }
 
 pub returns-then-place-piece : goal.returns-then-place-piece
@@ -26,7 +27,7 @@ returns-then-place-piece g c =
     let piece = c.in-Some.piece in
     let i = c.loop-piece.piece-iterator.at in
     let at : (i < length print) × IsPieceAt meaning print i piece = given_at _ meaning _ print i piece inv.meaning_is inv.print_is step.0 step.1 in
-    OutputLeft-found meaning print c.args.place i c.loop-piece.before piece inv.left at.0 at.1 c.if-place-piece.true
+    OutputLeft-found meaning print c.args.place i c.loop-piece.before piece inv.left at.0 at.1 inv.from c.if-place-piece.true
 
 pub overflow_add-before-in-loop-piece : goal.overflow_add-before-in-loop-piece
 overflow_add-before-in-loop-piece g c =
@@ -37,7 +38,7 @@ overflow_add-before-in-loop-piece g c =
     let piece = c.in-Some.piece in
     let i = c.loop-piece.piece-iterator.at in
     let at : (i < length print) × IsPieceAt meaning print i piece = given_at _ meaning _ print i piece inv.meaning_is inv.print_is step.0 step.1 in
-    omega (arith, OutputLeft-fits meaning print c.args.place i c.loop-piece.before piece inv.left at.0 at.1)
+    omega (arith, OutputLeft-fits meaning print i c.loop-piece.before piece inv.left at.0 at.1 c.requires.countable)
 
 pub loop-piece-preserved : goal.loop-piece-preserved
 loop-piece-preserved g c =
@@ -54,8 +55,8 @@ loop-piece-preserved g c =
       print_is = ap (λ (r : Remainder). r.print) step.2 ∙ inv.print_is;
       from = let past = c.if-place-piece.false in omega arith;
       left =
-          subst (λ (k : ℕ). OutputLeft meaning print c.args.place k (c.loop-piece.before + (length piece.sign.now + length piece.own.now))) (sym next)
-          (OutputLeft-step meaning print c.args.place i c.loop-piece.before piece inv.left at.0 at.1 c.if-place-piece.false);
+          subst (λ (k : ℕ). OutputLeft meaning print k (c.loop-piece.before + (length piece.sign.now + length piece.own.now))) (sym next)
+          (OutputLeft-step meaning print i c.loop-piece.before piece inv.left at.0 at.1);
     }
 
 pub unreachable-requires : goal.unreachable-requires

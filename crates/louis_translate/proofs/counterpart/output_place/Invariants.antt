@@ -10,5 +10,5 @@ invariant-loop-piece g l =
       meaning_is : l.piece-iterator.meaning ≡ meaning;
       print_is : l.piece-iterator.print ≡ l.print;
       from : l.piece-iterator.at ≤ l.place;
-      left : OutputLeft meaning l.print l.place l.piece-iterator.at l.before;
+      left : OutputLeft meaning l.print l.piece-iterator.at l.before;
     }

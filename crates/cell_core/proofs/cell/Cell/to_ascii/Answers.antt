@@ -1,4 +1,4 @@
-use Rattle.std.proofs.Common.{ap, sym, ◌∙◌, Some}
+use Rattle.std.proofs.Common.{ap, ◌∙◌, Some}
 use Rattle.std.specs.Prelude.{slice_index}
 use Rattle.cell_core.specs.Ascii.{ascii_cell}
 use Rattle.cell_core.proofs.AsciiLaws.{ascii_bytes, ascii_cell-bytes}

@@ -1,4 +1,3 @@
-use Rattle.std.proofs.Common.{◌∙◌}
 use Rattle.louis_table.proofs.PlaceLaws.{AreIn-push_first, AreIn-push_later}
 use Rattle.louis_table.proofs.char_map.CharMap.insert.Goals as goal
 

@@ -1,0 +1,152 @@
+-- Each definition and each rule of a table that a text means has a cell.
+use Rattle.std.proofs.Common.{◌≡◌, ◌≢◌, ℕ, zero, suc, ◌+◌, ◌<◌, Bool, true, false, cond, List, [], ◌∷◌, ◌++◌, length, Option, Some, None, Contains, refl, sym, ap, subst, ◌∙◌, ◌⊎◌, inl, inr, arith}
+use Rattle.std.specs.Prelude.{map, nat_eq, slice_get}
+use Rattle.std.specs.List.{AllByRecursion, flat_map}
+use Rattle.std.proofs.lemmas.List.Elements.{Contains-append_right}
+use Rattle.std.specs.Map.{lookup}
+use Rattle.std.proofs.lemmas.Bool.{cases_Bool}
+use Rattle.cell_core.specs.Dots.{Dots}
+use Rattle.louis_table.specs.declared.definition.Class.TheVariants.{Letter}
+use Rattle.louis_table.specs.declared.definition.Definition.{Definition}
+use Rattle.louis_table.specs.declared.rule.RuleKind.{RuleKind}
+use Rattle.louis_table.specs.declared.rule.Rule.{Rule}
+use Rattle.louis_table.specs.Characters.{Spells}
+use Rattle.louis_table.specs.Fields.{HasFields}
+use Rattle.louis_table.specs.Meaning.{Meaning, HasCells, definition_of, folded}
+use Rattle.louis_table.specs.Profile.{Profile}
+use Rattle.louis_table.specs.Table.{Entry, Defines, Pairs, Replaces, Announces, Collects, PairDots, RuleDots, GivesIn, definition_line, pair_line, rule_line, sign_line, set_line, GiveFromIn, definitions_in, cells_in_definition, rule_cells, rules_in, IsMadeOf, IsLacking, MeansIn}
+
+-- ---- what a line gives
+
+some_dots : (text cells : List ℕ) → Dots text cells → cells ≢ []
+some_dots text [] dots = absurd dots
+some_dots text (cell ∷ cells) dots = λ e. cc
+
+pair_dots : (dots upper lower : List ℕ) → PairDots dots upper lower → (upper ≢ []) × (lower ≢ [])
+pair_dots dots upper lower (inl (h, e)) = (some_dots dots upper h, λ none. some_dots dots upper h (sym e ∙ none))
+pair_dots dots upper lower (inr (first, second, e, h, k)) = (some_dots first upper h, some_dots second lower k)
+
+-- a field spells a character at least
+some_characters : (field text : List ℕ) → field ≢ [] → Spells field text → text ≢ []
+some_characters field [] some spells = λ e. some spells
+some_characters field (c ∷ text) some spells = λ e. cc
+
+second_field : (line name field : List ℕ) (fields : List (List ℕ)) → HasFields line (name ∷ field ∷ fields) → field ≢ []
+second_field line name [] fields h = absurd h.2.1.is_field
+second_field line name (c ∷ field) fields h = λ e. cc
+
+abbrev MakesCells : Entry → Type 0
+MakesCells (Defines character defined) = defined.cells ≢ []
+MakesCells (Pairs upper upper_cells lower lower_cells) = (upper_cells ≢ []) × (lower_cells ≢ [])
+MakesCells (Replaces kind text cells) = (text ≢ []) × ((written : List ℕ) → cells ≡ Some written → written ≢ [])
+MakesCells (Announces sign cells) = Unit {0}
+MakesCells (Collects set text) = Unit {0}
+
+rule_dots : (dots : List ℕ) (cells : Option (List ℕ)) → RuleDots dots cells → (written : List ℕ) → cells ≡ Some written → written ≢ []
+rule_dots dots None h written e = cc
+rule_dots dots (Some cells) h written e = let same : cells ≡ written = cc in λ none. some_dots dots cells h (same ∙ none)
+
+gives-cells : (profile : Profile) (line : List ℕ) (entry : Entry) → GivesIn profile line entry → MakesCells entry
+gives-cells profile line entry (definition_line class characters dots c cells has h s d e) = subst MakesCells (sym e) (some_dots dots cells d)
+gives-cells profile line entry (pair_line characters dots upper lower upper_cells lower_cells has h s d e) = subst MakesCells (sym e) (pair_dots dots upper_cells lower_cells d)
+gives-cells profile line entry (rule_line kind characters dots text cells has h s d e) =
+    subst MakesCells (sym e) (some_characters characters text (second_field line _ characters (dots ∷ []) h) s, rule_dots dots cells d)
+gives-cells profile line entry (sign_line sign dots cells has h d e) = subst MakesCells (sym e) tt
+gives-cells profile line entry (set_line set characters text has h s e) = subst MakesCells (sym e) tt
+
+-- ---- what the lines give
+
+all_append : {X : Type 0} (P : X → Type 0) (xs ys : List X) → AllByRecursion P xs → AllByRecursion P ys → AllByRecursion P (xs ++ ys)
+all_append P [] ys h k = k
+all_append P (x ∷ xs) ys h k = (h.0, all_append P xs ys h.1 k)
+
+all_at : {X : Type 0} (P : X → Type 0) (xs : List X) (k : ℕ) (x : X) → AllByRecursion P xs → slice_get xs k ≡ Some x → P x
+all_at P [] k x h e = cc
+all_at P (y ∷ xs) zero x h e = subst P (let same : y ≡ x = cc in same) h.0
+all_at P (y ∷ xs) (suc k) x h e = all_at P xs k x h.1 e
+
+all_of_each : {X : Type 0} (P : X → Type 0) (xs : List X) → ((x : X) → Contains xs x → P x) → AllByRecursion P xs
+all_of_each P [] h = tt
+all_of_each P (x ∷ xs) h = (h x (0, omega arith, refl), all_of_each P xs (λ y c. h y (Contains-append_right (x ∷ []) xs y c)))
+
+entries-cells : (profile : Profile) (n : ℕ) (lines : List (List ℕ)) (entries : List (ℕ × Entry)) → GiveFromIn profile n lines entries
+    → AllByRecursion (λ e. MakesCells e.1) entries
+entries-cells profile n [] entries h = subst (AllByRecursion (λ (e : ℕ × Entry). MakesCells e.1)) (sym h) tt
+entries-cells profile n (line ∷ lines) entries (inl (says, h)) = entries-cells profile (n + 1) lines entries h
+entries-cells profile n (line ∷ lines) entries (inr (entry, rest, gives, e, h)) =
+    subst (AllByRecursion (λ (e : ℕ × Entry). MakesCells e.1)) (sym e)
+    (gives-cells profile line entry gives, entries-cells profile (n + 1) lines rest h)
+
+abbrev HasSome : Definition → Type 0
+HasSome defined = defined.cells ≢ []
+
+definition-cells : (entry : Entry) → MakesCells entry → AllByRecursion (λ d. HasSome d.1) (definitions_in entry)
+definition-cells (Defines character defined) h = (h, tt)
+definition-cells (Pairs upper upper_cells lower lower_cells) h = (h.0, (h.1, tt))
+definition-cells (Replaces kind text cells) h = tt
+definition-cells (Announces sign cells) h = tt
+definition-cells (Collects set text) h = tt
+
+definitions-cells : (entries : List (ℕ × Entry)) → AllByRecursion (λ e. MakesCells e.1) entries
+    → AllByRecursion (λ d. HasSome d.1) (flat_map (λ e. definitions_in e.1) entries)
+definitions-cells [] h = tt
+definitions-cells (e ∷ entries) h =
+    all_append (λ (d : ℕ × Definition). HasSome d.1) (definitions_in e.1) (flat_map (λ e. definitions_in e.1) entries)
+    (definition-cells e.1 h.0) (definitions-cells entries h.1)
+
+found-cells : (c : ℕ) (definitions : List (ℕ × Definition)) (defined : Definition) → AllByRecursion (λ d. HasSome d.1) definitions
+    → lookup (nat_eq c) definitions ≡ Some defined → HasSome defined
+found-cells c [] defined h e = cc
+found-cells c ((d, first) ∷ definitions) defined h e =
+    elim (cases_Bool (nat_eq c d)) [
+      | inl same ↦ let found : Some first ≡ Some defined = rw same at e in subst HasSome (let one : first ≡ defined = cc in one) h.0
+      | inr other ↦ found-cells c definitions defined h.1 (rw other at e)
+    ]
+
+-- ---- rules
+
+joined_cells : (xs ys : List ℕ) → xs ≢ [] → xs ++ ys ≢ []
+joined_cells [] ys some = λ e. some refl
+joined_cells (x ∷ xs) ys some = λ e. cc
+
+module _ (meaning : Meaning) (known : (c : ℕ) (defined : Definition) → definition_of meaning c ≡ Some defined → HasSome defined) where
+  defined-cells : (c : ℕ) → definition_of meaning c ≢ None → cells_in_definition (definition_of meaning c) ≢ []
+  defined-cells c some = at (definition_of meaning c) refl
+    where
+      at : (o : Option Definition) → definition_of meaning c ≡ o → cells_in_definition o ≢ []
+      at None e = absurd (some e)
+      at (Some defined) e = known c defined e
+
+  spelled-cells : (text : List ℕ) → text ≢ [] → ((c : ℕ) → Contains text c → definition_of meaning (folded meaning c) ≢ None)
+      → rule_cells meaning (map (folded meaning) text) None ≢ []
+  spelled-cells [] some all = λ e. some refl
+  spelled-cells (c ∷ text) some all =
+      joined_cells _ _ (defined-cells (folded meaning c) (all c (0, omega arith, refl)))
+
+  rule-cells : (n : ℕ) (entry : Entry) → MakesCells entry → (IsLacking meaning entry → ⊥) → AllByRecursion (λ r. r.cells ≢ []) (rules_in meaning (n, entry))
+  rule-cells n (Defines character defined) h complete = tt
+  rule-cells n (Pairs upper upper_cells lower lower_cells) h complete = tt
+  rule-cells n (Replaces kind text None) h complete = (spelled-cells text h.0 (λ c there none. complete (c, there, none)), tt)
+  rule-cells n (Replaces kind text (Some cells)) h complete = (h.1 cells refl, tt)
+  rule-cells n (Announces sign cells) h complete = tt
+  rule-cells n (Collects set text) h complete = tt
+
+  rules-cells : (entries : List (ℕ × Entry)) → AllByRecursion (λ e. MakesCells e.1) entries → AllByRecursion (λ e. IsLacking meaning e.1 → ⊥) entries
+      → AllByRecursion (λ r. r.cells ≢ []) (flat_map (rules_in meaning) entries)
+  rules-cells [] h complete = tt
+  rules-cells ((n, entry) ∷ entries) h complete =
+      all_append (λ (r : Rule). r.cells ≢ []) (rules_in meaning (n, entry)) (flat_map (rules_in meaning) entries)
+      (rule-cells n entry h.0 complete.0) (rules-cells entries h.1 complete.1)
+
+pub has_cells : (profile : Profile) (bytes : List ℕ) (meaning : Meaning) → MeansIn profile bytes meaning → HasCells meaning
+has_cells profile bytes meaning means =
+    let all = entries-cells profile 1 _ means.entries means.given in
+    let known : (c : ℕ) (defined : Definition) → definition_of meaning c ≡ Some defined → HasSome defined =
+    λ c defined e. found-cells c meaning.definitions defined
+    (subst (AllByRecursion (λ (d : ℕ × Definition). HasSome d.1)) (sym means.made.definitions) (definitions-cells means.entries all)) e in
+    let complete = all_of_each (λ (e : ℕ × Entry). IsLacking meaning e.1 → ⊥) means.entries (λ e there. means.is_complete e.0 e.1 there) in
+    record {
+      definitions = known;
+      rules = λ k rule there. all_at (λ (r : Rule). r.cells ≢ []) meaning.rules k rule
+          (subst (AllByRecursion (λ (r : Rule). r.cells ≢ [])) (sym means.made.rules) (rules-cells meaning known means.entries all complete)) there;
+    }

@@ -1,0 +1,12 @@
+-- The profiles of the table language.
+
+-- what came first, and what numbers in their own mode have besides
+pub data Profile : Type 0 where
+  WithoutNumericMode : Profile
+  WithNumericMode : Profile
+
+-- what came with the one profile is in the other
+abbrev pub Includes : Profile → Profile → Type 0
+Includes WithoutNumericMode WithoutNumericMode = Unit {0}
+Includes WithoutNumericMode WithNumericMode = ⊥
+Includes WithNumericMode earlier = Unit {0}

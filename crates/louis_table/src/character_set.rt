@@ -1,0 +1,10 @@
+//! Sets of characters that a table treats alike.
+
+/// A set of characters of a table.
+#[derive(Clone, Copy)]
+pub(crate) enum CharacterSet {
+    /// Those that stand within a number beside its digits.
+    NumericMode,
+    /// Those that need the sign of no contraction where they follow a number.
+    NoContraction,
+}

@@ -1,0 +1,35 @@
+use Rattle.std.proofs.Common.{◌≡◌, ℕ, List, [], length, true, refl, ap, sym, ◌∙◌, arith, inl, inr}
+use Rattle.std.specs.Prelude.{◌==◌}
+use Rattle.std.proofs.lemmas.Bool.{both_ways, cases_order}
+use Rattle.std.proofs.lemmas.Bool.Decides.{nat_tests}
+use Rattle.std.proofs.lemmas.List.{nil_from_length}
+use Rattle.louis_translate.specs.Sign.{sign_at}
+use Rattle.louis_translate.proofs.Runs.{sign_at-same}
+use Rattle.louis_translate.proofs.covering.has_no_sign_inside.Goals as goal
+
+is_nil : (xs : List ℕ) → (length xs == 0) ≡ true → xs ≡ []
+is_nil xs e = nil_from_length xs (grind (arith, nat_tests))
+
+pub returns-then-not-is_empty : goal.returns-then-not-is_empty
+returns-then-not-is_empty c =
+    let inv = c.loop-place.invariant in
+    let place = c.loop-place.place in
+    let same = c.at.ensures.sign ∙ sign_at-same c.args.table.now _ c.args.print.now _ place _ (sym inv.table_is) (sym inv.print_is) refl in (
+      λ e. absurd cc,
+      λ all. absurd (both_ways _ c.if-not-is_empty.true (c.is_empty.ensures ∙ ap (λ (xs : List ℕ). length xs == 0) (same ∙ all place (omega arith) (omega arith)))),
+    )
+
+pub loop-place-preserved : goal.loop-place-preserved
+loop-place-preserved c =
+    let inv = c.loop-place.invariant in
+    let place = c.loop-place.place in
+    let same = c.at.ensures.sign ∙ sign_at-same c.args.table.now _ c.args.print.now _ place _ (sym inv.table_is) (sym inv.print_is) refl in
+    let here = sym same ∙ is_nil c.at.result.now (sym c.is_empty.ensures ∙ c.if-not-is_empty.false) in
+    record {
+      table_is = c.at.ensures.table ∙ inv.table_is;
+      print_is = c.at.ensures.print ∙ inv.print_is;
+      no_sign_inside = λ k more less. elim (cases_order k place) [
+        | inl e ↦ ap (sign_at c.args.table.now c.args.print.now) e ∙ here
+        | inr ne ↦ elim ne [ inl under ↦ inv.no_sign_inside k more under | inr over ↦ absurd (omega arith) ]
+      ];
+    }

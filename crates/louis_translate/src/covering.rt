@@ -1,0 +1,61 @@
+//! Which places of a print a rule may cover.
+ghost use Rattle.louis_translate.specs.Covering.{MayCover};
+ghost use Rattle.louis_translate.specs.Sign.{sign_at};
+ghost use Rattle.std.specs.Bool.{OnTrue};
+ghost use Rattle.std.specs.Prelude.{◌≡◌, ◌<◌, ◌≤◌, ◌↔◌, ℕ, [], length, IsTrue};
+
+use super::position::{class_at, fits, is_digit};
+use super::sign::Signs;
+use louis_table::{RuleKind, Table};
+
+/// Whether a character needs no sign, whatever stands beside it: it is neither a capital nor a digit, and none that takes
+/// a sign after a number.
+#[inline(always)]
+fn is_plain(table: &Table, print: &[char], place: usize) -> bool
+    requires { place < length print.now }
+    ensures { OnTrue result (sign_at table.now print.now place ≡ []) }
+{
+    if table.capital(print[place]) {
+        return false;
+    }
+    if is_digit(class_at(table, print, place)) {
+        return false;
+    }
+    if table.nocontractsign().is_empty() {
+        return true;
+    }
+    !table.nocontract_chars().contains(&print[place])
+}
+
+/// Whether no sign stands between the places `start` and `end`, without these two.
+fn has_no_sign_inside(table: &Table, print: &[char], start: usize, end: usize) -> bool
+    requires order { start < end }
+    requires within { end ≤ length print.now }
+    ensures { IsTrue result ↔ ((k : ℕ) → start < k → k < end → sign_at table.now print.now k ≡ []) }
+{
+    let mut signs = Signs::new(table, print);
+    for place in start + 1..end {
+        if is_plain(table, print, place) {
+            continue;
+        }
+        if !signs.at(place).is_empty() {
+            return false;
+        }
+    }
+    true
+}
+
+/// Whether a rule of a kind may cover the places from `start` up to `end`, where its characters stand there.
+pub(crate) fn may_cover(
+    table: &Table,
+    print: &[char],
+    kind: RuleKind,
+    start: usize,
+    end: usize,
+) -> bool
+    requires order { start < end }
+    requires within { end ≤ length print.now }
+    ensures { IsTrue result ↔ MayCover table.now print.now kind start end }
+{
+    fits(table, print, kind, start, end) && has_no_sign_inside(table, print, start, end)
+}

@@ -1,0 +1,118 @@
+//! A rule book that finds its rules by their characters.
+ghost use Rattle.louis_translate.specs.Choice.{IsChosen};
+ghost use Rattle.louis_translate.specs.Search.{IsWhole};
+ghost use Rattle.louis_translate.specs.Start.{AreStarts, MayStart};
+ghost use Rattle.std.specs.Prelude.{◌≡◌, ◌<◌, ◌*◌, length};
+
+use super::indexed_table::IndexedTable;
+use super::rule_book::RuleBook;
+use super::start::{Start, make_starts, start_at};
+use super::tree_search::{best_in_group, walk};
+use louis_table::Table;
+use std::alloc::{AllocError, Global};
+use std::marker::Model;
+
+/// A table, whose rules are found by a walk along the print down a tree of their characters. Contracts see it as
+/// what the table says.
+pub struct RuleIndex {
+    index: IndexedTable,
+    // where walks begin
+    starts: Vec<Start>,
+}
+
+impl Model for RuleIndex {
+    ghost use Rattle.louis_table.specs.Meaning.{Meaning};
+    ghost use Rattle.louis_translate.specs.Search.{IsWhole};
+    ghost use Rattle.louis_translate.specs.Start.{AreAll, AreStarts};
+
+    ghost Value = { Meaning };
+
+    ghost view = { λ r. r.index.table };
+
+    ghost invariant = { λ r. IsWhole r.index × AreStarts r.index.table r.index.tree r.starts.items
+        × AreAll r.index.table r.starts.items };
+}
+
+// Written out, as the drop of a table is.
+impl Drop for RuleIndex {
+    fn drop(self) {
+        let RuleIndex {
+            index: _,
+            starts: _,
+        } = self;
+    }
+}
+
+impl RuleIndex {
+    ghost use Rattle.std.specs.Prelude.{◌≡◌, IfOk};
+
+    /// The index of a table, which it owns from then on. Where there is no memory for it, the table is dropped.
+    pub fn new(alloc: Global, table: Table) -> Result<Self, AllocError>
+        ensures { IfOk result (λ index. index ≡ table) }
+    {
+        let index = IndexedTable::new(alloc, table)?;
+        let starts = make_starts(alloc, &index)?;
+        Ok(RuleIndex { index, starts })
+    }
+}
+
+/// Where a walk begins at a place.
+#[inline(always)]
+fn start_here(index: &IndexedTable, starts: &[Start], print: &[char], at: usize) -> Start
+    requires whole { IsWhole index.now }
+    requires starts { AreStarts index.now.table index.now.tree starts.now }
+    requires all { length starts.now ≡ 128 * 128 }
+    requires within { at < length print.now }
+    ensures { MayStart index.now print.now at result }
+{
+    if at + 1 == print.len() {
+        return Start::Group;
+    }
+    start_at(starts, print[at], print[at + 1])
+}
+
+/// The rule that is chosen at a place, found by a walk from a start.
+#[inline(never)]
+fn best_from(index: &IndexedTable, print: &[char], at: usize, start: Start) -> Option<usize>
+    requires whole { IsWhole index.now }
+    requires start { MayStart index.now print.now at start }
+    requires within { at < length print.now }
+    ensures { IsChosen index.now.table print.now at result }
+{
+    match start {
+        Start::Nowhere => None,
+        Start::Group => best_in_group(index, print, at),
+        Start::Child(node) => walk(index, print, at, at + 2, node as usize),
+    }
+}
+
+/// The rule that is chosen at a place, by a table that has rules.
+#[inline(always)]
+fn best_rule(index: &IndexedTable, starts: &[Start], print: &[char], at: usize) -> Option<usize>
+    requires whole { IsWhole index.now }
+    requires starts { AreStarts index.now.table index.now.tree starts.now }
+    requires all { length starts.now ≡ 128 * 128 }
+    requires within { at < length print.now }
+    ensures { IsChosen index.now.table print.now at result }
+{
+    let start = start_here(index, starts, print, at);
+    if let Start::Nowhere = start {
+        return None;
+    }
+    best_from(index, print, at, start)
+}
+
+impl RuleBook for RuleIndex {
+    ghost meaning = { λ meaning. meaning };
+
+    fn table(&self) -> &Table {
+        &self.index.table
+    }
+
+    fn best(&self, print: &[char], at: usize) -> Option<usize> {
+        if self.index.table.rules().is_empty() {
+            return None;
+        }
+        best_rule(&self.index, self.starts.as_slice(), print, at)
+    }
+}
