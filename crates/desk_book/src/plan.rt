@@ -26,7 +26,7 @@ use super::tables::{BookTable, TablesRoom};
 use super::text::{Bytes, Text};
 use cell_core::Cells;
 use louis_table::{Characters, ReadFault};
-use louis_translate::{RuleIndex, RuleBook, undefined_place};
+use louis_translate::{RuleBook, RuleIndex, undefined_place};
 use std::alloc::{AllocError, Global};
 
 impl From<AllocError> for Refusal {
@@ -476,12 +476,7 @@ fn uses(paragraph: &Paragraph, name: &Text) -> bool
 }
 
 /// The rules define the print of a paragraph, if it uses their table's name.
-fn check_user(
-    id: u64,
-    paragraph: &Paragraph,
-    name: &Text,
-    rules: &RuleIndex,
-) -> Result<(), Refusal>
+fn check_user(id: u64, paragraph: &Paragraph, name: &Text, rules: &RuleIndex) -> Result<(), Refusal>
     ensures defined { OnOk result
         (paragraph.now.table ≡ name.now → AreDefined rules.now paragraph.now.print) }
     ensures undefined { IfErr result (λ refusal. (place : _) × (refusal ≡ Refusal.Untranslatable id place)
