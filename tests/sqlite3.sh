@@ -10,12 +10,13 @@ fail() { echo "tests/sqlite3.sh: $*" >&2; exit 1; }
 command -v sqlite3 > /dev/null || fail 'sqlite3 is missing: install it, as by apt-get install sqlite3'
 scratch=$(mktemp -d); trap 'rm -rf "$scratch"' EXIT
 
-# how a new file declares the five tables
+# how a new file declares the six tables
 declarations='CREATE TABLE book (id INTEGER NOT NULL PRIMARY KEY, format INTEGER NOT NULL, version INTEGER NOT NULL) STRICT;
 CREATE TABLE tab (name TEXT NOT NULL PRIMARY KEY, body BLOB NOT NULL) STRICT;
 CREATE TABLE para (id INTEGER NOT NULL PRIMARY KEY, place INTEGER NOT NULL, tab TEXT NOT NULL, original TEXT NOT NULL, print TEXT NOT NULL, style INTEGER NOT NULL, volume INTEGER NOT NULL, struck INTEGER NOT NULL) STRICT;
-CREATE TABLE corr (para INTEGER NOT NULL, seq INTEGER NOT NULL, kind INTEGER NOT NULL, start INTEGER NOT NULL, len INTEGER NOT NULL, body TEXT NOT NULL, PRIMARY KEY (para, seq)) STRICT;
-CREATE TABLE mark (id INTEGER NOT NULL PRIMARY KEY, para INTEGER NOT NULL, start INTEGER NOT NULL, stop INTEGER NOT NULL, note TEXT NOT NULL, touched INTEGER NOT NULL, resolved INTEGER NOT NULL) STRICT;'
+CREATE TABLE mark (id INTEGER NOT NULL PRIMARY KEY, para INTEGER NOT NULL, start INTEGER NOT NULL, stop INTEGER NOT NULL, note TEXT NOT NULL, touched INTEGER NOT NULL, resolved INTEGER NOT NULL) STRICT;
+CREATE TABLE cache (para INTEGER NOT NULL PRIMARY KEY, cells BLOB NOT NULL) STRICT;
+CREATE TABLE corr2 (para INTEGER NOT NULL, seq INTEGER NOT NULL, kind INTEGER NOT NULL, start INTEGER NOT NULL, len INTEGER NOT NULL, body TEXT NOT NULL, who TEXT NOT NULL, PRIMARY KEY (para, seq)) STRICT;'
 
 # the rows of a file, as the program shows them
 rows() { # FILE
@@ -24,14 +25,16 @@ rows() { # FILE
         SELECT 'tab', rowid, quote(name), quote(body) FROM tab ORDER BY name;
         SELECT 'para', quote(id), quote(place), quote(tab), quote(original), quote(print), quote(style), quote(volume),
             quote(struck) FROM para ORDER BY id;
-        SELECT 'corr', quote(para), quote(seq), quote(kind), quote(start), quote(len), quote(body) FROM corr ORDER BY para, seq;
+        SELECT 'corr2', quote(para), quote(seq), quote(kind), quote(start), quote(len), quote(body), quote(who)
+            FROM corr2 ORDER BY para, seq;
         SELECT 'mark', quote(id), quote(para), quote(start), quote(stop), quote(note), quote(touched), quote(resolved)
-            FROM mark ORDER BY id;"
+            FROM mark ORDER BY id;
+        SELECT 'cache', quote(para), quote(cells) FROM cache ORDER BY para;"
 }
-# the columns and keys of the five tables
+# the columns and keys of the six tables
 columns() { # FILE
     local table
-    for table in book tab para corr mark; do
+    for table in book tab para mark cache corr2; do
         sqlite3 -batch -bail -init /dev/null "$1" "PRAGMA table_info($table); PRAGMA index_list($table);"
     done
 }
@@ -40,7 +43,7 @@ same() { # WHAT EXPECTED FOUND
     echo "ok  $1"
 }
 
-# a file that sqlite3 makes, with other things beside the five tables
+# a file that sqlite3 makes, with other things beside the six tables
 sqlite3 -batch -bail -init /dev/null "$scratch/other.db" "$declarations
     CREATE TABLE note (id INTEGER PRIMARY KEY, para INTEGER REFERENCES para ON DELETE CASCADE, body TEXT);
     CREATE INDEX note_by_para ON note (para);
@@ -48,7 +51,8 @@ sqlite3 -batch -bail -init /dev/null "$scratch/other.db" "$declarations
     INSERT INTO book VALUES (1, 1, 9007199254740993), (-2, -9223372036854775808, 0);
     INSERT INTO tab VALUES ('zz', X'00FF80'), ('en', CAST('letter a 1' AS BLOB)), ('ä⠁𝔘', X'');
     INSERT INTO para VALUES (3, 1, 'en', 'it''s', 'it' || char(10) || 's ⠏', 1, 0, 0), (-4, 2, '', '', '', -1, 255, 65536);
-    INSERT INTO corr VALUES (3, 2, 0, 1, 1, 'ß'), (3, 1, 1, 0, 0, ''), (-4, 1, 0, -1, -128, '|');
+    INSERT INTO corr2 VALUES (3, 2, 0, 1, 1, 'ß', 'Ann'), (3, 1, 1, 0, 0, '', ''), (-4, 1, 0, -1, -128, '|', '⠁');
+    INSERT INTO cache VALUES (3, X'0F00FF'), (-4, X'');
     INSERT INTO mark VALUES (2, 3, 0, 2, 'look', 0, 1), (1, -4, 9223372036854775807, 0, '', 1, 0);
     INSERT INTO note VALUES (1, 3, 'beside');"
 
@@ -71,7 +75,7 @@ sed -n 's/^file //p' "$scratch/told" > "$scratch/hex"
 { echo "SELECT writefile('$scratch/made.db', X'"; tr -d '\n' < "$scratch/hex"; echo "');"; } | tr -d '\n' > "$scratch/write.sql"
 sqlite3 -batch -bail -init /dev/null :memory: < "$scratch/write.sql" > /dev/null
 sed -n '/^== make$/,/^file /p' "$scratch/told" | sed -e 1d -e '$d' > "$scratch/made.rows"
-for table in book tab para corr mark; do
+for table in book tab para mark cache corr2; do
     [ "$(grep -c "^$table|" "$scratch/made.rows")" -ge 5 ] || fail "the file that was made here lacks rows of $table"
 done
 rows "$scratch/made.db" > "$scratch/found"

@@ -9,9 +9,14 @@ use Rattle.sqlite.specs.Reading.{IsReadError}
 use Rattle.sqlite.specs.State.{State, Shown, FailsToQuery, store_error}
 use Rattle.desk_store.specs.Asked.{Asked, FailsAs, failed, unreadable, no_memory}
 use Rattle.desk_store.specs.Fault.{IsToldAs}
-use Rattle.desk_store.specs.Kinds.{HasKinds}
+use Rattle.sql_tables.specs.Kinds.{HasKinds}
 use Rattle.desk_store.specs.declared.fault.Fault.{Fault}
 use Rattle.desk_store.specs.declared.fault.Fault.TheVariants.{NoMemory, Lost, Refused}
+use Rattle.std.proofs.Common.{inl, inr, true, sym, subst, ◌∙◌}
+use Rattle.sqlite_resolve.specs.Compile.{first}
+use Rattle.sqlite_trees.specs.declared.error.StoreError.{StoreError}
+use Rattle.sqlite.specs.State.{IsUnchanged}
+use Rattle.sql_tables.proofs.Quiet.{reads, refused_quietly}
 
 -- a value that isn't read is no failure of the store
 never_lost : (at : ℕ) (v : Value) (e : Error) → IsReadError at v e → ¬ IsToldAs e Lost
@@ -33,3 +38,20 @@ module _ (asked : Asked) (before after : State) where
   fails_to_read rows shown (Err NoMemory) not_lost kinds = no_memory rows shown refl
   fails_to_read rows shown (Err Lost) not_lost kinds = absurd (not_lost refl)
   fails_to_read rows shown (Err Refused) not_lost kinds = unreadable rows shown (λ all. absurd (let none = kinds all in cc)) refl
+
+-- where only the store makes a query fail, it is told as that
+pub never_refused : (text : List ℕ) (params : Row) (old new : State) (fault : Fault) → ((e : Error) → FailsToQuery text params old new e → (cause : StoreError) × (e ≡ store_error cause))
+    → (e : Error) × FailsToQuery text params old new e × IsToldAs e fault → fault ≢ Refused
+never_refused text params old new fault fails (e, fails_so, told) refused = let store = fails e fails_so in subst (IsToldAs e) refused told store.0 store.1
+
+-- want of memory is no refusal
+pub not_refused : {A : Type 0} (r : Result A Fault) → IfErr r (λ fault. fault ≡ NoMemory) → IfErr r (λ fault. fault ≢ Refused)
+not_refused (Ok a) none = tt
+not_refused (Err fault) none = λ refused. absurd (let both = sym none ∙ refused in cc)
+
+-- a fault of another cause than the store's is told of a file that is as it was
+pub refused_as_it_was : (text : List ℕ) (is : reads (first text) ≡ true) (params : Row) (old new : State) (fault : Fault) → (e : Error) × FailsToQuery text params old new e × IsToldAs e fault → fault ≡ Refused → IsUnchanged old new
+refused_as_it_was text is params old new fault (e, fails_so, told) refused = elim (refused_quietly text is params old new e fails_so) [
+  | inl store ↦ absurd (subst (IsToldAs e) refused told store.0 store.1)
+  | inr same ↦ same
+]

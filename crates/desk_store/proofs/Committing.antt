@@ -1,12 +1,10 @@
 -- What a transaction leaves once it is committed, or once that failed.
-use Rattle.std.proofs.Common.{◌≡◌, true, refl, sym, ap, subst, ◌∙◌, arith}
+use Rattle.std.proofs.Common.{◌≡◌, true, refl, sym, ap, subst, ◌∙◌}
 use Rattle.sqlite_trees.specs.Tree.{Trees}
 use Rattle.sqlite_trees.specs.declared.store.Store.{Ghosts}
 use Rattle.sqlite.specs.Effect.{Database}
 use Rattle.sqlite.specs.Held.{Held, state}
-use Rattle.sqlite.specs.State.{State, HasCleanDisk, Survives}
-use Rattle.sqlite.proofs.Callers.{survives_begin}
-use Rattle.sqlite.proofs.StateLemmas.{survives_then}
+use Rattle.sqlite.specs.State.{State}
 use Rattle.desk_store.specs.Contents.{Contents}
 use Rattle.desk_store.specs.Layout.{Layout}
 use Rattle.desk_store.specs.States.{IsFile, IsUnder, Shows}
@@ -17,14 +15,6 @@ begins g old l c was = record { shows = record { schema = was.schema; is = was.i
 
 pub shows_on : (old new : State) (l : Layout) (c : Contents) → new.now ≡ old.now → Shows l c old → Shows l c new
 shows_on old new l c same was = record { schema = ap (λ (d : Database). d.schema) same ∙ was.schema; is = subst (λ (d : Database). IsFile l c d.trees) (sym same) was.is }
-
-module _ {S : Type 0} (g : Ghosts S) (old last end : Held S) (P : Trees → Type 0) where
-  -- each outcome was one before, or is what the transaction saw
-  pub commits : Survives (state g (record old { in_transaction = true })) (state g last) (λ _. ⊥) → Survives (state g last) (state g end) (λ db. db ≡ (state g last).now.trees)
-      → (HasCleanDisk (state g last) → P (state g last).now.trees) → Survives (state g old) (state g end) P
-  commits inside commit ran =
-      survives_then (state g old) (state g last) (state g end) _ _ P (λ _ db none. absurd none)
-      (λ clean db is. subst P (sym is) (ran (omega (arith, commit.clean)))) (survives_begin g old (state g last) _ inside) commit
 
 -- trees that are the last commit's are those that the connection shows, where nothing is to be committed
 pub only_commit : (s : State) (l : Layout) (c : Contents) (db : Trees) → s.committed ≡ s.now → db ≡ s.committed.trees → Shows l c s → IsFile l c db

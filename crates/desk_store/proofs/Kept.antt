@@ -12,23 +12,17 @@ use Rattle.sqlite_catalog.specs.Listing.{IsIndexRow, IsTableRow}
 use Rattle.sqlite_catalog.proofs.LayoutLemmas.{zipped_left}
 use Rattle.desk_store.specs.Contents.{Contents}
 use Rattle.desk_store.specs.Layout.{Layout}
-use Rattle.desk_store.specs.Making.{IsNew, KeepsAside, after_book, after_tab, after_para, after_corr, made}
+use Rattle.desk_store.specs.Making.{IsNew, new_tables, made}
+use Rattle.sql_tables.specs.Making.{KeepsAside}
 use Rattle.desk_store.specs.States.{IsFile}
-use Rattle.desk_store.specs.Tables as tables
-use Rattle.desk_store.proofs.Counting.{foreign_first}
-use Rattle.desk_store.proofs.Declaring.{has_table}
-use Rattle.desk_store.proofs.Frozen.{foreign_still}
+use Rattle.desk_store.specs.Described.{table_of}
+use Rattle.desk_store.proofs.MadeTables.{foreign_after}
+use Rattle.sql_tables.proofs.Declaring.{has_table}
 
 module _ (l : Layout) (c : Contents) (db : Trees) (is : IsFile l c db) where
-  -- a tree of no table and no index is beside the five
+  -- a tree of no table and no index is beside those that are described
   aside : (tree : ℕ) → ((t : Table) → Has l.schema.tables t → t.tree ≢ tree) → IsNoIndex l.schema tree → db tree ≡ c.others tree
-  aside tree no_table no_index = is.holds.aside tree (record {
-    book = λ e. no_table (tables.book l.book) (has_table l.schema (tables.book l.book) is.declared.book) (sym e);
-    tab = λ e. no_table (tables.tab l.tab) (has_table l.schema (tables.tab l.tab) is.declared.tab) (sym e);
-    para = λ e. no_table (tables.para l.para) (has_table l.schema (tables.para l.para) is.declared.para) (sym e);
-    corr = λ e. no_table (tables.corr l.corr) (has_table l.schema (tables.corr l.corr) is.declared.corr) (sym e);
-    mark = λ e. no_table (tables.mark l.mark) (has_table l.schema (tables.mark l.mark) is.declared.mark) (sym e);
-  }) no_index
+  aside tree no_table no_index = is.holds.aside tree (λ w there e. no_table (table_of w (l.tree w)) (has_table l.schema (table_of w (l.tree w)) (is.declared w there)) (sym e)) no_index
 
   -- the list of the schema and the user version stand past all of them
   past_all : (tree : ℕ) → 65536 ≤ tree → db tree ≡ c.others tree
@@ -43,9 +37,7 @@ made_keeps s rows db new =
     let list : db catalog_tree ≡ new.0 catalog_tree = past_all (made s) _ db is catalog_tree (omega arith) in
     record {
       rows = λ tree foreign.
-          let with_tab = foreign_still (after_book s) (tables.tab 0) rows tree (foreign_first s (tables.book 0) rows tree foreign) in
-          let with_corr = foreign_still (after_para s) (tables.corr 0) rows tree (foreign_still (after_tab s) (tables.para 0) rows tree with_tab) in
-          let stays = foreign_still (after_corr s) (tables.mark 0) rows tree with_corr in
+          let stays = foreign_after new_tables s rows tree foreign in
           aside (made s) _ db is tree (λ t has. all_has _ (made s).schema.tables t stays.no_table has) stays.no_index ∙ kept.rows tree foreign;
       texts = subst (KeepsForeign (rows catalog_tree)) (sym list) kept.texts;
       version = past_all (made s) _ db is version_tree (omega arith) ∙ kept.version;

@@ -1,9 +1,10 @@
--- The file once the five tables are made.
-use Rattle.std.proofs.Common.{◌≡◌, ◌≢◌, ℕ, ◌&&◌, ◌+◌, ◌<◌, ◌≤◌, true, false, ◌==◌, List, [], ◌∷◌, filter, codes, refl, ◌∙◌, arith, nat_lt, eq-eqb, inl, inr}
-use Rattle.std.specs.List.{AllByRecursion}
+-- The file once tables are made.
+use Rattle.std.proofs.Common.{◌≡◌, ◌≢◌, ℕ, ◌&&◌, ◌+◌, ◌<◌, ◌≤◌, true, false, ◌==◌, List, [], ◌∷◌, ◌++◌, map, filter, codes, is_some, refl, sym, subst, ◌∙◌, arith, nat_lt, eq-eqb, inl, inr, bytes_eq, IsTrue}
+use Rattle.std.specs.List.{AllByRecursion, position_from}
 use Rattle.std.specs.Fmt.{digits}
 use Rattle.std.proofs.lemmas.Bool.Decides.{nat_tests}
 use Rattle.std.proofs.lemmas.List.Sorted.{IsPermutation-refl}
+use Rattle.std.proofs.lemmas.Slice.Eq.{bytes_eq-Decides}
 use Rattle.sqlite_trees.specs.Tree.{Trees}
 use Rattle.sqlite_schema.specs.declared.schema.Schema.{Schema}
 use Rattle.sqlite_schema.specs.declared.schema.Table.{Table}
@@ -11,185 +12,243 @@ use Rattle.sqlite_schema.specs.Names.{same_name}
 use Rattle.sqlite_catalog.specs.Change.{automatics, created, is_used, next_tree, KeepsRows}
 use Rattle.sqlite_catalog.proofs.StepLemmas.{table_below}
 use Rattle.sqlite_rules.specs.Lists.{Has}
-use Rattle.sqlite_rules.proofs.ListLemmas.{has_left, all_from, all_has}
+use Rattle.sqlite_rules.proofs.ListLemmas.{all_from, all_has}
 use Rattle.sqlite_trees.specs.declared.store.Store.{Ghosts}
 use Rattle.sqlite.specs.Held.{Held, state}
 use Rattle.sqlite.specs.Effect.{Database, IsDatabase}
-use Rattle.sqlite.specs.Does.{lacks_sequence}
 use Rattle.sqlite.specs.State.{State, HasCleanDisk, IsLive}
-use Rattle.desk_store.specs.Contents.{HaveRowids}
-use Rattle.desk_store.specs.Layout.{Layout, IsDeclared, AreDeclared, IsOther}
-use Rattle.desk_store.specs.Making.{AreAbsent, AreFree, CountsNone, FreesNone, IndexesLow, IsMaking, IsNew, KeepsAside, first_rows, after_book, after_tab, after_para, after_corr, after_mark, made, no_contents}
+use Rattle.sql_tables.specs.Making.{IndexesLow, IsForeignTree, IsMaking, KeepsAside, first_created, first_rows}
+use Rattle.sql_tables.specs.Rows.{HaveRowids}
+use Rattle.sql_tables.specs.Tables.{IsDeclared, counter}
+use Rattle.sql_tables.proofs.Counting.{declared_first, foreign_first, free_first, has_counter, has_first, low_first, rising, rising_first}
+use Rattle.sql_tables.proofs.Creating.{declares, declared_stays, sound_is_low}
+use Rattle.sql_tables.proofs.Declaring.{has_table}
+use Rattle.sql_tables.proofs.Makes.{none_below}
+use Rattle.desk_store.specs.Described.{Which, books, tabs, paras, corrs, marks, caches, named_corrs, described, table_of}
+use Rattle.desk_store.specs.Making.{AreAbsent, CountsNone, IsNew, Differ, MakesTables, after, is_among, new_tables, made, no_contents, tree_in}
 use Rattle.desk_store.specs.States.{IsUnder, Shows}
-use Rattle.desk_store.specs.Tables as tables
-use Rattle.desk_store.proofs.Counting.{counts_first, declared_first, free_first, has_counter, has_first, lacks_as_before, low_first, rising, rising_first}
-use Rattle.desk_store.proofs.Creating.{sound_is_low, low_still, declares, declared_stays, free_still}
-use Rattle.desk_store.proofs.Making.{none_below}
-use Rattle.desk_store.proofs.Declaring.{has_table}
 
-is_below : (m n : ℕ) → m < n → nat_lt m n ≡ true
+pub is_below : (m n : ℕ) → m < n → nat_lt m n ≡ true
 is_below m n low = grind (arith, nat_tests)
-
--- the automatic index of a table is on it
-keys_of_tab : (tree : ℕ) → filter (λ i. i.is_unique && (i.table == tree)) (automatics (tables.tab tree) 0 (tree + 1) (tables.tab tree).uniques) ≡ automatics (tables.tab tree) 0 (tree + 1) (tables.tab tree).uniques
-keys_of_tab tree = rw (eq-eqb tree tree refl)
-
-keys_of_corr : (tree : ℕ) → filter (λ i. i.is_unique && (i.table == tree)) (automatics (tables.corr tree) 0 (tree + 1) (tables.corr tree).uniques) ≡ automatics (tables.corr tree) 0 (tree + 1) (tables.corr tree).uniques
-keys_of_corr tree = rw (eq-eqb tree tree refl)
 
 other_tree : (m n : ℕ) → m ≢ n → (m == n) ≡ false
 other_tree m n other = grind (arith, nat_tests)
 
+abbrev name : Which → List ℕ
+name w = (described w).name
+
+abbrev made_in : Which → ℕ → Table
+made_in w tree = record (table_of w 0) { tree = tree }
+
+-- ---- each table
+
+itself : (w : Which) → same_name (name w) (name w) ≡ true
+unfolding same_name
+itself books = refl
+itself tabs = refl
+itself paras = refl
+itself corrs = refl
+itself marks = refl
+itself caches = refl
+itself named_corrs = refl
+
+-- the automatic index of a table is on it
+keys_of : (w : Which) (tree : ℕ) → filter (λ i. i.is_unique && (i.table == tree)) (automatics (made_in w tree) 0 (tree + 1) (table_of w 0).uniques) ≡ automatics (made_in w tree) 0 (tree + 1) (table_of w 0).uniques
+keys_of books tree = refl
+keys_of tabs tree = rw (eq-eqb tree tree refl)
+keys_of paras tree = refl
+keys_of corrs tree = rw (eq-eqb tree tree refl)
+keys_of marks tree = refl
+keys_of caches tree = refl
+keys_of named_corrs tree = rw (eq-eqb tree tree refl)
+
 -- and on no other
-no_tab_key : (a tree : ℕ) → tree ≢ a → filter (λ i. i.is_unique && (i.table == a)) (automatics (tables.tab tree) 0 (tree + 1) (tables.tab tree).uniques) ≡ []
-no_tab_key a tree other = rw (other_tree tree a other)
+no_key : (w : Which) (a tree : ℕ) → tree ≢ a → filter (λ i. i.is_unique && (i.table == a)) (automatics (made_in w tree) 0 (tree + 1) (table_of w 0).uniques) ≡ []
+no_key books a tree other = refl
+no_key tabs a tree other = rw (other_tree tree a other)
+no_key paras a tree other = refl
+no_key corrs a tree other = rw (other_tree tree a other)
+no_key marks a tree other = refl
+no_key caches a tree other = refl
+no_key named_corrs a tree other = rw (other_tree tree a other)
 
-no_corr_key : (a tree : ℕ) → tree ≢ a → filter (λ i. i.is_unique && (i.table == a)) (automatics (tables.corr tree) 0 (tree + 1) (tables.corr tree).uniques) ≡ []
-no_corr_key a tree other = rw (other_tree tree a other)
+no_counter : (w : Which) → same_name (codes "sqlite_sequence") (name w) ≡ false
+unfolding same_name
+no_counter books = refl
+no_counter tabs = refl
+no_counter paras = refl
+no_counter corrs = refl
+no_counter marks = refl
+no_counter caches = refl
+no_counter named_corrs = refl
 
--- the names stay free from step to step
-module _ (s : Schema) (none : AreAbsent s) where
-  pub tab_free : is_used (after_book s) (codes "tab") ≡ false
-  unfolding same_name
-  tab_free = free_first s (tables.book 0) (codes "tab") none.tab refl refl (λ tree from. refl)
+-- a name that differs is free, also of the other's index
+abbrev Leaves : Which → Which → Type 0
+Leaves v w = (same_name (name v) (name w) ≡ false) × ((tree from : ℕ) → is_some (position_from (λ i. same_name i.name (name w)) from (automatics (made_in v tree) 0 (tree + 1) (table_of v 0).uniques)) ≡ false)
 
-  pub tab_counts : lacks_sequence (after_book s) ≡ false
-  unfolding same_name
-  tab_counts = counts_first s (tables.book 0) refl refl
+abbrev AreApart : Which → Which → Type 0
+AreApart v w = bytes_eq (name v) (name w) ≡ false
 
-  pub para_free : is_used (after_tab s) (codes "para") ≡ false
-  unfolding same_name digits
-  para_free = free_still (after_book s) (tables.tab 0) (codes "para") (free_first s (tables.book 0) (codes "para") none.para refl refl (λ tree from. refl)) refl (λ tree from. refl)
+leaves : (v w : Which) → AreApart v w → Leaves v w
+unfolding same_name digits
+leaves books books other = absurd (cc)
+leaves tabs tabs other = absurd (cc)
+leaves paras paras other = absurd (cc)
+leaves corrs corrs other = absurd (cc)
+leaves marks marks other = absurd (cc)
+leaves caches caches other = absurd (cc)
+leaves named_corrs named_corrs other = absurd (cc)
+leaves v w other = (refl, λ tree from. refl)
 
-  pub para_counts : lacks_sequence (after_tab s) ≡ false
-  unfolding same_name
-  para_counts = lacks_as_before (after_book s) (tables.tab 0) refl refl ∙ tab_counts
+listed : (w : Which) → is_among new_tables w ≡ true → Has new_tables w
+listed books is = inl refl
+listed tabs is = inr (inl refl)
+listed paras is = inr (inr (inl refl))
+listed corrs is = absurd (cc)
+listed marks is = inr (inr (inr (inl refl)))
+listed caches is = inr (inr (inr (inr (inl refl))))
+listed named_corrs is = inr (inr (inr (inr (inr (inl refl)))))
 
-  pub corr_free : is_used (after_para s) (codes "corr") ≡ false
-  unfolding same_name digits
-  corr_free = free_still (after_tab s) (tables.para 0) (codes "corr") (free_still (after_book s) (tables.tab 0) (codes "corr") (free_first s (tables.book 0) (codes "corr") none.corr refl refl (λ tree from. refl)) refl (λ tree from. refl)) refl (λ tree from. refl)
+-- ---- tables made in turn
 
-  pub corr_counts : lacks_sequence (after_para s) ≡ false
-  unfolding same_name
-  corr_counts = lacks_as_before (after_tab s) (tables.para 0) refl refl ∙ para_counts
+-- each of these differs from each of those
+abbrev pub Apart : List Which → List Which → Type 0
+Apart us vs = AllByRecursion (λ w. AllByRecursion (λ v. AreApart v w) us) vs
 
-  pub mark_free : is_used (after_corr s) (codes "mark") ≡ false
-  unfolding same_name digits
-  mark_free =
-      free_still (after_para s) (tables.corr 0) (codes "mark")
-      (free_still (after_tab s) (tables.para 0) (codes "mark") (free_still (after_book s) (tables.tab 0) (codes "mark") (free_first s (tables.book 0) (codes "mark") none.mark refl refl (λ tree from. refl)) refl (λ tree from. refl)) refl (λ tree from. refl)) refl
-      (λ tree from. refl)
+free_after : (w : Which) (ws : List Which) (s : Schema) → AllByRecursion (λ v. AreApart v w) ws → is_used s (name w) ≡ false → is_used (after ws s) (name w) ≡ false
+free_after w [] s apart free = free
+free_after w (v ∷ ws) s apart free =
+    let it = leaves v w apart.0 in free_after w ws (first_created s (table_of v 0)) apart.1 (free_first s (table_of v 0) (name w) free it.0 (no_counter w) it.1)
 
-  pub mark_counts : lacks_sequence (after_corr s) ≡ false
-  unfolding same_name
-  mark_counts = lacks_as_before (after_para s) (tables.corr 0) refl refl ∙ corr_counts
+all_free_after : (us vs : List Which) (s : Schema) → Apart us vs → AllByRecursion (λ w. is_used s (name w) ≡ false) vs → AllByRecursion (λ w. is_used (after us s) (name w) ≡ false) vs
+all_free_after us [] s apart free = tt
+all_free_after us (w ∷ vs) s apart free = (free_after w us s apart.0 free.0, all_free_after us vs s apart.1 free.1)
 
-  module _ (low : IndexesLow s) where
-    low_book : IndexesLow (after_book s)
-    low_book = low_first s (tables.book 0) low
+after_both : (us vs : List Which) (s : Schema) → after (us ++ vs) s ≡ after vs (after us s)
+after_both [] vs s = refl
+after_both (u ∷ us) vs s = after_both us vs (first_created s (table_of u 0))
 
-    low_tab : IndexesLow (after_tab s)
-    low_tab = low_still (after_book s) (tables.tab 0) low_book
+fronts : (P : Which → Type 0) (us vs : List Which) → AllByRecursion P (us ++ vs) → AllByRecursion P us × AllByRecursion P vs
+fronts P [] vs all = (tt, all)
+fronts P (u ∷ us) vs all = let more = fronts P us vs all.1 in ((all.0, more.0), more.1)
 
-    low_para : IndexesLow (after_para s)
-    low_para = low_still (after_tab s) (tables.para 0) low_tab
+names_of_both : (P Q : List ℕ → Type 0) (us vs : List Which) → ((n : List ℕ) → Q n → P n) → AllByRecursion P (map name us) → AllByRecursion Q (map name vs) → AllByRecursion P (map name (us ++ vs))
+names_of_both P Q [] [] each first later = tt
+names_of_both P Q [] (v ∷ vs) each first later = (each (name v) later.0, names_of_both P Q [] vs each first later.1)
+names_of_both P Q (u ∷ us) vs each first later = (first.0, names_of_both P Q us vs each first.1 later)
 
-    low_corr : IndexesLow (after_corr s)
-    low_corr = low_still (after_para s) (tables.corr 0) low_para
+-- some tables, and then others
+pub makes_then : (us vs : List Which) → Apart us vs → (old mid new : State) → MakesTables us old mid → MakesTables vs mid new → MakesTables (us ++ vs) old new
+makes_then us vs apart old mid new first later = record {
+  taken = (
+    record { is_open = first.taken.0.is_open; free = names_of_both _ _ us vs (λ n free. first.taken.1 n free) first.taken.0.free later.taken.0.free },
+    λ n free. first.taken.1 n (later.taken.1 n free),
+  );
+  made = λ committed start rows before was free.
+      let both = fronts _ us vs free in
+      subst (λ s. IsMaking committed start rows s new) (sym (after_both us vs before))
+      (later.made committed start rows (after us before) (first.made committed start rows before was both.0) (all_free_after us vs before apart both.1));
+}
 
-    -- a table that is declared stays so while the later ones are made
-    through_mark : (a : Table) → IsDeclared (after_corr s) a → IsDeclared (after_mark s) a
-    through_mark a d = declared_stays (after_corr s) (tables.mark 0) a d (λ tree other. refl)
+pub through : (ws : List Which) (s : Schema) (a : Table) → IsDeclared s a → IsDeclared (after ws s) a
+through [] s a d = d
+through (v ∷ ws) s a d = through ws (first_created s (table_of v 0)) a (declared_first s (table_of v 0) a (declared_stays s (table_of v 0) a d (no_key v a.tree)))
 
-    through_corr : (a : Table) → IsDeclared (after_para s) a → IsDeclared (after_mark s) a
-    through_corr a d = through_mark a (declared_stays (after_para s) (tables.corr 0) a d (no_corr_key a.tree))
+pub has_after : (ws : List Which) (s : Schema) (t : Table) → Has s.tables t → Has (after ws s).tables t
+has_after [] s t has = has
+has_after (v ∷ ws) s t has = has_after ws (first_created s (table_of v 0)) t (has_first s (table_of v 0) t has)
 
-    through_para : (a : Table) → IsDeclared (after_tab s) a → IsDeclared (after_mark s) a
-    through_para a d = through_corr a (declared_stays (after_tab s) (tables.para 0) a d (λ tree other. refl))
+pub foreign_after : (ws : List Which) (s : Schema) (db : Trees) (tree : ℕ) → IsForeignTree s db tree → IsForeignTree (after ws s) db tree
+foreign_after [] s db tree is = is
+foreign_after (v ∷ ws) s db tree is = foreign_after ws (first_created s (table_of v 0)) db tree (foreign_first s (table_of v 0) db tree is)
 
-    through_tab : (a : Table) → IsDeclared (after_book s) a → IsDeclared (after_mark s) a
-    through_tab a d = through_para a (declared_stays (after_book s) (tables.tab 0) a d (no_tab_key a.tree))
+-- the tree of the first
+tree_first : (v : Which) (ws : List Which) (s : Schema) → tree_in (v ∷ ws) s v ≡ next_tree s
+tree_first v ws s = rw ((bytes_eq-Decides (name v) (name v)).1 refl)
 
-    all_declared : AreDeclared (made s)
-    unfolding same_name
-    all_declared = record {
-      book = through_tab (tables.book (next_tree s)) (declared_first s (tables.book 0) (tables.book (next_tree s)) (declares s (tables.book 0) low none.book refl (λ tree. refl)));
-      tab = through_para (tables.tab (next_tree (after_book s))) (declares (after_book s) (tables.tab 0) low_book tab_free refl keys_of_tab);
-      para = through_corr (tables.para (next_tree (after_tab s))) (declares (after_tab s) (tables.para 0) low_tab para_free refl (λ tree. refl));
-      corr = through_mark (tables.corr (next_tree (after_para s))) (declares (after_para s) (tables.corr 0) low_para corr_free refl keys_of_corr);
-      mark = declares (after_corr s) (tables.mark 0) low_corr mark_free refl (λ tree. refl);
-    }
+-- a table that is made is declared, in a tree that no table had
+pub declared_after : (ws : List Which) (s : Schema) → Differ ws → IndexesLow s → AllByRecursion (λ w. is_used s (name w) ≡ false) ws → (w : Which) → Has ws w → IsDeclared (after ws s) (table_of w (tree_in ws s w)) × (next_tree s ≤ tree_in ws s w)
+declared_after [] s apart low free w has = absurd has
+declared_after (v ∷ ws) s apart low free w (inl is) =
+    let next = first_created s (table_of v 0) in
+    let here = declares s (table_of v 0) low free.0 (itself v) (keys_of v) in
+    let there : IsDeclared (after ws next) (table_of v (next_tree s)) = through ws next (table_of v (next_tree s)) (declared_first s (table_of v 0) (table_of v (next_tree s)) here) in
+    let at_v : IsDeclared (after ws next) (table_of v (tree_in (v ∷ ws) s v)) × (next_tree s ≤ tree_in (v ∷ ws) s v) = rw (tree_first v ws s) (there, omega arith) in
+    subst (λ (w : Which). IsDeclared (after ws next) (table_of w (tree_in (v ∷ ws) s w)) × (next_tree s ≤ tree_in (v ∷ ws) s w)) (sym is) at_v
+declared_after (v ∷ ws) s apart low free w (inr later) =
+    let next = first_created s (table_of v 0) in
+    let other : AreApart v w = all_has (AreApart v) ws w apart.0 later in
+    let more = declared_after ws next apart.1 (low_first s (table_of v 0) low) (all_free_after (v ∷ []) ws s (each_apart ws apart.0) free.1) w later in
+    let above = rising_first s (table_of v 0) in
+    let high = more.1 in
+    rw other (more.0, omega (arith, above, high))
+  where
+    each_apart : (xs : List Which) → AllByRecursion (AreApart v) xs → Apart (v ∷ []) xs
+    each_apart [] all = tt
+    each_apart (x ∷ xs) all = ((all.0, tt), each_apart xs all.1)
 
-    module _ (committed : Database) (rows : Trees) (now : State) (m : IsMaking committed s rows (after_mark s) now) where
-      -- a tree from the next on has no row
-      empty : (a : Table) → IsDeclared (after_mark s) a → next_tree s ≤ a.tree → now.now.trees a.tree ≡ []
-      empty a d high = all_has _ (after_mark s).tables a m.kept (has_table (after_mark s) a d) ∙ rw (none_below a.tree (next_tree s) high)
+-- ---- the tables of a new file
 
-      no_rowids : HaveRowids []
-      no_rowids = record { integers = tt; once = λ id. omega arith }
+differ : Differ new_tables
+differ = ((refl, (refl, (refl, (refl, (refl, tt))))), ((refl, (refl, (refl, (refl, tt)))), ((refl, (refl, (refl, tt))), ((refl, (refl, tt)), ((refl, tt), (tt, tt))))))
 
-      -- each tree is as it is
-      others_kept : (l : Layout) (tables : List Table) → AllByRecursion (λ t. IsOther l t.tree → now.now.trees t.tree ≡ now.now.trees t.tree) tables
-      others_kept l tables = all_from _ tables (λ t has other. refl)
+-- the first three and the others
+pub halves : Apart (books ∷ tabs ∷ paras ∷ []) (marks ∷ caches ∷ named_corrs ∷ [])
+halves = ((refl, (refl, (refl, tt))), ((refl, (refl, (refl, tt))), ((refl, (refl, (refl, tt))), tt)))
 
-      -- what is there with the first table is there at the end
-      there : (t : Table) → Has (after_book s).tables t → Has (after_mark s).tables t
-      there t has = has_left _ _ t (has_left _ _ t (has_left _ _ t (has_left (after_book s).tables _ t has)))
+pub absent : (s : Schema) → AllByRecursion (λ n. is_used s n ≡ false) (map name new_tables) → AreAbsent s
+absent s free = free
 
-      -- a table that was there has its rows
-      keeps_row : (t : Table) → Has s.tables t → now.now.trees t.tree ≡ rows t.tree
-      keeps_row t has = all_has _ (after_mark s).tables t m.kept (there t (has_first s (tables.book 0) t has)) ∙ rw (is_below t.tree (next_tree s) (table_below s t has)) refl
+module _ (s : Schema) (none : AreAbsent s) (low : IndexesLow s) where
+  each_made : (w : Which) → is_among new_tables w ≡ true → IsDeclared (made s).schema (table_of w ((made s).tree w)) × (next_tree s ≤ (made s).tree w)
+  each_made w is = declared_after new_tables s differ low none w (listed w is)
 
-      -- and the counter has none
-      counts_none : CountsNone s now.now.trees
-      counts_none lacks =
-          let at = next_tree (created s (tables.book 0)) in
-          let above = rising s (tables.book 0) in
-          all_has _ (after_mark s).tables (tables.counter at) m.kept (there (tables.counter at) (has_counter s (tables.book 0) lacks)) ∙ rw (none_below at (next_tree s) (omega (arith, above)))
+  module _ (committed : Database) (rows : Trees) (now : State) (m : IsMaking committed s rows (after new_tables s) now) where
+    -- a tree from the next on has no row
+    empty : (a : Table) → IsDeclared (after new_tables s) a → next_tree s ≤ a.tree → now.now.trees a.tree ≡ []
+    empty a d high = all_has _ (after new_tables s).tables a m.kept (has_table (after new_tables s) a d) ∙ rw (none_below a.tree (next_tree s) high)
 
-      pub finished : IsUnder committed (made s) (no_contents now.now.trees) now × KeepsRows s.tables rows now.now.trees × CountsNone s now.now.trees × KeepsAside s rows now.now.trees
-      finished =
-          let d = all_declared in
-          let l = made s in
-          let a = rising_first s (tables.book 0) in
-          let b = rising (after_book s) (tables.tab 0) in
-          let c = rising (after_tab s) (tables.para 0) in
-          let e = rising (after_para s) (tables.corr 0) in
-          let book = empty (tables.book l.book) d.book (omega arith) in
-          let tab = empty (tables.tab l.tab) d.tab (omega (arith, a)) in
-          let para = empty (tables.para l.para) d.para (omega (arith, a, b)) in
-          let corr = empty (tables.corr l.corr) d.corr (omega (arith, a, b, c)) in
-          let mark = empty (tables.mark l.mark) d.mark (omega (arith, a, b, c, e)) in (
-            record {
-              shows = record {
-                schema = m.schema;
-                is = record {
-                  declared = d;
-                  sound = m.sound;
-                  holds = record {
-                    books = rw book (IsPermutation-refl []);
-                    tabs = rw tab (IsPermutation-refl []);
-                    paras = rw para (IsPermutation-refl []);
-                    corrs = rw corr (IsPermutation-refl []);
-                    marks = rw mark (IsPermutation-refl []);
-                    others = others_kept l (after_mark s).tables;
-                    aside = λ tree other none. refl;
-                    book_ids = rw book no_rowids;
-                    tab_ids = rw tab no_rowids;
-                    para_ids = rw para no_rowids;
-                    mark_ids = rw mark no_rowids;
-                  };
+    no_rowids : HaveRowids []
+    no_rowids = record { integers = tt; once = λ id. omega arith }
+
+    -- a table that was there has its rows
+    keeps_row : (t : Table) → Has s.tables t → now.now.trees t.tree ≡ rows t.tree
+    keeps_row t has = all_has _ (after new_tables s).tables t m.kept (has_after new_tables s t has) ∙ rw (is_below t.tree (next_tree s) (table_below s t has)) refl
+
+    -- and the counter has none
+    counts_none : CountsNone s now.now.trees
+    counts_none lacks =
+        let at = next_tree (created s (table_of books 0)) in
+        let above = rising s (table_of books 0) in
+        let rest = tabs ∷ paras ∷ marks ∷ caches ∷ named_corrs ∷ [] in
+        all_has _ (after new_tables s).tables (counter at) m.kept (has_after rest (first_created s (table_of books 0)) (counter at) (has_counter s (table_of books 0) lacks)) ∙ rw (none_below at (next_tree s) (omega (arith, above)))
+
+    pub finished : IsUnder committed (made s) (no_contents now.now.trees) now × KeepsRows s.tables rows now.now.trees × CountsNone s now.now.trees × KeepsAside s rows now.now.trees
+    finished =
+        let none_in = λ (w : Which) (is : is_among new_tables w ≡ true). empty (table_of w ((made s).tree w)) (each_made w is).0 (each_made w is).1 in (
+          record {
+            shows = record {
+              schema = m.schema;
+              is = record {
+                declared = λ w is. (each_made w is).0;
+                sound = m.sound;
+                holds = record {
+                  tables = λ w is. rw (none_in w is) (IsPermutation-refl []);
+                  ids = λ w is changed. rw (none_in w is) no_rowids;
+                  others = all_from _ (after new_tables s).tables (λ t has other. refl);
+                  aside = λ tree other none. refl;
                 };
               };
-              inside = m.inside;
-              over = m.over;
-            },
-            all_from _ s.tables keeps_row,
-            counts_none,
-            m.aside,
-          )
+            };
+            inside = m.inside;
+            over = m.over;
+          },
+          all_from _ s.tables keeps_row,
+          counts_none,
+          m.aside,
+        )
 
-rows_there : (s : Schema) (rows : Trees) (tables : List Table) → ((t : Table) → Has tables t → t.tree < next_tree s) → AllByRecursion (λ t. rows t.tree ≡ first_rows s rows t.tree) tables
+pub rows_there : (s : Schema) (rows : Trees) (tables : List Table) → ((t : Table) → Has tables t → t.tree < next_tree s) → AllByRecursion (λ t. rows t.tree ≡ first_rows s rows t.tree) tables
 rows_there s rows [] low = tt
 rows_there s rows (t ∷ ts) low = (rw (is_below t.tree (next_tree s) (low t (inl refl))), rows_there s rows ts (λ u has. low u (inr has)))
 
@@ -207,23 +266,17 @@ begins_making g old sound = record {
   over = refl;
 }
 
-module _ {S : Type 0} (g : Ghosts S) (old begun mid last : Held S) (begins : begun ≡ record old { in_transaction = true }) where
-  -- what two halves that ran made of what was there
-  pub whole : (HasCleanDisk (state g last) → HasCleanDisk (state g mid)) → (HasCleanDisk (state g mid) → AreFree (codes "book" ∷ codes "tab" ∷ codes "para" ∷ []) (state g begun) × FreesNone (state g begun) (state g mid))
-      → (HasCleanDisk (state g last) → AreFree (codes "corr" ∷ codes "mark" ∷ []) (state g mid))
-      → (HasCleanDisk (state g mid) → (committed : Database) (s : Schema) (rows : Trees) → AreAbsent s → IsMaking committed s rows s (state g begun) → IsMaking committed s rows (after_para s) (state g mid))
-      → (HasCleanDisk (state g last) → (committed : Database) (s : Schema) (rows : Trees) → AreAbsent s → IndexesLow s → IsMaking committed s rows (after_para s) (state g mid)
-      → IsNew s rows (λ c. IsUnder committed (made s) c (state g last)))
+module _ {S : Type 0} (g : Ghosts S) (old begun last : Held S) (begins : begun ≡ record old { in_transaction = true }) where
+  -- what the making within a transaction made of what was there
+  pub whole : (HasCleanDisk (state g last) → AreAbsent (state g begun).now.schema × IsTrue (state g begun).is_open)
+      → (HasCleanDisk (state g last) → (committed : Database) (s : Schema) (rows : Trees) → AreAbsent s → IndexesLow s → IsMaking committed s rows s (state g begun) → IsNew s rows (λ c. IsUnder committed (made s) c (state g last)))
       → HasCleanDisk (state g last) → AreAbsent old.schema × (IsLive (state g old) → IsNew old.schema (state g old).now.trees (λ c. Shows (made old.schema) c (state g last)))
-  whole earlier first_free rest_free first rest clean =
-      let taken = rw begins at first_free (earlier clean) in
-      let more = rest_free clean in
-      let none : AreAbsent old.schema = record { book = taken.0.free.0; tab = taken.0.free.1.0; para = taken.0.free.1.1.0; corr = taken.1 _ more.free.0; mark = taken.1 _ more.free.1.0 } in (
-        none,
+  whole free ran clean =
+      let taken = rw begins at free clean in (
+        taken.0,
         λ live.
-            let sound = (live taken.0.is_open).0 in
+            let sound = (live taken.1).0 in
             let rows = (state g old).now.trees in
-            let half = first (earlier clean) (state g old).committed old.schema rows none (rw begins (begins_making g old sound)) in
-            let done = rest clean (state g old).committed old.schema rows none (sound_is_low old.schema rows sound) half in
+            let done = ran clean (state g old).committed old.schema rows taken.0 (sound_is_low old.schema rows sound) (rw begins (begins_making g old sound)) in
             (done.0, done.1, done.2, done.3, done.4.shows),
       )

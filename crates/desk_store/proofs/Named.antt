@@ -26,11 +26,25 @@ use Rattle.sqlite_rules.proofs.ListLemmas.{some_has, has_found}
 use Rattle.sqlite_catalog.specs.Listing.{automatic}
 use Rattle.sqlite_catalog.proofs.ListFacts.{find_within}
 use Rattle.desk_book.specs.Rows.{Tab}
-use Rattle.desk_store.specs.Contents.{HaveRowids, Lists, tab_row, tab_columns, put_in}
-use Rattle.desk_store.specs.Layout.{IsDeclared}
-use Rattle.desk_store.specs.Tables.{tab}
-use Rattle.desk_store.proofs.Declaring.{has_kept}
-use Rattle.desk_store.proofs.RowLists.{only_row, has_own, lone, replaced, shows_one}
+use Rattle.sql_tables.specs.Rows.{HaveRowids, Lists, put_in}
+use Rattle.sql_tables.specs.Tables.{IsDeclared}
+use Rattle.sql_tables.proofs.Declaring.{has_kept}
+use Rattle.sql_tables.proofs.RowLists.{only_row, has_own, lone, replaced, shows_one}
+use Rattle.sqlite_schema.specs.declared.schema.Table.{Table}
+use Rattle.sql_tables.specs.Rows.{picked}
+use Rattle.desk_store.specs.Described.{tabs as tab_which, described, table_of}
+use Rattle.desk_store.specs.Rows.{written}
+
+-- ---- the table, and a row of it as its columns and as its tree keeps it
+
+abbrev pub tab : ℕ → Table
+tab = table_of tab_which
+
+abbrev pub tab_row : Tab → Row
+tab_row = written tab_which
+
+abbrev pub tab_columns : Row → Row
+tab_columns = picked (described tab_which).own
 
 -- SQL takes two texts as equal where they are the same
 pub same_text : (a b : List ℕ) → is_eq (value_cmp (Text a) (Text b)) ≡ bytes_eq a b

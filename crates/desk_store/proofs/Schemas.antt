@@ -1,19 +1,13 @@
 -- Trees are a database of one schema at most, so a connection that is opened over them shows it.
 use Rattle.std.proofs.Common.{◌≡◌, ◌⊎◌, inl, inr, IsTrue, sym, subst}
-use Rattle.sqlite_trees.specs.Objects.{catalog_tree}
 use Rattle.sqlite_trees.specs.Tree.{Trees}
-use Rattle.sqlite_schema.specs.declared.schema.Schema.{Schema}
-use Rattle.sqlite_catalog.specs.Listing.{IsSound}
-use Rattle.sqlite_catalog.proofs.ReadLemmas.{lists_once}
 use Rattle.sqlite.specs.Effect.{Database}
 use Rattle.sqlite.specs.State.{State, Opens, IsLive}
 use Rattle.desk_store.specs.Contents.{Contents}
 use Rattle.desk_store.specs.Layout.{Layout}
-use Rattle.desk_store.specs.States.{IsFile, Leaves, Shows}
-
--- whatever tables, automatic indexes, indexes and views they have
-pub one_schema : {a b : Schema} {db : Trees} → IsSound a db → IsSound b db → a ≡ b
-one_schema {a} {b} {db} p q = lists_once (db catalog_tree) a b p.lists q.lists
+use Rattle.desk_store.specs.States.{IsFile, Shows}
+use Rattle.sql_tables.specs.States.{Leaves}
+use Rattle.sql_tables.proofs.OneSchema.{one_schema}
 
 -- an open connection shows the file that its trees are
 pub shows_own : (s : State) (l : Layout) (c : Contents) → IsLive s → IsTrue s.is_open → IsFile l c s.now.trees → Shows l c s

@@ -21,12 +21,11 @@ use Rattle.sqlite_rules.proofs.ListLemmas.{all_has, has_found}
 use Rattle.sqlite_rules.proofs.TableLemmas.{int_is}
 use Rattle.sqlite_catalog.specs.Listing.{IsSound}
 use Rattle.desk_book.specs.Rows.{Tab}
-use Rattle.desk_store.specs.Contents.{HaveRowids, Lists, tab_row, tab_columns}
-use Rattle.desk_store.specs.Layout.{IsDeclared}
-use Rattle.desk_store.specs.Tables.{tab}
-use Rattle.desk_store.proofs.Declaring.{has_table}
-use Rattle.desk_store.proofs.Named.{agrees_by_name, its_index, key_index, as_many_named, name_of, named, row_of, same_text}
-use Rattle.desk_store.proofs.RowLists.{filter_fewer, has_own}
+use Rattle.sql_tables.specs.Rows.{HaveRowids, Lists}
+use Rattle.sql_tables.specs.Tables.{IsDeclared}
+use Rattle.sql_tables.proofs.Declaring.{has_table}
+use Rattle.desk_store.proofs.Named.{tab, tab_row, tab_columns, agrees_by_name, its_index, key_index, as_many_named, name_of, named, row_of, same_text}
+use Rattle.sql_tables.proofs.RowLists.{filter_fewer, has_own}
 
 differ_numbers : (a b : ℤ) → differ (Int a) (Int b) ≡ false → a ≡ b
 unfolding binary

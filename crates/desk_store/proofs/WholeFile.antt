@@ -1,18 +1,26 @@
 -- A file has one contents, which are the rows that were read of it.
-use Rattle.std.proofs.Common.{◌≡◌, List, [], ◌∷◌, map, drop, refl, sym, ap, subst₂, ◌∙◌, ◌↔◌, IsPermutation}
-use Rattle.std.specs.List.{AllByRecursion}
+use Rattle.std.proofs.Common.{◌≡◌, ◌≤◌, List, [], ◌∷◌, map, true, refl, sym, subst, subst₂, ◌∙◌, ◌↔◌, IsPermutation}
+use Rattle.std.specs.List.{AllByRecursion, IsDistinct}
+use Rattle.std.specs.Ordering.{int_eq}
+use Rattle.std.proofs.lemmas.Bool.Decides.{Decides-int_eq}
 use Rattle.std.proofs.lemmas.List.Sorted.{IsPermutation-map}
 use Rattle.sqlite_schema.specs.declared.schema.Table.{Table}
 use Rattle.sqlite_value.specs.Order.{Row}
 use Rattle.sqlite_trees.specs.Tree.{Trees}
 use Rattle.sqlite_catalog.specs.Listing.{IsSound}
+use Rattle.sqlite.specs.State.{State}
 use Rattle.desk_book.specs.Rows.{StoredTab}
-use Rattle.desk_store.specs.Contents.{Contents, Lists, Holds, book_row, tab_row, stored_tab_row, para_row, corr_row, mark_row, book_columns, tab_columns, stored_tab_columns, para_columns, corr_columns, mark_columns}
+use Rattle.sql_tables.specs.Rows.{HaveRowids, Lists, picked}
+use Rattle.sql_tables.proofs.Apart.{apart, as_many, have_rowids}
+use Rattle.sql_tables.proofs.SameLists.{other_order}
+use Rattle.desk_store.specs.Contents.{Contents, Holds}
+use Rattle.desk_store.specs.Described.{Which, books, tabs, paras, corrs, marks, caches, named_corrs, described}
 use Rattle.desk_store.specs.Layout.{Layout, AreDeclared, IsOther}
-use Rattle.desk_store.specs.States.{IsFile}
-use Rattle.desk_store.specs.Whole.{HaveSameRows, Rows, AreRows, AreApart, contents_of}
-use Rattle.desk_store.proofs.Apart.{have_rowids}
-use Rattle.desk_store.proofs.OneList.{one_books, one_tabs, one_paras, one_corrs, one_marks, other_order}
+use Rattle.desk_store.specs.Rows.{ShownOf, own, shown, written}
+use Rattle.desk_store.specs.States.{IsFile, Shows}
+use Rattle.desk_store.specs.Whole.{HaveSameRows, Rows, AreRows, AreApart, DifferIn, contents_of}
+use Rattle.desk_store.proofs.Answering.{maps_own, maps_shown, own_of}
+use Rattle.desk_store.proofs.OneList.{one_list}
 
 joined : (l : Layout) (a b c : Trees) (tables : List Table) → AllByRecursion (λ t. IsOther l t.tree → a t.tree ≡ b t.tree) tables → AllByRecursion (λ t. IsOther l t.tree → a t.tree ≡ c t.tree) tables
     → AllByRecursion (λ t. IsOther l t.tree → b t.tree ≡ c t.tree) tables
@@ -26,28 +34,17 @@ chained l a b c (t ∷ tables) p q = ((λ other. p.0 other ∙ q.0 other), chain
 
 same_rows : (l : Layout) (c d : Contents) (db : Trees) → Holds l c db → Holds l d db → HaveSameRows l c d
 same_rows l c d db p q = record {
-  books = one_books book_columns _ _ _ p.books q.books;
-  tabs = one_tabs tab_columns _ _ _ p.tabs q.tabs;
-  paras = one_paras para_columns _ _ _ p.paras q.paras;
-  corrs = one_corrs corr_columns _ _ _ p.corrs q.corrs;
-  marks = one_marks mark_columns _ _ _ p.marks q.marks;
+  tables = λ w is. one_list w (picked (described w).own) _ _ _ (p.tables w is) (q.tables w is);
   others = joined l db c.others d.others l.schema.tables p.others q.others;
   aside = λ tree other none. sym (p.aside tree other none) ∙ q.aside tree other none;
 }
 
 holds_too : (l : Layout) (c d : Contents) (db : Trees) → Holds l c db → HaveSameRows l c d → Holds l d db
 holds_too l c d db p same = record {
-  books = other_order book_row book_columns _ _ _ same.books p.books;
-  tabs = other_order tab_row tab_columns _ _ _ same.tabs p.tabs;
-  paras = other_order para_row para_columns _ _ _ same.paras p.paras;
-  corrs = other_order corr_row corr_columns _ _ _ same.corrs p.corrs;
-  marks = other_order mark_row mark_columns _ _ _ same.marks p.marks;
+  tables = λ w is. other_order (written w) (picked (described w).own) _ _ _ (same.tables w is) (p.tables w is);
+  ids = p.ids;
   others = chained l db c.others d.others l.schema.tables p.others same.others;
   aside = λ tree other none. p.aside tree other none ∙ same.aside tree other none;
-  book_ids = p.book_ids;
-  tab_ids = p.tab_ids;
-  para_ids = p.para_ids;
-  mark_ids = p.mark_ids;
 }
 
 pub one_contents : (l : Layout) (c d : Contents) (db : Trees) → IsFile l c db → (IsFile l d db ↔ HaveSameRows l c d)
@@ -58,19 +55,18 @@ one_contents l c d db is = (
 
 -- ---- what was read
 
-abbrev less_rowid : Row → Row
-less_rowid = drop 1
+-- the rows that the query shows, less the rowid where it isn't the row's own
+pub own_listed : (w : Which) (xs : List (ShownOf w)) (rows : List Row) → Lists (shown w) (picked (described w).shown) xs rows → Lists (written w) (picked (described w).own) (map (own w) xs) rows
+own_listed w xs rows lists = subst₂ IsPermutation (maps_shown w (λ x. x) xs) (maps_own w rows) (IsPermutation-map (own_of w) _ _ lists)
 
-tabs_less : (tabs : List StoredTab) → map less_rowid (map stored_tab_row tabs) ≡ map tab_row (map (λ t. t.row) tabs)
-tabs_less [] = refl
-tabs_less (t ∷ tabs) = ap (λ rows. tab_row t.row ∷ rows) (tabs_less tabs)
-
-rows_less : (rows : List Row) → map less_rowid (map stored_tab_columns rows) ≡ map tab_columns rows
-rows_less [] = refl
-rows_less (r ∷ rows) = ap (λ more. tab_columns r ∷ more) (rows_less rows)
-
-pub tabs_listed : (tabs : List StoredTab) (rows : List Row) → Lists stored_tab_row stored_tab_columns tabs rows → Lists tab_row tab_columns (map (λ t. t.row) tabs) rows
-tabs_listed tabs rows lists = subst₂ IsPermutation (tabs_less tabs) (rows_less rows) (IsPermutation-map less_rowid _ _ lists)
+ids_of : (w : Which) (xs : List (ShownOf w)) (rows : List Row) → Lists (shown w) (picked (described w).shown) xs rows → DifferIn w xs → (described w).is_changed ≡ true → HaveRowids rows
+ids_of books xs rows lists apart changed = have_rowids (shown books) (picked (described books).shown) (λ b. b.id) (λ b. refl) (λ r. refl) xs rows lists apart
+ids_of tabs xs rows lists apart changed = have_rowids (shown tabs) (picked (described tabs).shown) (λ t. t.rowid) (λ t. refl) (λ r. refl) xs rows lists apart
+ids_of paras xs rows lists apart changed = have_rowids (shown paras) (picked (described paras).shown) (λ p. p.id) (λ p. refl) (λ r. refl) xs rows lists apart
+ids_of corrs xs rows lists apart changed = absurd (cc)
+ids_of marks xs rows lists apart changed = have_rowids (shown marks) (picked (described marks).shown) (λ m. m.id) (λ m. refl) (λ r. refl) xs rows lists apart
+ids_of caches xs rows lists apart changed = have_rowids (shown caches) (picked (described caches).shown) (λ k. k.para) (λ k. refl) (λ r. refl) xs rows lists apart
+ids_of named_corrs xs rows lists apart changed = absurd (cc)
 
 all_same : (l : Layout) (db : Trees) (tables : List Table) → AllByRecursion (λ t. IsOther l t.tree → db t.tree ≡ db t.tree) tables
 all_same l db [] = tt
@@ -81,16 +77,15 @@ is_file l rows db declared sound are apart = record {
   declared = declared;
   sound = sound;
   holds = record {
-    books = are.books;
-    tabs = tabs_listed rows.tabs (db l.tab) are.tabs;
-    paras = are.paras;
-    corrs = are.corrs;
-    marks = are.marks;
+    tables = λ w is. own_listed w (rows w) (db (l.tree w)) (are w is);
+    ids = λ w is. ids_of w (rows w) (db (l.tree w)) (are w is) (apart w);
     others = all_same l db l.schema.tables;
     aside = λ tree other none. refl;
-    book_ids = have_rowids book_row book_columns (λ b. b.id) (λ b. refl) (λ r. refl) rows.books _ are.books apart.books;
-    tab_ids = have_rowids stored_tab_row stored_tab_columns (λ t. t.rowid) (λ t. refl) (λ r. refl) rows.tabs _ are.tabs apart.tabs;
-    para_ids = have_rowids para_row para_columns (λ p. p.id) (λ p. refl) (λ r. refl) rows.paras _ are.paras apart.paras;
-    mark_ids = have_rowids mark_row mark_columns (λ m. m.id) (λ m. refl) (λ r. refl) rows.marks _ are.marks apart.marks;
   };
 }
+
+-- the rowids of the braille tables that a connection shows differ
+pub tabs_apart : (l : Layout) (c : Contents) (s : State) → l.has tabs ≡ true → Shows l c s → (xs : List StoredTab) → Lists (shown tabs) (picked (described tabs).shown) xs (s.now.trees (l.tree tabs)) → IsDistinct int_eq (map (λ t. t.rowid) xs)
+tabs_apart l c s there shows xs lists =
+    apart int_eq Decides-int_eq (λ (t : StoredTab). t.rowid) xs (λ id.
+    subst (λ n. n ≤ 1) (as_many (shown tabs) (picked (described tabs).shown) (λ (t : StoredTab). t.rowid) (λ t. refl) (λ r. refl) id xs _ lists) ((shows.is.holds.ids tabs there refl).once id))

@@ -1,15 +1,21 @@
 -- The statements that read the tables whole, and what they tell in any file.
-use Rattle.std.specs.Prelude.{◌≡◌, ℕ, List, [], ◌∷◌, map, codes}
+use Rattle.std.specs.Prelude.{◌≡◌, ◌≢◌, ℕ, true, None, List, [], map, Result, IfOk, IfErr, OnOk, IsPermutation}
 use Rattle.std.specs.List.{AllByRecursion}
+use Rattle.std.specs.List.Sorted.{IsSortedBy}
+use Rattle.std.specs.Ordering.{is_lt}
 use Rattle.sqlite_value.specs.Order.{Row}
 use Rattle.sqlite_schema.specs.declared.schema.Kind.{Kind}
-use Rattle.sqlite_schema.specs.declared.schema.Kind.TheVariants.{Integer}
 use Rattle.sqlite.specs.declared.error.Error.{Error}
-use Rattle.sqlite.specs.State.{State, Shown, FailsToQuery}
-use Rattle.desk_store.specs.Contents.{three_columns, six_columns, seven_columns, eight_columns}
+use Rattle.sqlite.specs.State.{State, Shown, FailsToQuery, IsUnchanged}
+use Rattle.sql_tables.specs.Kinds.{HasKinds, HaveIntegerRowids, HaveUtf8Texts}
+use Rattle.sql_tables.specs.Rows.{Lists, picked, numbers_from}
+use Rattle.sql_tables.specs.States.{HasTable}
+use Rattle.desk_store.specs.Contents.{Contents}
+use Rattle.desk_store.specs.Described.{Which, described, table_of, kind_at, shows_rowid, has_texts}
 use Rattle.desk_store.specs.Fault.{IsToldAs}
-use Rattle.desk_store.specs.Kinds.{HasKinds, kinds_of}
-use Rattle.desk_store.specs.Tables as tables
+use Rattle.desk_store.specs.Layout.{Layout}
+use Rattle.desk_store.specs.Rows.{ShownOf, shown, own, order}
+use Rattle.desk_store.specs.States.{Shows}
 use Rattle.desk_store.specs.declared.fault.Fault.{Fault}
 use Rattle.desk_store.specs.declared.fault.Fault.TheVariants.{NoMemory, Refused}
 
@@ -19,21 +25,12 @@ pub record Asked : Type 0 where
   pub columns : Row → Row
   pub kinds : List Kind
 
-abbrev pub books_asked : Asked
-books_asked = record { text = codes "SELECT id, format, version FROM book ORDER BY id"; columns = three_columns; kinds = kinds_of (tables.book 0) }
+-- the first columns of a row that the query shows
+abbrev pub given : Which → Row → Row
+given w = picked (numbers_from 0 (described w).shown)
 
--- with the rowid first
-abbrev pub tabs_asked : Asked
-tabs_asked = record { text = codes "SELECT rowid, name, body FROM tab ORDER BY name"; columns = three_columns; kinds = Integer ∷ kinds_of (tables.tab 0) }
-
-abbrev pub paras_asked : Asked
-paras_asked = record { text = codes "SELECT id, place, tab, original, print, style, volume, struck FROM para ORDER BY id"; columns = eight_columns; kinds = kinds_of (tables.para 0) }
-
-abbrev pub corrs_asked : Asked
-corrs_asked = record { text = codes "SELECT para, seq, kind, start, len, body FROM corr ORDER BY para, seq"; columns = six_columns; kinds = kinds_of (tables.corr 0) }
-
-abbrev pub marks_asked : Asked
-marks_asked = record { text = codes "SELECT id, para, start, stop, note, touched, resolved FROM mark ORDER BY id"; columns = seven_columns; kinds = kinds_of (tables.mark 0) }
+abbrev pub asked : Which → Asked
+asked w = record { text = (described w).read; columns = given w; kinds = map (kind_at (described w).columns) (described w).shown }
 
 -- what is read are the rows that the statement showed, in turn
 abbrev pub Gives : {X : Type 0} → Asked → (X → Row) → State → State → List X → Type 0
@@ -44,3 +41,22 @@ pub data FailsAs (asked : Asked) (before after : State) (fault : Fault) : Type 0
   failed : (e : Error) → FailsToQuery asked.text [] before after e → IsToldAs e fault → FailsAs asked before after fault
   unreadable : (rows : List Row) → Shown asked.text [] before after rows → ¬ AllByRecursion (HasKinds asked.kinds) rows → fault ≡ Refused → FailsAs asked before after fault
   no_memory : (rows : List Row) → Shown asked.text [] before after rows → fault ≡ NoMemory → FailsAs asked before after fault
+
+-- The rows of a tree can be read: their rowids are integers where these are shown, and the texts are UTF-8 where there are any.
+pub record AreReadable (w : Which) (rows : List Row) : Type 0 where
+  pub ids : shows_rowid w ≡ true → HaveIntegerRowids rows
+  pub texts : has_texts w ≡ true → HaveUtf8Texts rows
+
+-- A read of a whole table answers so, in rows that are viewed as those of the table.
+pub record AnswersRows {V X : Type 0} (result : Result V Fault) (items : V → List X) (w : Which) (view : X → ShownOf w) (old new : State) : Type 0 where
+  -- what the statement shows in any file
+  pub gives : IfOk result (λ xs. Gives (asked w) (λ x. shown w (view x)) old new (items xs))
+  -- where the table is declared as in a new file, its rows as they stand, in order
+  pub rows : (tree : ℕ) → HasTable (table_of w tree) old → IfOk result (λ xs.
+      Lists (λ x. shown w (view x)) (picked (described w).shown) (items xs) (old.now.trees tree) × IsSortedBy (λ a b. is_lt (order w (view a) (view b))) (items xs))
+  pub shows : (l : Layout) (c : Contents) → l.has w ≡ true → Shows l c old → IfOk result (λ xs. IsPermutation (c.rows w) (map (λ x. own w (view x)) (items xs)))
+  pub unchanged : OnOk result (IsUnchanged old new)
+  pub told : IfErr result (FailsAs (asked w) old new)
+  pub refused : IfErr result (λ fault. fault ≡ Refused → IsUnchanged old new)
+  -- where its rows can be read, and the steps have no limit, it isn't refused
+  pub cause : (tree : ℕ) → HasTable (table_of w tree) old → old.step_limit ≡ None → AreReadable w (old.now.trees tree) → IfErr result (λ fault. fault ≢ Refused)

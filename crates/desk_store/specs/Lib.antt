@@ -1,6 +1,6 @@
-pub mod Tables
+pub mod Described
+pub mod Rows
 pub mod Layout
-pub mod Kinds
 pub mod Contents
 pub mod States
 pub mod Puts

@@ -1,17 +1,104 @@
 -- What rows that are put in turn make of the contents.
-use Rattle.std.specs.Prelude.{List, fold}
-use Rattle.desk_book.specs.declared.rows.Put.{Put}
-use Rattle.desk_book.specs.declared.rows.Put.TheVariants as put
-use Rattle.desk_store.specs.Contents.{Contents, with_book, with_tab, with_para, with_place, with_corr, with_mark, with_version}
+use Rattle.std.specs.Prelude.{◌≡◌, ℕ, ℤ, pos, true, List, fold, Result, Ok, Err, OnOk}
+use Rattle.std.specs.List.{AllByRecursion}
+use Rattle.std.specs.Ordering.{int_eq}
+use Rattle.sqlite_value.specs.Order.{Row}
+use Rattle.sqlite_trees.specs.Tree.{Trees}
+use Rattle.sqlite.specs.declared.error.Error.{Error}
+use Rattle.sqlite.specs.Effect.{Database}
+use Rattle.sqlite.specs.State.{State, KeepsCommit, ExecutesInside}
+use Rattle.desk_book.specs.declared.rows.BookRow.{BookRow}
+use Rattle.desk_book.specs.Rows.{Mark, Para}
+use Rattle.sql_tables.specs.Rows.{set_where}
+use Rattle.desk_store.specs.Contents.{Contents, with_row, with_rows}
+use Rattle.desk_store.specs.Described.{Which, books, tabs, paras, marks, caches, named_corrs}
+use Rattle.desk_store.specs.Layout.{Layout}
+use Rattle.desk_store.specs.States.{IsFile, IsUnder, Shows}
+use Rattle.desk_store.specs.declared.rows.Put.{Put}
+use Rattle.desk_store.specs.declared.rows.Put.TheVariants as put
+
+-- with this done to the paragraph with this id, to the mark with this id, to the row of `book` with id 1
+abbrev pub with_para : ℤ → (Para → Para) → Contents → Contents
+with_para id set = with_rows paras (set_where (λ (p : Para). int_eq p.id id) set)
+
+abbrev pub with_mark : ℤ → (Mark → Mark) → Contents → Contents
+with_mark id set = with_rows marks (set_where (λ (m : Mark). int_eq m.id id) set)
+
+abbrev pub with_book : (BookRow → BookRow) → Contents → Contents
+with_book set = with_rows books (set_where (λ (b : BookRow). int_eq b.id (pos 1)) set)
+
+abbrev pub placed : ℤ → Para → Para
+placed place p = record p { place = place }
+
+abbrev pub flagged : ℤ → ℤ → ℤ → Para → Para
+flagged style volume struck p = record p { style = style; volume = volume; struck = struck }
+
+abbrev pub retabled : List ℕ → Para → Para
+retabled tab p = record p { tab = tab }
+
+abbrev pub printed : List ℕ → Para → Para
+printed print p = record p { print = print }
+
+abbrev pub moved : ℤ → ℤ → ℤ → Mark → Mark
+moved start stop touched m = record m { start = start; stop = stop; touched = touched }
+
+abbrev pub settled : ℤ → Mark → Mark
+settled resolved m = record m { resolved = resolved }
+
+abbrev pub at_version : ℤ → BookRow → BookRow
+at_version version b = record b { version = version }
 
 abbrev pub with_put : Contents → Put → Contents
-with_put c (put.Book row) = with_book row.now c
-with_put c (put.Tab row) = with_tab row.now c
-with_put c (put.Para row) = with_para row.now c
-with_put c (put.Place id place) = with_place id place c
-with_put c (put.Corr row) = with_corr row.now c
-with_put c (put.Mark row) = with_mark row.now c
-with_put c (put.Version version) = with_version version c
+with_put c (put.Book row) = with_row books row.now c
+with_put c (put.Tab row) = with_row tabs row.now c
+with_put c (put.Para row) = with_row paras row.now c
+with_put c (put.Mark row) = with_row marks row.now c
+with_put c (put.Cache row) = with_row caches row.now c
+with_put c (put.Corr row) = with_row named_corrs row.now c
+with_put c (put.Place id place) = with_para id (placed place) c
+with_put c (put.Flags id style volume struck) = with_para id (flagged style volume struck) c
+with_put c (put.Table id tab) = with_para id (retabled tab.now) c
+with_put c (put.Print id print) = with_para id (printed print.now) c
+with_put c (put.Span id start stop touched) = with_mark id (moved start stop touched) c
+with_put c (put.Resolved id resolved) = with_mark id (settled resolved) c
+with_put c (put.Version version) = with_book (at_version version) c
 
 abbrev pub with_puts : List Put → Contents → Contents
 with_puts puts c = fold with_put c puts
+
+-- the table that it changes
+abbrev pub table_put : Put → Which
+table_put (put.Book row) = books
+table_put (put.Tab row) = tabs
+table_put (put.Para row) = paras
+table_put (put.Mark row) = marks
+table_put (put.Cache row) = caches
+table_put (put.Corr row) = named_corrs
+table_put (put.Place id place) = paras
+table_put (put.Flags id style volume struck) = paras
+table_put (put.Table id tab) = paras
+table_put (put.Print id print) = paras
+table_put (put.Span id start stop touched) = marks
+table_put (put.Resolved id resolved) = marks
+table_put (put.Version version) = books
+
+-- the tables that they change are there
+abbrev pub HasThem : Layout → List Put → Type 0
+HasThem l = AllByRecursion (λ it. l.has (table_put it) ≡ true)
+
+-- The trees are a file with these put, of whatever file the connection showed that has their tables.
+abbrev pub IsFileWith : List Put → State → Trees → Type 0
+IsFileWith puts s db = (l : Layout) (c : Contents) → HasThem l puts → Shows l c s → IsFile l (with_puts puts c) db
+
+-- ---- what a statement within a transaction does
+
+-- A statement ran inside a transaction with these parameters, or failed, and committed nothing.
+abbrev pub RunsTo : {V : Type 0} → Result V Error → List ℕ → Row → State → State → Type 0
+RunsTo (Ok v) text params old new = (count : ℕ) × ExecutesInside 0 text params old new (Ok count)
+RunsTo (Err e) text params old new = KeepsCommit old new
+
+-- A statement changes the contents so, over the same commit, where its table is there, and the transaction goes on.
+pub record Changes {V E : Type 0} (result : Result V E) (w : Which) (change : Contents → Contents) (old new : State) : Type 0 where
+  pub put : (committed : Database) (l : Layout) (c : Contents) → l.has w ≡ true → IsUnder committed l c old → OnOk result (IsUnder committed l (change c) new)
+  pub inside : OnOk result (new.in_transaction ≡ true)
+  pub kept : KeepsCommit old new

@@ -1,58 +1,60 @@
 -- The rows of a whole file.
-use Rattle.std.specs.Prelude.{◌≡◌, ℕ, ℤ, List, map, IsPermutation, IsUtf8}
+use Rattle.std.specs.Prelude.{◌≡◌, ℕ, ℤ, List, map, IsPermutation, IsUtf8, ⊤, true}
 use Rattle.std.specs.List.{AllByRecursion, IsDistinct}
 use Rattle.std.specs.Ordering.{int_eq}
 use Rattle.sqlite_trees.specs.Tree.{Trees}
 use Rattle.sqlite_rules.specs.Edit.{IsNoIndex}
-use Rattle.desk_book.specs.declared.rows.BookRow.{BookRow}
-use Rattle.desk_book.specs.Rows.{StoredTab, Para, Corr, Mark}
-use Rattle.desk_store.specs.Contents.{Contents, Lists, book_row, stored_tab_row, para_row, corr_row, mark_row, book_columns, stored_tab_columns, para_columns, corr_columns, mark_columns}
+use Rattle.sql_tables.specs.Rows.{Lists, picked}
+use Rattle.desk_store.specs.Contents.{Contents}
+use Rattle.desk_store.specs.Described.{Which, books, tabs, paras, corrs, marks, caches, named_corrs, described}
 use Rattle.desk_store.specs.Layout.{Layout, IsOther}
+use Rattle.desk_store.specs.Rows.{RowOf, ShownOf, own, shown}
 
--- the same rows in each of the five tables, in any order, and in each other tree
+-- the same rows in each of the tables, in any order, and in each other tree
 pub record HaveSameRows (l : Layout) (c d : Contents) : Type 0 where
-  pub books : IsPermutation c.books d.books
-  pub tabs : IsPermutation c.tabs d.tabs
-  pub paras : IsPermutation c.paras d.paras
-  pub corrs : IsPermutation c.corrs d.corrs
-  pub marks : IsPermutation c.marks d.marks
+  pub tables : (w : Which) → l.has w ≡ true → IsPermutation (c.rows w) (d.rows w)
   pub others : AllByRecursion (λ t. IsOther l t.tree → c.others t.tree ≡ d.others t.tree) l.schema.tables
   pub aside : (tree : ℕ) → IsOther l tree → IsNoIndex l.schema tree → c.others tree ≡ d.others tree
 
--- the rows of the five tables, those of `tab` with their rowids
-pub record Rows : Type 0 where
-  pub books : List BookRow
-  pub tabs : List StoredTab
-  pub paras : List Para
-  pub corrs : List Corr
-  pub marks : List Mark
+-- the rows of the tables as they are read, those of `tab` with their rowids
+abbrev pub Rows : Type 0
+Rows = (w : Which) → List (ShownOf w)
 
--- these are the rows of the five tables, in any order
-pub record AreRows (l : Layout) (rows : Rows) (db : Trees) : Type 0 where
-  pub books : Lists book_row book_columns rows.books (db l.book)
-  pub tabs : Lists stored_tab_row stored_tab_columns rows.tabs (db l.tab)
-  pub paras : Lists para_row para_columns rows.paras (db l.para)
-  pub corrs : Lists corr_row corr_columns rows.corrs (db l.corr)
-  pub marks : Lists mark_row mark_columns rows.marks (db l.mark)
+-- these are the rows of the tables, in any order
+abbrev pub AreRows : Layout → Rows → Trees → Type 0
+AreRows l rows db = (w : Which) → l.has w ≡ true → Lists (shown w) (picked (described w).shown) (rows w) (db (l.tree w))
 
 -- no two have the same number
 abbrev pub DifferBy : {X : Type 0} → (X → ℤ) → List X → Type 0
 DifferBy key xs = IsDistinct int_eq (map key xs)
 
--- the rows that may be changed differ by their keys, those of `tab` by their rowids
-pub record AreApart (rows : Rows) : Type 0 where
-  pub books : DifferBy (λ b. b.id) rows.books
-  pub tabs : DifferBy (λ t. t.rowid) rows.tabs
-  pub paras : DifferBy (λ p. p.id) rows.paras
-  pub marks : DifferBy (λ m. m.id) rows.marks
+-- The rows that may be changed differ by their keys, those of `tab` by their rowids.
+abbrev pub DifferIn : (w : Which) → List (ShownOf w) → Type 0
+DifferIn books = DifferBy (λ b. b.id)
+DifferIn tabs = DifferBy (λ t. t.rowid)
+DifferIn paras = DifferBy (λ p. p.id)
+DifferIn corrs = λ es. ⊤
+DifferIn marks = DifferBy (λ m. m.id)
+DifferIn caches = DifferBy (λ k. k.para)
+DifferIn named_corrs = λ es. ⊤
+
+abbrev pub AreApart : Rows → Type 0
+AreApart rows = (w : Which) → DifferIn w (rows w)
 
 -- these rows, beside those of the other tables
 abbrev pub contents_of : Rows → Trees → Contents
-contents_of rows db = record { books = rows.books; tabs = map (λ t. t.row) rows.tabs; paras = rows.paras; corrs = rows.corrs; marks = rows.marks; others = db }
+contents_of rows db = record { rows = λ w. map (own w) (rows w); others = db }
+
+-- the texts of a row are UTF-8
+abbrev pub IsUtf8Row : (w : Which) → RowOf w → Type 0
+IsUtf8Row books b = ⊤
+IsUtf8Row tabs t = IsUtf8 t.name
+IsUtf8Row paras p = IsUtf8 p.tab × IsUtf8 p.original × IsUtf8 p.print
+IsUtf8Row corrs e = IsUtf8 e.body
+IsUtf8Row marks m = IsUtf8 m.note
+IsUtf8Row caches k = ⊤
+IsUtf8Row named_corrs e = IsUtf8 e.entry.body × IsUtf8 e.who
 
 -- each text is UTF-8
-pub record AreUtf8 (c : Contents) : Type 0 where
-  pub tabs : AllByRecursion (λ t. IsUtf8 t.name) c.tabs
-  pub paras : AllByRecursion (λ p. IsUtf8 p.tab × IsUtf8 p.original × IsUtf8 p.print) c.paras
-  pub corrs : AllByRecursion (λ e. IsUtf8 e.body) c.corrs
-  pub marks : AllByRecursion (λ m. IsUtf8 m.note) c.marks
+abbrev pub AreUtf8 : Contents → Type 0
+AreUtf8 c = (w : Which) → AllByRecursion (IsUtf8Row w) (c.rows w)

@@ -1,17 +1,18 @@
 //! A crash, and what is opened after it.
 
-ghost use Rattle.std.specs.Prelude.{◌≡◌, ◌⊎◌, false, IfOk, OnOk};
+ghost use Rattle.std.specs.Prelude.{◌≡◌, ◌⊎◌, false, None, IfOk, OnOk};
 ghost use Rattle.sqlite.specs.Held.{state};
 ghost use Rattle.sqlite.specs.State.{HasCleanDisk, IsLive, Opens};
 ghost use Rattle.desk_store.specs.Contents.{Contents};
 ghost use Rattle.desk_store.specs.Layout.{Layout};
-ghost use Rattle.desk_store.specs.Puts.{with_puts};
-ghost use Rattle.desk_store.specs.States.{IsFile, Leaves, Shows};
+ghost use Rattle.desk_store.specs.Puts.{HasThem, with_puts};
+ghost use Rattle.desk_store.specs.States.{IsFile, Shows};
+ghost use Rattle.sql_tables.specs.States.{Leaves};
 
 use crate::fault::Fault;
 use crate::open::open_file;
+use crate::rows::Put;
 use crate::transaction::write;
-use desk_book::rows::Put;
 use sqlite::{Alter, Connection, Error};
 use sqlite_trees::error::StoreError;
 use sqlite_trees::store::Reopen;
@@ -23,6 +24,7 @@ pub fn reopen<S: Alter + Reopen + Drop>(
     conn: Connection<S>,
 ) -> Result<Connection<S>, Fault>
     ensures opens { IfOk result (λ after. HasCleanDisk (state S.Store after) → Opens (state S.Store after) × IsLive (state S.Store after)) }
+    ensures unlimited { IfOk result (λ after. (state S.Store after).step_limit ≡ None) }
     ensures found { IfOk result (λ after. HasCleanDisk (state S.Store after) → (state S.Store conn).may_leave (state S.Store after).now.trees) }
     ensures shows { IfOk result (λ after. HasCleanDisk (state S.Store after) → (l : Layout) (c d : Contents) → Leaves (λ db. IsFile l c db ⊎ IsFile l d db) (state S.Store conn)
         → Shows l c (state S.Store after) ⊎ Shows l d (state S.Store after)) }
@@ -50,9 +52,12 @@ pub fn reopen_after_write<S: Alter + Reopen + Drop>(
 ) -> Result<(Result<(), Error>, Connection<S>), Fault>
     requires { conn.in_transaction ≡ false }
     ensures idle { IfOk result (λ it. it.1.in_transaction ≡ false) }
-    ensures crash { IfOk result (λ it. HasCleanDisk (state S.Store it.1) → (l : Layout) (c : Contents) → Shows l c (state S.Store conn) → Leaves (IsFile l c) (state S.Store conn)
+    ensures opens { IfOk result (λ it. HasCleanDisk (state S.Store it.1) → Opens (state S.Store it.1) × IsLive (state S.Store it.1)) }
+    ensures unlimited { IfOk result (λ it. (state S.Store it.1).step_limit ≡ None) }
+    ensures clean { IfOk result (λ it. HasCleanDisk (state S.Store it.1) → HasCleanDisk (state S.Store conn)) }
+    ensures crash { IfOk result (λ it. HasCleanDisk (state S.Store it.1) → (l : Layout) (c : Contents) → HasThem l puts.now → Shows l c (state S.Store conn) → Leaves (IsFile l c) (state S.Store conn)
         → Shows l c (state S.Store it.1) ⊎ Shows l (with_puts puts.now c) (state S.Store it.1)) }
-    ensures kept { IfOk result (λ it. HasCleanDisk (state S.Store it.1) → (l : Layout) (c : Contents) → Shows l c (state S.Store conn)
+    ensures kept { IfOk result (λ it. HasCleanDisk (state S.Store it.1) → (l : Layout) (c : Contents) → HasThem l puts.now → Shows l c (state S.Store conn)
         → OnOk it.0 (Shows l (with_puts puts.now c) (state S.Store it.1))) }
 {
     let answer = write(&mut conn, puts);

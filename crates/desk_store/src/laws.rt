@@ -1,16 +1,22 @@
 //! Laws of files, and of the connections that show them.
+ghost use Rattle.desk_store.specs.Asked.{AreReadable};
 ghost use Rattle.desk_store.specs.Contents.{Contents};
-ghost use Rattle.desk_store.specs.Kinds.{HaveIntegerRowids, HaveUtf8Texts};
+ghost use Rattle.desk_store.specs.Described.{Which, shows_rowid};
+ghost use Rattle.sql_tables.specs.Kinds.{HaveIntegerRowids};
 ghost use Rattle.desk_store.specs.Layout.{AreDeclared, Layout};
-ghost use Rattle.desk_store.specs.Making.{IsNew, KeepsAside, made};
-ghost use Rattle.desk_store.specs.States.{IsFile, Leaves, Shows};
+ghost use Rattle.desk_store.specs.Making.{Differ, IsNew, MakesTables, made, with_none, with_tables};
+ghost use Rattle.sql_tables.specs.Making.{KeepsAside};
+ghost use Rattle.desk_store.specs.States.{IsFile, IsUnder, Shows};
+ghost use Rattle.sql_tables.specs.States.{Leaves};
 ghost use Rattle.desk_store.specs.Whole.{AreApart, AreRows, AreUtf8, HaveSameRows, Rows, contents_of};
+ghost use Rattle.sqlite.specs.Effect.{Database};
 ghost use Rattle.sqlite.specs.Held.{state};
 ghost use Rattle.sqlite.specs.State.{IsLive, Opens};
+ghost use Rattle.sqlite_catalog.specs.Change.{KeepsRows};
 ghost use Rattle.sqlite_catalog.specs.Listing.{IsSound};
 ghost use Rattle.sqlite_schema.specs.declared.schema.Schema.{Schema};
 ghost use Rattle.sqlite_trees.specs.Tree.{Trees};
-ghost use Rattle.std.specs.Prelude.{IsTrue, ◌≡◌, ◌↔◌, ◌⊎◌};
+ghost use Rattle.std.specs.Prelude.{IsTrue, List, true, ◌≡◌, ◌↔◌, ◌⊎◌};
 
 use sqlite::{Alter, Connection};
 
@@ -40,16 +46,21 @@ pub fn read_whole()
     ensures { (l : Layout) (rows : Rows) (db : Trees) → AreDeclared l → IsSound l.schema db → AreRows l rows db → AreApart rows → IsFile l (contents_of rows db) db }
 {}
 
-/// The rows of a file have what reading them asks for: integers as the rowids that are read, and texts in UTF-8 where those of the file
-/// are.
+/// The rows of a file can be read: the rowids that are read are integers, and the texts are UTF-8 where those of the file are.
 pub fn texts_as_written()
-    ensures rowids { (l : Layout) (c : Contents) (db : Trees) → IsFile l c db
-        → HaveIntegerRowids (db l.book) × HaveIntegerRowids (db l.tab) × HaveIntegerRowids (db l.para) × HaveIntegerRowids (db l.mark) }
-    ensures texts { (l : Layout) (c : Contents) (db : Trees) → IsFile l c db → AreUtf8 c
-        → HaveUtf8Texts (db l.tab) × HaveUtf8Texts (db l.para) × HaveUtf8Texts (db l.corr) × HaveUtf8Texts (db l.mark) }
+    ensures readable { (l : Layout) (c : Contents) (db : Trees) → IsFile l c db → AreUtf8 c → (w : Which) → l.has w ≡ true → AreReadable w (db (l.tree w)) }
+    ensures rowids { (l : Layout) (c : Contents) (db : Trees) → IsFile l c db → (w : Which) → l.has w ≡ true → shows_rowid w ≡ true → HaveIntegerRowids (db (l.tree w)) }
 {}
 
-/// A file where the five tables were made keeps what the database keeps aside.
+/// A file where the tables were made keeps what the database keeps aside.
 pub fn made_keeps()
     ensures { (s : Schema) (rows db : Trees) → IsNew s rows (λ c. IsFile (made s) c db) → KeepsAside s rows db }
+{}
+
+/// A connection in a transaction that shows a file, and that made tables there which the file lacks, shows the file with these, which have
+/// no rows; all other tables keep theirs, and so does what the database keeps aside.
+pub fn more_tables<S: Alter>(old: &Connection<S>, new: &Connection<S>)
+    ensures { (l : Layout) (c : Contents) (ws : List Which) (committed : Database) → Differ ws → IsUnder committed l c (state S.Store old.now) → MakesTables ws (state S.Store old.now) (state S.Store new.now)
+        → IsUnder committed (with_tables ws l) (with_none ws (state S.Store new.now).now.trees c) (state S.Store new.now)
+        × KeepsRows l.schema.tables (state S.Store old.now).now.trees (state S.Store new.now).now.trees × KeepsAside l.schema (state S.Store old.now).now.trees (state S.Store new.now).now.trees }
 {}

@@ -8,13 +8,18 @@ mod make;
 mod open;
 mod put;
 mod read;
+mod row;
+pub mod rows;
+mod texts;
 mod transaction;
 
 pub use crash::{reopen, reopen_after_write};
 pub use fault::Fault;
 pub use make::make_tables;
 pub use open::open_file;
-pub use read::{read_books, read_corrs, read_marks, read_paras, read_tabs};
+pub use read::{
+    read_books, read_caches, read_corrs, read_marks, read_named_corrs, read_paras, read_tabs,
+};
 pub use transaction::write;
 
 #[cfg(test)]

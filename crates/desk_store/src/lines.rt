@@ -1,10 +1,14 @@
 //! Rows as the lines of a text.
 //!
-//! A line begins with the name of a table, and the columns stand behind it in order; `place 1 20` moves a paragraph, and
-//! `version 8` sets the book's version. Words stand apart by one space, and `_` is a text with no character.
+//! A line begins with the name of a table, and the columns stand behind it in order, or with the name of what is set, and the row's
+//! number and the values stand behind it: `place 1 20` moves a paragraph. `version 8` sets the book's version. Words stand apart by one
+//! space, and `_` is a text with no character. `corr` is a row of the table `corr2`, and `older` one of `corr`.
 
-use crate::{read_books, read_corrs, read_marks, read_paras, read_tabs};
-use desk_book::rows::{BookRow, CorrRow, MarkRow, ParaRow, Put, StoredTab, TabRow};
+use crate::rows::{CacheRow, NamedCorrRow, Put};
+use crate::{
+    read_books, read_caches, read_corrs, read_marks, read_named_corrs, read_paras, read_tabs,
+};
+use desk_book::rows::{BookRow, CorrRow, MarkRow, ParaRow, StoredTab, TabRow};
 use sqlite::{Alter, Connection};
 use std::alloc::Global;
 use std::fmt::{self, Write};
@@ -16,9 +20,37 @@ pub(crate) enum Line {
     Book(BookRow),
     Tab(TabRow),
     Para(ParaRow),
-    Place { id: i64, place: i64 },
-    Corr(CorrRow),
+    Corr(NamedCorrRow),
     Mark(MarkRow),
+    Cache(CacheRow),
+    Place {
+        id: i64,
+        place: i64,
+    },
+    Flags {
+        id: i64,
+        style: i64,
+        volume: i64,
+        struck: i64,
+    },
+    Table {
+        id: i64,
+        tab: String,
+    },
+    Print {
+        id: i64,
+        print: String,
+    },
+    Span {
+        id: i64,
+        start: i64,
+        stop: i64,
+        touched: i64,
+    },
+    Resolved {
+        id: i64,
+        resolved: i64,
+    },
     Version(i64),
 }
 
@@ -35,6 +67,41 @@ impl Line {
             },
             Line::Corr(row) => Put::Corr(row),
             Line::Mark(row) => Put::Mark(row),
+            Line::Cache(row) => Put::Cache(row),
+            Line::Flags {
+                id,
+                style,
+                volume,
+                struck,
+            } => Put::Flags {
+                id: *id,
+                style: *style,
+                volume: *volume,
+                struck: *struck,
+            },
+            Line::Table { id, tab } => Put::Table {
+                id: *id,
+                tab: tab.as_str(),
+            },
+            Line::Print { id, print } => Put::Print {
+                id: *id,
+                print: print.as_str(),
+            },
+            Line::Span {
+                id,
+                start,
+                stop,
+                touched,
+            } => Put::Span {
+                id: *id,
+                start: *start,
+                stop: *stop,
+                touched: *touched,
+            },
+            Line::Resolved { id, resolved } => Put::Resolved {
+                id: *id,
+                resolved: *resolved,
+            },
             Line::Version(version) => Put::Version(*version),
         }
     }
@@ -83,14 +150,24 @@ fn para(alloc: Global, line: &str) -> Result<ParaRow, Fail> {
     })
 }
 
-fn corr(alloc: Global, line: &str) -> Result<CorrRow, Fail> {
-    Ok(CorrRow {
+fn corr(alloc: Global, line: &str) -> Result<NamedCorrRow, Fail> {
+    Ok(NamedCorrRow {
+        entry: CorrRow {
+            para: number(line, 1),
+            seq: number(line, 2),
+            kind: number(line, 3),
+            start: number(line, 4),
+            len: number(line, 5),
+            body: text(alloc, line, 6)?,
+        },
+        who: text(alloc, line, 7)?,
+    })
+}
+
+fn cache(alloc: Global, line: &str) -> Result<CacheRow, Fail> {
+    Ok(CacheRow {
         para: number(line, 1),
-        seq: number(line, 2),
-        kind: number(line, 3),
-        start: number(line, 4),
-        len: number(line, 5),
-        body: text(alloc, line, 6)?,
+        cells: Vec::from_slice(alloc, word(line, 2).as_bytes())?,
     })
 }
 
@@ -106,19 +183,52 @@ fn mark(alloc: Global, line: &str) -> Result<MarkRow, Fail> {
     })
 }
 
+/// The columns that a line sets.
+fn set(alloc: Global, line: &str) -> Result<Line, Fail> {
+    let id = number(line, 1);
+    match word(line, 0) {
+        "place" => Ok(Line::Place {
+            id,
+            place: number(line, 2),
+        }),
+        "flags" => Ok(Line::Flags {
+            id,
+            style: number(line, 2),
+            volume: number(line, 3),
+            struck: number(line, 4),
+        }),
+        "table" => Ok(Line::Table {
+            id,
+            tab: text(alloc, line, 2)?,
+        }),
+        "print" => Ok(Line::Print {
+            id,
+            print: text(alloc, line, 2)?,
+        }),
+        "span" => Ok(Line::Span {
+            id,
+            start: number(line, 2),
+            stop: number(line, 3),
+            touched: number(line, 4),
+        }),
+        "resolved" => Ok(Line::Resolved {
+            id,
+            resolved: number(line, 2),
+        }),
+        "version" => Ok(Line::Version(id)),
+        _ => Err("no row has this name".into()),
+    }
+}
+
 fn read(alloc: Global, line: &str) -> Result<Line, Fail> {
     match word(line, 0) {
         "book" => Ok(Line::Book(book(line))),
         "tab" => Ok(Line::Tab(tab(alloc, line)?)),
         "para" => Ok(Line::Para(para(alloc, line)?)),
-        "place" => Ok(Line::Place {
-            id: number(line, 1),
-            place: number(line, 2),
-        }),
         "corr" => Ok(Line::Corr(corr(alloc, line)?)),
         "mark" => Ok(Line::Mark(mark(alloc, line)?)),
-        "version" => Ok(Line::Version(number(line, 1))),
-        _ => Err("no row has this name".into()),
+        "cache" => Ok(Line::Cache(cache(alloc, line)?)),
+        _ => set(alloc, line),
     }
 }
 
@@ -191,8 +301,27 @@ impl Listed for ParaRow {
 impl Listed for CorrRow {
     fn add(&self, text: &mut String) -> fmt::Result {
         let body = written(self.body.as_str());
-        write!(text, "corr {} {} {}", self.para, self.seq, self.kind)?;
+        write!(text, "older {} {} {}", self.para, self.seq, self.kind)?;
         writeln!(text, " {} {} {body}", self.start, self.len)?;
+        Ok(())
+    }
+}
+
+impl Listed for NamedCorrRow {
+    fn add(&self, text: &mut String) -> fmt::Result {
+        let row = &self.entry;
+        let body = written(row.body.as_str());
+        let who = written(self.who.as_str());
+        write!(text, "corr {} {} {}", row.para, row.seq, row.kind)?;
+        writeln!(text, " {} {} {body} {who}", row.start, row.len)?;
+        Ok(())
+    }
+}
+
+impl Listed for CacheRow {
+    fn add(&self, text: &mut String) -> fmt::Result {
+        let cells = written_bytes(self.cells.as_slice());
+        writeln!(text, "cache {} {cells}", self.para)?;
         Ok(())
     }
 }
@@ -223,13 +352,22 @@ fn add_read<T: Listed + Drop>(text: &mut String, rows: Option<Vec<T>>) -> Option
     add_rows(text, rows?.as_slice()).ok()
 }
 
-/// Adds the rows of the five tables.
+/// Adds the rows of the six tables.
 fn add_tables<S: Alter>(alloc: Global, conn: &mut Connection<S>, text: &mut String) -> Option<()> {
     add_read(text, read_books(alloc, conn).ok())?;
     add_read(text, read_tabs(alloc, conn).ok())?;
     add_read(text, read_paras(alloc, conn).ok())?;
-    add_read(text, read_corrs(alloc, conn).ok())?;
-    add_read(text, read_marks(alloc, conn).ok())
+    add_read(text, read_named_corrs(alloc, conn).ok())?;
+    add_read(text, read_marks(alloc, conn).ok())?;
+    add_read(text, read_caches(alloc, conn).ok())
+}
+
+/// Adds the rows of an older table of histories, where there is one.
+fn add_older<S: Alter>(alloc: Global, conn: &mut Connection<S>, text: &mut String) -> Option<()> {
+    if conn.schema().table_named(b"corr").is_none() {
+        return Some(());
+    }
+    add_read(text, read_corrs(alloc, conn).ok())
 }
 
 /// The paragraphs and words of the notes, with 0 for no paragraph.
@@ -238,18 +376,19 @@ fn notes<S: Alter>(conn: &mut Connection<S>) -> Option<String> {
     conn.query_row(listed, &[]).ok()?.get(0).ok()
 }
 
-/// Adds the rows of the table that stands beside the five.
+/// Adds the rows of the table that stands beside these.
 fn add_notes<S: Alter>(conn: &mut Connection<S>, text: &mut String) -> Option<()> {
     let notes = notes(conn)?;
     writeln!(text, "note {notes}").ok()
 }
 
-/// All rows of a file: those of the five tables, where there is one of these, and the notes, where they are there.
+/// All rows of a file: those of its tables, where there is one of these, and the notes, where they are there.
 pub(crate) fn list<S: Alter>(alloc: Global, conn: &mut Connection<S>) -> Option<String> {
     let mut text = String::new(alloc);
     let has_notes = conn.schema().table_named(b"note").is_some();
     if conn.schema().tables.as_slice().len() > usize::from(has_notes) {
         add_tables(alloc, conn, &mut text)?;
+        add_older(alloc, conn, &mut text)?;
     }
     if has_notes {
         add_notes(conn, &mut text)?;

@@ -1,13 +1,14 @@
 //! A file that is there, opened.
 
-ghost use Rattle.std.specs.Prelude.{◌≡◌, ◌<◌, ◌^◌, ◌-◌, false, IfOk, IfErr};
+ghost use Rattle.std.specs.Prelude.{◌≡◌, ◌<◌, ◌^◌, ◌-◌, false, None, IfOk, IfErr};
 ghost use Rattle.sqlite_trees.specs.View.{IsClean, IsQuiet};
 ghost use Rattle.sqlite.specs.Held.{state};
 ghost use Rattle.sqlite.specs.State.{HasCleanDisk, IsLive, Opens};
 ghost use Rattle.sqlite.specs.Steps.{IsFresh};
 ghost use Rattle.desk_store.specs.Contents.{Contents};
 ghost use Rattle.desk_store.specs.Layout.{Layout};
-ghost use Rattle.desk_store.specs.States.{IsFile, Leaves, Shows};
+ghost use Rattle.desk_store.specs.States.{IsFile, Shows};
+ghost use Rattle.sql_tables.specs.States.{Leaves};
 
 use crate::fault::Fault;
 use sqlite::{Alter, Connection};
@@ -19,6 +20,8 @@ pub fn open_file<S: Alter + Drop>(alloc: Global, store: S) -> Result<Connection<
     ensures shows { IfOk result (λ conn. HasCleanDisk (state S.Store conn) → (l : Layout) (c : Contents) → IsFile l c (S.Store.view store).trees → Shows l c (state S.Store conn)) }
     ensures idle { IfOk result (λ conn. conn.in_transaction ≡ false) }
     ensures opens { IfOk result (λ conn. HasCleanDisk (state S.Store conn) → Opens (state S.Store conn) × IsLive (state S.Store conn)) }
+    // The connection has no limit on steps.
+    ensures unlimited { IfOk result (λ conn. (state S.Store conn).step_limit ≡ None) }
     ensures trees { IfOk result (λ conn. HasCleanDisk (state S.Store conn) → (state S.Store conn).now.trees ≡ (S.Store.view store).trees) }
     ensures clean { IfOk result (λ conn. HasCleanDisk (state S.Store conn) → IsClean (S.Store.view store)) }
     // A crash then leaves what was there.

@@ -1,80 +1,41 @@
 //! The statements that put rows.
 //!
 //! Each runs within a transaction, takes out no row and commits nothing. At `Ok` the rows of its table are those before with the row in
-//! place of the one with its key, or with it more, those of the other tables stay, and the transaction goes on. The error is the
-//! database's.
+//! place of the one with its key, or with it more, or with the columns set of the row with that key, those of the other tables stay, and
+//! the transaction goes on. The error is the database's.
 
 ghost use Rattle.std.specs.Prelude.{◌≡◌, true, [], ◌∷◌, OnOk};
-ghost use Rattle.sqlite_value.specs.declared.value.Value.TheVariants.{Int};
+ghost use Rattle.sqlite_value.specs.declared.value.Value.TheVariants.{Int, Text};
 ghost use Rattle.sqlite.specs.Effect.{Database};
 ghost use Rattle.sqlite.specs.State.{HasCleanDisk, KeepsCommit, Survives};
 ghost use Rattle.sqlite.specs.Values.{bound};
+ghost use Rattle.sql_tables.specs.States.{seen};
+ghost use Rattle.desk_store.specs.Contents.{Contents, with_row};
+ghost use Rattle.desk_store.specs.Described.{books, marks, paras};
 ghost use Rattle.desk_store.specs.Layout.{Layout};
-ghost use Rattle.desk_store.specs.Contents.{Contents, book_row, tab_row, para_row, corr_row, mark_row, with_book, with_tab, with_para, with_corr, with_mark, with_place, with_version};
-ghost use Rattle.desk_store.specs.Puts.{with_put, with_puts};
-ghost use Rattle.desk_store.specs.States.{IsUnder, seen};
+ghost use Rattle.desk_store.specs.Puts.{Changes, HasThem, RunsTo, at_version, flagged, moved, placed, printed, retabled, settled, table_put, with_book, with_mark, with_para, with_put, with_puts};
+ghost use Rattle.desk_store.specs.States.{IsUnder};
 
-use desk_book::rows::{BookRow, CorrRow, MarkRow, ParaRow, Put, TabRow};
+use crate::row::PutRow;
+use crate::rows::Put;
+use crate::texts::{
+    SET_FLAGS, SET_PLACE, SET_PRINT, SET_RESOLVED, SET_SPAN, SET_TABLE, SET_VERSION,
+};
 use sqlite::types::{ToSql, ValueRef};
 use sqlite::{Alter, Error, Transaction};
 
-/// The columns of the book's row, in order.
-fn book_columns(row: &BookRow) -> [ValueRef<'static>; 3]
-    ensures { bound result ≡ book_row row.now }
+/// Runs a statement within a transaction.
+pub(crate) fn run<S: Alter>(
+    tx: &mut Transaction<'_, S>,
+    text: &str,
+    params: &[ValueRef<'_>],
+) -> Result<(), Error>
+    ensures same_reference { tx.new.conn.ghost_name ≡ tx.old.conn.ghost_name }
+    ensures runs { HasCleanDisk (seen S.Store tx.new) → RunsTo result text.now (bound params.now) (seen S.Store tx.old) (seen S.Store tx.new) }
+    ensures survives { Survives (seen S.Store tx.old) (seen S.Store tx.new) (λ _. ⊥) }
 {
-    [row.id.to_sql(), row.format.to_sql(), row.version.to_sql()]
-}
-
-/// The columns of a braille table, in order.
-fn tab_columns(row: &TabRow) -> [ValueRef<'_>; 2]
-    ensures { bound result ≡ tab_row row.now }
-{
-    [row.name.to_sql(), row.body.to_sql()]
-}
-
-/// The columns of a paragraph, in order.
-fn para_columns(row: &ParaRow) -> [ValueRef<'_>; 8]
-    ensures { bound result ≡ para_row row.now }
-{
-    [
-        row.id.to_sql(),
-        row.place.to_sql(),
-        row.tab.to_sql(),
-        row.original.to_sql(),
-        row.print.to_sql(),
-        row.style.to_sql(),
-        row.volume.to_sql(),
-        row.struck.to_sql(),
-    ]
-}
-
-/// The columns of an entry of a history, in order.
-fn corr_columns(row: &CorrRow) -> [ValueRef<'_>; 6]
-    ensures { bound result ≡ corr_row row.now }
-{
-    [
-        row.para.to_sql(),
-        row.seq.to_sql(),
-        row.kind.to_sql(),
-        row.start.to_sql(),
-        row.len.to_sql(),
-        row.body.to_sql(),
-    ]
-}
-
-/// The columns of a mark, in order.
-fn mark_columns(row: &MarkRow) -> [ValueRef<'_>; 7]
-    ensures { bound result ≡ mark_row row.now }
-{
-    [
-        row.id.to_sql(),
-        row.para.to_sql(),
-        row.start.to_sql(),
-        row.stop.to_sql(),
-        row.note.to_sql(),
-        row.touched.to_sql(),
-        row.resolved.to_sql(),
-    ]
+    tx.execute(text, params)?;
+    Ok(())
 }
 
 /// Two numbers as the parameters of a statement.
@@ -84,136 +45,148 @@ fn numbers(first: i64, second: i64) -> [ValueRef<'static>; 2]
     [first.to_sql(), second.to_sql()]
 }
 
-/// Puts the book's row by its id.
-pub(crate) fn put_book<S: Alter>(tx: &mut Transaction<'_, S>, row: &BookRow) -> Result<(), Error>
-    ensures same_reference { tx.new.conn.ghost_name ≡ tx.old.conn.ghost_name }
-    ensures put { HasCleanDisk (seen S.Store tx.new) → (committed : Database) (l : Layout) (c : Contents) → IsUnder committed l c (seen S.Store tx.old)
-        → OnOk result (IsUnder committed l (with_book row.now c) (seen S.Store tx.new)) }
-    ensures inside { HasCleanDisk (seen S.Store tx.new) → OnOk result ((seen S.Store tx.new).in_transaction ≡ true) }
-    ensures kept { HasCleanDisk (seen S.Store tx.new) → KeepsCommit (seen S.Store tx.old) (seen S.Store tx.new) }
-    ensures survives { Survives (seen S.Store tx.old) (seen S.Store tx.new) (λ _. ⊥) }
+/// Four numbers as the parameters of a statement.
+fn four_numbers(first: i64, second: i64, third: i64, fourth: i64) -> [ValueRef<'static>; 4]
+    ensures { bound result ≡ Int first ∷ Int second ∷ Int third ∷ Int fourth ∷ [] }
 {
-    let columns = book_columns(row);
-    tx.execute(
-        "INSERT INTO book VALUES (?1, ?2, ?3) ON CONFLICT (id) DO UPDATE SET format = ?2, version = ?3",
-        &columns,
-    )?;
-    Ok(())
+    [
+        first.to_sql(),
+        second.to_sql(),
+        third.to_sql(),
+        fourth.to_sql(),
+    ]
 }
 
-/// Puts a braille table by its name.
-pub(crate) fn put_tab<S: Alter>(tx: &mut Transaction<'_, S>, row: &TabRow) -> Result<(), Error>
-    ensures same_reference { tx.new.conn.ghost_name ≡ tx.old.conn.ghost_name }
-    ensures put { HasCleanDisk (seen S.Store tx.new) → (committed : Database) (l : Layout) (c : Contents) → IsUnder committed l c (seen S.Store tx.old)
-        → OnOk result (IsUnder committed l (with_tab row.now c) (seen S.Store tx.new)) }
-    ensures inside { HasCleanDisk (seen S.Store tx.new) → OnOk result ((seen S.Store tx.new).in_transaction ≡ true) }
-    ensures kept { HasCleanDisk (seen S.Store tx.new) → KeepsCommit (seen S.Store tx.old) (seen S.Store tx.new) }
-    ensures survives { Survives (seen S.Store tx.old) (seen S.Store tx.new) (λ _. ⊥) }
+/// A number and a text as the parameters of a statement.
+fn number_and_text(number: i64, text: &str) -> [ValueRef<'_>; 2]
+    ensures { bound result ≡ Int number ∷ Text text.now ∷ [] }
 {
-    let columns = tab_columns(row);
-    tx.execute(
-        "INSERT INTO tab VALUES (?1, ?2) ON CONFLICT (name) DO UPDATE SET body = ?2",
-        &columns,
-    )?;
-    Ok(())
+    [number.to_sql(), text.to_sql()]
 }
 
-/// Puts a paragraph by its id.
-pub(crate) fn put_para<S: Alter>(tx: &mut Transaction<'_, S>, row: &ParaRow) -> Result<(), Error>
+/// Puts a row by its key. Where a history has an entry of that number, the database refuses it.
+pub(crate) fn put_row<T: PutRow, S: Alter>(
+    tx: &mut Transaction<'_, S>,
+    row: &T,
+) -> Result<(), Error>
     ensures same_reference { tx.new.conn.ghost_name ≡ tx.old.conn.ghost_name }
-    ensures put { HasCleanDisk (seen S.Store tx.new) → (committed : Database) (l : Layout) (c : Contents) → IsUnder committed l c (seen S.Store tx.old)
-        → OnOk result (IsUnder committed l (with_para row.now c) (seen S.Store tx.new)) }
-    ensures inside { HasCleanDisk (seen S.Store tx.new) → OnOk result ((seen S.Store tx.new).in_transaction ≡ true) }
-    ensures kept { HasCleanDisk (seen S.Store tx.new) → KeepsCommit (seen S.Store tx.old) (seen S.Store tx.new) }
+    ensures changes { HasCleanDisk (seen S.Store tx.new) → Changes result T.which (with_row T.which (T.own row.now)) (seen S.Store tx.old) (seen S.Store tx.new) }
     ensures survives { Survives (seen S.Store tx.old) (seen S.Store tx.new) (λ _. ⊥) }
 {
-    let columns = para_columns(row);
-    tx.execute(
-        "INSERT INTO para VALUES (?1, ?2, ?3, ?4, ?5, ?6, ?7, ?8) ON CONFLICT (id) DO UPDATE SET place = ?2, tab = ?3, original = ?4, print = ?5, style = ?6, volume = ?7, struck = ?8",
-        &columns,
-    )?;
-    Ok(())
-}
-
-/// Adds an entry to a history. Where the history has one of its number, the database refuses it.
-pub(crate) fn put_corr<S: Alter>(tx: &mut Transaction<'_, S>, row: &CorrRow) -> Result<(), Error>
-    ensures same_reference { tx.new.conn.ghost_name ≡ tx.old.conn.ghost_name }
-    ensures put { HasCleanDisk (seen S.Store tx.new) → (committed : Database) (l : Layout) (c : Contents) → IsUnder committed l c (seen S.Store tx.old)
-        → OnOk result (IsUnder committed l (with_corr row.now c) (seen S.Store tx.new)) }
-    ensures inside { HasCleanDisk (seen S.Store tx.new) → OnOk result ((seen S.Store tx.new).in_transaction ≡ true) }
-    ensures kept { HasCleanDisk (seen S.Store tx.new) → KeepsCommit (seen S.Store tx.old) (seen S.Store tx.new) }
-    ensures survives { Survives (seen S.Store tx.old) (seen S.Store tx.new) (λ _. ⊥) }
-{
-    let columns = corr_columns(row);
-    tx.execute("INSERT INTO corr VALUES (?1, ?2, ?3, ?4, ?5, ?6)", &columns)?;
-    Ok(())
-}
-
-/// Puts a mark by its id.
-pub(crate) fn put_mark<S: Alter>(tx: &mut Transaction<'_, S>, row: &MarkRow) -> Result<(), Error>
-    ensures same_reference { tx.new.conn.ghost_name ≡ tx.old.conn.ghost_name }
-    ensures put { HasCleanDisk (seen S.Store tx.new) → (committed : Database) (l : Layout) (c : Contents) → IsUnder committed l c (seen S.Store tx.old)
-        → OnOk result (IsUnder committed l (with_mark row.now c) (seen S.Store tx.new)) }
-    ensures inside { HasCleanDisk (seen S.Store tx.new) → OnOk result ((seen S.Store tx.new).in_transaction ≡ true) }
-    ensures kept { HasCleanDisk (seen S.Store tx.new) → KeepsCommit (seen S.Store tx.old) (seen S.Store tx.new) }
-    ensures survives { Survives (seen S.Store tx.old) (seen S.Store tx.new) (λ _. ⊥) }
-{
-    let columns = mark_columns(row);
-    tx.execute(
-        "INSERT INTO mark VALUES (?1, ?2, ?3, ?4, ?5, ?6, ?7) ON CONFLICT (id) DO UPDATE SET para = ?2, start = ?3, stop = ?4, note = ?5, touched = ?6, resolved = ?7",
-        &columns,
-    )?;
-    Ok(())
+    row.execute(tx)
 }
 
 /// Moves the paragraph with this id to a place, if it is there.
-pub(crate) fn set_place<S: Alter>(
-    tx: &mut Transaction<'_, S>,
-    id: i64,
-    place: i64,
-) -> Result<(), Error>
+fn set_place<S: Alter>(tx: &mut Transaction<'_, S>, id: i64, place: i64) -> Result<(), Error>
     ensures same_reference { tx.new.conn.ghost_name ≡ tx.old.conn.ghost_name }
-    ensures put { HasCleanDisk (seen S.Store tx.new) → (committed : Database) (l : Layout) (c : Contents) → IsUnder committed l c (seen S.Store tx.old)
-        → OnOk result (IsUnder committed l (with_place id place c) (seen S.Store tx.new)) }
-    ensures inside { HasCleanDisk (seen S.Store tx.new) → OnOk result ((seen S.Store tx.new).in_transaction ≡ true) }
-    ensures kept { HasCleanDisk (seen S.Store tx.new) → KeepsCommit (seen S.Store tx.old) (seen S.Store tx.new) }
+    ensures changes { HasCleanDisk (seen S.Store tx.new) → Changes result paras (with_para id (placed place)) (seen S.Store tx.old) (seen S.Store tx.new) }
     ensures survives { Survives (seen S.Store tx.old) (seen S.Store tx.new) (λ _. ⊥) }
 {
     let columns = numbers(id, place);
-    tx.execute("UPDATE para SET place = ?2 WHERE id = ?1", &columns)?;
-    Ok(())
+    run(tx, SET_PLACE, &columns)
+}
+
+/// Sets the style of the paragraph with this id, whether a volume begins with it, and whether it is struck, if it is there.
+fn set_flags<S: Alter>(
+    tx: &mut Transaction<'_, S>,
+    id: i64,
+    style: i64,
+    volume: i64,
+    struck: i64,
+) -> Result<(), Error>
+    ensures same_reference { tx.new.conn.ghost_name ≡ tx.old.conn.ghost_name }
+    ensures changes { HasCleanDisk (seen S.Store tx.new) → Changes result paras (with_para id (flagged style volume struck)) (seen S.Store tx.old) (seen S.Store tx.new) }
+    ensures survives { Survives (seen S.Store tx.old) (seen S.Store tx.new) (λ _. ⊥) }
+{
+    let columns = four_numbers(id, style, volume, struck);
+    run(tx, SET_FLAGS, &columns)
+}
+
+/// Sets the braille table of the paragraph with this id, if it is there.
+fn set_table<S: Alter>(tx: &mut Transaction<'_, S>, id: i64, tab: &str) -> Result<(), Error>
+    ensures same_reference { tx.new.conn.ghost_name ≡ tx.old.conn.ghost_name }
+    ensures changes { HasCleanDisk (seen S.Store tx.new) → Changes result paras (with_para id (retabled tab.now)) (seen S.Store tx.old) (seen S.Store tx.new) }
+    ensures survives { Survives (seen S.Store tx.old) (seen S.Store tx.new) (λ _. ⊥) }
+{
+    let columns = number_and_text(id, tab);
+    run(tx, SET_TABLE, &columns)
+}
+
+/// Sets the print of the paragraph with this id, if it is there.
+fn set_print<S: Alter>(tx: &mut Transaction<'_, S>, id: i64, print: &str) -> Result<(), Error>
+    ensures same_reference { tx.new.conn.ghost_name ≡ tx.old.conn.ghost_name }
+    ensures changes { HasCleanDisk (seen S.Store tx.new) → Changes result paras (with_para id (printed print.now)) (seen S.Store tx.old) (seen S.Store tx.new) }
+    ensures survives { Survives (seen S.Store tx.old) (seen S.Store tx.new) (λ _. ⊥) }
+{
+    let columns = number_and_text(id, print);
+    run(tx, SET_PRINT, &columns)
+}
+
+/// Sets the span of the mark with this id, and whether a correction has touched it, if it is there.
+fn set_span<S: Alter>(
+    tx: &mut Transaction<'_, S>,
+    id: i64,
+    start: i64,
+    stop: i64,
+    touched: i64,
+) -> Result<(), Error>
+    ensures same_reference { tx.new.conn.ghost_name ≡ tx.old.conn.ghost_name }
+    ensures changes { HasCleanDisk (seen S.Store tx.new) → Changes result marks (with_mark id (moved start stop touched)) (seen S.Store tx.old) (seen S.Store tx.new) }
+    ensures survives { Survives (seen S.Store tx.old) (seen S.Store tx.new) (λ _. ⊥) }
+{
+    let columns = four_numbers(id, start, stop, touched);
+    run(tx, SET_SPAN, &columns)
+}
+
+/// Sets whether the mark with this id is resolved, if it is there.
+fn set_resolved<S: Alter>(tx: &mut Transaction<'_, S>, id: i64, resolved: i64) -> Result<(), Error>
+    ensures same_reference { tx.new.conn.ghost_name ≡ tx.old.conn.ghost_name }
+    ensures changes { HasCleanDisk (seen S.Store tx.new) → Changes result marks (with_mark id (settled resolved)) (seen S.Store tx.old) (seen S.Store tx.new) }
+    ensures survives { Survives (seen S.Store tx.old) (seen S.Store tx.new) (λ _. ⊥) }
+{
+    let columns = numbers(id, resolved);
+    run(tx, SET_RESOLVED, &columns)
 }
 
 /// Sets the version in the row of `book` with id 1, if it is there.
-pub(crate) fn set_version<S: Alter>(tx: &mut Transaction<'_, S>, version: i64) -> Result<(), Error>
+fn set_version<S: Alter>(tx: &mut Transaction<'_, S>, version: i64) -> Result<(), Error>
     ensures same_reference { tx.new.conn.ghost_name ≡ tx.old.conn.ghost_name }
-    ensures put { HasCleanDisk (seen S.Store tx.new) → (committed : Database) (l : Layout) (c : Contents) → IsUnder committed l c (seen S.Store tx.old)
-        → OnOk result (IsUnder committed l (with_version version c) (seen S.Store tx.new)) }
-    ensures inside { HasCleanDisk (seen S.Store tx.new) → OnOk result ((seen S.Store tx.new).in_transaction ≡ true) }
-    ensures kept { HasCleanDisk (seen S.Store tx.new) → KeepsCommit (seen S.Store tx.old) (seen S.Store tx.new) }
+    ensures changes { HasCleanDisk (seen S.Store tx.new) → Changes result books (with_book (at_version version)) (seen S.Store tx.old) (seen S.Store tx.new) }
     ensures survives { Survives (seen S.Store tx.old) (seen S.Store tx.new) (λ _. ⊥) }
 {
     let columns = numbers(1, version);
-    tx.execute("UPDATE book SET version = ?2 WHERE id = ?1", &columns)?;
-    Ok(())
+    run(tx, SET_VERSION, &columns)
 }
 
-/// Puts a row into its table, or sets a value of one.
+/// Puts a row into its table, or sets columns of one.
 fn put<S: Alter>(tx: &mut Transaction<'_, S>, put: &Put<'_>) -> Result<(), Error>
     ensures same_reference { tx.new.conn.ghost_name ≡ tx.old.conn.ghost_name }
-    ensures put { HasCleanDisk (seen S.Store tx.new) → (committed : Database) (l : Layout) (c : Contents) → IsUnder committed l c (seen S.Store tx.old)
-        → OnOk result (IsUnder committed l (with_put c put.now) (seen S.Store tx.new)) }
-    ensures inside { HasCleanDisk (seen S.Store tx.new) → OnOk result ((seen S.Store tx.new).in_transaction ≡ true) }
-    ensures kept { HasCleanDisk (seen S.Store tx.new) → KeepsCommit (seen S.Store tx.old) (seen S.Store tx.new) }
+    ensures changes { HasCleanDisk (seen S.Store tx.new) → Changes result (table_put put.now) (λ c. with_put c put.now) (seen S.Store tx.old) (seen S.Store tx.new) }
     ensures survives { Survives (seen S.Store tx.old) (seen S.Store tx.new) (λ _. ⊥) }
 {
     match put {
-        Put::Book(row) => put_book(tx, row),
-        Put::Tab(row) => put_tab(tx, row),
-        Put::Para(row) => put_para(tx, row),
+        Put::Book(row) => put_row(tx, *row),
+        Put::Tab(row) => put_row(tx, *row),
+        Put::Para(row) => put_row(tx, *row),
+        Put::Mark(row) => put_row(tx, *row),
+        Put::Cache(row) => put_row(tx, *row),
+        Put::Corr(row) => put_row(tx, *row),
         Put::Place { id, place } => set_place(tx, *id, *place),
-        Put::Corr(row) => put_corr(tx, row),
-        Put::Mark(row) => put_mark(tx, row),
+        Put::Flags {
+            id,
+            style,
+            volume,
+            struck,
+        } => set_flags(tx, *id, *style, *volume, *struck),
+        Put::Table { id, tab } => set_table(tx, *id, tab),
+        Put::Print { id, print } => set_print(tx, *id, print),
+        Put::Span {
+            id,
+            start,
+            stop,
+            touched,
+        } => set_span(tx, *id, *start, *stop, *touched),
+        Put::Resolved { id, resolved } => set_resolved(tx, *id, *resolved),
         Put::Version(version) => set_version(tx, *version),
     }
 }
@@ -221,7 +194,7 @@ fn put<S: Alter>(tx: &mut Transaction<'_, S>, put: &Put<'_>) -> Result<(), Error
 /// Puts these in turn.
 pub(crate) fn put_all<S: Alter>(tx: &mut Transaction<'_, S>, puts: &[Put<'_>]) -> Result<(), Error>
     ensures same_reference { tx.new.conn.ghost_name ≡ tx.old.conn.ghost_name }
-    ensures put { HasCleanDisk (seen S.Store tx.new) → (committed : Database) (l : Layout) (c : Contents) → IsUnder committed l c (seen S.Store tx.old)
+    ensures put { HasCleanDisk (seen S.Store tx.new) → (committed : Database) (l : Layout) (c : Contents) → HasThem l puts.now → IsUnder committed l c (seen S.Store tx.old)
         → OnOk result (IsUnder committed l (with_puts puts.now c) (seen S.Store tx.new)) }
     ensures inside { HasCleanDisk (seen S.Store tx.new) → (seen S.Store tx.old).in_transaction ≡ true → OnOk result ((seen S.Store tx.new).in_transaction ≡ true) }
     ensures kept { HasCleanDisk (seen S.Store tx.new) → KeepsCommit (seen S.Store tx.old) (seen S.Store tx.new) }

@@ -7,8 +7,8 @@
 
 use super::lines::{list, puts, read_lines};
 use super::tests::{NOTES, judge};
+use crate::rows::Put;
 use crate::{make_tables, write};
-use desk_book::rows::Put;
 use sqlite::{Alter, Connection, FileStore, Files, Options};
 use sqlite_disk::{Crash, Disk, Fuse, Memory};
 use std::alloc::Global;
@@ -23,11 +23,11 @@ const MOST_CALLS: u64 = 10_000;
 const NOTE: &str = "note 0 apart\n";
 
 /// The row of a new book.
-const MADE: &str = "book 1 1 0\n";
+const MADE: &str = "book 1 2 0\n";
 
 /// The row of a new book beside the notes.
 const MADE_BESIDE_NOTES: &str = "\
-book 1 1 0
+book 1 2 0
 note 0 apart
 ";
 
@@ -42,14 +42,16 @@ para 2 4 de o2 p2 21 22 23
 para 3 3 en o3 p3 31 32 33
 para 4 2 en o4 p4 41 42 43
 para 5 1 de o5 _ 51 52 53
-corr 1 1 11 12 13 a
-corr 2 1 21 22 23 b
-corr 3 1 31 32 33 c
-corr 4 1 41 42 43 d
-corr 5 1 51 52 53 _
+corr 1 1 11 12 13 a w1
+corr 2 1 21 22 23 b w2
+corr 3 1 31 32 33 c w3
+corr 4 1 41 42 43 d w4
+corr 5 1 51 52 53 _ w5
 mark 1 2 11 12 m1 13 14
 mark 2 3 21 22 m2 23 24
 mark 3 4 31 32 m3 33 34
+cache 1 c1
+cache 2 c2
 place 1 20
 place 5 21
 version 8";
@@ -65,18 +67,20 @@ para 2 4 de o2 p2 21 22 23
 para 3 3 en o3 p3 31 32 33
 para 4 2 en o4 p4 41 42 43
 para 5 21 de o5 _ 51 52 53
-corr 1 1 11 12 13 a
-corr 2 1 21 22 23 b
-corr 3 1 31 32 33 c
-corr 4 1 41 42 43 d
-corr 5 1 51 52 53 _
+corr 1 1 11 12 13 a w1
+corr 2 1 21 22 23 b w2
+corr 3 1 31 32 33 c w3
+corr 4 1 41 42 43 d w4
+corr 5 1 51 52 53 _ w5
 mark 1 2 11 12 m1 13 14
 mark 2 3 21 22 m2 23 24
 mark 3 4 31 32 m3 33 34
+cache 1 c1
+cache 2 c2
 note 0 apart,1 first
 ";
 
-/// What is put then: twenty puts, each of which shows.
+/// What is put then: twenty-two puts, each of which shows.
 const LATER_PUTS: &str = "\
 book 1 2 17
 tab en four
@@ -87,14 +91,16 @@ para 2 7 en O2 P2 71 72 73
 para 3 8 de O3 P3 81 82 83
 para 4 9 de O4 _ 91 92 93
 para 6 1 en O5 P5 1 2 3
-corr 5 2 61 62 63 e
-corr 4 2 71 72 73 f
-corr 3 2 81 82 83 g
-corr 2 2 91 92 93 h
-corr 1 2 1 2 3 i
+corr 5 2 61 62 63 e w5
+corr 4 2 71 72 73 f w4
+corr 3 2 81 82 83 g w3
+corr 2 2 91 92 93 h w2
+corr 1 2 1 2 3 i w1
 mark 1 5 61 62 n1 63 64
 mark 2 4 71 72 n2 73 74
 mark 4 1 1 2 n4 3 4
+cache 2 d2
+cache 3 d3
 place 1 30
 place 5 31
 version 18";
@@ -112,20 +118,23 @@ para 3 8 de O3 P3 81 82 83
 para 4 9 de O4 _ 91 92 93
 para 5 31 de o5 _ 51 52 53
 para 6 1 en O5 P5 1 2 3
-corr 1 1 11 12 13 a
-corr 1 2 1 2 3 i
-corr 2 1 21 22 23 b
-corr 2 2 91 92 93 h
-corr 3 1 31 32 33 c
-corr 3 2 81 82 83 g
-corr 4 1 41 42 43 d
-corr 4 2 71 72 73 f
-corr 5 1 51 52 53 _
-corr 5 2 61 62 63 e
+corr 1 1 11 12 13 a w1
+corr 1 2 1 2 3 i w1
+corr 2 1 21 22 23 b w2
+corr 2 2 91 92 93 h w2
+corr 3 1 31 32 33 c w3
+corr 3 2 81 82 83 g w3
+corr 4 1 41 42 43 d w4
+corr 4 2 71 72 73 f w4
+corr 5 1 51 52 53 _ w5
+corr 5 2 61 62 63 e w5
 mark 1 5 61 62 n1 63 64
 mark 2 4 71 72 n2 73 74
 mark 3 4 31 32 m3 33 34
 mark 4 1 1 2 n4 3 4
+cache 1 c1
+cache 2 d2
+cache 3 d3
 note 0 apart,1 first
 ";
 

@@ -1,8 +1,8 @@
 ghost use Rattle.std.specs.Prelude.{◌≡◌, false, OnOk};
 
 use super::lines::{list, puts, read_lines};
+use crate::rows::Put;
 use crate::{Fault, make_tables, read_books, read_paras, reopen_after_write, write};
-use desk_book::rows::Put;
 use sqlite::{Connection, Error, MemStore};
 use std::alloc::Global;
 use std::process::Abort;
@@ -34,7 +34,7 @@ fn run_all(conn: &mut Connection<MemStore>, sql: &str) -> Result<(), Fail>
     }
 }
 
-/// Makes the five tables, beside the table of notes, and runs further statements.
+/// Makes the tables, beside the table of notes, and runs further statements.
 fn make(conn: &mut Connection<MemStore>, further: &str) -> Result<(), Fail>
     ensures { OnOk result (conn.new.in_transaction ≡ false) }
 {
@@ -101,7 +101,7 @@ para 2 3 en e f 7 8 9
 place 1 7
 para -5 9 en _ _ -1 -2 -3",
         "\
-book 1 1 0
+book 1 2 0
 para -5 9 en _ _ -1 -2 -3
 para 1 7 en a d 4 5 6
 para 2 3 en e f 7 8 9
@@ -121,7 +121,7 @@ tab b 1
 tab a 2
 tab b 3",
         "\
-book 1 1 0
+book 1 2 0
 tab 2 a 2
 tab 1 b 3
 note 0 apart
@@ -136,16 +136,54 @@ fn histories_and_marks(rt: HostRuntime) -> Result<(), Fail> {
         rt.alloc(),
         "",
         "\
-corr 1 2 3 4 5 b
-corr 1 1 6 7 8 _
+corr 1 2 3 4 5 b Ann
+corr 1 1 6 7 8 _ _
 mark 2 1 0 2 d 3 4
 mark 1 5 6 7 c 8 9",
         "\
-book 1 1 0
-corr 1 1 6 7 8 _
-corr 1 2 3 4 5 b
+book 1 2 0
+corr 1 1 6 7 8 _ _
+corr 1 2 3 4 5 b Ann
 mark 1 5 6 7 c 8 9
 mark 2 1 0 2 d 3 4
+note 0 apart
+",
+    )
+}
+
+#[test]
+fn columns_are_set(rt: HostRuntime) -> Result<(), Fail> {
+    judge_puts(
+        &rt,
+        rt.alloc(),
+        "\
+CREATE TABLE corr (para INTEGER NOT NULL, seq INTEGER NOT NULL, kind INTEGER NOT NULL, start INTEGER NOT NULL, len INTEGER NOT NULL, body TEXT NOT NULL, PRIMARY KEY (para, seq)) STRICT;
+INSERT INTO corr VALUES (1, 2, 0, 0, 0, 'b'), (1, 1, 0, 4, 5, 'a');
+",
+        "\
+para 1 1 en a b 0 0 0
+para 2 2 en c d 0 0 0
+mark 1 1 2 3 m 0 0
+mark 2 1 4 5 n 0 0
+cache 2 xyz
+cache 1 ab
+flags 1 4 5 6
+table 2 de
+print 1 longer
+span 2 7 8 9
+resolved 1 3
+cache 2 c
+place 3 7",
+        "\
+book 1 2 0
+para 1 1 en a longer 4 5 6
+para 2 2 de c d 0 0 0
+mark 1 1 2 3 m 0 3
+mark 2 1 7 8 n 9 0
+cache 1 ab
+cache 2 c
+older 1 1 0 4 5 a
+older 1 2 0 0 0 b
 note 0 apart
 ",
     )
@@ -162,7 +200,7 @@ para 1 2 en a b 0 0 0
 para 2 1 en c d 0 0 0
 place 1 7",
         "\
-book 1 1 0
+book 1 2 0
 para 1 7 en a b 0 0 0
 para 2 1 en c d 0 0 0
 note 0 apart
@@ -218,14 +256,14 @@ fn an_entry_that_is_there_is_refused(rt: HostRuntime) -> Result<(), Fail> {
     judge_refusal(
         &rt,
         rt.alloc(),
-        "corr 1 1 0 0 3 a",
+        "corr 1 1 0 0 3 a _",
         "\
 version 5
 para 1 1 en a b 0 0 0
-corr 1 1 0 0 3 b",
+corr 1 1 0 0 3 b Ann",
         "\
-book 1 1 0
-corr 1 1 0 0 3 a
+book 1 2 0
+corr 1 1 0 0 3 a _
 note 0 apart
 ",
     )
@@ -280,7 +318,7 @@ fn what_is_written_is_there_again(rt: HostRuntime) -> Result<(), Fail> {
 para 1 1 en a b 0 0 0
 version 2",
         "\
-book 1 1 2
+book 1 2 2
 para 1 1 en a b 0 0 0
 note 0 apart
 ",
@@ -293,10 +331,10 @@ fn make_beside_view(
     alloc: Global,
     conn: &mut Connection<MemStore>,
 ) -> Result<(bool, Option<Fault>, i64), Fail> {
-    run_all(conn, "CREATE VIEW Corr AS SELECT 1 AS one;")?;
+    run_all(conn, "CREATE VIEW Mark AS SELECT 1 AS one;")?;
     let made = make_tables(conn).is_ok();
     let fault = read_books(alloc, conn).err();
-    let one = conn.query_row("SELECT one FROM corr", &[])?.get(0)?;
+    let one = conn.query_row("SELECT one FROM mark", &[])?.get(0)?;
     Ok((made, fault, one))
 }
 

@@ -6,12 +6,13 @@ ghost use Rattle.sqlite.specs.State.{HasCleanDisk, Survives};
 ghost use Rattle.desk_store.specs.Layout.{Layout};
 ghost use Rattle.desk_store.specs.Contents.{Contents};
 ghost use Rattle.desk_store.specs.Fault.{IsToldAs};
-ghost use Rattle.desk_store.specs.Puts.{with_puts};
-ghost use Rattle.desk_store.specs.States.{IsFile, IsUndone, Leaves, Shows};
+ghost use Rattle.desk_store.specs.Puts.{HasThem, IsFileWith, with_puts};
+ghost use Rattle.desk_store.specs.States.{Shows};
+ghost use Rattle.sql_tables.specs.States.{IsUndone, Leaves};
 
 use crate::fault::Fault;
 use crate::put::put_all;
-use desk_book::rows::Put;
+use crate::rows::Put;
 use sqlite::{Alter, Connection, Error};
 
 /// Puts these in turn and commits them, as one. The error is the database's. A connection that is open then shows the last commit, which is
@@ -19,12 +20,12 @@ use sqlite::{Alter, Connection, Error};
 pub fn write<S: Alter>(conn: &mut Connection<S>, puts: &[Put<'_>]) -> Result<(), Error>
     requires { conn.old.in_transaction ≡ false }
     ensures idle { conn.new.in_transaction ≡ false }
-    ensures written { HasCleanDisk (state S.Store conn.new) → (l : Layout) (c : Contents) → Shows l c (state S.Store conn.old) → OnOk result (Shows l (with_puts puts.now c) (state S.Store conn.new)) }
+    ensures written { HasCleanDisk (state S.Store conn.new) → (l : Layout) (c : Contents) → HasThem l puts.now → Shows l c (state S.Store conn.old) → OnOk result (Shows l (with_puts puts.now c) (state S.Store conn.new)) }
     ensures open { HasCleanDisk (state S.Store conn.new) → OnOk result (IsTrue (state S.Store conn.new).is_open × ((state S.Store conn.new).committed ≡ (state S.Store conn.new).now)) }
     // Of a crash at any exit: nothing new is left but all of it.
-    ensures crash { (l : Layout) (c : Contents) → Shows l c (state S.Store conn.old) → Survives (state S.Store conn.old) (state S.Store conn.new) (IsFile l (with_puts puts.now c)) }
-    // At `Ok` it leaves nothing else.
-    ensures settled { HasCleanDisk (state S.Store conn.new) → (l : Layout) (c : Contents) → Shows l c (state S.Store conn.old) → OnOk result (Leaves (IsFile l (with_puts puts.now c)) (state S.Store conn.new)) }
+    ensures crash { Survives (state S.Store conn.old) (state S.Store conn.new) (IsFileWith puts.now (state S.Store conn.old)) }
+    // At `Ok` it leaves the trees that the connection shows.
+    ensures settled { HasCleanDisk (state S.Store conn.new) → OnOk result (Leaves (λ db. db ≡ (state S.Store conn.new).now.trees) (state S.Store conn.new)) }
     ensures undone { HasCleanDisk (state S.Store conn.new) → OnErr result (IsUndone (state S.Store conn.old) (state S.Store conn.new)) }
     // After a refusal a crash leaves nothing new.
     ensures refused { HasCleanDisk (state S.Store conn.new) → IfErr result (λ e. IsToldAs e Fault.Refused → Survives (state S.Store conn.old) (state S.Store conn.new) (λ _. ⊥)) }

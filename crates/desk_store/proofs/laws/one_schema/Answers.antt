@@ -1,4 +1,4 @@
-use Rattle.desk_store.proofs.Schemas.{one_schema}
+use Rattle.sql_tables.proofs.OneSchema.{one_schema}
 use Rattle.desk_store.proofs.laws.one_schema.Goals as goal
 
 pub returns : goal.returns

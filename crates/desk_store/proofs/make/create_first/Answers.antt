@@ -1,23 +1,16 @@
-use Rattle.std.proofs.Common.{arith}
+use Rattle.std.proofs.Common.{arith, refl, [], ◌∷◌}
 use Rattle.sqlite.specs.State.{HasCleanDisk}
-use Rattle.desk_store.specs.Making.{after_book, after_tab}
-use Rattle.desk_store.specs.States.{seen}
-use Rattle.desk_store.proofs.MadeTables.{tab_free, tab_counts, para_free, para_counts}
+use Rattle.sql_tables.specs.States.{seen}
+use Rattle.desk_store.specs.Described.{books, tabs, paras}
+use Rattle.desk_store.proofs.MadeTables.{makes_then}
 use Rattle.desk_store.proofs.make.create_first.Goals as goal
 
-pub returns-clause-made : goal.returns-clause-made
-returns-clause-made g c clean committed s rows none was =
-    let late : HasCleanDisk (seen g.S.Store c.create_tab.new.tx) = omega (arith, c.create_para.ensures.survives.clean) in
-    let early : HasCleanDisk (seen g.S.Store c.create_book.new.tx) = omega (arith, c.create_tab.ensures.survives.clean) in
-    let book = c.in_ok-create_book.ensures.made early committed s rows s was none.book in
-    let tab = c.in_ok-create_tab.ensures.made late committed s rows (after_book s) book (tab_free s none) (tab_counts s none) in
-    c.in_ok-create_para.ensures.made clean committed s rows (after_tab s) tab (para_free s none) (para_counts s none)
-
-pub returns-clause-taken : goal.returns-clause-taken
-returns-clause-taken g c clean =
-    let late : HasCleanDisk (seen g.S.Store c.create_tab.new.tx) = omega (arith, c.create_para.ensures.survives.clean) in
-    let early : HasCleanDisk (seen g.S.Store c.create_book.new.tx) = omega (arith, c.create_tab.ensures.survives.clean) in
-    let book = c.in_ok-create_book.ensures.taken early in
-    let tab = c.in_ok-create_tab.ensures.taken late in
-    let para = c.in_ok-create_para.ensures.taken clean in
-    (record { is_open = book.0.is_open; free = (book.0.free.0, (book.1 _ tab.0.free.0, (book.1 _ (tab.1 _ para.0.free.0), tt))) }, λ name free. book.1 name (tab.1 name (para.1 name free)))
+pub returns-clause-makes : goal.returns-clause-makes
+returns-clause-makes g c clean =
+    let old = seen g.S.Store c.args.tx.now in
+    let first = seen g.S.Store c.create.new.tx in
+    let second = seen g.S.Store c.create-2.new.tx in
+    let late : HasCleanDisk second = omega (arith, c.create-3.ensures.survives.clean) in
+    let early : HasCleanDisk first = omega (arith, c.create-2.ensures.survives.clean) in
+    let two = makes_then (books ∷ []) (tabs ∷ []) ((refl, tt), tt) old first second (c.in_ok-create.ensures.makes early) (c.in_ok-create-2.ensures.makes late) in
+    makes_then (books ∷ tabs ∷ []) (paras ∷ []) ((refl, (refl, tt)), tt) old second (seen g.S.Store c.create-3.new.tx) two (c.in_ok-create-3.ensures.makes clean)

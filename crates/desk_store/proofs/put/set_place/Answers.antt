@@ -1,15 +1,19 @@
-use Rattle.std.proofs.Common.{rules}
+use Rattle.std.proofs.Common.{[], ◌∷◌, rules}
+use Rattle.std.specs.Ordering.{int_eq}
 use Rattle.std.proofs.Math.Facts.{to_z-of_z}
 use mir.Syntax.{w64}
-use Rattle.sqlite.specs.Held.{state}
-use Rattle.desk_store.proofs.SetPlace.{place_stays}
-use Rattle.desk_store.proofs.Taking.{within}
+use Rattle.sqlite_value.specs.declared.value.Value.TheVariants.{Int}
+use Rattle.desk_book.specs.Rows.{Para}
+use Rattle.sql_tables.specs.Rows.{set_where}
+use Rattle.sql_tables.specs.States.{seen}
+use Rattle.desk_store.specs.Described.{paras}
+use Rattle.desk_store.specs.Puts.{placed}
+use Rattle.desk_store.specs.declared.texts.TheConstants.{SET_PLACE}
+use Rattle.desk_store.proofs.Changing.{changes}
+use Rattle.desk_store.proofs.PutTables.{sets_place}
 use Rattle.desk_store.proofs.put.set_place.Goals as goal
 
-pub returns-clause-put : goal.returns-clause-put
-returns-clause-put g c clean committed l contents was =
-    place_stays c.args.id c.args.place (state g.S.Store c.args.tx.now.conn.now) (state g.S.Store c.execute.new.self.conn.now) c.in_ok-execute.field-0
-    (rw (c.numbers-columns.ensures, to_z-of_z {w = w64} {z = c.args.id} (search rules), to_z-of_z {w = w64} {z = c.args.place} (search rules)) at (c.in_ok-execute.ensures.runs clean was.inside)) committed l contents was
-
-pub returns-clause-inside : goal.returns-clause-inside
-returns-clause-inside g c clean = (c.in_ok-execute.ensures.runs clean (within (state g.S.Store c.args.tx.now.conn.now).in_transaction c.in_ok-execute.ensures.ended)).1.mode
+pub returns-clause-changes : goal.returns-clause-changes
+returns-clause-changes g c clean =
+    changes paras (set_where (λ (p : Para). int_eq p.id c.args.id) (placed c.args.place)) SET_PLACE.now (Int c.args.id ∷ Int c.args.place ∷ []) (seen g.S.Store c.args.tx.now) (seen g.S.Store c.run.new.tx) (sets_place c.args.id c.args.place) c.run.result
+    (rw (c.numbers-columns.ensures, to_z-of_z {w = w64} {z = c.args.id} (search rules), to_z-of_z {w = w64} {z = c.args.place} (search rules)) at (c.run.ensures.runs clean))

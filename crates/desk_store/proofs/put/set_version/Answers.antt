@@ -1,15 +1,19 @@
-use Rattle.std.proofs.Common.{rules}
+use Rattle.std.proofs.Common.{[], ◌∷◌, pos, rules}
+use Rattle.std.specs.Ordering.{int_eq}
 use Rattle.std.proofs.Math.Facts.{to_z-of_z}
 use mir.Syntax.{w64}
-use Rattle.sqlite.specs.Held.{state}
-use Rattle.desk_store.proofs.SetVersion.{version_stays}
-use Rattle.desk_store.proofs.Taking.{within}
+use Rattle.sqlite_value.specs.declared.value.Value.TheVariants.{Int}
+use Rattle.desk_book.specs.declared.rows.BookRow.{BookRow}
+use Rattle.sql_tables.specs.Rows.{set_where}
+use Rattle.sql_tables.specs.States.{seen}
+use Rattle.desk_store.specs.Described.{books}
+use Rattle.desk_store.specs.Puts.{at_version}
+use Rattle.desk_store.specs.declared.texts.TheConstants.{SET_VERSION}
+use Rattle.desk_store.proofs.Changing.{changes}
+use Rattle.desk_store.proofs.PutTables.{sets_version}
 use Rattle.desk_store.proofs.put.set_version.Goals as goal
 
-pub returns-clause-put : goal.returns-clause-put
-returns-clause-put g c clean committed l contents was =
-    version_stays c.args.version (state g.S.Store c.args.tx.now.conn.now) (state g.S.Store c.execute.new.self.conn.now) c.in_ok-execute.field-0
-    (rw (c.numbers-columns.ensures, to_z-of_z {w = w64} {z = c.args.version} (search rules)) at (c.in_ok-execute.ensures.runs clean was.inside)) committed l contents was
-
-pub returns-clause-inside : goal.returns-clause-inside
-returns-clause-inside g c clean = (c.in_ok-execute.ensures.runs clean (within (state g.S.Store c.args.tx.now.conn.now).in_transaction c.in_ok-execute.ensures.ended)).1.mode
+pub returns-clause-changes : goal.returns-clause-changes
+returns-clause-changes g c clean =
+    changes books (set_where (λ (b : BookRow). int_eq b.id (pos 1)) (at_version c.args.version)) SET_VERSION.now (Int (pos 1) ∷ Int c.args.version ∷ []) (seen g.S.Store c.args.tx.now) (seen g.S.Store c.run.new.tx) (sets_version c.args.version) c.run.result
+    (rw (c.numbers-columns.ensures, to_z-of_z {w = w64} {z = c.args.version} (search rules)) at (c.run.ensures.runs clean))

@@ -1,0 +1,116 @@
+-- What a statement that puts rows makes of the contents.
+use Rattle.std.proofs.Common.{◌<◌, length, get_or, zero, suc, arith, ◌≡◌, ◌≢◌, ◌⊎◌, inl, inr, ℕ, true, false, List, [], ◌∷◌, Ok, Err, refl, sym, subst, ◌∙◌, true≢false, bytes_eq, Result}
+use Rattle.std.specs.List.{AllByRecursion}
+use Rattle.sqlite_value.specs.Order.{Row}
+use Rattle.sqlite_trees.specs.Tree.{Trees}
+use Rattle.sqlite_rules.proofs.ListLemmas.{all_has}
+use Rattle.sqlite_schema.specs.declared.schema.Table.{Table}
+use Rattle.sqlite_catalog.specs.Listing.{IsSound}
+use Rattle.sqlite.specs.declared.error.Error.{Error}
+use Rattle.sqlite.specs.State.{State, ExecutesInside}
+use Rattle.sqlite.proofs.InsideLemmas.{inside_keeps}
+use Rattle.sql_tables.specs.Rows.{HaveRowids, Lists, picked}
+use Rattle.sql_tables.proofs.Declaring.{has_table}
+use Rattle.sql_tables.proofs.PutLists.{apart, differ}
+use Rattle.sql_tables.proofs.Running.{Wrote}
+use Rattle.sql_tables.proofs.Writing.{Spares}
+use Rattle.desk_store.specs.Described.{Which, books, tabs, paras, corrs, marks, caches, named_corrs, described, table_of}
+use Rattle.desk_store.specs.Layout.{Layout, AreDeclared, IsOther}
+use Rattle.desk_store.specs.Contents.{Contents, Holds, with_rows}
+use Rattle.desk_store.specs.Puts.{Changes, RunsTo}
+use Rattle.desk_store.specs.Rows.{RowOf, written, set_at}
+use Rattle.desk_store.specs.States.{IsUnder}
+use Rattle.desk_store.proofs.PutTables.{Does}
+
+-- ---- each table
+
+pub same : (v w : Which) → (v ≡ w) ⊎ (bytes_eq (described v).name (described w).name ≡ false)
+same books books = inl refl
+same tabs tabs = inl refl
+same paras paras = inl refl
+same corrs corrs = inl refl
+same marks marks = inl refl
+same caches caches = inl refl
+same named_corrs named_corrs = inl refl
+same v w = inr refl
+
+set_own : (w : Which) (f : List (RowOf w) → List (RowOf w)) (rows : (v : Which) → List (RowOf v)) → set_at w f rows w ≡ f (rows w)
+set_own books f rows = refl
+set_own tabs f rows = refl
+set_own paras f rows = refl
+set_own corrs f rows = refl
+set_own marks f rows = refl
+set_own caches f rows = refl
+set_own named_corrs f rows = refl
+
+set_other : (w v : Which) (f : List (RowOf w) → List (RowOf w)) (rows : (v : Which) → List (RowOf v)) → bytes_eq (described v).name (described w).name ≡ false → set_at w f rows v ≡ rows v
+set_other books books f rows other = absurd (true≢false other)
+set_other tabs tabs f rows other = absurd (true≢false other)
+set_other paras paras f rows other = absurd (true≢false other)
+set_other corrs corrs f rows other = absurd (true≢false other)
+set_other marks marks f rows other = absurd (true≢false other)
+set_other caches caches f rows other = absurd (true≢false other)
+set_other named_corrs named_corrs f rows other = absurd (true≢false other)
+set_other w v f rows other = refl
+
+-- ---- all tables
+
+-- the rows of other tables stay
+others_stay : (l : Layout) (w : Which) → l.has w ≡ true → (c : Contents) (old new : Trees) (tables : List Table)
+    → AllByRecursion (λ t. IsOther l t.tree → old t.tree ≡ c.others t.tree) tables → AllByRecursion (λ t. t.tree ≢ l.tree w → new t.tree ≡ old t.tree) tables
+    → AllByRecursion (λ t. IsOther l t.tree → new t.tree ≡ c.others t.tree) tables
+others_stay l w there c old new [] had spared = tt
+others_stay l w there c old new (t ∷ ts) had spared = (λ other. spared.0 (other w there) ∙ had.0 other, others_stay l w there c old new ts had.1 spared.1)
+
+module _ (l : Layout) (c : Contents) (d : AreDeclared l) (old new : Trees) (h : Holds l c old) where
+  -- the rows of one table change, and others stay
+  pub holds : (w : Which) (f : List (RowOf w) → List (RowOf w)) → l.has w ≡ true → Spares l.schema (l.tree w) old new → Lists (written w) (picked (described w).own) (f (c.rows w)) (new (l.tree w)) → ((described w).is_changed ≡ true → HaveRowids (new (l.tree w)))
+      → Holds l (with_rows w f c) new
+  holds w f there spares lists ids =
+      let stays = λ (v : Which) (is : l.has v ≡ true) (other : bytes_eq (described v).name (described w).name ≡ false).
+      all_has _ l.schema.tables (table_of v (l.tree v)) spares.tables (has_table l.schema (table_of v (l.tree v)) (d v is))
+      (apart l.schema (table_of v (l.tree v)) (table_of w (l.tree w)) (d v is) (d w there) (differ (described v).name (described w).name other)) in record {
+        tables = λ v has. elim (same v w) [
+          | inl is ↦ subst (λ (v : Which). Lists (written v) (picked (described v).own) (set_at w f c.rows v) (new (l.tree v))) (sym is) (rw (set_own w f c.rows) lists)
+          | inr other ↦ rw (set_other w v f c.rows other, stays v has other) (h.tables v has)
+        ];
+        ids = λ v has. elim (same v w) [
+          | inl is ↦ subst (λ (v : Which). (described v).is_changed ≡ true → HaveRowids (new (l.tree v))) (sym is) ids
+          | inr other ↦ rw (stays v has other) (h.ids v has)
+        ];
+        others = others_stay l w there c old new l.schema.tables h.others spares.tables;
+        aside = λ t other none. spares.aside t (other w there) none ∙ h.aside t other none;
+      }
+
+goes_on : (old new : State) (l : Layout) (c next : Contents) (committed : _) → IsUnder committed l c old → Wrote old new → Holds l next new.now.trees → IsUnder committed l next new
+goes_on old new l c next committed was wrote all = record {
+  shows = record {
+    schema = wrote.schema ∙ was.shows.schema;
+    is = record { declared = was.shows.is.declared; sound = subst (λ s. IsSound s new.now.trees) (wrote.schema ∙ was.shows.schema) wrote.sound; holds = all };
+  };
+  inside = wrote.shown.mode ∙ was.inside;
+  over = (rw was.inside at wrote.shown.committed_is) ∙ was.over;
+}
+
+module _ (w : Which) (f : List (RowOf w) → List (RowOf w)) (text : List ℕ) (params : Row) (old new : State) where
+  put_ok : Does w f text params → (v : Unit {0}) (count : ℕ) → ExecutesInside 0 text params old new (Ok count) → Changes {V = Unit {0}} {E = Error} (Ok v) w (with_rows w f) old new
+  put_ok does v count h = record {
+    put = λ committed l c there was.
+        let file = was.shows.is in
+        let did = does l.schema (l.tree w) (file.declared w there) old new count (c.rows w) was.shows.schema file.sound (file.holds.ids w there) (file.holds.tables w there) h.0 in
+        goes_on old new l c (with_rows w f c) committed was did.wrote (holds l c file.declared old.now.trees new.now.trees file.holds w f there did.spares did.lists did.ids);
+    inside = h.1.mode;
+    kept = inside_keeps old new 0 false text params (Ok count) h;
+  }
+
+  -- a statement that ran changed the contents so
+  pub changes : Does w f text params → (r : Result (Unit {0}) Error) → RunsTo r text params old new → Changes r w (with_rows w f) old new
+  changes does (Ok v) ran = put_ok does v ran.0 ran.1
+  changes does (Err e) ran = record { put = λ committed l c there was. tt; inside = tt; kept = ran }
+
+-- ---- puts in turn
+
+pub all_at : {X : Type 0} (P : X → Type 0) (xs : List X) (i : ℕ) (d : X) → i < length xs → AllByRecursion P xs → P (get_or xs i d)
+all_at P [] i d lt all = absurd (omega (arith, lt))
+all_at P (x ∷ xs) zero d lt all = all.0
+all_at P (x ∷ xs) (suc i) d lt all = all_at P xs i d (omega (arith, lt)) all.1

@@ -1,0 +1,52 @@
+-- The text of a table makes it.
+use Rattle.std.proofs.Common.{◌≡◌, ℕ, Bool, IsTrue, List, true, false, [], ◌∷◌, Ok, Err, OnOk, Result, refl, sym, subst}
+use Rattle.sqlite_value.specs.Order.{Row}
+use Rattle.sqlite_ast.specs.declared.CreateTable as create
+use Rattle.sqlite_ast.specs.declared.Statement.{Statement}
+use Rattle.sqlite_ast.specs.declared.Statement.TheVariants.{CreateTable}
+use Rattle.sqlite.specs.declared.error.Error.{Error}
+use Rattle.sqlite.specs.State.{State, ExecutesInside, KeepsCommit}
+use Rattle.sqlite.proofs.InsideLemmas.{inside_keeps}
+use Rattle.sqlite_tied.specs.Compute.{everything}
+use Rattle.sql_tables.proofs.Makes.{IsMake, makes_first}
+use Rattle.sql_tables.proofs.Meaning.{parse_of}
+use Rattle.sql_tables.proofs.Taking.{takes}
+use Rattle.desk_store.specs.Described.{Which, books, tabs, paras, corrs, marks, caches, named_corrs, described, table_of}
+use Rattle.desk_store.specs.Making.{MakesTables}
+use Rattle.desk_store.specs.Puts.{RunsTo}
+
+abbrev def_in : Statement → create.CreateTable
+def_in (CreateTable def) = def
+def_in _ = record { if_missing = false; name = []; body = record { columns = []; rules = [] }; is_strict = false; resolves = false }
+
+-- ---- each table
+
+is_make : (w : Which) → (described w).is_written ≡ true → IsMake (described w).create (table_of w 0)
+unfolding everything
+is_make books is = record { def = def_in (parse_of (described books).create).statement; is_text = record { parsed = refl; statement = refl; timeless = refl }; name = refl; always = refl; own = refl; defined = refl; plain = refl; unresolved = refl; spelled = refl; made = refl; uncounted = refl; other = refl }
+is_make tabs is = record { def = def_in (parse_of (described tabs).create).statement; is_text = record { parsed = refl; statement = refl; timeless = refl }; name = refl; always = refl; own = refl; defined = refl; plain = refl; unresolved = refl; spelled = refl; made = refl; uncounted = refl; other = refl }
+is_make paras is = record { def = def_in (parse_of (described paras).create).statement; is_text = record { parsed = refl; statement = refl; timeless = refl }; name = refl; always = refl; own = refl; defined = refl; plain = refl; unresolved = refl; spelled = refl; made = refl; uncounted = refl; other = refl }
+is_make corrs is = absurd (cc)
+is_make marks is = record { def = def_in (parse_of (described marks).create).statement; is_text = record { parsed = refl; statement = refl; timeless = refl }; name = refl; always = refl; own = refl; defined = refl; plain = refl; unresolved = refl; spelled = refl; made = refl; uncounted = refl; other = refl }
+is_make caches is = record { def = def_in (parse_of (described caches).create).statement; is_text = record { parsed = refl; statement = refl; timeless = refl }; name = refl; always = refl; own = refl; defined = refl; plain = refl; unresolved = refl; spelled = refl; made = refl; uncounted = refl; other = refl }
+is_make named_corrs is = record { def = def_in (parse_of (described named_corrs).create).statement; is_text = record { parsed = refl; statement = refl; timeless = refl }; name = refl; always = refl; own = refl; defined = refl; plain = refl; unresolved = refl; spelled = refl; made = refl; uncounted = refl; other = refl }
+
+-- ---- all tables
+
+-- a statement that failed committed nothing
+pub err_keeps : (text : List ℕ) (params : Row) (old new : State) (e : Error) (inside : Bool) → old.in_transaction ≡ inside → (old.in_transaction ≡ false → new ≡ old) → (IsTrue old.in_transaction → ExecutesInside 0 text params old new (Err e)) → KeepsCommit old new
+err_keeps text params old new e true is ended ran = inside_keeps old new 0 false text params (Err e) (ran is)
+err_keeps text params old new e false is ended ran = subst (KeepsCommit old) (sym (ended is)) (record { was_open = λ it. it; committed = λ it. refl })
+
+module _ (w : Which) (is : (described w).is_written ≡ true) (old new : State) where
+  -- a statement that ran made it
+  pub creates : (r : Result (Unit {0}) Error) → RunsTo r (described w).create [] old new → OnOk r (MakesTables (w ∷ []) old new)
+  creates (Err e) ran = tt
+  creates (Ok v) ran = record {
+    taken = takes (described w).create (table_of w 0) (is_make w is) old new ran.0 ran.1;
+    made = λ committed first rows before was free. makes_first (described w).create (table_of w 0) (is_make w is) committed first rows before old new ran.0 was free.0 ran.1;
+  }
+
+  pub creates_keeps : (r : Result (Unit {0}) Error) → RunsTo r (described w).create [] old new → KeepsCommit old new
+  creates_keeps (Ok v) ran = inside_keeps old new 0 false (described w).create [] (Ok ran.0) ran.1
+  creates_keeps (Err e) ran = ran

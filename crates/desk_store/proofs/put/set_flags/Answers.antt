@@ -1,0 +1,19 @@
+use Rattle.std.proofs.Common.{[], ◌∷◌, rules}
+use Rattle.std.specs.Ordering.{int_eq}
+use Rattle.std.proofs.Math.Facts.{to_z-of_z}
+use mir.Syntax.{w64}
+use Rattle.sqlite_value.specs.declared.value.Value.TheVariants.{Int}
+use Rattle.desk_book.specs.Rows.{Para}
+use Rattle.sql_tables.specs.Rows.{set_where}
+use Rattle.sql_tables.specs.States.{seen}
+use Rattle.desk_store.specs.Described.{paras}
+use Rattle.desk_store.specs.Puts.{flagged}
+use Rattle.desk_store.specs.declared.texts.TheConstants.{SET_FLAGS}
+use Rattle.desk_store.proofs.Changing.{changes}
+use Rattle.desk_store.proofs.PutTables.{sets_flags}
+use Rattle.desk_store.proofs.put.set_flags.Goals as goal
+
+pub returns-clause-changes : goal.returns-clause-changes
+returns-clause-changes g c clean =
+    changes paras (set_where (λ (p : Para). int_eq p.id c.args.id) (flagged c.args.style c.args.volume c.args.struck)) SET_FLAGS.now (Int c.args.id ∷ Int c.args.style ∷ Int c.args.volume ∷ Int c.args.struck ∷ []) (seen g.S.Store c.args.tx.now) (seen g.S.Store c.run.new.tx) (sets_flags c.args.id c.args.style c.args.volume c.args.struck) c.run.result
+    (rw (c.four_numbers-columns.ensures, to_z-of_z {w = w64} {z = c.args.id} (search rules), to_z-of_z {w = w64} {z = c.args.style} (search rules), to_z-of_z {w = w64} {z = c.args.volume} (search rules), to_z-of_z {w = w64} {z = c.args.struck} (search rules)) at (c.run.ensures.runs clean))

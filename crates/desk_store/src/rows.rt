@@ -1,0 +1,85 @@
+//! The rows of the tables of the last format that no book has yet, and what is put into a file.
+
+ghost use Rattle.std.specs.Prelude.{string_bytes};
+ghost use Rattle.desk_store.specs.Rows.{Cached, NamedCorr};
+
+use desk_book::rows::{BookRow, CorrRow, MarkRow, ParaRow, TabRow};
+use std::marker::Model;
+
+/// A row of `cache`: the braille of a paragraph.
+#[derive(Drop)]
+pub struct CacheRow {
+    /// The paragraph's id, which is the key.
+    pub para: i64,
+    /// Its cells, one mask a cell.
+    pub cells: Vec<u8>,
+}
+
+impl Model for CacheRow {
+    ghost Value = { Cached };
+
+    ghost view = { λ r. record { para = r.para; cells = r.cells.items } };
+}
+
+/// A row of `corr2`: an entry of a paragraph's history, and who made it.
+#[derive(Drop)]
+pub struct NamedCorrRow {
+    /// The entry. Its paragraph and its number are the key.
+    pub entry: CorrRow,
+    /// The proofreader's name, or nothing.
+    pub who: String,
+}
+
+impl Model for NamedCorrRow {
+    ghost Value = { NamedCorr };
+
+    ghost view = { λ r. record { entry = r.entry; who = string_bytes r.who } };
+}
+
+/// A row that is added, or replaces the one with its key, or columns of a row that is there, which the row with that key gets.
+#[derive(Clone, Copy)]
+pub enum Put<'a> {
+    Book(&'a BookRow),
+    Tab(&'a TabRow),
+    Para(&'a ParaRow),
+    Mark(&'a MarkRow),
+    Cache(&'a CacheRow),
+    /// An entry that its history lacks.
+    Corr(&'a NamedCorrRow),
+    /// The place of a paragraph.
+    Place {
+        id: i64,
+        place: i64,
+    },
+    /// The style of a paragraph, whether a volume begins with it, and whether it is struck.
+    Flags {
+        id: i64,
+        style: i64,
+        volume: i64,
+        struck: i64,
+    },
+    /// The braille table of a paragraph.
+    Table {
+        id: i64,
+        tab: &'a str,
+    },
+    /// The print of a paragraph, with its corrections.
+    Print {
+        id: i64,
+        print: &'a str,
+    },
+    /// The span of a mark, and whether a correction has touched it.
+    Span {
+        id: i64,
+        start: i64,
+        stop: i64,
+        touched: i64,
+    },
+    /// Whether a mark is resolved.
+    Resolved {
+        id: i64,
+        resolved: i64,
+    },
+    /// The version of the book.
+    Version(i64),
+}

@@ -1,0 +1,158 @@
+-- What an upsert by the rowid makes of a table.
+use Rattle.std.proofs.Common.{◌≡◌, ℕ, suc, ℤ, ◌+◌, ◌/◌, ◌++◌, ap, ◌∙◌, ◌==◌, ◌&&◌, Bool, true, false, List, [], ◌∷◌, drop, map, length, Some, Ok, refl, sym, true≢false, replicate}
+use Rattle.std.specs.Ordering.{int_eq}
+use Rattle.std.proofs.lemmas.Bool.{and_parts}
+use Rattle.sqlite_value.specs.declared.keys.Collation.TheVariants.{Binary}
+use Rattle.sqlite_value.specs.declared.value.Value.{Value}
+use Rattle.sqlite_value.specs.declared.value.Value.TheVariants as value
+use Rattle.sqlite_value.specs.Order.{Row, column}
+use Rattle.sqlite_trees.specs.Tree.{rowid}
+use Rattle.sqlite_ast.specs.declared.Rows.{Rows}
+use Rattle.sqlite_ast.specs.declared.Statement.TheVariants.{Insert}
+use Rattle.sqlite_ast.specs.declared.Upsert.{Upsert}
+use Rattle.sqlite_ast.specs.declared.Conflict.TheVariants as conflict
+use Rattle.sqlite_sql.specs.Term.{Term, lit, col, eval_all}
+use Rattle.sqlite_schema.specs.declared.command.Source.TheVariants.{Values}
+use Rattle.sqlite_schema.specs.declared.schema.Column.{Column}
+use Rattle.sqlite_schema.specs.declared.schema.Kind.{Kind}
+use Rattle.sqlite_schema.specs.declared.schema.Kind.TheVariants as kind
+use Rattle.sqlite_schema.specs.declared.schema.Table.{Table}
+use Rattle.sqlite_schema.specs.declared.schema.Schema.{Schema}
+use Rattle.sqlite_resolve.specs.Compile.{small, new_rows}
+use Rattle.sqlite_resolve.specs.Given.{do_update, key_meant}
+use Rattle.sqlite_resolve.specs.Terms.{equal}
+use Rattle.sqlite_rules.specs.Cast.{cast, cast_all, cast_row}
+use Rattle.sqlite_rules.specs.Edit.{id_in}
+use Rattle.sqlite_catalog.specs.Listing.{IsSound}
+use Rattle.sqlite.specs.Effect.{value_rows}
+use Rattle.sqlite.specs.Rows.{shown, stamped}
+use Rattle.sqlite.specs.State.{State, Executes}
+use Rattle.sql_tables.specs.Rows.{HaveRowids, Lists, put_in}
+use Rattle.sql_tables.specs.Tables.{IsDeclared}
+use Rattle.sql_tables.specs.Tables.{numbered}
+use Rattle.sql_tables.proofs.PutLists.{lists_put}
+use Rattle.sql_tables.proofs.Meaning.{IsText, parse_of, rows_in, clause_in}
+use Rattle.sql_tables.proofs.OneTable.{Parts, draft_of, is_typed}
+use Rattle.sql_tables.proofs.RowLists.{rowids_stay}
+use Rattle.sql_tables.proofs.Running.{Wrote}
+use Rattle.sql_tables.proofs.Casts.{cast_null, cast_int}
+use Rattle.sql_tables.proofs.Upserts.{IsUpsert, PutsRow, puts_row}
+use Rattle.sql_tables.proofs.Writing.{IsPut}
+use Rattle.sql_tables.specs.Rows.{picked, numbers_from}
+
+-- the columns take these values as they are
+abbrev pub fits_kind : Kind → Value → Bool
+fits_kind kind.Integer value.Null = true
+fits_kind kind.Integer (value.Int n) = true
+fits_kind kind.Text (value.Text t) = true
+fits_kind kind.Blob (value.Blob b) = true
+fits_kind _ _ = false
+
+abbrev pub fits : List Column → Row → Bool
+fits [] [] = true
+fits (c ∷ cs) (v ∷ vs) = fits_kind c.kind v && fits cs vs
+fits _ _ = false
+
+cast_one : (k : Kind) (v : Value) → fits_kind k v ≡ true → cast k v ≡ v
+cast_one kind.Integer value.Null h = cast_null
+cast_one kind.Integer (value.Int n) h = cast_int n
+cast_one kind.Text (value.Text t) h = refl
+cast_one kind.Blob (value.Blob b) h = refl
+cast_one k v h = absurd (true≢false (sym h))
+
+cast_fits : (cs : List Column) (vs : Row) → fits cs vs ≡ true → cast_all cs vs ≡ vs
+cast_fits [] [] h = refl
+cast_fits (c ∷ cs) (v ∷ vs) h = let both = and_parts _ _ h in rw (cast_one c.kind v both.0, cast_fits cs vs both.1)
+cast_fits [] (v ∷ vs) h = absurd (true≢false (sym h))
+cast_fits (c ∷ cs) [] h = absurd (true≢false (sym h))
+
+-- a row as its tree keeps it
+abbrev pub stored : ℤ → Row → Row
+stored id r = value.Int id ∷ value.Null ∷ drop 1 r
+
+-- it stands as it is
+pub cast_stored : (name : List ℕ) (columns : List Column) (tree : ℕ) (r : Row) (id : ℤ) → fits columns (drop 1 (stored id r)) ≡ true → cast_row (numbered name columns tree) (stored id r) ≡ stored id r
+cast_stored name columns tree r id suits = rw (cast_int id, cast_fits columns (drop 1 (stored id r)) suits)
+
+-- the parameters from the second on
+abbrev pub later : ℕ → List Term
+later n = map (col 0) (drop 1 (numbers_from 0 (replicate n 0)))
+
+module _ (name : List ℕ) (columns : List Column) (own : List ℕ) (text : List ℕ) {X : Type 0} (row : X → Row) (key : X → ℤ) where
+  abbrev pub table : ℕ → Table
+  table = numbered name columns
+
+  abbrev pub width : ℕ
+  width = length columns
+
+  abbrev pub given_rows : Rows
+  given_rows = rows_in (parse_of text).statement
+
+  abbrev pub on_clash : Upsert
+  on_clash = clause_in (parse_of text).statement
+
+  abbrev pub terms : List Term
+  terms = col 0 0 ∷ lit value.Null ∷ later width
+
+  abbrev pub project : List Term
+  project = col 1 0 ∷ col 1 0 ∷ lit value.Null ∷ later width
+
+  abbrev pub parts : Parts
+  parts = record { tests = equal Binary (col 1 0) (col 0 width) ∷ []; project = project; order = [] }
+
+  -- The text puts a row by its first column, which is the rowid, and sets all others where it is there. Each field computes.
+  pub record PutsByRowid : Type 0 where
+    pub is_text : IsText text (Insert conflict.Abort name [] given_rows (on_clash ∷ []) [])
+    pub many : small (parse_of text).names + small [] ≡ width
+    pub aims : ((length on_clash.target == 0) ≡ false) × ((length on_clash.sets == 0) ≡ false)
+    pub source : (schema : Schema) (tree base : ℕ) → new_rows schema (table tree) base [] given_rows ≡ Ok (Values terms (suc width))
+    pub target : (schema : Schema) (tree : ℕ) → key_meant schema (table tree) on_clash.target ≡ Ok (Some (0 ∷ []))
+    pub draft : (schema : Schema) (at tree : ℕ) → do_update schema at (table tree) width on_clash ≡ Ok (draft_of tree parts)
+    pub typed : (tree : ℕ) → is_typed (table tree) parts [] ≡ true
+    pub first : (x : X) → column (row x) 0 ≡ value.Int (key x)
+    pub first_shown : (r : Row) → column (picked own r) 0 ≡ rowid r
+    pub back : (x : X) → picked own (stored (key x) (row x)) ≡ row x
+    pub suits : (x : X) → fits columns (drop 1 (stored (key x) (row x))) ≡ true
+    pub values : (x : X) (tree : ℕ) → value_rows (stamped (table tree) (row x)) (suc width) (length terms / suc width) terms ≡ stored (key x) (row x) ∷ []
+    pub asked : (x : X) (rest : Row) → column (row x ++ value.Int (key x) ∷ rest) width ≡ value.Int (key x)
+    pub made : (x : X) (rest r : Row) → eval_all project ((row x ++ rest) ∷ r ∷ []) ≡ rowid r ∷ rowid r ∷ drop 1 (stored (key x) (row x))
+
+  module _ (u : PutsByRowid) where
+    upsert : IsUpsert name columns text
+    upsert = record {
+      rows = given_rows;
+      clause = on_clash;
+      base = width;
+      terms = terms;
+      width = suc width;
+      project = project;
+      is_text = u.is_text;
+      many = u.many;
+      source_is = u.source;
+      aims = u.aims.0;
+      sets = u.aims.1;
+      key_is = u.target;
+      draft_is = u.draft;
+      typed = u.typed;
+    }
+
+    makes : (x : X) (tree : ℕ) (given r : Row) → given ≡ row x ++ value.Int (key x) ∷ shown (table tree) (stored (key x) (row x)) → rowid r ≡ value.Int (key x)
+        → (cast_row (table tree) (drop 1 (eval_all project (given ∷ r ∷ []))) ≡ stored (key x) (row x)) × (id_in (rowid (eval_all project (given ∷ r ∷ []))) ≡ key x)
+    makes x tree given r is number =
+        let it : eval_all project (given ∷ r ∷ []) ≡ value.Int (key x) ∷ stored (key x) (row x) =
+        ap (λ (g : Row). eval_all project (g ∷ r ∷ [])) is ∙ u.made x (value.Int (key x) ∷ shown (table tree) (stored (key x) (row x))) r ∙ ap (λ v. v ∷ v ∷ drop 1 (stored (key x) (row x))) number in
+        (ap (λ (r : Row). cast_row (table tree) (drop 1 r)) it ∙ cast_stored name columns tree (row x) (key x) (u.suits x), ap (λ (r : Row). id_in (rowid r)) it)
+
+    each : (x : X) → PutsRow name columns text upsert (row x) (stored (key x) (row x)) (key x)
+    unfolding upsert
+    each x = record { source_is = u.values x; cast = λ tree. cast_stored name columns tree (row x) (key x) (u.suits x); is = refl; asked = λ tree. u.asked x (shown (table tree) (stored (key x) (row x))); made = makes x }
+
+    pub numbered_puts : (schema : Schema) (tree : ℕ) (d : IsDeclared schema (table tree)) (old new : State) (count : ℕ) (x : X) (xs : List X) → old.now.schema ≡ schema → IsSound schema old.now.trees
+        → HaveRowids (old.now.trees tree) → Lists row (picked own) xs (old.now.trees tree) → Executes text (row x) old new (Ok count)
+        → Wrote old new × ((id : ℤ) × (it : Row) × IsPut schema (table tree) it id old.now.trees new.now.trees × Lists row (picked own) (put_in (λ y. int_eq (key y) (key x)) x xs) (new.now.trees tree) × HaveRowids (new.now.trees tree))
+    numbered_puts schema tree d old new count x xs has sound ids lists h =
+        let it = stored (key x) (row x) in
+        let did = puts_row name columns text upsert (row x) it (key x) (each x) schema tree d old new count has sound ids h in (
+          did.0,
+          (key x, it, did.1, rw did.1.rows (lists_put row (picked own) key u.first u.first_shown x xs it (old.now.trees tree) lists (u.back x) refl), rw did.1.rows (rowids_stay (key x) it refl (old.now.trees tree) ids)),
+        )

@@ -1,0 +1,115 @@
+-- The trees that the database keeps as they are stay such while tables are made.
+use Rattle.std.proofs.Common.{◌≡◌, inl, inr, ℕ, ◌+◌, ◌<◌, ◌≤◌, ◌%◌, ◌==◌, ◌||◌, pos, Bool, true, List, [], ◌∷◌, find, refl, sym, ap, subst, ◌∙◌, true≢false, arith}
+use Rattle.std.specs.Prelude.{unwrap_or}
+use Rattle.std.proofs.lemmas.Bool.{cases_Bool}
+use Rattle.std.proofs.lemmas.Bool.Decides.{nat_tests}
+use Rattle.sqlite_value.specs.Order.{Row, column}
+use Rattle.sqlite_trees.specs.Objects.{catalog_tree, number_in, row_for}
+use Rattle.sqlite_value.specs.declared.value.Value.TheVariants.{Int}
+use Rattle.sqlite_trees.specs.Tree.{Trees, rowid, has_rowid}
+use Rattle.sqlite_schema.specs.declared.schema.Index.{Index}
+use Rattle.sqlite_schema.specs.declared.schema.Schema.{Schema}
+use Rattle.sqlite_schema.specs.declared.schema.Table.{Table}
+use Rattle.sqlite_schema.specs.declared.schema.View.{View as Stored}
+use Rattle.sqlite_rules.specs.Lists.{Has}
+use Rattle.sqlite_rules.proofs.ListLemmas.{all_from, all_has, has_either, has_filtered, has_kept}
+use Rattle.sqlite_catalog.specs.Calls.{KeepsForeign}
+use Rattle.sqlite_catalog.specs.Change.{automatics, created, next_tree}
+use Rattle.sqlite_catalog.specs.Listing.{IsIndexRow, IsSound, IsTableRow, IsViewRow, is_index_row, is_table_row, is_view_row}
+use Rattle.sqlite_catalog.proofs.LayoutLemmas.{aside_code, row_kind, same_rowid, has_own_rowid, zipped_left, zipped_right}
+use Rattle.sqlite_catalog.proofs.StepLemmas.{view_below}
+use Rattle.sql_tables.specs.Making.{IsForeignTree}
+use Rattle.sql_tables.proofs.OneName.{one_of_name}
+
+above : (table : Table) (at tree : ℕ) (keys : List (List ℕ)) (i : Index) → Has (automatics table at tree keys) i → tree ≤ i.tree
+above table at tree [] i has = absurd has
+above table at tree (key ∷ keys) i (inl same) = let is = ap (λ (x : Index). x.tree) same in omega (arith, is)
+above table at tree (key ∷ keys) i (inr later) = let up = above table (at + 1) (tree + 1) keys i later in omega (arith, up)
+
+-- a new table and its indexes have other trees
+pub foreign_still : (s : Schema) (table : Table) (db : Trees) (tree : ℕ) → IsForeignTree s db tree → IsForeignTree (created s table) db tree
+foreign_still s table db tree f =
+    let low = view_below s f.view f.listed in
+    let there = f.there in
+    let new : Table = record table { tree = next_tree s } in
+    record {
+      view = f.view;
+      listed = f.listed;
+      there = there;
+      frozen = f.frozen;
+      no_table = all_from _ (created s table).tables (λ t has same. elim (has_either s.tables (new ∷ []) t has) [
+        | inl old ↦ all_has _ s.tables t f.no_table old same
+        | inr last ↦ elim last [ inl is ↦ (let at = ap (λ (u : Table). u.tree) is in absurd (omega (arith, low, there, same, at))) | inr none ↦ absurd none ]
+      ]);
+      no_index = all_from _ (created s table).indexes (λ i has same. elim (has_either s.indexes (automatics new 0 (next_tree s + 1) table.uniques) i has) [
+        | inl old ↦ all_has _ s.indexes i f.no_index old same
+        | inr more ↦ let up = above new 0 (next_tree s + 1) table.uniques i more in absurd (omega (arith, low, there, same, up))
+      ]);
+    }
+
+found_so : (P : Row → Type 0) (p : Row → Bool) (rows : List Row) (row : Row) → Has rows row → p row ≡ true → ((r : Row) → Has rows r → p r ≡ true → P r) → P (unwrap_or (find p rows) [])
+found_so P p [] row has own each = absurd has
+found_so P p (r ∷ rs) row has own each = elim (cases_Bool (p r)) [
+  | inl is ↦ rw is (each r (inl refl) is)
+  | inr not' ↦ rw not' (elim has [
+    | inl same ↦ absurd (true≢false (sym own ∙ ap p same ∙ not'))
+    | inr later ↦ found_so P p rs row later own (λ s there. each s (inr there))
+  ])
+]
+
+same_tree : (row : Row) (n tree : ℕ) → rowid row ≡ Int (pos (n + 1)) → has_rowid (pos (tree + 1)) row ≡ true → n ≡ tree
+same_tree row n tree id own = let same = same_rowid row (n + 1) (tree + 1) id own in omega (arith, same)
+
+-- sqlite_schema lists the tree as one that is kept as it is
+pub is_frozen : (s : Schema) (db : Trees) → IsSound s db → (tree : ℕ) → IsForeignTree s db tree → (tree < 65536) × (4 ≤ number_in (column (row_for (db catalog_tree) tree) 5) % 8)
+is_frozen s db sound tree f =
+    let objects = db catalog_tree in
+    let z = zipped_left IsViewRow _ s.views f.view sound.lists.listed.views f.listed in
+    let low = z.2.described.low in
+    let there = f.there in
+    let own = has_own_rowid z.0 (tree + 1) (z.2.described.id ∙ ap (λ n. Int (pos (n + 1))) there) in (
+      omega (arith, low, there),
+      found_so (λ row. 4 ≤ number_in (column row 5) % 8) (has_rowid (pos (tree + 1))) objects z.0 (has_filtered is_view_row objects z.0 z.1).0 own (λ row has. all_has _ objects row f.frozen has),
+    )
+
+-- the code of a frozen tree among the views is that of a row that stays
+frozen_stays : (code : ℕ) (is_trigger : Bool) → code ≤ 5 → 4 ≤ code % 8 → ((code == 4) || (code == 5) || is_trigger) ≡ true
+frozen_stays code is_trigger low frozen = grind (arith, nat_tests)
+
+module _ (s after : Schema) (old new : Trees) (same : after.views ≡ s.views) (sound : IsSound s old) (still : IsSound after new) (texts : KeepsForeign (old catalog_tree) (new catalog_tree)) where
+  -- a row that lists such a tree is the one that listed it
+  listed_so : (tree : ℕ) → IsForeignTree after old tree → (row : Row) → Has (new catalog_tree) row → has_rowid (pos (tree + 1)) row ≡ true → (w : Stored) → Has s.views w → IsViewRow row w → 4 ≤ number_in (column row 5) % 8
+  listed_so tree f row has own w listed is =
+      let was = zipped_left IsViewRow _ s.views w sound.lists.listed.views listed in
+      let there = (has_filtered is_view_row (old catalog_tree) was.0 was.1).0 in
+      let at = same_tree row w.tree tree is.described.id own in
+      let frozen = all_has _ (old catalog_tree) was.0 f.frozen there (has_own_rowid was.0 (tree + 1) (was.2.described.id ∙ ap (λ n. Int (pos (n + 1))) at)) in
+      let code = aside_code was.0 w was.2.kind was.2.owner was.2.code w.foreign was.2.aside in
+      let shape = was.2.described.shape_is in
+      let kept = texts was.0 there (frozen_stays (number_in (column was.0 5)) _ (omega (arith, code, shape)) frozen) in
+      let one = one_of_name (new catalog_tree) still.lists.listed.loads row was.0 has kept (is.described.name_is ∙ sym was.2.described.name_is) in
+      subst (λ (r : Row). 4 ≤ number_in (column r 5) % 8) (sym one) frozen
+
+  -- such a tree is still listed as frozen
+  pub still_frozen : (tree : ℕ) → IsForeignTree after old tree → IsForeignTree after new tree
+  still_frozen tree f = record {
+    view = f.view;
+    listed = f.listed;
+    there = f.there;
+    frozen = all_from _ (new catalog_tree) (λ row has own. elim (row_kind row) [
+      | inl table ↦ (
+          let z = zipped_right IsTableRow _ after.tables row still.lists.listed.tables (has_kept is_table_row (new catalog_tree) row has table) in
+          absurd (all_has _ after.tables z.0 f.no_table z.1 (same_tree row z.0.tree tree z.2.described.id own))
+          )
+      | inr (inl index) ↦ (
+          let z = zipped_right (IsIndexRow after.tables) _ after.indexes row still.lists.listed.indexes (has_kept is_index_row (new catalog_tree) row has index) in
+          absurd (all_has _ after.indexes z.0 f.no_index z.1 (same_tree row z.0.tree tree z.2.described.id own))
+          )
+      | inr (inr view) ↦ (
+          let z = zipped_right IsViewRow _ after.views row still.lists.listed.views (has_kept is_view_row (new catalog_tree) row has view) in
+          listed_so tree f row has own z.0 (subst (λ (ws : List Stored). Has ws z.0) same z.1) z.2
+          )
+    ]);
+    no_table = f.no_table;
+    no_index = f.no_index;
+  }

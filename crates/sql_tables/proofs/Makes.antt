@@ -1,0 +1,100 @@
+-- The text that makes a table.
+use Rattle.std.proofs.Common.{◌≡◌, ℕ, ◌≤◌, Bool, true, false, nat_lt, if◌then◌else◌, ◌==◌, List, [], ◌∷◌, ◌++◌, length, codes, slice_range, Ok, sym, ap, subst, ◌∙◌, arith, MatchBool}
+use Rattle.std.specs.List.{AllByRecursion}
+use Rattle.std.proofs.lemmas.Bool.Decides.{nat_tests}
+use Rattle.sqlite_trees.specs.Tree.{Trees}
+use Rattle.sqlite_ast.specs.declared.CreateTable as create
+use Rattle.sqlite_ast.specs.declared.Statement.TheVariants.{CreateTable}
+use Rattle.sqlite_schema.specs.declared.schema.Schema.{Schema}
+use Rattle.sqlite_schema.specs.declared.schema.Table.{Table}
+use Rattle.sqlite_schema.specs.Names.{same_name}
+use Rattle.sqlite_resolve.specs.Compile.{is_reserved, table_defined_by}
+use Rattle.sqlite_resolve.specs.Define as define
+use Rattle.sqlite_catalog.specs.Change.{created, is_used, next_tree, KeepsRows}
+use Rattle.sqlite_catalog.specs.Listing.{IsSound}
+use Rattle.sqlite.proofs.Callers.{statement_of}
+use Rattle.sqlite.specs.Does.{lacks_sequence}
+use Rattle.sqlite.specs.Effect.{Database, SparesFrozen}
+use Rattle.sqlite.specs.State.{State, ExecutesInside}
+use Rattle.sql_tables.specs.Making.{IsForeignTree, IsMaking, KeepsAside, first_created, first_rows}
+use Rattle.sql_tables.specs.Tables.{counter}
+use Rattle.sql_tables.proofs.Counting.{foreign_first, lacks_as_before, plain_first, rising, rising_first, views_first}
+use Rattle.sql_tables.proofs.Frozen.{is_frozen, still_frozen}
+use Rattle.sql_tables.proofs.Meaning.{IsText, parse_of, create_is}
+use Rattle.sql_tables.proofs.Running.{Grows, create_ran}
+
+-- the text makes this table
+pub record IsMake (text : List ℕ) (table : Table) : Type 0 where
+  pub def : create.CreateTable
+  pub is_text : IsText text (CreateTable def)
+  pub name : def.name ≡ table.name
+  pub always : def.if_missing ≡ false
+  pub own : is_reserved def.name ≡ false
+  pub defined : define.table [] def ≡ Ok table
+  pub plain : (length table.computed == length table.stamps.places) ≡ true
+  pub unresolved : def.resolves ≡ false
+  pub spelled : slice_range text (parse_of text).start (parse_of text).end ≡ text
+  pub made : table_defined_by text ≡ Ok table
+  pub uncounted : table.is_counted ≡ false
+  pub other : same_name table.name (codes "sqlite_sequence") ≡ false
+
+pub none_below : (m n : ℕ) → n ≤ m → nat_lt m n ≡ false
+none_below m n low = grind (arith, nat_tests)
+
+kept_rows : (old new first : Trees) (tables : List Table) → AllByRecursion (λ t. old t.tree ≡ first t.tree) tables → KeepsRows tables old new → (more : List Table) → AllByRecursion (λ t. new t.tree ≡ first t.tree) more → AllByRecursion (λ t. new t.tree ≡ first t.tree) (tables ++ more)
+kept_rows old new first [] was same more these = these
+kept_rows old new first (t ∷ ts) was same more these = (same.0 ∙ was.0, kept_rows old new first ts was.1 same.1 more these)
+
+-- what was kept aside so far is kept by one more statement
+kept_aside : (first before : Schema) (rows : Trees) (old new : Database) → ((tree : ℕ) → IsForeignTree first rows tree → IsForeignTree before old.trees tree) → IsSound before old.trees → KeepsAside first rows old.trees → SparesFrozen old new
+    → KeepsAside first rows new.trees
+kept_aside first before rows old new foreign sound was spares = record {
+  rows = λ tree is.
+      let frozen = is_frozen before old.trees sound tree (foreign tree is) in
+      spares.rows tree (λ e. omega (arith, frozen.0, e)) (λ e. omega (arith, frozen.0, e)) frozen.1 ∙ was.rows tree is;
+  texts = λ row has foreign. spares.texts row (was.texts row has foreign) foreign;
+  version = spares.version ∙ was.version;
+}
+
+-- a new table has no rows, and the others have theirs
+kept_with : (first before : Schema) (rows old new : Trees) (table : Table) → next_tree first ≤ next_tree before → AllByRecursion (λ t. old t.tree ≡ first_rows first rows t.tree) before.tables → Grows before old new
+    → AllByRecursion (λ t. new t.tree ≡ first_rows first rows t.tree) (created before table).tables
+kept_with first before rows old new table later was grows =
+    let empty : new (next_tree before) ≡ first_rows first rows (next_tree before) = grows.empty ∙ rw (none_below (next_tree before) (next_tree first) later) in
+    kept_rows old new (first_rows first rows) before.tables was grows.others (record table { tree = next_tree before } ∷ []) (empty, tt)
+
+-- and so has the counter that comes with it
+kept_counting : (first before : Schema) (rows old mid new : Trees) (table : Table) (lacks : Bool) → next_tree first ≤ next_tree before → AllByRecursion (λ t. old t.tree ≡ first_rows first rows t.tree) before.tables → Grows before old mid
+    → MatchBool lacks (Grows (created before table) mid new) (new ≡ mid) → AllByRecursion (λ t. new t.tree ≡ first_rows first rows t.tree) (if lacks then created (created before table) (counter 0) else created before table).tables
+kept_counting first before rows old mid new table true later was grows more =
+    let above = rising before table in
+    kept_with first (created before table) rows mid new (counter 0) (omega (arith, later, above)) (kept_with first before rows old mid table later was grows) more
+kept_counting first before rows old mid new table false later was grows same =
+    subst (λ (db : Trees). AllByRecursion (λ t. db t.tree ≡ first_rows first rows t.tree) (created before table).tables) (sym same) (kept_with first before rows old mid table later was grows)
+
+-- the first table that is made
+pub makes_first : (text : List ℕ) (table : Table) (m : IsMake text table) (committed : Database) (first : Schema) (rows : Trees) (before : Schema) (old new : State) (count : ℕ) → IsMaking committed first rows before old
+    → is_used before table.name ≡ false → ExecutesInside 0 text [] old new (Ok count) → IsMaking committed first rows (first_created before table) new
+makes_first text table m committed first rows before old new count was free h =
+    let means = create_is before text m.def table m.is_text (ap (is_used before) m.name ∙ free) m.own m.defined m.plain m.unresolved in
+    let spelled = ap (statement_of text) means ∙ m.spelled in
+    let made = create_ran before table text old new count was.schema means spelled m.made (lacks_as_before before table m.uncounted m.other) h.0 in
+    let sound = subst (λ s. IsSound s new.now.trees) made.schema made.sound in
+    let above = rising_first before table in
+    let later = was.later in
+    record {
+      schema = made.schema;
+      sound = sound;
+      kept = kept_counting first before rows old.now.trees made.mid new.now.trees table (lacks_sequence before) later was.kept made.grows made.counter;
+      foreign = λ tree is. still_frozen before (first_created before table) old.now.trees new.now.trees (views_first before table) was.sound sound made.frozen.texts tree (foreign_first before table old.now.trees tree (was.foreign tree is));
+      aside = kept_aside first before rows old.now new.now was.foreign was.sound was.aside made.frozen;
+      later = omega (arith, above, later);
+      inside = made.shown.mode ∙ was.inside;
+      over = (rw was.inside at made.shown.committed_is) ∙ was.over;
+    }
+
+-- one that is made after it
+pub makes : (text : List ℕ) (table : Table) (m : IsMake text table) (committed : Database) (first : Schema) (rows : Trees) (before : Schema) (old new : State) (count : ℕ) → IsMaking committed first rows before old
+    → is_used before table.name ≡ false → lacks_sequence before ≡ false → ExecutesInside 0 text [] old new (Ok count) → IsMaking committed first rows (created before table) new
+makes text table m committed first rows before old new count was free counts h =
+    subst (λ s. IsMaking committed first rows s new) (plain_first before table counts) (makes_first text table m committed first rows before old new count was free h)

@@ -1,0 +1,250 @@
+-- What a text means is what its parse means, whatever the schema.
+use Rattle.std.proofs.Common.{◌≡◌, ℕ, ◌+◌, List, [], ◌∷◌, Some, None, Ok, Err, Result, refl, sym, false, length, Bool, ◌==◌, ◌||◌, if◌then◌else◌}
+use Rattle.sqlite_ast.specs.declared.Statement.{Statement}
+use Rattle.sqlite_ast.specs.declared.Statement.TheVariants.{Select, Insert, Update, CreateTable, Empty}
+use Rattle.sqlite_ast.specs.declared.CreateTable as create
+use Rattle.sqlite_resolve.specs.Define as define
+use Rattle.sqlite_catalog.specs.Change.{is_used}
+use Rattle.sqlite_schema.specs.Names.{index_named, view_named}
+use Rattle.std.proofs.lemmas.Bool.{or_parts}
+use Rattle.std.proofs.Common.{is_some, true, true≢false, Option}
+use Rattle.std.specs.Option.{option_or}
+use Rattle.sqlite_ast.specs.declared.Expr.{Expr}
+use Rattle.sqlite_ast.specs.declared.Select as select
+use Rattle.sqlite_ast.specs.declared.Rows.{Rows}
+use Rattle.sqlite_ast.specs.declared.Rows.TheVariants.{Defaults}
+use Rattle.sqlite_ast.specs.declared.Upsert.{Upsert}
+use Rattle.sqlite_ast.specs.declared.Conflict.TheVariants as conflict
+use Rattle.sqlite_syntax.specs.declared.statement.Parsed.{Parsed}
+use Rattle.sqlite_schema.specs.declared.schema.Schema.{Schema}
+use Rattle.sqlite_schema.specs.declared.schema.Table.{Table}
+use Rattle.sqlite_schema.specs.declared.command.Command.{Command}
+use Rattle.sqlite_schema.specs.declared.command.Command.TheVariants.{InsertOr, Insert as Insert', CreateTable as MakeTable}
+use Rattle.sqlite_schema.specs.declared.command.Source.{Source}
+use Rattle.sqlite_schema.specs.declared.command.Conflict.TheVariants.{Abort}
+use Rattle.sqlite_schema.specs.declared.command.Upsert as command_upsert
+use Rattle.sqlite_schema.specs.Names.{table_named}
+use Rattle.sqlite_resolve.specs.declared.compiled.Compiled.{Compiled}
+use Rattle.sqlite_resolve.specs.declared.error.CompileError.{CompileError}
+use Rattle.sqlite_resolve.specs.declared.error.CompileError.TheVariants.{Exists, Misuse, Unsupported}
+use Rattle.sqlite_resolve.specs.Lowering.{and_then}
+use Rattle.sqlite_resolve.specs.Compile.{compiled, first, planned, meaning, returning, command, small, timed, with_command, insert_or_abort, insert_or, insert, create_table, creates, is_attached, is_reserved, new_rows, shows}
+use Rattle.sqlite_resolve.specs.Given.{upserts, upsert, update, do_update, key_meant}
+use Rattle.sqlite_resolve.specs.Program.{program}
+use Rattle.sqlite_draft.specs.declared.query.Draft.{Draft}
+use Rattle.sqlite_schema.specs.declared.program.Program.{Program}
+use Rattle.sqlite.specs.Listing.{misses_table, understood, reads_listing}
+use Rattle.std.proofs.Common.{slice_get}
+
+abbrev pub or_nothing : Result Parsed CompileError → Parsed
+or_nothing (Ok p) = p
+or_nothing (Err e) = record { statement = Empty; names = []; formats = []; start = 0; end = 0; tail = 0 }
+
+-- the parse of a text
+abbrev pub parse_of : List ℕ → Parsed
+parse_of text = or_nothing (first text)
+
+abbrev pub rows_in : Statement → Rows
+rows_in (Insert how name columns rows clauses shown) = rows
+rows_in _ = Defaults
+
+abbrev pub clauses_in : Statement → List Upsert
+clauses_in (Insert how name columns rows clauses shown) = clauses
+clauses_in _ = []
+
+abbrev pub no_clause : Upsert
+no_clause = record { target = []; sets = []; filter = None }
+
+abbrev pub clause_in : Statement → Upsert
+clause_in (Insert how name columns rows (clause ∷ more) shown) = clause
+clause_in _ = no_clause
+
+-- The text is this statement, which doesn't read the time.
+pub record IsText (text : List ℕ) (s : Statement) : Type 0 where
+  pub parsed : first text ≡ Ok (parse_of text)
+  pub statement : (parse_of text).statement ≡ s
+  pub timeless : (parse_of text).formats ≡ []
+
+compiled_is : (schema : Schema) (sql : List ℕ) (p : Parsed) (k : Command) (s : Statement) → first sql ≡ Ok p → p.statement ≡ s → timed schema p.formats s ≡ []
+    → returning schema (small p.names + small []) s ≡ Ok None → command schema p.formats (small p.names + small []) s ≡ Ok k → compiled schema sql ≡ Ok (with_command p ([], (k, None)))
+unfolding compiled planned meaning
+compiled_is schema sql p k s parsed is untimed bare means = rw (parsed, is, untimed, bare, means)
+
+understood_is : (schema : Schema) (sql : List ℕ) (c : Compiled) → compiled schema sql ≡ Ok c → understood schema sql ≡ Ok c
+unfolding understood
+understood_is schema sql c is = rw is
+
+listing_is : (schema : Schema) (sql : List ℕ) (c : Compiled) → compiled schema sql ≡ Ok c → reads_listing schema sql ≡ false
+listing_is schema sql c is = rw is
+
+select_bare : (schema : Schema) (base : ℕ) (s : select.Select) → returning schema base (Select s) ≡ Ok None
+unfolding returning
+select_bare schema base s = refl
+
+select_untimed : (schema : Schema) (formats : List (List ℕ)) (s : select.Select) → formats ≡ [] → timed schema formats (Select s) ≡ []
+unfolding timed
+select_untimed schema formats s none = none
+
+-- a SELECT
+pub select_is : (schema : Schema) (text : List ℕ) (s : select.Select) (k : Command) → IsText text (Select s) → ((formats : List (List ℕ)) (base : ℕ) → command schema formats base (Select s) ≡ Ok k)
+    → (understood schema text ≡ Ok (with_command (parse_of text) ([], (k, None)))) × (reads_listing schema text ≡ false)
+select_is schema text s k t means =
+    let p = parse_of text in
+    let is = compiled_is schema text p k (Select s) t.parsed t.statement (select_untimed schema p.formats s t.timeless) (select_bare schema (small p.names + small []) s) (means p.formats (small p.names + small [])) in
+    (understood_is schema text _ is, listing_is schema text _ is)
+
+update_bare : (schema : Schema) (base : ℕ) (name : List ℕ) (sets : List (List ℕ × Expr)) (test : Option Expr) → returning schema base (Update name sets test []) ≡ Ok None
+unfolding returning shows
+update_bare schema base name sets test = refl
+
+update_untimed : (schema : Schema) (formats : List (List ℕ)) (name : List ℕ) (sets : List (List ℕ × Expr)) (test : Option Expr) → formats ≡ [] → timed schema formats (Update name sets test []) ≡ []
+unfolding timed
+update_untimed schema formats name sets test none = none
+
+-- an UPDATE
+pub update_is : (schema : Schema) (text name : List ℕ) (sets : List (List ℕ × Expr)) (test : Option Expr) (k : Command) → IsText text (Update name sets test [])
+    → ((formats : List (List ℕ)) (base : ℕ) → command schema formats base (Update name sets test []) ≡ Ok k) → understood schema text ≡ Ok (with_command (parse_of text) ([], (k, None)))
+update_is schema text name sets test k t means =
+    let p = parse_of text in
+    understood_is schema text _
+    (compiled_is schema text p k (Update name sets test []) t.parsed t.statement (update_untimed schema p.formats name sets test t.timeless) (update_bare schema (small p.names + small []) name sets test)
+    (means p.formats (small p.names + small [])))
+
+create_bare : (schema : Schema) (base : ℕ) (def : create.CreateTable) → returning schema base (CreateTable def) ≡ Ok None
+unfolding returning
+create_bare schema base def = refl
+
+create_untimed : (schema : Schema) (formats : List (List ℕ)) (def : create.CreateTable) → timed schema formats (CreateTable def) ≡ []
+unfolding timed
+create_untimed schema formats def = refl
+
+none_if : {X : Type 0} (o : Option X) → is_some o ≡ false → o ≡ None
+none_if None e = refl
+none_if (Some x) e = absurd (true≢false e)
+
+is_unattached : (schema : Schema) (name : List ℕ) → view_named schema name ≡ None → is_attached schema name ≡ false
+unfolding is_attached
+is_unattached schema name free = rw free
+
+is_new : (if_missing : Bool) (name : List ℕ) (same other : Option ℕ) → is_reserved name ≡ false → same ≡ None → other ≡ None → creates if_missing name same other ≡ Ok true
+unfolding creates
+is_new if_missing name same other own none free = rw (own, none, free)
+
+-- where no table, index or view has the name, CREATE TABLE makes one
+create_command : (schema : Schema) (base : ℕ) (def : create.CreateTable) (table : Table) → is_used schema def.name ≡ false → is_reserved def.name ≡ false → define.table [] def ≡ Ok table
+    → (length table.computed == length table.stamps.places) ≡ true → def.resolves ≡ false → command schema [] base (CreateTable def) ≡ Ok MakeTable
+unfolding command create_table
+create_command schema base def table free own defined plain unresolved =
+    let both = or_parts _ _ free in
+    let first = or_parts _ _ both.0 in
+    let unviewed = none_if (view_named schema def.name) both.1 in
+    let untabled = none_if (table_named schema def.name) first.0 in
+    let new = is_new def.if_missing def.name (option_or (table_named schema def.name) (view_named schema def.name)) (index_named schema def.name) own (rw (untabled, unviewed)) (none_if (index_named schema def.name) first.1) in
+    rw (is_unattached schema def.name unviewed, new, defined, plain, unresolved)
+
+pub create_is : (schema : Schema) (text : List ℕ) (def : create.CreateTable) (table : Table) → IsText text (CreateTable def) → is_used schema def.name ≡ false → is_reserved def.name ≡ false
+    → define.table [] def ≡ Ok table → (length table.computed == length table.stamps.places) ≡ true → def.resolves ≡ false → understood schema text ≡ Ok (with_command (parse_of text) ([], (MakeTable, None)))
+create_is schema text def table t free own defined plain unresolved =
+    let p = parse_of text in
+    understood_is schema text _
+    (compiled_is schema text p MakeTable (CreateTable def) t.parsed t.statement (create_untimed schema p.formats def) (create_bare schema (small p.names + small []) def)
+    (rw t.timeless (create_command schema (small p.names + small []) def table free own defined plain unresolved)))
+
+-- an error that isn't that of a missing table
+abbrev pub Stops : {X : Type 0} → Result X CompileError → Type 0
+Stops r = (e : CompileError) × (r ≡ Err e) × (misses_table (Err e) ≡ false)
+
+not_new : (name : List ℕ) (same other : Option ℕ) → (is_some same || is_some other) ≡ true → Stops (creates false name same other)
+unfolding creates
+not_new name same other taken = go (is_reserved name) same other taken
+  where
+    go : (own : Bool) (same other : Option ℕ) → (is_some same || is_some other) ≡ true
+        → Stops (if own then Err Misuse else (if is_some other then Err Exists else (if is_some same then (if false then Ok false else Err Exists) else Ok true)))
+    go true same other taken = (Misuse, refl, refl)
+    go false same (Some at) taken = (Exists, refl, refl)
+    go false (Some at) None taken = (Exists, refl, refl)
+    go false None None taken = absurd (true≢false (sym taken))
+
+either_named : (table index view : Option ℕ) → (is_some table || is_some index || is_some view) ≡ true → (is_some (option_or table view) || is_some index) ≡ true
+either_named (Some at) index view taken = refl
+either_named None (Some at) None taken = refl
+either_named None (Some at) (Some other) taken = refl
+either_named None None (Some at) taken = refl
+either_named None None None taken = absurd (true≢false (sym taken))
+
+-- where a table, an index or a view has the name, CREATE TABLE is refused
+create_stops : (schema : Schema) (base : ℕ) (formats : List (List ℕ)) (def : create.CreateTable) → def.if_missing ≡ false → is_used schema def.name ≡ true → Stops (command schema formats base (CreateTable def))
+unfolding command create_table
+create_stops schema base formats def always used =
+    let taken = either_named (table_named schema def.name) (index_named schema def.name) (view_named schema def.name) used in
+    let stop = not_new def.name (option_or (table_named schema def.name) (view_named schema def.name)) (index_named schema def.name) taken in
+    rw always (go (is_attached schema def.name) _ stop _)
+  where
+    go : (attached : Bool) (r : Result Bool CompileError) → Stops r → (next : Bool → Result Command CompileError) → Stops (if attached then Err Unsupported else and_then r next)
+    go true r stop next = (Unsupported, refl, refl)
+    go false r stop next = (stop.0, rw stop.1 refl, stop.2)
+
+stopped_is : (schema : Schema) (sql : List ℕ) (p : Parsed) (e : CompileError) (s : Statement) → first sql ≡ Ok p → p.statement ≡ s → timed schema p.formats s ≡ [] → returning schema (small p.names + small []) s ≡ Ok None
+    → command schema p.formats (small p.names + small []) s ≡ Err e → compiled schema sql ≡ Err e
+unfolding compiled planned meaning
+stopped_is schema sql p e s parsed is untimed bare stops = rw (parsed, is, untimed, bare, stops)
+
+not_understood : (schema : Schema) (sql : List ℕ) (e : CompileError) → compiled schema sql ≡ Err e → misses_table (Err e) ≡ false → understood schema sql ≡ Err e
+unfolding understood
+not_understood schema sql e is other = rw (is, other)
+
+pub create_fails : (schema : Schema) (text : List ℕ) (def : create.CreateTable) → IsText text (CreateTable def) → def.if_missing ≡ false → is_used schema def.name ≡ true → (e : CompileError) × (understood schema text ≡ Err e)
+create_fails schema text def t always used =
+    let p = parse_of text in
+    let stop = create_stops schema (small p.names + small []) p.formats def always used in (
+      stop.0,
+      not_understood schema text stop.0
+          (stopped_is schema text p stop.0 (CreateTable def) t.parsed t.statement (create_untimed schema p.formats def) (create_bare schema (small p.names + small []) def) stop.1) stop.2,
+    )
+
+module _ (schema : Schema) (at : ℕ) (table : Table) (named : table_named schema table.name ≡ Some at) (there : slice_get schema.tables at ≡ Some table) (untimed : table.stamps.formats ≡ []) where
+  insert_untimed : (formats : List (List ℕ)) (rows : Rows) (clauses : List Upsert) → formats ≡ [] → timed schema formats (Insert conflict.Abort table.name [] rows clauses []) ≡ []
+  unfolding timed
+  insert_untimed formats rows clauses lacks = rw (lacks, named, there, untimed)
+
+  insert_bare : (base : ℕ) (rows : Rows) (clauses : List Upsert) → returning schema base (Insert conflict.Abort table.name [] rows clauses []) ≡ Ok None
+  unfolding returning shows
+  insert_bare base rows clauses = refl
+
+  upsert_command : (formats : List (List ℕ)) (base : ℕ) (rows : Rows) (clauses : List Upsert) (source : Source) (found : List command_upsert.Upsert) → (length clauses == 0) ≡ false
+      → new_rows schema table base [] rows ≡ Ok source → upserts schema at table base clauses ≡ Ok found
+      → command schema formats base (Insert conflict.Abort table.name [] rows clauses []) ≡ Ok (InsertOr at Abort source found)
+  unfolding command insert_or_abort insert_or
+  upsert_command formats base rows clauses source found some given met = rw (some, named, there, given, met)
+
+  -- an upsert into a table of the schema
+  pub upsert_is : (text : List ℕ) (rows : Rows) (clauses : List Upsert) (base : ℕ) (source : Source) (found : List command_upsert.Upsert)
+      → IsText text (Insert conflict.Abort table.name [] rows clauses []) → small (parse_of text).names + small [] ≡ base → (length clauses == 0) ≡ false
+      → new_rows schema table base [] rows ≡ Ok source → upserts schema at table base clauses ≡ Ok found
+      → understood schema text ≡ Ok (with_command (parse_of text) ([], (InsertOr at Abort source found, None)))
+  upsert_is text rows clauses base source found t many some given met =
+      understood_is schema text _
+      (compiled_is schema text (parse_of text) (InsertOr at Abort source found) (Insert conflict.Abort table.name [] rows clauses []) t.parsed t.statement
+      (insert_untimed (parse_of text).formats rows clauses t.timeless) (insert_bare (small (parse_of text).names + small []) rows clauses)
+      (rw many (upsert_command (parse_of text).formats base rows clauses source found some given met)))
+
+  insert_command : (formats : List (List ℕ)) (base : ℕ) (rows : Rows) (source : Source) → new_rows schema table base [] rows ≡ Ok source
+      → command schema formats base (Insert conflict.Abort table.name [] rows [] []) ≡ Ok (Insert' at source)
+  unfolding command insert_or_abort insert
+  insert_command formats base rows source given = rw (named, there, given)
+
+  -- an insert into a table of the schema
+  pub insert_is : (text : List ℕ) (rows : Rows) (source : Source) → IsText text (Insert conflict.Abort table.name [] rows [] []) → ((base : ℕ) → new_rows schema table base [] rows ≡ Ok source)
+      → understood schema text ≡ Ok (with_command (parse_of text) ([], (Insert' at source, None)))
+  insert_is text rows source t given =
+      understood_is schema text _
+      (compiled_is schema text (parse_of text) (Insert' at source) (Insert conflict.Abort table.name [] rows [] []) t.parsed t.statement
+      (insert_untimed (parse_of text).formats rows [] t.timeless) (insert_bare (small (parse_of text).names + small []) rows [])
+      (insert_command (parse_of text).formats (small (parse_of text).names + small []) rows source (given (small (parse_of text).names + small []))))
+
+-- what one ON CONFLICT means
+pub one_upsert : (schema : Schema) (at : ℕ) (table : Table) (base : ℕ) (u : Upsert) (key : Option (List ℕ)) (draft : Draft) (p : Program) → (length u.target == 0) ≡ false → (length u.sets == 0) ≡ false
+    → key_meant schema table u.target ≡ Ok key → do_update schema at table base u ≡ Ok draft → program schema [] draft ≡ Ok p
+    → upserts schema at table base (u ∷ []) ≡ Ok (record { target = key; update = Some p } ∷ [])
+unfolding upserts upsert update
+one_upsert schema at table base u key draft p aimed sets means drafted typed = rw (aimed, means, sets, drafted, typed)

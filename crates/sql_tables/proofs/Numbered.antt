@@ -1,0 +1,106 @@
+-- What an upsert by the rowid makes of a table whose key is the rowid, in any schema that declares it so.
+use Rattle.std.proofs.Common.{◌≡◌, inl, inr, ℕ, ℤ, Bool, true, false, ◌&&◌, ◌||◌, ◌==◌, List, [], ◌∷◌, ◌++◌, Option, filter, drop, Some, Ok, refl, sym, ap, subst, ◌∙◌, is_eq, IsTrue, true≢false, eq-eqb, eqb-true, Ordering, Less, Equal, Greater, int_cmp, ◌<ℤ◌, ◌<◌}
+use Rattle.std.specs.List.{AllByRecursion, list_any}
+use Rattle.std.specs.Ordering.{MatchOrdering}
+use Rattle.std.proofs.lemmas.Bool.{and_from, and_parts}
+use Rattle.std.proofs.lemmas.Cmp.{int_ranked}
+use Rattle.sqlite_value.specs.declared.keys.Collation.TheVariants.{Binary}
+use Rattle.sqlite_value.specs.declared.value.Value.TheVariants.{Int}
+use Rattle.sqlite_value.specs.Keys.{first_key, plain}
+use Rattle.sqlite_value.specs.Order.{Row, column, value_cmp}
+use Rattle.sqlite_value.proofs.OrderLemmas.{value_cmp-Int}
+use Rattle.sqlite_trees.specs.Tree.{Trees, rowid, has_rowid}
+use Rattle.sqlite_trees.specs.View.{is_int}
+use Rattle.sqlite_trees.proofs.ListLemmas.{filter_same}
+use Rattle.sqlite_sql.specs.Ops.{binary, is_true, from_truth}
+use Rattle.sqlite_sql.specs.Term.{Term, col, eval_all}
+use Rattle.sqlite_resolve.specs.Terms.{equal as equals}
+use Rattle.sqlite_schema.specs.declared.schema.Index.{Index}
+use Rattle.sqlite_schema.specs.declared.schema.Schema.{Schema}
+use Rattle.sqlite_schema.specs.declared.schema.Table.{Table}
+use Rattle.sqlite_schema.specs.Rules.{agree, equal, guards}
+use Rattle.sqlite_rules.specs.Cast.{cast_row}
+use Rattle.sqlite_rules.specs.Edit.{id_in}
+use Rattle.sqlite_rules.specs.Keys.{conflicts, shares}
+use Rattle.sqlite_rules.specs.Lists.{Has}
+use Rattle.sqlite_rules.proofs.ListLemmas.{all_has, some_has}
+use Rattle.sqlite_rules.proofs.TableLemmas.{int_is}
+use Rattle.sqlite.specs.Rows.{Written, Updates, shown}
+use Rattle.sql_tables.specs.Rows.{HaveRowids}
+use Rattle.sql_tables.specs.Tables.{IsDeclared}
+use Rattle.sql_tables.proofs.Declaring.{has_kept, uncovered}
+use Rattle.sql_tables.proofs.OneTable.{Parts, program_on}
+use Rattle.sql_tables.proofs.RowLists.{only_row}
+use Rattle.sql_tables.proofs.Writing.{IsPut, Ends, task, finds, puts, updates_one}
+
+-- two numbers that SQL takes as equal are the same
+pub equal_numbers : (a b : ℤ) → equal Binary (Int a) (Int b) ≡ true → a ≡ b
+unfolding binary
+equal_numbers a b h = go (int_cmp a b) (rw value_cmp-Int at h) (int_ranked a b _ refl)
+  where
+    go : (o : Ordering) → is_true (from_truth (Some (is_eq o))) ≡ true → MatchOrdering o (a <ℤ b) (a ≡ b) (b <ℤ a) → a ≡ b
+    go Less h m = absurd (true≢false (sym h))
+    go Equal h m = m
+    go Greater h m = absurd (true≢false (sym h))
+
+-- `WHERE key = ?n` finds the rows with that number
+pub finds_key : (given r : Row) (at : ℕ) (id n : ℤ) → column given at ≡ Int id → column r 0 ≡ Int n → finds (equals Binary (col 1 0) (col 0 at) ∷ []) given r ≡ has_rowid id r
+unfolding binary
+finds_key given r at id n asked is = rw (asked, is) (go (value_cmp (Int n) (Int id)))
+  where
+    go : (o : Ordering) → (is_true (from_truth (Some (is_eq o))) && true) ≡ is_eq o
+    go Less = refl
+    go Equal = refl
+    go Greater = refl
+
+pub all_find : (given : Row) (at : ℕ) (id : ℤ) → column given at ≡ Int id → (rows : List Row) → AllByRecursion (λ r. IsTrue (is_int (rowid r))) rows
+    → AllByRecursion (λ r. finds (equals Binary (col 1 0) (col 0 at) ∷ []) given r ≡ has_rowid id r) rows
+all_find given at id asked [] h = tt
+all_find given at id asked (r ∷ rows) h = (finds_key given r at id (id_in (rowid r)) asked (int_is (rowid r) h.0), all_find given at id asked rows h.1)
+
+agrees : (r new : Row) → agree plain (0 ∷ []) r (0 ∷ []) new ≡ true → equal Binary (column r 0) (column new 0) ≡ true
+unfolding first_key
+agrees r new h = (and_parts _ _ h).0
+
+module _ (schema : Schema) (table : Table) (d : IsDeclared schema table) (unkeyed : table.uniques ≡ []) where
+  pub none_on : (i : Index) → Has schema.indexes i → i.is_unique ≡ true → i.table ≡ table.tree → ⊥
+  none_on i has unique is = subst (λ (is : List Index). Has is i) no_index (has_kept (λ (i : Index). guards i table) schema.indexes i has (and_from i.is_unique (i.table == table.tree) unique (eq-eqb i.table table.tree is)))
+    where
+      no_index : filter (λ i. guards i table) schema.indexes ≡ []
+      no_index = d.indexed ∙ rw unkeyed
+
+  -- a row in the way has the number of the new one
+  in_the_way : (new r : Row) (id n : ℤ) → rowid new ≡ Int id → rowid r ≡ Int n → conflicts (Some (0 ∷ [])) schema.indexes table new r ≡ true → n ≡ id
+  in_the_way new r id n is number h = go (agree plain (0 ∷ []) r (0 ∷ []) new) refl h
+    where
+      go : (b : Bool) → agree plain (0 ∷ []) r (0 ∷ []) new ≡ b → (b || list_any (shares (Some (0 ∷ [])) table new r) schema.indexes) ≡ true → n ≡ id
+      go true e h = equal_numbers n id (rw (number, is) at (agrees r new e))
+      go false e h =
+          let shared = some_has (shares (Some (0 ∷ [])) table new r) schema.indexes h in
+          let guarded = and_parts _ _ (and_parts _ _ (and_parts _ _ shared.2).0).0 in
+          absurd (none_on shared.0 shared.1 guarded.0 (eqb-true shared.0.table table.tree guarded.1))
+
+  -- what an upsert by the rowid tests and sets
+  abbrev pub by_rowid : ℕ → List Term → Parts
+  by_rowid base project = record { tests = equals Binary (col 1 0) (col 0 base) ∷ []; project = project; order = [] }
+
+  module _ (low : table.tree < 65536) (limit : Option ℕ) (params : Row) (base : ℕ) (project : List Term) (new : Row) (cast : cast_row table new ≡ new) (id : ℤ) (is : rowid new ≡ Int id)
+      (asked : column (params ++ Int id ∷ shown table new) base ≡ Int id)
+      (made : (given r : Row) → given ≡ params ++ Int id ∷ shown table new → rowid r ≡ Int id → (cast_row table (drop 1 (eval_all project (given ∷ r ∷ []))) ≡ new) × (id_in (rowid (eval_all project (given ∷ r ∷ []))) ≡ id)) where
+    pub updates_row : (given : Row) → given ≡ params ++ Int id ∷ shown table new → (db : Trees) → HaveRowids (db table.tree) → (r : Row) → Has (db table.tree) r → rowid r ≡ Int id → (w : Written)
+        → Updates (task limit schema table params) (program_on table.tree (by_rowid base project)) given db (Ok w) → IsPut schema table new id db w.trees
+    updates_row given shows db keyed r has number w h =
+        let there = only_row (db table.tree) keyed r id has number in
+        let tests = (by_rowid base project).tests in
+        let only : filter (finds tests given) (db table.tree) ≡ r ∷ [] = filter_same _ _ (db table.tree) (all_find given base id (ap (λ g. column g base) shows ∙ asked) (db table.tree) keyed.integers) ∙ there in
+        let next = made given r shows number in
+        updates_one limit schema table params d.alone (by_rowid base project) given db r new id w (uncovered schema table d low db) only there next.0 next.1 (is ∙ sym number) (λ i has unique on. absurd (none_on i has unique on)) h
+
+    -- the row is put in place of the one with its number, or with it more
+    pub upserts : (db after : Trees) → HaveRowids (db table.tree) → Ends limit schema table params (Some (0 ∷ [])) (program_on table.tree (by_rowid base project)) new db after → IsPut schema table new id db after
+    upserts db after keyed (inl (free, w, h, trees)) = subst (IsPut schema table new id db) (sym trees) (puts limit schema table params new cast id is db w h).0
+    upserts db after keyed (inr (r, has, meets, w, h, trees)) =
+        let n = id_in (rowid r) in
+        let integer : rowid r ≡ Int n = int_is (rowid r) (all_has _ (db table.tree) r keyed.integers has) in
+        let number : rowid r ≡ Int id = integer ∙ ap Int (in_the_way new r id n is integer meets) in
+        subst (IsPut schema table new id db) (sym trees) (updates_row (params ++ rowid r ∷ shown table new) (ap (λ v. params ++ v ∷ shown table new) number) db keyed r has number w h)

@@ -1,0 +1,154 @@
+-- The kinds of the values in a tree's rows, by what a sound database asks of them.
+use Rattle.std.proofs.Common.{◌≡◌, ℕ, zero, suc, ◌+◌, ◌≤◌, Bool, true, false, not, cond, ◌&&◌, ◌||◌, ◌==◌, List, [], ◌∷◌, drop, map, Option, Some, None, refl, sym, ap, subst, ◌∙◌, true≢false, IsTrue, IsPermutation, arith}
+use Rattle.std.specs.List.{AllByRecursion, list_all}
+use Rattle.std.proofs.lemmas.Bool.{and_parts}
+use Rattle.std.proofs.lemmas.Bool.Decides.{nat_tests}
+use Rattle.sqlite_value.specs.declared.value.Value.{Value}
+use Rattle.sqlite_value.specs.declared.value.Value.TheVariants as value
+use Rattle.sqlite_value.specs.Order.{Row, column}
+use Rattle.sqlite_trees.specs.Tree.{Trees}
+use Rattle.sqlite_trees.specs.View.{is_int}
+use Rattle.sqlite_trees.proofs.ListLemmas.{all-permutation}
+use Rattle.sqlite_sql.specs.Ops.{is_null}
+use Rattle.sqlite_schema.specs.declared.schema.Kind.{Kind}
+use Rattle.sqlite_schema.specs.declared.schema.Kind.TheVariants.{Integer, Real, Text, Blob, Any}
+use Rattle.sqlite_schema.specs.declared.schema.Column.{Column}
+use Rattle.sqlite_schema.specs.declared.schema.Constraint.{Constraint}
+use Rattle.sqlite_schema.specs.declared.schema.Constraint.TheVariants.{Datatype, NotNull}
+use Rattle.sqlite_schema.specs.declared.schema.Schema.{Schema}
+use Rattle.sqlite_schema.specs.declared.schema.Table.{Table}
+use Rattle.sqlite_schema.specs.Names.{is_key}
+use Rattle.sqlite_schema.specs.Rules.{is_of, has_affinity, are_typed, are_present, passes}
+use Rattle.sqlite_rules.proofs.ListLemmas.{all_has}
+use Rattle.sqlite_catalog.specs.Listing.{IsSound}
+use Rattle.sqlite.specs.Values.{IsInt}
+use Rattle.sql_tables.specs.Kinds.{IsOfKind, HasKinds, IsUtf8Text}
+use Rattle.sql_tables.specs.Tables.{IsDeclared}
+use Rattle.sql_tables.proofs.Declaring.{has_table}
+
+-- a value that STRICT takes, and that is no NULL
+of_kind : (k : Kind) (v : Value) → is_of k v ≡ true → is_null v ≡ false → (k ≡ Text → IsUtf8Text v) → IsOfKind k v
+of_kind k value.Null typed present utf8 = absurd (true≢false present)
+of_kind Integer (value.Int n) typed present utf8 = (n, refl)
+of_kind Integer v typed present utf8 = absurd (true≢false (sym typed))
+of_kind Real (value.Real x) typed present utf8 = (x, refl)
+of_kind Real v typed present utf8 = absurd (true≢false (sym typed))
+of_kind Text (value.Text t) typed present utf8 = (t, refl, utf8 refl)
+of_kind Text v typed present utf8 = absurd (true≢false (sym typed))
+of_kind Blob (value.Blob b) typed present utf8 = (b, refl)
+of_kind Blob v typed present utf8 = absurd (true≢false (sym typed))
+of_kind Any v typed present utf8 = tt
+
+pub integer_of : (v : Value) → IsTrue (is_int v) → IsInt v
+integer_of (value.Int n) is = (n, refl)
+integer_of v is = absurd (true≢false (sym is))
+
+utf8_at : (row : Row) (at : ℕ) → AllByRecursion IsUtf8Text row → IsUtf8Text (column row at)
+utf8_at [] at all = tt
+utf8_at (v ∷ row) zero all = all.0
+utf8_at (v ∷ row) (suc at) all = utf8_at row at all.1
+
+suited : (is_key strict null typed other : Bool) → cond is_key null (cond strict typed other) ≡ true → is_key ≡ false → strict ≡ true → typed ≡ true
+suited false true null typed other passes apart is_strict = passes
+suited false false null typed other passes apart is_strict = absurd (true≢false (sym is_strict))
+suited true strict null typed other passes apart is_strict = absurd (true≢false apart)
+
+there : (is_key needed null : Bool) → (is_key || not needed || not null) ≡ true → is_key ≡ false → needed ≡ true → null ≡ false
+there is_key needed false passes apart is_needed = refl
+there false true true passes apart is_needed = sym passes
+there false false true passes apart is_needed = absurd (true≢false (sym is_needed))
+there true needed true passes apart is_needed = absurd (true≢false apart)
+
+module _ (key : Option ℕ) (at : ℕ) (c : Column) (cs : List Column) where
+  typed_first : (vs : Row) → are_typed key at (c ∷ cs) vs ≡ true → is_key key at ≡ false → c.is_strict ≡ true → is_of c.kind (column vs 0) ≡ true
+  typed_first [] typed apart strict = refl
+  typed_first (v ∷ vs) typed apart strict = suited (is_key key at) c.is_strict (is_null v) (is_of c.kind v) (has_affinity c.kind v) (and_parts _ _ typed).0 apart strict
+
+  typed_later : (vs : Row) → are_typed key at (c ∷ cs) vs ≡ true → are_typed key (at + 1) cs (drop 1 vs) ≡ true
+  typed_later [] typed = (and_parts _ _ typed).1
+  typed_later (v ∷ vs) typed = (and_parts _ _ typed).1
+
+-- the values of a row from a place on, one for each of these columns
+abbrev pub columns_from : ℕ → List Column → Row → Row
+columns_from at [] row = []
+columns_from at (c ∷ cs) row = column row at ∷ columns_from (at + 1) cs row
+
+-- the row goes on so from the place behind this one
+abbrev pub GoesOn : ℕ → Row → Row → Type 0
+GoesOn at vs row = (i k : ℕ) → k ≡ at + 1 + i → column vs i ≡ column row k
+
+pub goes_on : (row : Row) → GoesOn 0 (drop 1 row) row
+goes_on [] i k e = refl
+goes_on (v ∷ row) i zero e = absurd (omega (arith, e))
+goes_on (v ∷ row) i (suc k) e = let same : i ≡ k = omega (arith, e) in ap (column row) same
+
+pub later : (at : ℕ) (vs row : Row) → GoesOn at vs row → GoesOn (at + 1) (drop 1 vs) row
+later at [] row on i k e = on (suc i) k (omega (arith, e))
+later at (v ∷ vs) row on i k e = on (suc i) k (omega (arith, e))
+
+-- where the columns are STRICT and NOT NULL, and the texts UTF-8
+module _ (key : Option ℕ) (row : Row) where
+  kinds_from : (at : ℕ) (cs : List Column) (vs : Row) → GoesOn at vs row → ((place : ℕ) → at ≤ place → is_key key place ≡ false)
+      → list_all (λ c. c.is_strict && c.not_null) cs ≡ true → AllByRecursion (λ c. c.kind ≡ Text → AllByRecursion IsUtf8Text (drop 1 row)) cs
+      → are_typed key at cs vs ≡ true → are_present key at cs row ≡ true → HasKinds (map (λ c. c.kind) cs) (columns_from (at + 1) cs row)
+  kinds_from at [] vs on apart needed utf8 typed present = tt
+  kinds_from at (c ∷ cs) vs on apart needed utf8 typed present =
+      let here : (c.is_strict ≡ true) × (c.not_null ≡ true) = and_parts _ _ (and_parts _ _ needed).0 in
+      let free = apart at (omega arith) in
+      let first : column vs 0 ≡ column row (at + 1) = on 0 (at + 1) (omega arith) in
+      let is : is_of c.kind (column row (at + 1)) ≡ true = ap (is_of c.kind) (sym first) ∙ typed_first key at c cs vs typed free here.0 in
+      let null : is_null (column row (at + 1)) ≡ false = there (is_key key at) c.not_null (is_null (column row (at + 1))) (and_parts _ _ present).0 free here.1 in (
+        of_kind c.kind (column row (at + 1)) is null (λ text. subst IsUtf8Text (goes_on row at (at + 1) (omega arith)) (utf8_at (drop 1 row) at (utf8.0 text))),
+        kinds_from (at + 1) cs (drop 1 vs) (later at vs row on) (λ place over. apart place (omega (arith, over))) (and_parts _ _ needed).1 utf8.1 (typed_later key at c cs vs typed) (and_parts _ _ present).1,
+      )
+
+-- a row as a sound database has it
+pub record IsKept (table : Table) (row : Row) : Type 0 where
+  pub typed : are_typed table.key 0 table.columns (drop 1 row) ≡ true
+  pub present : are_present table.key 0 table.columns row ≡ true
+
+-- the columns of a table whose rowid is hidden
+pub hidden_kinds : (table : Table) (row : Row) → IsKept table row → table.key ≡ None → list_all (λ c. c.is_strict && c.not_null) table.columns ≡ true
+    → AllByRecursion (λ c. c.kind ≡ Text → AllByRecursion IsUtf8Text (drop 1 row)) table.columns → HasKinds (map (λ c. c.kind) table.columns) (columns_from 1 table.columns row)
+hidden_kinds table row kept hidden needed utf8 =
+    kinds_from table.key row 0 table.columns (drop 1 row) (goes_on row) (λ place over. ap (λ key. is_key key place) hidden) needed utf8 kept.typed kept.present
+
+-- the columns behind a first one that is the rowid
+pub numbered_kinds : (table : Table) (row : Row) (c : Column) (cs : List Column) → IsKept table row → table.key ≡ Some 0 → table.columns ≡ c ∷ cs → list_all (λ c. c.is_strict && c.not_null) cs ≡ true
+    → AllByRecursion (λ c. c.kind ≡ Text → AllByRecursion IsUtf8Text (drop 1 row)) cs → HasKinds (map (λ c. c.kind) cs) (columns_from 2 cs row)
+numbered_kinds table row c cs kept first are needed utf8 =
+    let typed : are_typed table.key 0 (c ∷ cs) (drop 1 row) ≡ true = ap (λ columns. are_typed table.key 0 columns (drop 1 row)) (sym are) ∙ kept.typed in
+    let present : are_present table.key 0 (c ∷ cs) row ≡ true = ap (λ columns. are_present table.key 0 columns row) (sym are) ∙ kept.present in
+    kinds_from table.key row 1 cs (drop 1 (drop 1 row)) (later 0 (drop 1 row) row (goes_on row)) (λ place over. ap (λ key. is_key key place) first ∙ apart place over) needed utf8 (typed_later table.key 0 c cs (drop 1 row) typed) (and_parts _ _ present).1
+  where
+    apart : (place : ℕ) → 1 ≤ place → (0 == place) ≡ false
+    apart place over = grind (arith, nat_tests)
+
+-- a fact of texts is asked of the columns of texts alone
+pub all_texts : (P : Type 0) (cs : List Column) → P → AllByRecursion (λ c. c.kind ≡ Text → P) cs
+all_texts P [] p = tt
+all_texts P (c ∷ cs) p = ((λ text. p), all_texts P cs p)
+
+pub all_both : (P Q : Row → Type 0) (rows : List Row) → AllByRecursion P rows → AllByRecursion Q rows → AllByRecursion (λ row. P row × Q row) rows
+all_both P Q [] ps qs = tt
+all_both P Q (row ∷ rows) ps qs = ((ps.0, qs.0), all_both P Q rows ps.1 qs.1)
+
+module _ (schema : Schema) (table : Table) (d : IsDeclared schema table) (db : Trees) (sound : IsSound schema db) where
+  kept_from : (rows : List Row) → AllByRecursion (λ row. passes Datatype schema db table row ≡ true) rows → AllByRecursion (λ row. passes NotNull schema db table row ≡ true) rows → AllByRecursion (IsKept table) rows
+  kept_from [] typed present = tt
+  kept_from (row ∷ rows) typed present = (record { typed = (and_parts _ _ typed.0).0; present = present.0 }, kept_from rows typed.1 present.1)
+
+  passing : (rule : Constraint) → AllByRecursion (λ row. passes rule schema db table row ≡ true) (db table.tree)
+  passing rule = all_has (λ t. AllByRecursion (λ row. passes rule schema db t row ≡ true) (db t.tree)) schema.tables table (sound.obeys.rules rule) (has_table schema table d)
+
+  pub kept : AllByRecursion (IsKept table) (db table.tree)
+  kept = kept_from (db table.tree) (passing Datatype) (passing NotNull)
+
+  module _ (P : Row → Type 0) (show : Row → Row) (kinds : List Kind) (each : (row : Row) → IsKept table row → P row → HasKinds kinds (show row)) where
+    shown : (rows : List Row) → AllByRecursion (IsKept table) rows → AllByRecursion P rows → AllByRecursion (HasKinds kinds) (map show rows)
+    shown [] are all = tt
+    shown (row ∷ rows) are all = (each row are.0 all.0, shown rows are.1 all.1)
+
+    -- the rows of the tree, in any order
+    pub all_shown : (rows : List Row) → AllByRecursion P (db table.tree) → IsPermutation (map show (db table.tree)) rows → AllByRecursion (HasKinds kinds) rows
+    all_shown rows all same = all-permutation _ _ _ same (shown (db table.tree) kept all)

@@ -1,0 +1,205 @@
+-- What UPDATE of one row by its key means, whatever else the schema has.
+use Rattle.std.proofs.Common.{◌≡◌, ◌-◌, nat_lt, ◌⊎◌, inl, inr, ℕ, ℤ, suc, ◌<◌, ◌≤◌, sym, ap, subst, ◌∙◌, cond, filter, map, length, drop, is_eq, IsTrue, arith, Bool, true, false, List, [], ◌∷◌, slice_get, Option, Some, None, Ok, refl}
+use Rattle.sqlite_value.specs.declared.keys.Collation.TheVariants.{Binary}
+use Rattle.sqlite_sql.specs.Term.{Term, col}
+use Rattle.sqlite_ast.specs.declared.Binary.TheVariants as binary
+use Rattle.sqlite_ast.specs.declared.Expr.{Expr, out-Expr}
+use Rattle.sqlite_ast.specs.declared.Expr.TheOpen.{Expr-F}
+use Rattle.sqlite_schema.specs.declared.schema.Column.{Column}
+use Rattle.sqlite_schema.specs.declared.schema.Schema.{Schema}
+use Rattle.sqlite_schema.specs.declared.schema.Table.{Table}
+use Rattle.sqlite_resolve.specs.Lowering.{begin, finish, spend, nothing, chosen, first_found}
+use Rattle.sqlite_resolve.specs.Compare.{affinity_of, of_column, converted, compared, may_be_text}
+use Rattle.sqlite_resolve.specs.Expr.{lower, lower_to, node, opened, passes, operation, both, combine, wanted_truth, tests_truth, tests_alias}
+use Rattle.sqlite_resolve.specs.Scope.{Name}
+use Rattle.sqlite_resolve.specs.Terms.{equal}
+use Rattle.sqlite_ast.specs.declared.Statement.TheVariants as written
+use Rattle.sqlite_schema.specs.Names.{column_named}
+use Rattle.sqlite_schema.specs.declared.command.Command.TheVariants.{Update}
+use Rattle.sqlite_resolve.specs.Lowering.{fresh, max_budget}
+use Rattle.sqlite_resolve.specs.Body.{tests}
+use Rattle.sqlite_resolve.specs.Compile.{command, update}
+use Rattle.sqlite_resolve.specs.Write.{assigned, row, picked, updated, updated_in}
+use Rattle.sql_tables.specs.Tables.{IsDeclared}
+use Rattle.sql_tables.specs.Tables.{numbered}
+use Rattle.sql_tables.proofs.Declaring.{classes_are, low_tree, uncovered}
+use Rattle.sql_tables.proofs.Meaning.{IsText, update_is}
+use Rattle.sql_tables.proofs.OneTable.{Parts, draft_of, program_on, is_typed, program_is}
+use Rattle.sql_tables.proofs.Running.{Means}
+use Rattle.sqlite_ast.specs.declared.Statement.{Statement}
+use Rattle.sqlite_ast.specs.Layer.{Layer}
+use Rattle.std.specs.Ordering.{int_eq}
+use Rattle.std.proofs.lemmas.Bool.Decides.{Decides-int_eq}
+use Rattle.sqlite_value.specs.declared.value.Value.TheVariants.{Int}
+use Rattle.sqlite_value.specs.Order.{Row, column, value_cmp}
+use Rattle.sqlite_value.proofs.OrderLemmas.{value_cmp-Int}
+use Rattle.sqlite_trees.specs.Tree.{Trees, rowid, has_rowid}
+use Rattle.sqlite_trees.specs.View.{is_int}
+use Rattle.sqlite_trees.proofs.ListLemmas.{filter_same}
+use Rattle.sqlite_sql.specs.Term.{eval_all}
+use Rattle.sqlite_rules.specs.Cast.{cast_row}
+use Rattle.sqlite_rules.specs.Edit.{id_in}
+use Rattle.sqlite_rules.specs.Lists.{Has}
+use Rattle.sqlite_rules.proofs.ListLemmas.{all_has}
+use Rattle.sqlite_rules.proofs.TableLemmas.{int_is}
+use Rattle.sqlite_catalog.specs.Listing.{IsSound}
+use Rattle.sqlite.specs.Rows.{Written, Updates}
+use Rattle.sqlite.specs.State.{State, Executes}
+use Rattle.sql_tables.specs.Rows.{HaveRowids, Lists}
+use Rattle.sql_tables.proofs.RowLists.{rowids_stay}
+use Rattle.sql_tables.proofs.Setting.{set_if, sets_none, sets_one}
+use Rattle.sql_tables.proofs.Numbered.{all_find, none_on}
+use Rattle.sql_tables.proofs.Running.{Wrote, update_ran}
+use Rattle.sql_tables.proofs.Writing.{IsPut, Spares, task, finds, updates_one, updates_none}
+use Rattle.sql_tables.proofs.Columns.{nothing_written, clear, over, IsColumn, lowers_to}
+
+abbrev pub sets_in : Statement → List (Name × Expr)
+sets_in (written.Update name sets test shown) = sets
+sets_in _ = []
+
+abbrev pub test_or : Option Expr → Expr
+test_or (Some e) = e
+test_or None = nothing_written
+
+abbrev pub test_in : Statement → Expr
+test_in (written.Update name sets test shown) = test_or test
+test_in _ = nothing_written
+
+abbrev left_at : Layer → Expr
+left_at (Expr-F.Binary op a b) = a
+left_at _ = nothing_written
+
+abbrev right_at : Layer → Expr
+right_at (Expr-F.Binary op a b) = b
+right_at _ = nothing_written
+
+-- the sides of a comparison
+abbrev pub left_of : Expr → Expr
+left_of e = left_at (out-Expr e)
+
+abbrev pub right_of : Expr → Expr
+right_of e = right_at (out-Expr e)
+
+-- WHERE compares the first column with the first parameter
+pub record IsKeyTest (e : Expr) (name : Name) : Type 0 where
+  pub left : Expr
+  pub right : Expr
+  pub equals : out-Expr e ≡ Expr-F.Binary binary.Eq left right
+  pub key : out-Expr left ≡ Expr-F.Column None name
+  pub asked : out-Expr right ≡ Expr-F.Parameter 1
+
+-- room for three more steps of resolving
+abbrev pub AreRich : ℕ → Type 0
+AreRich budget = (nat_lt 1 budget ≡ true) × (nat_lt 1 (budget - 1) ≡ true) × (nat_lt 1 (budget - 1 - 1) ≡ true)
+
+module _ (schema : Schema) (at : ℕ) (table : Table) (there : slice_get schema.tables at ≡ Some table) (numbered : table.key ≡ Some 0) where
+  lowers_parameter : (depth : ℕ) (e : Expr) (budget : ℕ) → nat_lt 1 budget ≡ true → out-Expr e ≡ Expr-F.Parameter 1 → lower_to (suc depth) (over schema at table there table.name [] false) e (clear budget nothing) ≡ Ok (col 0 0, clear (budget - 1) nothing)
+  unfolding lower_to node opened spend begin finish passes
+  lowers_parameter depth e budget rich is = rw (rich, is)
+
+  lowers_test : (e : Expr) (name : Name) (c : Column) (budget : ℕ) → AreRich budget → (t : IsKeyTest e name) → IsColumn schema at table there table.name t.left name 0 c
+      → lower (over schema at table there table.name [] false) e (clear budget nothing) ≡ Ok (equal Binary (col 1 0) (col 0 0), clear (budget - 1 - 1 - 1) nothing)
+  unfolding lower_to node opened spend begin finish passes operation both combine wanted_truth tests_truth tests_alias compared affinity_of of_column converted may_be_text chosen first_found
+  lowers_test e name c budget rich t it = rw (rich.0, t.equals, lowers_to schema at table there table.name 698 t.left name 0 c it [] false (budget - 1) nothing rich.1, numbered, lowers_parameter 698 t.right (budget - 1 - 1) rich.2 t.asked)
+
+module _ (name : Name) (columns : List Column) (text : List ℕ) where
+  abbrev pub parts_of : List Term → Parts
+  parts_of project = record { tests = equal Binary (col 1 0) (col 0 0) ∷ []; project = project; order = [] }
+
+  -- The text sets columns of the row whose first column is the first parameter.
+  pub record IsUpdate : Type 0 where
+    pub sets : List (Name × Expr)
+    pub test : Expr
+    pub places : List ℕ
+    pub terms : List Term
+    pub project : List Term
+    pub key : Name
+    pub column : Column
+    pub budget : ℕ
+    pub rich : AreRich budget
+    pub is_text : IsText text (written.Update name sets (Some test) [])
+    pub assigned_is : (schema : Schema) (at tree : ℕ) (there : slice_get schema.tables at ≡ Some (numbered name columns tree))
+        → assigned (over schema at (numbered name columns tree) there name [] false) (numbered name columns tree) sets (fresh 2 max_budget) ≡ Ok ((places, terms), clear budget nothing)
+    pub row_is : (tree : ℕ) → row (numbered name columns tree) None places (col 1 0 ∷ []) terms ≡ Ok project
+    pub tests : IsKeyTest test key
+    pub named : (tree : ℕ) → column_named (numbered name columns tree) key ≡ Some 0
+    pub first : slice_get columns 0 ≡ Some column
+    pub typed : (tree : ℕ) → is_typed (numbered name columns tree) (parts_of project) [] ≡ true
+
+  module _ (u : IsUpdate) (schema : Schema) (tree : ℕ) (d : IsDeclared schema (numbered name columns tree)) where
+    abbrev table : Table
+    table = numbered name columns tree
+
+    draft_is : updated schema d.at table u.sets (Some u.test) ≡ Ok (draft_of tree (parts_of u.project))
+    unfolding updated updated_in picked tests
+    draft_is = rw (u.assigned_is schema d.at tree d.there, u.row_is tree, lowers_test schema d.at table d.there refl u.test u.key u.column u.budget u.rich u.tests (record { written = u.tests.key; named = u.named tree; is = u.first }))
+
+    update_command : (formats : List (List ℕ)) (base : ℕ) → tree < 65536 → command schema formats base (written.Update name u.sets (Some u.test) []) ≡ Ok (Update d.at (program_on tree (parts_of u.project)))
+    unfolding command update
+    update_command formats base low = rw (d.named, d.there, draft_is, program_is schema table (classes_are schema table d low) (parts_of u.project) (u.typed tree))
+
+    pub update_means : tree < 65536 → Means schema text (Update d.at (program_on tree (parts_of u.project)))
+    update_means low = update_is schema text name u.sets (Some u.test) (Update d.at (program_on tree (parts_of u.project))) u.is_text (λ formats base. update_command formats base low)
+
+    -- the row with the number is replaced, if it is there
+    abbrev pub IsSet : ℤ → (Row → Row → Type 0) → Trees → Trees → Type 0
+    IsSet id Becomes old new =
+        ((filter (has_rowid id) (old tree) ≡ []) × (new tree ≡ old tree) × Spares schema tree old new)
+        ⊎ ((r : Row) × (row : Row) × Has (old tree) r × (filter (has_rowid id) (old tree) ≡ r ∷ []) × Becomes r row × IsPut schema table row id old new)
+
+    first_in : (xs : List Row) (id : ℤ) (r : Row) (more : List Row) → filter (has_rowid id) xs ≡ r ∷ more → Has xs r × (has_rowid id r ≡ true)
+    first_in [] id r more e = absurd (cc)
+    first_in (x ∷ xs) id r more e = go (has_rowid id x) refl e (first_in xs id r more)
+      where
+        go : (b : Bool) → has_rowid id x ≡ b → cond b (x ∷ filter (has_rowid id) xs) (filter (has_rowid id) xs) ≡ r ∷ more → (filter (has_rowid id) xs ≡ r ∷ more → Has xs r × (has_rowid id r ≡ true)) → Has (x ∷ xs) r × (has_rowid id r ≡ true)
+        go true is e more = let same : x ≡ r = cc in (inl (sym same), ap (has_rowid id) (sym same) ∙ is)
+        go false is e more = let it = more e in (inr it.0, it.1)
+
+    alone_of : (xs : List Row) → length xs ≤ 1 → (xs ≡ []) ⊎ ((r : Row) × (xs ≡ r ∷ []))
+    alone_of [] few = inl refl
+    alone_of (r ∷ []) few = inr (r, refl)
+    alone_of (r ∷ s ∷ more) few = absurd (omega (arith, few))
+
+    number_of : (r : Row) (id : ℤ) → IsTrue (is_int (rowid r)) → has_rowid id r ≡ true → rowid r ≡ Int id
+    number_of r id integer has =
+        let n = id_in (rowid r) in
+        let is : rowid r ≡ Int n = int_is (rowid r) integer in
+        let same : int_eq n id ≡ true = sym (ap is_eq (value_cmp-Int n id)) ∙ sym (ap (λ v. is_eq (value_cmp v (Int id))) is) ∙ has in
+        is ∙ ap Int ((Decides-int_eq n id).0 same)
+
+    pub sets_row : (params : Row) (id : ℤ) (Becomes : Row → Row → Type 0) → column params 0 ≡ Int id
+        → ((r : Row) → rowid (eval_all u.project (params ∷ r ∷ [])) ≡ rowid r)
+        → (old new : State) (count : ℕ) → old.now.schema ≡ schema → IsSound schema old.now.trees → HaveRowids (old.now.trees tree)
+        → ((r : Row) → Has (old.now.trees tree) r → rowid r ≡ Int id → (row : Row) × (cast_row table (drop 1 (eval_all u.project (params ∷ r ∷ []))) ≡ row) × (rowid row ≡ Int id) × Becomes r row)
+        → Executes text params old new (Ok count) → Wrote old new × IsSet id Becomes old.now.trees new.now.trees
+    sets_row params id Becomes asked heads old new count has sound keyed made h =
+        let low = low_tree schema table d old.now.trees sound in
+        let ran = update_ran schema d.at table d.there text params old new count has (program_on tree (parts_of u.project)) (update_means low) h in
+        let db = old.now.trees in
+        let same = filter_same _ _ (db tree) (all_find params 0 id asked (db tree) keyed.integers) in
+        (ran.0, go low (alone_of (filter (has_rowid id) (db tree)) (keyed.once id)) same ran.1)
+      where
+        go : tree < 65536 → (filter (has_rowid id) (old.now.trees tree) ≡ []) ⊎ ((r : Row) × (filter (has_rowid id) (old.now.trees tree) ≡ r ∷ []))
+            → filter (finds (parts_of u.project).tests params) (old.now.trees tree) ≡ filter (has_rowid id) (old.now.trees tree)
+            → (w : Written) × Updates (task old.step_limit schema table params) (program_on tree (parts_of u.project)) params old.now.trees (Ok w) × (new.now.trees ≡ w.trees) → IsSet id Becomes old.now.trees new.now.trees
+        go low (inl none) same (w, did, trees) =
+            let done = updates_none old.step_limit schema table params (parts_of u.project) params old.now.trees w (uncovered schema table d low old.now.trees) (same ∙ none) did in
+            inl (none, ap (λ (t : Trees). t tree) trees ∙ done.0, subst (Spares schema tree old.now.trees) (sym trees) done.1)
+        go low (inr (r, only)) same (w, did, trees) =
+            let it = first_in (old.now.trees tree) id r [] only in
+            let number = number_of r id (all_has _ (old.now.trees tree) r keyed.integers it.0) it.1 in
+            let next = made r it.0 number in
+            let put = updates_one old.step_limit schema table params d.alone (parts_of u.project) params old.now.trees r next.0 id w (uncovered schema table d low old.now.trees) (same ∙ only) only next.1
+            (ap id_in (heads r ∙ number)) (next.2 ∙ sym number) (λ i has unique on. absurd (none_on schema table d refl i has unique on)) did in
+            inr (r, next.0, it.0, only, next.3, subst (IsPut schema table next.0 id old.now.trees) (sym trees) put)
+
+    -- what the table lists then
+    pub lists_set : {X : Type 0} (written : X → Row) (columns : Row → Row) (key : X → ℤ) (wk : (x : X) → column (written x) 0 ≡ Int (key x)) (sk : (r : Row) → column (columns r) 0 ≡ rowid r)
+        (id : ℤ) (set : X → X) (change : Row → Row) (changes : (x : X) → written (set x) ≡ change (written x)) (xs : List X) (old new : Trees) → Lists written columns xs (old tree) → HaveRowids (old tree)
+        → IsSet id (λ r it. (columns it ≡ change (columns r)) × (rowid it ≡ Int id)) old new
+        → Lists written columns (map (set_if written columns key wk sk id set change changes) xs) (new tree) × HaveRowids (new tree) × Spares schema tree old new
+    lists_set written columns key wk sk id set change changes xs old new lists ids (inl (none, same, others)) =
+        (rw same (sets_none written columns key wk sk id set change changes xs (old tree) lists none), rw same ids, others)
+    lists_set written columns key wk sk id set change changes xs old new lists ids (inr (r, now, has, only, becomes, put)) =
+        let it = first_in (old tree) id r [] only in
+        (rw put.rows (sets_one written columns key wk sk id set change changes xs (old tree) r now lists only it.1 becomes.0 becomes.1), rw put.rows (rowids_stay id now becomes.1 (old tree) ids), put.others)

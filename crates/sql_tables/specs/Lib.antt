@@ -1,0 +1,5 @@
+pub mod Tables
+pub mod Kinds
+pub mod Rows
+pub mod Making
+pub mod States

@@ -1,0 +1,30 @@
+-- The rows of a tree, as a list of values.
+use Rattle.std.specs.Prelude.{ℕ, suc, ℤ, ◌≤◌, Bool, not, if◌then◌else◌, List, [], ◌∷◌, map, filter, length, IsPermutation}
+use Rattle.sqlite_value.specs.Order.{Row, column}
+use Rattle.sqlite_trees.specs.Tree.{has_rowid}
+use Rattle.sql_tables.specs.Kinds.{HaveIntegerRowids}
+
+-- the rows of a tree are these, in any order
+abbrev pub Lists : {X : Type 0} → (X → Row) → (Row → Row) → List X → List Row → Type 0
+Lists written columns xs rows = IsPermutation (map written xs) (map columns rows)
+
+-- each row has an integer as its rowid, and no two have the same
+pub record HaveRowids (rows : List Row) : Type 0 where
+  pub integers : HaveIntegerRowids rows
+  pub once : (id : ℤ) → length (filter (has_rowid id) rows) ≤ 1
+
+-- the rows with this one in place of those with its key
+abbrev pub put_in : {X : Type 0} → (X → Bool) → X → List X → List X
+put_in has_key x xs = x ∷ filter (λ y. not (has_key y)) xs
+
+-- the columns at these places
+abbrev pub picked : List ℕ → Row → Row
+picked places r = map (column r) places
+
+abbrev pub numbers_from : ℕ → List ℕ → List ℕ
+numbers_from at [] = []
+numbers_from at (x ∷ xs) = at ∷ numbers_from (suc at) xs
+
+-- the rows, with this done to those that have the key
+abbrev pub set_where : {X : Type 0} → (X → Bool) → (X → X) → List X → List X
+set_where has_key set xs = map (λ x. if has_key x then set x else x) xs
