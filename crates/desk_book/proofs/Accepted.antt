@@ -1,18 +1,20 @@
 -- What is true of a command because no refusal holds of it.
 use Rattle.std.proofs.Common.{◌≡◌, ℕ, ◌<◌, ◌≤◌, List, length, get_or, Option, Some, None, Contains, true, refl, arith, inl, inr}
-use Rattle.std.specs.List.{All}
+use Rattle.std.specs.List.{All, position}
 use Rattle.std.proofs.lemmas.Bool.{cases_lt, true_from_ne_false, both_ways}
 use Rattle.louis_table.specs.Meaning.{Meaning}
 use Rattle.louis_table.specs.Table.{Means}
 use Rattle.louis_table.proofs.OneMeaning.{some_meaning}
 use Rattle.louis_translate.specs.Position.{AreDefined}
 use Rattle.desk_book.specs.declared.command.Command.{Command}
-use Rattle.desk_book.specs.declared.refusal.Limit.TheVariants.{Tables, Paragraphs, Version}
-use Rattle.desk_book.specs.declared.refusal.Refusal.TheVariants.{BadName, NoParagraph, NoTable, TooLong, Full, BadTable, Undefined, Untranslatable}
+use Rattle.desk_book.specs.declared.refusal.Limit.TheVariants.{Tables, Paragraphs, Entries, Marks, Version}
+use Rattle.desk_book.specs.declared.refusal.Refusal.TheVariants.{BadName, BadReader, BadText, NoParagraph, NoTable, TooLong, Full, BadTable, Undefined, Untranslatable}
 use Rattle.desk_book.specs.Book.{Book, Paragraph, text_of, paragraph_of}
-use Rattle.desk_book.specs.Limits.{most_version, most_tables, most_name, most_paragraphs, most_print}
-use Rattle.desk_book.specs.Name.{IsTableName, is_name_character}
-use Rattle.desk_book.specs.Refusals.{IsAccepted, table_given, adds_paragraph, paragraphs_named, table_named, new_print, print_to_translate}
+use Rattle.desk_book.specs.Limits.{most_entries, most_marks, most_note, most_reader, most_version, most_tables, most_name, most_paragraphs, most_print}
+use Rattle.desk_book.specs.Name.{IsReaderName, IsTableName, is_name_character, is_reader_character}
+use Rattle.desk_book.specs.Stored.{IsUnbarred, is_barred}
+use Rattle.desk_book.specs.Refusals.{history_grown, note_given, reader_given, text_given, IsAccepted, table_given, adds_paragraph, paragraphs_named, table_named, new_print, print_to_translate}
+use Rattle.desk_book.proofs.TextTests.{IsFirstBarred-position, IsUnbarred-position}
 use Rattle.desk_book.proofs.FirstUndefined.{DefinesUser, defined_or_first, all_or_first_user}
 
 -- a name that isn't none is one
@@ -27,6 +29,16 @@ IsTableName-stable name twice = record {
     | inr h ↦ h
   ];
   characters = λ k d within. true_from_ne_false (is_name_character (get_or name k d)) (λ e. twice (λ named. both_ways (is_name_character (get_or name k d)) e (named.characters k d within)));
+}
+
+-- nor is a name of a reader that isn't none
+IsReaderName-stable : (name : List ℕ) → ¬ (¬ IsReaderName name) → IsReaderName name
+IsReaderName-stable name twice = record {
+  short = elim (cases_lt most_reader (length name)) [
+    | inl h ↦ absurd (twice (λ named. let short = named.short in omega arith))
+    | inr h ↦ h
+  ];
+  characters = λ k d within. true_from_ne_false (is_reader_character (get_or name k d)) (λ e. twice (λ named. both_ways (is_reader_character (get_or name k d)) e (named.characters k d within)));
 }
 
 module _ (book : Book) (expect : Option ℕ) (command : Command) (accepted : IsAccepted book expect command) where
@@ -65,7 +77,7 @@ module _ (book : Book) (expect : Option ℕ) (command : Command) (accepted : IsA
   pub short_print : (print : List ℕ) → new_print book command ≡ Some print → length print ≤ most_print
   short_print print made =
       elim (cases_lt most_print (length print)) [
-        | inl long ↦ absurd (accepted TooLong (record { print = print; made = made; long = long }))
+        | inl long ↦ absurd (accepted TooLong (inr (inl (record { print = print; made = made; long = long }))))
         | inr h ↦ h
       ]
 
@@ -117,3 +129,37 @@ module _ (book : Book) (expect : Option ℕ) (command : Command) (accepted : IsA
             others = found.others;
           }))
         ]
+
+  -- ---- corrections and marks
+
+  -- a text that is given has no barred character
+  pub given_unbarred : (text : List ℕ) → text_given command ≡ Some text → IsUnbarred text
+  given_unbarred text given = by (position is_barred text) refl
+    where
+      by : (o : Option ℕ) → position is_barred text ≡ o → IsUnbarred text
+      by None e = IsUnbarred-position text e
+      by (Some place) e = absurd (accepted (BadText place) (record { text = text; given = given; first = IsFirstBarred-position text place e }))
+
+  pub given_reader : (name : List ℕ) → reader_given command ≡ Some name → IsReaderName name
+  given_reader name given = IsReaderName-stable name (λ bad. accepted BadReader (record { name = name; given = given; bad = bad }))
+
+  pub room_for_entry : (id : ℕ) (paragraph : Paragraph) → history_grown command ≡ Some id → paragraph_of book id ≡ Some paragraph → length paragraph.history < most_entries
+  room_for_entry id paragraph grows found =
+      elim (cases_lt (length paragraph.history) most_entries) [
+        | inl h ↦ h
+        | inr full ↦ absurd (accepted (Full Entries) (record { id = id; paragraph = paragraph; grows = grows; found = found; full = full }))
+      ]
+
+  pub short_note : (note : List ℕ) → note_given command ≡ Some note → length note ≤ most_note
+  short_note note given =
+      elim (cases_lt most_note (length note)) [
+        | inl long ↦ absurd (accepted TooLong (inr (inr (record { note = note; given = given; long = long }))))
+        | inr h ↦ h
+      ]
+
+  pub room_for_mark : (note : List ℕ) → note_given command ≡ Some note → length book.marks < most_marks
+  room_for_mark note given =
+      elim (cases_lt (length book.marks) most_marks) [
+        | inl h ↦ h
+        | inr full ↦ absurd (accepted (Full Marks) (record { note = note; given = given; full = full }))
+      ]

@@ -1,7 +1,7 @@
 -- Commands for which a version is expected.
 use Rattle.std.proofs.Common.{◌≡◌, ℕ, ◌+◌, Option, None, ap, arith}
 use Rattle.desk_book.specs.declared.command.Command.{Command}
-use Rattle.desk_book.specs.declared.command.Command.TheVariants.{Table}
+use Rattle.desk_book.specs.declared.command.Command.TheVariants.{Table, Undo, Mark}
 use Rattle.desk_book.specs.declared.refusal.Refusal.{Refusal}
 use Rattle.desk_book.specs.declared.refusal.Refusal.TheVariants.{Moved}
 use Rattle.desk_book.specs.Book.{Book}
@@ -31,4 +31,6 @@ module _ (book : Book) (expect : Option ℕ) (command : Command) (same : (versio
 
 pub version-made : (book : Book) (command : Command) (next : Book) → Makes book command next → next.version ≡ book.version + 1
 version-made book (Table name text) next is = ap (λ (b : Book). b.version) is
+version-made book (Undo id) next (n, r, newest, is) = ap (λ (b : Book). b.version) is
+version-made book (Mark id cell count note) next (start, end, marked, is) = ap (λ (b : Book). b.version) is
 version-made book command next is = ap (λ (b : Book). b.version) is

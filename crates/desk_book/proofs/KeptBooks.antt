@@ -6,8 +6,7 @@ use Rattle.std.specs.Prelude.{Bool, nat_eq, option_map, slice_get}
 use Rattle.std.specs.Cmp.{unsigned_Decides}
 use Rattle.std.specs.Cmp.Lexicographic.{pointwise, pointwise_decides}
 use Rattle.std.proofs.lemmas.Bool.{cases_Bool, cond-true, cond-false, eqb-true, eq-eqb, ne_eqb, eqb-false}
-use Rattle.std.proofs.lemmas.List.Elements.{All-contains, All-weaker, All-nil, All-cons, All-head, All-tail}
-use Rattle.std.proofs.lemmas.List.{length-map}
+use Rattle.std.proofs.lemmas.List.Elements.{All-contains, All-nil, All-cons, All-head, All-tail}
 use Rattle.std.proofs.lemmas.Map.Views.{Contains-from_lookup}
 use Rattle.louis_table.specs.Meaning.{Meaning}
 use Rattle.louis_table.specs.Table.{Means}
@@ -16,9 +15,10 @@ use Rattle.louis_translate.specs.Position.{AreDefined}
 use Rattle.louis_translate.specs.Tiling.{Tiles}
 use Rattle.louis_translate.specs.Braille.{braille}
 use Rattle.desk_book.specs.declared.tables.BookTable.{BookTable}
+use Rattle.desk_book.specs.declared.marks.KeptMark.{KeptMark}
 use Rattle.desk_book.specs.declared.paragraphs.Paragraph.{Paragraph as KeptParagraph}
 use Rattle.desk_book.specs.Book.{Book, Paragraph, paragraph_of, text_of}
-use Rattle.desk_book.specs.Kept.{KeptTables, KeptParagraphs, paragraph_kept, book_kept, HavePrints, IsKeptParagraph, IsKept}
+use Rattle.desk_book.specs.Kept.{KeptTables, KeptParagraphs, paragraph_kept, book_kept, IsKeptParagraph, IsKept}
 use Rattle.desk_book.specs.Print.{print_of}
 use Rattle.desk_book.specs.Sound.{IsSoundParagraph}
 use Rattle.desk_book.specs.Shown.{IsShown}
@@ -63,9 +63,9 @@ found-kept id ((n, k) ∷ kept) =
 pub All-found : (P : ℕ × KeptParagraph → Type 0) (id : ℕ) (k : KeptParagraph) (kept : KeptParagraphs) → All P kept → lookup (nat_eq id) kept ≡ Some k → P (id, k)
 All-found P id k kept all e = All-contains P kept (id, k) all (Contains-from_lookup (λ x y. eqb-true x y) id k kept e)
 
-module _ (version : ℕ) (tables : KeptTables) (paragraphs : KeptParagraphs) (is : IsKept version tables paragraphs) where
+module _ (version : ℕ) (tables : KeptTables) (paragraphs : KeptParagraphs) (marks : List KeptMark) (is : IsKept version tables paragraphs marks) where
   -- the text of a table is that of the kept one
-  pub text_of-kept : (name : List ℕ) (table : BookTable) → lookup (pointwise nat_eq name) tables ≡ Some table → text_of (book_kept version tables paragraphs) name ≡ Some table.text
+  pub text_of-kept : (name : List ℕ) (table : BookTable) → lookup (pointwise nat_eq name) tables ≡ Some table → text_of (book_kept version tables paragraphs marks) name ≡ Some table.text
   text_of-kept name table e = lookup-map (pointwise nat_eq name) (λ (t : BookTable). t.text) tables ∙ ap (option_map (λ (t : BookTable). t.text)) e
 
   pub means-kept : (name : List ℕ) (table : BookTable) → lookup (pointwise nat_eq name) tables ≡ Some table → Means table.text table.rules
@@ -73,13 +73,13 @@ module _ (version : ℕ) (tables : KeptTables) (paragraphs : KeptParagraphs) (is
       All-contains (λ (entry : List ℕ × BookTable). Means entry.1.text entry.1.rules) tables (name, table) is.means
       (Contains-from_lookup (λ x y. (pointwise_decides unsigned_Decides x y).0) name table tables e)
 
-  pub missing-kept : (id : ℕ) → lookup (nat_eq id) paragraphs ≡ None → paragraph_of (book_kept version tables paragraphs) id ≡ None
+  pub missing-kept : (id : ℕ) → lookup (nat_eq id) paragraphs ≡ None → paragraph_of (book_kept version tables paragraphs marks) id ≡ None
   missing-kept id e = found-kept id paragraphs ∙ ap (option_map (λ k. paragraph_kept (id, k))) e
 
   pub IsShown-found : (id : ℕ) (kept : KeptParagraph) → lookup (nat_eq id) paragraphs ≡ Some kept → (table : BookTable) → lookup (pointwise nat_eq kept.table) tables ≡ Some table
-      → IsShown (book_kept version tables paragraphs) id kept table.rules
+      → IsShown (book_kept version tables paragraphs marks) id kept table.rules
   IsShown-found id kept e table at =
-      let book : Book = book_kept version tables paragraphs in
+      let book : Book = book_kept version tables paragraphs marks in
       let p : Paragraph = paragraph_kept (id, kept) in
       let found : paragraph_of book id ≡ Some p = found-kept id paragraphs ∙ ap (option_map (λ k. paragraph_kept (id, k))) e in
       let own = All-found (IsKeptParagraph tables) id kept paragraphs is.translated e in
@@ -104,6 +104,9 @@ module _ (version : ℕ) (tables : KeptTables) (paragraphs : KeptParagraphs) (is
         };
         cells = own.cells ∙ (ap (λ (print : List ℕ). braille own.table.rules print own.choices) own.print ∙ ap (λ (m : Meaning). braille m (print_of p) own.choices) rules);
         defined = subst (λ (m : Meaning). AreDefined m (print_of p)) one sound.defined;
+        kept_is = refl;
+        sound = sound;
+        taken = own.taken;
       }
 
   -- the table of a paragraph that is there is there
@@ -111,7 +114,7 @@ module _ (version : ℕ) (tables : KeptTables) (paragraphs : KeptParagraphs) (is
   table-kept id kept e = let own = All-found (IsKeptParagraph tables) id kept paragraphs is.translated e in (own.table, own.found)
 
 -- nothing is kept of an empty book
-pub IsKept-empty : IsKept 0 [] []
+pub IsKept-empty : IsKept 0 [] [] []
 IsKept-empty = record {
   sound = IsSound-empty;
   means = All-nil (λ (entry : List ℕ × BookTable). Means entry.1.text entry.1.rules);

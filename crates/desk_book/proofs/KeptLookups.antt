@@ -1,5 +1,5 @@
 -- What is found among kept tables and paragraphs, against what the book that they stand for has.
-use Rattle.std.proofs.Common.{◌≡◌, ℕ, List, map, length, get_or, Option, Some, None, Result, refl, ap, subst, ◌∙◌}
+use Rattle.std.proofs.Common.{◌≡◌, ℕ, List, map, length, get_or, Option, Some, None, Result, Ok, Err, refl, ap, subst, ◌∙◌}
 use Rattle.std.specs.Cmp.Lexicographic.{pointwise}
 use Rattle.std.specs.Map.{lookup}
 use Rattle.std.specs.Option.{ok_or}
@@ -9,6 +9,7 @@ use Rattle.std.proofs.lemmas.List.{length-map}
 use Rattle.std.proofs.lemmas.Option.{get_or_from_slice_get, slice_get-map, slice_get_within}
 use Rattle.std.proofs.lemmas.Map.Entries.{All-lookup}
 use Rattle.louis_table.specs.Table.{Means}
+use Rattle.desk_book.specs.declared.marks.KeptMark.{KeptMark}
 use Rattle.desk_book.specs.declared.paragraphs.Paragraph.{Paragraph as KeptParagraph}
 use Rattle.desk_book.specs.declared.tables.BookTable.{BookTable}
 use Rattle.desk_book.specs.Book.{Book, paragraph_of, text_of}
@@ -32,9 +33,20 @@ module _ {X E : Type 0} where
   IfErr-ok_or None d r is P h = rw is (h refl)
   IfErr-ok_or (Some x) d r is P h = rw is tt
 
+-- ---- what follows from an answer
+
+module _ {X E : Type 0} where
+  pub IfOk-weaker : (r : Result X E) (P Q : X → Type 0) → ((x : X) → P x → Q x) → IfOk r P → IfOk r Q
+  IfOk-weaker (Ok x) P Q f h = f x h
+  IfOk-weaker (Err e) P Q f h = tt
+
+  pub IfErr-weaker : (r : Result X E) (P Q : E → Type 0) → ((e : E) → P e → Q e) → IfErr r P → IfErr r Q
+  IfErr-weaker (Ok x) P Q f h = tt
+  IfErr-weaker (Err e) P Q f h = f e h
+
 -- ---- in a book
 
-module _ (version : ℕ) (tables : KeptTables) (kept : KeptParagraphs) (book : Book) (is : book_kept version tables kept ≡ book) where
+module _ (version : ℕ) (tables : KeptTables) (kept : KeptParagraphs) (marks : List KeptMark) (book : Book) (is : book_kept version tables kept marks ≡ book) where
   pub paragraph_of-kept : (id : ℕ) → paragraph_of book id ≡ option_map (λ p. paragraph_kept (id, p)) (lookup (nat_eq id) kept)
   paragraph_of-kept id = rw (← is) (found-kept id kept)
 
@@ -50,7 +62,7 @@ module _ (version : ℕ) (tables : KeptTables) (kept : KeptParagraphs) (book : B
   pub count-tables : length book.tables ≡ length tables
   count-tables = rw (← is) (length-map tables (λ (entry : List ℕ × BookTable). (entry.0, entry.1.text)))
 
-  module _ (facts : IsKept version tables kept) where
+  module _ (facts : IsKept version tables kept marks) where
     pub sound : IsSound book
     sound = subst IsSound is facts.sound
 

@@ -5,7 +5,7 @@ use Rattle.std.specs.Prelude.{nat_eq, not}
 use Rattle.std.proofs.lemmas.Bool.{cases_Bool}
 use Rattle.std.proofs.lemmas.List.{map-append}
 use Rattle.desk_book.specs.declared.command.Anchor.{Anchor}
-use Rattle.desk_book.specs.declared.command.Anchor.TheVariants.{Front, End, Behind}
+use Rattle.desk_book.specs.declared.command.Anchor.TheVariants.{Front, End, Para}
 use Rattle.desk_book.specs.Book.{Book, Paragraph, paragraph_of}
 use Rattle.desk_book.specs.Kept.{KeptParagraphs, ids, paragraph_kept, with_id, with_id_moved}
 use Rattle.desk_book.proofs.ParagraphLists.{ids_of}
@@ -15,7 +15,7 @@ pub ids_of-kept : (kept : KeptParagraphs) → ids_of (map paragraph_kept kept) �
 ids_of-kept [] = refl
 ids_of-kept ((id, p) ∷ kept) = ap (λ (t : List ℕ). id ∷ t) (ids_of-kept kept)
 
-ids_of-behind : (id : ℕ) (new : Paragraph) (ps : List Paragraph) → ids_of (with_paragraph (Behind id) new ps) ≡ with_id (Behind id) new.id (ids_of ps)
+ids_of-behind : (id : ℕ) (new : Paragraph) (ps : List Paragraph) → ids_of (with_paragraph (Para id) new ps) ≡ with_id (Para id) new.id (ids_of ps)
 ids_of-behind id new [] = refl
 ids_of-behind id new (p ∷ ps) =
     elim (cases_Bool (nat_eq p.id id)) [
@@ -26,7 +26,7 @@ ids_of-behind id new (p ∷ ps) =
 pub ids_of-with_paragraph : (anchor : Anchor) (new : Paragraph) (ps : List Paragraph) → ids_of (with_paragraph anchor new ps) ≡ with_id anchor new.id (ids_of ps)
 ids_of-with_paragraph Front new ps = refl
 ids_of-with_paragraph End new ps = map-append (λ (p : Paragraph). p.id) ps (new ∷ [])
-ids_of-with_paragraph (Behind id) new ps = ids_of-behind id new ps
+ids_of-with_paragraph (Para id) new ps = ids_of-behind id new ps
 
 ids_of-without : (id : ℕ) (ps : List Paragraph) → ids_of (without_paragraph id ps) ≡ filter (λ other. not (nat_eq other id)) (ids_of ps)
 ids_of-without id [] = refl

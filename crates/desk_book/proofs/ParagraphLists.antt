@@ -10,7 +10,7 @@ use Rattle.std.proofs.lemmas.List.Elements.{All-from_recursion, All-contains, Al
 use Rattle.std.proofs.lemmas.List.Sorted.{Contains-permutation, IsPermutation-refl, IsPermutation-sym, IsPermutation-trans, IsPermutation-cons, IsPermutation-map, IsPermutation-middle, IsPermutation-to_front}
 use Rattle.std.proofs.lemmas.Map.Keys.{IsDistinct-head, IsDistinct-tail, IsDistinct-IsPermutation}
 use Rattle.desk_book.specs.declared.command.Anchor.{Anchor}
-use Rattle.desk_book.specs.declared.command.Anchor.TheVariants.{Front, End, Behind}
+use Rattle.desk_book.specs.declared.command.Anchor.TheVariants.{Front, End, Para}
 use Rattle.desk_book.specs.Book.{Book, Paragraph, paragraph_of}
 use Rattle.desk_book.specs.Refusals.{paragraph_before}
 use Rattle.desk_book.specs.Step.{with_paragraph, without_paragraph, with_change, is_behind, with_move}
@@ -107,6 +107,21 @@ pub found-with_change : (id : ℕ) (change : Paragraph → Paragraph) → ((p : 
 found-with_change id change keeps ps other =
     find-map (λ p. nat_eq p.id other) (changed id change) (λ p. ap (λ (n : ℕ). nat_eq n other) (id-changed id change keeps p)) ps
 
+-- the changed one
+pub found-changed : (id : ℕ) (change : Paragraph → Paragraph) → ((p : Paragraph) → (change p).id ≡ p.id) → (ps : List Paragraph) (p : Paragraph) → found id ps ≡ Some p → found id (with_change id change ps) ≡ Some (change p)
+found-changed id change keeps ps p e =
+    found-with_change id change keeps ps id
+    ∙ (ap (option_map (changed id change)) e
+    ∙ ap {B = Option Paragraph} Some (cond-true (nat_eq p.id id) (change p) p (eq-eqb p.id id (id-found id ps p e))))
+
+-- any other
+pub found-unchanged : (id : ℕ) (change : Paragraph → Paragraph) → ((p : Paragraph) → (change p).id ≡ p.id) → (ps : List Paragraph) (other : ℕ) → other ≢ id → found other (with_change id change ps) ≡ found other ps
+found-unchanged id change keeps ps other apart = found-with_change id change keeps ps other ∙ by (found other ps) refl
+  where
+    by : (x : Option Paragraph) → found other ps ≡ x → option_map (changed id change) x ≡ x
+    by None e = refl
+    by (Some p) e = ap {B = Option Paragraph} Some (cond-false (nat_eq p.id id) (change p) p (ne_eqb p.id id (λ same. apart (sym (id-found other ps p e) ∙ same))))
+
 -- what holds of each paragraph, and of the changed one, holds of each after the change
 pub All-with_change : (P : Paragraph → Type 0) (id : ℕ) (change : Paragraph → Paragraph) (ps : List Paragraph) → All P ps → ((p : Paragraph) → Contains ps p → p.id ≡ id → P p → P (change p)) → All P (with_change id change ps)
 All-with_change P id change [] all here = All-nil P
@@ -119,10 +134,10 @@ All-with_change P id change (p ∷ ps) all here =
 -- ---- a paragraph more, and one less
 
 -- nothing is put where no paragraph has the id
-none-behind : (id : ℕ) (new : Paragraph) (ps : List Paragraph) → ((p : Paragraph) → Contains ps p → nat_eq p.id id ≡ false) → with_paragraph (Behind id) new ps ≡ ps
+none-behind : (id : ℕ) (new : Paragraph) (ps : List Paragraph) → ((p : Paragraph) → Contains ps p → nat_eq p.id id ≡ false) → with_paragraph (Para id) new ps ≡ ps
 none-behind id new [] none = refl
 none-behind id new (p ∷ ps) none =
-    ap (λ (front : List Paragraph). front ++ with_paragraph (Behind id) new ps) (cond-false (nat_eq p.id id) (p ∷ new ∷ []) (p ∷ []) (none p (Contains-here p ps)))
+    ap (λ (front : List Paragraph). front ++ with_paragraph (Para id) new ps) (cond-false (nat_eq p.id id) (p ∷ new ∷ []) (p ∷ []) (none p (Contains-here p ps)))
     ∙ ap (λ (rest : List Paragraph). p ∷ rest) (none-behind id new ps (λ q c. none q (Contains-behind p q ps c)))
 
 -- all others stay where no paragraph has the id
@@ -136,25 +151,25 @@ none-without id (p ∷ ps) none =
 apart-behind : (id : ℕ) (p : Paragraph) (ps : List Paragraph) → AreApart (p ∷ ps) → p.id ≡ id → (q : Paragraph) → Contains ps q → nat_eq q.id id ≡ false
 apart-behind id p ps apart same q c = ap (nat_eq q.id) (sym same) ∙ (nat_eq_equiv.symm q.id p.id ∙ AreApart-first p q ps apart c)
 
-put-behind : (id : ℕ) (new : Paragraph) (ps : List Paragraph) → AreApart ps → Contains (ids_of ps) id → IsPermutation (new ∷ ps) (with_paragraph (Behind id) new ps)
+put-behind : (id : ℕ) (new : Paragraph) (ps : List Paragraph) → AreApart ps → Contains (ids_of ps) id → IsPermutation (new ∷ ps) (with_paragraph (Para id) new ps)
 put-behind id new [] apart c = absurd (Contains-none id c)
 put-behind id new (p ∷ ps) apart c =
     elim (cases_Bool (nat_eq p.id id)) [
       | inl e ↦
           let rest = none-behind id new ps (apart-behind id p ps apart (eqb-true p.id id e)) in
-          let at : with_paragraph (Behind id) new (p ∷ ps) ≡ p ∷ new ∷ ps =
-          ap (λ (front : List Paragraph). front ++ with_paragraph (Behind id) new ps) (cond-true (nat_eq p.id id) (p ∷ new ∷ []) (p ∷ []) e)
+          let at : with_paragraph (Para id) new (p ∷ ps) ≡ p ∷ new ∷ ps =
+          ap (λ (front : List Paragraph). front ++ with_paragraph (Para id) new ps) (cond-true (nat_eq p.id id) (p ∷ new ∷ []) (p ∷ []) e)
           ∙ ap (λ (left : List Paragraph). p ∷ new ∷ left) rest in
           subst (IsPermutation (new ∷ p ∷ ps)) (sym at) (IsPermutation-sym (p ∷ new ∷ ps) (new ∷ p ∷ ps) (IsPermutation-middle (p ∷ []) new ps))
       | inr e ↦ elim (Contains-cases p.id id (ids_of ps) c) [
         | inl same ↦ absurd (let is = eq-eqb p.id id same in cc)
         | inr there ↦
-            let at : with_paragraph (Behind id) new (p ∷ ps) ≡ p ∷ with_paragraph (Behind id) new ps =
-            ap (λ (front : List Paragraph). front ++ with_paragraph (Behind id) new ps) (cond-false (nat_eq p.id id) (p ∷ new ∷ []) (p ∷ []) e) in
+            let at : with_paragraph (Para id) new (p ∷ ps) ≡ p ∷ with_paragraph (Para id) new ps =
+            ap (λ (front : List Paragraph). front ++ with_paragraph (Para id) new ps) (cond-false (nat_eq p.id id) (p ∷ new ∷ []) (p ∷ []) e) in
             subst (IsPermutation (new ∷ p ∷ ps)) (sym at)
-            (IsPermutation-trans (new ∷ p ∷ ps) (p ∷ new ∷ ps) (p ∷ with_paragraph (Behind id) new ps)
+            (IsPermutation-trans (new ∷ p ∷ ps) (p ∷ new ∷ ps) (p ∷ with_paragraph (Para id) new ps)
             (IsPermutation-sym (p ∷ new ∷ ps) (new ∷ p ∷ ps) (IsPermutation-middle (p ∷ []) new ps))
-            (IsPermutation-cons p (new ∷ ps) (with_paragraph (Behind id) new ps) (put-behind id new ps (AreApart-rest p ps apart) there)))
+            (IsPermutation-cons p (new ∷ ps) (with_paragraph (Para id) new ps) (put-behind id new ps (AreApart-rest p ps apart) there)))
       ]
     ]
 
@@ -162,7 +177,7 @@ put-behind id new (p ∷ ps) apart c =
 pub IsPermutation-with_paragraph : (anchor : Anchor) (new : Paragraph) (ps : List Paragraph) → AreApart ps → ((id : ℕ) → Contains (paragraph_before anchor) id → Contains (ids_of ps) id) → IsPermutation (new ∷ ps) (with_paragraph anchor new ps)
 IsPermutation-with_paragraph Front new ps apart there = IsPermutation-refl (new ∷ ps)
 IsPermutation-with_paragraph End new ps apart there = IsPermutation-sym (ps ++ new ∷ []) (new ∷ ps) (IsPermutation-to_front ps new)
-IsPermutation-with_paragraph (Behind id) new ps apart there = put-behind id new ps apart (there id (Contains-here id []))
+IsPermutation-with_paragraph (Para id) new ps apart there = put-behind id new ps apart (there id (Contains-here id []))
 
 -- a paragraph that is there is taken out from among the others
 pub IsPermutation-without_paragraph : (id : ℕ) (p : Paragraph) (ps : List Paragraph) → AreApart ps → found id ps ≡ Some p → IsPermutation ps (p ∷ without_paragraph id ps)
@@ -204,7 +219,7 @@ behind_others : (id : ℕ) (anchor : Anchor) (p : Paragraph) (ps : List Paragrap
     → (other : ℕ) → Contains (paragraph_before anchor) other → Contains (ids_of (without_paragraph id ps)) other
 behind_others id Front p ps apart e elsewhere there other c = absurd (Contains-none other c)
 behind_others id End p ps apart e elsewhere there other c = absurd (Contains-none other c)
-behind_others id (Behind place) p ps apart e elsewhere there other c =
+behind_others id (Para place) p ps apart e elsewhere there other c =
     let q = there other c in
     let is : q.0.id ≡ other = id-found other ps q.0 q.1 in
     let among = Contains-permutation ps (p ∷ without_paragraph id ps) q.0 (IsPermutation-without_paragraph id p ps apart e) (Contains-found other ps q.0 q.1) in

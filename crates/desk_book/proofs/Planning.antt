@@ -19,11 +19,11 @@ use Rattle.desk_book.specs.Judging.{Passes}
 use Rattle.desk_book.specs.Kept.{paragraph_kept}
 use Rattle.desk_book.specs.Limits.{most_paragraphs, most_print, most_version}
 use Rattle.desk_book.specs.Planned.{AreNotAllThere, AreThere, IsKeptFor, IsTableFor, IsTurnedDown}
-use Rattle.desk_book.specs.Refusals.{Holds, turn, IsAccepted, IsUndefined, adds_paragraph, live_paragraph, new_print, print_to_translate, text_given, struck_paragraph, paragraphs_named, table_named}
+use Rattle.desk_book.specs.Refusals.{HasLongNote, HasLongPrint, HasLongText, IsTooLong, note_given, text_stored, Holds, turn, IsAccepted, IsUndefined, adds_paragraph, live_paragraph, new_print, print_to_translate, text_given, struck_paragraph, paragraphs_named, table_named}
 use Rattle.desk_book.specs.Step.{with_change}
-use Rattle.desk_book.specs.Stored.{IsClean, IsFirstBarred}
+use Rattle.desk_book.specs.Stored.{IsUnbarred, IsFirstBarred}
 use Rattle.desk_book.proofs.Judging.{IsAccepted-passes, IsRefused-passes, Passes-full, Passes-bad_text, Passes-moved, Passes-no_paragraph, Passes-no_table, Passes-not_struck, Passes-skip, Passes-struck, Passes-too_long, Passes-undefined, skips}
-use Rattle.desk_book.proofs.TextTests.{IsClean-none}
+use Rattle.desk_book.proofs.TextTests.{IsUnbarred-none}
 
 -- ---- paragraphs that are named
 
@@ -52,8 +52,8 @@ defined_not_first meaning print place defined first = let there = defined place 
 
 module _ (book : Book) (command : Command) where
   -- the turns before the first that it doesn't skip
-  pub passes_to : (n : ℕ) → skips command 1 n ≡ true → Passes book None command n
-  passes_to n skip = Passes-skip book None command 1 n skip (Passes-moved book None command (λ version moved. let given = moved.given in cc))
+  pub passes_to : (n : ℕ) → skips command 10 n ≡ true → Passes book None command n
+  passes_to n skip = Passes-skip book None command 10 n skip (Passes-moved book None command (λ version moved. let given = moved.given in cc))
 
   pub to_turn : (n m : ℕ) → skips command n m ≡ true → Passes book None command n → Passes book None command m
   to_turn n m skip = Passes-skip book None command n m skip
@@ -61,60 +61,74 @@ module _ (book : Book) (command : Command) where
   pub turned_down : (n : ℕ) (refusal told : Refusal) → Passes book None command n → turn refusal ≡ n → Holds book None command refusal → told ≡ refusal → IsTurnedDown book command told
   turned_down n refusal told passes at holds same = subst (IsTurnedDown book command) (sym same) (inl (IsRefused-passes book None command n refusal passes at holds))
 
-  pub no_paragraph : (told : Refusal) → Passes book None command 3 → AreNotAllThere book (paragraphs_named command) → told ≡ NoParagraph → IsTurnedDown book command told
-  no_paragraph told passes lacks = turned_down 3 NoParagraph told passes refl (record { id = lacks.0; named = lacks.1; missing = lacks.2 })
+  pub no_paragraph : (told : Refusal) → Passes book None command 30 → AreNotAllThere book (paragraphs_named command) → told ≡ NoParagraph → IsTurnedDown book command told
+  no_paragraph told passes lacks = turned_down 30 NoParagraph told passes refl (record { id = lacks.0; named = lacks.1; missing = lacks.2 })
 
-  pub past_paragraphs : Passes book None command 3 → AreThere book (paragraphs_named command) → Passes book None command 4
+  pub past_paragraphs : Passes book None command 30 → AreThere book (paragraphs_named command) → Passes book None command 40
   past_paragraphs passes there = Passes-no_paragraph book None command passes (λ lacks. let found = there lacks.id lacks.named in let missing = lacks.missing in cc (ap is_some missing))
 
-  pub no_table : (told : Refusal) (name : List ℕ) → Passes book None command 4 → table_named command ≡ Some name → text_of book name ≡ None → told ≡ NoTable → IsTurnedDown book command told
-  no_table told name passes named missing = turned_down 4 NoTable told passes refl (record { name = name; named = named; missing = missing })
+  pub no_table : (told : Refusal) (name : List ℕ) → Passes book None command 40 → table_named command ≡ Some name → text_of book name ≡ None → told ≡ NoTable → IsTurnedDown book command told
+  no_table told name passes named missing = turned_down 40 NoTable told passes refl (record { name = name; named = named; missing = missing })
 
-  pub past_table : (name text : List ℕ) → Passes book None command 4 → table_named command ≡ Some name → text_of book name ≡ Some text → Passes book None command 5
+  pub past_table : (name text : List ℕ) → Passes book None command 40 → table_named command ≡ Some name → text_of book name ≡ Some text → Passes book None command 50
   past_table name text passes named found =
       Passes-no_table book None command passes
       (λ lacks. let given = lacks.named in let missing = lacks.missing in let same : name ≡ lacks.name = cc in cc (ap (text_of book) same))
 
-  pub bad_text : (told : Refusal) (text : List ℕ) (place : ℕ) → Passes book None command 2 → text_given command ≡ Some text → told ≡ BadText place → IsFirstBarred text place → IsTurnedDown book command told
-  bad_text told text place passes given is first = turned_down 2 (BadText place) told passes refl (record { text = text; given = given; first = first }) is
+  pub bad_text : (told : Refusal) (text : List ℕ) (place : ℕ) → Passes book None command 20 → text_given command ≡ Some text → told ≡ BadText place → IsFirstBarred text place → IsTurnedDown book command told
+  bad_text told text place passes given is first = turned_down 20 (BadText place) told passes refl (record { text = text; given = given; first = first }) is
 
-  pub past_text : (text : List ℕ) → Passes book None command 2 → text_given command ≡ Some text → IsClean text → Passes book None command 3
-  past_text text passes given clean =
+  pub past_text : (text : List ℕ) → Passes book None command 20 → text_given command ≡ Some text → IsUnbarred text → Passes book None command 30
+  past_text text passes given unbarred =
       Passes-bad_text book None command passes
-      (λ place b. IsClean-none text place clean (subst (λ (t : List ℕ). IsFirstBarred t place) (same_some b.text text (sym b.given ∙ given)) b.first))
+      (λ place b. IsUnbarred-none text place unbarred (subst (λ (t : List ℕ). IsFirstBarred t place) (same_some b.text text (sym b.given ∙ given)) b.first))
 
-  pub too_long : (told : Refusal) (print : List ℕ) → Passes book None command 11 → new_print book command ≡ Some print → most_print < length print → told ≡ TooLong → IsTurnedDown book command told
-  too_long told print passes made long = turned_down 11 TooLong told passes refl (record { print = print; made = made; long = long })
+  pub too_long : (told : Refusal) (print : List ℕ) → Passes book None command 110 → new_print book command ≡ Some print → most_print < length print → told ≡ TooLong → IsTurnedDown book command told
+  too_long told print passes made long = turned_down 110 TooLong told passes refl (inr (inl (record { print = print; made = made; long = long })))
 
-  pub past_length : (print : List ℕ) → Passes book None command 11 → new_print book command ≡ Some print → length print ≤ most_print → Passes book None command 12
-  past_length print passes made short =
-      Passes-too_long book None command passes
-      (λ l. let same = ap length (same_some l.print print (sym l.made ∙ made)) in let long = l.long in omega arith)
+  -- no text, print or note is over its limit
+  pub past_lengths : Passes book None command 110 → ¬ HasLongText command → ¬ HasLongPrint book command → ¬ HasLongNote command → Passes book None command 120
+  past_lengths passes text print note = Passes-too_long book None command passes none
+    where
+      none : ¬ IsTooLong book command
+      none (inl h) = text h
+      none (inr (inl h)) = print h
+      none (inr (inr h)) = note h
 
-  pub full_paragraphs : (told : Refusal) → Passes book None command 13 → adds_paragraph command ≡ true → most_paragraphs ≤ length book.paragraphs → told ≡ Full Paragraphs → IsTurnedDown book command told
-  full_paragraphs told passes adds full = turned_down 13 (Full Paragraphs) told passes refl (record { adds = adds; full = full })
+  pub short_text : (text : List ℕ) → text_stored command ≡ Some text → length text ≤ most_print → ¬ HasLongText command
+  short_text text given short l = let same = ap length (same_some l.text text (sym l.given ∙ given)) in let long = l.long in omega arith
 
-  pub past_room : Passes book None command 13 → length book.paragraphs < most_paragraphs → Passes book None command 14
+  pub short_print : (print : List ℕ) → new_print book command ≡ Some print → length print ≤ most_print → ¬ HasLongPrint book command
+  short_print print made short l = let same = ap length (same_some l.print print (sym l.made ∙ made)) in let long = l.long in omega arith
+
+  pub past_length : (print : List ℕ) → Passes book None command 110 → new_print book command ≡ Some print → text_stored command ≡ Some print → note_given command ≡ None → length print ≤ most_print
+      → Passes book None command 120
+  past_length print passes made given none short = past_lengths passes (short_text print given short) (short_print print made short) (λ l. let note = l.given in cc)
+
+  pub full_paragraphs : (told : Refusal) → Passes book None command 130 → adds_paragraph command ≡ true → most_paragraphs ≤ length book.paragraphs → told ≡ Full Paragraphs → IsTurnedDown book command told
+  full_paragraphs told passes adds full = turned_down 130 (Full Paragraphs) told passes refl (record { adds = adds; full = full })
+
+  pub past_room : Passes book None command 130 → length book.paragraphs < most_paragraphs → Passes book None command 140
   past_room passes left = Passes-full book None command Paragraphs passes (λ full. let most = full.full in omega arith)
 
-  pub full_version : (n : ℕ) (told : Refusal) → Passes book None command n → skips command n 16 ≡ true → most_version ≤ book.version → told ≡ Full Version → IsTurnedDown book command told
-  full_version n told passes skip full = turned_down 16 (Full Version) told (Passes-skip book None command n 16 skip passes) refl full
+  pub full_version : (n : ℕ) (told : Refusal) → Passes book None command n → skips command n 160 ≡ true → most_version ≤ book.version → told ≡ Full Version → IsTurnedDown book command told
+  full_version n told passes skip full = turned_down 160 (Full Version) told (Passes-skip book None command n 160 skip passes) refl full
 
-  pub past_version : (n : ℕ) → Passes book None command n → skips command n 16 ≡ true → book.version < most_version → Passes book None command 17
-  past_version n passes skip left = Passes-full book None command Version (Passes-skip book None command n 16 skip passes) (λ full. omega arith)
+  pub past_version : (n : ℕ) → Passes book None command n → skips command n 160 ≡ true → book.version < most_version → Passes book None command 170
+  past_version n passes skip left = Passes-full book None command Version (Passes-skip book None command n 160 skip passes) (λ full. omega arith)
 
-  pub accepted_after : (n : ℕ) → Passes book None command n → skips command n 20 ≡ true → IsAccepted book None command
-  accepted_after n passes skip = IsAccepted-passes book None command (Passes-skip book None command n 20 skip passes)
+  pub accepted_after : (n : ℕ) → Passes book None command n → skips command n 200 ≡ true → IsAccepted book None command
+  accepted_after n passes skip = IsAccepted-passes book None command (Passes-skip book None command n 200 skip passes)
 
   -- ---- a print by a table
 
   module _ (name print : List ℕ) (table : BookTable) (given : print_to_translate book command ≡ Some (print, name)) (found : IsTableFor book name table) where
-    pub undefined : (told : Refusal) (place : ℕ) → Passes book None command 18 → told ≡ Undefined place → IsFirstUndefined table.rules print place → IsTurnedDown book command told
+    pub undefined : (told : Refusal) (place : ℕ) → Passes book None command 180 → told ≡ Undefined place → IsFirstUndefined table.rules print place → IsTurnedDown book command told
     undefined told place passes is first =
-        turned_down 18 (Undefined place) told passes refl
+        turned_down 180 (Undefined place) told passes refl
         (record { print = print; name = name; print_is = given; text = table.text; meaning = table.rules; found = found.found; means = found.means; first = first }) is
 
-    pub past_print : Passes book None command 18 → AreDefined table.rules print → Passes book None command 19
+    pub past_print : Passes book None command 180 → AreDefined table.rules print → Passes book None command 190
     past_print passes defined = Passes-undefined book None command passes none
       where
         none : (place : ℕ) → ¬ IsUndefined book command place
@@ -128,21 +142,21 @@ module _ (book : Book) (command : Command) where
 
   -- ---- a paragraph that is named first
 
-  pub unnamed : (told : Refusal) (id : ℕ) (ids : List ℕ) → skips command 1 3 ≡ true → paragraphs_named command ≡ id ∷ ids → (told ≡ NoParagraph) × (paragraph_of book id ≡ None) → IsTurnedDown book command told
-  unnamed told id ids skip named (is, missing) = no_paragraph told (passes_to 3 skip) (subst (AreNotAllThere book) (sym named) (AreNotAllThere-first book id ids missing)) is
+  pub unnamed : (told : Refusal) (id : ℕ) (ids : List ℕ) → skips command 10 30 ≡ true → paragraphs_named command ≡ id ∷ ids → (told ≡ NoParagraph) × (paragraph_of book id ≡ None) → IsTurnedDown book command told
+  unnamed told id ids skip named (is, missing) = no_paragraph told (passes_to 30 skip) (subst (AreNotAllThere book) (sym named) (AreNotAllThere-first book id ids missing)) is
 
   module _ (id : ℕ) (kept : KeptParagraph) (k : IsKeptFor book id kept) where
-    pub past_named : skips command 1 3 ≡ true → paragraphs_named command ≡ id ∷ [] → Passes book None command 4
-    past_named skip named = past_paragraphs (passes_to 3 skip) (subst (AreThere book) (sym named) (AreThere-cons book id kept [] k (AreThere-none book)))
+    pub past_named : skips command 10 30 ≡ true → paragraphs_named command ≡ id ∷ [] → Passes book None command 40
+    past_named skip named = past_paragraphs (passes_to 30 skip) (subst (AreThere book) (sym named) (AreThere-cons book id kept [] k (AreThere-none book)))
 
-    pub past_struck : Passes book None command 6 → live_paragraph command ≡ Some id → kept.struck ≡ false → Passes book None command 7
+    pub past_struck : Passes book None command 60 → live_paragraph command ≡ Some id → kept.struck ≡ false → Passes book None command 70
     past_struck passes named live =
         Passes-struck book None command passes
         (λ s. let given = s.named in let found = s.found in let same : id ≡ s.id = cc in
         let is : paragraph_kept (id, kept) ≡ s.paragraph = cc (ap (paragraph_of book) same, k.found) in
         both_ways kept.struck live (ap (λ (p : Paragraph). p.struck) is ∙ s.struck))
 
-    pub past_live : Passes book None command 7 → struck_paragraph command ≡ Some id → kept.struck ≡ true → Passes book None command 8
+    pub past_live : Passes book None command 70 → struck_paragraph command ≡ Some id → kept.struck ≡ true → Passes book None command 80
     past_live passes named struck =
         Passes-not_struck book None command passes
         (λ s. let given = s.named in let found = s.found in let same : id ≡ s.id = cc in

@@ -1,6 +1,6 @@
 -- What an effect makes of a book as it is kept.
-use Rattle.std.proofs.Common.{◌≡◌, ℕ, ◌+◌, ◌<◌, Bool, true, false, cond, List, [], ◌∷◌, ◌++◌, length, map, Option, Some, None, Ordering, Contains, refl, sym, ap, subst, ◌∙◌, arith}
-use Rattle.std.specs.Prelude.{nat_eq, ◌≢◌, ◌==◌, option_map, option_to_list, IsSome, MatchOption}
+use Rattle.std.proofs.Common.{◌≡◌, ℕ, ◌+◌, ◌<◌, Bool, true, false, cond, List, [], ◌∷◌, ◌++◌, length, map, take, Option, Some, None, Ordering, Contains, refl, sym, ap, subst, ◌∙◌, arith, inl, inr}
+use Rattle.std.specs.Prelude.{slice_get, nat_eq, ◌≢◌, ◌==◌, option_map, option_to_list, IsSome, MatchOption}
 use Rattle.std.specs.Option.{option_map_or}
 use Rattle.std.specs.Cmp.{unsigned_ties, unsigned_Decides}
 use Rattle.std.specs.Cmp.Lexicographic.{pointwise, pointwise_decides, slice_cmp, lists_ties}
@@ -11,9 +11,10 @@ use Rattle.std.specs.List.Sorted.{IsPermutation}
 use Rattle.std.specs.Map.{lookup}
 use Rattle.std.specs.Ordering.{nat_cmp}
 use Rattle.std.specs.declared.cmp.Ordering.TheVariants.{Less, Equal, Greater}
-use Rattle.std.proofs.lemmas.Bool.{cond-true, cond-false, cond_both, false_from_ne_true, eqb-true}
+use Rattle.std.proofs.Math.Seq.{take-append_seam}
+use Rattle.std.proofs.lemmas.Bool.{cases_lt, cond-true, cond-false, cond_both, false_from_ne_true, eqb-true}
 use Rattle.std.proofs.lemmas.Cmp.{nat_list_cmp_total}
-use Rattle.std.proofs.lemmas.List.{length-append, length-map, map-append}
+use Rattle.std.proofs.lemmas.List.{length-append, length-map, map-append, take-append-le}
 use Rattle.std.proofs.lemmas.List.Elements.{All-nil, All-cons, All-append, All-push, All-weaker, All-contains, All-map, All-contains_itself}
 use Rattle.std.proofs.lemmas.List.Sorted.{Contains-permutation, IsPermutation-sym, IsPermutation-trans, IsPermutation-to_front, length_permutation}
 use Rattle.louis_table.specs.Meaning.{Meaning}
@@ -23,20 +24,32 @@ use Rattle.louis_translate.specs.Tiling.{Tiles}
 use Rattle.louis_translate.specs.Braille.{braille}
 use Rattle.desk_book.specs.declared.change.Change.{Change}
 use Rattle.desk_book.specs.declared.change.Effect.{Effect}
+use Rattle.desk_book.specs.declared.change.PrintChange.{PrintChange}
+use Rattle.desk_book.specs.declared.history.KeptEntry.{KeptEntry}
 use Rattle.desk_book.specs.declared.change.Effect.TheVariants.{AddTable}
 use Rattle.desk_book.specs.declared.command.Anchor.{Anchor}
 use Rattle.desk_book.specs.declared.command.Command.{Command}
 use Rattle.desk_book.specs.declared.command.Command.TheVariants.{Table, TypeIn, Retable, Move}
+use Rattle.desk_book.specs.declared.marks.KeptMark.{KeptMark}
 use Rattle.desk_book.specs.declared.paragraphs.Paragraph.{Paragraph as KeptParagraph}
 use Rattle.desk_book.specs.declared.style.Style.{Style}
 use Rattle.desk_book.specs.declared.tables.BookTable.{BookTable}
-use Rattle.desk_book.specs.Book.{Book, Paragraph, text_of}
-use Rattle.desk_book.specs.Changes.{AreCellsOf, AreRenewed, AreCellsByTable, Carries, IsKeptTyped, Does, Puts}
-use Rattle.desk_book.specs.Kept.{KeptTables, KeptParagraphs, with_table, arranged, in_order, new_cells, renewed, with_kept_change, paragraph_kept, book_kept, IsKeptParagraph, IsKept}
-use Rattle.desk_book.specs.Print.{print_of}
+use Rattle.desk_book.specs.Book.{Book, Entry, Mark, Paragraph, text_of}
+use Rattle.desk_book.specs.Changes.{ChangesPrint, AreCellsOf, AreRenewed, AreCellsByTable, Carries, IsKeptTyped, Does, Puts}
+use Rattle.desk_book.specs.Histories.{HaveTaken, TookFrom, entries_kept, entry_kept}
+use Rattle.desk_book.specs.KeptMarks.{AreWithin, with_kept_moved}
+use Rattle.desk_book.specs.KeptPrints.{HasRoomFor, with_print_changed}
+use Rattle.desk_book.specs.Limits.{most_entries}
+use Rattle.desk_book.specs.Marks.{mark_moved_by}
+use Rattle.desk_book.specs.Room.{Suffices}
+use Rattle.desk_book.proofs.Arranging.{slice_get-append_left, slice_get-push}
+use Rattle.desk_book.proofs.HistoryLists.{slice_get-below}
+use Rattle.desk_book.proofs.MarkSettled.{AreWithin-sound, marks-moved}
+use Rattle.desk_book.specs.Kept.{KeptTables, KeptParagraphs, with_table, arranged, in_order, new_cells, renewed, with_kept_change, marks_kept, paragraph_kept, book_kept, IsKeptParagraph, IsKept}
+use Rattle.desk_book.specs.Print.{corrected, print_of, with_entry}
 use Rattle.desk_book.specs.Refusals.{IsAccepted, paragraph_before}
 use Rattle.desk_book.specs.Sound.{IsSound}
-use Rattle.desk_book.specs.Step.{Makes, typed, next_id, next_with_paragraphs, with_paragraph, with_move, with_change}
+use Rattle.desk_book.specs.Step.{Makes, typed, next_id, next_with_marks, next_with_paragraphs, with_marks_moved, with_paragraph, with_move, with_change}
 use Rattle.desk_book.proofs.KeptBooks.{lookup-map, found-kept, All-found, All-from_map, means-kept}
 use Rattle.desk_book.proofs.Accepted.{named_paragraph}
 use Rattle.desk_book.proofs.Members.{Contains-here, Contains-behind, Contains-map}
@@ -100,6 +113,7 @@ IsKeptParagraph-other name table tables entry apart kept = record {
   choices = kept.choices;
   tiles = kept.tiles;
   cells = kept.cells;
+  taken = kept.taken;
 }
 
 -- ---- paragraphs in another order
@@ -141,50 +155,76 @@ pub in_order-permutation : (qs ps : List Paragraph) → AreApart qs → IsPermut
 in_order-permutation qs ps apart moved =
     in_order-found qs ps (λ q c. found-own ps q (AreApart-permutation qs ps moved apart) (Contains-permutation qs ps q moved c))
 
+-- ---- histories
+
+-- what corrections took away, one entry more
+pub HaveTaken-push : (original : List ℕ) (entries : List KeptEntry) (entry : KeptEntry) → HaveTaken original entries → TookFrom (corrected original (entries_kept entries)) entry → HaveTaken original (entries ++ entry ∷ [])
+HaveTaken-push original entries entry taken last i e at =
+    let within = slice_get-below (entries ++ entry ∷ []) i e at in
+    let long = length-append entries (entry ∷ []) in
+    elim (cases_lt i (length entries)) [
+      | inl before ↦
+          subst (λ (t : List KeptEntry). TookFrom (corrected original (entries_kept t)) e) (sym (take-append-le i entries (entry ∷ []) (omega arith)))
+          (taken i e (sym (slice_get-append_left entries (entry ∷ []) i before) ∙ at))
+      | inr past ↦
+          let here : i ≡ length entries = omega arith in
+          let both : Some entry ≡ Some e = sym (slice_get-push entries entry) ∙ (ap (slice_get (entries ++ entry ∷ [])) (sym here) ∙ at) in
+          let same : entry ≡ e = cc in
+          let whole : take i (entries ++ entry ∷ []) ≡ entries = ap (λ (k : ℕ). take k (entries ++ entry ∷ [])) here ∙ take-append_seam entries (entry ∷ []) in
+          subst (λ (t : List KeptEntry). TookFrom (corrected original (entries_kept t)) e) (sym whole) (subst (TookFrom (corrected original (entries_kept entries))) same last)
+    ]
+
 -- ---- books
 
 -- what a change carries is put by its effect
 pub Puts-carried : (book : Book) (command : Command) (next : Book) (change : Change) (effect : Effect) → change.effect ≡ effect → Carries book command next change → Puts book change.version effect next
-Puts-carried book command next change effect is carries = (command, carries.accepted, carries.makes, carries.version, subst (Does book command next) is carries.does)
+Puts-carried book command next change effect is carries = record {
+  command = command;
+  accepted = carries.accepted;
+  written = carries.written;
+  makes = carries.makes;
+  at = carries.version;
+  does = subst (Does book command next) is carries.does;
+}
 
-abbrev plain : ℕ → List (List ℕ × List ℕ) → List Paragraph → Book
-plain version tables paragraphs = record { version = version; tables = tables; paragraphs = paragraphs; marks = [] }
+abbrev plain : ℕ → List (List ℕ × List ℕ) → List Paragraph → List Mark → Book
+plain version tables paragraphs marks = record { version = version; tables = tables; paragraphs = paragraphs; marks = marks }
 
-same_book : (v w : ℕ) (ts us : List (List ℕ × List ℕ)) (ps qs : List Paragraph) → v ≡ w → ts ≡ us → ps ≡ qs → plain v ts ps ≡ plain w us qs
-same_book v w ts us ps qs e f g = λ i. plain (e i) (f i) (g i)
+same_book : (v w : ℕ) (ts us : List (List ℕ × List ℕ)) (ps qs : List Paragraph) (ms ns : List Mark) → v ≡ w → ts ≡ us → ps ≡ qs → ms ≡ ns → plain v ts ps ms ≡ plain w us qs ns
+same_book v w ts us ps qs ms ns e f g h = λ i. plain (e i) (f i) (g i) (h i)
 
-module _ (version : ℕ) (tables : KeptTables) (paragraphs : KeptParagraphs) where
+module _ (version : ℕ) (tables : KeptTables) (paragraphs : KeptParagraphs) (marks : List KeptMark) where
   abbrev book : Book
-  book = book_kept version tables paragraphs
+  book = book_kept version tables paragraphs marks
 
   abbrev before : List Paragraph
   before = map paragraph_kept paragraphs
 
   -- what is put makes a sound book of a sound one
-  pub sound-next : IsKept version tables paragraphs → (next : Book) (w : ℕ) (effect : Effect) → Puts book w effect next → IsSound next
-  sound-next is next w effect puts = IsSound-makes book next None puts.0 is.sound puts.1 puts.2
+  pub sound-next : IsKept version tables paragraphs marks → (next : Book) (w : ℕ) (effect : Effect) → Puts book w effect next → IsSound next
+  sound-next is next w effect puts = IsSound-makes book next None puts.command is.sound puts.accepted puts.written puts.makes
 
   -- a book with other tables
   next-with_table : (next : Book) (w : ℕ) (name : List ℕ) (table : BookTable) (kept : KeptParagraphs)
       → w ≡ next.version → Makes book (Table name table.text) next → map paragraph_kept kept ≡ before
-      → book_kept w (with_table name table tables) kept ≡ next
+      → book_kept w (with_table name table tables) kept marks ≡ next
   next-with_table next w name table kept at makes same =
-      same_book w (version + 1) (texts (with_table name table tables)) (put (slice_cmp nat_cmp) name table.text (texts tables)) (map paragraph_kept kept) before
-      (at ∙ ap (λ (b : Book). b.version) makes) (texts-with_table name table tables) same
+      same_book w (version + 1) (texts (with_table name table tables)) (put (slice_cmp nat_cmp) name table.text (texts tables)) (map paragraph_kept kept) before (marks_kept marks) (marks_kept marks)
+      (at ∙ ap (λ (b : Book). b.version) makes) (texts-with_table name table tables) same refl
       ∙ sym makes
 
   -- a book with other paragraphs
   next-with_paragraphs : (next : Book) (w : ℕ) (ps : List Paragraph) (kept : KeptParagraphs)
       → w ≡ next.version → next ≡ next_with_paragraphs book ps → map paragraph_kept kept ≡ ps
-      → book_kept w tables kept ≡ next
+      → book_kept w tables kept marks ≡ next
   next-with_paragraphs next w ps kept at makes same =
-      same_book w (version + 1) (texts tables) (texts tables) (map paragraph_kept kept) ps (at ∙ ap (λ (b : Book). b.version) makes) refl same ∙ sym makes
+      same_book w (version + 1) (texts tables) (texts tables) (map paragraph_kept kept) ps (marks_kept marks) (marks_kept marks) (at ∙ ap (λ (b : Book). b.version) makes) refl same refl ∙ sym makes
 
   -- ---- a new table
 
   module _ (next : Book) (w : ℕ) (name : List ℕ) (table : BookTable) (room : ℕ) (puts : Puts book w (AddTable name table room) next) where
     pub room-added : length tables < room
-    room-added = let within : length (texts tables) < room = puts.4.2 in let many : length (texts tables) ≡ length tables = length-map tables (λ entry. (entry.0, entry.1.text)) in omega arith
+    room-added = let within : length (texts tables) < room = puts.does.2 in let many : length (texts tables) ≡ length tables = length-map tables (λ entry. (entry.0, entry.1.text)) in omega arith
 
     pub new-added : lookup (pointwise nat_eq name) tables ≡ None
     new-added = by (lookup (pointwise nat_eq name) tables) refl
@@ -192,16 +232,16 @@ module _ (version : ℕ) (tables : KeptTables) (paragraphs : KeptParagraphs) whe
         by : (o : Option BookTable) → lookup (pointwise nat_eq name) tables ≡ o → o ≡ None
         by None e = refl
         by (Some old) e =
-            let both : Some old.text ≡ None = sym (lookup-map (pointwise nat_eq name) (λ (t : BookTable). t.text) tables ∙ ap (option_map (λ (t : BookTable). t.text)) e) ∙ puts.4.1 in
+            let both : Some old.text ≡ None = sym (lookup-map (pointwise nat_eq name) (λ (t : BookTable). t.text) tables ∙ ap (option_map (λ (t : BookTable). t.text)) e) ∙ puts.does.1 in
             absurd (cc)
 
-    pub next-added : book_kept w (with_table name table tables) paragraphs ≡ next
-    next-added = next-with_table next w name table paragraphs puts.3 (subst (λ (command : Command). Makes book command next) puts.4.0 puts.2) refl
+    pub next-added : book_kept w (with_table name table tables) paragraphs marks ≡ next
+    next-added = next-with_table next w name table paragraphs puts.at (subst (λ (command : Command). Makes book command next) puts.does.0 puts.makes) refl
 
-    pub IsKept-added : IsKept version tables paragraphs → IsKept w (with_table name table tables) paragraphs
+    pub IsKept-added : IsKept version tables paragraphs marks → IsKept w (with_table name table tables) paragraphs marks
     IsKept-added is = record {
       sound = subst IsSound (sym next-added) (sound-next is next w (AddTable name table room) puts);
-      means = means-with_table name table tables puts.4.3 is.means;
+      means = means-with_table name table tables puts.does.3 is.means;
       translated = All-weaker (IsKeptParagraph tables) (IsKeptParagraph (with_table name table tables))
           (λ entry kept. IsKeptParagraph-other name table tables entry
           (λ same. let both : Some kept.table ≡ None = sym kept.found ∙ (ap (λ (n : List ℕ). lookup (pointwise nat_eq n) tables) same ∙ new-added) in absurd (cc)) kept)
@@ -223,7 +263,7 @@ module _ (version : ℕ) (tables : KeptTables) (paragraphs : KeptParagraphs) whe
     all-renewed [] = refl
     all-renewed (entry ∷ kept) = λ i. kept-renewed entry i ∷ all-renewed kept i
 
-    pub next-replaced : book_kept w (with_table name table tables) (map (renewed cells) paragraphs) ≡ next
+    pub next-replaced : book_kept w (with_table name table tables) (map (renewed cells) paragraphs) marks ≡ next
     next-replaced = next-with_table next w name table (map (renewed cells) paragraphs) at makes (all-renewed paragraphs)
 
     IsKeptParagraph-renewed : (entry : ℕ × KeptParagraph) → IsKeptParagraph tables entry
@@ -241,9 +281,10 @@ module _ (version : ℕ) (tables : KeptTables) (paragraphs : KeptParagraphs) whe
           choices = made.1.0;
           tiles = subst (λ (p : List ℕ). Tiles table.rules p made.1.0) (sym k.print) made.1.1;
           cells = made.1.2 ∙ ap (λ (p : List ℕ). braille table.rules p made.1.0) (sym k.print);
+          taken = k.taken;
         }
 
-    pub IsKept-replaced : IsKept version tables paragraphs → IsSound next → IsKept w (with_table name table tables) (map (renewed cells) paragraphs)
+    pub IsKept-replaced : IsKept version tables paragraphs marks → IsSound next → IsKept w (with_table name table tables) (map (renewed cells) paragraphs) marks
     IsKept-replaced is sound =
         let Renews : Paragraph → Type 0 = λ p. MatchOption (new_cells cells p.id) (p.table ≢ name) (λ new. (p.table ≡ name) × AreCellsOf table.rules (print_of p) new) in
         let each = All-from_map Renews paragraph_kept paragraphs renews in
@@ -276,12 +317,12 @@ module _ (version : ℕ) (tables : KeptTables) (paragraphs : KeptParagraphs) whe
       by (Some table) h = h
 
   -- a paragraph with the cells of its print by the text of its table is kept
-  IsKeptParagraph-cells : IsKept version tables paragraphs → (entry : ℕ × KeptParagraph) (source : List ℕ) (meaning : Meaning)
+  IsKeptParagraph-cells : IsKept version tables paragraphs marks → (entry : ℕ × KeptParagraph) (source : List ℕ) (meaning : Meaning)
       → entry.1.print ≡ print_of (paragraph_kept entry) → text_of book entry.1.table ≡ Some source → Means source meaning → AreCellsOf meaning entry.1.print entry.1.cells
-      → IsKeptParagraph tables entry
-  IsKeptParagraph-cells is entry source meaning print there means made =
+      → HaveTaken entry.1.original entry.1.history → IsKeptParagraph tables entry
+  IsKeptParagraph-cells is entry source meaning print there means made taken =
       let table = table_of-text entry.1.table source there in
-      let known : Means source table.0.rules = subst (λ (t : List ℕ). Means t table.0.rules) table.2 (means-kept version tables paragraphs is entry.1.table table.0 table.1) in
+      let known : Means source table.0.rules = subst (λ (t : List ℕ). Means t table.0.rules) table.2 (means-kept version tables paragraphs marks is entry.1.table table.0 table.1) in
       let one : meaning ≡ table.0.rules = one_meaning source meaning table.0.rules means known in
       record {
         print = print;
@@ -290,6 +331,7 @@ module _ (version : ℕ) (tables : KeptTables) (paragraphs : KeptParagraphs) whe
         choices = made.0;
         tiles = subst (λ (m : Meaning). Tiles m entry.1.print made.0) one made.1;
         cells = made.2 ∙ ap (λ (m : Meaning). braille m entry.1.print made.0) one;
+        taken = taken;
       }
 
   -- ---- a new paragraph
@@ -297,7 +339,7 @@ module _ (version : ℕ) (tables : KeptTables) (paragraphs : KeptParagraphs) whe
   module _ (next : Book) (w : ℕ) (anchor : Anchor) (text order : List ℕ) (kept : KeptParagraph) (at : w ≡ next.version)
       (accepted : IsAccepted book None (TypeIn anchor kept.table text)) (makes : Makes book (TypeIn anchor kept.table text) next)
       (given : IsKeptTyped book kept.table text kept) (order_is : order ≡ ids_of next.paragraphs)
-      (is : IsKept version tables paragraphs) (sound : IsSound next) where
+      (is : IsKept version tables paragraphs marks) (sound : IsSound next) where
     abbrev new : Paragraph
     new = typed (next_id book) kept.table text
 
@@ -330,7 +372,7 @@ module _ (version : ℕ) (tables : KeptTables) (paragraphs : KeptParagraphs) whe
         subst (λ (n : ℕ). IsPermutation (range_with_len 1 n) order) count
         (subst (IsPermutation (range_with_len 1 (length next.paragraphs))) (sym order_is) sound.ids)
 
-    pub next-typed : book_kept w tables (arranged order all) ≡ next
+    pub next-typed : book_kept w tables (arranged order all) marks ≡ next
     next-typed =
         next-with_paragraphs next w (with_paragraph anchor new before) (arranged order all) at makes
         (kept-arranged order all
@@ -339,16 +381,16 @@ module _ (version : ℕ) (tables : KeptTables) (paragraphs : KeptParagraphs) whe
         ∙ (in_order-permutation next.paragraphs (before ++ new ∷ []) (paragraphs-apart next sound) moved-typed
         ∙ ap (λ (b : Book). b.paragraphs) makes))))
 
-    pub IsKept-typed : IsKept w tables (arranged order all)
+    pub IsKept-typed : IsKept w tables (arranged order all) marks
     IsKept-typed =
         let entry : ℕ × KeptParagraph = (length paragraphs + 1, kept) in
-        let print : kept.print ≡ print_of (paragraph_kept entry) = given.print ∙ sym (ap (λ (p : Paragraph). p.original) given.kept_is) in
+        let print : kept.print ≡ print_of (paragraph_kept entry) = given.print ∙ sym (ap (λ (p : Paragraph). print_of p) given.kept_is) in
         record {
           sound = subst IsSound (sym next-typed) sound;
           means = is.means;
           translated = All-arranged (IsKeptParagraph tables) order all
               (All-push (IsKeptParagraph tables) paragraphs entry is.translated
-              (IsKeptParagraph-cells is entry given.source given.meaning print given.found given.means given.cells));
+              (IsKeptParagraph-cells is entry given.source given.meaning print given.found given.means given.cells given.taken));
         }
 
   -- ---- a change of one paragraph
@@ -378,20 +420,20 @@ module _ (version : ℕ) (tables : KeptTables) (paragraphs : KeptParagraphs) whe
 
   module _ (next : Book) (w id : ℕ) (style : Style) (begins struck : Bool) (at : w ≡ next.version)
       (makes : next ≡ next_with_paragraphs book (with_change id (λ p. record p { style = style; begins_volume = begins; struck = struck }) book.paragraphs)) where
-    pub next-flagged : book_kept w tables (with_kept_change id (flagged style begins struck) paragraphs) ≡ next
+    pub next-flagged : book_kept w tables (with_kept_change id (flagged style begins struck) paragraphs) marks ≡ next
     next-flagged =
         let to : Paragraph → Paragraph = λ p. record p { style = style; begins_volume = begins; struck = struck } in
         next-with_paragraphs next w (with_change id to before) (with_kept_change id (flagged style begins struck) paragraphs) at makes
         (kept-changed id (flagged style begins struck) to (λ n k. refl) paragraphs)
 
-    pub IsKept-flagged : IsKept version tables paragraphs → IsSound next → IsKept w tables (with_kept_change id (flagged style begins struck) paragraphs)
+    pub IsKept-flagged : IsKept version tables paragraphs marks → IsSound next → IsKept w tables (with_kept_change id (flagged style begins struck) paragraphs) marks
     IsKept-flagged is sound = record {
       sound = subst IsSound (sym next-flagged) sound;
       means = is.means;
       translated =
           let to : Paragraph → Paragraph = λ p. record p { style = style; begins_volume = begins; struck = struck } in
           All-changed id (flagged style begins struck) to (λ n k. refl) (IsKeptParagraph tables) paragraphs
-          (λ n k c e kept. record { print = kept.print; table = kept.table; found = kept.found; choices = kept.choices; tiles = kept.tiles; cells = kept.cells }) is.translated;
+          (λ n k c e kept. record { print = kept.print; table = kept.table; found = kept.found; choices = kept.choices; tiles = kept.tiles; cells = kept.cells; taken = kept.taken }) is.translated;
     }
 
   -- ---- another table of a paragraph
@@ -401,13 +443,13 @@ module _ (version : ℕ) (tables : KeptTables) (paragraphs : KeptParagraphs) whe
     abbrev retabled : KeptParagraph → KeptParagraph
     retabled k = record k { table = name; cells = cells }
 
-    pub next-retabled : book_kept w tables (with_kept_change id retabled paragraphs) ≡ next
+    pub next-retabled : book_kept w tables (with_kept_change id retabled paragraphs) marks ≡ next
     next-retabled =
         let to : Paragraph → Paragraph = λ p. record p { table = name } in
         next-with_paragraphs next w (with_change id to before) (with_kept_change id retabled paragraphs) at makes
         (kept-changed id retabled to (λ n k. refl) paragraphs)
 
-    pub IsKept-retabled : IsKept version tables paragraphs → IsSound next → IsKept w tables (with_kept_change id retabled paragraphs)
+    pub IsKept-retabled : IsKept version tables paragraphs marks → IsSound next → IsKept w tables (with_kept_change id retabled paragraphs) marks
     IsKept-retabled is sound = record {
       sound = subst IsSound (sym next-retabled) sound;
       means = is.means;
@@ -421,14 +463,14 @@ module _ (version : ℕ) (tables : KeptTables) (paragraphs : KeptParagraphs) whe
           let one : given.paragraph ≡ p = cc in
           let print : print_of given.paragraph ≡ k.print = ap (λ (q : Paragraph). print_of q) one ∙ sym kept.print in
           IsKeptParagraph-cells is (n, retabled k) given.source given.meaning kept.print given.found given.means
-          (subst (λ (q : List ℕ). AreCellsOf given.meaning q cells) print given.cells_are)) is.translated;
+          (subst (λ (q : List ℕ). AreCellsOf given.meaning q cells) print given.cells_are) kept.taken) is.translated;
     }
 
   -- ---- another order
 
   module _ (next : Book) (w id : ℕ) (anchor : Anchor) (order : List ℕ) (at : w ≡ next.version)
       (accepted : IsAccepted book None (Move id anchor)) (makes : Makes book (Move id anchor) next)
-      (order_is : order ≡ ids_of next.paragraphs) (is : IsKept version tables paragraphs) (sound : IsSound next) where
+      (order_is : order ≡ ids_of next.paragraphs) (is : IsKept version tables paragraphs marks) (sound : IsSound next) where
     moved-reordered : IsPermutation next.paragraphs before
     moved-reordered =
         let named = named_paragraph book None (Move id anchor) accepted in
@@ -445,7 +487,7 @@ module _ (version : ℕ) (tables : KeptTables) (paragraphs : KeptParagraphs) whe
         subst (λ (n : ℕ). IsPermutation (range_with_len 1 n) order) count
         (subst (IsPermutation (range_with_len 1 (length next.paragraphs))) (sym order_is) sound.ids)
 
-    pub next-reordered : book_kept w tables (arranged order paragraphs) ≡ next
+    pub next-reordered : book_kept w tables (arranged order paragraphs) marks ≡ next
     next-reordered =
         next-with_paragraphs next w (with_move id anchor book) (arranged order paragraphs) at makes
         (kept-arranged order paragraphs
@@ -453,9 +495,77 @@ module _ (version : ℕ) (tables : KeptTables) (paragraphs : KeptParagraphs) whe
         ∙ (in_order-permutation next.paragraphs before (paragraphs-apart next sound) moved-reordered
         ∙ ap (λ (b : Book). b.paragraphs) makes)))
 
-    pub IsKept-reordered : IsKept w tables (arranged order paragraphs)
+    pub IsKept-reordered : IsKept w tables (arranged order paragraphs) marks
     IsKept-reordered = record {
       sound = subst IsSound (sym next-reordered) sound;
       means = is.means;
       translated = All-arranged (IsKeptParagraph tables) order paragraphs is.translated;
+    }
+
+  -- ---- another print of a paragraph
+
+  module _ (next : Book) (w id : ℕ) (change : PrintChange) (at : w ≡ next.version) (given : ChangesPrint book next id change) where
+    abbrev more : Paragraph → Paragraph
+    more = with_entry (entry_kept change.entry)
+
+    one_more : (n : ℕ) (k : KeptParagraph) → paragraph_kept (n, with_print_changed change k) ≡ more (paragraph_kept (n, k))
+    one_more n k = ap (λ (h : List Entry). let p : Paragraph = paragraph_kept (n, k) in record p { history = h }) (map-append entry_kept k.history (change.entry ∷ []))
+
+    pub next-print_changed : book_kept w tables (with_kept_change id (with_print_changed change) paragraphs) (with_kept_moved id change.start change.removed change.added marks) ≡ next
+    next-print_changed =
+        same_book w (version + 1) (texts tables) (texts tables) (map paragraph_kept (with_kept_change id (with_print_changed change) paragraphs)) (with_change id more before)
+        (marks_kept (with_kept_moved id change.start change.removed change.added marks)) (with_marks_moved id (mark_moved_by change.start change.removed change.added) (marks_kept marks))
+        (at ∙ ap (λ (b : Book). b.version) given.next_is) refl (kept-changed id (with_print_changed change) more one_more paragraphs)
+        (marks-moved id change.start change.removed change.added 1 marks)
+        ∙ sym given.next_is
+
+    pub IsKept-print_changed : IsKept version tables paragraphs marks → IsSound next
+        → IsKept w tables (with_kept_change id (with_print_changed change) paragraphs) (with_kept_moved id change.start change.removed change.added marks)
+    IsKept-print_changed is sound = record {
+      sound = subst IsSound (sym next-print_changed) sound;
+      means = is.means;
+      translated =
+          All-changed id (with_print_changed change) more one_more (IsKeptParagraph tables) paragraphs
+          (λ n k c e kept.
+          let p : Paragraph = paragraph_kept (n, k) in
+          let own : found n before ≡ Some p = found-own before p (paragraphs-apart book is.sound) (Contains-map paragraph_kept paragraphs (n, k) c) in
+          let both : Some p ≡ Some given.paragraph = sym own ∙ (ap (λ (m : ℕ). found m before) (eqb-true n id e) ∙ given.there) in
+          let one : given.paragraph ≡ p = cc in
+          let print : change.print ≡ print_of (paragraph_kept (n, with_print_changed change k)) = given.print ∙ (ap (λ (q : Paragraph). print_of (more q)) one ∙ ap (λ (q : Paragraph). print_of q) (sym (one_more n k))) in
+          IsKeptParagraph-cells is (n, with_print_changed change k) given.source given.meaning print (ap (λ (q : Paragraph). text_of book q.table) (sym one) ∙ given.found) given.means given.cells
+          (HaveTaken-push k.original k.history change.entry kept.taken (subst (λ (q : Paragraph). TookFrom (print_of q) change.entry) one given.taken))) is.translated;
+    }
+
+    pub HasRoomFor-print_changed : HasRoomFor paragraphs id change.room
+    HasRoomFor-print_changed = by (lookup (nat_eq id) paragraphs) refl
+      where
+        by : (o : Option KeptParagraph) → lookup (nat_eq id) paragraphs ≡ o → HasRoomFor paragraphs id change.room
+        by None e = let both : Some given.paragraph ≡ None = sym given.there ∙ (found-kept id paragraphs ∙ ap (option_map (λ k. paragraph_kept (id, k))) e) in absurd (cc)
+        by (Some k) e =
+            let both : Some given.paragraph ≡ Some (paragraph_kept (id, k)) = sym given.there ∙ (found-kept id paragraphs ∙ ap (option_map (λ k. paragraph_kept (id, k))) e) in
+            let one : given.paragraph ≡ paragraph_kept (id, k) = cc in
+            let count : length given.paragraph.history ≡ length k.history = ap (λ (q : Paragraph). length q.history) one ∙ length-map k.history entry_kept in
+            record {
+              paragraph = k;
+              found = e;
+              few = subst (λ (n : ℕ). n < most_entries) count given.few;
+              room_is = subst (λ (n : ℕ). Suffices n change.room) count given.room;
+            }
+
+  -- ---- marks
+
+  pub AreWithin-marks : IsKept version tables paragraphs marks → AreWithin marks
+  AreWithin-marks is = AreWithin-sound book marks is.sound is.sound.marks
+
+  -- a book with other marks
+  module _ (next : Book) (w : ℕ) (ms : List Mark) (kept : List KeptMark) (at : w ≡ next.version) (makes : next ≡ next_with_marks book ms) (same : marks_kept kept ≡ ms) where
+    pub next-marked : book_kept w tables paragraphs kept ≡ next
+    next-marked =
+        same_book w (version + 1) (texts tables) (texts tables) before before (marks_kept kept) ms (at ∙ ap (λ (b : Book). b.version) makes) refl refl same ∙ sym makes
+
+    pub IsKept-marked : IsKept version tables paragraphs marks → IsSound next → IsKept w tables paragraphs kept
+    IsKept-marked is sound = record {
+      sound = subst IsSound (sym next-marked) sound;
+      means = is.means;
+      translated = is.translated;
     }

@@ -31,44 +31,44 @@ unused book name meaning sound none k d lt uses =
 
 module _ (book : Book) (name text : List ℕ) where
   pub bad_name : (told : Refusal) → (told ≡ BadName) × (¬ IsTableName name) → IsTurnedDown book (Table name text) told
-  bad_name told (is, bad) = turned_down book (Table name text) 1 BadName told (passes_to book (Table name text) 1 refl) refl (record { name = name; text = text; given = refl; bad = bad }) is
+  bad_name told (is, bad) = turned_down book (Table name text) 10 BadName told (passes_to book (Table name text) 10 refl) refl (record { name = name; text = text; given = refl; bad = bad }) is
 
   module _ (named : IsTableName name) where
-    pub past_name : Passes book None (Table name text) 12
+    pub past_name : Passes book None (Table name text) 120
     past_name =
-        to_turn book (Table name text) 2 12 refl
-        (Passes-bad_name book None (Table name text) (passes_to book (Table name text) 1 refl)
+        to_turn book (Table name text) 15 120 refl
+        (Passes-bad_name book None (Table name text) (passes_to book (Table name text) 10 refl)
         (λ b. b.bad (subst IsTableName (ap (λ (given : List ℕ × List ℕ). given.0) (same_some (name, text) (b.name, b.text) b.given)) named)))
 
     pub full_tables : (told : Refusal) → text_of book name ≡ None → (told ≡ Full Tables) × (most_tables ≤ length book.tables) → IsTurnedDown book (Table name text) told
     full_tables told new (is, full) =
-        turned_down book (Table name text) 12 (Full Tables) told past_name refl (record { name = name; text = text; given = refl; new = new; full = full }) is
+        turned_down book (Table name text) 120 (Full Tables) told past_name refl (record { name = name; text = text; given = refl; new = new; full = full }) is
 
-    pub past_tables : IsSome (text_of book name) ⊎ (length book.tables < most_tables) → Passes book None (Table name text) 13
+    pub past_tables : IsSome (text_of book name) ⊎ (length book.tables < most_tables) → Passes book None (Table name text) 130
     past_tables (inr left) = Passes-full book None (Table name text) Tables past_name (λ f. let full = f.full in omega arith)
     past_tables (inl old) =
         Passes-full book None (Table name text) Tables past_name
         (λ f. let same = ap (λ (given : List ℕ × List ℕ). given.0) (same_some (name, text) (f.name, f.text) f.given) in let none = ap is_some (ap (text_of book) same ∙ f.new) in cc)
 
-  bad_table : (told : Refusal) (fault : TableFault) → Passes book None (Table name text) 17 → told ≡ BadTable fault → Bad text fault.line fault.cause → IsTurnedDown book (Table name text) told
-  bad_table told fault passes is bad = turned_down book (Table name text) 17 (BadTable fault) told passes refl (record { name = name; text = text; given = refl; bad = bad }) is
+  bad_table : (told : Refusal) (fault : TableFault) → Passes book None (Table name text) 170 → told ≡ BadTable fault → Bad text fault.line fault.cause → IsTurnedDown book (Table name text) told
+  bad_table told fault passes is bad = turned_down book (Table name text) 170 (BadTable fault) told passes refl (record { name = name; text = text; given = refl; bad = bad }) is
 
   -- what reading the text may answer
-  pub unread : (told : Refusal) → Passes book None (Table name text) 17 → ((fault : TableFault) × (told ≡ BadTable fault) × Bad text fault.line fault.cause) ⊎ (told ≡ NoMemory) → IsTurnedDown book (Table name text) told
+  pub unread : (told : Refusal) → Passes book None (Table name text) 170 → ((fault : TableFault) × (told ≡ BadTable fault) × Bad text fault.line fault.cause) ⊎ (told ≡ NoMemory) → IsTurnedDown book (Table name text) told
   unread told passes (inl (fault, is, bad)) = bad_table told fault passes is bad
   unread told passes (inr is) = inr is
 
   module _ (meaning : Meaning) (means : Means text meaning) where
-    pub past_reading : Passes book None (Table name text) 17 → Passes book None (Table name text) 19
+    pub past_reading : Passes book None (Table name text) 170 → Passes book None (Table name text) 190
     past_reading passes =
-        to_turn book (Table name text) 18 19 refl
+        to_turn book (Table name text) 180 190 refl
         (Passes-bad_table book None (Table name text) passes
         (λ fault b. means_or_bad text meaning fault.line fault.cause means
         (subst (λ (t : List ℕ). Bad t fault.line fault.cause) (sym (ap (λ (given : List ℕ × List ℕ). given.1) (same_some (name, text) (b.name, b.text) b.given))) b.bad)))
 
-    pub untranslatable : (told : Refusal) (id place : ℕ) → Passes book None (Table name text) 19 → told ≡ Untranslatable id place → IsFirstUser meaning name book.paragraphs id place → IsTurnedDown book (Table name text) told
+    pub untranslatable : (told : Refusal) (id place : ℕ) → Passes book None (Table name text) 190 → told ≡ Untranslatable id place → IsFirstUser meaning name book.paragraphs id place → IsTurnedDown book (Table name text) told
     untranslatable told id place passes is user =
-        turned_down book (Table name text) 19 (Untranslatable id place) told passes refl
+        turned_down book (Table name text) 190 (Untranslatable id place) told passes refl
         (record {
           name = name;
           text = text;
@@ -85,7 +85,7 @@ module _ (book : Book) (name text : List ℕ) where
           others = user.others;
         }) is
 
-    pub past_users : Passes book None (Table name text) 19 → All (DefinesUser meaning name) book.paragraphs → IsAccepted book None (Table name text)
+    pub past_users : Passes book None (Table name text) 190 → All (DefinesUser meaning name) book.paragraphs → IsAccepted book None (Table name text)
     past_users passes defined = Passes-untranslatable book None (Table name text) passes none
       where
         none : (id place : ℕ) → ¬ IsUntranslatable book (Table name text) id place

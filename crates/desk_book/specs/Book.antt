@@ -11,9 +11,10 @@ pub record Replacement : Type 0 where
   pub count : ℕ
   pub text : List ℕ
 
--- an entry of a paragraph's history: a correction, or the undo of the correction with this number
+-- an entry of a paragraph's history: a correction, with the name of its reader, which may be empty, or the undo of the
+-- correction with this number
 pub data Entry : Type 0 where
-  Corrects : Replacement → Entry
+  Corrects : Replacement → List ℕ → Entry
   Undoes : ℕ → Entry
 
 -- the original is the typed text as it is stored; the entries of the history have the numbers 1, 2, ..
@@ -52,10 +53,20 @@ text_of book name = lookup (pointwise nat_eq name) book.tables
 abbrev pub paragraph_of : Book → ℕ → Option Paragraph
 paragraph_of book id = find (λ paragraph. nat_eq paragraph.id id) book.paragraphs
 
+-- the mark with this id, if there is one
+abbrev pub mark_of : Book → ℕ → Option Mark
+mark_of book id = find (λ mark. nat_eq mark.id id) book.marks
+
 -- a book without anything
 abbrev pub empty_book : Book
 empty_book = record { version = 0; tables = []; paragraphs = []; marks = [] }
 
--- paragraphs in the order of a book
+-- paragraphs in the order of a book, the entries of a history, and marks
 abbrev pub ParagraphList : Type 0
 ParagraphList = List Paragraph
+
+abbrev pub EntryList : Type 0
+EntryList = List (ℕ × Entry)
+
+abbrev pub MarkList : Type 0
+MarkList = List Mark

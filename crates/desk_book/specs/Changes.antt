@@ -1,5 +1,5 @@
 -- What a change has in it, so that nothing is left to be asked for when it is put into its book.
-use Rattle.std.specs.Prelude.{◌≡◌, ◌≢◌, ℕ, ◌<◌, List, length, map, Option, Some, None, IsSome, MatchOption}
+use Rattle.std.specs.Prelude.{◌≡◌, ◌≢◌, ℕ, ◌+◌, ◌<◌, ◌≤◌, List, [], ◌∷◌, ◌++◌, length, map, Option, Some, None, IsSome, MatchOption}
 use Rattle.std.specs.List.{All}
 use Rattle.louis_table.specs.Meaning.{Meaning}
 use Rattle.louis_table.specs.Table.{Means}
@@ -7,17 +7,22 @@ use Rattle.louis_translate.specs.declared.choices.Choice.{Choice}
 use Rattle.louis_translate.specs.Tiling.{Tiles}
 use Rattle.louis_translate.specs.Braille.{braille}
 use Rattle.desk_book.specs.declared.change.Effect.{Effect}
-use Rattle.desk_book.specs.declared.change.Effect.TheVariants.{AddTable, ReplaceTable, AddParagraph, SetFlags, ChangeTable, Reorder}
+use Rattle.desk_book.specs.declared.change.Effect.TheVariants.{AddTable, ReplaceTable, AddParagraph, ChangePrint, AddMark, ResolveMark, SetFlags, ChangeTable, Reorder}
 use Rattle.desk_book.specs.declared.change.Change.{Change}
+use Rattle.desk_book.specs.declared.change.PrintChange.{PrintChange}
 use Rattle.desk_book.specs.declared.command.Anchor.{Anchor}
 use Rattle.desk_book.specs.declared.command.Command.{Command}
 use Rattle.desk_book.specs.declared.command.Command.TheVariants.{Table, TypeIn, Retable, Move}
 use Rattle.desk_book.specs.declared.paragraphs.Paragraph.{Paragraph as KeptParagraph}
 use Rattle.desk_book.specs.Book.{Book, Paragraph, text_of, paragraph_of}
-use Rattle.desk_book.specs.Kept.{new_cells, paragraph_kept}
-use Rattle.desk_book.specs.Print.{print_of}
+use Rattle.desk_book.specs.Histories.{HaveTaken, TookFrom, entry_kept}
+use Rattle.desk_book.specs.Kept.{mark_kept, new_cells, paragraph_kept}
+use Rattle.desk_book.specs.Limits.{most_entries, most_marks, most_print}
+use Rattle.desk_book.specs.Marks.{mark_moved_by}
+use Rattle.desk_book.specs.Print.{print_of, with_entry}
 use Rattle.desk_book.specs.Refusals.{IsAccepted}
-use Rattle.desk_book.specs.Step.{Makes, next_id, next_with_paragraphs, number_of, typed, with_change}
+use Rattle.desk_book.specs.Room.{Suffices}
+use Rattle.desk_book.specs.Step.{HasCharacters, Makes, next_id, next_mark, next_with_entry, next_with_marks, next_with_paragraphs, number_of, typed, with_change, with_resolved}
 use Rattle.desk_book.specs.Stored.{stored}
 
 -- the cells are the braille of the print by this meaning
@@ -40,6 +45,7 @@ pub record IsKeptTyped (book : Book) (table text : List ℕ) (kept : KeptParagra
   pub found : text_of book table ≡ Some source
   pub means : Means source meaning
   pub cells : AreCellsOf meaning kept.print kept.cells
+  pub taken : HaveTaken kept.original kept.history
 
 -- the cells are those of the paragraph's print by the table with this name
 pub record AreCellsByTable (book : Book) (id : ℕ) (table cells : List ℕ) : Type 0 where
@@ -50,6 +56,24 @@ pub record AreCellsByTable (book : Book) (id : ℕ) (table cells : List ℕ) : T
   pub found : text_of book table ≡ Some source
   pub means : Means source meaning
   pub cells_are : AreCellsOf meaning (print_of paragraph) cells
+
+-- the change gives the paragraph with this id one entry more and the print and cells that follow from it, and moves its
+-- marks
+pub record ChangesPrint (book next : Book) (id : ℕ) (change : PrintChange) : Type 0 where
+  pub next_is : next ≡ next_with_entry book id (entry_kept change.entry) (mark_moved_by change.start change.removed change.added)
+  pub paragraph : Paragraph
+  pub there : paragraph_of book id ≡ Some paragraph
+  pub room : Suffices (length paragraph.history) change.room
+  pub few : length paragraph.history < most_entries
+  pub print : change.print ≡ print_of (with_entry (entry_kept change.entry) paragraph)
+  pub source : List ℕ
+  pub meaning : Meaning
+  pub found : text_of book paragraph.table ≡ Some source
+  pub means : Means source meaning
+  pub cells : AreCellsOf meaning change.print change.cells
+  pub taken : TookFrom (print_of paragraph) change.entry
+  pub within : change.start + change.removed ≤ most_print
+  pub short : change.added ≤ most_print
 
 -- the effect makes the next book by the command, with room for all that it adds
 abbrev pub Does : Book → Command → Book → Effect → Type 0
@@ -62,6 +86,11 @@ Does book command next (AddParagraph paragraph room order) =
     (anchor : Anchor) × (text : List ℕ) × (command ≡ TypeIn anchor paragraph.table text)
     × IsKeptTyped book paragraph.table text paragraph × (length book.paragraphs < room)
     × (order ≡ map (λ other. other.id) next.paragraphs)
+Does book command next (ChangePrint id change) = ChangesPrint book next id change
+Does book command next (AddMark mark room) =
+    (next ≡ next_with_marks book (book.marks ++ mark_kept (next_mark book, mark) ∷ [])) × Suffices (length book.marks) room
+    × (length book.marks < most_marks)
+Does book command next (ResolveMark id) = next ≡ next_with_marks book (with_resolved id book.marks)
 Does book command next (SetFlags id style begins struck) =
     next ≡ next_with_paragraphs book
     (with_change id (λ p. record p { style = style; begins_volume = begins; struck = struck }) book.paragraphs)
@@ -72,12 +101,17 @@ Does book command next (Reorder order) =
 -- the change makes the next book of this one by the command, which is accepted
 pub record Carries (book : Book) (command : Command) (next : Book) (change : Change) : Type 0 where
   pub accepted : IsAccepted book None command
+  pub written : HasCharacters command
   pub makes : Makes book command next
   pub version : change.version ≡ next.version
   pub number : change.number ≡ number_of book command
   pub does : Does book command next change.effect
 
 -- some accepted command makes the next book of this one, at the version given, by the effect
-abbrev pub Puts : Book → ℕ → Effect → Book → Type 0
-Puts book version effect next =
-    (command : Command) × IsAccepted book None command × Makes book command next × (version ≡ next.version) × Does book command next effect
+pub record Puts (book : Book) (version : ℕ) (effect : Effect) (next : Book) : Type 0 where
+  pub command : Command
+  pub accepted : IsAccepted book None command
+  pub written : HasCharacters command
+  pub makes : Makes book command next
+  pub at : version ≡ next.version
+  pub does : Does book command next effect

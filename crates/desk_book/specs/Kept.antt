@@ -1,6 +1,6 @@
 -- How a book is kept: its tables with their rules, its paragraphs with their prints and cells.
 use Rattle.std.specs.Prelude.{◌≡◌, ℕ, ◌-◌, ◌≤◌, length, drop, nat_eq, not, ◌==◌, if◌then◌else◌, List, [], ◌∷◌, ◌++◌, map, slice_get, Option, Some, option_to_list, option_map}
-use Rattle.std.specs.List.{All, filter, find, flat_map, fold}
+use Rattle.std.specs.List.{All, enumerate_from, filter, find, flat_map, fold}
 use Rattle.std.specs.Str.{chars}
 use Rattle.std.specs.Prelude.{String, string_bytes}
 use Rattle.std.specs.Option.{option_and_then, option_map_or}
@@ -13,10 +13,12 @@ use Rattle.louis_translate.specs.declared.choices.Choice.{Choice}
 use Rattle.louis_translate.specs.Tiling.{Tiles}
 use Rattle.louis_translate.specs.Braille.{braille}
 use Rattle.desk_book.specs.declared.command.Anchor.{Anchor}
-use Rattle.desk_book.specs.declared.command.Anchor.TheVariants.{Front, End, Behind}
+use Rattle.desk_book.specs.declared.command.Anchor.TheVariants.{Front, End, Para}
 use Rattle.desk_book.specs.declared.tables.BookTable.{BookTable}
+use Rattle.desk_book.specs.declared.marks.KeptMark.{KeptMark}
 use Rattle.desk_book.specs.declared.paragraphs.Paragraph.{Paragraph as KeptParagraph}
-use Rattle.desk_book.specs.Book.{Book, Paragraph}
+use Rattle.desk_book.specs.Book.{Book, Mark, Paragraph}
+use Rattle.desk_book.specs.Histories.{HaveTaken, entries_kept}
 use Rattle.desk_book.specs.Limits.{most_paragraphs}
 use Rattle.desk_book.specs.Print.{print_of}
 use Rattle.desk_book.specs.Sound.{IsSound}
@@ -54,7 +56,7 @@ arranged order kept = flat_map (λ id. option_to_list (option_map (λ paragraph.
 abbrev pub with_id : Anchor → ℕ → List ℕ → List ℕ
 with_id Front new order = new ∷ order
 with_id End new order = order ++ new ∷ []
-with_id (Behind id) new order = flat_map (λ other. if other == id then other ∷ new ∷ [] else other ∷ []) order
+with_id (Para id) new order = flat_map (λ other. if other == id then other ∷ new ∷ [] else other ∷ []) order
 
 -- the order with one id taken out and put elsewhere; behind itself it stays
 abbrev pub with_id_moved : Anchor → ℕ → List ℕ → List ℕ
@@ -78,7 +80,7 @@ paragraph_kept (id, kept) = record {
   id = id;
   table = kept.table;
   original = kept.original;
-  history = [];
+  history = entries_kept kept.history;
   style = kept.style;
   begins_volume = kept.begins_volume;
   struck = kept.struck;
@@ -96,16 +98,33 @@ HavePrints kept = (length kept ≤ most_paragraphs) × All (λ entry. entry.1.pr
 abbrev pub in_order : List ℕ → List Paragraph → List Paragraph
 in_order order paragraphs = flat_map (λ id. option_to_list (find (λ paragraph. nat_eq paragraph.id id) paragraphs)) order
 
--- what kept tables and paragraphs stand for
-abbrev pub book_kept : ℕ → KeptTables → KeptParagraphs → Book
-book_kept version tables paragraphs = record {
+-- what a kept mark stands for, with its id
+abbrev pub mark_kept : ℕ × KeptMark → Mark
+mark_kept (id, kept) = record {
+  id = id;
+  paragraph = kept.paragraph;
+  start = kept.start;
+  end = kept.end;
+  note = kept.note;
+  touched = kept.touched;
+  resolved = kept.resolved;
+}
+
+-- what marks in the order of their ids stand for
+abbrev pub marks_kept : List KeptMark → List Mark
+marks_kept marks = map mark_kept (enumerate_from 1 marks)
+
+-- what kept tables, paragraphs and marks stand for
+abbrev pub book_kept : ℕ → KeptTables → KeptParagraphs → List KeptMark → Book
+book_kept version tables paragraphs marks = record {
   version = version;
   tables = map (λ entry. (entry.0, entry.1.text)) tables;
   paragraphs = map paragraph_kept paragraphs;
-  marks = [];
+  marks = marks_kept marks;
 }
 
--- the kept paragraph has its print, and the cells of that print's braille by the rules of its table
+-- the kept paragraph has its print, the cells of that print's braille by the rules of its table, and what each of its
+-- corrections took away
 pub record IsKeptParagraph (tables : KeptTables) (entry : ℕ × KeptParagraph) : Type 0 where
   pub print : entry.1.print ≡ print_of (paragraph_kept entry)
   pub table : BookTable
@@ -113,10 +132,11 @@ pub record IsKeptParagraph (tables : KeptTables) (entry : ℕ × KeptParagraph) 
   pub choices : List Choice
   pub tiles : Tiles table.rules entry.1.print choices
   pub cells : entry.1.cells ≡ braille table.rules entry.1.print choices
+  pub taken : HaveTaken entry.1.original entry.1.history
 
 -- what is true of a book as it is kept: it stands for a sound book, each table has the rules that its text means, and
 -- each paragraph has its print and its braille
-pub record IsKept (version : ℕ) (tables : KeptTables) (paragraphs : KeptParagraphs) : Type 0 where
-  pub sound : IsSound (book_kept version tables paragraphs)
+pub record IsKept (version : ℕ) (tables : KeptTables) (paragraphs : KeptParagraphs) (marks : List KeptMark) : Type 0 where
+  pub sound : IsSound (book_kept version tables paragraphs marks)
   pub means : All (λ entry. Means entry.1.text entry.1.rules) tables
   pub translated : All (IsKeptParagraph tables) paragraphs

@@ -30,3 +30,7 @@ most_marks = 100000
 -- characters of a note
 abbrev pub most_note : ℕ
 most_note = 500
+
+-- characters of a reader's name
+abbrev pub most_reader : ℕ
+most_reader = 40

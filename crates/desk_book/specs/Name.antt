@@ -1,7 +1,8 @@
--- The names of tables.
-use Rattle.std.specs.Prelude.{◌≡◌, ℕ, ◌<◌, ◌≤◌, Bool, true, ◌||◌, ◌&&◌, ◌==◌, nat_le, List, length}
+-- The names of tables, and of readers.
+use Rattle.std.specs.Prelude.{◌≡◌, ℕ, ◌<◌, ◌≤◌, Bool, true, not, ◌||◌, ◌&&◌, ◌==◌, nat_le, List, length}
 use Rattle.std.specs.List.{All}
-use Rattle.desk_book.specs.Limits.{most_name}
+use Rattle.desk_book.specs.Limits.{most_name, most_reader}
+use Rattle.desk_book.specs.Stored.{is_barred}
 
 -- a to z, 0 to 9, the low line or the hyphen
 abbrev pub is_name_character : ℕ → Bool
@@ -14,3 +15,12 @@ pub record IsTableName (name : List ℕ) : Type 0 where
   pub nonempty : 0 < length name
   pub short : length name ≤ most_name
   pub characters : All (λ character. is_name_character character ≡ true) name
+
+-- neither a blank nor a character that no text of a book may hold
+abbrev pub is_reader_character : ℕ → Bool
+is_reader_character character = not (character == 32) && not (is_barred character)
+
+-- at most 40 such characters; none where the reader isn't named
+pub record IsReaderName (name : List ℕ) : Type 0 where
+  pub short : length name ≤ most_reader
+  pub characters : All (λ character. is_reader_character character ≡ true) name

@@ -1,5 +1,5 @@
 -- What is said of a command, its expected version aside, and of what it names.
-use Rattle.std.specs.Prelude.{◌≡◌, ◌⊎◌, ℕ, false, List, ◌∷◌, ◌++◌, Some, None, IsSome}
+use Rattle.std.specs.Prelude.{◌≡◌, ◌⊎◌, ℕ, false, List, [], ◌∷◌, ◌++◌, Some, None, IsSome}
 use Rattle.std.specs.List.{All, Contains}
 use Rattle.louis_table.specs.Meaning.{Meaning}
 use Rattle.louis_table.specs.Table.{Means}
@@ -16,12 +16,13 @@ use Rattle.desk_book.specs.Changes.{AreCellsOf, Does}
 use Rattle.desk_book.specs.Kept.{paragraph_kept}
 use Rattle.desk_book.specs.Print.{print_of}
 use Rattle.desk_book.specs.Refusals.{IsAccepted, IsRefused}
-use Rattle.desk_book.specs.Step.{Makes}
+use Rattle.desk_book.specs.Step.{HasCharacters, Makes}
+use Rattle.desk_book.specs.Stored.{AreCharacters}
 
--- the command is accepted, and the effect is what it does
+-- the command is accepted, the effect is what it does, and what it puts into the book is of characters
 abbrev pub IsPlanned : Book → Command → Effect → Type 0
 IsPlanned book command effect =
-    IsAccepted book None command × ((next : Book) × Makes book command next × Does book command next effect)
+    IsAccepted book None command × ((next : Book) × Makes book command next × Does book command next effect) × HasCharacters command
 
 -- the command is refused with the first refusal that holds, or memory was
 abbrev pub IsTurnedDown : Book → Command → Refusal → Type 0
@@ -55,6 +56,8 @@ pub record IsNewParagraph (table print : List ℕ) (meaning : Meaning) (kept : K
   pub struck : kept.struck ≡ false
   pub print_is : kept.print ≡ print
   pub cells : AreCellsOf meaning print kept.cells
+  pub characters : AreCharacters print
+  pub history : kept.history ≡ []
 
 -- the table with this name, by this meaning, defines the paragraph's print, if the paragraph uses the table
 abbrev pub DefinesUser : Meaning → List ℕ → Paragraph → Type 0

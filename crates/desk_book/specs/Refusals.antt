@@ -1,35 +1,52 @@
 -- When a command is refused, and with which refusal. Only the first that holds is told.
-use Rattle.std.specs.Prelude.{◌≡◌, ◌≢◌, ℕ, ◌+◌, ◌<◌, ◌≤◌, Bool, true, false, List, [], ◌∷◌, ◌++◌, length, Option, Some, None, option_map}
+use Rattle.std.specs.Prelude.{◌≡◌, ◌≢◌, ℕ, ◌⊎◌, ◌+◌, ◌*◌, ◌<◌, ◌≤◌, Bool, true, false, List, [], ◌∷◌, ◌++◌, length, Option, Some, None, option_map}
 use Rattle.std.specs.List.{All, Contains}
+use Rattle.std.specs.Option.{option_and_then}
 use Rattle.louis_table.specs.Meaning.{Meaning}
 use Rattle.louis_table.specs.Table.{Means, Bad}
 use Rattle.louis_table.specs.declared.fault.TableFault.{TableFault}
 use Rattle.louis_translate.specs.Position.{AreDefined, IsFirstUndefined}
 use Rattle.desk_book.specs.declared.command.Anchor.{Anchor}
-use Rattle.desk_book.specs.declared.command.Anchor.TheVariants.{Front, End, Behind}
+use Rattle.desk_book.specs.declared.command.Anchor.TheVariants.{Front, End, Para}
 use Rattle.desk_book.specs.declared.command.Command.{Command}
-use Rattle.desk_book.specs.declared.command.Command.TheVariants.{Table, TypeIn, Strike, Restore, Style, Volume, Retable, Move}
+use Rattle.desk_book.specs.declared.command.Command.TheVariants.{Table, TypeIn, Correct, Undo, Mark, Resolve, Strike, Restore, Style, Volume, Retable, Move}
 use Rattle.desk_book.specs.declared.refusal.Limit.{Limit}
 use Rattle.desk_book.specs.declared.refusal.Limit.TheVariants.{Tables, Paragraphs, Entries, Marks, Version}
 use Rattle.desk_book.specs.declared.refusal.Refusal.{Refusal}
-use Rattle.desk_book.specs.declared.refusal.Refusal.TheVariants.{Moved, BadName, BadText, NoParagraph, NoTable, NoMark, Struck, NotStruck, Resolved, BadSpan, NothingToUndo, TooLong, Full, BadTable, Undefined, Untranslatable, NoMemory}
-use Rattle.desk_book.specs.Book.{Book, Paragraph, text_of, paragraph_of}
-use Rattle.desk_book.specs.Print.{print_of}
-use Rattle.desk_book.specs.Limits.{most_version, most_tables, most_paragraphs, most_print}
-use Rattle.desk_book.specs.Name.{IsTableName}
+use Rattle.desk_book.specs.declared.refusal.Refusal.TheVariants.{Moved, BadName, BadReader, BadText, NoParagraph, NoTable, NoMark, Struck, NotStruck, Resolved, BadSpan, NothingToUndo, TooLong, Full, BadTable, Undefined, Untranslatable, NoMemory}
+use Rattle.desk_book.specs.Book.{Book, Paragraph, Mark as BookMark, text_of, paragraph_of, mark_of}
+use Rattle.desk_book.specs.Print.{newest, print_of, print_undone, replaced}
+use Rattle.desk_book.specs.Limits.{most_entries, most_marks, most_note, most_version, most_tables, most_paragraphs, most_print}
+use Rattle.desk_book.specs.Name.{IsReaderName, IsTableName}
+use Rattle.desk_book.specs.Step.{replacement_by}
 use Rattle.desk_book.specs.Stored.{IsFirstBarred, stored}
+use Rattle.desk_book.specs.Translated.{LacksCells}
 
 -- ---- what a command names
 
 -- the name of the table that it adds or replaces, and the text
 abbrev pub table_given : Command → Option (List ℕ × List ℕ)
 table_given (Table name text) = Some (name, text)
-table_given command = None
+table_given (TypeIn anchor table text) = None
+table_given (Correct id start count text who) = None
+table_given (Undo id) = None
+table_given (Mark id cell count note) = None
+table_given (Resolve id) = None
+table_given (Strike id) = None
+table_given (Restore id) = None
+table_given (Style id style) = None
+table_given (Volume id begins) = None
+table_given (Retable id table) = None
+table_given (Move id anchor) = None
 
 -- a text that is given, which may have no barred character
 abbrev pub text_given : Command → Option (List ℕ)
 text_given (Table name text) = None
 text_given (TypeIn anchor table text) = Some text
+text_given (Correct id start count text who) = Some text
+text_given (Undo id) = None
+text_given (Mark id cell count note) = Some note
+text_given (Resolve id) = None
 text_given (Strike id) = None
 text_given (Restore id) = None
 text_given (Style id style) = None
@@ -37,21 +54,110 @@ text_given (Volume id begins) = None
 text_given (Retable id table) = None
 text_given (Move id anchor) = None
 
+-- the name of a reader that is given
+abbrev pub reader_given : Command → Option (List ℕ)
+reader_given (Table name text) = None
+reader_given (TypeIn anchor table text) = None
+reader_given (Correct id start count text who) = Some who
+reader_given (Undo id) = None
+reader_given (Mark id cell count note) = None
+reader_given (Resolve id) = None
+reader_given (Strike id) = None
+reader_given (Restore id) = None
+reader_given (Style id style) = None
+reader_given (Volume id begins) = None
+reader_given (Retable id table) = None
+reader_given (Move id anchor) = None
+
+-- a text that is typed or put in place of another, as it is stored
+abbrev pub text_stored : Command → Option (List ℕ)
+text_stored (Table name text) = None
+text_stored (TypeIn anchor table text) = Some (stored text)
+text_stored (Correct id start count text who) = Some (stored text)
+text_stored (Undo id) = None
+text_stored (Mark id cell count note) = None
+text_stored (Resolve id) = None
+text_stored (Strike id) = None
+text_stored (Restore id) = None
+text_stored (Style id style) = None
+text_stored (Volume id begins) = None
+text_stored (Retable id table) = None
+text_stored (Move id anchor) = None
+
+-- the note of a new mark
+abbrev pub note_given : Command → Option (List ℕ)
+note_given (Table name text) = None
+note_given (TypeIn anchor table text) = None
+note_given (Correct id start count text who) = None
+note_given (Undo id) = None
+note_given (Mark id cell count note) = Some note
+note_given (Resolve id) = None
+note_given (Strike id) = None
+note_given (Restore id) = None
+note_given (Style id style) = None
+note_given (Volume id begins) = None
+note_given (Retable id table) = None
+note_given (Move id anchor) = None
+
+-- the mark that it speaks of
+abbrev pub mark_named : Command → Option ℕ
+mark_named (Table name text) = None
+mark_named (TypeIn anchor table text) = None
+mark_named (Correct id start count text who) = None
+mark_named (Undo id) = None
+mark_named (Mark id cell count note) = None
+mark_named (Resolve id) = Some id
+mark_named (Strike id) = None
+mark_named (Restore id) = None
+mark_named (Style id style) = None
+mark_named (Volume id begins) = None
+mark_named (Retable id table) = None
+mark_named (Move id anchor) = None
+
+-- the paragraph whose history gets an entry
+abbrev pub history_grown : Command → Option ℕ
+history_grown (Table name text) = None
+history_grown (TypeIn anchor table text) = None
+history_grown (Correct id start count text who) = Some id
+history_grown (Undo id) = Some id
+history_grown (Mark id cell count note) = None
+history_grown (Resolve id) = None
+history_grown (Strike id) = None
+history_grown (Restore id) = None
+history_grown (Style id style) = None
+history_grown (Volume id begins) = None
+history_grown (Retable id table) = None
+history_grown (Move id anchor) = None
+
 -- whether it makes a new paragraph
 abbrev pub adds_paragraph : Command → Bool
+adds_paragraph (Table name text) = false
 adds_paragraph (TypeIn anchor table text) = true
-adds_paragraph command = false
+adds_paragraph (Correct id start count text who) = false
+adds_paragraph (Undo id) = false
+adds_paragraph (Mark id cell count note) = false
+adds_paragraph (Resolve id) = false
+adds_paragraph (Strike id) = false
+adds_paragraph (Restore id) = false
+adds_paragraph (Style id style) = false
+adds_paragraph (Volume id begins) = false
+adds_paragraph (Retable id table) = false
+adds_paragraph (Move id anchor) = false
 
 -- the paragraph that something is put behind
 abbrev pub paragraph_before : Anchor → List ℕ
 paragraph_before Front = []
 paragraph_before End = []
-paragraph_before (Behind id) = id ∷ []
+paragraph_before (Para id) = id ∷ []
 
 -- the paragraphs that it speaks of
 abbrev pub paragraphs_named : Command → List ℕ
 paragraphs_named (Table name text) = []
 paragraphs_named (TypeIn anchor table text) = paragraph_before anchor
+paragraphs_named (Correct id start count text who) = id ∷ []
+paragraphs_named (Undo id) = id ∷ []
+paragraphs_named (Mark id cell count note) = id ∷ []
+paragraphs_named (Resolve id) = []
 paragraphs_named (Strike id) = id ∷ []
 paragraphs_named (Restore id) = id ∷ []
 paragraphs_named (Style id style) = id ∷ []
@@ -61,14 +167,27 @@ paragraphs_named (Move id anchor) = id ∷ paragraph_before anchor
 
 -- the table that a paragraph is to use
 abbrev pub table_named : Command → Option (List ℕ)
+table_named (Table name text) = None
 table_named (TypeIn anchor table text) = Some table
+table_named (Correct id start count text who) = None
+table_named (Undo id) = None
+table_named (Mark id cell count note) = None
+table_named (Resolve id) = None
+table_named (Strike id) = None
+table_named (Restore id) = None
+table_named (Style id style) = None
+table_named (Volume id begins) = None
 table_named (Retable id table) = Some table
-table_named command = None
+table_named (Move id anchor) = None
 
 -- the paragraph that it can't act on while that is struck
 abbrev pub live_paragraph : Command → Option ℕ
 live_paragraph (Table name text) = None
 live_paragraph (TypeIn anchor table text) = None
+live_paragraph (Correct id start count text who) = Some id
+live_paragraph (Undo id) = Some id
+live_paragraph (Mark id cell count note) = Some id
+live_paragraph (Resolve id) = None
 live_paragraph (Strike id) = Some id
 live_paragraph (Restore id) = None
 live_paragraph (Style id style) = None
@@ -78,8 +197,18 @@ live_paragraph (Move id anchor) = None
 
 -- the paragraph that it can't act on unless that is struck
 abbrev pub struck_paragraph : Command → Option ℕ
+struck_paragraph (Table name text) = None
+struck_paragraph (TypeIn anchor table text) = None
+struck_paragraph (Correct id start count text who) = None
+struck_paragraph (Undo id) = None
+struck_paragraph (Mark id cell count note) = None
+struck_paragraph (Resolve id) = None
+struck_paragraph (Strike id) = None
 struck_paragraph (Restore id) = Some id
-struck_paragraph command = None
+struck_paragraph (Style id style) = None
+struck_paragraph (Volume id begins) = None
+struck_paragraph (Retable id table) = None
+struck_paragraph (Move id anchor) = None
 
 -- ---- the refusals, each by what makes it hold
 
@@ -103,6 +232,12 @@ pub record IsBadText (command : Command) (place : ℕ) : Type 0 where
   pub given : text_given command ≡ Some text
   pub first : IsFirstBarred text place
 
+-- the reader's name isn't one
+pub record IsBadReader (command : Command) : Type 0 where
+  pub name : List ℕ
+  pub given : reader_given command ≡ Some name
+  pub bad : ¬ IsReaderName name
+
 -- a paragraph that it names isn't there
 pub record LacksParagraph (book : Book) (command : Command) : Type 0 where
   pub id : ℕ
@@ -114,6 +249,12 @@ pub record LacksTable (book : Book) (command : Command) : Type 0 where
   pub name : List ℕ
   pub named : table_named command ≡ Some name
   pub missing : text_of book name ≡ None
+
+-- the mark that it speaks of isn't there
+pub record LacksMark (book : Book) (command : Command) : Type 0 where
+  pub id : ℕ
+  pub named : mark_named command ≡ Some id
+  pub missing : mark_of book id ≡ None
 
 -- the paragraph is struck, and must not be
 pub record IsStruck (book : Book) (command : Command) : Type 0 where
@@ -131,16 +272,92 @@ pub record IsNotStruck (book : Book) (command : Command) : Type 0 where
   pub found : paragraph_of book id ≡ Some paragraph
   pub live : paragraph.struck ≡ false
 
+-- the mark is resolved already
+pub record IsResolved (book : Book) (command : Command) : Type 0 where
+  pub id : ℕ
+  pub mark : BookMark
+  pub named : mark_named command ≡ Some id
+  pub found : mark_of book id ≡ Some mark
+  pub resolved : mark.resolved ≡ true
+
+-- the book has the paragraph, whose print ends before this place
+pub record IsPastPrint (book : Book) (id end : ℕ) : Type 0 where
+  pub paragraph : Paragraph
+  pub found : paragraph_of book id ≡ Some paragraph
+  pub past : length (print_of paragraph) < end
+
+-- the places or cells that it names are not all there, or it marks no cell
+abbrev pub IsBadSpan : Book → Command → Type 0
+IsBadSpan book (Table name text) = ⊥
+IsBadSpan book (TypeIn anchor table text) = ⊥
+IsBadSpan book (Correct id start count text who) = IsPastPrint book id (start + count)
+IsBadSpan book (Undo id) = ⊥
+IsBadSpan book (Mark id cell count note) = LacksCells book id cell count
+IsBadSpan book (Resolve id) = ⊥
+IsBadSpan book (Strike id) = ⊥
+IsBadSpan book (Restore id) = ⊥
+IsBadSpan book (Style id style) = ⊥
+IsBadSpan book (Volume id begins) = ⊥
+IsBadSpan book (Retable id table) = ⊥
+IsBadSpan book (Move id anchor) = ⊥
+
+-- the book has the paragraph, no correction of which is in force
+pub record HasNoCorrection (book : Book) (id : ℕ) : Type 0 where
+  pub paragraph : Paragraph
+  pub found : paragraph_of book id ≡ Some paragraph
+  pub none : newest paragraph.history ≡ None
+
+-- it would take back a correction where none is in force
+abbrev pub HasNothingToUndo : Book → Command → Type 0
+HasNothingToUndo book (Table name text) = ⊥
+HasNothingToUndo book (TypeIn anchor table text) = ⊥
+HasNothingToUndo book (Correct id start count text who) = ⊥
+HasNothingToUndo book (Undo id) = HasNoCorrection book id
+HasNothingToUndo book (Mark id cell count note) = ⊥
+HasNothingToUndo book (Resolve id) = ⊥
+HasNothingToUndo book (Strike id) = ⊥
+HasNothingToUndo book (Restore id) = ⊥
+HasNothingToUndo book (Style id style) = ⊥
+HasNothingToUndo book (Volume id begins) = ⊥
+HasNothingToUndo book (Retable id table) = ⊥
+HasNothingToUndo book (Move id anchor) = ⊥
+
 -- the print that a paragraph would have by the command, where that changes one
 abbrev pub new_print : Book → Command → Option (List ℕ)
+new_print book (Table name text) = None
 new_print book (TypeIn anchor table text) = Some (stored text)
-new_print book command = None
+new_print book (Correct id start count text who) = option_map (λ paragraph. replaced (print_of paragraph) (replacement_by start count text)) (paragraph_of book id)
+new_print book (Undo id) = option_and_then print_undone (paragraph_of book id)
+new_print book (Mark id cell count note) = None
+new_print book (Resolve id) = None
+new_print book (Strike id) = None
+new_print book (Restore id) = None
+new_print book (Style id style) = None
+new_print book (Volume id begins) = None
+new_print book (Retable id table) = None
+new_print book (Move id anchor) = None
 
 -- that print is over its limit
-pub record IsTooLong (book : Book) (command : Command) : Type 0 where
+pub record HasLongPrint (book : Book) (command : Command) : Type 0 where
   pub print : List ℕ
   pub made : new_print book command ≡ Some print
   pub long : most_print < length print
+
+-- a text, as it is stored, is over the limit of a print
+pub record HasLongText (command : Command) : Type 0 where
+  pub text : List ℕ
+  pub given : text_stored command ≡ Some text
+  pub long : most_print < length text
+
+-- the note is over its limit
+pub record HasLongNote (command : Command) : Type 0 where
+  pub note : List ℕ
+  pub given : note_given command ≡ Some note
+  pub long : most_note < length note
+
+-- the text as it is stored, the new print or the note is over its limit
+abbrev pub IsTooLong : Book → Command → Type 0
+IsTooLong book command = HasLongText command ⊎ (HasLongPrint book command ⊎ HasLongNote command)
 
 -- a new table comes to a book that has all it may have
 pub record IsFullOfTables (book : Book) (command : Command) : Type 0 where
@@ -155,12 +372,26 @@ pub record IsFullOfParagraphs (book : Book) (command : Command) : Type 0 where
   pub adds : adds_paragraph command ≡ true
   pub full : most_paragraphs ≤ length book.paragraphs
 
+-- a history that has all the entries it may have would get one
+pub record IsFullOfEntries (book : Book) (command : Command) : Type 0 where
+  pub id : ℕ
+  pub paragraph : Paragraph
+  pub grows : history_grown command ≡ Some id
+  pub found : paragraph_of book id ≡ Some paragraph
+  pub full : most_entries ≤ length paragraph.history
+
+-- a new mark comes to a book that has all it may have
+pub record IsFullOfMarks (book : Book) (command : Command) : Type 0 where
+  pub note : List ℕ
+  pub given : note_given command ≡ Some note
+  pub full : most_marks ≤ length book.marks
+
 -- the command would add to what is at its limit
 abbrev pub IsFull : Book → Command → Limit → Type 0
 IsFull book command Tables = IsFullOfTables book command
 IsFull book command Paragraphs = IsFullOfParagraphs book command
-IsFull book command Entries = ⊥
-IsFull book command Marks = ⊥
+IsFull book command Entries = IsFullOfEntries book command
+IsFull book command Marks = IsFullOfMarks book command
 IsFull book command Version = most_version ≤ book.version
 
 -- the text of the table is bad
@@ -172,9 +403,20 @@ pub record IsBadTable (command : Command) (fault : TableFault) : Type 0 where
 
 -- the print that a paragraph would have, and the name of the table that it would use, where the command changes one
 abbrev pub print_to_translate : Book → Command → Option (List ℕ × List ℕ)
+print_to_translate book (Table name text) = None
 print_to_translate book (TypeIn anchor table text) = Some (stored text, table)
+print_to_translate book (Correct id start count text who) =
+    option_map (λ paragraph. (replaced (print_of paragraph) (replacement_by start count text), paragraph.table)) (paragraph_of book id)
+print_to_translate book (Undo id) =
+    option_and_then (λ paragraph. option_map (λ print. (print, paragraph.table)) (print_undone paragraph)) (paragraph_of book id)
+print_to_translate book (Mark id cell count note) = None
+print_to_translate book (Resolve id) = None
+print_to_translate book (Strike id) = None
+print_to_translate book (Restore id) = None
+print_to_translate book (Style id style) = None
+print_to_translate book (Volume id begins) = None
 print_to_translate book (Retable id table) = option_map (λ paragraph. (print_of paragraph, table)) (paragraph_of book id)
-print_to_translate book command = None
+print_to_translate book (Move id anchor) = None
 
 -- the table doesn't define that print, first at this place
 pub record IsUndefined (book : Book) (command : Command) (place : ℕ) : Type 0 where
@@ -210,15 +452,16 @@ pub record IsUntranslatable (book : Book) (command : Command) (id place : ℕ) :
 abbrev pub Holds : Book → Option ℕ → Command → Refusal → Type 0
 Holds book expect command (Moved version) = IsMoved book expect version
 Holds book expect command BadName = IsBadName command
+Holds book expect command BadReader = IsBadReader command
 Holds book expect command (BadText place) = IsBadText command place
 Holds book expect command NoParagraph = LacksParagraph book command
 Holds book expect command NoTable = LacksTable book command
-Holds book expect command NoMark = ⊥
+Holds book expect command NoMark = LacksMark book command
 Holds book expect command Struck = IsStruck book command
 Holds book expect command NotStruck = IsNotStruck book command
-Holds book expect command Resolved = ⊥
-Holds book expect command BadSpan = ⊥
-Holds book expect command NothingToUndo = ⊥
+Holds book expect command Resolved = IsResolved book command
+Holds book expect command BadSpan = IsBadSpan book command
+Holds book expect command NothingToUndo = HasNothingToUndo book command
 Holds book expect command TooLong = IsTooLong book command
 Holds book expect command (Full limit) = IsFull book command limit
 Holds book expect command (BadTable fault) = IsBadTable command fault
@@ -234,25 +477,26 @@ limit_number Entries = 3
 limit_number Marks = 4
 limit_number Version = 5
 
--- the order in which refusals are told
+-- the order in which refusals are told, with gaps for others
 abbrev pub turn : Refusal → ℕ
 turn (Moved version) = 0
-turn BadName = 1
-turn (BadText place) = 2
-turn NoParagraph = 3
-turn NoTable = 4
-turn NoMark = 5
-turn Struck = 6
-turn NotStruck = 7
-turn Resolved = 8
-turn BadSpan = 9
-turn NothingToUndo = 10
-turn TooLong = 11
-turn (Full limit) = 11 + limit_number limit
-turn (BadTable fault) = 17
-turn (Undefined place) = 18
-turn (Untranslatable id place) = 19
-turn NoMemory = 20
+turn BadName = 10
+turn BadReader = 15
+turn (BadText place) = 20
+turn NoParagraph = 30
+turn NoTable = 40
+turn NoMark = 50
+turn Struck = 60
+turn NotStruck = 70
+turn Resolved = 80
+turn BadSpan = 90
+turn NothingToUndo = 100
+turn TooLong = 110
+turn (Full limit) = 110 + 10 * limit_number limit
+turn (BadTable fault) = 170
+turn (Undefined place) = 180
+turn (Untranslatable id place) = 190
+turn NoMemory = 200
 
 -- the refusal is the first that holds
 pub record IsRefused (book : Book) (expect : Option ℕ) (command : Command) (refusal : Refusal) : Type 0 where
@@ -267,6 +511,7 @@ IsAccepted book expect command = (refusal : Refusal) → ¬ Holds book expect co
 abbrev pub code_of : Refusal → ℕ
 code_of (Moved version) = 16
 code_of BadName = 17
+code_of BadReader = 18
 code_of (BadText place) = 6
 code_of NoParagraph = 2
 code_of NoTable = 3

@@ -6,10 +6,14 @@ use Rattle.louis_translate.specs.Position.{AreDefined}
 use Rattle.louis_translate.specs.Braille.{braille}
 use Rattle.desk_book.specs.declared.paragraphs.Paragraph.{Paragraph as KeptParagraph}
 use Rattle.desk_book.specs.Book.{Book, Paragraph, paragraph_of}
+use Rattle.desk_book.specs.Histories.{HaveTaken}
+use Rattle.desk_book.specs.Kept.{paragraph_kept}
 use Rattle.desk_book.specs.Print.{print_of}
+use Rattle.desk_book.specs.Sound.{IsSoundParagraph}
 use Rattle.desk_book.specs.Translated.{IsTranslatedBy}
 
--- the kept paragraph has the print and the braille of the book's, whose table has this meaning and defines the print
+-- the kept paragraph has the print and the braille of the book's, which it stands for, and whose table has this meaning
+-- and defines the print; and it has what each of its corrections took away
 pub record IsShown (book : Book) (id : ℕ) (kept : KeptParagraph) (meaning : Meaning) : Type 0 where
   pub paragraph : Paragraph
   pub found : paragraph_of book id ≡ Some paragraph
@@ -18,3 +22,6 @@ pub record IsShown (book : Book) (id : ℕ) (kept : KeptParagraph) (meaning : Me
   pub translated : IsTranslatedBy book paragraph meaning choices
   pub cells : kept.cells ≡ braille meaning (print_of paragraph) choices
   pub defined : AreDefined meaning (print_of paragraph)
+  pub kept_is : paragraph ≡ paragraph_kept (id, kept)
+  pub sound : IsSoundParagraph book paragraph
+  pub taken : HaveTaken kept.original kept.history

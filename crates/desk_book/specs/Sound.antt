@@ -1,33 +1,35 @@
 -- What is true of each book that the commands can make.
-use Rattle.std.specs.Prelude.{◌≡◌, ℕ, ◌+◌, ◌≤◌, List, length, map, take, slice_get, Option, Some, None, option_map}
+use Rattle.std.specs.Prelude.{◌≡◌, ℕ, ◌+◌, ◌≤◌, List, length, map, take, slice_get, Some, option_map}
 use Rattle.std.specs.Ordering.{nat_cmp}
-use Rattle.std.specs.List.{All, last_or, range_with_len}
+use Rattle.std.specs.List.{All, range_with_len}
 use Rattle.std.specs.List.Sorted.{IsPermutation, IsStrictlySortedBy}
 use Rattle.std.specs.Cmp.Lexicographic.{slice_cmp}
 use Rattle.louis_table.specs.Meaning.{Meaning}
 use Rattle.louis_table.specs.Table.{Means}
 use Rattle.louis_translate.specs.Position.{AreDefined}
-use Rattle.desk_book.specs.Book.{Replacement, Entry, Corrects, Undoes, Paragraph, Mark, Book, text_of, paragraph_of}
-use Rattle.desk_book.specs.Print.{corrected, print_of, stack}
+use Rattle.desk_book.specs.Book.{Entry, Corrects, Undoes, Paragraph, Mark, Book, text_of, paragraph_of}
+use Rattle.desk_book.specs.Print.{corrected, newest, print_of}
 use Rattle.desk_book.specs.Limits.{most_entries, most_marks, most_note, most_paragraphs, most_print, most_tables, most_version}
-use Rattle.desk_book.specs.Stored.{IsClean}
-use Rattle.desk_book.specs.Name.{IsTableName}
+use Rattle.desk_book.specs.Stored.{AreCharacters, IsClean}
+use Rattle.desk_book.specs.Name.{IsReaderName, IsTableName}
 
 -- ---- histories
 
--- the newest correction in force, with its number, if there is one
-abbrev pub newest : List Entry → Option (ℕ × Replacement)
-newest history = last_or None (stack history)
-
--- after the entries before it, a correction replaces characters that are there by a clean text, and an undo names the
--- newest correction then in force
+-- after the entries before it, a correction replaces characters that are there by a clean text, for a reader whose
+-- name is one, and an undo names the newest correction then in force
 abbrev pub IsSoundEntry : List ℕ → List Entry → Entry → Type 0
-IsSoundEntry original before (Corrects r) = (r.start + r.count ≤ length (corrected original before)) × IsClean r.text
+IsSoundEntry original before (Corrects r who) =
+    (r.start + r.count ≤ length (corrected original before)) × IsClean r.text × IsReaderName who × AreCharacters who
 IsSoundEntry original before (Undoes n) = option_map (λ correction. correction.0) (newest before) ≡ Some n
+
+-- each entry is sound after those before it
+abbrev pub AreSoundEntries : List ℕ → List Entry → Type 0
+AreSoundEntries original history =
+    (i : ℕ) (entry : Entry) → slice_get history i ≡ Some entry → IsSoundEntry original (take i history) entry
 
 pub record IsSoundHistory (original : List ℕ) (history : List Entry) : Type 0 where
   pub few : length history ≤ most_entries
-  pub entries : (i : ℕ) (entry : Entry) → slice_get history i ≡ Some entry → IsSoundEntry original (take i history) entry
+  pub entries : AreSoundEntries original history
   pub short : (i : ℕ) → i ≤ length history → length (corrected original (take i history)) ≤ most_print
 
 -- ---- the parts of a book

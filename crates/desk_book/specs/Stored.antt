@@ -1,5 +1,6 @@
 -- Texts as a book keeps them.
 use Rattle.std.specs.Prelude.{◌≡◌, ℕ, ◌<◌, Bool, true, false, ◌||◌, not, ◌==◌, List, length, slice_index}
+use Rattle.std.specs.Char.{IsScalar}
 use Rattle.std.specs.List.{filter, All}
 use Rattle.unicode_normalization.specs.Forms.{nfc}
 
@@ -7,9 +8,18 @@ use Rattle.unicode_normalization.specs.Forms.{nfc}
 abbrev pub is_barred : ℕ → Bool
 is_barred character = character == 10 || character == 13 || character == 0
 
+-- each code is that of a character, a Unicode scalar value
+abbrev pub AreCharacters : List ℕ → Type 0
+AreCharacters = All IsScalar
+
 -- the text holds no barred character
-abbrev pub IsClean : List ℕ → Type 0
-IsClean text = All (λ character. is_barred character ≡ false) text
+abbrev pub IsUnbarred : List ℕ → Type 0
+IsUnbarred text = All (λ character. is_barred character ≡ false) text
+
+-- the text is of characters, and none of them is barred
+pub record IsClean (text : List ℕ) : Type 0 where
+  pub characters : AreCharacters text
+  pub unbarred : IsUnbarred text
 
 -- the smallest place of a barred character
 pub record IsFirstBarred (text : List ℕ) (place : ℕ) : Type 0 where

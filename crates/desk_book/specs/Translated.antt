@@ -1,5 +1,5 @@
 -- The braille of a book's paragraphs.
-use Rattle.std.specs.Prelude.{◌≡◌, ℕ, ◌<◌, ◌≤◌, List, length, Some}
+use Rattle.std.specs.Prelude.{◌≡◌, ◌⊎◌, ℕ, ◌+◌, ◌-◌, ◌<◌, ◌≤◌, List, length, Some}
 use Rattle.louis_table.specs.Meaning.{Meaning}
 use Rattle.louis_table.specs.Table.{Means}
 use Rattle.louis_translate.specs.declared.choices.Choice.{Choice}
@@ -49,3 +49,25 @@ pub record LacksCell (book : Book) (id cell : ℕ) : Type 0 where
   pub choices : List Choice
   pub translated : IsTranslatedBy book paragraph meaning choices
   pub past : length (braille meaning (print_of paragraph) choices) ≤ cell
+
+-- ---- the print under cells
+
+-- so many cells from a cell on stand for the places of the print from start up to but not including end: from the print
+-- place of the first of them to the end of the choice that made the last
+pub record AreMarked (book : Book) (id cell count start end : ℕ) : Type 0 where
+  pub paragraph : Paragraph
+  pub found : paragraph_of book id ≡ Some paragraph
+  pub meaning : Meaning
+  pub choices : List Choice
+  pub translated : IsTranslatedBy book paragraph meaning choices
+  pub starts : places.IsPrintPlace meaning (print_of paragraph) choices cell start
+  pub ends : places.IsPrintEnd meaning (print_of paragraph) choices (cell + count - 1) end
+
+-- the book has the paragraph, but no cell is asked for, or more than the braille of it has
+pub record LacksCells (book : Book) (id cell count : ℕ) : Type 0 where
+  pub paragraph : Paragraph
+  pub found : paragraph_of book id ≡ Some paragraph
+  pub meaning : Meaning
+  pub choices : List Choice
+  pub translated : IsTranslatedBy book paragraph meaning choices
+  pub lacks : (count ≡ 0) ⊎ (length (braille meaning (print_of paragraph) choices) < cell + count)

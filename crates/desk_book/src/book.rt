@@ -1,9 +1,10 @@
 //! A book.
 ghost use Rattle.desk_book.specs.Book.{empty_book, paragraph_of, text_of};
 ghost use Rattle.desk_book.specs.Print.{print_of};
-ghost use Rattle.desk_book.specs.Translated.{IsBraille, IsOutputPlace, IsPrintPlace};
+ghost use Rattle.desk_book.specs.Sound.{IsSound};
 ghost use Rattle.std.specs.Prelude.{◌≡◌, None, Some, IfErr, IfOk, Err};
 
+use super::marks::Marks;
 use super::paragraphs::{Paragraph, Paragraphs};
 use super::refusal::Refusal;
 use super::tables::Tables;
@@ -11,13 +12,14 @@ use cell_core::Cell;
 use std::alloc::{AllocError, Global};
 use std::marker::Model;
 
-/// A book: its tables, its paragraphs with their prints and their braille, and its version, which each command
+/// A book: its tables, its paragraphs with their prints and their braille, its marks, and its version, which each command
 /// raises by one. Contracts see what was typed; that the cells are those of the prints is true of every book.
 #[derive(Drop)]
 pub struct Book {
     pub(crate) version: u64,
     pub(crate) tables: Tables,
     pub(crate) paragraphs: Paragraphs,
+    pub(crate) marks: Marks,
 }
 
 impl Model for Book {
@@ -26,9 +28,9 @@ impl Model for Book {
 
     ghost Value = { Book };
 
-    ghost view = { λ b. book_kept b.version b.tables b.paragraphs };
+    ghost view = { λ b. book_kept b.version b.tables b.paragraphs b.marks };
 
-    ghost invariant = { λ b. IsKept b.version b.tables b.paragraphs };
+    ghost invariant = { λ b. IsKept b.version b.tables b.paragraphs b.marks };
 }
 
 impl Book {
@@ -44,12 +46,15 @@ impl Book {
             version: 0,
             tables: Tables::new(alloc),
             paragraphs: Paragraphs::new(alloc),
+            marks: Marks::new(alloc),
         })
     }
 
-    /// The version: how many commands were accepted.
+    /// The version: how many commands were accepted. Each book is sound: all of it is within its limits, what it
+    /// names is there, and each print is defined by its table.
     pub fn version(&self) -> u64
-        ensures { result ≡ self.now.version }
+        ensures version { result ≡ self.now.version }
+        ensures sound { IsSound self.now }
     {
         self.version
     }

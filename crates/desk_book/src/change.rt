@@ -1,11 +1,34 @@
 //! What a command changes in a book.
 ghost use Rattle.std.specs.Prelude.{◌≡◌};
 
+use super::history::KeptEntry;
+use super::items::Room;
+use super::marks::KeptMark;
 use super::paragraphs::{Order, Paragraph, ParagraphsRoom};
 use super::style::Style;
 use super::tables::{BookTable, TablesRoom};
 use super::text::Text;
 use cell_core::Cells;
+use louis_table::Characters;
+
+/// What a correction or an undo changes in a paragraph.
+#[derive(Drop)]
+pub(crate) struct PrintChange {
+    /// The new entry of its history.
+    pub(crate) entry: KeptEntry,
+    /// Room for it beside the others.
+    pub(crate) room: Room<KeptEntry>,
+    /// The new print.
+    pub(crate) print: Characters,
+    /// The braille of that.
+    pub(crate) cells: Cells,
+    /// The place of the old print from which on characters give way.
+    pub(crate) start: usize,
+    /// How many give way.
+    pub(crate) removed: usize,
+    /// How many come in their place.
+    pub(crate) added: usize,
+}
 
 /// What a change puts in. It has room for all that it adds.
 #[derive(Drop)]
@@ -36,6 +59,25 @@ pub(crate) enum Effect {
         room: ParagraphsRoom,
         /// The order with it.
         order: Order,
+    },
+    /// A paragraph gets another print, and its marks move.
+    ChangePrint {
+        /// The paragraph's id.
+        id: u64,
+        /// What changes.
+        change: PrintChange,
+    },
+    /// A mark comes.
+    AddMark {
+        /// The mark.
+        mark: KeptMark,
+        /// Room for it beside the others.
+        room: Room<KeptMark>,
+    },
+    /// A mark becomes resolved.
+    ResolveMark {
+        /// The mark's id.
+        id: u64,
     },
     /// A paragraph gets a style and flags.
     SetFlags {
@@ -76,7 +118,7 @@ pub struct Change {
 }
 
 impl Change {
-    /// The number that the command answers: the id of a new paragraph.
+    /// The number that the command answers: the id of a new paragraph or mark, or the number of a new entry of a history.
     pub fn number(&self) -> Option<u64>
         ensures { result ≡ self.now.number }
     {

@@ -7,10 +7,10 @@ use super::text::{Bytes, Text};
 pub enum Anchor {
     /// Before all others.
     Front,
-    /// Behind all others.
+    /// After all others.
     End,
-    /// Behind the paragraph with this id.
-    Behind(u64),
+    /// After the paragraph with this id.
+    Para(u64),
 }
 
 /// A command over a book. Paragraphs are named by their ids.
@@ -26,11 +26,45 @@ pub enum Command {
     /// Types a new paragraph.
     TypeIn {
         /// Where it is put.
-        anchor: Anchor,
+        after: Anchor,
         /// The name of its table.
         table: Text,
         /// What is typed; the print is its Unicode normal form C.
         text: Text,
+    },
+    /// Puts a text in place of characters of a paragraph's print, which are none, some or all of it.
+    Correct {
+        /// The paragraph.
+        paragraph: u64,
+        /// The place of the first of the characters, from 0.
+        start: usize,
+        /// How many characters give way.
+        count: usize,
+        /// What is put in their place; its Unicode normal form C is kept.
+        text: Text,
+        /// The name of the reader who corrects: 0 to 40 characters without blanks.
+        who: Text,
+    },
+    /// Takes back the newest correction of a paragraph that is in force.
+    Undo {
+        /// The paragraph.
+        paragraph: u64,
+    },
+    /// Puts a new mark on the places of a paragraph's print that cells of its braille stand for.
+    Mark {
+        /// The paragraph.
+        paragraph: u64,
+        /// The first of the cells, from 0.
+        cell: usize,
+        /// How many cells, at least one.
+        count: usize,
+        /// The proofreader's note, which is kept as it is given.
+        note: Text,
+    },
+    /// Says that a mark is dealt with.
+    Resolve {
+        /// The mark's id.
+        mark: u64,
     },
     /// Takes a paragraph out of the volumes.
     Strike {
@@ -63,11 +97,11 @@ pub enum Command {
         /// The name of the table.
         table: Text,
     },
-    /// Takes a paragraph out of its place and puts it elsewhere. Behind itself it stays where it is.
+    /// Takes a paragraph out of its place and puts it elsewhere. After itself it stays where it is.
     Move {
         /// The paragraph.
         paragraph: u64,
         /// Where it is put.
-        anchor: Anchor,
+        after: Anchor,
     },
 }

@@ -22,9 +22,15 @@ mod book;
 mod braille;
 mod change;
 mod command;
+mod corrections;
+mod history;
+mod items;
 pub mod laws;
 mod limits;
 mod list;
+mod marking;
+mod marks;
+mod paragraph_marks;
 mod paragraphs;
 mod plan;
 mod queries;
@@ -35,14 +41,17 @@ mod stored;
 mod style;
 mod tables;
 mod text;
+mod told;
 
 pub use book::Book;
 pub use change::Change;
 pub use command::{Anchor, Command};
 pub use list::{List, Listed};
+pub use paragraph_marks::{MarkItem, ParagraphMarks};
 pub use refusal::{Limit, Refusal};
 pub use style::Style;
 pub use text::{Bytes, Text};
+pub use told::{Done, History, HistoryItem};
 
 #[cfg(test)]
 mod tests;

@@ -14,3 +14,15 @@ pub(crate) const MOST_PARAGRAPHS: usize = 20_000;
 
 /// Characters of a print.
 pub(crate) const MOST_PRINT: usize = 4_000;
+
+/// Entries of a paragraph's history.
+pub(crate) const MOST_ENTRIES: usize = 10_000;
+
+/// Marks of a book.
+pub(crate) const MOST_MARKS: usize = 100_000;
+
+/// Characters of a note.
+pub(crate) const MOST_NOTE: usize = 500;
+
+/// Characters of a reader's name.
+pub(crate) const MOST_READER: usize = 40;

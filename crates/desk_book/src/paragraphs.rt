@@ -1,5 +1,6 @@
 //! The paragraphs of a book.
 ghost use Rattle.desk_book.specs.Kept.{arranged, ids, renewed, with_id, with_id_moved, with_kept_change};
+ghost use Rattle.desk_book.specs.KeptPrints.{HasRoomFor, with_print_changed};
 ghost use Rattle.desk_book.specs.Step.{is_behind};
 ghost use Rattle.std.specs.List.{filter, range_with_len};
 ghost use Rattle.std.specs.List.Sorted.{IsPermutation};
@@ -7,7 +8,10 @@ ghost use Rattle.std.specs.Map.{lookup};
 ghost use Rattle.std.specs.Option.{option_copied, option_map_or};
 ghost use Rattle.std.specs.Prelude.{◌≡◌, ◌+◌, ◌<◌, ◌≤◌, [], ◌∷◌, ◌++◌, IfNone, IfOk, IfSome, OnOk, ◌==◌, length, map, nat_eq, not, option_map, slice_get};
 
+use super::change::PrintChange;
 use super::command::Anchor;
+use super::history::KeptEntry;
+use super::items::Items;
 use super::style::Style;
 use super::text::Text;
 use cell_core::Cells;
@@ -22,6 +26,8 @@ pub(crate) struct Paragraph {
     pub(crate) table: Text,
     /// The text as it was typed, in normal form C.
     pub(crate) original: Text,
+    /// The corrections and undos of it.
+    pub(crate) history: Items<KeptEntry>,
     /// Its style.
     pub(crate) style: Style,
     /// Whether it begins a volume.
@@ -41,6 +47,7 @@ impl Drop for Paragraph {
         let Paragraph {
             table: _,
             original: _,
+            history: _,
             style: _,
             begins_volume: _,
             struck: _,
@@ -126,7 +133,7 @@ impl Model for Paragraphs {
 
 /// Puts all ids behind the list, and the new one behind each that is the one given.
 fn put_behind(all: &mut Vec<u64>, ids: &[u64], new: u64, id: u64) -> Result<(), AllocError>
-    ensures { OnOk result (all.new.items ≡ all.old.items ++ with_id (Anchor.Behind id) new ids.now) }
+    ensures { OnOk result (all.new.items ≡ all.old.items ++ with_id (Anchor.Para id) new ids.now) }
 {
     for other in ids {
         all.push(*other)?;
@@ -151,7 +158,7 @@ fn with_new(alloc: Global, ids: &[u64], new: u64, after: Anchor) -> Result<Vec<u
             all.extend_from_slice(ids)?;
             all.push(new)?;
         }
-        Anchor::Behind(id) => put_behind(&mut all, ids, new, id)?,
+        Anchor::Para(id) => put_behind(&mut all, ids, new, id)?,
     }
     Ok(all)
 }
@@ -172,7 +179,7 @@ fn stays_behind(id: u64, after: Anchor) -> bool
 {
     match after {
         Anchor::Front | Anchor::End => false,
-        Anchor::Behind(other) => other == id,
+        Anchor::Para(other) => other == id,
     }
 }
 
@@ -301,6 +308,30 @@ impl Paragraphs {
         paragraph.cells = cells;
     }
 
+    /// Gives the paragraph with an id, which is there, another print and the cells of it, and its history one entry more.
+    /// It takes no memory.
+    pub(crate) fn change_print(&mut self, id: u64, change: PrintChange)
+        requires { HasRoomFor self.old id change.room }
+        ensures { self.new ≡ with_kept_change id (with_print_changed change) self.old }
+    {
+        let Some(index) = self.index_of(id) else {
+            return;
+        };
+        let PrintChange {
+            entry,
+            room,
+            print,
+            cells,
+            start: _,
+            removed: _,
+            added: _,
+        } = change;
+        let paragraph = &mut self.items[index];
+        paragraph.history.push(room, entry);
+        paragraph.print = print;
+        paragraph.cells = cells;
+    }
+
     /// Gives paragraphs new cells: those with id n the item n - 1, where that has any.
     pub(crate) fn renew(&mut self, cells: Vec<Option<Cells>>)
         ensures { self.new ≡ map (renewed cells.items) self.old }
@@ -322,8 +353,8 @@ mod tests {
         let rows = [
             (Anchor::Front, [4, 3, 1, 2]),
             (Anchor::End, [3, 1, 2, 4]),
-            (Anchor::Behind(3), [3, 4, 1, 2]),
-            (Anchor::Behind(2), [3, 1, 2, 4]),
+            (Anchor::Para(3), [3, 4, 1, 2]),
+            (Anchor::Para(2), [3, 1, 2, 4]),
         ];
         for (after, order) in rows {
             let ids = with_new(rt.alloc(), &[3, 1, 2], 4, after)?;

@@ -5,18 +5,19 @@ ghost use Rattle.desk_book.specs.Limits.{most_paragraphs, most_print, most_table
 ghost use Rattle.desk_book.specs.Name.{IsTableName};
 ghost use Rattle.desk_book.specs.Planned.{AreNotAllThere, AreThere, DefinesUser, IsFirstUser, IsKeptFor, IsNewParagraph, IsPlanned, IsTableFor, IsTurnedDown};
 ghost use Rattle.desk_book.specs.Refusals.{IsAccepted, IsMoved, IsRefused, paragraph_before};
-ghost use Rattle.desk_book.specs.Step.{number_of};
-ghost use Rattle.desk_book.specs.Stored.{IsClean, IsFirstBarred};
+ghost use Rattle.desk_book.specs.Step.{next_mark, number_of};
+ghost use Rattle.desk_book.specs.Stored.{AreCharacters, IsUnbarred, IsFirstBarred};
 ghost use Rattle.louis_table.specs.Table.{Bad, Means};
 ghost use Rattle.louis_translate.specs.Position.{AreDefined, IsFirstUndefined};
 ghost use Rattle.std.specs.Str.{chars};
 ghost use Rattle.std.specs.List.{All};
-ghost use Rattle.std.specs.Prelude.{◌≡◌, ◌≢◌, ◌↔◌, ◌⊎◌, ◌<◌, ◌≤◌, IfErr, IfOk, IsSome, IsTrue, MatchOption, None, OnOk, length};
+ghost use Rattle.std.specs.Prelude.{◌≡◌, ◌≢◌, ◌↔◌, ◌⊎◌, ◌<◌, ◌≤◌, IfErr, IfOk, IsSome, IsTrue, MatchOption, None, OnOk, ◌+◌, length, option_map};
 
 use super::book::Book;
 use super::braille::cells_of;
 use super::change::{Change, Effect};
 use super::command::{Anchor, Command};
+use super::items::Items;
 use super::limits::{MOST_PARAGRAPHS, MOST_PRINT, MOST_TABLES, MOST_VERSION};
 use super::paragraphs::{Paragraph, ParagraphsRoom};
 use super::refusal::{Limit, Refusal};
@@ -41,15 +42,17 @@ impl From<AllocError> for Refusal {
 }
 
 /// A copy of a text.
-fn copy(alloc: Global, text: &str) -> Result<Text, AllocError>
-    ensures { IfOk result (λ copied. copied ≡ chars text.now) }
+pub(crate) fn copy(alloc: Global, text: &str) -> Result<Text, AllocError>
+    ensures text { IfOk result (λ copied. copied ≡ chars text.now) }
+    ensures characters { IfOk result AreCharacters }
 {
     Ok(Text::from_string(String::from_str(alloc, text)?))
 }
 
 /// The text of a print.
-fn text_of_print(alloc: Global, print: &[char]) -> Result<Text, AllocError>
-    ensures { IfOk result (λ text. text ≡ print.now) }
+pub(crate) fn text_of_print(alloc: Global, print: &[char]) -> Result<Text, AllocError>
+    ensures text { IfOk result (λ text. text ≡ print.now) }
+    ensures characters { IfOk result AreCharacters }
 {
     let string: String = print.iter().copied().collect(alloc)?;
     Ok(Text::from_string(string))
@@ -70,6 +73,7 @@ fn new_paragraph(
     Ok(Paragraph {
         table: copy(alloc, table.as_str())?,
         original,
+        history: Items::new(alloc),
         style: Style::Body,
         begins_volume: false,
         struck: false,
@@ -79,8 +83,8 @@ fn new_paragraph(
 }
 
 /// A text that is given has no barred character.
-fn check_text(text: &Text) -> Result<(), Refusal>
-    ensures clean { OnOk result (IsClean text.now) }
+pub(crate) fn check_text(text: &Text) -> Result<(), Refusal>
+    ensures unbarred { OnOk result (IsUnbarred text.now) }
     ensures barred { IfErr result (λ refusal. (place : _) × (refusal ≡ Refusal.BadText place)
         × IsFirstBarred text.now place) }
 {
@@ -91,7 +95,7 @@ fn check_text(text: &Text) -> Result<(), Refusal>
 }
 
 /// A print is within its limit.
-fn check_length(print: &[char]) -> Result<(), Refusal>
+pub(crate) fn check_length(print: &[char]) -> Result<(), Refusal>
     ensures short { OnOk result (length print.now ≤ most_print) }
     ensures long { IfErr result (λ refusal. (refusal ≡ Refusal.TooLong) × (most_print < length print.now)) }
 {
@@ -101,13 +105,13 @@ fn check_length(print: &[char]) -> Result<(), Refusal>
     Ok(())
 }
 
-/// A table defines a print.
-fn check_print(table: &BookTable, print: &[char]) -> Result<(), Refusal>
-    ensures defined { OnOk result (AreDefined table.now.rules print.now) }
+/// Rules define a print.
+pub(crate) fn check_print(rules: &RuleIndex, print: &[char]) -> Result<(), Refusal>
+    ensures defined { OnOk result (AreDefined rules.now print.now) }
     ensures undefined { IfErr result (λ refusal. (place : _) × (refusal ≡ Refusal.Undefined place)
-        × IsFirstUndefined table.now.rules print.now place) }
+        × IsFirstUndefined rules.now print.now place) }
 {
-    match undefined_place(table.rules.table(), print) {
+    match undefined_place(rules.table(), print) {
         Some(place) => Err(Refusal::Undefined { place }),
         None => Ok(()),
     }
@@ -154,7 +158,8 @@ impl Book {
     ///
     /// # Errors
     ///
-    /// The first refusal that holds, in this order: another version than the expected one; a bad name; a barred
+    /// The first refusal that holds, in this order: another version than the expected one; a bad name of a table or of a
+    /// reader; a barred
     /// character; no such paragraph, table or mark; a struck paragraph, or one that isn't, a resolved mark; places
     /// that are not all there; nothing to undo; a text that is too long; a limit; a bad table; an undefined
     /// character; a paragraph that a table no longer defines. Where an allocation was refused, `NoMemory` may stand
@@ -199,7 +204,35 @@ impl Book {
     {
         match command {
             Command::TypeIn { .. } => Some(self.paragraphs.len() as u64 + 1),
-            _ => None,
+            Command::Correct { paragraph, .. } | Command::Undo { paragraph } => {
+                self.next_entry(*paragraph)
+            }
+            Command::Mark { .. } => Some(self.next_mark()),
+            Command::Table { .. }
+            | Command::Resolve { .. }
+            | Command::Strike { .. }
+            | Command::Restore { .. }
+            | Command::Style { .. }
+            | Command::Volume { .. }
+            | Command::Retable { .. }
+            | Command::Move { .. } => None,
+        }
+    }
+
+    /// The id of the next mark.
+    fn next_mark(&self) -> u64
+        ensures { result ≡ next_mark self.now }
+    {
+        self.marks.len() as u64 + 1
+    }
+
+    /// The number of the next entry of a paragraph's history.
+    fn next_entry(&self, id: u64) -> Option<u64>
+        ensures { result ≡ option_map (λ paragraph. length paragraph.history + 1) (paragraph_of self.now id) }
+    {
+        match self.paragraphs.get(id) {
+            Some(paragraph) => Some(paragraph.history.len() as u64 + 1),
+            None => None,
         }
     }
 
@@ -210,17 +243,28 @@ impl Book {
     {
         match command {
             Command::Table { name, text } => self.plan_table(alloc, name, text),
-            Command::TypeIn {
-                anchor,
-                table,
+            Command::TypeIn { after, table, text } => self.plan_type(alloc, *after, table, text),
+            Command::Correct {
+                paragraph,
+                start,
+                count,
                 text,
-            } => self.plan_type(alloc, *anchor, table, text),
+                who,
+            } => self.plan_correct(alloc, *paragraph, *start, *count, text, who),
+            Command::Undo { paragraph } => self.plan_undo(alloc, *paragraph),
+            Command::Mark {
+                paragraph,
+                cell,
+                count,
+                note,
+            } => self.plan_mark(alloc, *paragraph, *cell, *count, note),
+            Command::Resolve { mark } => self.plan_resolve(*mark),
             Command::Strike { paragraph } => self.plan_strike(*paragraph),
             Command::Restore { paragraph } => self.plan_restore(*paragraph),
             Command::Style { paragraph, style } => self.plan_style(*paragraph, *style),
             Command::Volume { paragraph, begins } => self.plan_volume(*paragraph, *begins),
             Command::Retable { paragraph, table } => self.plan_retable(alloc, *paragraph, table),
-            Command::Move { paragraph, anchor } => self.plan_move(alloc, *paragraph, *anchor),
+            Command::Move { paragraph, after } => self.plan_move(alloc, *paragraph, *after),
         }
     }
 
@@ -239,7 +283,7 @@ impl Book {
         ensures missing { IfErr result (λ refusal.
             (refusal ≡ Refusal.NoParagraph) × AreNotAllThere self.now (paragraph_before anchor)) }
     {
-        if let Anchor::Behind(id) = anchor {
+        if let Anchor::Para(id) = anchor {
             self.named(id)?;
         }
         Ok(())
@@ -255,7 +299,7 @@ impl Book {
     }
 
     /// A version is left.
-    fn check_version(&self) -> Result<(), Refusal>
+    pub(crate) fn check_version(&self) -> Result<(), Refusal>
         ensures left { OnOk result (self.now.version < most_version) }
         ensures full { IfErr result (λ refusal.
             (refusal ≡ Refusal.Full Limit.Version) × (most_version ≤ self.now.version)) }
@@ -343,7 +387,7 @@ impl Book {
         }
         self.check_version()?;
         let print = paragraph.print.as_slice();
-        check_print(kept, print)?;
+        check_print(&kept.rules, print)?;
         Ok(Effect::ChangeTable {
             id,
             table: copy(alloc, table.as_str())?,
@@ -368,7 +412,7 @@ impl Book {
         check_length(&print)?;
         self.check_room()?;
         self.check_version()?;
-        check_print(kept, &print)?;
+        check_print(&kept.rules, &print)?;
         Ok(Effect::AddParagraph {
             paragraph: new_paragraph(alloc, table, &kept.rules, print)?,
             room: ParagraphsRoom::new(alloc, self.paragraphs.len() + 1)?,

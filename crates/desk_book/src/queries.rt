@@ -1,20 +1,24 @@
 //! What a book shows. No query takes memory.
 ghost use Rattle.desk_book.specs.Book.{paragraph_of};
+ghost use Rattle.desk_book.specs.ParagraphMarks.{marks_on};
 ghost use Rattle.desk_book.specs.Print.{print_of};
 ghost use Rattle.desk_book.specs.Shown.{IsShown};
 ghost use Rattle.desk_book.specs.Translated.{IsBraille, IsOutputPlace, IsPrintPlace, LacksCell, LacksPlace};
+ghost use Rattle.std.specs.List.{enumerate_from};
 ghost use Rattle.std.specs.Prelude.{◌≡◌, ◌⊎◌, IfErr, IfOk, None, Some};
 
 use super::book::Book;
 use super::list::List;
+use super::paragraph_marks::ParagraphMarks;
 use super::paragraphs::Paragraph;
 use super::refusal::Refusal;
+use super::told::History;
 use cell_core::Cell;
 use louis_translate::{RuleIndex, output_place, print_place};
 
 impl Book {
     /// A paragraph as it is kept, and the rules of its table.
-    fn translated(&self, id: u64) -> Result<(&Paragraph, &RuleIndex), Refusal>
+    pub(crate) fn translated(&self, id: u64) -> Result<(&Paragraph, &RuleIndex), Refusal>
         ensures found { IfOk result (λ shown. IsShown self.now id shown.0.now shown.1.now) }
         ensures missing { IfErr result (λ refusal. (refusal ≡ Refusal.NoParagraph) × (paragraph_of self.now id ≡ None)) }
     {
@@ -92,6 +96,34 @@ impl Book {
     {
         let (paragraph, rules) = self.translated(id)?;
         print_place(rules, paragraph.print.as_slice(), cell).ok_or(Refusal::BadSpan)
+    }
+
+    /// The entries of a paragraph's history, each with its number.
+    ///
+    /// # Errors
+    ///
+    /// As [`Book::print`].
+    pub fn history(&self, id: u64) -> Result<History<'_>, Refusal>
+        ensures found { IfOk result (λ history. (paragraph : _) × (paragraph_of self.now id ≡ Some paragraph)
+            × (history ≡ enumerate_from 1 paragraph.history)) }
+        ensures missing { IfErr result (λ refusal. (refusal ≡ Refusal.NoParagraph) × (paragraph_of self.now id ≡ None)) }
+    {
+        let (paragraph, _) = self.translated(id)?;
+        Ok(History::new(paragraph.history.as_slice()))
+    }
+
+    /// The marks of a paragraph in the order of their ids.
+    ///
+    /// # Errors
+    ///
+    /// As [`Book::print`].
+    pub fn marks(&self, id: u64) -> Result<ParagraphMarks<'_>, Refusal>
+        ensures found { IfOk result (λ marks. (paragraph : _) × (paragraph_of self.now id ≡ Some paragraph)
+            × (marks ≡ marks_on id self.now.marks)) }
+        ensures missing { IfErr result (λ refusal. (refusal ≡ Refusal.NoParagraph) × (paragraph_of self.now id ≡ None)) }
+    {
+        let _ = self.translated(id)?;
+        Ok(ParagraphMarks::new(self.marks.as_slice(), id))
     }
 
     /// The paragraphs in the order of the book.

@@ -47,6 +47,9 @@ pub enum Refusal {
     /// The name of a table has other characters than `a` to `z`, `0` to `9`, `_` and `-`, or not 1 to 32 of them.
     #[error("this is no name of a table")]
     BadName,
+    /// The name of a reader has over 40 characters, or a blank, a line feed, a carriage return or U+0000.
+    #[error("this is no name of a reader")]
+    BadReader,
     /// A text has a line feed, a carriage return or U+0000.
     #[error("the text has a barred character at place {place}")]
     BadText {
@@ -77,7 +80,7 @@ pub enum Refusal {
     /// No correction of the paragraph is in force.
     #[error("no correction is in force")]
     NothingToUndo,
-    /// A print would have over 4,000 characters, or a note over 500.
+    /// A text in normal form C or a print would have over 4,000 characters, or a note has over 500.
     #[error("the text is too long")]
     TooLong,
     /// The command would add to what is at its limit.
@@ -127,6 +130,7 @@ impl Refusal {
             Refusal::Full(_) => 15,
             Refusal::Moved { .. } => 16,
             Refusal::BadName => 17,
+            Refusal::BadReader => 18,
             Refusal::NoMemory => 90,
         }
     }

@@ -3,7 +3,9 @@ ghost use Rattle.desk_book.specs.Changes.{Carries, Puts};
 ghost use Rattle.std.specs.Prelude.{◌≡◌};
 
 use super::book::Book;
-use super::change::{Change, Effect};
+use super::change::{Change, Effect, PrintChange};
+use super::items::Room;
+use super::marks::KeptMark;
 use super::paragraphs::{Order, Paragraph, ParagraphsRoom};
 use super::style::Style;
 use super::tables::{BookTable, TablesRoom};
@@ -20,11 +22,13 @@ impl Book {
             version: _,
             tables,
             paragraphs,
+            marks,
         } = self;
         Book {
             version,
             tables: tables.joined(name, table, room),
             paragraphs,
+            marks,
         }
     }
 
@@ -43,6 +47,7 @@ impl Book {
             version: _,
             mut tables,
             mut paragraphs,
+            marks,
         } = self;
         tables.replace(name.as_str(), table);
         paragraphs.renew(cells);
@@ -50,6 +55,7 @@ impl Book {
             version,
             tables,
             paragraphs,
+            marks,
         }
     }
 
@@ -68,11 +74,13 @@ impl Book {
             version: _,
             tables,
             paragraphs,
+            marks,
         } = self;
         Book {
             version,
             tables,
             paragraphs: paragraphs.typed(paragraph, room, order),
+            marks,
         }
     }
 
@@ -92,12 +100,14 @@ impl Book {
             version: _,
             tables,
             mut paragraphs,
+            marks,
         } = self;
         paragraphs.set_flags(id, style, begins_volume, struck);
         Book {
             version,
             tables,
             paragraphs,
+            marks,
         }
     }
 
@@ -110,12 +120,14 @@ impl Book {
             version: _,
             tables,
             mut paragraphs,
+            marks,
         } = self;
         paragraphs.set_table(id, table, cells);
         Book {
             version,
             tables,
             paragraphs,
+            marks,
         }
     }
 
@@ -128,11 +140,74 @@ impl Book {
             version: _,
             tables,
             paragraphs,
+            marks,
         } = self;
         Book {
             version,
             tables,
             paragraphs: paragraphs.reordered(order),
+            marks,
+        }
+    }
+
+    /// The book at a version, with another print of a paragraph and an entry more in its history, and its marks moved.
+    fn with_print_changed(self, version: u64, id: u64, change: PrintChange) -> Self
+        requires { (next : _) × Puts self version (Effect.ChangePrint id change) next }
+        ensures { (next : _) → Puts self version (Effect.ChangePrint id change) next → result ≡ next }
+    {
+        let Book {
+            version: _,
+            tables,
+            mut paragraphs,
+            mut marks,
+        } = self;
+        marks.give_way(id, change.start, change.removed, change.added);
+        paragraphs.change_print(id, change);
+        Book {
+            version,
+            tables,
+            paragraphs,
+            marks,
+        }
+    }
+
+    /// The book at a version, with a new mark.
+    fn with_new_mark(self, version: u64, mark: KeptMark, room: Room<KeptMark>) -> Self
+        requires { (next : _) × Puts self version (Effect.AddMark mark room) next }
+        ensures { (next : _) → Puts self version (Effect.AddMark mark room) next → result ≡ next }
+    {
+        let Book {
+            version: _,
+            tables,
+            paragraphs,
+            mut marks,
+        } = self;
+        marks.push(room, mark);
+        Book {
+            version,
+            tables,
+            paragraphs,
+            marks,
+        }
+    }
+
+    /// The book at a version, with a mark resolved.
+    fn with_mark_resolved(self, version: u64, id: u64) -> Self
+        requires { (next : _) × Puts self version (Effect.ResolveMark id) next }
+        ensures { (next : _) → Puts self version (Effect.ResolveMark id) next → result ≡ next }
+    {
+        let Book {
+            version: _,
+            tables,
+            paragraphs,
+            mut marks,
+        } = self;
+        marks.resolve(id);
+        Book {
+            version,
+            tables,
+            paragraphs,
+            marks,
         }
     }
 
@@ -158,6 +233,9 @@ impl Book {
                 room,
                 order,
             } => self.with_new_paragraph(version, paragraph, room, order),
+            Effect::ChangePrint { id, change } => self.with_print_changed(version, id, change),
+            Effect::AddMark { mark, room } => self.with_new_mark(version, mark, room),
+            Effect::ResolveMark { id } => self.with_mark_resolved(version, id),
             Effect::SetFlags {
                 id,
                 style,

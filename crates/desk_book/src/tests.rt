@@ -4,7 +4,10 @@
 //! answer, ` | `, and the request. A request that begins with `@V` expects version V. In the text of a table or a
 //! paragraph a pilcrow is a line feed, and `{a×3}` is `aaa`.
 use super::limits::MOST_VERSION;
-use super::{Anchor, Book, Bytes, Command, Listed, Refusal, Style, Text};
+use super::{
+    Anchor, Book, Bytes, Command, Done, History, HistoryItem, Listed, MarkItem, ParagraphMarks,
+    Refusal, Style, Text,
+};
 use cell_core::Cell;
 use louis_table::EN;
 use std::alloc::{AllocError, Global};
@@ -30,7 +33,7 @@ fn anchor(word: &str) -> Anchor {
     match word {
         "front" => Anchor::Front,
         "end" => Anchor::End,
-        id => Anchor::Behind(number(id)),
+        id => Anchor::Para(number(id)),
     }
 }
 
@@ -84,12 +87,8 @@ fn type_in(alloc: Global, rest: &str) -> Result<Command, Fail> {
     let (name, written) = cut(rest);
     let text = typed(alloc, written)?;
     let table = typed(alloc, name)?;
-    let anchor = anchor(place);
-    Ok(Command::TypeIn {
-        anchor,
-        table,
-        text,
-    })
+    let after = anchor(place);
+    Ok(Command::TypeIn { after, table, text })
 }
 
 /// The command that gives a paragraph another table.
@@ -102,11 +101,43 @@ fn retable(alloc: Global, rest: &str) -> Result<Command, Fail> {
     })
 }
 
+/// The command that corrects a paragraph.
+fn correct(alloc: Global, who: &str, rest: &str) -> Result<Command, Fail> {
+    let (id, rest) = cut(rest);
+    let (start, rest) = cut(rest);
+    let (count, written) = cut(rest);
+    let text = typed(alloc, written)?;
+    let who = typed(alloc, who)?;
+    Ok(Command::Correct {
+        paragraph: number(id),
+        start: number(start) as usize,
+        count: number(count) as usize,
+        text,
+        who,
+    })
+}
+
+/// The command that marks a paragraph.
+fn mark(alloc: Global, rest: &str) -> Result<Command, Fail> {
+    let (id, rest) = cut(rest);
+    let (cell, rest) = cut(rest);
+    let (count, written) = cut(rest);
+    let note = typed(alloc, written)?;
+    Ok(Command::Mark {
+        paragraph: number(id),
+        cell: number(cell) as usize,
+        count: number(count) as usize,
+        note,
+    })
+}
+
 /// The command of a row that gives no text, if it is one.
 fn short_command(verb: &str, rest: &str) -> Option<Command> {
     let (id, word) = cut(rest);
     let paragraph = number(id);
     match verb {
+        "undo" => Some(Command::Undo { paragraph }),
+        "resolve" => Some(Command::Resolve { mark: paragraph }),
         "strike" => Some(Command::Strike { paragraph }),
         "restore" => Some(Command::Restore { paragraph }),
         "style" => Some(Command::Style {
@@ -119,7 +150,7 @@ fn short_command(verb: &str, rest: &str) -> Option<Command> {
         }),
         "move" => Some(Command::Move {
             paragraph,
-            anchor: anchor(word),
+            after: anchor(word),
         }),
         _ => None,
     }
@@ -132,6 +163,12 @@ fn command(alloc: Global, request: &str) -> Result<Option<Command>, Fail> {
         "table" => Ok(Some(table(alloc, rest)?)),
         "type" => Ok(Some(type_in(alloc, rest)?)),
         "retable" => Ok(Some(retable(alloc, rest)?)),
+        "correct" => Ok(Some(correct(alloc, "", rest)?)),
+        "correct-by" => {
+            let (who, rest) = cut(rest);
+            Ok(Some(correct(alloc, who, rest)?))
+        }
+        "mark" => Ok(Some(mark(alloc, rest)?)),
         _ => Ok(short_command(verb, rest)),
     }
 }
@@ -253,6 +290,64 @@ fn order_shown(alloc: Global, book: &Book) -> Result<String, AllocError> {
     Ok(order)
 }
 
+/// An entry of a history, as rows have it.
+fn entry_shown(alloc: Global, item: &HistoryItem) -> Result<String, AllocError> {
+    let number = item.number;
+    match item.done {
+        Done::Corrected {
+            start,
+            count,
+            text,
+            who,
+        } => format!(in alloc; "{number} {who} {start} {count} {text}, "),
+        Done::TookBack(undone) => format!(in alloc; "{number} undo {undone}, "),
+    }
+}
+
+/// The entries of a history.
+fn entries_shown(alloc: Global, entries: History) -> Result<String, AllocError> {
+    let mut history = String::new(alloc);
+    for item in entries {
+        history.push_str(entry_shown(alloc, &item)?.as_str())?;
+    }
+    Ok(history)
+}
+
+/// The history of a paragraph.
+fn history_shown(alloc: Global, book: &Book, id: u64) -> Result<String, AllocError> {
+    match book.history(id) {
+        Ok(entries) => entries_shown(alloc, entries),
+        Err(refusal) => refused(alloc, refusal),
+    }
+}
+
+/// A mark of a paragraph, as rows have it.
+fn mark_shown(alloc: Global, item: &MarkItem) -> Result<String, AllocError> {
+    let state = if item.resolved { "resolved" } else { "open" };
+    let touch = if item.touched { "touched" } else { "kept" };
+    format!(in alloc;
+        "{} {} {} {state} {touch} {}, ",
+        item.id, item.start, item.end, item.note
+    )
+}
+
+/// Marks, one after the other.
+fn each_mark_shown(alloc: Global, items: ParagraphMarks) -> Result<String, AllocError> {
+    let mut marks = String::new(alloc);
+    for item in items {
+        marks.push_str(mark_shown(alloc, &item)?.as_str())?;
+    }
+    Ok(marks)
+}
+
+/// The marks of a paragraph.
+fn marks_shown(alloc: Global, book: &Book, id: u64) -> Result<String, AllocError> {
+    match book.marks(id) {
+        Ok(items) => each_mark_shown(alloc, items),
+        Err(refusal) => refused(alloc, refusal),
+    }
+}
+
 /// What a book shows.
 fn shown(alloc: Global, book: &Book, request: &str) -> Result<String, AllocError> {
     let (verb, rest) = cut(request);
@@ -264,6 +359,8 @@ fn shown(alloc: Global, book: &Book, request: &str) -> Result<String, AllocError
         "cells" => cells_shown(alloc, book, id),
         "where" => place_shown(alloc, book.where_is(id, place)),
         "whence" => place_shown(alloc, book.whence(id, place)),
+        "history" => history_shown(alloc, book, id),
+        "marks" => marks_shown(alloc, book, id),
         "list" => list_shown(alloc, book),
         "order" => order_shown(alloc, book),
         "version" => format!(in alloc; "{}", book.version()),
@@ -315,11 +412,13 @@ fn nearly_out_of_versions(book: Book) -> Book {
         version: _,
         tables,
         paragraphs,
+        marks,
     } = book;
     Book {
         version: MOST_VERSION - 1,
         tables,
         paragraphs,
+        marks,
     }
 }
 
@@ -741,5 +840,113 @@ no 15 5 | retable 1 sp
 no 2 | move 1 3
 no 15 5 | move 1 1
 1 en body volume live 2, 2 en body - struck 1,  | list",
+    )
+}
+
+#[test]
+fn corrections_are_taken_back(rt: HostRuntime) -> Result<(), Fail> {
+    judge_session(
+        &rt,
+        rt.alloc(),
+        "\
+ok 1 | table en EN
+ok 2 1 | type end en The cat
+ok 3 1 | correct 1 4 3 dog
+The dog | print 1
+ok 4 2 | undo 1
+The cat | print 1
+no 5 | correct 1 8 1 x
+no 5 | correct 1 18446744073709551615 1 x
+no 16 4 | @9 undo 1
+no 10 | undo 1
+4 | version
+ok 5 3 | correct-by Ann 1 7 0 s
+ok 6 4 | correct 1 4 0 x
+ok 7 5 | correct 1 0 9
+ | print 1
+ok 8 6 | undo 1
+The xcats | print 1
+⠠⠞⠓⠑⠀⠭⠉⠁⠞⠎ | cells 1
+ok 9 7 | undo 1
+ok 10 8 | undo 1
+The cat | print 1
+no 10 | undo 1
+no 18 | correct-by {a×41} 9 0 0 x¶
+no 6 1 | correct-by {a×40} 9 0 0 x¶
+ok 11 9 | correct-by {é×40} 1 0 0 x
+xThe cat | print 1
+1  4 3 dog, 2 undo 1, 3 Ann 7 0 s, 4  4 0 x, 5  0 9 , 6 undo 5, 7 undo 4, 8 undo 3, 9 éééééééééééééééééééééééééééééééééééééééé 0 0 x,  | history 1
+no 2 | history 2
+ok 12 | strike 1
+no 11 | correct 1 99 0 x
+no 11 | undo 1",
+    )
+}
+
+#[test]
+fn marks_are_put_and_resolved(rt: HostRuntime) -> Result<(), Fail> {
+    judge_session(
+        &rt,
+        rt.alloc(),
+        "\
+ok 1 | table en EN
+ok 2 1 | type end en The cat
+ok 3 1 | mark 1 5 3 cat?
+ok 4 1 | correct 1 7 0 s
+ok 5 2 | correct 1 4 0 x
+ok 6 3 | correct 1 0 9
+ok 7 4 | undo 1
+The xcats | print 1
+ok 8 | resolve 1
+no 13 | resolve 1
+no 4 | resolve 2
+no 4 | resolve 0
+1 0 0 resolved touched cat?,  | marks 1
+no 2 | marks 2
+no 5 | mark 1 0 0 x
+no 5 | mark 1 0 11 x
+no 5 | mark 1 11 1 x
+no 5 | mark 1 18446744073709551615 2 x
+no 2 | mark 2 0 1 x
+no 6 0 | mark 2 0 1 ¶
+no 14 | mark 1 0 1 {x×501}
+ok 9 2 | mark 1 0 10 {x×500}
+no 16 9 | @1 resolve 7
+ok 10 | table t letter t 2345¶letter h 125¶letter e 15¶letter n 1345¶letter i 24¶letter x 1346¶always the 2346
+ok 11 2 | type end t then
+ok 12 3 | mark 2 0 1 look
+3 0 3 open kept look,  | marks 2
+ok 13 1 | correct 2 0 0 x
+3 1 4 open kept look,  | marks 2
+ok 14 2 | correct 2 2 1 i
+3 1 4 open touched look,  | marks 2
+ok 15 3 | undo 2
+ok 16 4 | undo 2
+3 0 3 open touched look,  | marks 2",
+    )
+}
+
+#[test]
+fn an_undo_is_judged_by_the_table_of_now(rt: HostRuntime) -> Result<(), Fail> {
+    judge_long_session(
+        &rt,
+        rt.alloc(),
+        "\
+ok 1 | table en EN
+ok 2 | table ab letter a 1¶letter b 12
+ok 3 1 | type end en c
+ok 4 1 | correct 1 0 1 a
+ok 5 | retable 1 ab
+no 7 0 | undo 1
+5 | version
+no 7 1 | correct 1 1 0 ca
+no 14 | correct 1 0 0 {a×4001}
+no 14 | correct 1 0 0 {a×4000}
+ok 6 2 | correct 1 0 1 {a×4000}",
+        "\
+ok 9007199254740992 3 | undo 1
+no 15 5 | correct 1 0 0 z
+no 2 | undo 9
+no 15 5 | mark 1 0 1 x",
     )
 }

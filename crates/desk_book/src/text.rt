@@ -1,6 +1,7 @@
 //! Texts as their characters, and bytes.
 ghost use Rattle.std.specs.Prelude.{◌≡◌, List, ℕ, string_bytes};
 ghost use Rattle.std.specs.Str.{chars};
+ghost use Rattle.desk_book.specs.Stored.{AreCharacters};
 
 use std::marker::Model;
 
@@ -19,7 +20,8 @@ impl Model for Text {
 impl Text {
     /// The text of a string.
     pub fn from_string(string: String) -> Self
-        ensures { result ≡ chars (string_bytes string) }
+        ensures text { result ≡ chars (string_bytes string) }
+        ensures characters { AreCharacters result }
     {
         Text { string }
     }

@@ -10,7 +10,7 @@ use Rattle.desk_book.proofs.book.Book.cells_by.Goals.{in-Some+in_ok-new-in-Some,
 pub user_cells-requires : goal.user_cells-requires
 user_cells-requires c =
     let book = c.args.self.now in
-    let kept = IsKeptFor-lookup _ _ _ book c.self.view_is c.self.invariant (c.loop-index.index + 1) c.in-Some.paragraph.now (sym c.in-Some.ensures) in
+    let kept = IsKeptFor-lookup _ _ _ _ book c.self.view_is c.self.invariant (c.loop-index.index + 1) c.in-Some.paragraph.now (sym c.in-Some.ensures) in
     let defined = DefinesUser-found book c.args.rules.now c.args.name.now (c.loop-index.index + 1) _ c.requires kept.found in
     λ uses. subst (AreDefined c.args.rules.now) (sym kept.print) (defined uses)
 
@@ -24,10 +24,10 @@ loop-index-preserved c =
     let here : Renews book rules name id c.match-get.new =
     elim c.match-get.branch [
       | in-Some+in_ok-new-in-Some w ↦
-          let kept = IsKeptFor-lookup _ _ _ book c.self.view_is c.self.invariant id w.in-Some.paragraph.now (sym w.in-Some.ensures) in
+          let kept = IsKeptFor-lookup _ _ _ _ book c.self.view_is c.self.invariant id w.in-Some.paragraph.now (sym w.in-Some.ensures) in
           subst (Renews book rules name id) (sym w.new-is) (Renews-found book rules name id w.in-Some.paragraph.now _ kept w.in_ok-new-in-Some.ensures)
       | in-None w ↦
-          let none = paragraph_of-kept _ _ _ book c.self.view_is id ∙ ap (option_map (λ p. paragraph_kept (id, p))) (sym w.in-None.ensures) in
+          let none = paragraph_of-kept _ _ _ _ book c.self.view_is id ∙ ap (option_map (λ p. paragraph_kept (id, p))) (sym w.in-None.ensures) in
           Renews-missing book rules name id c.match-get.new none
     ] in
     let pushed = c.in_ok-push.ensures.items in
@@ -39,7 +39,7 @@ loop-index-preserved c =
 pub returns : goal.returns
 returns c =
     let book = c.args.self.now in
-    let count = count-paragraphs _ _ _ book c.self.view_is in
+    let count = count-paragraphs _ _ _ _ book c.self.view_is in
     let many = c.len-index-end.ensures in
     let inv = c.loop-index.invariant in
-    AreRenewed-each book c.args.rules.now c.args.name.now (sound _ _ _ book c.self.view_is c.self.invariant) c.loop-index.all.items (omega (arith, inv.count)) inv.renewed
+    AreRenewed-each book c.args.rules.now c.args.name.now (sound _ _ _ _ book c.self.view_is c.self.invariant) c.loop-index.all.items (omega (arith, inv.count)) inv.renewed

@@ -13,9 +13,9 @@ loop-place-preserved c =
     DefinesUsersBelow-more c.args.rules.now c.args.name.now book.paragraphs c.loop-place.place c.loop-place.invariant
     (elim c.match-at.branch [
       | in-Some+in_ok-check_user w ↦
-          let at = kept-at _ _ _ book c.self.view_is c.self.invariant c.loop-place.place w.in-Some.id w.in-Some.paragraph.now (sym w.in-Some.ensures) in
+          let at = kept-at _ _ _ _ book c.self.view_is c.self.invariant c.loop-place.place w.in-Some.id w.in-Some.paragraph.now (sym w.in-Some.ensures) in
           DefinesUser-kept c.args.rules.now c.args.name.now book.paragraphs c.loop-place.place w.in-Some.id w.in-Some.paragraph.now at w.in_ok-check_user.ensures.defined
-      | in_default w ↦ λ p e. absurd (let none = kept-past _ _ _ book c.self.view_is c.loop-place.place (sym w.in_default.ensures) in cc)
+      | in_default w ↦ λ p e. absurd (let none = kept-past _ _ _ _ book c.self.view_is c.loop-place.place (sym w.in_default.ensures) in cc)
     ])
 
 pub returns-in_err-check_user : goal.returns-in_err-check_user
@@ -23,7 +23,7 @@ returns-in_err-check_user c =
     let book = c.args.self.now in
     let p = err_from_is_err_and c.from_residual.result c.from_residual.ensures.1 in
     let told = c.in_err-check_user.ensures.undefined in
-    let at = kept-at _ _ _ book c.self.view_is c.self.invariant c.loop-place.place c.in-Some.id c.in-Some.paragraph.now (sym c.in-Some.ensures) in
+    let at = kept-at _ _ _ _ book c.self.view_is c.self.invariant c.loop-place.place c.in-Some.id c.in-Some.paragraph.now (sym c.in-Some.ensures) in
     let first = subst (λ (t : List ℕ). IsFirstUndefined c.args.rules.now t told.0) at.1 told.3 in
     rw (p.1, p.2) (record {
       defined = tt;
@@ -32,6 +32,6 @@ returns-in_err-check_user c =
 
 pub returns-clause-defined : goal.returns-clause-defined
 returns-clause-defined c =
-    let count = count-paragraphs _ _ _ c.args.self.now c.self.view_is in
+    let count = count-paragraphs _ _ _ _ c.args.self.now c.self.view_is in
     let many = c.len-place-end.ensures in
     DefinesUsersBelow-all c.args.rules.now c.args.name.now c.args.self.now.paragraphs c.loop-place.place (omega arith) c.loop-place.invariant

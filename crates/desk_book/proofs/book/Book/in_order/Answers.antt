@@ -12,31 +12,31 @@ use Rattle.desk_book.proofs.book.Book.in_order.Goals as goal
 pub reordered-requires : goal.reordered-requires
 reordered-requires c =
     let was = c.self.inside in
-    let here : Puts (book_kept was.version was.tables was.paragraphs) c.args.version (Reorder c.args.order) c.requires.0 =
+    let here : Puts (book_kept was.version was.tables was.paragraphs was.marks) c.args.version (Reorder c.args.order) c.requires.0 =
     subst (λ (b : Book). Puts b c.args.version (Reorder c.args.order) c.requires.0) (sym c.self.view_is) c.requires.1 in
-    let sound = sound-next was.version was.tables was.paragraphs c.self.invariant c.requires.0 c.args.version (Reorder c.args.order) here in
-    let makes = subst (λ (command : Command). Makes (book_kept was.version was.tables was.paragraphs) command c.requires.0) here.4.2 here.2 in
-    let accepted = subst (λ (command : Command). IsAccepted (book_kept was.version was.tables was.paragraphs) None command) here.4.2 here.1 in
-    order-reordered was.version was.tables was.paragraphs c.requires.0 c.args.version here.4.0 here.4.1 c.args.order here.3 accepted makes here.4.3 c.self.invariant sound
+    let sound = sound-next was.version was.tables was.paragraphs was.marks c.self.invariant c.requires.0 c.args.version (Reorder c.args.order) here in
+    let makes = subst (λ (command : Command). Makes (book_kept was.version was.tables was.paragraphs was.marks) command c.requires.0) here.does.2 here.makes in
+    let accepted = subst (λ (command : Command). IsAccepted (book_kept was.version was.tables was.paragraphs was.marks) None command) here.does.2 here.accepted in
+    order-reordered was.version was.tables was.paragraphs was.marks c.requires.0 c.args.version here.does.0 here.does.1 c.args.order here.at accepted makes here.does.3 c.self.invariant sound
 
 pub invariant_of-result : goal.invariant_of-result
 invariant_of-result c =
     let was = c.self.inside in
-    let here : Puts (book_kept was.version was.tables was.paragraphs) c.args.version (Reorder c.args.order) c.requires.0 =
+    let here : Puts (book_kept was.version was.tables was.paragraphs was.marks) c.args.version (Reorder c.args.order) c.requires.0 =
     subst (λ (b : Book). Puts b c.args.version (Reorder c.args.order) c.requires.0) (sym c.self.view_is) c.requires.1 in
-    let sound = sound-next was.version was.tables was.paragraphs c.self.invariant c.requires.0 c.args.version (Reorder c.args.order) here in
-    let makes = subst (λ (command : Command). Makes (book_kept was.version was.tables was.paragraphs) command c.requires.0) here.4.2 here.2 in
-    let accepted = subst (λ (command : Command). IsAccepted (book_kept was.version was.tables was.paragraphs) None command) here.4.2 here.1 in
-    subst (λ (paragraphs : KeptParagraphs). IsKept c.args.version was.tables paragraphs) (sym c.reordered.ensures)
-    (IsKept-reordered was.version was.tables was.paragraphs c.requires.0 c.args.version here.4.0 here.4.1 c.args.order here.3 accepted makes here.4.3 c.self.invariant sound)
+    let sound = sound-next was.version was.tables was.paragraphs was.marks c.self.invariant c.requires.0 c.args.version (Reorder c.args.order) here in
+    let makes = subst (λ (command : Command). Makes (book_kept was.version was.tables was.paragraphs was.marks) command c.requires.0) here.does.2 here.makes in
+    let accepted = subst (λ (command : Command). IsAccepted (book_kept was.version was.tables was.paragraphs was.marks) None command) here.does.2 here.accepted in
+    subst (λ (paragraphs : KeptParagraphs). IsKept c.args.version was.tables paragraphs was.marks) (sym c.reordered.ensures)
+    (IsKept-reordered was.version was.tables was.paragraphs was.marks c.requires.0 c.args.version here.does.0 here.does.1 c.args.order here.at accepted makes here.does.3 c.self.invariant sound)
 
 pub returns : goal.returns
 returns c = λ next given.
     let was = c.self.inside in
-    let here : Puts (book_kept was.version was.tables was.paragraphs) c.args.version (Reorder c.args.order) next =
+    let here : Puts (book_kept was.version was.tables was.paragraphs was.marks) c.args.version (Reorder c.args.order) next =
     subst (λ (b : Book). Puts b c.args.version (Reorder c.args.order) next) (sym c.self.view_is) given in
-    let sound = sound-next was.version was.tables was.paragraphs c.self.invariant next c.args.version (Reorder c.args.order) here in
-    let makes = subst (λ (command : Command). Makes (book_kept was.version was.tables was.paragraphs) command next) here.4.2 here.2 in
-    let accepted = subst (λ (command : Command). IsAccepted (book_kept was.version was.tables was.paragraphs) None command) here.4.2 here.1 in
-    ap (λ (paragraphs : KeptParagraphs). book_kept c.args.version was.tables paragraphs) c.reordered.ensures
-    ∙ next-reordered was.version was.tables was.paragraphs next c.args.version here.4.0 here.4.1 c.args.order here.3 accepted makes here.4.3 c.self.invariant sound
+    let sound = sound-next was.version was.tables was.paragraphs was.marks c.self.invariant next c.args.version (Reorder c.args.order) here in
+    let makes = subst (λ (command : Command). Makes (book_kept was.version was.tables was.paragraphs was.marks) command next) here.does.2 here.makes in
+    let accepted = subst (λ (command : Command). IsAccepted (book_kept was.version was.tables was.paragraphs was.marks) None command) here.does.2 here.accepted in
+    ap (λ (paragraphs : KeptParagraphs). book_kept c.args.version was.tables paragraphs was.marks) c.reordered.ensures
+    ∙ next-reordered was.version was.tables was.paragraphs was.marks next c.args.version here.does.0 here.does.1 c.args.order here.at accepted makes here.does.3 c.self.invariant sound

@@ -8,9 +8,9 @@ use Rattle.desk_book.proofs.book.Book.named.Goals as goal
 pub returns-clause-found : goal.returns-clause-found
 returns-clause-found c =
     IfOk-ok_or _ _ _ c.ok_or.ensures.value _
-    (λ x e. IsKeptFor-lookup _ _ _ c.args.self.now c.self.view_is c.self.invariant c.args.id x.now (sym c.get.ensures ∙ ap option_copied e))
+    (λ x e. IsKeptFor-lookup _ _ _ _ c.args.self.now c.self.view_is c.self.invariant c.args.id x.now (sym c.get.ensures ∙ ap option_copied e))
 
 pub returns-clause-missing : goal.returns-clause-missing
 returns-clause-missing c =
     IfErr-ok_or _ _ _ c.ok_or.ensures.value _
-    (λ e. (refl, paragraph_of-kept _ _ _ c.args.self.now c.self.view_is c.args.id ∙ ap (option_map (λ p. paragraph_kept (c.args.id, p))) (sym c.get.ensures ∙ ap option_copied e)))
+    (λ e. (refl, paragraph_of-kept _ _ _ _ c.args.self.now c.self.view_is c.args.id ∙ ap (option_map (λ p. paragraph_kept (c.args.id, p))) (sym c.get.ensures ∙ ap option_copied e)))

@@ -31,6 +31,7 @@ returns-clause-accepted c =
         planned.1.0,
         record {
           accepted = planned.0;
+          written = planned.2;
           makes = planned.1.1;
           version = ap (λ (n : ℕ). n + 1) is ∙ sym (version-made book c.args.command.now planned.1.0 planned.1.1);
           number = c.number.ensures;

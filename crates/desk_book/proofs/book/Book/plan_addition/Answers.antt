@@ -11,11 +11,11 @@ use Rattle.desk_book.proofs.TablePlanning.{full_tables, past_reading, past_table
 use Rattle.desk_book.proofs.book.Book.plan_addition.Goals as goal
 
 module _ (book : Book) (name text : List ℕ) (named : IsTableName name) (room : length book.tables < most_tables) where
-  roomy : Passes book None (Table name text) 13
+  roomy : Passes book None (Table name text) 130
   roomy = past_tables book name text named (inr room)
 
-  left : book.version < most_version → Passes book None (Table name text) 17
-  left version = past_version book (Table name text) 13 roomy refl version
+  left : book.version < most_version → Passes book None (Table name text) 170
+  left version = past_version book (Table name text) 130 roomy refl version
 
 pub returns-in_err-check_tables : goal.returns-in_err-check_tables
 returns-in_err-check_tables c =
@@ -27,7 +27,7 @@ returns-in_err-check_version c =
     let p = err_from_is_err_and c.from_residual-in_err-check_version.result c.from_residual-in_err-check_version.ensures.1 in
     let told = c.in_err-check_version.ensures.full in
     let passes = roomy c.args.self.now c.args.name.now c.args.text.now c.requires.name c.in_ok-check_tables.ensures.left in
-    rw (p.1, p.2) (record { planned = tt; refused = full_version c.args.self.now (Table c.args.name.now c.args.text.now) 13 _ passes refl told.1 told.0 })
+    rw (p.1, p.2) (record { planned = tt; refused = full_version c.args.self.now (Table c.args.name.now c.args.text.now) 130 _ passes refl told.1 told.0 })
 
 pub returns-in_err-read_table : goal.returns-in_err-read_table
 returns-in_err-read_table c =
@@ -52,9 +52,9 @@ returns-clause-planned c =
     let means = c.in_ok-read_table.ensures.means in
     let passes = left book c.args.name.now c.args.text.now c.requires.name c.in_ok-check_tables.ensures.left c.in_ok-check_version.ensures.left in
     let judged = past_users book c.args.name.now c.args.text.now table.rules means (past_reading book c.args.name.now c.args.text.now table.rules means passes)
-    (unused book c.args.name.now table.rules (sound _ _ _ book c.self.view_is c.self.invariant) c.requires.new) in
-    let name = c.in_ok-copy.ensures ∙ c.as_str.ensures in
-    let count = count-tables _ _ _ book c.self.view_is in
+    (unused book c.args.name.now table.rules (sound _ _ _ _ book c.self.view_is c.self.invariant) c.requires.new) in
+    let name = c.in_ok-copy.ensures.text ∙ c.as_str.ensures in
+    let count = count-tables _ _ _ _ book c.self.view_is in
     let many = c.len.ensures in
     let room = c.in_ok-new.ensures in
-    (judged, (_, refl, rw (name, c.in_ok-read_table.ensures.text) (refl, c.requires.new, omega arith, means)))
+    (judged, (_, refl, rw (name, c.in_ok-read_table.ensures.text) (refl, c.requires.new, omega arith, means)), tt)

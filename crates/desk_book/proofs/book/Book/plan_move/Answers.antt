@@ -15,9 +15,9 @@ use Rattle.desk_book.proofs.ParagraphLists.{ids_of}
 use Rattle.desk_book.proofs.Planning.{AreNotAllThere-cons, AreThere-cons, accepted_after, full_version, no_paragraph, passes_to, past_paragraphs, past_version, unnamed}
 use Rattle.desk_book.proofs.book.Book.plan_move.Goals as goal
 
-named : (book : Book) (id : ℕ) (anchor : Anchor) (kept : KeptParagraph) → IsKeptFor book id kept → AreThere book (paragraph_before anchor) → Passes book None (Move id anchor) 4
+named : (book : Book) (id : ℕ) (anchor : Anchor) (kept : KeptParagraph) → IsKeptFor book id kept → AreThere book (paragraph_before anchor) → Passes book None (Move id anchor) 40
 named book id anchor kept found there =
-    past_paragraphs book (Move id anchor) (passes_to book (Move id anchor) 3 refl) (AreThere-cons book id kept (paragraph_before anchor) found there)
+    past_paragraphs book (Move id anchor) (passes_to book (Move id anchor) 30 refl) (AreThere-cons book id kept (paragraph_before anchor) found there)
 
 pub returns-in_err-named : goal.returns-in_err-named
 returns-in_err-named c =
@@ -31,7 +31,7 @@ returns-in_err-check_anchor c =
     let told = c.in_err-check_anchor.ensures.missing in
     rw (p.1, p.2) (record {
       planned = tt;
-      refused = no_paragraph c.args.self.now command _ (passes_to c.args.self.now command 3 refl) (AreNotAllThere-cons c.args.self.now c.args.id (paragraph_before c.args.anchor) told.1) told.0;
+      refused = no_paragraph c.args.self.now command _ (passes_to c.args.self.now command 30 refl) (AreNotAllThere-cons c.args.self.now c.args.id (paragraph_before c.args.anchor) told.1) told.0;
     })
 
 pub returns-in_err-check_version : goal.returns-in_err-check_version
@@ -39,7 +39,7 @@ returns-in_err-check_version c =
     let p = err_from_is_err_and c.from_residual-in_err-check_version.result c.from_residual-in_err-check_version.ensures.1 in
     let passes = named c.args.self.now c.args.id c.args.anchor _ c.in_ok-named.ensures.found c.in_ok-check_anchor.ensures.there in
     let told = c.in_err-check_version.ensures.full in
-    rw (p.1, p.2) (record { planned = tt; refused = full_version c.args.self.now (Move c.args.id c.args.anchor) 4 _ passes refl told.1 told.0 })
+    rw (p.1, p.2) (record { planned = tt; refused = full_version c.args.self.now (Move c.args.id c.args.anchor) 40 _ passes refl told.1 told.0 })
 
 pub returns-in_err-order_with_move : goal.returns-in_err-order_with_move
 returns-in_err-order_with_move c =
@@ -50,9 +50,9 @@ pub returns-clause-planned : goal.returns-clause-planned
 returns-clause-planned c =
     let found = c.in_ok-named.ensures.found in
     let passes = named c.args.self.now c.args.id c.args.anchor _ found c.in_ok-check_anchor.ensures.there in
-    let left = past_version c.args.self.now (Move c.args.id c.args.anchor) 4 passes refl c.in_ok-check_version.ensures.left in
+    let left = past_version c.args.self.now (Move c.args.id c.args.anchor) 40 passes refl c.in_ok-check_version.ensures.left in
     let order : c.in_ok-order_with_move.field-0 ≡ ids_of (with_move c.args.id c.args.anchor c.args.self.now) =
     c.in_ok-order_with_move.ensures
-    ∙ (ap (with_id_moved c.args.anchor c.args.id) (sym (ids_of-book _ _ _ c.args.self.now c.self.view_is))
+    ∙ (ap (with_id_moved c.args.anchor c.args.id) (sym (ids_of-book _ _ _ _ c.args.self.now c.self.view_is))
     ∙ sym (ids_of-with_move c.args.self.now c.args.id c.args.anchor _ found.found refl)) in
-    (accepted_after c.args.self.now (Move c.args.id c.args.anchor) 17 left refl, (_, refl, (c.args.id, c.args.anchor, refl, order)))
+    (accepted_after c.args.self.now (Move c.args.id c.args.anchor) 170 left refl, (_, refl, (c.args.id, c.args.anchor, refl, order)), tt)

@@ -13,14 +13,14 @@ use Rattle.desk_book.proofs.TablePlanning.{past_reading, past_tables, past_users
 use Rattle.desk_book.proofs.book.Book.plan_replacement.Goals as goal
 
 module _ (book : Book) (name text : List ℕ) (named : IsTableName name) (old : IsSome (text_of book name)) where
-  there : Passes book None (Table name text) 13
+  there : Passes book None (Table name text) 130
   there = past_tables book name text named (inl old)
 
   module _ (version : book.version < most_version) where
-    left : Passes book None (Table name text) 17
-    left = past_version book (Table name text) 13 there refl version
+    left : Passes book None (Table name text) 170
+    left = past_version book (Table name text) 130 there refl version
 
-    judged : (meaning : Meaning) → Means text meaning → Passes book None (Table name text) 19
+    judged : (meaning : Meaning) → Means text meaning → Passes book None (Table name text) 190
     judged meaning means = past_reading book name text meaning means left
 
 pub returns-in_err-check_version : goal.returns-in_err-check_version
@@ -28,7 +28,7 @@ returns-in_err-check_version c =
     let p = err_from_is_err_and c.from_residual.result c.from_residual.ensures.1 in
     let told = c.in_err-check_version.ensures.full in
     let passes = there c.args.self.now c.args.name.now c.args.text.now c.requires.name c.requires.old in
-    rw (p.1, p.2) (record { planned = tt; refused = full_version c.args.self.now (Table c.args.name.now c.args.text.now) 13 _ passes refl told.1 told.0 })
+    rw (p.1, p.2) (record { planned = tt; refused = full_version c.args.self.now (Table c.args.name.now c.args.text.now) 130 _ passes refl told.1 told.0 })
 
 pub returns-in_err-table : goal.returns-in_err-table
 returns-in_err-table c =
@@ -60,5 +60,5 @@ returns-clause-planned c =
     let means = c.in_ok-table.ensures.means in
     let passes = judged book c.args.name.now c.args.text.now c.requires.name c.requires.old c.in_ok-check_version.ensures.left _ means in
     let accepted = past_users book c.args.name.now c.args.text.now _ means passes c.in_ok-check_users.ensures.defined in
-    let name = c.in_ok-copy.ensures ∙ c.as_str.ensures in
-    (accepted, (_, refl, rw (name, c.in_ok-table.ensures.text) (refl, c.requires.old, means, c.in_ok-cells.ensures)))
+    let name = c.in_ok-copy.ensures.text ∙ c.as_str.ensures in
+    (accepted, (_, refl, rw (name, c.in_ok-table.ensures.text) (refl, c.requires.old, means, c.in_ok-cells.ensures)), tt)

@@ -12,10 +12,10 @@ use Rattle.desk_book.proofs.Planning.{accepted_after, full_version, past_live, p
 use Rattle.desk_book.proofs.book.Book.plan_restore.Goals as goal
 
 module _ (book : Book) (id : ℕ) (kept : KeptParagraph) (found : IsKeptFor book id kept) where
-  named : Passes book None (Restore id) 7
-  named = to_turn book (Restore id) 4 7 refl (past_named book (Restore id) id kept found refl refl)
+  named : Passes book None (Restore id) 70
+  named = to_turn book (Restore id) 40 70 refl (past_named book (Restore id) id kept found refl refl)
 
-  judged : kept.struck ≡ true → Passes book None (Restore id) 8
+  judged : kept.struck ≡ true → Passes book None (Restore id) 80
   judged = past_live book (Restore id) id kept found named refl
 
 pub returns-in_err-paragraph : goal.returns-in_err-paragraph
@@ -28,7 +28,7 @@ returns-then-not-paragraph c =
     let kept = c.in_ok-paragraph.ensures.found in
     record {
       planned = tt;
-      refused = turned_down c.args.self.now (Restore c.args.id) 7 NotStruck NotStruck (named c.args.self.now c.args.id _ kept) refl
+      refused = turned_down c.args.self.now (Restore c.args.id) 70 NotStruck NotStruck (named c.args.self.now c.args.id _ kept) refl
           (record { id = c.args.id; paragraph = _; named = refl; found = kept.found; live = c.if-not-paragraph.true }) refl;
     }
 
@@ -37,13 +37,13 @@ returns-in_err-check_version c =
     let p = err_from_is_err_and c.from_residual-in_err-check_version.result c.from_residual-in_err-check_version.ensures.1 in
     let passes = judged c.args.self.now c.args.id _ c.in_ok-paragraph.ensures.found c.if-not-paragraph.false in
     let told = c.in_err-check_version.ensures.full in
-    rw (p.1, p.2) (record { planned = tt; refused = full_version c.args.self.now (Restore c.args.id) 8 _ passes refl told.1 told.0 })
+    rw (p.1, p.2) (record { planned = tt; refused = full_version c.args.self.now (Restore c.args.id) 80 _ passes refl told.1 told.0 })
 
 pub returns-clause-planned : goal.returns-clause-planned
 returns-clause-planned c =
     let kept = c.in_ok-paragraph.ensures.found in
     let passes = judged c.args.self.now c.args.id _ kept c.if-not-paragraph.false in
-    let left = past_version c.args.self.now (Restore c.args.id) 8 passes refl c.in_ok-check_version.ensures.left in
+    let left = past_version c.args.self.now (Restore c.args.id) 80 passes refl c.in_ok-check_version.ensures.left in
     let one = paragraph_kept (c.args.id, c.in_ok-paragraph.paragraph.now) in
     rw c.with_struck.ensures
-    (accepted_after c.args.self.now (Restore c.args.id) 17 left refl, (_, refl, ap (next_with_paragraphs c.args.self.now) (with_change-same c.args.id one _ _ _ kept.alone refl)))
+    (accepted_after c.args.self.now (Restore c.args.id) 170 left refl, (_, refl, ap (next_with_paragraphs c.args.self.now) (with_change-same c.args.id one _ _ _ kept.alone refl)), tt)

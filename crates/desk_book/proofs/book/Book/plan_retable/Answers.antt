@@ -18,7 +18,7 @@ use Rattle.desk_book.proofs.Planning.{accepted_after, full_version, no_table, pa
 use Rattle.desk_book.proofs.book.Book.plan_retable.Goals as goal
 
 module _ (book : Book) (id : ℕ) (name : List ℕ) (kept : KeptParagraph) (found : IsKeptFor book id kept) where
-  named : Passes book None (Retable id name) 4
+  named : Passes book None (Retable id name) 40
   named = past_named book (Retable id name) id kept found refl refl
 
   print : List ℕ
@@ -33,14 +33,14 @@ module _ (book : Book) (id : ℕ) (name : List ℕ) (kept : KeptParagraph) (foun
   print_is shown same = same ∙ found.print
 
   module _ (table : BookTable) (there : IsTableFor book name table) where
-    tabled : Passes book None (Retable id name) 6
-    tabled = to_turn book (Retable id name) 5 6 refl (past_table book (Retable id name) name table.text named refl there.found)
+    tabled : Passes book None (Retable id name) 60
+    tabled = to_turn book (Retable id name) 50 60 refl (past_table book (Retable id name) name table.text named refl there.found)
 
-    live : kept.struck ≡ false → Passes book None (Retable id name) 7
+    live : kept.struck ≡ false → Passes book None (Retable id name) 70
     live = past_struck book (Retable id name) id kept found tabled refl
 
-    left : kept.struck ≡ false → book.version < most_version → Passes book None (Retable id name) 18
-    left unstruck room = to_turn book (Retable id name) 17 18 refl (past_version book (Retable id name) 7 (live unstruck) refl room)
+    left : kept.struck ≡ false → book.version < most_version → Passes book None (Retable id name) 180
+    left unstruck room = to_turn book (Retable id name) 170 180 refl (past_version book (Retable id name) 70 (live unstruck) refl room)
 
 pub returns-in_err-paragraph : goal.returns-in_err-paragraph
 returns-in_err-paragraph c =
@@ -60,7 +60,7 @@ returns-then-paragraph c =
     let passes = tabled c.args.self.now c.args.id c.args.table.now _ kept _ c.in_ok-kept.ensures.found in
     record {
       planned = tt;
-      refused = turned_down c.args.self.now (Retable c.args.id c.args.table.now) 6 Struck Struck passes refl
+      refused = turned_down c.args.self.now (Retable c.args.id c.args.table.now) 60 Struck Struck passes refl
           (record { id = c.args.id; paragraph = _; named = refl; found = kept.found; struck = c.if-paragraph.true }) refl;
     }
 
@@ -69,7 +69,7 @@ returns-in_err-check_version c =
     let p = err_from_is_err_and c.from_residual-in_err-check_version.result c.from_residual-in_err-check_version.ensures.1 in
     let passes = live c.args.self.now c.args.id c.args.table.now _ c.in_ok-paragraph.ensures.found _ c.in_ok-kept.ensures.found c.if-paragraph.false in
     let told = c.in_err-check_version.ensures.full in
-    rw (p.1, p.2) (record { planned = tt; refused = full_version c.args.self.now (Retable c.args.id c.args.table.now) 7 _ passes refl told.1 told.0 })
+    rw (p.1, p.2) (record { planned = tt; refused = full_version c.args.self.now (Retable c.args.id c.args.table.now) 70 _ passes refl told.1 told.0 })
 
 pub returns-in_err-check_print : goal.returns-in_err-check_print
 returns-in_err-check_print c =
@@ -105,8 +105,9 @@ returns-clause-planned c =
     let shown = c.as_slice-print.ensures ∙ kept.print in
     let defined = subst (AreDefined rules) (print_is book c.args.id c.args.table.now _ kept _ c.as_slice-print.ensures) c.in_ok-check_print.ensures.defined in
     let judged = past_print book (Retable c.args.id c.args.table.now) c.args.table.now _ _ (given book c.args.id c.args.table.now _ kept) table passes defined in
-    let copied = c.in_ok-copy.ensures ∙ c.as_str.ensures in
+    let copied = c.in_ok-copy.ensures.text ∙ c.as_str.ensures in
     let cells = subst (λ (t : List ℕ). AreCellsOf rules t c.in_ok-cells_of.field-0) shown c.in_ok-cells_of.ensures in (
-      accepted_after book (Retable c.args.id c.args.table.now) 19 judged refl,
+      accepted_after book (Retable c.args.id c.args.table.now) 190 judged refl,
       (_, refl, rw copied (refl, record { paragraph = _; there = kept.found; source = _; meaning = rules; found = table.found; means = table.means; cells_are = cells })),
+      tt,
     )

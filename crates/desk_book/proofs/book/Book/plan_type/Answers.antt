@@ -11,7 +11,7 @@ use Rattle.desk_book.specs.Limits.{most_paragraphs, most_print, most_version}
 use Rattle.desk_book.specs.Planned.{AreThere, IsNewParagraph, IsTableFor}
 use Rattle.desk_book.specs.Refusals.{paragraph_before}
 use Rattle.desk_book.specs.Step.{next_id, typed, with_paragraph}
-use Rattle.desk_book.specs.Stored.{IsClean, stored}
+use Rattle.desk_book.specs.Stored.{IsUnbarred, stored}
 use Rattle.desk_book.proofs.KeptLookups.{count-paragraphs, ids_of-book}
 use Rattle.desk_book.proofs.NewParagraphs.{IsKeptTyped-new}
 use Rattle.desk_book.proofs.OrderLists.{ids_of-with_paragraph}
@@ -19,48 +19,48 @@ use Rattle.desk_book.proofs.ParagraphLists.{ids_of}
 use Rattle.desk_book.proofs.Planning.{accepted_after, bad_text, full_paragraphs, full_version, no_paragraph, no_table, passes_to, past_length, past_paragraphs, past_print, past_room, past_table, past_text, past_version, to_turn, too_long, undefined}
 use Rattle.desk_book.proofs.book.Book.plan_type.Goals as goal
 
-module _ (book : Book) (anchor : Anchor) (name text : List ℕ) (clean : IsClean text) where
-  cleaned : Passes book None (TypeIn anchor name text) 3
-  cleaned = past_text book (TypeIn anchor name text) text (passes_to book (TypeIn anchor name text) 2 refl) refl clean
+module _ (book : Book) (anchor : Anchor) (name text : List ℕ) (unbarred : IsUnbarred text) where
+  cleaned : Passes book None (TypeIn anchor name text) 30
+  cleaned = past_text book (TypeIn anchor name text) text (passes_to book (TypeIn anchor name text) 20 refl) refl unbarred
 
   module _ (there : AreThere book (paragraph_before anchor)) where
-    anchored : Passes book None (TypeIn anchor name text) 4
+    anchored : Passes book None (TypeIn anchor name text) 40
     anchored = past_paragraphs book (TypeIn anchor name text) cleaned there
 
     module _ (table : BookTable) (found : IsTableFor book name table) where
-      tabled : Passes book None (TypeIn anchor name text) 11
-      tabled = to_turn book (TypeIn anchor name text) 5 11 refl (past_table book (TypeIn anchor name text) name table.text anchored refl found.found)
+      tabled : Passes book None (TypeIn anchor name text) 110
+      tabled = to_turn book (TypeIn anchor name text) 50 110 refl (past_table book (TypeIn anchor name text) name table.text anchored refl found.found)
 
       module _ (short : length (stored text) ≤ most_print) where
-        shortened : Passes book None (TypeIn anchor name text) 13
-        shortened = to_turn book (TypeIn anchor name text) 12 13 refl (past_length book (TypeIn anchor name text) (stored text) tabled refl short)
+        shortened : Passes book None (TypeIn anchor name text) 130
+        shortened = to_turn book (TypeIn anchor name text) 120 130 refl (past_length book (TypeIn anchor name text) (stored text) tabled refl refl refl short)
 
         module _ (room : length book.paragraphs < most_paragraphs) where
-          roomy : Passes book None (TypeIn anchor name text) 14
+          roomy : Passes book None (TypeIn anchor name text) 140
           roomy = past_room book (TypeIn anchor name text) shortened room
 
-          left : book.version < most_version → Passes book None (TypeIn anchor name text) 18
-          left version = to_turn book (TypeIn anchor name text) 17 18 refl (past_version book (TypeIn anchor name text) 14 roomy refl version)
+          left : book.version < most_version → Passes book None (TypeIn anchor name text) 180
+          left version = to_turn book (TypeIn anchor name text) 170 180 refl (past_version book (TypeIn anchor name text) 140 roomy refl version)
 
 pub returns-in_err-check_text : goal.returns-in_err-check_text
 returns-in_err-check_text c =
     let p = err_from_is_err_and c.from_residual.result c.from_residual.ensures.1 in
     let told = c.in_err-check_text.ensures.barred in
-    let first = passes_to c.args.self.now (TypeIn c.args.anchor c.args.table.now c.args.text.now) 2 refl in
+    let first = passes_to c.args.self.now (TypeIn c.args.anchor c.args.table.now c.args.text.now) 20 refl in
     rw (p.1, p.2) (record { planned = tt; refused = bad_text c.args.self.now (TypeIn c.args.anchor c.args.table.now c.args.text.now) _ c.args.text.now told.0 first refl told.1 told.2 })
 
 pub returns-in_err-check_anchor : goal.returns-in_err-check_anchor
 returns-in_err-check_anchor c =
     let p = err_from_is_err_and c.from_residual-in_err-check_anchor.result c.from_residual-in_err-check_anchor.ensures.1 in
     let told = c.in_err-check_anchor.ensures.missing in
-    let passes = cleaned c.args.self.now c.args.anchor c.args.table.now c.args.text.now c.in_ok-check_text.ensures.clean in
+    let passes = cleaned c.args.self.now c.args.anchor c.args.table.now c.args.text.now c.in_ok-check_text.ensures.unbarred in
     rw (p.1, p.2) (record { planned = tt; refused = no_paragraph c.args.self.now (TypeIn c.args.anchor c.args.table.now c.args.text.now) _ passes told.1 told.0 })
 
 pub returns-in_err-kept : goal.returns-in_err-kept
 returns-in_err-kept c =
     let p = err_from_is_err_and c.from_residual-in_err-kept.result c.from_residual-in_err-kept.ensures.1 in
     let told = c.in_err-kept.ensures.missing in
-    let passes = anchored c.args.self.now c.args.anchor c.args.table.now c.args.text.now c.in_ok-check_text.ensures.clean c.in_ok-check_anchor.ensures.there in
+    let passes = anchored c.args.self.now c.args.anchor c.args.table.now c.args.text.now c.in_ok-check_text.ensures.unbarred c.in_ok-check_anchor.ensures.there in
     rw (p.1, p.2) (record { planned = tt; refused = no_table c.args.self.now (TypeIn c.args.anchor c.args.table.now c.args.text.now) _ c.args.table.now passes refl told.1 told.0 })
 
 pub returns-in_err-print : goal.returns-in_err-print
@@ -73,7 +73,7 @@ returns-in_err-check_length c =
     let p = err_from_is_err_and c.from_residual-in_err-check_length.result c.from_residual-in_err-check_length.ensures.1 in
     let printed : c.in_ok-print.print.items ≡ stored c.args.text.now = c.in_ok-print.ensures ∙ ap stored c.as_str.ensures in
     let told = c.in_err-check_length.ensures.long in
-    let passes = tabled c.args.self.now c.args.anchor c.args.table.now c.args.text.now c.in_ok-check_text.ensures.clean c.in_ok-check_anchor.ensures.there _ c.in_ok-kept.ensures.found in
+    let passes = tabled c.args.self.now c.args.anchor c.args.table.now c.args.text.now c.in_ok-check_text.ensures.unbarred c.in_ok-check_anchor.ensures.there _ c.in_ok-kept.ensures.found in
     let long = subst (λ (t : List ℕ). most_print < length t) (c.deref.ensures.value ∙ printed) told.1 in
     rw (p.1, p.2) (record { planned = tt; refused = too_long c.args.self.now (TypeIn c.args.anchor c.args.table.now c.args.text.now) _ _ passes refl long told.0 })
 
@@ -83,7 +83,7 @@ returns-in_err-check_room c =
     let printed : c.in_ok-print.print.items ≡ stored c.args.text.now = c.in_ok-print.ensures ∙ ap stored c.as_str.ensures in
     let short = subst (λ (t : List ℕ). length t ≤ most_print) (c.deref.ensures.value ∙ printed) c.in_ok-check_length.ensures.short in
     let told = c.in_err-check_room.ensures.full in
-    let passes = shortened c.args.self.now c.args.anchor c.args.table.now c.args.text.now c.in_ok-check_text.ensures.clean c.in_ok-check_anchor.ensures.there _ c.in_ok-kept.ensures.found short in
+    let passes = shortened c.args.self.now c.args.anchor c.args.table.now c.args.text.now c.in_ok-check_text.ensures.unbarred c.in_ok-check_anchor.ensures.there _ c.in_ok-kept.ensures.found short in
     rw (p.1, p.2) (record { planned = tt; refused = full_paragraphs c.args.self.now (TypeIn c.args.anchor c.args.table.now c.args.text.now) _ passes refl told.1 told.0 })
 
 pub returns-in_err-check_version : goal.returns-in_err-check_version
@@ -92,8 +92,8 @@ returns-in_err-check_version c =
     let printed : c.in_ok-print.print.items ≡ stored c.args.text.now = c.in_ok-print.ensures ∙ ap stored c.as_str.ensures in
     let short = subst (λ (t : List ℕ). length t ≤ most_print) (c.deref.ensures.value ∙ printed) c.in_ok-check_length.ensures.short in
     let told = c.in_err-check_version.ensures.full in
-    let passes = roomy c.args.self.now c.args.anchor c.args.table.now c.args.text.now c.in_ok-check_text.ensures.clean c.in_ok-check_anchor.ensures.there _ c.in_ok-kept.ensures.found short c.in_ok-check_room.ensures.left in
-    rw (p.1, p.2) (record { planned = tt; refused = full_version c.args.self.now (TypeIn c.args.anchor c.args.table.now c.args.text.now) 14 _ passes refl told.1 told.0 })
+    let passes = roomy c.args.self.now c.args.anchor c.args.table.now c.args.text.now c.in_ok-check_text.ensures.unbarred c.in_ok-check_anchor.ensures.there _ c.in_ok-kept.ensures.found short c.in_ok-check_room.ensures.left in
+    rw (p.1, p.2) (record { planned = tt; refused = full_version c.args.self.now (TypeIn c.args.anchor c.args.table.now c.args.text.now) 140 _ passes refl told.1 told.0 })
 
 pub returns-in_err-check_print : goal.returns-in_err-check_print
 returns-in_err-check_print c =
@@ -101,7 +101,7 @@ returns-in_err-check_print c =
     let printed : c.in_ok-print.print.items ≡ stored c.args.text.now = c.in_ok-print.ensures ∙ ap stored c.as_str.ensures in
     let short = subst (λ (t : List ℕ). length t ≤ most_print) (c.deref.ensures.value ∙ printed) c.in_ok-check_length.ensures.short in
     let told = c.in_err-check_print.ensures.undefined in
-    let passes = left c.args.self.now c.args.anchor c.args.table.now c.args.text.now c.in_ok-check_text.ensures.clean c.in_ok-check_anchor.ensures.there _ c.in_ok-kept.ensures.found short c.in_ok-check_room.ensures.left c.in_ok-check_version.ensures.left in
+    let passes = left c.args.self.now c.args.anchor c.args.table.now c.args.text.now c.in_ok-check_text.ensures.unbarred c.in_ok-check_anchor.ensures.there _ c.in_ok-kept.ensures.found short c.in_ok-check_room.ensures.left c.in_ok-check_version.ensures.left in
     let first = subst (λ (t : List ℕ). IsFirstUndefined c.in_ok-kept.kept.now.rules t told.0) (c.deref-2.ensures.value ∙ printed) told.2 in
     rw (p.1, p.2) (record { planned = tt; refused = undefined c.args.self.now (TypeIn c.args.anchor c.args.table.now c.args.text.now) c.args.table.now (stored c.args.text.now) _ refl c.in_ok-kept.ensures.found _ told.0 passes told.1 first })
 
@@ -127,18 +127,19 @@ returns-clause-planned c =
     let kept = c.in_ok-new_paragraph.field-0 in
     let printed : c.in_ok-print.print.items ≡ stored c.args.text.now = c.in_ok-print.ensures ∙ ap stored c.as_str.ensures in
     let short = subst (λ (t : List ℕ). length t ≤ most_print) (c.deref.ensures.value ∙ printed) c.in_ok-check_length.ensures.short in
-    let passes = left c.args.self.now c.args.anchor c.args.table.now c.args.text.now c.in_ok-check_text.ensures.clean c.in_ok-check_anchor.ensures.there _ c.in_ok-kept.ensures.found short c.in_ok-check_room.ensures.left c.in_ok-check_version.ensures.left in
+    let passes = left c.args.self.now c.args.anchor c.args.table.now c.args.text.now c.in_ok-check_text.ensures.unbarred c.in_ok-check_anchor.ensures.there _ c.in_ok-kept.ensures.found short c.in_ok-check_room.ensures.left c.in_ok-check_version.ensures.left in
     let defined = subst (AreDefined rules) (c.deref-2.ensures.value ∙ printed) c.in_ok-check_print.ensures.defined in
     let judged = past_print book (TypeIn c.args.anchor c.args.table.now c.args.text.now) c.args.table.now (stored c.args.text.now) _ refl c.in_ok-kept.ensures.found passes defined in
     let new = subst (λ (t : List ℕ). IsNewParagraph c.args.table.now t rules kept) printed c.in_ok-new_paragraph.ensures in
-    let count = count-paragraphs _ _ _ book c.self.view_is in
+    let count = count-paragraphs _ _ _ _ book c.self.view_is in
     let room = c.in_ok-new.ensures in
     let more = c.len.ensures in
     let order : c.in_ok-order_with_next.field-0 ≡ ids_of (with_paragraph c.args.anchor (typed (next_id book) c.args.table.now c.args.text.now) book.paragraphs) =
     c.in_ok-order_with_next.ensures
     ∙ (ap (λ (n : ℕ). with_id c.args.anchor (n + 1) (ids c.self.inside.paragraphs)) (sym count)
-    ∙ (ap (with_id c.args.anchor (next_id book)) (sym (ids_of-book _ _ _ book c.self.view_is))
+    ∙ (ap (with_id c.args.anchor (next_id book)) (sym (ids_of-book _ _ _ _ book c.self.view_is))
     ∙ sym (ids_of-with_paragraph c.args.anchor (typed (next_id book) c.args.table.now c.args.text.now) book.paragraphs))) in (
-      accepted_after book (TypeIn c.args.anchor c.args.table.now c.args.text.now) 19 judged refl,
+      accepted_after book (TypeIn c.args.anchor c.args.table.now c.args.text.now) 190 judged refl,
       (_, refl, (c.args.anchor, c.args.text.now, ap (λ (t : List ℕ). TypeIn c.args.anchor t c.args.text.now) (sym new.table_is), IsKeptTyped-new book c.args.table.now c.args.text.now _ kept c.in_ok-kept.ensures.found new, omega arith, order)),
+      new.characters,
     )

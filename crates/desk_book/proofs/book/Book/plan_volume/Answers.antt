@@ -16,13 +16,13 @@ returns-in_err-check_version c =
     let p = err_from_is_err_and c.from_residual-in_err-check_version.result c.from_residual-in_err-check_version.ensures.1 in
     let passes = past_named c.args.self.now (Volume c.args.id c.args.begins) c.args.id _ c.in_ok-paragraph.ensures.found refl refl in
     let told = c.in_err-check_version.ensures.full in
-    rw (p.1, p.2) (record { planned = tt; refused = full_version c.args.self.now (Volume c.args.id c.args.begins) 4 _ passes refl told.1 told.0 })
+    rw (p.1, p.2) (record { planned = tt; refused = full_version c.args.self.now (Volume c.args.id c.args.begins) 40 _ passes refl told.1 told.0 })
 
 pub returns-clause-planned : goal.returns-clause-planned
 returns-clause-planned c =
     let kept = c.in_ok-paragraph.ensures.found in
     let passes = past_named c.args.self.now (Volume c.args.id c.args.begins) c.args.id _ kept refl refl in
-    let left = past_version c.args.self.now (Volume c.args.id c.args.begins) 4 passes refl c.in_ok-check_version.ensures.left in
+    let left = past_version c.args.self.now (Volume c.args.id c.args.begins) 40 passes refl c.in_ok-check_version.ensures.left in
     let one = paragraph_kept (c.args.id, c.in_ok-paragraph.paragraph.now) in
     rw c.with_volume.ensures
-    (accepted_after c.args.self.now (Volume c.args.id c.args.begins) 17 left refl, (_, refl, ap (next_with_paragraphs c.args.self.now) (with_change-same c.args.id one _ _ _ kept.alone refl)))
+    (accepted_after c.args.self.now (Volume c.args.id c.args.begins) 170 left refl, (_, refl, ap (next_with_paragraphs c.args.self.now) (with_change-same c.args.id one _ _ _ kept.alone refl)), tt)

@@ -1,4 +1,4 @@
-use Rattle.desk_book.specs.declared.change.Effect.TheVariants.{AddTable, ReplaceTable, AddParagraph, SetFlags, ChangeTable, Reorder}
+use Rattle.desk_book.specs.declared.change.Effect.TheVariants.{AddTable, ReplaceTable, AddParagraph, ChangePrint, AddMark, ResolveMark, SetFlags, ChangeTable, Reorder}
 use Rattle.desk_book.proofs.Settled.{Puts-carried}
 use Rattle.desk_book.proofs.book.Book.settle.Goals as goal
 
@@ -19,3 +19,12 @@ returns-in-ChangeTable c = λ command next carries. c.with_table_changed.ensures
 
 pub returns-in-Reorder : goal.returns-in-Reorder
 returns-in-Reorder c = λ command next carries. c.in_order.ensures next (Puts-carried c.args.self command next c.args.change (Reorder c.in-Reorder.order) c.in-Reorder.is carries)
+
+pub returns-in-ChangePrint : goal.returns-in-ChangePrint
+returns-in-ChangePrint c = λ command next carries. c.with_print_changed.ensures next (Puts-carried c.args.self command next c.args.change (ChangePrint c.in-ChangePrint.id c.in-ChangePrint.change) c.in-ChangePrint.is carries)
+
+pub returns-in-AddMark : goal.returns-in-AddMark
+returns-in-AddMark c = λ command next carries. c.with_new_mark.ensures next (Puts-carried c.args.self command next c.args.change (AddMark c.in-AddMark.mark c.in-AddMark.room) c.in-AddMark.is carries)
+
+pub returns-in-ResolveMark : goal.returns-in-ResolveMark
+returns-in-ResolveMark c = λ command next carries. c.with_mark_resolved.ensures next (Puts-carried c.args.self command next c.args.change (ResolveMark c.in-ResolveMark.id) c.in-ResolveMark.is carries)

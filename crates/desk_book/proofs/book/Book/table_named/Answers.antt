@@ -10,10 +10,10 @@ pub returns-clause-found : goal.returns-clause-found
 returns-clause-found c =
     let got : option_copied c.get.result ≡ lookup (pointwise nat_eq c.args.name.now) c.self.inside.tables = rw (c.as_str.ensures) at c.get.ensures in
     IfOk-ok_or _ _ _ c.ok_or.ensures.value _
-    (λ x e. IsTableFor-lookup _ _ _ c.args.self.now c.self.view_is c.self.invariant c.args.name.now x.now (sym got ∙ ap option_copied e))
+    (λ x e. IsTableFor-lookup _ _ _ _ c.args.self.now c.self.view_is c.self.invariant c.args.name.now x.now (sym got ∙ ap option_copied e))
 
 pub returns-clause-missing : goal.returns-clause-missing
 returns-clause-missing c =
     let got : option_copied c.get.result ≡ lookup (pointwise nat_eq c.args.name.now) c.self.inside.tables = rw (c.as_str.ensures) at c.get.ensures in
     IfErr-ok_or _ _ _ c.ok_or.ensures.value _
-    (λ e. (refl, text_of-kept _ _ _ c.args.self.now c.self.view_is c.args.name.now ∙ ap (option_map (λ t. t.text)) (sym got ∙ ap option_copied e)))
+    (λ e. (refl, text_of-kept _ _ _ _ c.args.self.now c.self.view_is c.args.name.now ∙ ap (option_map (λ t. t.text)) (sym got ∙ ap option_copied e)))

@@ -14,14 +14,14 @@ pub returns-in_default-clause-missing : goal.returns-in_default-clause-missing
 returns-in_default-clause-missing c =
     let book = c.self.inside in
     let none : lookup (nat_eq c.args.id) book.paragraphs ≡ None = sym c.get.ensures ∙ ap option_copied c.in_default.is in
-    (refl, subst (λ (b : Book). paragraph_of b c.args.id ≡ None) c.self.view_is (missing-kept book.version book.tables book.paragraphs c.self.invariant c.args.id none))
+    (refl, subst (λ (b : Book). paragraph_of b c.args.id ≡ None) c.self.view_is (missing-kept book.version book.tables book.paragraphs book.marks c.self.invariant c.args.id none))
 
 pub unreachable-requires : goal.unreachable-requires
 unreachable-requires c =
     let book = c.self.inside in
     let kept : KeptParagraph = c.in-Some.paragraph.now in
     let there : lookup (nat_eq c.args.id) book.paragraphs ≡ Some kept = sym c.get.ensures ∙ ap option_copied c.in-Some.is in
-    let table = table-kept book.version book.tables book.paragraphs c.self.invariant c.args.id kept there in
+    let table = table-kept book.version book.tables book.paragraphs book.marks c.self.invariant c.args.id kept there in
     let none : lookup (pointwise nat_eq kept.table) book.tables ≡ None =
     ap (λ (name : List ℕ). lookup (pointwise nat_eq name) book.tables) (sym c.as_str.ensures) ∙ (sym c.get-2.ensures ∙ ap option_copied c.in_default-get.is) in
     let both : Some table.0 ≡ None = sym table.1 ∙ none in
@@ -35,4 +35,4 @@ returns-clause-found c =
     let there : lookup (nat_eq c.args.id) book.paragraphs ≡ Some kept = sym c.get.ensures ∙ ap option_copied c.in-Some.is in
     let found : lookup (pointwise nat_eq kept.table) book.tables ≡ Some table =
     ap (λ (name : List ℕ). lookup (pointwise nat_eq name) book.tables) (sym c.as_str.ensures) ∙ (sym c.get-2.ensures ∙ ap option_copied c.in-Some-get.is) in
-    subst (λ (b : Book). IsShown b c.args.id kept table.rules) c.self.view_is (IsShown-found book.version book.tables book.paragraphs c.self.invariant c.args.id kept there table found)
+    subst (λ (b : Book). IsShown b c.args.id kept table.rules) c.self.view_is (IsShown-found book.version book.tables book.paragraphs book.marks c.self.invariant c.args.id kept there table found)

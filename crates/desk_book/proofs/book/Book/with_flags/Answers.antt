@@ -9,16 +9,16 @@ use Rattle.desk_book.proofs.book.Book.with_flags.Goals as goal
 pub invariant_of-result : goal.invariant_of-result
 invariant_of-result c =
     let was = c.self.inside in
-    let here : Puts (book_kept was.version was.tables was.paragraphs) c.args.version (SetFlags c.args.id c.args.style c.args.begins_volume c.args.struck) c.requires.0 =
+    let here : Puts (book_kept was.version was.tables was.paragraphs was.marks) c.args.version (SetFlags c.args.id c.args.style c.args.begins_volume c.args.struck) c.requires.0 =
     subst (λ (b : Book). Puts b c.args.version (SetFlags c.args.id c.args.style c.args.begins_volume c.args.struck) c.requires.0) (sym c.self.view_is) c.requires.1 in
-    let sound = sound-next was.version was.tables was.paragraphs c.self.invariant c.requires.0 c.args.version (SetFlags c.args.id c.args.style c.args.begins_volume c.args.struck) here in
-    subst (λ (paragraphs : KeptParagraphs). IsKept c.args.version was.tables paragraphs) (sym c.set_flags.ensures)
-    (IsKept-flagged was.version was.tables was.paragraphs c.requires.0 c.args.version c.args.id c.args.style c.args.begins_volume c.args.struck here.3 here.4 c.self.invariant sound)
+    let sound = sound-next was.version was.tables was.paragraphs was.marks c.self.invariant c.requires.0 c.args.version (SetFlags c.args.id c.args.style c.args.begins_volume c.args.struck) here in
+    subst (λ (paragraphs : KeptParagraphs). IsKept c.args.version was.tables paragraphs was.marks) (sym c.set_flags.ensures)
+    (IsKept-flagged was.version was.tables was.paragraphs was.marks c.requires.0 c.args.version c.args.id c.args.style c.args.begins_volume c.args.struck here.at here.does c.self.invariant sound)
 
 pub returns : goal.returns
 returns c = λ next given.
     let was = c.self.inside in
-    let here : Puts (book_kept was.version was.tables was.paragraphs) c.args.version (SetFlags c.args.id c.args.style c.args.begins_volume c.args.struck) next =
+    let here : Puts (book_kept was.version was.tables was.paragraphs was.marks) c.args.version (SetFlags c.args.id c.args.style c.args.begins_volume c.args.struck) next =
     subst (λ (b : Book). Puts b c.args.version (SetFlags c.args.id c.args.style c.args.begins_volume c.args.struck) next) (sym c.self.view_is) given in
-    ap (λ (paragraphs : KeptParagraphs). book_kept c.args.version was.tables paragraphs) c.set_flags.ensures
-    ∙ next-flagged was.version was.tables was.paragraphs next c.args.version c.args.id c.args.style c.args.begins_volume c.args.struck here.3 here.4
+    ap (λ (paragraphs : KeptParagraphs). book_kept c.args.version was.tables paragraphs was.marks) c.set_flags.ensures
+    ∙ next-flagged was.version was.tables was.paragraphs was.marks next c.args.version c.args.id c.args.style c.args.begins_volume c.args.struck here.at here.does

@@ -11,18 +11,18 @@ use Rattle.desk_book.proofs.book.Book.with_table_changed.Goals as goal
 pub invariant_of-result : goal.invariant_of-result
 invariant_of-result c =
     let was = c.self.inside in
-    let here : Puts (book_kept was.version was.tables was.paragraphs) c.args.version (ChangeTable c.args.id c.args.table c.args.cells) c.requires.0 =
+    let here : Puts (book_kept was.version was.tables was.paragraphs was.marks) c.args.version (ChangeTable c.args.id c.args.table c.args.cells) c.requires.0 =
     subst (λ (b : Book). Puts b c.args.version (ChangeTable c.args.id c.args.table c.args.cells) c.requires.0) (sym c.self.view_is) c.requires.1 in
-    let sound = sound-next was.version was.tables was.paragraphs c.self.invariant c.requires.0 c.args.version (ChangeTable c.args.id c.args.table c.args.cells) here in
-    let makes = subst (λ (command : Command). Makes (book_kept was.version was.tables was.paragraphs) command c.requires.0) here.4.0 here.2 in
-    subst (λ (paragraphs : KeptParagraphs). IsKept c.args.version was.tables paragraphs) (sym c.set_table.ensures)
-    (IsKept-retabled was.version was.tables was.paragraphs c.requires.0 c.args.version c.args.id c.args.table c.args.cells here.3 makes here.4.1 c.self.invariant sound)
+    let sound = sound-next was.version was.tables was.paragraphs was.marks c.self.invariant c.requires.0 c.args.version (ChangeTable c.args.id c.args.table c.args.cells) here in
+    let makes = subst (λ (command : Command). Makes (book_kept was.version was.tables was.paragraphs was.marks) command c.requires.0) here.does.0 here.makes in
+    subst (λ (paragraphs : KeptParagraphs). IsKept c.args.version was.tables paragraphs was.marks) (sym c.set_table.ensures)
+    (IsKept-retabled was.version was.tables was.paragraphs was.marks c.requires.0 c.args.version c.args.id c.args.table c.args.cells here.at makes here.does.1 c.self.invariant sound)
 
 pub returns : goal.returns
 returns c = λ next given.
     let was = c.self.inside in
-    let here : Puts (book_kept was.version was.tables was.paragraphs) c.args.version (ChangeTable c.args.id c.args.table c.args.cells) next =
+    let here : Puts (book_kept was.version was.tables was.paragraphs was.marks) c.args.version (ChangeTable c.args.id c.args.table c.args.cells) next =
     subst (λ (b : Book). Puts b c.args.version (ChangeTable c.args.id c.args.table c.args.cells) next) (sym c.self.view_is) given in
-    let makes = subst (λ (command : Command). Makes (book_kept was.version was.tables was.paragraphs) command next) here.4.0 here.2 in
-    ap (λ (paragraphs : KeptParagraphs). book_kept c.args.version was.tables paragraphs) c.set_table.ensures
-    ∙ next-retabled was.version was.tables was.paragraphs next c.args.version c.args.id c.args.table c.args.cells here.3 makes here.4.1
+    let makes = subst (λ (command : Command). Makes (book_kept was.version was.tables was.paragraphs was.marks) command next) here.does.0 here.makes in
+    ap (λ (paragraphs : KeptParagraphs). book_kept c.args.version was.tables paragraphs was.marks) c.set_table.ensures
+    ∙ next-retabled was.version was.tables was.paragraphs was.marks next c.args.version c.args.id c.args.table c.args.cells here.at makes here.does.1

@@ -14,31 +14,31 @@ use Rattle.desk_book.proofs.book.Book.with_table_replaced.Goals as goal
 pub replace-requires : goal.replace-requires
 replace-requires c =
     let was = c.self.inside in
-    let here : Puts (book_kept was.version was.tables was.paragraphs) c.args.version (ReplaceTable c.args.name c.args.table c.args.cells) c.requires.0 =
+    let here : Puts (book_kept was.version was.tables was.paragraphs was.marks) c.args.version (ReplaceTable c.args.name c.args.table c.args.cells) c.requires.0 =
     subst (λ (b : Book). Puts b c.args.version (ReplaceTable c.args.name c.args.table c.args.cells) c.requires.0) (sym c.self.view_is) c.requires.1 in
-    subst (λ (name : List ℕ). IsSome (lookup (pointwise nat_eq name) was.tables)) (sym c.as_str.ensures) (there-replaced was.version was.tables was.paragraphs c.args.name here.4.1)
+    subst (λ (name : List ℕ). IsSome (lookup (pointwise nat_eq name) was.tables)) (sym c.as_str.ensures) (there-replaced was.version was.tables was.paragraphs was.marks c.args.name here.does.1)
 
 pub invariant_of-result : goal.invariant_of-result
 invariant_of-result c =
     let was = c.self.inside in
-    let here : Puts (book_kept was.version was.tables was.paragraphs) c.args.version (ReplaceTable c.args.name c.args.table c.args.cells) c.requires.0 =
+    let here : Puts (book_kept was.version was.tables was.paragraphs was.marks) c.args.version (ReplaceTable c.args.name c.args.table c.args.cells) c.requires.0 =
     subst (λ (b : Book). Puts b c.args.version (ReplaceTable c.args.name c.args.table c.args.cells) c.requires.0) (sym c.self.view_is) c.requires.1 in
-    let sound = sound-next was.version was.tables was.paragraphs c.self.invariant c.requires.0 c.args.version (ReplaceTable c.args.name c.args.table c.args.cells) here in
-    let makes = subst (λ (command : Command). Makes (book_kept was.version was.tables was.paragraphs) command c.requires.0) here.4.0 here.2 in
+    let sound = sound-next was.version was.tables was.paragraphs was.marks c.self.invariant c.requires.0 c.args.version (ReplaceTable c.args.name c.args.table c.args.cells) here in
+    let makes = subst (λ (command : Command). Makes (book_kept was.version was.tables was.paragraphs was.marks) command c.requires.0) here.does.0 here.makes in
     let tables : c.replace.new.self ≡ with_table c.args.name c.args.table was.tables =
     c.replace.ensures ∙ ap (λ (name : List ℕ). with_table name c.args.table was.tables) c.as_str.ensures in
-    subst (λ (paragraphs : KeptParagraphs). IsKept c.args.version c.replace.new.self paragraphs) (sym c.renew.ensures)
-    (subst (λ (t : KeptTables). IsKept c.args.version t (map (renewed c.args.cells.items) was.paragraphs)) (sym tables)
-    (IsKept-replaced was.version was.tables was.paragraphs c.requires.0 c.args.version c.args.name c.args.table c.args.cells.items here.3 makes here.4.2 here.4.3 c.self.invariant sound))
+    subst (λ (paragraphs : KeptParagraphs). IsKept c.args.version c.replace.new.self paragraphs was.marks) (sym c.renew.ensures)
+    (subst (λ (t : KeptTables). IsKept c.args.version t (map (renewed c.args.cells.items) was.paragraphs) was.marks) (sym tables)
+    (IsKept-replaced was.version was.tables was.paragraphs was.marks c.requires.0 c.args.version c.args.name c.args.table c.args.cells.items here.at makes here.does.2 here.does.3 c.self.invariant sound))
 
 pub returns : goal.returns
 returns c = λ next given.
     let was = c.self.inside in
-    let here : Puts (book_kept was.version was.tables was.paragraphs) c.args.version (ReplaceTable c.args.name c.args.table c.args.cells) next =
+    let here : Puts (book_kept was.version was.tables was.paragraphs was.marks) c.args.version (ReplaceTable c.args.name c.args.table c.args.cells) next =
     subst (λ (b : Book). Puts b c.args.version (ReplaceTable c.args.name c.args.table c.args.cells) next) (sym c.self.view_is) given in
-    let makes = subst (λ (command : Command). Makes (book_kept was.version was.tables was.paragraphs) command next) here.4.0 here.2 in
+    let makes = subst (λ (command : Command). Makes (book_kept was.version was.tables was.paragraphs was.marks) command next) here.does.0 here.makes in
     let tables : c.replace.new.self ≡ with_table c.args.name c.args.table was.tables =
     c.replace.ensures ∙ ap (λ (name : List ℕ). with_table name c.args.table was.tables) c.as_str.ensures in
-    ap (λ (t : KeptTables). book_kept c.args.version t c.renew.new.self) tables
-    ∙ (ap (λ (paragraphs : KeptParagraphs). book_kept c.args.version (with_table c.args.name c.args.table was.tables) paragraphs) c.renew.ensures
-    ∙ next-replaced was.version was.tables was.paragraphs next c.args.version c.args.name c.args.table c.args.cells.items here.3 makes here.4.2 here.4.3)
+    ap (λ (t : KeptTables). book_kept c.args.version t c.renew.new.self was.marks) tables
+    ∙ (ap (λ (paragraphs : KeptParagraphs). book_kept c.args.version (with_table c.args.name c.args.table was.tables) paragraphs was.marks) c.renew.ensures
+    ∙ next-replaced was.version was.tables was.paragraphs was.marks next c.args.version c.args.name c.args.table c.args.cells.items here.at makes here.does.2 here.does.3)

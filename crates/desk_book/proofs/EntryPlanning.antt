@@ -1,0 +1,86 @@
+-- How a command that brings an entry into a history is judged while no version is expected.
+use Rattle.std.proofs.Common.{◌≡◌, ℕ, zero, suc, ◌<◌, ◌≤◌, true, false, List, [], ◌∷◌, length, Some, None, refl, sym, ap, subst, ◌∙◌, arith, inl, inr}
+use Rattle.std.specs.Prelude.{IsSome, is_some}
+use Rattle.std.proofs.lemmas.Bool.{both_ways}
+use Rattle.std.proofs.lemmas.List.{length-map}
+use Rattle.louis_table.specs.Meaning.{Meaning}
+use Rattle.louis_table.specs.Table.{Means}
+use Rattle.louis_translate.specs.Position.{AreDefined}
+use Rattle.desk_book.specs.declared.command.Command.{Command}
+use Rattle.desk_book.specs.declared.paragraphs.Paragraph.{Paragraph as KeptParagraph}
+use Rattle.desk_book.specs.declared.tables.BookTable.{BookTable}
+use Rattle.desk_book.specs.declared.refusal.Limit.TheVariants.{Entries}
+use Rattle.desk_book.specs.declared.refusal.Refusal.{Refusal}
+use Rattle.desk_book.specs.declared.refusal.Refusal.TheVariants.{Full, Struck, Undefined}
+use Rattle.desk_book.specs.Book.{Book, Paragraph, paragraph_of, text_of}
+use Rattle.desk_book.specs.Corrected.{HaltsEntry, IsUnfit}
+use Rattle.desk_book.specs.Histories.{entry_kept}
+use Rattle.desk_book.specs.Judging.{Passes}
+use Rattle.desk_book.specs.Kept.{paragraph_kept}
+use Rattle.desk_book.specs.Limits.{most_entries, most_print, most_version}
+use Rattle.desk_book.specs.Planned.{AreNotAllThere, AreThere, IsTurnedDown}
+use Rattle.desk_book.specs.Refusals.{HasLongNote, HasLongText, IsAccepted, history_grown, live_paragraph, new_print, paragraphs_named, print_to_translate}
+use Rattle.desk_book.proofs.Judging.{Passes-full, Passes-struck, skips}
+use Rattle.desk_book.proofs.Planning.{AreNotAllThere-first, accepted_after, full_version, no_paragraph, past_lengths, past_paragraphs, past_print, past_version, short_print, to_turn, too_long, turned_down}
+
+AreThere-one : (book : Book) (id : ℕ) (p : Paragraph) → paragraph_of book id ≡ Some p → AreThere book (id ∷ [])
+AreThere-one book id p found other (zero, within, at) = subst (λ (n : ℕ). IsSome (paragraph_of book n)) at (ap is_some found)
+AreThere-one book id p found other (suc i, within, at) = absurd (omega arith)
+
+module _ (book : Book) (command : Command) (id : ℕ) (named : paragraphs_named command ≡ id ∷ []) (live : live_paragraph command ≡ Some id) (skip : skips command 40 60 ≡ true)
+    (passes : Passes book None command 30) where
+  there : (p : Paragraph) → paragraph_of book id ≡ Some p → Passes book None command 60
+  there p found = to_turn book command 40 60 skip (past_paragraphs book command passes (subst (AreThere book) (sym named) (AreThere-one book id p found)))
+
+  -- the paragraph isn't there, or is struck
+  pub unfit : (told : Refusal) → IsUnfit book id told → IsTurnedDown book command told
+  unfit told (inl (is, missing)) = no_paragraph book command told passes (subst (AreNotAllThere book) (sym named) (AreNotAllThere-first book id [] missing)) is
+  unfit told (inr (is, (p, found, struck))) = turned_down book command 60 Struck told (there p found) refl (record { id = id; paragraph = p; named = live; found = found; struck = struck }) is
+
+  pub past_fit : (p : Paragraph) → paragraph_of book id ≡ Some p → p.struck ≡ false → Passes book None command 70
+  past_fit p found free =
+      Passes-struck book None command (there p found)
+      (λ s. let given = s.named in let same : id ≡ s.id = cc in
+      let both : Some p ≡ Some s.paragraph = sym found ∙ (ap (paragraph_of book) same ∙ s.found) in
+      let is : p ≡ s.paragraph = cc in
+      both_ways p.struck free (ap (λ (q : Paragraph). q.struck) is ∙ s.struck))
+
+module _ (book : Book) (command : Command) (id : ℕ) (p : Paragraph) (there : paragraph_of book id ≡ Some p) (kept : KeptParagraph) (kept_is : p ≡ paragraph_kept (id, kept)) (print source : List ℕ) (meaning : Meaning)
+    (found : text_of book p.table ≡ Some source) (means : Means source meaning) (grows : history_grown command ≡ Some id) (made : new_print book command ≡ Some print)
+    (shown : print_to_translate book command ≡ Some (print, p.table)) (text : ¬ HasLongText command) (note : ¬ HasLongNote command) (passes : Passes book None command 110)
+    (to_entries : skips command 120 140 ≡ true) (to_version : skips command 150 160 ≡ true) (to_print : skips command 170 180 ≡ true) (to_end : skips command 190 200 ≡ true) where
+  abbrev table : BookTable
+  table = record { text = source; rules = meaning }
+
+  count : length p.history ≡ length kept.history
+  count = ap (λ (q : Paragraph). length q.history) kept_is ∙ length-map kept.history entry_kept
+
+  short : length print ≤ most_print → Passes book None command 140
+  short h = to_turn book command 120 140 to_entries (past_lengths book command passes text (short_print book command print made h) note)
+
+  few : length print ≤ most_print → length kept.history < most_entries → Passes book None command 150
+  few h room =
+      Passes-full book None command Entries (short h)
+      (λ f. let given = f.grows in let same : id ≡ f.id = cc in
+      let both : Some p ≡ Some f.paragraph = sym there ∙ (ap (paragraph_of book) same ∙ f.found) in
+      let is : p ≡ f.paragraph = cc in
+      let many = ap (λ (q : Paragraph). length q.history) is in
+      let full = f.full in
+      omega (arith, count))
+
+  left : length print ≤ most_print → length kept.history < most_entries → book.version < most_version → Passes book None command 180
+  left h room version = to_turn book command 170 180 to_print (past_version book command 150 (few h room) to_version version)
+
+  pub halted : (told : Refusal) → HaltsEntry book kept meaning print told → IsTurnedDown book command told
+  halted told (inl (is, long)) = too_long book command told print passes made long is
+  halted told (inr (inl (is, h, full))) =
+      turned_down book command 140 (Full Entries) told (short h) refl (record { id = id; paragraph = p; grows = grows; found = there; full = omega (arith, count, full) }) is
+  halted told (inr (inr (inl (is, h, room, full)))) = full_version book command 150 told (few h room) to_version full is
+  halted told (inr (inr (inr (inl (place, is, h, room, version, first))))) =
+      turned_down book command 180 (Undefined place) told (left h room version) refl
+      (record { print = print; name = p.table; print_is = shown; text = source; meaning = meaning; found = found; means = means; first = first }) is
+  halted told (inr (inr (inr (inr is)))) = inr is
+
+  pub entered : length print ≤ most_print → length kept.history < most_entries → book.version < most_version → AreDefined meaning print → IsAccepted book None command
+  entered h room version defined =
+      accepted_after book command 190 (past_print book command p.table print table shown (record { found = found; means = means }) (left h room version) defined) to_end

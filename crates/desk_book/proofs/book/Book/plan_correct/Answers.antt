@@ -1,0 +1,46 @@
+use Rattle.std.proofs.Common.{◌≡◌, ◌+◌, ◌≤◌, List, ℕ, length, ap, subst, ◌∙◌, refl}
+use Rattle.desk_book.specs.Corrected.{IsCorrection, replaced_by}
+use Rattle.desk_book.specs.Limits.{most_print}
+use Rattle.desk_book.specs.Print.{print_of, replaced}
+use Rattle.desk_book.specs.Step.{replacement_by}
+use Rattle.desk_book.specs.Stored.{stored}
+use Rattle.desk_book.proofs.CorrectPlanning.{halted_here, planned_here}
+use Rattle.desk_book.proofs.EntryPlanned.{TookFrom-correction, entry-correction}
+use Rattle.desk_book.proofs.KeptLookups.{IfErr-weaker, IfOk-weaker}
+use Rattle.desk_book.proofs.book.Book.plan_correct.Goals as goal
+
+pub returns-clause-planned : goal.returns-clause-planned
+returns-clause-planned c =
+    let shown = c.in_ok-paragraph.ensures.found.0 in
+    let text = stored c.args.text.now in
+    let old : c.as_slice-old.result.now ≡ c.in_ok-paragraph.paragraph.now.print = c.as_slice-old.ensures in
+    let put : c.in_ok-put.put.items ≡ text = c.in_ok-put.ensures ∙ ap stored c.as_str.ensures in
+    let span = subst (λ (t : List ℕ). c.args.start + c.args.count ≤ length t) old c.in_ok-check_span.ensures.there in
+    let short = subst (λ (t : List ℕ). length t ≤ most_print) (c.deref.ensures.value ∙ put) c.in_ok-check_length.ensures.short in
+    let before = old ∙ shown.print in
+    let printed : c.in_ok-print.print.items ≡ replaced (print_of shown.paragraph) (replacement_by c.args.start c.args.count c.args.text.now) =
+    c.in_ok-print.ensures ∙ (λ i. replaced_by c.args.start c.args.count ((c.deref-2.ensures.value ∙ put) i) (before i)) in
+    let made = subst (λ (t : List ℕ). IsCorrection t c.args.start c.args.count text c.args.who.now c.in_ok-correction.field-0) before
+    (subst (λ (t : List ℕ). IsCorrection c.as_slice-old.result.now c.args.start c.args.count t c.args.who.now c.in_ok-correction.field-0) (c.deref-3.ensures.value ∙ put) c.in_ok-correction.ensures) in
+    let there = subst (λ (t : List ℕ). c.args.start + c.args.count ≤ length t) shown.print span in
+    IfOk-weaker c.entered.result _ _
+    (λ effect is. planned_here c.args.self.now c.args.id c.args.start c.args.count c.args.text.now c.args.who.now c.in_ok-check_reader.ensures.name c.in_ok-check_text.ensures.unbarred
+    c.in_ok-paragraph.paragraph.now c.in_ok-paragraph.rules.now shown c.in_ok-paragraph.ensures.found.1 span c.in_ok-print.print.items printed short _ effect refl is
+    (entry-correction (print_of shown.paragraph) c.args.start c.args.count text c.args.who.now c.in_ok-correction.field-0 made there)
+    (TookFrom-correction (print_of shown.paragraph) c.args.start c.args.count text c.args.who.now c.in_ok-correction.field-0 made there)
+    refl refl (c.len.ensures ∙ (c.in_ok-put.put.ok.0 ∙ ap length put)) (made.characters, made.who_characters)) c.entered.ensures.planned
+
+pub returns-clause-refused : goal.returns-clause-refused
+returns-clause-refused c =
+    let shown = c.in_ok-paragraph.ensures.found.0 in
+    let text = stored c.args.text.now in
+    let old : c.as_slice-old.result.now ≡ c.in_ok-paragraph.paragraph.now.print = c.as_slice-old.ensures in
+    let put : c.in_ok-put.put.items ≡ text = c.in_ok-put.ensures ∙ ap stored c.as_str.ensures in
+    let span = subst (λ (t : List ℕ). c.args.start + c.args.count ≤ length t) old c.in_ok-check_span.ensures.there in
+    let short = subst (λ (t : List ℕ). length t ≤ most_print) (c.deref.ensures.value ∙ put) c.in_ok-check_length.ensures.short in
+    let before = old ∙ shown.print in
+    let printed : c.in_ok-print.print.items ≡ replaced (print_of shown.paragraph) (replacement_by c.args.start c.args.count c.args.text.now) =
+    c.in_ok-print.ensures ∙ (λ i. replaced_by c.args.start c.args.count ((c.deref-2.ensures.value ∙ put) i) (before i)) in
+    IfErr-weaker c.entered.result _ _
+    (λ told halts. halted_here c.args.self.now c.args.id c.args.start c.args.count c.args.text.now c.args.who.now c.in_ok-check_reader.ensures.name c.in_ok-check_text.ensures.unbarred
+    c.in_ok-paragraph.paragraph.now c.in_ok-paragraph.rules.now shown c.in_ok-paragraph.ensures.found.1 span c.in_ok-print.print.items printed short told halts) c.entered.ensures.refused

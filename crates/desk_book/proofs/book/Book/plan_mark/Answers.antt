@@ -1,0 +1,46 @@
+use Rattle.std.proofs.Common.{◌≡◌, ℕ, length, refl, sym, ap, subst, ◌∙◌, arith}
+use Rattle.std.proofs.lemmas.Result.{err_from_is_err_and}
+use Rattle.desk_book.specs.Book.{Book}
+use Rattle.desk_book.specs.Room.{Suffices}
+use Rattle.desk_book.specs.Stored.{AreCharacters}
+use Rattle.desk_book.proofs.MarkPlanning.{accepted_mark, full_marks, full_of_versions, has_cells, long_note, marked_here}
+use Rattle.desk_book.proofs.MarkSettled.{count-marks}
+use Rattle.desk_book.proofs.book.Book.plan_mark.Goals as goal
+
+pub marked-requires-clause-cells : goal.marked-requires-clause-cells
+marked-requires-clause-cells c = has_cells c.args.self.now c.args.id c.args.cell c.args.count c.args.note.now c.in_ok-check_text.ensures.unbarred _ _ c.in_ok-paragraph.ensures.found.0 c.in_ok-paragraph.ensures.found.1 c.as_slice-print.result.now c.as_slice-cells.result.now c.as_slice-print.ensures c.as_slice-cells.ensures
+
+pub returns-in_err-check_note-clause-refused : goal.returns-in_err-check_note-clause-refused
+returns-in_err-check_note-clause-refused c =
+    let p = err_from_is_err_and c.from_residual-in_err-check_note.result c.from_residual-in_err-check_note.ensures.1 in
+    rw (p.1, p.2) (long_note c.args.self.now c.args.id c.args.cell c.args.count c.args.note.now c.in_ok-check_text.ensures.unbarred _ _ c.in_ok-paragraph.ensures.found.0 c.in_ok-paragraph.ensures.found.1 _ _ c.as_slice-print.result.now c.as_slice-print.ensures c.in_ok-start.ensures.there _ c.in_err-check_note.ensures.long)
+
+pub returns-in_err-check_marks-clause-refused : goal.returns-in_err-check_marks-clause-refused
+returns-in_err-check_marks-clause-refused c =
+    let p = err_from_is_err_and c.from_residual-in_err-check_marks.result c.from_residual-in_err-check_marks.ensures.1 in
+    rw (p.1, p.2) (full_marks c.args.self.now c.args.id c.args.cell c.args.count c.args.note.now c.in_ok-check_text.ensures.unbarred _ _ c.in_ok-paragraph.ensures.found.0 c.in_ok-paragraph.ensures.found.1 _ _ c.as_slice-print.result.now c.as_slice-print.ensures c.in_ok-start.ensures.there c.in_ok-check_note.ensures.short _ c.in_err-check_marks.ensures.full)
+
+pub returns-in_err-check_version-clause-refused : goal.returns-in_err-check_version-clause-refused
+returns-in_err-check_version-clause-refused c =
+    let p = err_from_is_err_and c.from_residual-in_err-check_version.result c.from_residual-in_err-check_version.ensures.1 in
+    rw (p.1, p.2) (full_of_versions c.args.self.now c.args.id c.args.cell c.args.count c.args.note.now c.in_ok-check_text.ensures.unbarred _ _ c.in_ok-paragraph.ensures.found.0 c.in_ok-paragraph.ensures.found.1 _ _ c.as_slice-print.result.now c.as_slice-print.ensures c.in_ok-start.ensures.there c.in_ok-check_note.ensures.short c.in_ok-check_marks.ensures.left _ c.in_err-check_version.ensures.full)
+
+pub room-requires : goal.room-requires
+room-requires c =
+    let count = count-marks c.self.inside.marks in
+    let is = ap (λ (b : Book). length b.marks) c.self.view_is in
+    let left = c.in_ok-check_marks.ensures.left in
+    omega arith
+
+pub returns-clause-planned : goal.returns-clause-planned
+returns-clause-planned c =
+    let book = c.args.self.now in
+    let count : length c.self.inside.marks ≡ length book.marks = sym (count-marks c.self.inside.marks) ∙ ap (λ (b : Book). length b.marks) c.self.view_is in
+    let noted = c.in_ok-copy.ensures.text ∙ c.as_str.ensures in
+    let marked = marked_here c.args.self.now c.args.id c.args.cell c.args.count c.args.note.now c.in_ok-check_text.ensures.unbarred _ _ c.in_ok-paragraph.ensures.found.0 c.in_ok-paragraph.ensures.found.1 _ _ c.as_slice-print.result.now c.as_slice-print.ensures c.in_ok-start.ensures.there in
+    let characters = subst AreCharacters noted c.in_ok-copy.ensures.characters in
+    rw noted (
+      accepted_mark c.args.self.now c.args.id c.args.cell c.args.count c.args.note.now c.in_ok-check_text.ensures.unbarred _ _ c.in_ok-paragraph.ensures.found.0 c.in_ok-paragraph.ensures.found.1 _ _ c.as_slice-print.result.now c.as_slice-print.ensures c.in_ok-start.ensures.there c.in_ok-check_note.ensures.short c.in_ok-check_marks.ensures.left c.in_ok-check_version.ensures.left,
+      (_, (_, _, marked, refl), (refl, subst (λ (n : ℕ). Suffices n c.in_ok-room.field-0) count c.in_ok-room.ensures, c.in_ok-check_marks.ensures.left)),
+      characters,
+    )

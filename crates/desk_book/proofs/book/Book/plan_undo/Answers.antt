@@ -1,0 +1,44 @@
+use Rattle.std.proofs.Common.{◌≡◌, length, sym, ap, subst, ◌∙◌, refl, arith}
+use Rattle.desk_book.specs.Corrected.{replaced_by}
+use Rattle.desk_book.specs.Histories.{IsInForce, entries_kept}
+use Rattle.desk_book.specs.Sound.{AreSoundEntries}
+use Rattle.desk_book.proofs.KeptLookups.{IfErr-weaker, IfOk-weaker}
+use Rattle.desk_book.proofs.UndoPlanning.{back, halted_here, planned_here, sound_kept, span_here}
+use Rattle.desk_book.proofs.book.Book.plan_undo.Goals as goal
+
+pub newest-requires : goal.newest-requires
+newest-requires c =
+    let shown = c.in_ok-paragraph.ensures.found.0 in
+    (c.in_ok-paragraph.paragraph.now.original, subst (λ h. AreSoundEntries c.in_ok-paragraph.paragraph.now.original (entries_kept h)) (sym c.as_slice.ensures) (sound_kept c.args.self.now c.args.id _ _ shown c.in_ok-paragraph.ensures.found.1))
+
+pub replaced-requires : goal.replaced-requires
+replaced-requires c =
+    let found = c.in_ok-paragraph.ensures.found in
+    let force = subst (λ h. IsInForce h c.in-Some.number c.in-Some.correction.now) c.as_slice.ensures c.in-Some.ensures.found in
+    let old : c.as_slice-old.result.now ≡ c.in_ok-paragraph.paragraph.now.print = c.as_slice-old.ensures in
+    let count : c.count_of-count.result ≡ length c.in-Some.correction.now.text = c.count_of-count.ensures ∙ ap length c.as_str.ensures in
+    let span = span_here c.args.self.now c.args.id _ _ found.0 found.1 c.in-Some.number c.in-Some.correction.now force in
+    let long = ap length old in
+    omega arith
+
+pub returns-clause-planned : goal.returns-clause-planned
+returns-clause-planned c =
+    let found = c.in_ok-paragraph.ensures.found in
+    let correction = c.in-Some.correction.now in
+    let force = subst (λ h. IsInForce h c.in-Some.number correction) c.as_slice.ensures c.in-Some.ensures.found in
+    let old = c.as_slice-old.ensures ∙ found.0.print in
+    let count : c.count_of-count.result ≡ length correction.text = c.count_of-count.ensures ∙ ap length c.as_str.ensures in
+    let printed = c.in_ok-replaced.ensures ∙ ((λ i. replaced_by correction.start (count i) (c.as_slice-taken.ensures i) (old i)) ∙ back c.args.self.now c.args.id _ _ found.0 found.1 c.in-Some.number correction force) in
+    IfOk-weaker c.entered.result _ _
+    (λ effect is. planned_here c.args.self.now c.args.id _ _ found.0 found.1 c.in-Some.number correction force c.in_ok-replaced.field-0.items printed _ effect refl is refl refl count (ap length c.as_slice-taken.ensures)) c.entered.ensures.planned
+
+pub returns-clause-refused : goal.returns-clause-refused
+returns-clause-refused c =
+    let found = c.in_ok-paragraph.ensures.found in
+    let correction = c.in-Some.correction.now in
+    let force = subst (λ h. IsInForce h c.in-Some.number correction) c.as_slice.ensures c.in-Some.ensures.found in
+    let old = c.as_slice-old.ensures ∙ found.0.print in
+    let count : c.count_of-count.result ≡ length correction.text = c.count_of-count.ensures ∙ ap length c.as_str.ensures in
+    let printed = c.in_ok-replaced.ensures ∙ ((λ i. replaced_by correction.start (count i) (c.as_slice-taken.ensures i) (old i)) ∙ back c.args.self.now c.args.id _ _ found.0 found.1 c.in-Some.number correction force) in
+    IfErr-weaker c.entered.result _ _
+    (λ told halts. halted_here c.args.self.now c.args.id _ _ found.0 found.1 c.in-Some.number correction force c.in_ok-replaced.field-0.items printed told halts) c.entered.ensures.refused

@@ -1,0 +1,35 @@
+-- Histories as they are kept.
+use Rattle.std.specs.Prelude.{◌≡◌, ℕ, ◌-◌, ◌<◌, List, length, map, take, drop, slice_get, Some}
+use Rattle.desk_book.specs.declared.history.Correction.{Correction}
+use Rattle.desk_book.specs.declared.history.KeptEntry.{KeptEntry}
+use Rattle.desk_book.specs.declared.history.KeptEntry.TheVariants.{Corrects as KeptCorrects, Undoes as KeptUndoes}
+use Rattle.desk_book.specs.Book.{Replacement, Entry, Corrects, Undoes}
+use Rattle.desk_book.specs.Print.{corrected, newest}
+
+-- what a kept correction does: it took as many characters as it has of them
+abbrev pub replacement_kept : Correction → Replacement
+replacement_kept c = record { start = c.start; count = length c.taken; text = c.text }
+
+-- what a kept entry stands for
+abbrev pub entry_kept : KeptEntry → Entry
+entry_kept (KeptCorrects c) = Corrects (replacement_kept c) c.who
+entry_kept (KeptUndoes n) = Undoes n
+
+abbrev pub entries_kept : List KeptEntry → List Entry
+entries_kept entries = map entry_kept entries
+
+-- a correction has the characters that gave way to its text in this print
+abbrev pub TookFrom : List ℕ → KeptEntry → Type 0
+TookFrom print (KeptCorrects c) = c.taken ≡ take (length c.taken) (drop c.start print)
+TookFrom print (KeptUndoes n) = Unit {0}
+
+-- each correction has the characters that gave way in the print before it
+abbrev pub HaveTaken : List ℕ → List KeptEntry → Type 0
+HaveTaken original entries =
+    (i : ℕ) (entry : KeptEntry) → slice_get entries i ≡ Some entry → TookFrom (corrected original (entries_kept (take i entries))) entry
+
+-- of the corrections in force this is the newest, with its number
+pub record IsInForce (entries : List KeptEntry) (number : ℕ) (correction : Correction) : Type 0 where
+  pub newest_is : newest (entries_kept entries) ≡ Some (number, replacement_kept correction)
+  pub positive : 0 < number
+  pub at : slice_get entries (number - 1) ≡ Some (KeptCorrects correction)

@@ -1,0 +1,43 @@
+-- Marks as they are kept.
+use Rattle.std.specs.Prelude.{ℕ, ◌+◌, ◌-◌, ◌≤◌, ◌==◌, nat_le, true, if◌then◌else◌, min, max, zero, suc, List, map, Option, None, slice_get, slice_set}
+use Rattle.std.specs.Option.{option_map_or}
+use Rattle.std.specs.List.{All}
+use Rattle.desk_book.specs.declared.marks.KeptMark.{KeptMark}
+use Rattle.desk_book.specs.Limits.{most_print}
+
+-- it stands within a print
+abbrev pub IsWithin : KeptMark → Type 0
+IsWithin mark = (mark.start ≤ mark.end) × (mark.end ≤ most_print)
+
+abbrev pub AreWithin : List KeptMark → Type 0
+AreWithin marks = All IsWithin marks
+
+-- the kept mark after so many characters from a place on gave way to others
+abbrev pub moved_kept : (start removed added : ℕ) → KeptMark → KeptMark
+moved_kept start removed added mark =
+    if nat_le mark.end start then mark
+    else (if nat_le (start + removed) mark.start
+    then record mark { start = mark.start - removed + added; end = mark.end - removed + added }
+    else record mark {
+      start = min mark.start start;
+      end = max mark.end (start + removed) - removed + added;
+      touched = true;
+    })
+
+-- the kept mark, moved if it is of the paragraph with this id
+abbrev pub moved_kept_of : (id start removed added : ℕ) → KeptMark → KeptMark
+moved_kept_of id start removed added mark = if mark.paragraph == id then moved_kept start removed added mark else mark
+
+-- the kept marks, those of the paragraph with this id moved
+abbrev pub with_kept_moved : (id start removed added : ℕ) → List KeptMark → List KeptMark
+with_kept_moved id start removed added marks = map (moved_kept_of id start removed added) marks
+
+-- the kept mark with an id, from 1, if there is one
+abbrev pub kept_mark : ℕ → List KeptMark → Option KeptMark
+kept_mark zero marks = None
+kept_mark (suc index) marks = slice_get marks index
+
+-- the kept marks with the one with an id resolved
+abbrev pub with_kept_resolved : ℕ → List KeptMark → List KeptMark
+with_kept_resolved zero marks = marks
+with_kept_resolved (suc index) marks = option_map_or (λ mark. slice_set marks index (record mark { resolved = true })) (slice_get marks index) marks

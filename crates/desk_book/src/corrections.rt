@@ -1,0 +1,216 @@
+//! Corrections of prints, and what takes them back.
+ghost use Rattle.desk_book.specs.Corrected.{HaltsEntry, IsCorrection, IsEntered, IsUnfit, replaced_by};
+ghost use Rattle.desk_book.specs.Limits.{most_entries};
+ghost use Rattle.desk_book.specs.Name.{IsReaderName};
+ghost use Rattle.desk_book.specs.Planned.{IsPlanned, IsTurnedDown};
+ghost use Rattle.desk_book.specs.Shown.{IsShown};
+ghost use Rattle.std.specs.Prelude.{◌≡◌, ◌+◌, ◌<◌, ◌≤◌, false, IfErr, IfOk, OnOk, length};
+
+use super::book::Book;
+use super::braille::cells_of;
+use super::change::{Effect, PrintChange};
+use super::command::Command;
+use super::history::{Correction, KeptEntry, newest};
+use super::limits::MOST_ENTRIES;
+use super::paragraphs::Paragraph;
+use super::plan::{check_length, check_print, check_text, copy, text_of_print};
+use super::refusal::{Limit, Refusal};
+use super::stored::{count_of, is_reader_name, stored};
+use super::text::Text;
+use louis_table::Characters;
+use louis_translate::RuleIndex;
+use std::alloc::{AllocError, Global};
+
+/// The name of a reader is one.
+fn check_reader(who: &Text) -> Result<(), Refusal>
+    ensures name { OnOk result (IsReaderName who.now) }
+    ensures bad { IfErr result (λ refusal. (refusal ≡ Refusal.BadReader) × ¬ IsReaderName who.now) }
+{
+    if !is_reader_name(who.as_str()) {
+        return Err(Refusal::BadReader);
+    }
+    Ok(())
+}
+
+/// So many characters from a place on are all there.
+fn check_span(print: &[char], start: usize, count: usize) -> Result<(), Refusal>
+    ensures there { OnOk result (start + count ≤ length print.now) }
+    ensures past { IfErr result (λ refusal. (refusal ≡ Refusal.BadSpan) × (length print.now < start + count)) }
+{
+    let length = print.len();
+    if start > length || count > length - start {
+        return Err(Refusal::BadSpan);
+    }
+    Ok(())
+}
+
+/// A history may have one entry more.
+fn check_entries(paragraph: &Paragraph) -> Result<(), Refusal>
+    ensures left { OnOk result (length paragraph.now.history < most_entries) }
+    ensures full { IfErr result (λ refusal.
+        (refusal ≡ Refusal.Full Limit.Entries) × (most_entries ≤ length paragraph.now.history)) }
+{
+    if paragraph.history.len() >= MOST_ENTRIES {
+        return Err(Refusal::Full(Limit::Entries));
+    }
+    Ok(())
+}
+
+/// The print with a text in place of so many characters from a place on.
+fn replaced(
+    alloc: Global,
+    print: &[char],
+    start: usize,
+    count: usize,
+    text: &[char],
+) -> Result<Vec<char>, AllocError>
+    requires { start + count ≤ length print.now }
+    ensures { IfOk result (λ new. new.items ≡ replaced_by start count text.now print.now) }
+{
+    let mut new = Vec::new(alloc);
+    new.extend_from_slice(&print[..start])?;
+    new.extend_from_slice(text)?;
+    new.extend_from_slice(&print[start + count..])?;
+    Ok(new)
+}
+
+/// The correction of so many characters of a print, from a place on.
+fn correction(
+    alloc: Global,
+    print: &[char],
+    start: usize,
+    count: usize,
+    text: &[char],
+    who: &Text,
+) -> Result<Correction, AllocError>
+    requires { start + count ≤ length print.now }
+    ensures { IfOk result (IsCorrection print.now start count text.now who.now) }
+{
+    let taken = Vec::from_slice(alloc, &print[start..start + count])?;
+    Ok(Correction {
+        start,
+        text: text_of_print(alloc, text)?,
+        who: copy(alloc, who.as_str())?,
+        taken: Characters::from_vec(taken),
+    })
+}
+
+/// An entry that is to come into a history, and what follows from it.
+#[derive(Drop)]
+pub(crate) struct NewEntry {
+    /// The entry.
+    pub(crate) entry: KeptEntry,
+    /// The print that follows from it.
+    pub(crate) print: Vec<char>,
+    /// The place of the old print from which on characters give way.
+    pub(crate) start: usize,
+    /// How many give way.
+    pub(crate) removed: usize,
+    /// How many come in their place.
+    pub(crate) added: usize,
+}
+
+impl Book {
+    /// A paragraph that isn't struck, and the rules of its table.
+    pub(crate) fn live(&self, id: u64) -> Result<(&Paragraph, &RuleIndex), Refusal>
+        ensures found { IfOk result (λ shown.
+            IsShown self.now id shown.0.now shown.1.now × (shown.0.now.struck ≡ false)) }
+        ensures refused { IfErr result (IsUnfit self.now id) }
+    {
+        let (paragraph, rules) = self.translated(id)?;
+        if paragraph.struck {
+            return Err(Refusal::Struck);
+        }
+        Ok((paragraph, rules))
+    }
+
+    /// What a new entry does, where its print, its history, the version and the table let it come.
+    fn entered(
+        &self,
+        alloc: Global,
+        id: u64,
+        paragraph: &Paragraph,
+        rules: &RuleIndex,
+        new: NewEntry,
+    ) -> Result<Effect, Refusal>
+        ensures planned { IfOk result (IsEntered self.now id paragraph.now rules.now new) }
+        ensures refused { IfErr result (HaltsEntry self.now paragraph.now rules.now new.print.items) }
+    {
+        check_length(&new.print)?;
+        check_entries(paragraph)?;
+        self.check_version()?;
+        check_print(rules, &new.print)?;
+        let cells = cells_of(alloc, rules, &new.print)?;
+        let room = paragraph.history.room(alloc)?;
+        let NewEntry {
+            entry,
+            print,
+            start,
+            removed,
+            added,
+        } = new;
+        Ok(Effect::ChangePrint {
+            id,
+            change: PrintChange {
+                entry,
+                room,
+                print: Characters::from_vec(print),
+                cells,
+                start,
+                removed,
+                added,
+            },
+        })
+    }
+
+    pub(crate) fn plan_correct(
+        &self,
+        alloc: Global,
+        id: u64,
+        start: usize,
+        count: usize,
+        text: &Text,
+        who: &Text,
+    ) -> Result<Effect, Refusal>
+        ensures planned { IfOk result (IsPlanned self.now (Command.Correct id start count text.now who.now)) }
+        ensures refused { IfErr result (IsTurnedDown self.now (Command.Correct id start count text.now who.now)) }
+    {
+        check_reader(who)?;
+        check_text(text)?;
+        let (paragraph, rules) = self.live(id)?;
+        let old = paragraph.print.as_slice();
+        check_span(old, start, count)?;
+        let put = stored(alloc, text.as_str())?;
+        check_length(&put)?;
+        let print = replaced(alloc, old, start, count, &put)?;
+        let new = NewEntry {
+            entry: KeptEntry::Corrects(correction(alloc, old, start, count, &put, who)?),
+            print,
+            start,
+            removed: count,
+            added: put.len(),
+        };
+        self.entered(alloc, id, paragraph, rules, new)
+    }
+
+    pub(crate) fn plan_undo(&self, alloc: Global, id: u64) -> Result<Effect, Refusal>
+        ensures planned { IfOk result (IsPlanned self.now (Command.Undo id)) }
+        ensures refused { IfErr result (IsTurnedDown self.now (Command.Undo id)) }
+    {
+        let (paragraph, rules) = self.live(id)?;
+        let Some((number, correction)) = newest(paragraph.history.as_slice()) else {
+            return Err(Refusal::NothingToUndo);
+        };
+        let count = count_of(correction.text.as_str());
+        let taken = correction.taken.as_slice();
+        let old = paragraph.print.as_slice();
+        let new = NewEntry {
+            entry: KeptEntry::Undoes(number),
+            print: replaced(alloc, old, correction.start, count, taken)?,
+            start: correction.start,
+            removed: count,
+            added: taken.len(),
+        };
+        self.entered(alloc, id, paragraph, rules, new)
+    }
+}

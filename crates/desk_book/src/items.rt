@@ -1,0 +1,111 @@
+//! Lists that a planned change makes longer without memory, at a constant cost for each item, taken over all.
+ghost use Rattle.desk_book.specs.Room.{Suffices, grown as grown_lem};
+ghost use Rattle.std.specs.Prelude.{◌≡◌, ◌+◌, ◌<◌, ◌^◌, [], ◌∷◌, ◌++◌, IfOk, length};
+
+use std::alloc::{AllocError, Global};
+use std::marker::Model;
+
+/// A list with room to spare. Contracts see its items alone: how much room there is follows from their number.
+#[derive(Debug)]
+pub(crate) struct Items<T> {
+    pub(crate) items: Vec<T>,
+    // what the room is at least
+    room: usize,
+}
+
+impl<T> Model for Items<T> {
+    ghost use Rattle.desk_book.specs.Room.{room_of};
+    ghost use Rattle.std.specs.Prelude.{List, ◌≡◌, ◌≤◌, length, vec_capacity};
+
+    ghost Value = { List T };
+
+    ghost view = { λ i. i.items.items };
+
+    ghost invariant = { λ i. (i.room ≡ room_of (length i.items.items)) × (i.room ≤ vec_capacity i.items) };
+}
+
+impl<T: Drop> Drop for Items<T> {
+    fn drop(self) {
+        let Items { items: _, room: _ } = self;
+    }
+}
+
+/// Room for a list that is longer by one, where the list itself has none. Contracts see how much it is.
+#[derive(Debug, Drop)]
+pub(crate) struct Room<T> {
+    items: Option<Vec<T>>,
+}
+
+impl<T> Model for Room<T> {
+    ghost use Rattle.std.specs.Option.{ForSome, option_map};
+    ghost use Rattle.std.specs.Prelude.{Option, ℕ, ◌≡◌, [], vec_capacity};
+
+    ghost Value = { Option ℕ };
+
+    ghost view = { λ r. option_map (λ v. vec_capacity v) r.items };
+
+    ghost invariant = { λ r. ForSome r.items (λ v. v.items ≡ []) };
+}
+
+/// The room of a list of so many items, where it had this room before the last of them came.
+fn grown(room: usize, count: usize) -> usize
+    requires { count < 2 ^ 32 }
+    ensures { result ≡ grown_lem room count }
+{
+    if count <= room { room } else { 2 * count }
+}
+
+impl<T: Drop> Items<T> {
+    /// No items.
+    pub(crate) fn new(alloc: Global) -> Self
+        ensures { result ≡ [] }
+    {
+        Items {
+            items: Vec::new(alloc),
+            room: 0,
+        }
+    }
+
+    /// The items in order.
+    pub(crate) fn as_slice(&self) -> &[T]
+        ensures { result.now ≡ self.now }
+    {
+        self.items.as_slice()
+    }
+
+    /// How many there are.
+    pub(crate) fn len(&self) -> usize
+        ensures { result ≡ length self.now }
+    {
+        self.items.len()
+    }
+
+    /// What one more item needs: mostly nothing.
+    pub(crate) fn room(&self, alloc: Global) -> Result<Room<T>, AllocError>
+        requires { length self.now + 1 < 2 ^ 32 }
+        ensures { IfOk result (Suffices (length self.now)) }
+    {
+        let count = self.items.len() + 1;
+        if count <= self.room {
+            return Ok(Room { items: None });
+        }
+        let items = Vec::with_capacity(alloc, 2 * count)?;
+        Ok(Room { items: Some(items) })
+    }
+
+    /// Puts an item after the others. It takes no memory.
+    pub(crate) fn push(&mut self, room: Room<T>, item: T)
+        requires few { length self.old + 1 < 2 ^ 32 }
+        requires room { Suffices (length self.old) room }
+        ensures { self.new ≡ self.old ++ item ∷ [] }
+    {
+        self.room = grown(self.room, self.items.len() + 1);
+        let Some(mut items) = room.items else {
+            self.items.push(item).unwrap();
+            return;
+        };
+        items.append(&mut self.items).unwrap();
+        items.push(item).unwrap();
+        self.items = items;
+    }
+}

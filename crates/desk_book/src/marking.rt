@@ -1,0 +1,130 @@
+//! Marks that come and that are dealt with.
+ghost use Rattle.desk_book.specs.Limits.{most_marks, most_note};
+ghost use Rattle.desk_book.specs.Marked.{AreMarkedIn, AreNotMarkedIn, HasCells, IsKeptMarkFor};
+ghost use Rattle.desk_book.specs.Planned.{IsPlanned, IsTurnedDown};
+ghost use Rattle.desk_book.specs.Book.{mark_of};
+ghost use Rattle.louis_translate.specs.Position.{AreDefined};
+ghost use Rattle.std.specs.Prelude.{◌≡◌, ◌+◌, ◌<◌, ◌≤◌, ◌↔◌, IfErr, IfOk, IsTrue, None, OnOk, length};
+
+use super::book::Book;
+use super::change::Effect;
+use super::command::Command;
+use super::limits::{MOST_MARKS, MOST_NOTE};
+use super::marks::KeptMark;
+use super::plan::{check_text, copy};
+use super::refusal::{Limit, Refusal};
+use super::stored::count_of;
+use super::text::Text;
+use louis_translate::{RuleIndex, choice_of_cell};
+use std::alloc::Global;
+
+/// A note is within its limit.
+fn check_note(note: &Text) -> Result<(), Refusal>
+    ensures short { OnOk result (length note.now ≤ most_note) }
+    ensures long { IfErr result (λ refusal. (refusal ≡ Refusal.TooLong) × (most_note < length note.now)) }
+{
+    if count_of(note.as_str()) > MOST_NOTE {
+        return Err(Refusal::TooLong);
+    }
+    Ok(())
+}
+
+/// Whether so many cells, from one on, are all there, and at least one.
+fn are_there(cells: usize, cell: usize, count: usize) -> bool
+    ensures { IsTrue result ↔ ((0 < count) × (cell + count ≤ cells)) }
+{
+    0 < count && count <= cells && cell <= cells - count
+}
+
+/// The places of a print that so many cells, from one on, stand for: the first, and that after the last. Its braille has
+/// this many cells.
+fn marked(
+    rules: &RuleIndex,
+    print: &[char],
+    cells: usize,
+    cell: usize,
+    count: usize,
+) -> Result<(usize, usize), Refusal>
+    requires defined { AreDefined rules.now print.now }
+    requires cells { HasCells rules.now print.now cells }
+    ensures there { IfOk result (λ span. AreMarkedIn rules.now print.now cell count span.0 span.1) }
+    ensures past { IfErr result (λ refusal. (refusal ≡ Refusal.BadSpan) × AreNotMarkedIn rules.now print.now cell count) }
+{
+    if !are_there(cells, cell, count) {
+        return Err(Refusal::BadSpan);
+    }
+    let Some(first) = choice_of_cell(rules, print, cell) else {
+        unreachable!()
+    };
+    let Some(last) = choice_of_cell(rules, print, cell + (count - 1)) else {
+        unreachable!()
+    };
+    Ok((first.start, last.end))
+}
+
+impl Book {
+    /// One more mark may come.
+    fn check_marks(&self) -> Result<(), Refusal>
+        ensures left { OnOk result (length self.now.marks < most_marks) }
+        ensures full { IfErr result (λ refusal.
+            (refusal ≡ Refusal.Full Limit.Marks) × (most_marks ≤ length self.now.marks)) }
+    {
+        if self.marks.len() >= MOST_MARKS {
+            return Err(Refusal::Full(Limit::Marks));
+        }
+        Ok(())
+    }
+
+    pub(crate) fn plan_mark(
+        &self,
+        alloc: Global,
+        id: u64,
+        cell: usize,
+        count: usize,
+        note: &Text,
+    ) -> Result<Effect, Refusal>
+        ensures planned { IfOk result (IsPlanned self.now (Command.Mark id cell count note.now)) }
+        ensures refused { IfErr result (IsTurnedDown self.now (Command.Mark id cell count note.now)) }
+    {
+        check_text(note)?;
+        let (paragraph, rules) = self.live(id)?;
+        let print = paragraph.print.as_slice();
+        let cells = paragraph.cells.as_slice().len();
+        let (start, end) = marked(rules, print, cells, cell, count)?;
+        check_note(note)?;
+        self.check_marks()?;
+        self.check_version()?;
+        let mark = KeptMark {
+            paragraph: id,
+            start,
+            end,
+            note: copy(alloc, note.as_str())?,
+            touched: false,
+            resolved: false,
+        };
+        Ok(Effect::AddMark {
+            mark,
+            room: self.marks.room(alloc)?,
+        })
+    }
+
+    /// The mark with an id.
+    fn mark(&self, id: u64) -> Result<&KeptMark, Refusal>
+        ensures found { IfOk result (λ kept. IsKeptMarkFor self.now id kept.now) }
+        ensures missing { IfErr result (λ refusal. (refusal ≡ Refusal.NoMark) × (mark_of self.now id ≡ None)) }
+    {
+        self.marks.get(id).ok_or(Refusal::NoMark)
+    }
+
+    pub(crate) fn plan_resolve(&self, id: u64) -> Result<Effect, Refusal>
+        ensures planned { IfOk result (IsPlanned self.now (Command.Resolve id)) }
+        ensures refused { IfErr result (IsTurnedDown self.now (Command.Resolve id)) }
+    {
+        let mark = self.mark(id)?;
+        if mark.resolved {
+            return Err(Refusal::Resolved);
+        }
+        self.check_version()?;
+        Ok(Effect::ResolveMark { id })
+    }
+}

@@ -1,0 +1,178 @@
+//! The marks of proofreaders.
+ghost use Rattle.desk_book.specs.KeptMarks.{AreWithin, IsWithin, moved_kept, moved_kept_of, kept_mark, with_kept_moved, with_kept_resolved};
+ghost use Rattle.desk_book.specs.Limits.{most_print};
+ghost use Rattle.desk_book.specs.Room.{Suffices};
+ghost use Rattle.std.specs.Option.{option_copied};
+ghost use Rattle.std.specs.Prelude.{◌≡◌, ◌+◌, ◌-◌, ◌<◌, ◌≤◌, ◌^◌, [], ◌∷◌, ◌++◌, IfOk, None, length};
+
+use super::items::{Items, Room};
+use super::text::Text;
+use std::alloc::{AllocError, Global};
+use std::marker::Model;
+
+/// A mark, as it is kept.
+#[derive(Debug)]
+pub(crate) struct KeptMark {
+    /// The paragraph that it is put on.
+    pub(crate) paragraph: u64,
+    /// The first place of the print that it covers, from 0.
+    pub(crate) start: usize,
+    /// The place after the last that it covers.
+    pub(crate) end: usize,
+    /// The proofreader's note.
+    pub(crate) note: Text,
+    /// Whether a correction has touched what it covers.
+    pub(crate) touched: bool,
+    /// Whether it is dealt with.
+    pub(crate) resolved: bool,
+}
+
+// Written out, as the drop of a paragraph is.
+impl Drop for KeptMark {
+    fn drop(self) {
+        let KeptMark {
+            paragraph: _,
+            start: _,
+            end: _,
+            note: _,
+            touched: _,
+            resolved: _,
+        } = self;
+    }
+}
+
+impl KeptMark {
+    /// Moves the mark as so many characters of the print, from a place on, give way to others.
+    fn give_way(&mut self, start: usize, removed: usize, added: usize)
+        requires mark { IsWithin self.old }
+        requires within { start + removed ≤ most_print }
+        requires short { added ≤ most_print }
+        ensures { self.new ≡ moved_kept start removed added self.old }
+    {
+        if self.end <= start {
+            return;
+        }
+        if start + removed <= self.start {
+            self.start = self.start - removed + added;
+            self.end = self.end - removed + added;
+            return;
+        }
+        self.start = self.start.min(start);
+        self.end = self.end.max(start + removed) - removed + added;
+        self.touched = true;
+    }
+
+    /// Moves the mark, if it is on this paragraph.
+    fn give_way_in(&mut self, paragraph: u64, start: usize, removed: usize, added: usize)
+        requires mark { IsWithin self.old }
+        requires within { start + removed ≤ most_print }
+        requires short { added ≤ most_print }
+        ensures { self.new ≡ moved_kept_of paragraph start removed added self.old }
+    {
+        if self.paragraph == paragraph {
+            self.give_way(start, removed, added);
+        }
+    }
+}
+
+/// Moves the marks of a paragraph as so many characters of its print, from a place on, give way to others.
+fn give_way(marks: &mut [KeptMark], paragraph: u64, start: usize, removed: usize, added: usize)
+    requires marks { AreWithin marks.old }
+    requires within { start + removed ≤ most_print }
+    requires short { added ≤ most_print }
+    ensures { marks.new ≡ with_kept_moved paragraph start removed added marks.old }
+{
+    for mark in marks.iter_mut() {
+        mark.give_way_in(paragraph, start, removed, added);
+    }
+}
+
+/// Marks with the ids 1, 2, .. in the order of their coming.
+#[derive(Drop)]
+pub(crate) struct Marks {
+    // the mark with id n has index n - 1
+    items: Items<KeptMark>,
+}
+
+impl Model for Marks {
+    ghost use Rattle.desk_book.specs.declared.marks.KeptMark.{KeptMark};
+    ghost use Rattle.std.specs.Prelude.{List};
+
+    ghost Value = { List KeptMark };
+
+    ghost view = { λ m. m.items };
+}
+
+impl Marks {
+    /// No marks.
+    pub(crate) fn new(alloc: Global) -> Self
+        ensures { result ≡ [] }
+    {
+        Marks {
+            items: Items::new(alloc),
+        }
+    }
+
+    /// The marks in the order of their ids.
+    pub(crate) fn as_slice(&self) -> &[KeptMark]
+        ensures { result.now ≡ self.now }
+    {
+        self.items.as_slice()
+    }
+
+    /// How many there are.
+    pub(crate) fn len(&self) -> usize
+        ensures { result ≡ length self.now }
+    {
+        self.items.len()
+    }
+
+    /// The mark with an id, if there is one.
+    pub(crate) fn get(&self, id: u64) -> Option<&KeptMark>
+        ensures { option_copied result ≡ kept_mark id self.now }
+    {
+        if id == 0 {
+            return None;
+        }
+        self.items.as_slice().get((id - 1) as usize)
+    }
+
+    /// What one more mark needs.
+    pub(crate) fn room(&self, alloc: Global) -> Result<Room<KeptMark>, AllocError>
+        requires { length self.now + 1 < 2 ^ 32 }
+        ensures { IfOk result (Suffices (length self.now)) }
+    {
+        self.items.room(alloc)
+    }
+
+    /// Puts a mark after the others. It takes no memory.
+    pub(crate) fn push(&mut self, room: Room<KeptMark>, mark: KeptMark)
+        requires few { length self.old + 1 < 2 ^ 32 }
+        requires room { Suffices (length self.old) room }
+        ensures { self.new ≡ self.old ++ mark ∷ [] }
+    {
+        self.items.push(room, mark);
+    }
+
+    /// Resolves the mark with an id, if there is one.
+    pub(crate) fn resolve(&mut self, id: u64)
+        ensures { self.new ≡ with_kept_resolved id self.old }
+    {
+        if id == 0 {
+            return;
+        }
+        if let Some(mark) = self.items.items.get_mut((id - 1) as usize) {
+            mark.resolved = true;
+        }
+    }
+
+    /// Moves the marks of a paragraph as so many characters of its print, from a place on, give way to others.
+    pub(crate) fn give_way(&mut self, paragraph: u64, start: usize, removed: usize, added: usize)
+        requires marks { AreWithin self.old }
+        requires within { start + removed ≤ most_print }
+        requires short { added ≤ most_print }
+        ensures { self.new ≡ with_kept_moved paragraph start removed added self.old }
+    {
+        give_way(&mut self.items.items, paragraph, start, removed, added);
+    }
+}
