@@ -8,6 +8,7 @@ pub mod Best
 pub mod Trees
 pub mod Searches
 pub mod Starts
+pub mod LoneCells
 pub mod Spans
 pub mod Characters
 pub mod Tilings

@@ -1,5 +1,6 @@
 pub mod Position
 pub mod Sign
+pub mod LoneCell
 pub mod Covering
 pub mod Choice
 pub mod Tree

@@ -1,31 +1,12 @@
 //! Which places of a print a rule may cover.
 ghost use Rattle.louis_translate.specs.Covering.{MayCover};
 ghost use Rattle.louis_translate.specs.Sign.{sign_at};
-ghost use Rattle.std.specs.Bool.{OnTrue};
 ghost use Rattle.std.specs.Prelude.{◌≡◌, ◌<◌, ◌≤◌, ◌↔◌, ℕ, [], length, IsTrue};
 
-use super::position::{class_at, fits, is_digit};
+use super::lone_cells::never_has_sign;
+use super::position::fits;
 use super::sign::Signs;
 use louis_table::{RuleKind, Table};
-
-/// Whether a character needs no sign, whatever stands beside it: it is neither a capital nor a digit, and none that takes
-/// a sign after a number.
-#[inline(always)]
-fn is_plain(table: &Table, print: &[char], place: usize) -> bool
-    requires { place < length print.now }
-    ensures { OnTrue result (sign_at table.now print.now place ≡ []) }
-{
-    if table.capital(print[place]) {
-        return false;
-    }
-    if is_digit(class_at(table, print, place)) {
-        return false;
-    }
-    if table.nocontractsign().is_empty() {
-        return true;
-    }
-    !table.nocontract_chars().contains(&print[place])
-}
 
 /// Whether no sign stands between the places `start` and `end`, without these two.
 fn has_no_sign_inside(table: &Table, print: &[char], start: usize, end: usize) -> bool
@@ -35,7 +16,7 @@ fn has_no_sign_inside(table: &Table, print: &[char], start: usize, end: usize) -
 {
     let mut signs = Signs::new(table, print);
     for place in start + 1..end {
-        if is_plain(table, print, place) {
+        if never_has_sign(table, print[place]) {
             continue;
         }
         if !signs.at(place).is_empty() {

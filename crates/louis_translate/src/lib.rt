@@ -26,6 +26,7 @@ mod counterpart;
 mod covering;
 mod indexed_table;
 pub mod laws;
+mod lone_cells;
 mod pieces;
 mod places;
 mod plain_rules;

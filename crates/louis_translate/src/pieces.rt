@@ -1,7 +1,8 @@
 //! The cells that the choices of a print make, choice after choice.
 ghost use Rattle.louis_translate.specs.Braille.{own_cells as own_cells_lem};
+ghost use Rattle.louis_translate.specs.Piece.{IsLoneChoice};
 ghost use Rattle.std.specs.Option.{ForSome, option_copied};
-ghost use Rattle.std.specs.Prelude.{length, option_map, ◌<◌, ◌≡◌};
+ghost use Rattle.std.specs.Prelude.{IfSome, length, option_map, ◌<◌, ◌≡◌};
 
 use super::choices::{Choice, Choices};
 use super::rule_book::RuleBook;
@@ -9,6 +10,7 @@ use super::sign::Signs;
 use cell_core::Cell;
 use louis_table::{Class, Definition, Table};
 use std::marker::Model;
+use std::slice::from_ref;
 
 /// The cells that one choice makes: the sign before its start, and then its own.
 #[derive(Clone, Copy, Debug)]
@@ -85,6 +87,18 @@ fn own_cells<'a>(
     }
 }
 
+/// The cell that is all that a choice makes, where it is the definition of a character of which the book knows that.
+#[inline(always)]
+fn lone_cell<'a, B: RuleBook>(book: &'a B, print: &[char], choice: Choice) -> Option<&'a Cell>
+    requires { choice.start < length print.now }
+    ensures { IfSome (option_copied result) (IsLoneChoice (B.meaning book.now) print.now choice) }
+{
+    match choice.rule {
+        Some(_) => None,
+        None => book.lone_cell(print[choice.start]),
+    }
+}
+
 impl<'a, B: RuleBook> Iterator for Pieces<'a, B> {
     ghost use Rattle.louis_translate.specs.Items.{GivesPiece};
     ghost use Rattle.std.specs.Iterator.{at_most};
@@ -98,6 +112,13 @@ impl<'a, B: RuleBook> Iterator for Pieces<'a, B> {
 
     fn next(&mut self) -> Option<Piece<'a>> {
         let choice = self.choices.next()?;
+        if let Some(cell) = lone_cell(self.book, self.print, choice) {
+            return Some(Piece {
+                choice,
+                sign: &[],
+                own: from_ref(cell),
+            });
+        }
         let table = self.book.table();
         let definition = table.definition(self.print[choice.start]);
         Some(Piece {

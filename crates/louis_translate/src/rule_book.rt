@@ -1,12 +1,15 @@
 //! What a rule book answers.
+use cell_core::Cell;
 use louis_table::Table;
 
 /// A table, and which of its rules is chosen at each place of a print.
 pub trait RuleBook {
     ghost use Rattle.louis_table.specs.Meaning.{Meaning};
     ghost use Rattle.louis_translate.specs.Choice.{IsChosen};
+    ghost use Rattle.louis_translate.specs.LoneCell.{IsLoneCell};
     ghost use Rattle.louis_translate.specs.Position.{AreDefined};
-    ghost use Rattle.std.specs.Prelude.{◌≡◌, ◌<◌, length};
+    ghost use Rattle.std.specs.Option.{option_copied};
+    ghost use Rattle.std.specs.Prelude.{◌≡◌, ◌<◌, IfSome, length};
 
     ghost meaning: { Self → Meaning };
 
@@ -20,4 +23,9 @@ pub trait RuleBook {
         requires defined { AreDefined (meaning self.now) print.now }
         requires within { at < length print.now }
         ensures { IsChosen (meaning self.now) print.now at result };
+
+    /// The one cell of a character that never has a sign, or `None` where it has more, or the book doesn't know it:
+    /// wherever the definition of the character is chosen, this cell is all that stands for it.
+    fn lone_cell(&self, character: char) -> Option<&Cell>
+        ensures { IfSome (option_copied result) (IsLoneCell (meaning self.now) character) };
 }

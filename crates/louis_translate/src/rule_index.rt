@@ -5,9 +5,11 @@ ghost use Rattle.louis_translate.specs.Start.{AreStarts, MayStart};
 ghost use Rattle.std.specs.Prelude.{◌≡◌, ◌<◌, ◌*◌, length};
 
 use super::indexed_table::IndexedTable;
+use super::lone_cells::LoneCells;
 use super::rule_book::RuleBook;
 use super::start::{Start, make_starts, start_at};
 use super::tree_search::{best_in_group, walk};
+use cell_core::Cell;
 use louis_table::Table;
 use std::alloc::{AllocError, Global};
 use std::marker::Model;
@@ -18,10 +20,12 @@ pub struct RuleIndex {
     index: IndexedTable,
     // where walks begin
     starts: Vec<Start>,
+    lone_cells: LoneCells,
 }
 
 impl Model for RuleIndex {
     ghost use Rattle.louis_table.specs.Meaning.{Meaning};
+    ghost use Rattle.louis_translate.specs.LoneCell.{AreLoneCells};
     ghost use Rattle.louis_translate.specs.Search.{IsWhole};
     ghost use Rattle.louis_translate.specs.Start.{AreAll, AreStarts};
 
@@ -30,7 +34,7 @@ impl Model for RuleIndex {
     ghost view = { λ r. r.index.table };
 
     ghost invariant = { λ r. IsWhole r.index × AreStarts r.index.table r.index.tree r.starts.items
-        × AreAll r.index.table r.starts.items };
+        × AreAll r.index.table r.starts.items × AreLoneCells r.index.table r.lone_cells };
 }
 
 // Written out, as the drop of a table is.
@@ -39,6 +43,7 @@ impl Drop for RuleIndex {
         let RuleIndex {
             index: _,
             starts: _,
+            lone_cells: _,
         } = self;
     }
 }
@@ -52,7 +57,12 @@ impl RuleIndex {
     {
         let index = IndexedTable::new(alloc, table)?;
         let starts = make_starts(alloc, &index)?;
-        Ok(RuleIndex { index, starts })
+        let lone_cells = LoneCells::new(&index.table);
+        Ok(RuleIndex {
+            index,
+            starts,
+            lone_cells,
+        })
     }
 }
 
@@ -114,5 +124,10 @@ impl RuleBook for RuleIndex {
             return None;
         }
         best_rule(&self.index, self.starts.as_slice(), print, at)
+    }
+
+    #[inline(always)]
+    fn lone_cell(&self, character: char) -> Option<&Cell> {
+        self.lone_cells.get(character)
     }
 }

@@ -1,0 +1,79 @@
+//! Characters that stand as one cell wherever their definition is chosen.
+ghost use Rattle.louis_translate.specs.LoneCell.{AreLoneCells, IsLoneCell, NeverHasSign};
+ghost use Rattle.std.specs.Bool.{OnTrue};
+ghost use Rattle.std.specs.Option.{option_and_then, option_copied};
+ghost use Rattle.std.specs.Prelude.{◌≡◌, ◌<◌, IfSome, slice_get};
+
+use super::position::is_digit;
+use cell_core::Cell;
+use louis_table::Table;
+use std::marker::Model;
+
+/// How many of the first characters of Unicode have their lone cells kept.
+const DIRECT: usize = 128;
+
+/// The lone cells of the first characters of Unicode, found by their code. Contracts see their list.
+#[derive(Drop)]
+pub(crate) struct LoneCells {
+    cells: [Option<Cell>; DIRECT],
+}
+
+impl Model for LoneCells {
+    ghost use Rattle.std.specs.Prelude.{List, Option, ℕ};
+
+    ghost Value = { List (Option ℕ) };
+
+    ghost view = { λ l. l.cells };
+}
+
+impl LoneCells {
+    /// The lone cells of a table.
+    pub(crate) fn new(table: &Table) -> Self
+        ensures { AreLoneCells table.now result }
+    {
+        let mut cells = [None; DIRECT];
+        for code in 0..DIRECT {
+            cells[code] = lone_cell(table, code as u8 as char);
+        }
+        LoneCells { cells }
+    }
+
+    /// The lone cell of a character, if one is kept.
+    #[inline(always)]
+    pub(crate) fn get(&self, character: char) -> Option<&Cell>
+        ensures { option_copied result ≡ option_and_then (λ cell. cell) (slice_get self.now character) }
+    {
+        self.cells.get(character as usize)?.as_ref()
+    }
+}
+
+/// The lone cell of a character, if it has one.
+fn lone_cell(table: &Table, character: char) -> Option<Cell>
+    ensures { IfSome result (IsLoneCell table.now character) }
+{
+    if !never_has_sign(table, character) {
+        return None;
+    }
+    match table.definition(character)?.cells.as_slice() {
+        [cell] => Some(*cell),
+        _ => None,
+    }
+}
+
+/// Whether a sign never stands before a character: it is neither a capital nor a digit, and none that takes a sign after
+/// a number.
+#[inline(always)]
+pub(crate) fn never_has_sign(table: &Table, character: char) -> bool
+    ensures { OnTrue result (NeverHasSign table.now character) }
+{
+    if table.capital(character) {
+        return false;
+    }
+    if is_digit(table.class(character)) {
+        return false;
+    }
+    if table.nocontractsign().is_empty() {
+        return true;
+    }
+    !table.nocontract_chars().contains(&character)
+}
