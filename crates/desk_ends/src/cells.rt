@@ -1,7 +1,8 @@
 //! Cells as text, sent in blocks.
+ghost use Rattle.cell_core.specs.Cell.{braille_character};
 ghost use Rattle.desk_ends.specs.Cells.{text_of};
 ghost use Rattle.desk_ends.specs.Sent.{Sent};
-ghost use Rattle.std.specs.Prelude.{OnOk, [], is_ok, length, ◌+◌, ◌++◌, ◌≤◌, ◌∷◌};
+ghost use Rattle.std.specs.Prelude.{OnOk, [], encode_utf8, is_ok, length, ◌+◌, ◌++◌, ◌≤◌, ◌∷◌};
 
 use super::block::{BLOCK_BYTES, Block, CELL_BYTES};
 use super::ends::{Failed, Sink};
@@ -17,15 +18,37 @@ pub fn send_block<K: Sink>(sink: &mut K, block: &mut Block) -> Result<(), Failed
     send(sink, block.as_slice())
 }
 
-/// Puts the cells, as characters, behind the block, and sends it whenever it is full.
+/// Puts the cells, as characters, behind the block, and sends it whenever it is full. Most choices make one cell, so one
+/// has a way of its own, without a loop.
 #[inline(always)]
 pub fn put_cells<K: Sink>(sink: &mut K, block: &mut Block, cells: &[Cell]) -> Result<(), Failed>
     ensures { Sent K.can_fail (K.contents sink.old) (K.contents sink.new) (block.old ++ text_of cells.now) block.new (is_ok result) }
 {
-    for cell in cells {
-        make_room(sink, block)?;
-        block.push_cell(*cell);
+    match cells {
+        [] => Ok(()),
+        [cell] => put_cell(sink, block, *cell),
+        _ => put_each(sink, block, cells),
     }
+}
+
+/// Puts cells, one after another.
+#[inline(never)]
+fn put_each<K: Sink>(sink: &mut K, block: &mut Block, cells: &[Cell]) -> Result<(), Failed>
+    ensures { Sent K.can_fail (K.contents sink.old) (K.contents sink.new) (block.old ++ text_of cells.now) block.new (is_ok result) }
+{
+    for cell in cells {
+        put_cell(sink, block, *cell)?;
+    }
+    Ok(())
+}
+
+/// Puts a cell behind the block, which is sent first if it has no room for one.
+#[inline(always)]
+fn put_cell<K: Sink>(sink: &mut K, block: &mut Block, cell: Cell) -> Result<(), Failed>
+    ensures { Sent K.can_fail (K.contents sink.old) (K.contents sink.new) (block.old ++ encode_utf8 (braille_character cell)) block.new (is_ok result) }
+{
+    make_room(sink, block)?;
+    block.push_cell(cell);
     Ok(())
 }
 

@@ -45,7 +45,7 @@ pub use counterpart::{choice_of_cell, output_place, print_place};
 pub use pieces::{Piece, Pieces};
 pub use places::Places;
 pub use plain_rules::PlainRules;
-pub use print::{Fault, undefined_place};
+pub use print::{Fault, is_defined, undefined_place};
 pub use rule_book::RuleBook;
 pub use rule_index::RuleIndex;
 pub use translation::{Part, Translation, translate, translate_string};

@@ -1,8 +1,10 @@
 //! The characters of a text, all defined by a table.
+ghost use Rattle.louis_table.specs.Meaning.{definition_of};
 ghost use Rattle.louis_translate.specs.Position.{AreDefined, IsFirstUndefined};
-ghost use Rattle.std.specs.Prelude.{◌≡◌, ◌↔◌, ℕ, Err, IfNone, IfOk, IfSome, OnOk};
+ghost use Rattle.std.specs.Prelude.{◌≡◌, ◌↔◌, ℕ, Err, IfNone, IfOk, IfSome, OnOk, is_some};
 ghost use Rattle.std.specs.Str.{chars};
 
+use super::rule_book::RuleBook;
 use louis_table::Table;
 use std::alloc::{AllocError, Global};
 use thiserror::Error;
@@ -19,6 +21,14 @@ pub enum Fault {
     /// An allocation was refused.
     #[error("out of memory")]
     NoMemory,
+}
+
+/// Whether the table of a book defines a character.
+#[inline(always)]
+pub fn is_defined<B: RuleBook>(book: &B, character: char) -> bool
+    ensures { result ≡ is_some (definition_of (B.meaning book.now) character) }
+{
+    book.lone_cell(character).is_some() || book.table().definition(character).is_some()
 }
 
 /// The first place, from 0, whose character the table doesn't define. It takes no memory.

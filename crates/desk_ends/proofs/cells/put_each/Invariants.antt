@@ -1,7 +1,7 @@
 use Rattle.std.proofs.Common.{◌++◌, drop}
 use Rattle.desk_ends.specs.Cells.{text_of}
 use Rattle.desk_ends.proofs.Sending.{Sending}
-use Rattle.desk_ends.proofs.cells.put_cells.Given as goal
+use Rattle.desk_ends.proofs.cells.put_each.Given as goal
 
 abbrev pub invariant-loop-cell : goal.invariant-loop-cell
 invariant-loop-cell g l =
