@@ -1,5 +1,5 @@
 -- Each line has an answer, and each input an output.
-use Rattle.std.proofs.Common.{◌≡◌, ℕ, zero, suc, ◌<◌, ◌≤◌, ◌⊎◌, false, List, [], ◌∷◌, ◌++◌, length, Option, Some, None, refl, ap, ◌∙◌, append_assoc, arith, inl, inr}
+use Rattle.std.proofs.Common.{◌≡◌, ℕ, zero, suc, ◌<◌, ◌≤◌, ◌⊎◌, false, List, [], ◌∷◌, ◌++◌, length, Option, Some, None, refl, sym, ap, ◌∙◌, append_assoc, arith, inl, inr}
 use Rattle.std.specs.Prelude.{IsSome, is_some, slice_index}
 use Rattle.std.specs.List.{flat_map}
 use Rattle.std.specs.Str.{chars, is_utf8}
@@ -10,9 +10,15 @@ use Rattle.louis_table.specs.Lines.{lines_of}
 use Rattle.louis_table.specs.Meaning.{Meaning, definition_of}
 use Rattle.louis_translate.specs.Position.{AreDefined, IsFirstUndefined}
 use Rattle.louis_translate.specs.Braille.{braille}
+use Rattle.louis_translate.specs.declared.choices.Choice.{Choice}
+use Rattle.louis_translate.specs.Tiling.{Tiles}
 use Rattle.louis_translate.proofs.Tilings.{one_tiling}
 use Rattle.braildesk.specs.Machine.{AnswersLines, output_of}
 use Rattle.desk_ends.specs.Cells.{text_of}
+use Rattle.braildesk.specs.declared.answer.Refusal.{Refusal}
+use Rattle.braildesk.specs.declared.answer.Refusal.TheVariants.{NoText, TooLong, Undefined}
+use Rattle.braildesk.specs.Refusal.{IsPrint, IsRefused, refusal_text}
+use Rattle.braildesk.proofs.Undefined.{IsFirstUndefined-one}
 use Rattle.braildesk.specs.Reply.{AnswersPrint, AreAnswers, IsAnswer, IsOutput, IsText, refusal, refusal_at, undefined, shown, no_text, too_long, a_print}
 
 is_some-none : (o : Option Definition) → is_some o ≡ false → o ≡ None
@@ -82,11 +88,29 @@ IsOutput-output_of meaning input = AreAnswers-all meaning (lines_of input)
 
 -- ---- by the line
 
--- the answer to a line that is print
-pub AnswersPrint-print : (meaning : Meaning) (line answer : List ℕ) → IsText line → length (chars line) ≤ 4000 → IsAnswer meaning line answer → AnswersPrint meaning (chars line) answer
-AnswersPrint-print meaning line answer text few (no_text not e) = absurd (not text)
-AnswersPrint-print meaning line answer text few (too_long also many e) = absurd (omega arith)
-AnswersPrint-print meaning line answer text few (a_print also less p) = p
+-- the answer to a line that is print whose characters are all defined
+pub shown_answer : (meaning : Meaning) (line answer : List ℕ) → IsPrint meaning line → IsAnswer meaning line answer
+    → (choices : List Choice) × Tiles meaning (chars line) choices × (answer ≡ text_of (braille meaning (chars line) choices))
+shown_answer meaning line answer print (no_text not e) = absurd (not print.0)
+shown_answer meaning line answer print (too_long text many e) = let few = print.1 in absurd (omega arith)
+shown_answer meaning line answer print (a_print text few (undefined place first e)) =
+    let some = sym (ap is_some first.undefined) ∙ print.2 place first.within in absurd cc
+shown_answer meaning line answer print (a_print text few (shown all choices tiles e)) = (choices, tiles, e)
+
+-- the answer to a line that is refused
+pub refused_answer : (meaning : Meaning) (line answer : List ℕ) (why : Refusal) → IsRefused meaning line why → IsAnswer meaning line answer → answer ≡ refusal_text why
+refused_answer meaning line answer NoText not (no_text also e) = e
+refused_answer meaning line answer NoText not (too_long text many e) = absurd (not text)
+refused_answer meaning line answer NoText not (a_print text few p) = absurd (not text)
+refused_answer meaning line answer TooLong long (no_text not e) = absurd (not long.0)
+refused_answer meaning line answer TooLong long (too_long text many e) = e
+refused_answer meaning line answer TooLong long (a_print text few p) = let many = long.1 in absurd (omega arith)
+refused_answer meaning line answer (Undefined place) found (no_text not e) = absurd (not found.0)
+refused_answer meaning line answer (Undefined place) found (too_long text many e) = let few = found.1 in absurd (omega arith)
+refused_answer meaning line answer (Undefined place) found (a_print text few (undefined other first e)) =
+    e ∙ ap (refusal_at 7) (IsFirstUndefined-one meaning (chars line) other place first found.2)
+refused_answer meaning line answer (Undefined place) found (a_print text few (shown all choices tiles e)) =
+    let some = sym (ap is_some found.2.undefined) ∙ all place found.2.within in absurd cc
 
 over : (meaning : Meaning) (line answer : List ℕ) → 65536 < length line → IsAnswer meaning line answer → answer ≡ refusal 1
 over meaning line answer long (no_text not e) = e

@@ -1,3 +1,4 @@
+pub mod Undefined
 pub mod Answering
 pub mod Putting
 pub mod Cuts

@@ -1,6 +1,6 @@
 //! What is answered to one line.
 ghost use Rattle.braildesk.specs.Machine.{AnswersLines, closing, reply_to};
-ghost use Rattle.braildesk.specs.Refusal.{IsRefused, refusal_text};
+ghost use Rattle.braildesk.specs.Refusal.{IsPrint, IsRefused, refusal_text};
 ghost use Rattle.braildesk.specs.Reply.{AnswersPrint, IsAnswer, IsText, most_characters};
 ghost use Rattle.desk_ends.specs.Ends.{IsFlushed};
 ghost use Rattle.desk_ends.specs.Sent.{Sent};
@@ -9,10 +9,10 @@ ghost use Rattle.std.specs.Str.{chars};
 
 use super::braille::send_braille;
 use super::line::{Line, MOST_BYTES};
-use super::print::Print;
+use super::print::{Print, TooManyCharacters};
 use desk_ends::{Block, Failed, Sink, send, send_parts};
 use itoa::Buffer;
-use louis_translate::{RuleBook, undefined_place};
+use louis_translate::RuleBook;
 
 /// Why a line has no braille.
 #[derive(Clone, Copy, Debug, PartialEq, Eq)]
@@ -91,17 +91,17 @@ fn answer_text<K: Sink, B: RuleBook>(
     ensures { (answer : List ℕ) → IsAnswer (B.meaning book.now) line.now answer
         → Sent K.can_fail (K.contents sink.old) (K.contents sink.new) (answer ++ 10 ∷ []) [] (is_ok result) }
 {
-    match read_print(&mut space.print, line) {
-        Ok(()) => answer_print(sink, &mut space.block, book, space.print.as_slice()),
+    match read_print(&mut space.print, book, line) {
+        Ok(()) => send_braille(sink, &mut space.block, book, space.print.as_slice()),
         Err(refusal) => refuse(sink, refusal),
     }
 }
 
-/// Reads a line as print, or tells the first of the faults that need no table.
-fn read_print(print: &mut Print, line: &[u8]) -> Result<(), Refusal>
+/// Reads a line as print whose characters are all defined, or tells why it is refused. Nothing goes out before.
+fn read_print<B: RuleBook>(print: &mut Print, book: &B, line: &[u8]) -> Result<(), Refusal>
     ensures { MatchResult result
-        (λ _. IsText line.now × (length (chars line.now) ≤ most_characters) × (print.new ≡ chars line.now))
-        (IsRefused line.now) }
+        (λ _. IsPrint (B.meaning book.now) line.now × (print.new ≡ chars line.now))
+        (IsRefused (B.meaning book.now) line.now) }
 {
     if line.len() > MOST_BYTES {
         return Err(Refusal::NoText);
@@ -109,25 +109,10 @@ fn read_print(print: &mut Print, line: &[u8]) -> Result<(), Refusal>
     let Ok(text) = str::from_utf8(line) else {
         return Err(Refusal::NoText);
     };
-    if print.read(text).is_err() {
-        return Err(Refusal::TooLong);
-    }
-    Ok(())
-}
-
-/// Answers a print. Nothing goes out before each of its characters is known to be defined.
-fn answer_print<K: Sink, B: RuleBook>(
-    sink: &mut K,
-    block: &mut Block,
-    book: &B,
-    print: &[char],
-) -> Result<(), Failed>
-    ensures { (answer : List ℕ) → AnswersPrint (B.meaning book.now) print.now answer
-        → Sent K.can_fail (K.contents sink.old) (K.contents sink.new) (answer ++ 10 ∷ []) [] (is_ok result) }
-{
-    match undefined_place(book.table(), print) {
-        Some(place) => refuse(sink, Refusal::Undefined(place)),
-        None => send_braille(sink, block, book, print),
+    match print.read(book, text) {
+        Ok(None) => Ok(()),
+        Ok(Some(place)) => Err(Refusal::Undefined(place)),
+        Err(TooManyCharacters) => Err(Refusal::TooLong),
     }
 }
 
