@@ -47,12 +47,11 @@ impl LoneCells {
     }
 }
 
-/// The lone cell of a character, if it has one. A character that goes on with a number has none here: where others are
-/// passed over, no walk back to the digit of a number goes past them.
+/// The lone cell of a character, if it has one.
 fn lone_cell(table: &Table, character: char) -> Option<Cell>
     ensures { IfSome result (IsLoneCell table.now character) }
 {
-    if !never_has_sign(table, character) || table.mode_chars().contains(&character) {
+    if !never_has_sign(table, character) {
         return None;
     }
     match table.definition(character)?.cells.as_slice() {

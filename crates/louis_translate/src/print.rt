@@ -28,7 +28,15 @@ pub enum Fault {
 pub fn is_defined<B: RuleBook>(book: &B, character: char) -> bool
     ensures { result ≡ is_some (definition_of (B.meaning book.now) character) }
 {
-    book.lone_cell(character).is_some() || book.table().definition(character).is_some()
+    book.lone_cell(character).is_some() || defines(book.table(), character)
+}
+
+/// Whether a table defines a character.
+#[inline(never)]
+fn defines(table: &Table, character: char) -> bool
+    ensures { result ≡ is_some (definition_of table.now character) }
+{
+    table.definition(character).is_some()
 }
 
 /// The first place, from 0, whose character the table doesn't define. It takes no memory.

@@ -1,7 +1,7 @@
 //! The signs before numbers, capitals and what follows a number.
 ghost use Rattle.louis_translate.specs.Position.{class_at as class_at_lem};
-ghost use Rattle.louis_translate.specs.Sign.{capital_sign as capital_sign_lem, ends_number as ends_number_lem, follows_number as follows_number_lem, is_digit_at, is_mode_char as is_mode_char_lem, is_nocontract_char as is_nocontract_char_lem, run_end, run_start, sign_at};
-ghost use Rattle.std.specs.Prelude.{◌≡◌, ◌+◌, ◌≤◌, ◌<◌, ◌↔◌, ◌&&◌, false, not, ℕ, length, IsTrue};
+ghost use Rattle.louis_translate.specs.Sign.{capital_sign as capital_sign_lem, ends_number as ends_number_lem, follows_number as follows_number_lem, is_capital_at, is_digit_at, is_mode_char as is_mode_char_lem, is_nocontract_char as is_nocontract_char_lem, run_end, run_start, sign_at};
+ghost use Rattle.std.specs.Prelude.{◌≡◌, ◌+◌, ◌≤◌, ◌<◌, ◌↔◌, ◌&&◌, [], false, if◌then◌else◌, not, ℕ, length, IsTrue};
 
 use super::position::{class_at, is_digit, is_letter};
 use cell_core::Cell;
@@ -66,15 +66,17 @@ fn takes_sign_after_number(table: &Table, character: char) -> bool
     !is_mode_char(table, character) && table.nocontract_chars().contains(&character)
 }
 
-/// Whether the place before this one is in numeric mode. The walk back ends at the first digit, and passes over
-/// characters alone that go on with a number.
+/// Whether the place before this one is in numeric mode, where that is known of an earlier place. The walk back ends there
+/// or at the first digit, and passes over characters alone that go on with a number.
 #[inline(never)]
-fn follows_number(table: &Table, print: &[char], place: usize) -> bool
-    requires { place ≤ length print.now }
+fn follows_number(table: &Table, print: &[char], known: usize, at_known: bool, place: usize) -> bool
+    requires order { known ≤ place }
+    requires within { place ≤ length print.now }
+    requires known { at_known ≡ follows_number_lem table.now print.now known }
     ensures { result ≡ follows_number_lem table.now print.now place }
 {
     let mut at = place;
-    while at > 0 {
+    while at > known {
         at -= 1;
         if is_digit(class_at(table, print, at)) {
             return true;
@@ -83,7 +85,7 @@ fn follows_number(table: &Table, print: &[char], place: usize) -> bool
             return false;
         }
     }
-    false
+    at_known
 }
 
 /// Whether a number goes on up to a place whose character has this class, and so the next place follows it.
@@ -117,29 +119,27 @@ fn ends_number(table: &Table, print: &[char], place: usize, follows: bool) -> bo
     takes_sign_after_number(table, print[place])
 }
 
-/// The sign before a place whose character has this class, around which a run ends at `end`, and which follows a
-/// number or doesn't.
-#[inline(always)]
-fn sign<'a>(
+/// The sign before a digit, which follows a number or doesn't.
+fn number_sign(table: &Table, follows: bool) -> &[Cell]
+    ensures { result.now ≡ if follows then [] else table.now.numsign }
+{
+    if follows { &[] } else { table.numsign() }
+}
+
+/// The sign before a place that has neither a digit nor a capital, and which follows a number or doesn't.
+fn sign_after_number<'a>(
     table: &'a Table,
     print: &[char],
     place: usize,
-    class: Option<Class>,
-    end: usize,
     follows: bool,
 ) -> &'a [Cell]
-    requires class { class ≡ class_at_lem table.now print.now place }
-    requires run { end ≡ run_end table.now print.now place }
-    requires within { end ≤ length print.now }
-    requires place { place < length print.now }
+    requires within { place < length print.now }
+    requires digit { is_digit_at table.now print.now place ≡ false }
+    requires capital { is_capital_at table.now print.now place ≡ false }
     requires follows { follows ≡ follows_number_lem table.now print.now place }
     ensures { result.now ≡ sign_at table.now print.now place }
 {
-    if is_digit(class) {
-        if follows { &[] } else { table.numsign() }
-    } else if place < end {
-        capital_sign(table, print, place, end)
-    } else if ends_number(table, print, place, follows) {
+    if ends_number(table, print, place, follows) {
         table.nocontractsign()
     } else {
         &[]
@@ -147,7 +147,7 @@ fn sign<'a>(
 }
 
 /// The signs along a print. The run around the last capital is remembered, and whether a number goes on, so that each
-/// is walked once where places are asked for one after another.
+/// is walked once where places are asked for in their order, whichever are left out.
 #[derive(Drop)]
 pub(crate) struct Signs<'a> {
     table: &'a Table,
@@ -206,8 +206,10 @@ impl<'a> Signs<'a> {
     {
         let follows = if place == self.next {
             self.follows
+        } else if self.next < place {
+            follows_number(self.table, self.print, self.next, self.follows, place)
         } else {
-            follows_number(self.table, self.print, place)
+            follows_number(self.table, self.print, 0, false, place)
         };
         self.follows = goes_on(self.table, self.print, place, class, follows);
         self.next = place + 1;
@@ -224,8 +226,8 @@ impl<'a> Signs<'a> {
         self.at_class(place, class_at(self.table, self.print, place))
     }
 
-    /// The sign before a place whose character has this class. Only at a capital is there a run to look for, and without
-    /// a sign after numbers nothing else but a digit has one.
+    /// The sign before a place whose character has this class. A number counts only at a digit, and where the table has a
+    /// sign after numbers.
     #[inline(always)]
     pub(crate) fn at_class(&mut self, place: usize, class: Option<Class>) -> &'a [Cell]
         requires within { place < length self.old.print.now }
@@ -234,16 +236,17 @@ impl<'a> Signs<'a> {
         ensures table { self.new.table.now ≡ self.old.table.now }
         ensures print { self.new.print.now ≡ self.old.print.now }
     {
-        let is_capital = self.table.capital(self.print[place]);
-        if !is_capital && !is_digit(class) && self.table.nocontractsign().is_empty() {
+        if is_digit(class) {
+            return number_sign(self.table, self.follows_at(place, class));
+        }
+        if self.table.capital(self.print[place]) {
+            let end = self.end_at(place);
+            return capital_sign(self.table, self.print, place, end);
+        }
+        if self.table.nocontractsign().is_empty() {
             return &[];
         }
-        let end = if is_capital {
-            self.end_at(place)
-        } else {
-            place
-        };
         let follows = self.follows_at(place, class);
-        sign(self.table, self.print, place, class, end, follows)
+        sign_after_number(self.table, self.print, place, follows)
     }
 }
