@@ -1,15 +1,16 @@
 -- One byte and one line of the machine, and what a run did in its words.
-use Rattle.std.proofs.Common.{◌≡◌, ℕ, ◌+◌, ◌<◌, ◌≤◌, ◌^◌, ◌⊎◌, Bool, true, false, cond, eqb, List, [], ◌∷◌, ◌++◌, length, get_or, drop, Option, None, Some, refl, sym, ap, subst, ◌∙◌, append_assoc, inl, inr}
-use Rattle.std.specs.Prelude.{IfSome}
+use Rattle.std.proofs.Common.{◌≡◌, ℕ, suc, ◌+◌, ◌<◌, ◌≤◌, ◌^◌, ◌⊎◌, Bool, true, false, cond, eqb, List, [], ◌∷◌, ◌++◌, length, get_or, drop, Option, None, Some, refl, sym, ap, subst, ◌∙◌, append_assoc, inl, inr, arith}
+use Rattle.std.specs.Prelude.{IfSome, nat_lt}
 use Rattle.std.specs.Io.BufRead.{strip_last}
 use Rattle.std.specs.Option.{option_map}
 use Rattle.std.specs.Io.KnownBytes.{Appends, Consumes, IsAtEnd, Keeps}
 use Rattle.std.proofs.KnownBytes.{Appends-trans, Consumes-kept, Consumes-nil, Consumes-trans, Consumes-whole}
-use Rattle.std.proofs.lemmas.List.{append-nil, drop_more, length-append}
+use Rattle.std.proofs.lemmas.List.{append-nil, length-append, length_push}
+use Rattle.std.proofs.lemmas.Bool.{cases_lt, le-ltb, lt-ltb, ne_eqb}
 use Rattle.louis_table.specs.Meaning.{Meaning}
 use Rattle.braildesk.specs.declared.translate.Ended.{Ended}
 use Rattle.braildesk.specs.declared.translate.Ended.TheVariants.{Done, Input, Output}
-use Rattle.braildesk.specs.Machine.{output_of, pushed, reply_to, after, sent, closing}
+use Rattle.braildesk.specs.Machine.{HasNoFeed, extended, output_of, pushed, reply_to, after, sent, closing}
 use Rattle.braildesk.specs.Reply.{IsOutput}
 use Rattle.braildesk.specs.Run.{Answers, AnswersBeginning, EndsFlushed, HonestRun, IsBeginning, IsHonest, ReadsAll, whole_lines}
 use Rattle.desk_ends.specs.Sent.{Sent}
@@ -17,23 +18,61 @@ use Rattle.desk_ends.proofs.Sending.{Keeps-Appends}
 use Rattle.braildesk.proofs.Answering.{answer_to, answer_to-over, IsOutput-output_of}
 use Rattle.braildesk.proofs.Cuts.{after-append, output_of-sent, output_of-whole_lines, sent-append, sent-IsBeginning}
 
--- ---- one byte
+-- ---- bytes
 
-module _ (answers : List ℕ → List ℕ) (line : Option (List ℕ)) (bytes : List ℕ) (i : ℕ) (here : i < length bytes) where
-  pub sent-feed : get_or bytes i 0 ≡ 10 → sent answers line (drop i bytes) ≡ reply_to answers line ++ sent answers (Some []) (drop (i + 1) bytes)
-  sent-feed e = ap (sent answers line) (drop_more bytes i 0 here) ∙ rw e refl
+tail : (b : ℕ) (bytes : List ℕ) → HasNoFeed (b ∷ bytes) → HasNoFeed bytes
+tail b bytes none = λ k lt. none (suc k) (omega arith)
 
-  pub sent-byte : eqb (get_or bytes i 0) 10 ≡ false → sent answers line (drop i bytes) ≡ sent answers (pushed line (get_or bytes i 0)) (drop (i + 1) bytes)
-  sent-byte e = ap (sent answers line) (drop_more bytes i 0 here) ∙ rw e refl
+first_is : (b : ℕ) (bytes : List ℕ) → HasNoFeed (b ∷ bytes) → eqb b 10 ≡ false
+first_is b bytes none = ne_eqb b 10 (none 0 (omega arith))
 
-module _ (line : Option (List ℕ)) (bytes : List ℕ) (i : ℕ) (here : i < length bytes) where
-  pub after-feed : get_or bytes i 0 ≡ 10 → after line (drop i bytes) ≡ after (Some []) (drop (i + 1) bytes)
-  after-feed e = ap (after line) (drop_more bytes i 0 here) ∙ rw e refl
+-- bytes without a line feed are put behind the line
+pub after-extended : (line : Option (List ℕ)) (bytes rest : List ℕ) → HasNoFeed bytes → after line (bytes ++ rest) ≡ after (extended line bytes) rest
+after-extended line [] rest none = refl
+after-extended line (b ∷ bytes) rest none =
+    ap (λ (t : Bool). after (cond t (Some []) (pushed line b)) (bytes ++ rest)) (first_is b bytes none)
+    ∙ after-extended (pushed line b) bytes rest (tail b bytes none)
 
-  pub after-byte : eqb (get_or bytes i 0) 10 ≡ false → after line (drop i bytes) ≡ after (pushed line (get_or bytes i 0)) (drop (i + 1) bytes)
-  after-byte e =
-      ap (after line) (drop_more bytes i 0 here)
-      ∙ ap (λ (t : Bool). after (cond t (Some []) (pushed line (get_or bytes i 0))) (drop (i + 1) bytes)) e
+pub sent-extended : (answers : List ℕ → List ℕ) (line : Option (List ℕ)) (bytes rest : List ℕ) → HasNoFeed bytes → sent answers line (bytes ++ rest) ≡ sent answers (extended line bytes) rest
+sent-extended answers line [] rest none = refl
+sent-extended answers line (b ∷ bytes) rest none =
+    ap (λ (t : Bool). cond t (reply_to answers line) [] ++ sent answers (cond t (Some []) (pushed line b)) (bytes ++ rest)) (first_is b bytes none)
+    ∙ sent-extended answers (pushed line b) bytes rest (tail b bytes none)
+
+-- what comes up to a line feed, and the feed
+pub after-feed : (line : Option (List ℕ)) (bytes front rest : List ℕ) → HasNoFeed front → bytes ≡ front ++ 10 ∷ rest → after line bytes ≡ after (Some []) rest
+after-feed line bytes front rest none parts = ap (after line) parts ∙ after-extended line front (10 ∷ rest) none
+
+pub sent-feed : (answers : List ℕ → List ℕ) (line : Option (List ℕ)) (bytes front rest : List ℕ) → HasNoFeed front → bytes ≡ front ++ 10 ∷ rest
+    → sent answers line bytes ≡ reply_to answers (extended line front) ++ sent answers (Some []) rest
+sent-feed answers line bytes front rest none parts = ap (sent answers line) parts ∙ sent-extended answers line front (10 ∷ rest) none
+
+-- all of them are, where there is room for them, and else the line is too long
+pub extended-fits : (line bytes : List ℕ) → length line + length bytes ≤ 65537 → extended (Some line) bytes ≡ Some (line ++ bytes)
+extended-fits line [] le = ap Some (sym (append-nil line))
+extended-fits line (b ∷ bytes) le =
+    let room : nat_lt (length line) 65537 ≡ true = lt-ltb _ _ (omega arith) in
+    let more : length (line ++ b ∷ []) + length bytes ≤ 65537 = omega (arith, length_push line b) in
+    ap (λ (t : Bool). extended (cond t (Some (line ++ b ∷ [])) None) bytes) room
+    ∙ (extended-fits (line ++ b ∷ []) bytes more ∙ ap Some (append_assoc line (b ∷ []) bytes))
+
+pub extended-none : (bytes : List ℕ) → extended None bytes ≡ None
+extended-none [] = refl
+extended-none (b ∷ bytes) = extended-none bytes
+
+pub extended-over : (line bytes : List ℕ) → length line ≤ 65537 → 65537 < length line + length bytes → extended (Some line) bytes ≡ None
+extended-over line [] fits over = absurd (omega arith)
+extended-over line (b ∷ bytes) fits over =
+    elim (cases_lt (length line) 65537) [
+      | inl lt ↦
+          let room : nat_lt (length line) 65537 ≡ true = lt-ltb _ _ lt in
+          let n = length_push line b in
+          ap (λ (t : Bool). extended (cond t (Some (line ++ b ∷ [])) None) bytes) room
+          ∙ extended-over (line ++ b ∷ []) bytes (omega arith) (omega arith)
+      | inr le ↦
+          let room : nat_lt (length line) 65537 ≡ false = le-ltb _ _ le in
+          ap (λ (t : Bool). extended (cond t (Some (line ++ b ∷ [])) None) bytes) room ∙ extended-none bytes
+    ]
 
 -- ---- one line
 

@@ -1,6 +1,6 @@
 -- For proofs step by step: the line that is being read, and what is sent while bytes come, by a function that answers each line.
 -- A line that is too long is None.
-use Rattle.std.specs.Prelude.{ℕ, List, [], ◌∷◌, ◌++◌, ◌==◌, if◌then◌else◌, length, nat_lt, Option, Some, None}
+use Rattle.std.specs.Prelude.{◌≢◌, ℕ, List, [], ◌∷◌, ◌++◌, ◌==◌, if◌then◌else◌, length, nat_lt, slice_index, EachIndex, Option, Some, None}
 use Rattle.std.specs.Io.BufRead.{strip_last}
 use Rattle.std.specs.List.{flat_map}
 use Rattle.louis_table.specs.Lines.{lines_of}
@@ -20,6 +20,15 @@ output_of answers input = flat_map (λ line. answers line ++ 10 ∷ []) (lines_o
 abbrev pub pushed : Option (List ℕ) → ℕ → Option (List ℕ)
 pushed None b = None
 pushed (Some line) b = if nat_lt (length line) ROOM then Some (line ++ b ∷ []) else None
+
+-- the line with more bytes
+abbrev pub extended : Option (List ℕ) → List ℕ → Option (List ℕ)
+extended line [] = line
+extended line (b ∷ bytes) = extended (pushed line b) bytes
+
+-- no byte is a line feed
+abbrev pub HasNoFeed : List ℕ → Type 0
+HasNoFeed bytes = EachIndex bytes (λ k. slice_index bytes k ≢ 10)
 
 -- what is sent for a line
 abbrev pub reply_to : (List ℕ → List ℕ) → Option (List ℕ) → List ℕ

@@ -1,6 +1,8 @@
 -- What a run did to the bytes that a reader has left and a writer holds.
-use Rattle.std.specs.Prelude.{◌≡◌, ℕ, ◌^◌, ◌≤◌, ◌⊎◌, ◌==◌, if◌then◌else◌, List, [], ◌∷◌, ◌++◌, Option, IfSome, length}
+use Rattle.std.specs.Prelude.{◌≡◌, ◌≢◌, ℕ, ◌^◌, ◌≤◌, ◌⊎◌, ◌==◌, if◌then◌else◌, List, [], ◌∷◌, ◌++◌, Option, IfSome, length}
 use Rattle.std.specs.Io.KnownBytes.{Appends, Consumes, IsAtEnd}
+use Rattle.desk_ends.specs.declared.ends.Sink.{Ghosts as Sink}
+use Rattle.desk_ends.specs.declared.ends.Source.{Ghosts as Source}
 use Rattle.desk_ends.specs.Ends.{IsFlushed}
 use Rattle.louis_table.specs.Meaning.{Meaning}
 use Rattle.braildesk.specs.declared.translate.Ended.{Ended}
@@ -68,3 +70,16 @@ pub record HonestRun (meaning : Meaning) (ended : Ended) (read_old read_new writ
   pub run : Run meaning ended read_old read_new write_old write_new
   pub honest : IsHonest ended (length run.taken) ReadsFail WritesFail
   pub flushed : EndsFlushed ended write_new flushed_new
+
+-- ---- by the ends
+
+-- what a run from a source to a sink did, and how it ended
+abbrev pub Ran : {S K : Type 0} → Source S → S → S → Sink K → K → K → Meaning → Ended → Type 0
+Ran source read_old read_new sink write_old write_new meaning ended =
+    HonestRun meaning ended (source.remaining read_old) (source.remaining read_new)
+    (sink.contents write_old) (sink.contents write_new) (sink.flushed write_new) source.can_fail sink.can_fail
+
+-- it ended early
+abbrev pub RanShort : {S K : Type 0} → Source S → S → S → Sink K → K → K → Meaning → Type 0
+RanShort source read_old read_new sink write_old write_new meaning =
+    (ended : Ended) × (ended ≢ Done) × Ran source read_old read_new sink write_old write_new meaning ended

@@ -1,14 +1,12 @@
 //! What is answered to one line.
-ghost use Rattle.braildesk.specs.Machine.{AnswersLines, closing, reply_to};
 ghost use Rattle.braildesk.specs.Refusal.{IsPrint, IsRefused, refusal_text};
-ghost use Rattle.braildesk.specs.Reply.{AnswersPrint, IsAnswer, IsText, most_characters};
-ghost use Rattle.desk_ends.specs.Ends.{IsFlushed};
-ghost use Rattle.desk_ends.specs.Sent.{Sent};
-ghost use Rattle.std.specs.Prelude.{List, MatchResult, OnOk, [], is_ok, length, ◌++◌, ◌≡◌, ◌≤◌, ◌∷◌, ℕ};
+ghost use Rattle.braildesk.specs.Sends.{SendsLine};
+ghost use Rattle.desk_ends.specs.Sent.{Sends};
+ghost use Rattle.std.specs.Prelude.{MatchResult, [], is_ok, ◌++◌, ◌≡◌, ◌∷◌};
 ghost use Rattle.std.specs.Str.{chars};
 
 use super::braille::send_braille;
-use super::line::{Line, MOST_BYTES};
+use super::line::MOST_BYTES;
 use super::print::{Print, TooManyCharacters};
 use desk_ends::{Block, Failed, Sink, send, send_parts};
 use itoa::Buffer;
@@ -29,71 +27,33 @@ pub enum Refusal {
 #[derive(Drop)]
 pub struct Workspace {
     /// The print of the line.
-    pub print: Print,
+    print: Print,
     /// The braille that waits to be sent.
-    pub block: Block,
+    block: Block,
 }
 
-/// Answers what is left at the end of the input, and flushes all answers.
-pub fn answer_end<K: Sink, B: RuleBook>(
-    sink: &mut K,
-    space: &mut Workspace,
-    book: &B,
-    line: &Line,
-) -> Result<(), Failed>
-    ensures flushed { OnOk result (IsFlushed (K.contents sink.new) (K.flushed sink.new)) }
-    ensures sent { (answers : List ℕ → List ℕ) → AnswersLines (B.meaning book.now) answers
-        → Sent K.can_fail (K.contents sink.old) (K.contents sink.new) (closing answers line.now) [] (is_ok result) }
-{
-    answer_last(sink, space, book, line)?;
-    sink.flush()
-}
-
-/// Answers a line, if it has a byte.
-fn answer_last<K: Sink, B: RuleBook>(
-    sink: &mut K,
-    space: &mut Workspace,
-    book: &B,
-    line: &Line,
-) -> Result<(), Failed>
-    ensures { (answers : List ℕ → List ℕ) → AnswersLines (B.meaning book.now) answers
-        → Sent K.can_fail (K.contents sink.old) (K.contents sink.new) (closing answers line.now) [] (is_ok result) }
-{
-    if line.is_empty() {
-        return Ok(());
+impl Workspace {
+    /// Room for a line of any length that is answered by braille.
+    pub fn new() -> Self {
+        Workspace {
+            print: Print::new(),
+            block: Block::new(),
+        }
     }
-    answer(sink, space, book, line)
-}
 
-/// Answers a line.
-pub fn answer<K: Sink, B: RuleBook>(
-    sink: &mut K,
-    space: &mut Workspace,
-    book: &B,
-    line: &Line,
-) -> Result<(), Failed>
-    ensures { (answers : List ℕ → List ℕ) → AnswersLines (B.meaning book.now) answers
-        → Sent K.can_fail (K.contents sink.old) (K.contents sink.new) (reply_to answers line.now) [] (is_ok result) }
-{
-    match line.text() {
-        Some(text) => answer_text(sink, space, book, text),
-        None => refuse(sink, Refusal::NoText),
-    }
-}
-
-/// Answers the bytes of a line.
-fn answer_text<K: Sink, B: RuleBook>(
-    sink: &mut K,
-    space: &mut Workspace,
-    book: &B,
-    line: &[u8],
-) -> Result<(), Failed>
-    ensures { (answer : List ℕ) → IsAnswer (B.meaning book.now) line.now answer
-        → Sent K.can_fail (K.contents sink.old) (K.contents sink.new) (answer ++ 10 ∷ []) [] (is_ok result) }
-{
-    match read_print(&mut space.print, book, line) {
-        Ok(()) => send_braille(sink, &mut space.block, book, space.print.as_slice()),
-        Err(refusal) => refuse(sink, refusal),
+    /// Answers the bytes of a line, without its ending.
+    pub fn answer<K: Sink, B: RuleBook>(
+        &mut self,
+        sink: &mut K,
+        book: &B,
+        line: &[u8],
+    ) -> Result<(), Failed>
+        ensures { SendsLine K.Sink sink.old sink.new (B.meaning book.now) line.now (is_ok result) }
+    {
+        match read_print(&mut self.print, book, line) {
+            Ok(()) => send_braille(sink, &mut self.block, book, self.print.as_slice()),
+            Err(refusal) => refuse(sink, refusal),
+        }
     }
 }
 
@@ -117,8 +77,8 @@ fn read_print<B: RuleBook>(print: &mut Print, book: &B, line: &[u8]) -> Result<(
 }
 
 /// Sends a refusal and a line feed.
-fn refuse<K: Sink>(sink: &mut K, refusal: Refusal) -> Result<(), Failed>
-    ensures { Sent K.can_fail (K.contents sink.old) (K.contents sink.new) (refusal_text refusal ++ 10 ∷ []) [] (is_ok result) }
+pub fn refuse<K: Sink>(sink: &mut K, refusal: Refusal) -> Result<(), Failed>
+    ensures { Sends K.Sink sink.old sink.new (refusal_text refusal ++ 10 ∷ []) (is_ok result) }
 {
     match refusal {
         Refusal::NoText => send(sink, b"no 1\n"),
@@ -129,7 +89,7 @@ fn refuse<K: Sink>(sink: &mut K, refusal: Refusal) -> Result<(), Failed>
 
 /// Sends the refusal of an undefined character and a line feed.
 fn refuse_place<K: Sink>(sink: &mut K, place: usize) -> Result<(), Failed>
-    ensures { Sent K.can_fail (K.contents sink.old) (K.contents sink.new) (refusal_text (Refusal.Undefined place) ++ 10 ∷ []) [] (is_ok result) }
+    ensures { Sends K.Sink sink.old sink.new (refusal_text (Refusal.Undefined place) ++ 10 ∷ []) (is_ok result) }
 {
     let mut digits = Buffer::new();
     send_parts(sink, &[b"no 7 ", digits.format(place).as_bytes(), b"\n"])

@@ -1,6 +1,6 @@
 //! The braille of a print, sent in blocks.
 ghost use Rattle.desk_ends.specs.Cells.{text_of};
-ghost use Rattle.desk_ends.specs.Sent.{Sent};
+ghost use Rattle.desk_ends.specs.Sent.{Puts, Sends};
 ghost use Rattle.louis_translate.specs.Braille.{braille};
 ghost use Rattle.louis_translate.specs.Position.{AreDefined};
 ghost use Rattle.louis_translate.specs.Tiling.{Tiles};
@@ -19,7 +19,8 @@ pub fn send_braille<K: Sink, B: RuleBook>(
 ) -> Result<(), Failed>
     requires { AreDefined (B.meaning book.now) print.now }
     ensures { (choices : List ChoiceTerm) → Tiles (B.meaning book.now) print.now choices
-        → Sent K.can_fail (K.contents sink.old) (K.contents sink.new) (text_of (braille (B.meaning book.now) print.now choices) ++ 10 ∷ []) [] (is_ok result) }
+        → Sends K.Sink sink.old sink.new
+        (text_of (braille (B.meaning book.now) print.now choices) ++ 10 ∷ []) (is_ok result) }
 {
     block.clear();
     put_print(sink, block, book, print)?;
@@ -35,7 +36,8 @@ fn put_print<K: Sink, B: RuleBook>(
 ) -> Result<(), Failed>
     requires { AreDefined (B.meaning book.now) print.now }
     ensures { (choices : List ChoiceTerm) → Tiles (B.meaning book.now) print.now choices
-        → Sent K.can_fail (K.contents sink.old) (K.contents sink.new) (block.old ++ text_of (braille (B.meaning book.now) print.now choices)) block.new (is_ok result) }
+        → Puts K.Sink sink.old sink.new
+        (block.old ++ text_of (braille (B.meaning book.now) print.now choices)) block.new (is_ok result) }
 {
     for piece in Pieces::new(book, print) {
         put_cells(sink, block, piece.sign)?;

@@ -1,5 +1,5 @@
 //! The line that is being read.
-ghost use Rattle.braildesk.specs.Machine.{pushed};
+ghost use Rattle.braildesk.specs.Machine.{extended};
 ghost use Rattle.std.specs.Io.BufRead.{strip_last};
 ghost use Rattle.std.specs.Option.{option_copied, option_map};
 ghost use Rattle.std.specs.Prelude.{IsTrue, Some, [], ◌≡◌, ◌↔◌};
@@ -44,13 +44,14 @@ impl Line {
         }
     }
 
-    /// Adds a byte.
-    pub fn push(&mut self, byte: u8)
-        ensures { self.new ≡ pushed self.old byte }
+    /// Adds bytes.
+    pub fn extend(&mut self, bytes: &[u8])
+        ensures { self.new ≡ extended self.old bytes.now }
     {
-        if self.len < ROOM {
-            self.bytes[self.len] = byte;
-            self.len += 1;
+        if bytes.len() <= ROOM - self.len {
+            let end = self.len + bytes.len();
+            self.bytes[self.len..end].copy_from_slice(bytes);
+            self.len = end;
         } else {
             self.is_over = true;
         }

@@ -2,6 +2,7 @@
 #![tactic(auto)]
 
 mod answer;
+mod answerer;
 mod braille;
 mod fault;
 mod line;
@@ -13,11 +14,12 @@ mod table_file;
 mod tests;
 mod translate;
 
+use desk_ends::Buffered;
 use fault::Fault;
 use program::{program as run_program, refuse};
 use std::alloc::AllocError;
 use std::env::FillError;
-use std::io::{BufWriter, Write};
+use std::io::Write;
 use std::process::ExitCode;
 use std::rt::Env;
 
@@ -56,10 +58,8 @@ fn start<E: Write>(rt: &HostRuntime, errors: &mut E) -> Result<u8, Fault> {
         .iter()
         .map(|word| word.as_slice())
         .collect(rt.alloc())?;
-    let mut writer = BufWriter::with_capacity(rt.alloc(), OUTPUT_BYTES, rt.stdout())?;
-    let status = run_program(rt, texts.as_slice(), &mut rt.stdin(), &mut writer, errors);
-    // Dropped, the writer would write again what a failure has left in its buffer.
-    let _ = writer.into_parts();
+    let mut output = Buffered::new(rt.alloc(), OUTPUT_BYTES, rt.stdout())?;
+    let status = run_program(rt, texts.as_slice(), &mut rt.stdin(), &mut output, errors);
     Ok(status)
 }
 

@@ -1,8 +1,8 @@
 //! What the program does with its words and its ends.
 ghost use Rattle.braildesk.specs.Fault.{TextAt, fault_line};
-ghost use Rattle.braildesk.specs.Program.{AsksToTranslate, NamesTable, Refused, TableOf, Tells, texts_of, use_line};
-ghost use Rattle.braildesk.specs.Run.{HonestRun};
-ghost use Rattle.desk_ends.specs.Sent.{Sent};
+ghost use Rattle.braildesk.specs.Program.{AsksToTranslate, FaultOf, NamesTable, TableOf, Tells, texts_of, use_line};
+ghost use Rattle.braildesk.specs.Run.{Ran, RanShort};
+ghost use Rattle.desk_ends.specs.Sent.{Sends};
 ghost use Rattle.louis_table.specs.Meaning.{Meaning};
 ghost use Rattle.louis_table.specs.Table.{Means};
 ghost use Rattle.std.specs.Prelude.{◌≡◌, ◌≢◌, ◌≤◌, ◌⊎◌, [], MatchOption, is_ok};
@@ -47,23 +47,21 @@ pub fn program<F: Shelf + AllocGlobal, S: Source, K: Sink, E: Sink>(
     ensures words { result ≡ OTHER_WORDS → ¬ AsksToTranslate (texts_of words.now) }
     ensures other_words { ¬ AsksToTranslate (texts_of words.now) → result ≡ OTHER_WORDS }
     ensures use_told { result ≡ OTHER_WORDS
-        → Tells E.can_fail (E.contents errors.old) (E.contents errors.new) use_line }
+        → Tells E.Sink errors.old errors.new use_line }
 
     // Lines are answered by the table that the words name.
     ensures done { result ≡ DONE → (meaning : Meaning) × TableOf (F.at rt.now) (texts_of words.now) meaning
-        × HonestRun meaning Ended.Done (S.remaining source.old) (S.remaining source.new)
-        (K.contents sink.old) (K.contents sink.new) (K.flushed sink.new) S.can_fail K.can_fail }
+        × Ran S.Source source.old source.new K.Sink sink.old sink.new meaning Ended.Done }
 
     // A failed end is told by the status alone.
     ensures failed { result ≡ ENDS_FAILED → (meaning : Meaning) × TableOf (F.at rt.now) (texts_of words.now) meaning
-        × ((ended : Ended) × (ended ≢ Ended.Done)
-        × HonestRun meaning ended (S.remaining source.old) (S.remaining source.new)
-        (K.contents sink.old) (K.contents sink.new) (K.flushed sink.new) S.can_fail K.can_fail) }
+        × RanShort S.Source source.old source.new K.Sink sink.old sink.new meaning }
     ensures silent { (result ≡ DONE) ⊎ (result ≡ ENDS_FAILED) → errors.new ≡ errors.old }
 
     // A table is refused for a fault of its own, and before the first line.
-    ensures refused { result ≡ REFUSED → Refused (F.can_fail ⊎ F.File.can_fail) (F.at rt.now)
-        (texts_of words.now) E.can_fail (E.contents errors.old) (E.contents errors.new) }
+    ensures refused { result ≡ REFUSED → (fault : Fault)
+        × FaultOf (F.can_fail ⊎ F.File.can_fail) (F.at rt.now) (texts_of words.now) fault
+        × Tells E.Sink errors.old errors.new (fault_line fault) }
     ensures untouched { (result ≡ OTHER_WORDS) ⊎ (result ≡ REFUSED) → (source.new ≡ source.old) × (sink.new ≡ sink.old) }
 {
     let Some(path) = table_path(words) else {
@@ -92,12 +90,10 @@ fn table_path<'a>(words: &[&'a [u8]]) -> Option<&'a [u8]>
 
 /// Answers each line of the source by a table that was read, and gives the exit status.
 fn translate_by<S: Source, K: Sink>(index: &RuleIndex, source: &mut S, sink: &mut K) -> u8
-    ensures done { result ≡ DONE → HonestRun index.now Ended.Done
-        (S.remaining source.old) (S.remaining source.new)
-        (K.contents sink.old) (K.contents sink.new) (K.flushed sink.new) S.can_fail K.can_fail }
-    ensures failed { result ≡ ENDS_FAILED → (ended : Ended) × (ended ≢ Ended.Done) × HonestRun index.now ended
-        (S.remaining source.old) (S.remaining source.new)
-        (K.contents sink.old) (K.contents sink.new) (K.flushed sink.new) S.can_fail K.can_fail }
+    ensures done { result ≡ DONE
+        → Ran S.Source source.old source.new K.Sink sink.old sink.new index.now Ended.Done }
+    ensures failed { result ≡ ENDS_FAILED
+        → RanShort S.Source source.old source.new K.Sink sink.old sink.new index.now }
     ensures either { (result ≡ DONE) ⊎ (result ≡ ENDS_FAILED) }
 {
     status_of(translate_lines(source, sink, index))
@@ -118,7 +114,7 @@ fn status_of(ended: Ended) -> u8
 /// Says how to use the program. A failure to say it changes nothing.
 pub fn explain_use<E: Sink>(errors: &mut E) -> u8
     ensures status { result ≡ OTHER_WORDS }
-    ensures told { Tells E.can_fail (E.contents errors.old) (E.contents errors.new) use_line }
+    ensures told { Tells E.Sink errors.old errors.new use_line }
 {
     let _ = send(
         errors,
@@ -130,7 +126,7 @@ pub fn explain_use<E: Sink>(errors: &mut E) -> u8
 /// Tells why nothing is translated. A failure to tell it changes nothing.
 pub fn refuse<E: Sink>(errors: &mut E, fault: &Fault) -> u8
     ensures status { result ≡ REFUSED }
-    ensures told { Tells E.can_fail (E.contents errors.old) (E.contents errors.new) (fault_line fault.now) }
+    ensures told { Tells E.Sink errors.old errors.new (fault_line fault.now) }
 {
     let _ = tell(errors, fault);
     REFUSED
@@ -138,7 +134,7 @@ pub fn refuse<E: Sink>(errors: &mut E, fault: &Fault) -> u8
 
 /// Sends the line of a fault.
 fn tell<E: Sink>(errors: &mut E, fault: &Fault) -> Result<(), Failed>
-    ensures { Sent E.can_fail (E.contents errors.old) (E.contents errors.new) (fault_line fault.now) [] (is_ok result) }
+    ensures { Sends E.Sink errors.old errors.new (fault_line fault.now) (is_ok result) }
 {
     match fault {
         Fault::Table(fault) => tell_table(errors, *fault),
@@ -149,7 +145,7 @@ fn tell<E: Sink>(errors: &mut E, fault: &Fault) -> Result<(), Failed>
 
 /// Sends the line of a bad table, with its own line and cause.
 fn tell_table<E: Sink>(errors: &mut E, fault: TableFault) -> Result<(), Failed>
-    ensures { Sent E.can_fail (E.contents errors.old) (E.contents errors.new) (fault_line (Fault.Table fault)) [] (is_ok result) }
+    ensures { Sends E.Sink errors.old errors.new (fault_line (Fault.Table fault)) (is_ok result) }
 {
     let mut line = Buffer::new();
     let mut cause = Buffer::new();

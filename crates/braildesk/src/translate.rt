@@ -1,16 +1,11 @@
 //! Answers an input line by line, without memory.
-ghost use Rattle.braildesk.specs.Machine.{AnswersLines, after, sent};
 ghost use Rattle.braildesk.specs.Reply.{IsOutput};
-ghost use Rattle.braildesk.specs.Run.{AnswersBeginning, HonestRun};
-ghost use Rattle.desk_ends.specs.Ends.{IsFlushed};
-ghost use Rattle.desk_ends.specs.Sent.{Sent};
+ghost use Rattle.braildesk.specs.Run.{AnswersBeginning, Ran};
 ghost use Rattle.std.specs.Io.KnownBytes.{Appends};
-ghost use Rattle.std.specs.Prelude.{IfSome, List, OnOk, [], is_ok, ◌≡◌, ℕ};
+ghost use Rattle.std.specs.Prelude.{IfSome, List, ◌≡◌, ℕ};
 
-use super::answer::{Workspace, answer, answer_end};
-use super::line::Line;
-use super::print::Print;
-use desk_ends::{Block, Failed, Sink, Source};
+use super::answerer::Answerer;
+use desk_ends::{Sink, Source};
 use louis_translate::RuleBook;
 
 /// After so many bytes the next read counts as failed.
@@ -42,9 +37,7 @@ pub fn translate_lines<S: Source, K: Sink, B: RuleBook>(
 ) -> Ended
     // Some bytes were taken, what went out answers them, and it is flushed. A run that isn't done met a
     // failure of the source or the sink, or took as many bytes as a run may.
-    ensures run { HonestRun (B.meaning book.now) result
-        (S.remaining source.old) (S.remaining source.new)
-        (K.contents sink.old) (K.contents sink.new) (K.flushed sink.new) S.can_fail K.can_fail }
+    ensures run { Ran S.Source source.old source.new K.Sink sink.old sink.new (B.meaning book.now) result }
 
     // Where the source tells its bytes: at the end of all of them all lines are answered.
     ensures done { result ≡ Ended.Done → IfSome (S.remaining source.old) (λ input.
@@ -55,13 +48,8 @@ pub fn translate_lines<S: Source, K: Sink, B: RuleBook>(
     ensures beginning { AnswersBeginning (B.meaning book.now)
         (S.remaining source.old) (K.contents sink.old) (K.contents sink.new) }
 {
-    if sink.flush().is_err() {
+    let Ok(mut answerer) = Answerer::begin(sink) else {
         return Ended::Output;
-    }
-    let mut line = Line::new();
-    let mut space = Workspace {
-        print: Print::new(),
-        block: Block::new(),
     };
     let mut chunk = [0u8; CHUNK_BYTES];
     let mut total = 0u64;
@@ -70,39 +58,15 @@ pub fn translate_lines<S: Source, K: Sink, B: RuleBook>(
             return Ended::Input;
         };
         if count == 0 {
-            return match answer_end(sink, &mut space, book, &line) {
+            return match answerer.finish(sink, book) {
                 Ok(()) => Ended::Done,
                 Err(_) => Ended::Output,
             };
         }
         total += count as u64;
-        if answer_chunk(sink, &mut space, book, &mut line, &chunk[..count]).is_err() {
+        if answerer.take(sink, book, &chunk[..count]).is_err() {
             return Ended::Output;
         }
     }
     Ended::Input
-}
-
-/// Answers the lines that end in these bytes.
-fn answer_chunk<K: Sink, B: RuleBook>(
-    sink: &mut K,
-    space: &mut Workspace,
-    book: &B,
-    line: &mut Line,
-    bytes: &[u8],
-) -> Result<(), Failed>
-    ensures line { OnOk result (line.new ≡ after line.old bytes.now) }
-    ensures flushed { OnOk result (IsFlushed (K.contents sink.new) (K.flushed sink.new)) }
-    ensures sent { (answers : List ℕ → List ℕ) → AnswersLines (B.meaning book.now) answers
-        → Sent K.can_fail (K.contents sink.old) (K.contents sink.new) (sent answers line.old bytes.now) [] (is_ok result) }
-{
-    for byte in bytes {
-        if *byte == b'\n' {
-            answer(sink, space, book, line)?;
-            line.clear();
-        } else {
-            line.push(*byte);
-        }
-    }
-    sink.flush()
 }

@@ -1,7 +1,7 @@
 //! Cells as text, sent in blocks.
 ghost use Rattle.cell_core.specs.Cell.{braille_character};
 ghost use Rattle.desk_ends.specs.Cells.{text_of};
-ghost use Rattle.desk_ends.specs.Sent.{Sent};
+ghost use Rattle.desk_ends.specs.Sent.{Puts, Sends};
 ghost use Rattle.std.specs.Prelude.{OnOk, [], encode_utf8, is_ok, length, ◌+◌, ◌++◌, ◌≤◌, ◌∷◌};
 
 use super::block::{BLOCK_BYTES, Block, CELL_BYTES};
@@ -11,7 +11,7 @@ use cell_core::Cell;
 
 /// Sends the block and a line feed.
 pub fn send_block<K: Sink>(sink: &mut K, block: &mut Block) -> Result<(), Failed>
-    ensures { Sent K.can_fail (K.contents sink.old) (K.contents sink.new) (block.old ++ 10 ∷ []) [] (is_ok result) }
+    ensures { Sends K.Sink sink.old sink.new (block.old ++ 10 ∷ []) (is_ok result) }
 {
     make_room(sink, block)?;
     block.push(b'\n');
@@ -22,7 +22,7 @@ pub fn send_block<K: Sink>(sink: &mut K, block: &mut Block) -> Result<(), Failed
 /// has a way of its own, without a loop.
 #[inline(always)]
 pub fn put_cells<K: Sink>(sink: &mut K, block: &mut Block, cells: &[Cell]) -> Result<(), Failed>
-    ensures { Sent K.can_fail (K.contents sink.old) (K.contents sink.new) (block.old ++ text_of cells.now) block.new (is_ok result) }
+    ensures { Puts K.Sink sink.old sink.new (block.old ++ text_of cells.now) block.new (is_ok result) }
 {
     match cells {
         [] => Ok(()),
@@ -34,7 +34,7 @@ pub fn put_cells<K: Sink>(sink: &mut K, block: &mut Block, cells: &[Cell]) -> Re
 /// Puts cells, one after another.
 #[inline(never)]
 fn put_each<K: Sink>(sink: &mut K, block: &mut Block, cells: &[Cell]) -> Result<(), Failed>
-    ensures { Sent K.can_fail (K.contents sink.old) (K.contents sink.new) (block.old ++ text_of cells.now) block.new (is_ok result) }
+    ensures { Puts K.Sink sink.old sink.new (block.old ++ text_of cells.now) block.new (is_ok result) }
 {
     for cell in cells {
         put_cell(sink, block, *cell)?;
@@ -45,7 +45,8 @@ fn put_each<K: Sink>(sink: &mut K, block: &mut Block, cells: &[Cell]) -> Result<
 /// Puts a cell behind the block, which is sent first if it has no room for one.
 #[inline(always)]
 fn put_cell<K: Sink>(sink: &mut K, block: &mut Block, cell: Cell) -> Result<(), Failed>
-    ensures { Sent K.can_fail (K.contents sink.old) (K.contents sink.new) (block.old ++ encode_utf8 (braille_character cell)) block.new (is_ok result) }
+    ensures { Puts K.Sink sink.old sink.new
+        (block.old ++ encode_utf8 (braille_character cell)) block.new (is_ok result) }
 {
     make_room(sink, block)?;
     block.push_cell(cell);
@@ -55,7 +56,7 @@ fn put_cell<K: Sink>(sink: &mut K, block: &mut Block, cell: Cell) -> Result<(), 
 /// Sends the block if it has no room for one more cell.
 #[inline(always)]
 fn make_room<K: Sink>(sink: &mut K, block: &mut Block) -> Result<(), Failed>
-    ensures sent { Sent K.can_fail (K.contents sink.old) (K.contents sink.new) block.old block.new (is_ok result) }
+    ensures sent { Puts K.Sink sink.old sink.new block.old block.new (is_ok result) }
     ensures room { OnOk result (length block.new + CELL_BYTES ≤ BLOCK_BYTES) }
 {
     if !block.has_room() {

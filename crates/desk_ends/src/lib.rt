@@ -12,11 +12,13 @@
 #![tactic(auto)]
 
 mod block;
+mod buffered;
 mod cells;
 mod ends;
 mod texts;
 
 pub use block::Block;
+pub use buffered::Buffered;
 pub use cells::{put_cells, send_block};
 pub use ends::{Failed, Memory, Sink, Source};
 pub use texts::{send, send_parts};

@@ -1,9 +1,12 @@
 //! What is read, sent and flushed by ends over memory and by writers of std.
-use super::{Block, Failed, Memory, Sink, Source, put_cells, send_block, send_parts};
+use super::{
+    Block, Buffered, Failed, Memory, Sink, Source, put_cells, send, send_block, send_parts,
+};
 use cell_core::Cell;
-use std::alloc::Global;
+use std::alloc::{AllocError, Global};
 use std::io::{self, Error, ErrorKind, Write};
 use std::process::Abort;
+use std::test::Fail;
 
 /// Takes two bytes at a time, holds them until it is flushed, and fails once after so many writes.
 #[derive(Drop)]
@@ -56,6 +59,19 @@ fn send_cells<K: Sink>(sink: &mut K, cells: &[Cell]) -> Result<(), Failed> {
     sink.flush()
 }
 
+/// Sends a text through a buffer of four bytes, and three more with a flush if it is to be flushed.
+fn send_buffered(
+    alloc: Global,
+    writer: &mut Held,
+    is_flushed: bool,
+) -> Result<Result<(), Failed>, AllocError> {
+    let mut sink = Buffered::new(alloc, 4, writer)?;
+    if is_flushed {
+        return Ok(send_three(&mut sink));
+    }
+    Ok(send(&mut sink, b"ab"))
+}
+
 /// How many bytes come at the first and the second read.
 fn two_reads<S: Source>(source: &mut S) -> (Option<usize>, Option<usize>) {
     let mut chunk = [0; 4];
@@ -93,4 +109,21 @@ fn sends_cells_as_text(rt: HostRuntime) {
     let sent = send_cells(&mut writer, &[Cell::new(1), Cell::new(255)]);
     assert_eq!(&rt; sent.is_ok(), true);
     assert_passed(&rt, &writer, "⠁⣿\n");
+}
+
+#[test]
+fn flushes_what_is_buffered(rt: HostRuntime) -> Result<(), Fail> {
+    let mut writer = Held::new(rt.alloc(), 9);
+    let sent = send_buffered(rt.alloc(), &mut writer, true)?;
+    assert_eq!(&rt; sent.is_ok(), true);
+    assert_passed(&rt, &writer, "no 7 12\n");
+    Ok(())
+}
+
+#[test]
+fn lets_go_what_is_not_flushed(rt: HostRuntime) -> Result<(), Fail> {
+    let mut writer = Held::new(rt.alloc(), 9);
+    let sent = send_buffered(rt.alloc(), &mut writer, false)?;
+    assert_eq!(&rt; (sent.is_ok(), writer.held.len()), (true, 0));
+    Ok(())
 }

@@ -1,13 +1,13 @@
 //! Sends texts to a sink without memory, and without a second try.
-ghost use Rattle.desk_ends.specs.Sent.{Sent};
+ghost use Rattle.desk_ends.specs.Sent.{Sends};
 ghost use Rattle.std.specs.List.{flat_map};
-ghost use Rattle.std.specs.Prelude.{[], is_ok};
+ghost use Rattle.std.specs.Prelude.{is_ok};
 
 use super::ends::{Failed, Sink};
 
 /// Writes the whole text, or a beginning of it. A write that takes no byte has failed.
 pub fn send<K: Sink>(sink: &mut K, text: &[u8]) -> Result<(), Failed>
-    ensures { Sent K.can_fail (K.contents sink.old) (K.contents sink.new) text.now [] (is_ok result) }
+    ensures { Sends K.Sink sink.old sink.new text.now (is_ok result) }
 {
     let mut rest = text;
     while !rest.is_empty() {
@@ -19,7 +19,7 @@ pub fn send<K: Sink>(sink: &mut K, text: &[u8]) -> Result<(), Failed>
 
 /// Writes the texts one after another, or a beginning of them.
 pub fn send_parts<K: Sink>(sink: &mut K, parts: &[&[u8]]) -> Result<(), Failed>
-    ensures { Sent K.can_fail (K.contents sink.old) (K.contents sink.new) (flat_map (λ part. part.now) parts.now) [] (is_ok result) }
+    ensures { Sends K.Sink sink.old sink.new (flat_map (λ part. part.now) parts.now) (is_ok result) }
 {
     for part in parts {
         send(sink, part)?;

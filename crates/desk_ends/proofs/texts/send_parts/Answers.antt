@@ -1,4 +1,4 @@
-use Rattle.std.proofs.Common.{true, is_ok, refl, ap, [], drop}
+use Rattle.std.proofs.Common.{true, is_ok, refl, ap, []}
 use Rattle.std.specs.List.{flat_map}
 use Rattle.std.proofs.lemmas.List.{drop_more}
 use Rattle.std.proofs.lemmas.Result.{err_from_is_err_and}

@@ -2,7 +2,7 @@ use Rattle.std.proofs.Common.{List, ℕ, ◌++◌, ◌∷◌, [], sym, subst, ap
 use Rattle.louis_translate.specs.declared.choices.Choice.{Choice}
 use Rattle.louis_translate.specs.Tiling.{Tiles}
 use Rattle.braildesk.proofs.Answering.{refused_answer, shown_answer}
-use Rattle.braildesk.proofs.answer.answer_text.Goals as goal
+use Rattle.braildesk.proofs.answer.Workspace.answer.Goals as goal
 
 pub send_braille-requires : goal.send_braille-requires
 send_braille-requires g c = rw (c.as_slice.ensures ∙ c.in-Ok.ensures.1) c.in-Ok.ensures.0.2
