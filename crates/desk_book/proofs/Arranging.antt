@@ -1,5 +1,5 @@
 -- Paragraphs by their ids, and orders of them.
-use Rattle.std.proofs.Common.{◌≡◌, ◌≢◌, ℕ, zero, suc, ◌+◌, ◌-◌, ◌<◌, ◌≤◌, Bool, true, false, cond, ◌||◌, ◌==◌, if◌then◌else◌, eqb, nat_eq, List, [], ◌∷◌, ◌++◌, map, length, get_or, set, slice_get, Option, Some, None, Bor, Vec, vec_len, Global, option_map, option_to_list, option_and_then, All, IsPermutation, flat_map, refl, sym, ap, ap₂, ◌∙◌, subst, inl, inr, arith, eq-eqb, ne_eqb, map-id, add-sub_cancel, add_comm}
+use Rattle.std.proofs.Common.{◌≡◌, ◌≢◌, ℕ, zero, suc, ◌+◌, ◌-◌, ◌<◌, ◌≤◌, Bool, true, false, cond, ◌||◌, ◌==◌, if◌then◌else◌, eqb, nat_eq, List, [], ◌∷◌, ◌++◌, map, length, get_or, set, slice_get, Option, Some, None, Bor, option_map, option_to_list, option_and_then, All, IsPermutation, flat_map, refl, sym, ap, ap₂, ◌∙◌, subst, inl, inr, arith, eq-eqb, ne_eqb, map-id, add-sub_cancel, add_comm}
 use Rattle.std.specs.Map.{lookup}
 use Rattle.std.specs.Cmp.{nat_eq_equiv}
 use Rattle.std.specs.List.{range_with_len, list_any}
@@ -102,10 +102,6 @@ list_any-order count order id permutes up =
 
 pub length-order : (count : ℕ) (order : List ℕ) → IsPermutation (range_with_len 1 count) order → length order ≡ count
 length-order count order permutes = length_permutation (range_with_len 1 count) order permutes ∙ length-range_with_len 1 count
-
--- the order of a vector's items
-pub permutes_items : (items : Vec KeptParagraph Global) (order : List ℕ) → IsPermutation (range_with_len 1 (vec_len items)) order → IsPermutation (range_with_len 1 (length items.items)) order
-permutes_items items order = subst (λ count. IsPermutation (range_with_len 1 count) order) items.ok.0
 
 -- ---- paragraphs in an order of their ids
 
@@ -276,16 +272,14 @@ module _ (items : List KeptParagraph) where
         (IsPermutation-append_left ((length items + 1) ∷ []) (range_with_len 1 (length items)) order permutes)
 
 -- how many paragraphs a value has
-pub length-shown : (items : Vec KeptParagraph Global) (order : List ℕ) (value : KeptParagraphs)
-    → IsPermutation (range_with_len 1 (vec_len items)) order → flat_map (numbered items.items) order ≡ value → length value ≡ vec_len items
-length-shown items order value permutes shown =
-    sym (ap length shown) ∙ (length-in_order items.items order (permutes_items items order permutes) ∙ sym items.ok.0)
+pub length-shown : (items : List KeptParagraph) (order : List ℕ) (value : KeptParagraphs)
+    → IsPermutation (range_with_len 1 (length items)) order → flat_map (numbered items) order ≡ value → length value ≡ length items
+length-shown items order value permutes shown = sym (ap length shown) ∙ length-in_order items order permutes
 
 -- and what their ids are
-pub ids-shown : (items : Vec KeptParagraph Global) (order : List ℕ) (value : KeptParagraphs)
-    → IsPermutation (range_with_len 1 (vec_len items)) order → flat_map (numbered items.items) order ≡ value → ids value ≡ order
-ids-shown items order value permutes shown =
-    sym (ap ids shown) ∙ ids-in_order items.items order (AreUpTo-order (length items.items) order (permutes_items items order permutes))
+pub ids-shown : (items : List KeptParagraph) (order : List ℕ) (value : KeptParagraphs)
+    → IsPermutation (range_with_len 1 (length items)) order → flat_map (numbered items) order ≡ value → ids value ≡ order
+ids-shown items order value permutes shown = sym (ap ids shown) ∙ ids-in_order items order (AreUpTo-order (length items) order permutes)
 
 -- a paragraph is added, in another order
 pub arranged-pushed : (items : List KeptParagraph) (order other : List ℕ) (new : KeptParagraph)

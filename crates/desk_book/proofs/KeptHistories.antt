@@ -7,7 +7,7 @@ use Rattle.desk_book.specs.declared.history.Correction.{Correction}
 use Rattle.desk_book.specs.declared.history.KeptEntry.{KeptEntry}
 use Rattle.desk_book.specs.declared.history.KeptEntry.TheVariants.{Corrects as KeptCorrects, Undoes as KeptUndoes}
 use Rattle.desk_book.specs.Book.{Replacement, Entry, Undoes}
-use Rattle.desk_book.specs.Histories.{IsInForce, entries_kept, entry_kept, replacement_kept}
+use Rattle.desk_book.specs.Histories.{IsNewestInForce, entries_kept, entry_kept, replacement_kept}
 use Rattle.desk_book.specs.Print.{newest, stack}
 use Rattle.desk_book.specs.Sound.{AreSoundEntries}
 use Rattle.desk_book.proofs.HistoryLists.{AreSoundEntries-take, IsLast-parts, newest-parts, newest-push, slice_get-below, stack-before, stack-corrected, stack-undone, take-more}
@@ -24,8 +24,8 @@ module _ (entries : List KeptEntry) (original : List ℕ) (sound : AreSoundEntri
       let next : suc (count - 1) ≡ count = omega arith in
       ap (λ (k : ℕ). take k h) (sym next) ∙ take-more h (count - 1) (entry_kept e) (at-kept (count - 1) e at)
 
-  pub IsInForce-found : (count : ℕ) (c : Correction) → 0 < count → slice_get entries (count - 1) ≡ Some (KeptCorrects c) → stack (take count h) ≡ stack h → IsInForce entries count c
-  IsInForce-found count c some at same =
+  pub IsNewestInForce-found : (count : ℕ) (c : Correction) → 0 < count → slice_get entries (count - 1) ≡ Some (KeptCorrects c) → stack (take count h) ≡ stack h → IsNewestInForce entries count c
+  IsNewestInForce-found count c some at same =
       let front = take (count - 1) h in
       let within = slice_get-below h (count - 1) (entry_kept (KeptCorrects c)) (at-kept (count - 1) (KeptCorrects c) at) in
       let long : length front ≡ count - 1 = length-take-le (count - 1) h (omega arith) in

@@ -1,9 +1,9 @@
 -- What is found among kept tables and paragraphs, against what the book that they stand for has.
-use Rattle.std.proofs.Common.{◌≡◌, ℕ, List, map, length, get_or, Option, Some, None, Result, Ok, Err, refl, ap, subst, ◌∙◌}
+use Rattle.std.proofs.Common.{◌≡◌, ℕ, List, map, length, get_or, Option, Some, None, Contains, Result, Ok, Err, refl, ap, subst, ◌∙◌}
 use Rattle.std.specs.Cmp.Lexicographic.{pointwise}
 use Rattle.std.specs.Map.{lookup}
 use Rattle.std.specs.Option.{ok_or}
-use Rattle.std.specs.Prelude.{nat_eq, option_map, slice_get, IfErr, IfOk, IfSome}
+use Rattle.std.specs.Prelude.{nat_eq, option_map, slice_get, IfErr, IfOk, IfSome, IsSome}
 use Rattle.std.proofs.lemmas.List.Elements.{Contains-get_or}
 use Rattle.std.proofs.lemmas.List.{length-map}
 use Rattle.std.proofs.lemmas.Option.{get_or_from_slice_get, slice_get-map, slice_get_within}
@@ -12,14 +12,15 @@ use Rattle.louis_table.specs.Table.{Means}
 use Rattle.desk_book.specs.declared.marks.KeptMark.{KeptMark}
 use Rattle.desk_book.specs.declared.paragraphs.Paragraph.{Paragraph as KeptParagraph}
 use Rattle.desk_book.specs.declared.tables.BookTable.{BookTable}
-use Rattle.desk_book.specs.Book.{Book, paragraph_of, text_of}
+use Rattle.desk_book.specs.Book.{Book, Paragraph, paragraph_of, text_of}
 use Rattle.desk_book.specs.Kept.{KeptTables, KeptParagraphs, IsKept, IsKeptParagraph, book_kept, ids, paragraph_kept}
 use Rattle.desk_book.specs.Print.{print_of}
 use Rattle.desk_book.specs.Sound.{IsSound}
-use Rattle.desk_book.specs.Planned.{IsKeptFor, IsTableFor}
+use Rattle.desk_book.specs.Planned.{AreThere, IsKeptFor, IsTableFor}
 use Rattle.desk_book.proofs.KeptBooks.{All-found, found-kept, lookup-map}
 use Rattle.desk_book.proofs.OrderLists.{ids_of-kept}
-use Rattle.desk_book.proofs.ParagraphLists.{ids_of}
+use Rattle.desk_book.proofs.Members.{Contains-map}
+use Rattle.desk_book.proofs.ParagraphLists.{Contains-found, id-found, ids_of}
 use Rattle.desk_book.proofs.SoundBooks.{paragraph_of-own}
 
 -- ---- what `ok_or` gives
@@ -58,6 +59,17 @@ module _ (version : ℕ) (tables : KeptTables) (kept : KeptParagraphs) (marks : 
 
   pub count-paragraphs : length book.paragraphs ≡ length kept
   count-paragraphs = rw (← is) (length-map kept paragraph_kept)
+
+  -- paragraphs that are there stand in the order
+  pub Contains-there : (named : List ℕ) → AreThere book named → (id : ℕ) → Contains named id → Contains (ids kept) id
+  Contains-there named there id c = by (paragraph_of book id) refl (there id c)
+    where
+      by : (o : Option Paragraph) → paragraph_of book id ≡ o → IsSome o → Contains (ids kept) id
+      by None e some = absurd (cc)
+      by (Some p) e some =
+          subst (λ (list : List ℕ). Contains list id) ids_of-book
+          (subst (Contains (ids_of book.paragraphs)) (id-found id book.paragraphs p e)
+          (Contains-map (λ (q : Paragraph). q.id) book.paragraphs p (Contains-found id book.paragraphs p e)))
 
   pub count-tables : length book.tables ≡ length tables
   count-tables = rw (← is) (length-map tables (λ (entry : List ℕ × BookTable). (entry.0, entry.1.text)))

@@ -21,12 +21,14 @@ pub mod Members
 pub mod NewParagraphs
 pub mod Numbering
 pub mod OrderLists
+pub mod OrderPlaces
 pub mod ParagraphLists
 pub mod ParagraphMarkLists
 pub mod PieceLists
 pub mod Planning
 pub mod Renewing
 pub mod Replacing
+pub mod RoomLists
 pub mod Settled
 pub mod SoundBooks
 pub mod SoundEntries

@@ -1,24 +1,14 @@
 -- Paragraphs whose cells are made anew.
 use Rattle.std.proofs.Common.{◌≡◌, ℕ, zero, suc, ◌+◌, ◌-◌, ◌≤◌, List, [], ◌∷◌, ◌++◌, map, length, set, take, drop, slice_get, Option, Some, None, MatchOption, option_map, option_and_then, IsPermutation, flat_map, refl, sym, ap, ◌∙◌, arith}
 use Rattle.std.specs.List.{range_with_len}
-use Rattle.std.specs.Option.{option_flatten, option_map_or}
+use Rattle.std.specs.Option.{option_flatten}
 use Rattle.std.specs.Vec.Iter.{into_iter_items, into_iter_steps}
 use Rattle.std.specs.declared.vec.IntoIter.{IntoIter}
 use Rattle.std.proofs.lemmas.List.{nil_from_length}
 use Rattle.std.proofs.lemmas.Option.{none-some, same_Some}
-use Rattle.desk_book.specs.Kept.{new_cells, numbered, renewed}
+use Rattle.desk_book.specs.Kept.{new_cells, numbered, renewed, renewed_items, with_cells}
 use Rattle.desk_book.specs.declared.paragraphs.Paragraph.{Paragraph as KeptParagraph}
 use Rattle.desk_book.proofs.Arranging.{IsUpTo, entry_of, map-in_order, numbered-there}
-
--- the paragraph with these cells, where there are any
-abbrev pub with_cells : Option (List ℕ) → KeptParagraph → KeptParagraph
-with_cells new kept = option_map_or (λ cells. record kept { cells = cells }) new kept
-
--- paragraphs in the order of their ids, each with its new cells
-abbrev pub renewed_items : List (Option (List ℕ)) → List KeptParagraph → List KeptParagraph
-renewed_items cells [] = []
-renewed_items [] (kept ∷ items) = kept ∷ items
-renewed_items (new ∷ cells) (kept ∷ items) = with_cells new kept ∷ renewed_items cells items
 
 pub length-renewed_items : (cells : List (Option (List ℕ))) (items : List KeptParagraph) → length (renewed_items cells items) ≡ length items
 length-renewed_items cells [] = refl

@@ -1,12 +1,12 @@
 -- What an effect makes of a book as it is kept.
-use Rattle.std.proofs.Common.{◌≡◌, ℕ, ◌+◌, ◌<◌, Bool, true, false, cond, List, [], ◌∷◌, ◌++◌, length, map, take, Option, Some, None, Ordering, Contains, refl, sym, ap, subst, ◌∙◌, arith, inl, inr}
+use Rattle.std.proofs.Common.{◌≡◌, ℕ, ◌+◌, ◌<◌, ◌≤◌, ◌^◌, Bool, true, false, cond, List, [], ◌∷◌, ◌++◌, length, map, take, Option, Some, None, Ordering, Contains, refl, sym, ap, subst, ◌∙◌, arith, inl, inr}
 use Rattle.std.specs.Prelude.{slice_get, nat_eq, ◌≢◌, ◌==◌, option_map, option_to_list, IsSome, MatchOption}
 use Rattle.std.specs.Option.{option_map_or}
 use Rattle.std.specs.Cmp.{unsigned_ties, unsigned_Decides}
 use Rattle.std.specs.Cmp.Lexicographic.{pointwise, pointwise_decides, slice_cmp, lists_ties}
 use Rattle.std.specs.FinMap.{slice_cmp-IsAntisymmetric, nat_cmp-IsAntisymmetric}
 use Rattle.std.specs.FinMap.Entries.{put, by_order}
-use Rattle.std.specs.List.{All, range_with_len}
+use Rattle.std.specs.List.{All, insert, range_with_len}
 use Rattle.std.specs.List.Sorted.{IsPermutation}
 use Rattle.std.specs.Map.{lookup}
 use Rattle.std.specs.Ordering.{nat_cmp}
@@ -22,7 +22,6 @@ use Rattle.louis_table.specs.Table.{Means}
 use Rattle.louis_table.proofs.OneMeaning.{one_meaning}
 use Rattle.louis_translate.specs.Tiling.{Tiles}
 use Rattle.louis_translate.specs.Braille.{braille}
-use Rattle.desk_book.specs.declared.change.Change.{Change}
 use Rattle.desk_book.specs.declared.change.Effect.{Effect}
 use Rattle.desk_book.specs.declared.change.PrintChange.{PrintChange}
 use Rattle.desk_book.specs.declared.history.KeptEntry.{KeptEntry}
@@ -35,17 +34,17 @@ use Rattle.desk_book.specs.declared.paragraphs.Paragraph.{Paragraph as KeptParag
 use Rattle.desk_book.specs.declared.style.Style.{Style}
 use Rattle.desk_book.specs.declared.tables.BookTable.{BookTable}
 use Rattle.desk_book.specs.Book.{Book, Entry, Mark, Paragraph, text_of}
-use Rattle.desk_book.specs.Changes.{ChangesPrint, AreCellsOf, AreRenewed, AreCellsByTable, Carries, IsKeptTyped, Does, Puts}
+use Rattle.desk_book.specs.Changes.{ChangesPrint, AreCellsOf, AreRenewed, AreCellsByTable, Carries, Change, IsKeptTyped, Does, IsEffect}
 use Rattle.desk_book.specs.Histories.{HaveTaken, TookFrom, entries_kept, entry_kept}
 use Rattle.desk_book.specs.KeptMarks.{AreWithin, with_kept_moved}
 use Rattle.desk_book.specs.KeptPrints.{HasRoomFor, with_print_changed}
-use Rattle.desk_book.specs.Limits.{most_entries}
+use Rattle.desk_book.specs.Limits.{most_entries, most_paragraphs}
 use Rattle.desk_book.specs.Marks.{mark_moved_by}
 use Rattle.desk_book.specs.Room.{Suffices}
 use Rattle.desk_book.proofs.Arranging.{slice_get-append_left, slice_get-push}
 use Rattle.desk_book.proofs.HistoryLists.{slice_get-below}
 use Rattle.desk_book.proofs.MarkSettled.{AreWithin-sound, marks-moved}
-use Rattle.desk_book.specs.Kept.{KeptTables, KeptParagraphs, with_table, arranged, in_order, new_cells, renewed, with_kept_change, marks_kept, paragraph_kept, book_kept, IsKeptParagraph, IsKept}
+use Rattle.desk_book.specs.Kept.{KeptTables, KeptParagraphs, with_table, arranged, ids, in_order, new_cells, renewed, with_kept_change, marks_kept, paragraph_kept, book_kept, IsKeptParagraph, IsKept}
 use Rattle.desk_book.specs.Print.{corrected, print_of, with_entry}
 use Rattle.desk_book.specs.Refusals.{IsAccepted, paragraph_before}
 use Rattle.desk_book.specs.Sound.{IsSound}
@@ -53,6 +52,7 @@ use Rattle.desk_book.specs.Step.{Makes, typed, next_id, next_with_marks, next_wi
 use Rattle.desk_book.proofs.KeptBooks.{lookup-map, found-kept, All-found, All-from_map, means-kept}
 use Rattle.desk_book.proofs.Accepted.{named_paragraph}
 use Rattle.desk_book.proofs.Members.{Contains-here, Contains-behind, Contains-map}
+use Rattle.desk_book.proofs.OrderLists.{ids_of-kept}
 use Rattle.desk_book.proofs.ParagraphLists.{ids_of, AreApart, found, AreApart-permutation, id-found, Contains-found, found-own, IsPermutation-with_paragraph, IsPermutation-with_move}
 use Rattle.desk_book.proofs.SoundBooks.{paragraphs-apart}
 use Rattle.desk_book.proofs.SoundSteps.{IsSound-makes}
@@ -177,15 +177,18 @@ HaveTaken-push original entries entry taken last i e at =
 -- ---- books
 
 -- what a change carries is put by its effect
-pub Puts-carried : (book : Book) (command : Command) (next : Book) (change : Change) (effect : Effect) → change.effect ≡ effect → Carries book command next change → Puts book change.version effect next
-Puts-carried book command next change effect is carries = record {
-  command = command;
-  accepted = carries.accepted;
-  written = carries.written;
-  makes = carries.makes;
-  at = carries.version;
-  does = subst (Does book command next) is carries.does;
-}
+pub IsEffect-carried : (book : Book) (command : Command) (next : Book) (version : ℕ) (number : Option ℕ) (kept effect : Effect) (change : Change)
+    → ◌≡◌ {A = Change} (record { version = version; number = number; effect = kept }) change → kept ≡ effect → Carries book command next change → IsEffect book version effect next
+IsEffect-carried book command next version number kept effect change shown is carries =
+    let here : Carries book command next (record { version = version; number = number; effect = kept }) = subst (Carries book command next) (sym shown) carries in
+    record {
+      command = command;
+      accepted = here.accepted;
+      written = here.written;
+      makes = here.makes;
+      at = here.version;
+      does = subst (Does book command next) is here.does;
+    }
 
 abbrev plain : ℕ → List (List ℕ × List ℕ) → List Paragraph → List Mark → Book
 plain version tables paragraphs marks = record { version = version; tables = tables; paragraphs = paragraphs; marks = marks }
@@ -201,7 +204,7 @@ module _ (version : ℕ) (tables : KeptTables) (paragraphs : KeptParagraphs) (ma
   before = map paragraph_kept paragraphs
 
   -- what is put makes a sound book of a sound one
-  pub sound-next : IsKept version tables paragraphs marks → (next : Book) (w : ℕ) (effect : Effect) → Puts book w effect next → IsSound next
+  pub sound-next : IsKept version tables paragraphs marks → (next : Book) (w : ℕ) (effect : Effect) → IsEffect book w effect next → IsSound next
   sound-next is next w effect puts = IsSound-makes book next None puts.command is.sound puts.accepted puts.written puts.makes
 
   -- a book with other tables
@@ -222,7 +225,7 @@ module _ (version : ℕ) (tables : KeptTables) (paragraphs : KeptParagraphs) (ma
 
   -- ---- a new table
 
-  module _ (next : Book) (w : ℕ) (name : List ℕ) (table : BookTable) (room : ℕ) (puts : Puts book w (AddTable name table room) next) where
+  module _ (next : Book) (w : ℕ) (name : List ℕ) (table : BookTable) (room : ℕ) (puts : IsEffect book w (AddTable name table room) next) where
     pub room-added : length tables < room
     room-added = let within : length (texts tables) < room = puts.does.2 in let many : length (texts tables) ≡ length tables = length-map tables (λ entry. (entry.0, entry.1.text)) in omega arith
 
@@ -335,6 +338,25 @@ module _ (version : ℕ) (tables : KeptTables) (paragraphs : KeptParagraphs) (ma
       }
 
   -- ---- a new paragraph
+
+  count-before : length before ≡ length paragraphs
+  count-before = length-map paragraphs paragraph_kept
+
+  -- the order that the change gives, as it is kept
+  pub order-placed : (next : Book) (place : ℕ) → insert (ids_of before) place (next_id book) ≡ ids_of next.paragraphs
+      → insert (ids paragraphs) place (length paragraphs + 1) ≡ ids_of next.paragraphs
+  order-placed next place is =
+      ap (λ (order : List ℕ). insert order place (length paragraphs + 1)) (sym (ids_of-kept paragraphs))
+      ∙ (ap (λ (n : ℕ). insert (ids_of before) place (n + 1)) (sym count-before) ∙ is)
+
+  pub few-placed : length before < most_paragraphs → length paragraphs + 1 < 2 ^ 32
+  few-placed few = let count = count-before in omega arith
+
+  pub room-placed : (room : Option ℕ) → Suffices (length before) room → Suffices (length paragraphs) room
+  room-placed room = subst (λ (n : ℕ). Suffices n room) count-before
+
+  pub within-placed : (place : ℕ) → place ≤ length before → place ≤ length paragraphs
+  within-placed place within = let count = count-before in omega arith
 
   module _ (next : Book) (w : ℕ) (anchor : Anchor) (text order : List ℕ) (kept : KeptParagraph) (at : w ≡ next.version)
       (accepted : IsAccepted book None (TypeIn anchor kept.table text)) (makes : Makes book (TypeIn anchor kept.table text) next)

@@ -18,7 +18,7 @@ use Rattle.desk_book.specs.declared.refusal.Refusal.TheVariants.{NothingToUndo}
 use Rattle.desk_book.specs.Book.{Book, Corrects, Entry, Undoes, Paragraph, Replacement, paragraph_of}
 use Rattle.desk_book.specs.Changes.{Does}
 use Rattle.desk_book.specs.Corrected.{HaltsEntry, IsEntered, IsUnfit, replaced_by}
-use Rattle.desk_book.specs.Histories.{IsInForce, TookFrom, entries_kept, entry_kept, replacement_kept}
+use Rattle.desk_book.specs.Histories.{IsNewestInForce, TookFrom, entries_kept, entry_kept, replacement_kept}
 use Rattle.desk_book.specs.Judging.{Passes}
 use Rattle.desk_book.specs.Limits.{most_print}
 use Rattle.desk_book.specs.Marks.{mark_moved_back, mark_moved_by}
@@ -66,7 +66,7 @@ module _ (book : Book) (id : ℕ) where
     nothing_here told none is =
         turned_down book command 100 NothingToUndo told fit refl (record { paragraph = p; found = shown.found; none = ap newest history_is ∙ none }) is
 
-    module _ (number : ℕ) (c : Correction) (force : IsInForce kept.history number c) where
+    module _ (number : ℕ) (c : Correction) (force : IsNewestInForce kept.history number c) where
       abbrev r : Replacement
       r = replacement_kept c
 

@@ -26,5 +26,6 @@ RestoresPrint-undo book next id sound (n, r, is, e) =
       at = last.at;
       later = with_entry (Undoes n) p;
       found_later = ap (λ (b : Book). found id b.paragraphs) e ∙ found-changed id (with_entry (Undoes n)) (λ q. refl) book.paragraphs p is.found;
+      entry = refl;
       print = corrected-before p.original p.history s.history.entries n r is.newest_is;
     }

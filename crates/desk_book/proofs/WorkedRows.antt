@@ -1,9 +1,14 @@
--- Histories and marks worked by the definitions alone: they say what these rows say, and not only what the code does.
-use Rattle.std.proofs.Common.{◌≡◌, ℕ, Bool, true, false, List, [], ◌∷◌, ◌++◌, refl}
+-- Histories, marks and the order of refusals worked by the definitions alone: they say what these rows say, and not only what the code does.
+use Rattle.std.proofs.Common.{◌≡◌, ℕ, Bool, true, false, List, [], ◌∷◌, ◌++◌, map, refl}
 use Rattle.std.specs.Prelude.{Some, None}
+use Rattle.louis_table.specs.declared.fault.TableFault.{TableFault}
+use Rattle.desk_book.specs.declared.refusal.Limit.TheVariants.{Tables, Paragraphs, Entries, Marks, Version}
+use Rattle.desk_book.specs.declared.refusal.Refusal.{Refusal}
+use Rattle.desk_book.specs.declared.refusal.Refusal.TheVariants.{Moved, BadName, BadReader, BadText, NoParagraph, NoTable, NoMark, Struck, NotStruck, Resolved, BadSpan, NothingToUndo, TooLong, Full, BadTable, Undefined, Untranslatable, NoMemory}
 use Rattle.desk_book.specs.Book.{Replacement, Entry, Corrects, Undoes, Mark}
 use Rattle.desk_book.specs.Print.{corrected, newest, stack}
 use Rattle.desk_book.specs.Marks.{mark_moved, mark_moved_back}
+use Rattle.desk_book.specs.Refusals.{code_of, turn}
 
 -- `The cat`
 abbrev the_cat : List ℕ
@@ -22,18 +27,18 @@ the-cat-again = refl
 nothing-to-undo : newest (Corrects dog [] ∷ Undoes 1 ∷ []) ≡ None
 nothing-to-undo = refl
 
--- correct, undo, correct, correct, undo: the third correction is taken back, and the second is in force
+-- correct, undo, correct, correct, undo: entry 4 is taken back, and entry 3 is in force
 abbrev s_put : Replacement
 s_put = record { start = 7; count = 0; text = 115 ∷ [] }
 
 abbrev the_s_put : List Entry
 the_s_put = Corrects dog [] ∷ Undoes 1 ∷ Corrects s_put [] ∷ Corrects dog [] ∷ []
 
-third-in-force : newest the_s_put ≡ Some (4, dog)
-third-in-force = refl
+fourth-in-force : newest the_s_put ≡ Some (4, dog)
+fourth-in-force = refl
 
-second-in-force : stack (the_s_put ++ Undoes 4 ∷ []) ≡ (3, s_put) ∷ []
-second-in-force = refl
+third-in-force : stack (the_s_put ++ Undoes 4 ∷ []) ≡ (3, s_put) ∷ []
+third-in-force = refl
 
 the-cats : corrected the_cat (the_s_put ++ Undoes 4 ∷ []) ≡ the_cat ++ 115 ∷ []
 the-cats = refl
@@ -68,3 +73,38 @@ around-it = refl
 -- taken back, what comes again stands behind the empty mark
 came-again : mark_moved_back (put 0 9 []) (look 0 0 true) ≡ look 0 0 true
 came-again = refl
+
+-- six marks at the edges of a replacement of `[2, 4)` by one character: ending at its start, over its start, on the same
+-- places, over its end, beginning at its end, and around it
+at-the-edges : map (mark_moved (put 2 2 (98 ∷ []))) (look 0 2 false ∷ look 1 3 false ∷ look 2 4 false ∷ look 3 5 false ∷ look 4 6 false ∷ look 0 6 false ∷ [])
+    ≡ look 0 2 false ∷ look 1 3 true ∷ look 2 3 true ∷ look 2 4 true ∷ look 3 5 false ∷ look 0 5 true ∷ []
+at-the-edges = refl
+
+-- and after it is taken back: what came again belongs to the marks that were touched, so the second and the fourth are
+-- longer than at first
+at-the-edges-again : map (mark_moved_back (put 2 2 (98 ∷ []))) (look 0 2 false ∷ look 1 3 true ∷ look 2 3 true ∷ look 2 4 true ∷ look 3 5 false ∷ look 0 5 true ∷ [])
+    ≡ look 0 2 false ∷ look 1 4 true ∷ look 2 4 true ∷ look 2 5 true ∷ look 4 6 false ∷ look 0 6 true ∷ []
+at-the-edges-again = refl
+
+-- an empty mark stays before what comes at its place, and is touched only from both sides
+empty-mark : map (λ r. mark_moved r (look 1 1 false)) (put 1 0 (99 ∷ []) ∷ put 0 1 (98 ∷ 98 ∷ []) ∷ put 1 1 [] ∷ put 0 2 [] ∷ [])
+    ≡ look 1 1 false ∷ look 2 2 false ∷ look 1 1 false ∷ look 0 0 true ∷ []
+empty-mark = refl
+
+-- ---- refusals
+
+abbrev fault : TableFault
+fault = record { line = 1; cause = 1 }
+
+-- the refusals in the order in which they are told
+abbrev refusals : List Refusal
+refusals =
+    Moved 0 ∷ BadName ∷ BadReader ∷ BadText 0 ∷ NoParagraph ∷ NoTable ∷ NoMark ∷ Struck ∷ NotStruck ∷ Resolved ∷ BadSpan ∷ NothingToUndo
+    ∷ TooLong ∷ Full Tables ∷ Full Paragraphs ∷ Full Entries ∷ Full Marks ∷ Full Version ∷ BadTable fault ∷ Undefined 0
+    ∷ Untranslatable 0 0 ∷ NoMemory ∷ []
+
+codes-in-turn : map code_of refusals ≡ 16 ∷ 17 ∷ 18 ∷ 6 ∷ 2 ∷ 3 ∷ 4 ∷ 11 ∷ 12 ∷ 13 ∷ 5 ∷ 10 ∷ 14 ∷ 15 ∷ 15 ∷ 15 ∷ 15 ∷ 15 ∷ 8 ∷ 7 ∷ 9 ∷ 90 ∷ []
+codes-in-turn = refl
+
+turns-rise : map turn refusals ≡ 0 ∷ 10 ∷ 15 ∷ 20 ∷ 30 ∷ 40 ∷ 50 ∷ 60 ∷ 70 ∷ 80 ∷ 90 ∷ 100 ∷ 110 ∷ 120 ∷ 130 ∷ 140 ∷ 150 ∷ 160 ∷ 170 ∷ 180 ∷ 190 ∷ 200 ∷ []
+turns-rise = refl

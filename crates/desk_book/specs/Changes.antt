@@ -1,6 +1,6 @@
--- What a change has in it, so that nothing is left to be asked for when it is put into its book.
+-- What a change does, and what it has in it, so that nothing is left to be asked for when it is put into its book.
 use Rattle.std.specs.Prelude.{◌≡◌, ◌≢◌, ℕ, ◌+◌, ◌<◌, ◌≤◌, List, [], ◌∷◌, ◌++◌, length, map, Option, Some, None, IsSome, MatchOption}
-use Rattle.std.specs.List.{All}
+use Rattle.std.specs.List.{All, insert}
 use Rattle.louis_table.specs.Meaning.{Meaning}
 use Rattle.louis_table.specs.Table.{Means}
 use Rattle.louis_translate.specs.declared.choices.Choice.{Choice}
@@ -8,7 +8,6 @@ use Rattle.louis_translate.specs.Tiling.{Tiles}
 use Rattle.louis_translate.specs.Braille.{braille}
 use Rattle.desk_book.specs.declared.change.Effect.{Effect}
 use Rattle.desk_book.specs.declared.change.Effect.TheVariants.{AddTable, ReplaceTable, AddParagraph, ChangePrint, AddMark, ResolveMark, SetFlags, ChangeTable, Reorder}
-use Rattle.desk_book.specs.declared.change.Change.{Change}
 use Rattle.desk_book.specs.declared.change.PrintChange.{PrintChange}
 use Rattle.desk_book.specs.declared.command.Anchor.{Anchor}
 use Rattle.desk_book.specs.declared.command.Command.{Command}
@@ -17,7 +16,7 @@ use Rattle.desk_book.specs.declared.paragraphs.Paragraph.{Paragraph as KeptParag
 use Rattle.desk_book.specs.Book.{Book, Paragraph, text_of, paragraph_of}
 use Rattle.desk_book.specs.Histories.{HaveTaken, TookFrom, entry_kept}
 use Rattle.desk_book.specs.Kept.{mark_kept, new_cells, paragraph_kept}
-use Rattle.desk_book.specs.Limits.{most_entries, most_marks, most_print}
+use Rattle.desk_book.specs.Limits.{most_entries, most_marks, most_paragraphs, most_print}
 use Rattle.desk_book.specs.Marks.{mark_moved_by}
 use Rattle.desk_book.specs.Print.{print_of, with_entry}
 use Rattle.desk_book.specs.Refusals.{IsAccepted}
@@ -75,6 +74,19 @@ pub record ChangesPrint (book next : Book) (id : ℕ) (change : PrintChange) : T
   pub within : change.start + change.removed ≤ most_print
   pub short : change.added ≤ most_print
 
+-- the change adds a paragraph that was just typed by the command, with room for it and for its id, at its place in the
+-- order
+pub record AddsParagraph (book next : Book) (command : Command) (kept : KeptParagraph) (room order_room : Option ℕ) (place : ℕ) : Type 0 where
+  pub anchor : Anchor
+  pub text : List ℕ
+  pub command_is : command ≡ TypeIn anchor kept.table text
+  pub typed_is : IsKeptTyped book kept.table text kept
+  pub few : length book.paragraphs < most_paragraphs
+  pub room_is : Suffices (length book.paragraphs) room
+  pub order_room_is : Suffices (length book.paragraphs) order_room
+  pub within : place ≤ length book.paragraphs
+  pub order : insert (map (λ other. other.id) book.paragraphs) place (next_id book) ≡ map (λ other. other.id) next.paragraphs
+
 -- the effect makes the next book by the command, with room for all that it adds
 abbrev pub Does : Book → Command → Book → Effect → Type 0
 Does book command next (AddTable name table room) =
@@ -82,10 +94,8 @@ Does book command next (AddTable name table room) =
 Does book command next (ReplaceTable name table cells) =
     (command ≡ Table name table.text) × IsSome (text_of book name) × Means table.text table.rules
     × AreRenewed book name table.rules cells.items
-Does book command next (AddParagraph paragraph room order) =
-    (anchor : Anchor) × (text : List ℕ) × (command ≡ TypeIn anchor paragraph.table text)
-    × IsKeptTyped book paragraph.table text paragraph × (length book.paragraphs < room)
-    × (order ≡ map (λ other. other.id) next.paragraphs)
+Does book command next (AddParagraph paragraph room order_room place) =
+    AddsParagraph book next command paragraph room order_room place
 Does book command next (ChangePrint id change) = ChangesPrint book next id change
 Does book command next (AddMark mark room) =
     (next ≡ next_with_marks book (book.marks ++ mark_kept (next_mark book, mark) ∷ [])) × Suffices (length book.marks) room
@@ -98,6 +108,12 @@ Does book command next (ChangeTable id table cells) = (command ≡ Retable id ta
 Does book command next (Reorder order) =
     (id : ℕ) × (anchor : Anchor) × (command ≡ Move id anchor) × (order ≡ map (λ other. other.id) next.paragraphs)
 
+-- a change as its callers see it: the version that it gives its book, the number that the command answers, and what it does
+pub record Change : Type 0 where
+  pub version : ℕ
+  pub number : Option ℕ
+  pub effect : Effect
+
 -- the change makes the next book of this one by the command, which is accepted
 pub record Carries (book : Book) (command : Command) (next : Book) (change : Change) : Type 0 where
   pub accepted : IsAccepted book None command
@@ -108,7 +124,7 @@ pub record Carries (book : Book) (command : Command) (next : Book) (change : Cha
   pub does : Does book command next change.effect
 
 -- some accepted command makes the next book of this one, at the version given, by the effect
-pub record Puts (book : Book) (version : ℕ) (effect : Effect) (next : Book) : Type 0 where
+pub record IsEffect (book : Book) (version : ℕ) (effect : Effect) (next : Book) : Type 0 where
   pub command : Command
   pub accepted : IsAccepted book None command
   pub written : HasCharacters command

@@ -29,7 +29,7 @@ HaveTaken original entries =
     (i : ℕ) (entry : KeptEntry) → slice_get entries i ≡ Some entry → TookFrom (corrected original (entries_kept (take i entries))) entry
 
 -- of the corrections in force this is the newest, with its number
-pub record IsInForce (entries : List KeptEntry) (number : ℕ) (correction : Correction) : Type 0 where
+pub record IsNewestInForce (entries : List KeptEntry) (number : ℕ) (correction : Correction) : Type 0 where
   pub newest_is : newest (entries_kept entries) ≡ Some (number, replacement_kept correction)
   pub positive : 0 < number
   pub at : slice_get entries (number - 1) ≡ Some (KeptCorrects correction)

@@ -70,6 +70,16 @@ new_cells cells id = option_and_then (λ found. found) (slice_get cells (id - 1)
 abbrev pub renewed : List (Option (List ℕ)) → ℕ × KeptParagraph → ℕ × KeptParagraph
 renewed cells (id, kept) = (id, option_map_or (λ new. record kept { cells = new }) (new_cells cells id) kept)
 
+-- the kept paragraph with these cells, where there are any
+abbrev pub with_cells : Option (List ℕ) → KeptParagraph → KeptParagraph
+with_cells new kept = option_map_or (λ cells. record kept { cells = cells }) new kept
+
+-- the kept paragraphs in the order of their ids, each with its new cells, where it has any
+abbrev pub renewed_items : List (Option (List ℕ)) → List KeptParagraph → List KeptParagraph
+renewed_items cells [] = []
+renewed_items [] (kept ∷ items) = kept ∷ items
+renewed_items (new ∷ cells) (kept ∷ items) = with_cells new kept ∷ renewed_items cells items
+
 -- the paragraphs with a change of the one with this id
 abbrev pub with_kept_change : ℕ → (KeptParagraph → KeptParagraph) → KeptParagraphs → KeptParagraphs
 with_kept_change id change kept = map (λ entry. if entry.0 == id then (entry.0, change entry.1) else entry) kept

@@ -2,8 +2,9 @@
 use Rattle.std.specs.Prelude.{ℕ, ◌+◌, ◌-◌, nat_le, true, if◌then◌else◌, length, min, max}
 use Rattle.desk_book.specs.Book.{Replacement, Mark}
 
--- the mark after so many characters from a place on gave way to others: a mark before them stays; one behind them
--- moves with the print behind them; any other then covers what it covered and all that came, and is touched for good
+-- the mark after so many characters from a place on gave way to others, by the first of these that applies: a mark that
+-- ends at their start or before it stays; one that begins at their end or after it moves with the print; any other then
+-- covers what it covered and all that came, and is touched for good
 abbrev pub mark_moved_by : (start removed added : ℕ) → Mark → Mark
 mark_moved_by start removed added mark =
     if nat_le mark.end start then mark

@@ -429,8 +429,8 @@ pub record IsUndefined (book : Book) (command : Command) (place : ℕ) : Type 0 
   pub means : Means text meaning
   pub first : IsFirstUndefined meaning print place
 
--- by its new text the table doesn't define the print of a paragraph that uses it: the first such paragraph, and the
--- first place
+-- by its new text the table doesn't define the print of a paragraph that uses it, which none does with a table that isn't
+-- there yet: the first such paragraph, and the first place
 pub record IsUntranslatable (book : Book) (command : Command) (id place : ℕ) : Type 0 where
   pub name : List ℕ
   pub text : List ℕ

@@ -13,7 +13,8 @@ use std::alloc::{AllocError, Global};
 use std::marker::Model;
 
 /// A book: its tables, its paragraphs with their prints and their braille, its marks, and its version, which each command
-/// raises by one. Contracts see what was typed; that the cells are those of the prints is true of every book.
+/// raises by one. Contracts see what was typed, corrected and marked; that it is sound, and that the cells are those of the
+/// prints, is true of every book.
 #[derive(Drop)]
 pub struct Book {
     pub(crate) version: u64,

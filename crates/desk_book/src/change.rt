@@ -4,12 +4,13 @@ ghost use Rattle.std.specs.Prelude.{◌≡◌};
 use super::history::KeptEntry;
 use super::items::Room;
 use super::marks::KeptMark;
-use super::paragraphs::{Order, Paragraph, ParagraphsRoom};
+use super::paragraphs::{Order, Paragraph};
 use super::style::Style;
 use super::tables::{BookTable, TablesRoom};
 use super::text::Text;
 use cell_core::Cells;
 use louis_table::Characters;
+use std::marker::Model;
 
 /// What a correction or an undo changes in a paragraph.
 #[derive(Drop)]
@@ -56,9 +57,11 @@ pub(crate) enum Effect {
         /// The paragraph.
         paragraph: Paragraph,
         /// Room for it beside the others.
-        room: ParagraphsRoom,
-        /// The order with it.
-        order: Order,
+        room: Room<Paragraph>,
+        /// Room for its id in their order.
+        order_room: Room<u64>,
+        /// Its place in that order, from 0. Those that stood there and after move on by one.
+        place: usize,
     },
     /// A paragraph gets another print, and its marks move.
     ChangePrint {
@@ -106,7 +109,8 @@ pub(crate) enum Effect {
     },
 }
 
-/// What an accepted command changes in the book on which it was planned.
+/// What an accepted command changes in the book on which it was planned. Contracts see the version that it gives the book,
+/// the number that the command answers, and what it does, by which it carries the command out.
 #[derive(Drop)]
 pub struct Change {
     /// The book's new version.
@@ -115,6 +119,14 @@ pub struct Change {
     pub(crate) number: Option<u64>,
     /// What changes beside the version.
     pub(crate) effect: Effect,
+}
+
+impl Model for Change {
+    ghost use Rattle.desk_book.specs.Changes.{Change};
+
+    ghost Value = { Change };
+
+    ghost view = { λ c. record { version = c.version; number = c.number; effect = c.effect } };
 }
 
 impl Change {

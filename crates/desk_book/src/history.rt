@@ -1,5 +1,5 @@
 //! The histories of paragraphs.
-ghost use Rattle.desk_book.specs.Histories.{entries_kept, IsInForce};
+ghost use Rattle.desk_book.specs.Histories.{entries_kept, IsNewestInForce};
 ghost use Rattle.desk_book.specs.Sound.{AreSoundEntries};
 ghost use Rattle.desk_book.specs.Print.{newest as newest_lem};
 ghost use Rattle.std.specs.Prelude.{◌≡◌, IfNone, IfSome, None};
@@ -12,7 +12,7 @@ use louis_table::Characters;
 pub(crate) struct Correction {
     /// The place at which it begins, from 0.
     pub(crate) start: usize,
-    /// The text that it put in, in normal form C.
+    /// The text that it put in, as it is stored.
     pub(crate) text: Text,
     /// The name of its reader, which may be empty.
     pub(crate) who: Text,
@@ -35,7 +35,7 @@ pub(crate) enum KeptEntry {
 /// the two.
 pub(crate) fn newest(history: &[KeptEntry]) -> Option<(u64, &Correction)>
     requires { (original : _) × AreSoundEntries original (entries_kept history.now) }
-    ensures found { IfSome result (λ found. IsInForce history.now found.0 found.1.now) }
+    ensures found { IfSome result (λ found. IsNewestInForce history.now found.0 found.1.now) }
     ensures none { IfNone result (newest_lem (entries_kept history.now) ≡ None) }
 {
     let mut count = history.len();

@@ -1,6 +1,7 @@
 //! Lists that a planned change makes longer without memory, at a constant cost for each item, taken over all.
 ghost use Rattle.desk_book.specs.Room.{Suffices, grown as grown_lem};
-ghost use Rattle.std.specs.Prelude.{◌≡◌, ◌+◌, ◌<◌, ◌^◌, [], ◌∷◌, ◌++◌, IfOk, length};
+ghost use Rattle.std.specs.List.{insert};
+ghost use Rattle.std.specs.Prelude.{◌≡◌, ◌+◌, ◌<◌, ◌≤◌, ◌^◌, [], ◌∷◌, ◌++◌, IfOk, length};
 
 use std::alloc::{AllocError, Global};
 use std::marker::Model;
@@ -107,5 +108,36 @@ impl<T: Drop> Items<T> {
         items.append(&mut self.items).unwrap();
         items.push(item).unwrap();
         self.items = items;
+    }
+
+    /// The items with one more at a place, before those that stand there and after. It takes no memory.
+    pub(crate) fn inserted(self, room: Room<T>, place: usize, item: T) -> Self
+        requires few { length self + 1 < 2 ^ 32 }
+        requires room { Suffices (length self) room }
+        requires place { place ≤ length self }
+        ensures { result ≡ insert self place item }
+    {
+        let Items {
+            mut items,
+            room: had,
+        } = self;
+        let room_now = grown(had, items.len() + 1);
+        match room.items {
+            None => {
+                items.insert(place, item).unwrap();
+                Items {
+                    items,
+                    room: room_now,
+                }
+            }
+            Some(mut more) => {
+                more.append(&mut items).unwrap();
+                more.insert(place, item).unwrap();
+                Items {
+                    items: more,
+                    room: room_now,
+                }
+            }
+        }
     }
 }

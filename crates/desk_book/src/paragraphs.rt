@@ -1,17 +1,19 @@
 //! The paragraphs of a book.
-ghost use Rattle.desk_book.specs.Kept.{arranged, ids, renewed, with_id, with_id_moved, with_kept_change};
+ghost use Rattle.desk_book.specs.Kept.{arranged, ids, renewed, renewed_items, with_id, with_id_moved, with_kept_change};
 ghost use Rattle.desk_book.specs.KeptPrints.{HasRoomFor, with_print_changed};
+ghost use Rattle.desk_book.specs.Refusals.{paragraph_before};
+ghost use Rattle.desk_book.specs.Room.{Suffices};
 ghost use Rattle.desk_book.specs.Step.{is_behind};
-ghost use Rattle.std.specs.List.{filter, range_with_len};
+ghost use Rattle.std.specs.List.{Contains, filter, insert, position, range_with_len};
 ghost use Rattle.std.specs.List.Sorted.{IsPermutation};
 ghost use Rattle.std.specs.Map.{lookup};
 ghost use Rattle.std.specs.Option.{option_copied, option_map_or};
-ghost use Rattle.std.specs.Prelude.{◌≡◌, ◌+◌, ◌<◌, ◌≤◌, [], ◌∷◌, ◌++◌, IfNone, IfOk, IfSome, OnOk, ◌==◌, length, map, nat_eq, not, option_map, slice_get};
+ghost use Rattle.std.specs.Prelude.{◌≡◌, ◌+◌, ◌<◌, ◌≤◌, ◌^◌, [], ◌∷◌, ◌++◌, ℕ, IfNone, IfOk, IfSome, OnOk, ◌==◌, length, map, nat_eq, not, option_map, slice_get};
 
 use super::change::PrintChange;
 use super::command::Anchor;
 use super::history::KeptEntry;
-use super::items::Items;
+use super::items::{Items, Room};
 use super::style::Style;
 use super::text::Text;
 use cell_core::Cells;
@@ -24,7 +26,7 @@ use std::marker::Model;
 pub(crate) struct Paragraph {
     /// The name of its table.
     pub(crate) table: Text,
-    /// The text as it was typed, in normal form C.
+    /// The text that was typed, as it is stored.
     pub(crate) original: Text,
     /// The corrections and undos of it.
     pub(crate) history: Items<KeptEntry>,
@@ -68,6 +70,16 @@ impl Paragraph {
     }
 }
 
+/// Gives paragraphs, in the order of their ids, new cells, where there are any.
+fn renew(paragraphs: &mut [Paragraph], cells: Vec<Option<Cells>>)
+    ensures { paragraphs.new ≡ renewed_items cells.items paragraphs.old }
+{
+    let mut cells = cells.into_iter();
+    for paragraph in paragraphs.iter_mut() {
+        paragraph.renew(cells.next().flatten());
+    }
+}
+
 /// The ids of paragraphs in an order.
 #[derive(Debug, Drop)]
 pub(crate) struct Order {
@@ -82,53 +94,26 @@ impl Model for Order {
     ghost view = { λ o. o.ids.items };
 }
 
-/// Room for so many paragraphs.
-#[derive(Debug, Drop)]
-pub(crate) struct ParagraphsRoom {
-    items: Vec<Paragraph>,
-}
-
-impl Model for ParagraphsRoom {
-    ghost use Rattle.std.specs.Prelude.{◌≡◌, ℕ, [], vec_capacity};
-
-    ghost Value = { ℕ };
-
-    ghost view = { λ r. vec_capacity r.items };
-
-    ghost invariant = { λ r. r.items.items ≡ [] };
-}
-
-impl ParagraphsRoom {
-    /// Room for at least so many paragraphs.
-    pub(crate) fn new(alloc: Global, count: usize) -> Result<Self, AllocError>
-        ensures { IfOk result (λ room. count ≤ room) }
-    {
-        Ok(ParagraphsRoom {
-            items: Vec::with_capacity(alloc, count)?,
-        })
-    }
-}
-
 /// Paragraphs with the ids 1, 2, .. in the order of their typing, and the order in which they stand.
 #[derive(Drop)]
 pub(crate) struct Paragraphs {
     // the paragraph with id n has index n - 1
-    items: Vec<Paragraph>,
+    items: Items<Paragraph>,
     // the ids as the paragraphs stand
-    order: Vec<u64>,
+    order: Items<u64>,
 }
 
 impl Model for Paragraphs {
     ghost use Rattle.desk_book.specs.Kept.{KeptParagraphs, numbered};
     ghost use Rattle.std.specs.List.{flat_map, range_with_len};
     ghost use Rattle.std.specs.List.Sorted.{IsPermutation};
-    ghost use Rattle.std.specs.Prelude.{vec_len};
+    ghost use Rattle.std.specs.Prelude.{length};
 
     ghost Value = { KeptParagraphs };
 
-    ghost view = { λ p. flat_map (numbered p.items.items) p.order.items };
+    ghost view = { λ p. flat_map (numbered p.items) p.order };
 
-    ghost invariant = { λ p. IsPermutation (range_with_len 1 (vec_len p.items)) p.order.items };
+    ghost invariant = { λ p. IsPermutation (range_with_len 1 (length p.items)) p.order };
 }
 
 /// Puts all ids behind the list, and the new one behind each that is the one given.
@@ -173,6 +158,21 @@ fn without(alloc: Global, ids: &[u64], id: u64) -> Result<Vec<u64>, AllocError>
         .collect(alloc)
 }
 
+/// The place at which an id stands.
+fn place_of(ids: &[u64], id: u64) -> Option<usize>
+    ensures { result ≡ position (λ other. other == id) ids.now }
+{
+    ids.iter().position(|other| *other == id)
+}
+
+/// Puts the ids in the place of those that a list has. It takes no memory.
+fn put_over(ids: &mut Items<u64>, new: &[u64])
+    requires { length new.now ≡ length ids.old }
+    ensures { ids.new ≡ new.now }
+{
+    ids.items.copy_from_slice(new);
+}
+
 /// Whether a paragraph with this id would be put behind itself.
 fn stays_behind(id: u64, after: Anchor) -> bool
     ensures { result ≡ is_behind id after }
@@ -189,8 +189,8 @@ impl Paragraphs {
         ensures { result ≡ [] }
     {
         Paragraphs {
-            items: Vec::new(alloc),
-            order: Vec::new(alloc),
+            items: Items::new(alloc),
+            order: Items::new(alloc),
         }
     }
 
@@ -216,24 +216,49 @@ impl Paragraphs {
         ensures { option_copied result ≡ lookup (nat_eq id) self.now }
     {
         let index = self.index_of(id)?;
-        Some(&self.items[index])
+        self.items.as_slice().get(index)
     }
 
     /// The paragraph at a place of the order, from 0, and its id.
     pub(crate) fn at(&self, place: usize) -> Option<(u64, &Paragraph)>
         ensures { option_map (λ found. (found.0, found.1.now)) result ≡ slice_get self.now place }
     {
-        let id = *self.order.get(place)?;
-        Some((id, &self.items[(id - 1) as usize]))
+        let order = self.order.as_slice();
+        let id = *order.get(place)?;
+        let items = self.items.as_slice();
+        Some((id, &items[(id - 1) as usize]))
     }
 
-    /// The order with the next paragraph put where a command says.
-    pub(crate) fn order_with_next(&self, alloc: Global, after: Anchor) -> Result<Order, AllocError>
-        ensures { IfOk result (λ order. order ≡ with_id after (length self.now + 1) (ids self.now)) }
+    /// What one more paragraph needs: mostly nothing.
+    pub(crate) fn room(&self, alloc: Global) -> Result<Room<Paragraph>, AllocError>
+        requires { length self.now + 1 < 2 ^ 32 }
+        ensures { IfOk result (Suffices (length self.now)) }
     {
-        let new = self.items.len() as u64 + 1;
-        let ids = with_new(alloc, &self.order, new, after)?;
-        Ok(Order { ids })
+        self.items.room(alloc)
+    }
+
+    /// What the order of one more needs: mostly nothing.
+    pub(crate) fn order_room(&self, alloc: Global) -> Result<Room<u64>, AllocError>
+        requires { length self.now + 1 < 2 ^ 32 }
+        ensures { IfOk result (Suffices (length self.now)) }
+    {
+        self.order.room(alloc)
+    }
+
+    /// The place in the order at which a paragraph stands that is put where a command says, after one that is there.
+    pub(crate) fn place_for(&self, after: Anchor) -> usize
+        requires { (id : ℕ) → Contains (paragraph_before after) id → Contains (ids self.now) id }
+        ensures within { result ≤ length self.now }
+        ensures place { (new : ℕ) → insert (ids self.now) result new ≡ with_id after new (ids self.now) }
+    {
+        match after {
+            Anchor::Front => 0,
+            Anchor::End => self.order.len(),
+            Anchor::Para(id) => match place_of(self.order.as_slice(), id) {
+                Some(place) => place + 1,
+                None => unreachable!(),
+            },
+        }
     }
 
     /// The order with a paragraph taken out and put where a command says; behind itself it stays.
@@ -246,29 +271,34 @@ impl Paragraphs {
         ensures { IfOk result (λ order. order ≡ with_id_moved after id (ids self.now)) }
     {
         if stays_behind(id, after) {
-            let ids = Vec::from_slice(alloc, &self.order)?;
+            let ids = Vec::from_slice(alloc, self.order.as_slice())?;
             return Ok(Order { ids });
         }
-        let others = without(alloc, &self.order, id)?;
+        let others = without(alloc, self.order.as_slice(), id)?;
         let ids = with_new(alloc, &others, id, after)?;
         Ok(Order { ids })
     }
 
-    /// These paragraphs and a new one, in the order given. It takes no memory.
-    pub(crate) fn typed(self, paragraph: Paragraph, room: ParagraphsRoom, order: Order) -> Self
-        requires room { length self < room }
-        requires order { IsPermutation (range_with_len 1 (length self + 1)) order }
-        ensures { result ≡ arranged order (self ++ (length self + 1, paragraph) ∷ []) }
+    /// These paragraphs and a new one, which stands at a place of the order. It takes no memory.
+    pub(crate) fn typed(
+        self,
+        paragraph: Paragraph,
+        room: Room<Paragraph>,
+        order_room: Room<u64>,
+        place: usize,
+    ) -> Self
+        requires few { length self + 1 < 2 ^ 32 }
+        requires room { Suffices (length self) room }
+        requires order_room { Suffices (length self) order_room }
+        requires place { place ≤ length self }
+        requires order { IsPermutation (range_with_len 1 (length self + 1)) (insert (ids self) place (length self + 1)) }
+        ensures { result ≡ arranged (insert (ids self) place (length self + 1)) (self ++ (length self + 1, paragraph) ∷ []) }
     {
-        // the room is for all of them, so nothing is asked for here
-        let mut items = room.items;
-        let mut old = self.items;
-        items.append(&mut old).unwrap();
-        items.push_reserved(paragraph);
-        Paragraphs {
-            items,
-            order: order.ids,
-        }
+        let id = self.len() as u64 + 1;
+        let Paragraphs { mut items, order } = self;
+        items.push(room, paragraph);
+        let order = order.inserted(order_room, place, id);
+        Paragraphs { items, order }
     }
 
     /// These paragraphs in another order. It takes no memory.
@@ -276,10 +306,12 @@ impl Paragraphs {
         requires { IsPermutation (range_with_len 1 (length self)) order }
         ensures { result ≡ arranged order self }
     {
-        Paragraphs {
-            items: self.items,
-            order: order.ids,
-        }
+        let Paragraphs {
+            items,
+            order: mut ids,
+        } = self;
+        put_over(&mut ids, &order.ids);
+        Paragraphs { items, order: ids }
     }
 
     /// Gives the paragraph with an id, if there is one, a style and flags.
@@ -290,7 +322,7 @@ impl Paragraphs {
         let Some(index) = self.index_of(id) else {
             return;
         };
-        let paragraph = &mut self.items[index];
+        let paragraph = &mut self.items.items[index];
         paragraph.style = style;
         paragraph.begins_volume = begins_volume;
         paragraph.struck = struck;
@@ -303,7 +335,7 @@ impl Paragraphs {
         let Some(index) = self.index_of(id) else {
             return;
         };
-        let paragraph = &mut self.items[index];
+        let paragraph = &mut self.items.items[index];
         paragraph.table = table;
         paragraph.cells = cells;
     }
@@ -326,7 +358,7 @@ impl Paragraphs {
             removed: _,
             added: _,
         } = change;
-        let paragraph = &mut self.items[index];
+        let paragraph = &mut self.items.items[index];
         paragraph.history.push(room, entry);
         paragraph.print = print;
         paragraph.cells = cells;
@@ -336,10 +368,7 @@ impl Paragraphs {
     pub(crate) fn renew(&mut self, cells: Vec<Option<Cells>>)
         ensures { self.new ≡ map (renewed cells.items) self.old }
     {
-        let mut cells = cells.into_iter();
-        for paragraph in self.items.iter_mut() {
-            paragraph.renew(cells.next().flatten());
-        }
+        renew(&mut self.items.items, cells);
     }
 }
 
@@ -367,8 +396,7 @@ mod tests {
     fn no_paragraph_is_there_at_first(rt: HostRuntime) -> Result<(), Fail> {
         let paragraphs = Paragraphs::new(rt.alloc());
         assert!(rt; paragraphs.get(1).is_none());
-        let order = paragraphs.order_with_next(rt.alloc(), Anchor::End)?;
-        assert_eq!(rt; order.ids.as_slice(), [1].as_slice());
+        assert_eq!(rt; paragraphs.place_for(Anchor::End), 0);
         Ok(())
     }
 }

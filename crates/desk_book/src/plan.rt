@@ -19,7 +19,7 @@ use super::change::{Change, Effect};
 use super::command::{Anchor, Command};
 use super::items::Items;
 use super::limits::{MOST_PARAGRAPHS, MOST_PRINT, MOST_TABLES, MOST_VERSION};
-use super::paragraphs::{Paragraph, ParagraphsRoom};
+use super::paragraphs::Paragraph;
 use super::refusal::{Limit, Refusal};
 use super::stored::{first_barred, is_table_name, stored};
 use super::style::Style;
@@ -158,12 +158,11 @@ impl Book {
     ///
     /// # Errors
     ///
-    /// The first refusal that holds, in this order: another version than the expected one; a bad name of a table or of a
-    /// reader; a barred
-    /// character; no such paragraph, table or mark; a struck paragraph, or one that isn't, a resolved mark; places
-    /// that are not all there; nothing to undo; a text that is too long; a limit; a bad table; an undefined
-    /// character; a paragraph that a table no longer defines. Where an allocation was refused, `NoMemory` may stand
-    /// in its place.
+    /// The first refusal that holds, in this order: another version than the expected one; a bad name of a table; a bad
+    /// name of a reader; a barred character; no such paragraph; no such table; no such mark; a paragraph that is struck;
+    /// one that isn't; a resolved mark; places that are not all there; nothing to undo; a text that is too long; a limit,
+    /// the one with the smallest number; a bad table; an undefined character; a paragraph that a table no longer defines.
+    /// Where an allocation was refused, `NoMemory` may stand in its place.
     pub fn plan(
         &self,
         alloc: Global,
@@ -415,8 +414,9 @@ impl Book {
         check_print(&kept.rules, &print)?;
         Ok(Effect::AddParagraph {
             paragraph: new_paragraph(alloc, table, &kept.rules, print)?,
-            room: ParagraphsRoom::new(alloc, self.paragraphs.len() + 1)?,
-            order: self.paragraphs.order_with_next(alloc, anchor)?,
+            room: self.paragraphs.room(alloc)?,
+            order_room: self.paragraphs.order_room(alloc)?,
+            place: self.paragraphs.place_for(anchor),
         })
     }
 

@@ -89,10 +89,10 @@ pub enum Refusal {
     /// The table's text is refused.
     #[error("the table is refused")]
     BadTable(TableFault),
-    /// The paragraph's table doesn't define a character of its print.
+    /// The table that the paragraph would have doesn't define a character of the print that it would have.
     #[error("the character at place {place} is not defined")]
     Undefined {
-        /// The first place of one, from 0.
+        /// The first place of one in that print, from 0.
         place: usize,
     },
     /// A new text of a table doesn't define a character of the print of a paragraph that uses the table.

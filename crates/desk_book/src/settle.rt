@@ -1,12 +1,12 @@
 //! Changes put into their books.
-ghost use Rattle.desk_book.specs.Changes.{Carries, Puts};
+ghost use Rattle.desk_book.specs.Changes.{Carries, IsEffect};
 ghost use Rattle.std.specs.Prelude.{◌≡◌};
 
 use super::book::Book;
 use super::change::{Change, Effect, PrintChange};
 use super::items::Room;
 use super::marks::KeptMark;
-use super::paragraphs::{Order, Paragraph, ParagraphsRoom};
+use super::paragraphs::{Order, Paragraph};
 use super::style::Style;
 use super::tables::{BookTable, TablesRoom};
 use super::text::Text;
@@ -15,8 +15,8 @@ use cell_core::Cells;
 impl Book {
     /// The book at a version, with a new table.
     fn with_new_table(self, version: u64, name: Text, table: BookTable, room: TablesRoom) -> Self
-        requires { (next : _) × Puts self version (Effect.AddTable name table room) next }
-        ensures { (next : _) → Puts self version (Effect.AddTable name table room) next → result ≡ next }
+        requires { (next : _) × IsEffect self version (Effect.AddTable name table room) next }
+        ensures { (next : _) → IsEffect self version (Effect.AddTable name table room) next → result ≡ next }
     {
         let Book {
             version: _,
@@ -40,8 +40,8 @@ impl Book {
         table: BookTable,
         cells: Vec<Option<Cells>>,
     ) -> Self
-        requires { (next : _) × Puts self version (Effect.ReplaceTable name table cells) next }
-        ensures { (next : _) → Puts self version (Effect.ReplaceTable name table cells) next → result ≡ next }
+        requires { (next : _) × IsEffect self version (Effect.ReplaceTable name table cells) next }
+        ensures { (next : _) → IsEffect self version (Effect.ReplaceTable name table cells) next → result ≡ next }
     {
         let Book {
             version: _,
@@ -64,11 +64,12 @@ impl Book {
         self,
         version: u64,
         paragraph: Paragraph,
-        room: ParagraphsRoom,
-        order: Order,
+        room: Room<Paragraph>,
+        order_room: Room<u64>,
+        place: usize,
     ) -> Self
-        requires { (next : _) × Puts self version (Effect.AddParagraph paragraph room order) next }
-        ensures { (next : _) → Puts self version (Effect.AddParagraph paragraph room order) next → result ≡ next }
+        requires { (next : _) × IsEffect self version (Effect.AddParagraph paragraph room order_room place) next }
+        ensures { (next : _) → IsEffect self version (Effect.AddParagraph paragraph room order_room place) next → result ≡ next }
     {
         let Book {
             version: _,
@@ -79,7 +80,7 @@ impl Book {
         Book {
             version,
             tables,
-            paragraphs: paragraphs.typed(paragraph, room, order),
+            paragraphs: paragraphs.typed(paragraph, room, order_room, place),
             marks,
         }
     }
@@ -93,8 +94,8 @@ impl Book {
         begins_volume: bool,
         struck: bool,
     ) -> Self
-        requires { (next : _) × Puts self version (Effect.SetFlags id style begins_volume struck) next }
-        ensures { (next : _) → Puts self version (Effect.SetFlags id style begins_volume struck) next → result ≡ next }
+        requires { (next : _) × IsEffect self version (Effect.SetFlags id style begins_volume struck) next }
+        ensures { (next : _) → IsEffect self version (Effect.SetFlags id style begins_volume struck) next → result ≡ next }
     {
         let Book {
             version: _,
@@ -113,8 +114,8 @@ impl Book {
 
     /// The book at a version, with another table of a paragraph, and the cells by it.
     fn with_table_changed(self, version: u64, id: u64, table: Text, cells: Cells) -> Self
-        requires { (next : _) × Puts self version (Effect.ChangeTable id table cells) next }
-        ensures { (next : _) → Puts self version (Effect.ChangeTable id table cells) next → result ≡ next }
+        requires { (next : _) × IsEffect self version (Effect.ChangeTable id table cells) next }
+        ensures { (next : _) → IsEffect self version (Effect.ChangeTable id table cells) next → result ≡ next }
     {
         let Book {
             version: _,
@@ -133,8 +134,8 @@ impl Book {
 
     /// The book at a version, with its paragraphs in another order.
     fn in_order(self, version: u64, order: Order) -> Self
-        requires { (next : _) × Puts self version (Effect.Reorder order) next }
-        ensures { (next : _) → Puts self version (Effect.Reorder order) next → result ≡ next }
+        requires { (next : _) × IsEffect self version (Effect.Reorder order) next }
+        ensures { (next : _) → IsEffect self version (Effect.Reorder order) next → result ≡ next }
     {
         let Book {
             version: _,
@@ -152,8 +153,8 @@ impl Book {
 
     /// The book at a version, with another print of a paragraph and an entry more in its history, and its marks moved.
     fn with_print_changed(self, version: u64, id: u64, change: PrintChange) -> Self
-        requires { (next : _) × Puts self version (Effect.ChangePrint id change) next }
-        ensures { (next : _) → Puts self version (Effect.ChangePrint id change) next → result ≡ next }
+        requires { (next : _) × IsEffect self version (Effect.ChangePrint id change) next }
+        ensures { (next : _) → IsEffect self version (Effect.ChangePrint id change) next → result ≡ next }
     {
         let Book {
             version: _,
@@ -173,8 +174,8 @@ impl Book {
 
     /// The book at a version, with a new mark.
     fn with_new_mark(self, version: u64, mark: KeptMark, room: Room<KeptMark>) -> Self
-        requires { (next : _) × Puts self version (Effect.AddMark mark room) next }
-        ensures { (next : _) → Puts self version (Effect.AddMark mark room) next → result ≡ next }
+        requires { (next : _) × IsEffect self version (Effect.AddMark mark room) next }
+        ensures { (next : _) → IsEffect self version (Effect.AddMark mark room) next → result ≡ next }
     {
         let Book {
             version: _,
@@ -193,8 +194,8 @@ impl Book {
 
     /// The book at a version, with a mark resolved.
     fn with_mark_resolved(self, version: u64, id: u64) -> Self
-        requires { (next : _) × Puts self version (Effect.ResolveMark id) next }
-        ensures { (next : _) → Puts self version (Effect.ResolveMark id) next → result ≡ next }
+        requires { (next : _) × IsEffect self version (Effect.ResolveMark id) next }
+        ensures { (next : _) → IsEffect self version (Effect.ResolveMark id) next → result ≡ next }
     {
         let Book {
             version: _,
@@ -231,8 +232,9 @@ impl Book {
             Effect::AddParagraph {
                 paragraph,
                 room,
-                order,
-            } => self.with_new_paragraph(version, paragraph, room, order),
+                order_room,
+                place,
+            } => self.with_new_paragraph(version, paragraph, room, order_room, place),
             Effect::ChangePrint { id, change } => self.with_print_changed(version, id, change),
             Effect::AddMark { mark, room } => self.with_new_mark(version, mark, room),
             Effect::ResolveMark { id } => self.with_mark_resolved(version, id),

@@ -1,8 +1,8 @@
 //! Sessions at a desk: requests in turn, and what is answered to each, worked out by hand from the rules of books.
 //!
 //! The sessions stand in texts, one request to a row, since the proof of a test with long arrays takes minutes: the
-//! answer, ` | `, and the request. A request that begins with `@V` expects version V. In the text of a table or a
-//! paragraph a pilcrow is a line feed, and `{a×3}` is `aaa`.
+//! answer, ` | `, and the request. A request that begins with `@V` expects version V, and `again N` makes a request N times,
+//! whose last answer counts. In a text a pilcrow is a line feed, an open box a blank, and `{a×3}` is `aaa`.
 use super::limits::MOST_VERSION;
 use super::{
     Anchor, Book, Bytes, Command, Done, History, HistoryItem, Listed, MarkItem, ParagraphMarks,
@@ -54,7 +54,11 @@ fn text_of(alloc: Global, written: &str) -> Result<String, Fail> {
         text.push_str(plain)?;
         text.extend(iter::repeat_n(piece, count.parse()?))?;
     }
-    let characters = text.chars().map(|c| if c == '¶' { '\n' } else { c });
+    let characters = text.chars().map(|c| match c {
+        '¶' => '\n',
+        '␣' => ' ',
+        other => other,
+    });
     Ok(characters.collect(alloc)?)
 }
 
@@ -185,7 +189,18 @@ fn refused(alloc: Global, refusal: Refusal) -> Result<String, AllocError> {
         Refusal::Untranslatable { paragraph, place } => {
             format!(in alloc; "no {code} {paragraph} {place}")
         }
-        _ => format!(in alloc; "no {code}"),
+        Refusal::BadName
+        | Refusal::BadReader
+        | Refusal::NoParagraph
+        | Refusal::NoTable
+        | Refusal::NoMark
+        | Refusal::Struck
+        | Refusal::NotStruck
+        | Refusal::Resolved
+        | Refusal::BadSpan
+        | Refusal::NothingToUndo
+        | Refusal::TooLong
+        | Refusal::NoMemory => format!(in alloc; "no {code}"),
     }
 }
 
@@ -386,6 +401,19 @@ fn answer(alloc: Global, book: &mut Book, request: &str) -> Result<String, Fail>
     }
 }
 
+/// What is answered to the last of a request that is made once or several times.
+fn last_answer(alloc: Global, book: &mut Book, request: &str) -> Result<String, Fail> {
+    let Some(rest) = request.strip_prefix("again ") else {
+        return answer(alloc, book, request);
+    };
+    let (times, request) = cut(rest);
+    let mut last = String::new(alloc);
+    for _ in 0..number(times) {
+        last = answer(alloc, book, request)?;
+    }
+    Ok(last)
+}
+
 /// Compares an answer.
 fn judge(rt: &impl Abort, row: &str, given: &str, wanted: &str) {
     assert_eq!(rt; given, wanted, "{row}");
@@ -395,7 +423,7 @@ fn judge(rt: &impl Abort, row: &str, given: &str, wanted: &str) {
 fn judge_rows(rt: &impl Abort, alloc: Global, book: &mut Book, rows: &str) -> Result<(), Fail> {
     for row in rows.split('\n') {
         let (wanted, request) = row.split_once(" | ").unwrap_or((row, ""));
-        judge(rt, row, answer(alloc, book, request)?.as_str(), wanted);
+        judge(rt, row, last_answer(alloc, book, request)?.as_str(), wanted);
     }
     Ok(())
 }
@@ -855,6 +883,8 @@ ok 3 1 | correct 1 4 3 dog
 The dog | print 1
 ok 4 2 | undo 1
 The cat | print 1
+1  4 3 dog, 2 undo 1,  | history 1
+1 en body - live 7,  | list
 no 5 | correct 1 8 1 x
 no 5 | correct 1 18446744073709551615 1 x
 no 16 4 | @9 undo 1
@@ -892,11 +922,16 @@ fn marks_are_put_and_resolved(rt: HostRuntime) -> Result<(), Fail> {
 ok 1 | table en EN
 ok 2 1 | type end en The cat
 ok 3 1 | mark 1 5 3 cat?
+1 4 7 open kept cat?,  | marks 1
 ok 4 1 | correct 1 7 0 s
+1 4 7 open kept cat?,  | marks 1
 ok 5 2 | correct 1 4 0 x
+1 5 8 open kept cat?,  | marks 1
 ok 6 3 | correct 1 0 9
+1 0 0 open touched cat?,  | marks 1
 ok 7 4 | undo 1
 The xcats | print 1
+1  7 0 s, 2  4 0 x, 3  0 9 , 4 undo 3,  | history 1
 ok 8 | resolve 1
 no 13 | resolve 1
 no 4 | resolve 2
@@ -948,5 +983,226 @@ ok 9007199254740992 3 | undo 1
 no 15 5 | correct 1 0 0 z
 no 2 | undo 9
 no 15 5 | mark 1 0 1 x",
+    )
+}
+
+#[test]
+fn marks_move_with_the_print(rt: HostRuntime) -> Result<(), Fail> {
+    judge_session(
+        &rt,
+        rt.alloc(),
+        "\
+ok 1 | table en SMALL
+ok 2 1 | type end en abcabc
+ok 3 2 | type end en abc
+ok 4 1 | mark 1 0 2 m
+ok 5 2 | mark 1 1 2 m
+ok 6 3 | mark 1 2 2 m
+ok 7 4 | mark 1 3 2 m
+ok 8 5 | mark 1 4 2 m
+ok 9 6 | mark 1 0 6 m
+ok 10 7 | mark 2 1 1 n
+1 0 2 open kept m, 2 1 3 open kept m, 3 2 4 open kept m, 4 3 5 open kept m, 5 4 6 open kept m, 6 0 6 open kept m,  | marks 1
+ok 11 1 | correct 1 2 2 b
+1 0 2 open kept m, 2 1 3 open touched m, 3 2 3 open touched m, 4 2 4 open touched m, 5 3 5 open kept m, 6 0 5 open touched m,  | marks 1
+ok 12 2 | undo 1
+1 0 2 open kept m, 2 1 4 open touched m, 3 2 4 open touched m, 4 2 5 open touched m, 5 4 6 open kept m, 6 0 6 open touched m,  | marks 1
+7 1 2 open kept n,  | marks 2
+ok 13 | resolve 7
+ok 14 1 | correct 2 0 0 ab
+7 3 4 resolved kept n,  | marks 2
+ok 15 | table en space \\s 0¶letter a 2¶letter b 23¶letter c 25
+ok 16 | table other SMALL
+ok 17 | retable 2 other
+7 3 4 resolved kept n,  | marks 2
+ok 18 2 | correct 2 3 1
+7 3 3 resolved touched n,  | marks 2
+abac | print 2
+ok 19 3 | correct 2 3 0 b
+7 3 3 resolved touched n,  | marks 2
+ok 20 4 | correct 2 2 1 bb
+7 4 4 resolved touched n,  | marks 2
+ok 21 5 | correct 2 4 1 a
+7 4 4 resolved touched n,  | marks 2
+ok 22 6 | correct 2 3 2
+7 3 3 resolved touched n,  | marks 2
+abbc | print 2
+ok 23 3 | type end en abc
+ok 24 8 | mark 3 0 3 o
+ok 25 1 | correct 3 0 0
+ok 26 2 | correct 3 3 0
+8 0 3 open kept o,  | marks 3
+ok 27 3 | correct 3 1 0
+8 0 3 open touched o,  | marks 3",
+    )
+}
+
+#[test]
+fn corrections_are_taken_back_one_under_the_other(rt: HostRuntime) -> Result<(), Fail> {
+    judge_session(
+        &rt,
+        rt.alloc(),
+        "\
+ok 1 | table en SMALL
+ok 2 | table ab letter a 1¶letter b 12
+ok 3 1 | type end en c
+ok 4 1 | correct 1 0 1 a
+ok 5 2 | correct 1 0 0 c
+ok 6 3 | correct 1 0 1 b
+ok 7 | retable 1 ab
+no 7 0 | undo 1
+ok 8 4 | correct 1 1 0 b
+ok 9 5 | undo 1
+no 7 0 | undo 1
+ok 10 | retable 1 en
+ok 11 6 | undo 1
+ca | print 1
+ok 12 7 | undo 1
+ok 13 8 | undo 1
+c | print 1
+no 10 | undo 1
+1  0 1 a, 2  0 0 c, 3  0 1 b, 4  1 0 b, 5 undo 4, 6 undo 3, 7 undo 2, 8 undo 1,  | history 1",
+    )
+}
+
+#[test]
+fn what_is_corrected_is_stored_in_normal_form_c(rt: HostRuntime) -> Result<(), Fail> {
+    judge_session(
+        &rt,
+        rt.alloc(),
+        "\
+ok 1 | table t letter a 1¶letter b 12¶letter \\x00E9 123456¶letter \\x0915 13¶letter \\x093C 16
+ok 2 1 | type end t ab
+ok 3 1 | mark 1 1 1 m
+ok 4 1 | correct 1 0 0 e\u{301}
+\u{E9}ab | print 1
+1 2 3 open kept m,  | marks 1
+ok 5 2 | undo 1
+1 1 2 open kept m,  | marks 1
+ok 6 3 | correct 1 0 0 \u{958}
+\u{915}\u{93C}ab | print 1
+1 3 4 open kept m,  | marks 1
+ok 7 4 | undo 1
+1 1 2 open kept m,  | marks 1
+ok 8 | table e letter e 15¶letter \\x0301 4¶letter \\x00E9 123456
+ok 9 2 | type end e e
+ok 10 1 | correct 2 1 0 \u{301}
+⠑⠈ | cells 2
+1 t body - live 2, 2 e body - live 2,  | list
+ok 11 | table c letter T 2345¶uplow Vv 1236¶capsletter 6¶begcapsword 6-6¶uplow Cc 14
+ok 12 3 | type end c CV
+ok 13 2 | mark 3 0 1 m
+ok 14 3 | mark 3 1 1 m
+ok 15 4 | mark 3 2 1 m
+ok 16 5 | mark 3 3 1 m
+2 0 1 open kept m, 3 0 1 open kept m, 4 0 1 open kept m, 5 1 2 open kept m,  | marks 3
+ok 17 | table t2 letter t 2345¶letter h 125¶letter e 15¶letter n 1345¶always the 2346
+ok 18 4 | type end t2 then
+ok 19 6 | mark 4 1 1 e\u{301}
+ok 20 7 | mark 4 0 2 e\u{301}
+6 3 4 open kept e\u{301}, 7 0 4 open kept e\u{301},  | marks 4",
+    )
+}
+
+#[test]
+fn the_first_refusal_of_a_correction_or_a_mark_is_told(rt: HostRuntime) -> Result<(), Fail> {
+    judge_long_session(
+        &rt,
+        rt.alloc(),
+        "\
+ok 1 | table en SMALL
+ok 2 1 | type end en ab
+ok 3 2 | type end en ab
+no 16 3 | @1 correct-by {a×41} 9 9 9 ¶
+no 18 | @3 correct-by {a×41} 9 9 9 ¶
+no 18 | correct-by a␣b 9 9 9 x
+no 18 | correct-by a¶ 1 0 0 a
+no 18 | correct-by \0 1 0 0 a
+no 6 0 | correct 9 9 9 ¶
+no 2 | correct 9 9 9 {z×4001}
+no 5 | correct 1 9 9 {z×4001}
+no 5 | correct 1 1 2 z
+no 14 | correct 1 0 0 {z×4001}
+no 7 0 | correct 1 0 0 z
+no 6 1 | mark 9 0 0 x¶
+no 2 | mark 9 0 0 x
+no 5 | mark 1 0 0 {x×501}
+no 5 | mark 1 2 1 {x×501}
+no 14 | mark 1 0 1 {x×501}
+no 4 | resolve 1
+ok 4 1 | mark 2 0 1 {é×500}
+ok 5 2 | mark 1 1 1 x
+ok 6 | strike 1
+no 11 | mark 1 9 9 {x×501}
+no 2 | mark 9 9 9 x
+no 11 | correct 1 9 9 {z×4001}
+no 11 | undo 1
+ok 7 | resolve 2
+no 13 | resolve 2
+no 16 7 | @1 resolve 2
+ok 8 | restore 1
+no 10 | undo 1
+ok 9 1 | correct-by a\t\u{A0} 1 0 0 a
+ok 10 2 | correct-by e\u{301} 1 0 0 b
+1 a\t\u{A0} 0 0 a, 2 e\u{301} 0 0 b,  | history 1
+baab | print 1",
+        "\
+ok 9007199254740992 | style 1 heading
+no 14 | correct 1 0 0 {a×4001}
+no 15 5 | correct 1 0 0 z
+no 15 5 | undo 1
+no 10 | undo 2
+no 14 | mark 1 0 1 {x×501}
+no 15 5 | mark 1 0 1 x
+no 4 | resolve 9
+no 13 | resolve 2
+no 15 5 | resolve 1",
+    )
+}
+
+#[test]
+fn a_history_has_10000_entries(rt: HostRuntime) -> Result<(), Fail> {
+    judge_session(
+        &rt,
+        rt.alloc(),
+        "\
+ok 1 | table en SMALL
+ok 2 1 | type end en a
+ok 10001 9999 | again 9999 correct 1 0 0
+ok 10002 10000 | undo 1
+no 15 3 | undo 1
+no 15 3 | correct 1 0 0 z
+no 14 | correct 1 0 0 {a×4001}
+ok 10003 2 | type end en a
+ok 10004 1 | correct 2 0 0 b",
+    )
+}
+
+#[test]
+fn a_book_has_100000_marks(rt: HostRuntime) -> Result<(), Fail> {
+    judge_session(
+        &rt,
+        rt.alloc(),
+        "\
+ok 1 | table en SMALL
+ok 2 1 | type end en a
+ok 100002 100000 | again 100000 mark 1 0 1 x
+no 15 4 | mark 1 0 1 x
+no 14 | mark 1 0 1 {x×501}
+ok 100003 | resolve 100000",
+    )
+}
+
+#[test]
+fn a_book_has_20000_paragraphs(rt: HostRuntime) -> Result<(), Fail> {
+    judge_session(
+        &rt,
+        rt.alloc(),
+        "\
+ok 1 | table en SMALL
+ok 20001 20000 | again 20000 type end en a
+no 15 2 | type end en z
+no 14 | type end en {a×4001}
+ok 20002 | strike 20000",
     )
 }

@@ -1,13 +1,13 @@
 use Rattle.std.proofs.Common.{◌-◌, Some, length, ap, ◌∙◌, arith, refl}
 use Rattle.std.proofs.lemmas.Option.{slice_get_read}
-use Rattle.desk_book.proofs.KeptHistories.{IsInForce-found, leap}
+use Rattle.desk_book.proofs.KeptHistories.{IsNewestInForce-found, leap}
 use Rattle.desk_book.proofs.history.newest.Goals as goal
 
 pub returns-in-Corrects-clause-found : goal.returns-in-Corrects-clause-found
 returns-in-Corrects-clause-found c =
     let history = c.args.history.now in
     let at = slice_get_read history (length history) (c.loop-count.count - 1) c.index-history-count.result refl (let within = c.loop-count.invariant.0 in let some = c.loop-count-test.true in omega arith) c.index-history-count.is in
-    IsInForce-found history c.requires.0 c.requires.1 c.loop-count.count c.in-Corrects.correction c.loop-count-test.true (at ∙ ap Some c.in-Corrects.is) c.loop-count.invariant.1
+    IsNewestInForce-found history c.requires.0 c.requires.1 c.loop-count.count c.in-Corrects.correction c.loop-count-test.true (at ∙ ap Some c.in-Corrects.is) c.loop-count.invariant.1
 
 pub overflow_sub-count-in-Undoes : goal.overflow_sub-count-in-Undoes
 overflow_sub-count-in-Undoes c =

@@ -2,7 +2,7 @@ use Rattle.std.proofs.Common.{None, sym, ap, subst, ◌∙◌}
 use Rattle.desk_book.specs.declared.change.Effect.TheVariants.{Reorder}
 use Rattle.desk_book.specs.declared.command.Command.{Command}
 use Rattle.desk_book.specs.Book.{Book}
-use Rattle.desk_book.specs.Changes.{Puts}
+use Rattle.desk_book.specs.Changes.{IsEffect}
 use Rattle.desk_book.specs.Kept.{KeptParagraphs, IsKept, book_kept}
 use Rattle.desk_book.specs.Refusals.{IsAccepted}
 use Rattle.desk_book.specs.Step.{Makes}
@@ -12,8 +12,8 @@ use Rattle.desk_book.proofs.book.Book.in_order.Goals as goal
 pub reordered-requires : goal.reordered-requires
 reordered-requires c =
     let was = c.self.inside in
-    let here : Puts (book_kept was.version was.tables was.paragraphs was.marks) c.args.version (Reorder c.args.order) c.requires.0 =
-    subst (λ (b : Book). Puts b c.args.version (Reorder c.args.order) c.requires.0) (sym c.self.view_is) c.requires.1 in
+    let here : IsEffect (book_kept was.version was.tables was.paragraphs was.marks) c.args.version (Reorder c.args.order) c.requires.0 =
+    subst (λ (b : Book). IsEffect b c.args.version (Reorder c.args.order) c.requires.0) (sym c.self.view_is) c.requires.1 in
     let sound = sound-next was.version was.tables was.paragraphs was.marks c.self.invariant c.requires.0 c.args.version (Reorder c.args.order) here in
     let makes = subst (λ (command : Command). Makes (book_kept was.version was.tables was.paragraphs was.marks) command c.requires.0) here.does.2 here.makes in
     let accepted = subst (λ (command : Command). IsAccepted (book_kept was.version was.tables was.paragraphs was.marks) None command) here.does.2 here.accepted in
@@ -22,8 +22,8 @@ reordered-requires c =
 pub invariant_of-result : goal.invariant_of-result
 invariant_of-result c =
     let was = c.self.inside in
-    let here : Puts (book_kept was.version was.tables was.paragraphs was.marks) c.args.version (Reorder c.args.order) c.requires.0 =
-    subst (λ (b : Book). Puts b c.args.version (Reorder c.args.order) c.requires.0) (sym c.self.view_is) c.requires.1 in
+    let here : IsEffect (book_kept was.version was.tables was.paragraphs was.marks) c.args.version (Reorder c.args.order) c.requires.0 =
+    subst (λ (b : Book). IsEffect b c.args.version (Reorder c.args.order) c.requires.0) (sym c.self.view_is) c.requires.1 in
     let sound = sound-next was.version was.tables was.paragraphs was.marks c.self.invariant c.requires.0 c.args.version (Reorder c.args.order) here in
     let makes = subst (λ (command : Command). Makes (book_kept was.version was.tables was.paragraphs was.marks) command c.requires.0) here.does.2 here.makes in
     let accepted = subst (λ (command : Command). IsAccepted (book_kept was.version was.tables was.paragraphs was.marks) None command) here.does.2 here.accepted in
@@ -33,8 +33,8 @@ invariant_of-result c =
 pub returns : goal.returns
 returns c = λ next given.
     let was = c.self.inside in
-    let here : Puts (book_kept was.version was.tables was.paragraphs was.marks) c.args.version (Reorder c.args.order) next =
-    subst (λ (b : Book). Puts b c.args.version (Reorder c.args.order) next) (sym c.self.view_is) given in
+    let here : IsEffect (book_kept was.version was.tables was.paragraphs was.marks) c.args.version (Reorder c.args.order) next =
+    subst (λ (b : Book). IsEffect b c.args.version (Reorder c.args.order) next) (sym c.self.view_is) given in
     let sound = sound-next was.version was.tables was.paragraphs was.marks c.self.invariant next c.args.version (Reorder c.args.order) here in
     let makes = subst (λ (command : Command). Makes (book_kept was.version was.tables was.paragraphs was.marks) command next) here.does.2 here.makes in
     let accepted = subst (λ (command : Command). IsAccepted (book_kept was.version was.tables was.paragraphs was.marks) None command) here.does.2 here.accepted in

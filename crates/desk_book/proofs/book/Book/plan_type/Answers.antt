@@ -1,4 +1,5 @@
-use Rattle.std.proofs.Common.{◌≡◌, ℕ, ◌+◌, ◌<◌, ◌≤◌, List, None, length, refl, sym, ap, subst, ◌∙◌, arith, inr}
+use Rattle.std.proofs.Common.{◌≡◌, ℕ, ◌<◌, ◌≤◌, List, None, length, refl, sym, ap, subst, ◌∙◌, arith, inr}
+use Rattle.std.specs.List.{insert}
 use Rattle.std.proofs.lemmas.Result.{err_from_is_err_and}
 use Rattle.louis_translate.specs.Position.{AreDefined, IsFirstUndefined}
 use Rattle.desk_book.specs.declared.command.Anchor.{Anchor}
@@ -6,13 +7,14 @@ use Rattle.desk_book.specs.declared.command.Command.TheVariants.{TypeIn}
 use Rattle.desk_book.specs.declared.tables.BookTable.{BookTable}
 use Rattle.desk_book.specs.Book.{Book}
 use Rattle.desk_book.specs.Judging.{Passes}
-use Rattle.desk_book.specs.Kept.{ids, with_id}
+use Rattle.desk_book.specs.Kept.{with_id}
 use Rattle.desk_book.specs.Limits.{most_paragraphs, most_print, most_version}
 use Rattle.desk_book.specs.Planned.{AreThere, IsNewParagraph, IsTableFor}
 use Rattle.desk_book.specs.Refusals.{paragraph_before}
+use Rattle.desk_book.specs.Room.{Suffices}
 use Rattle.desk_book.specs.Step.{next_id, typed, with_paragraph}
 use Rattle.desk_book.specs.Stored.{IsUnbarred, stored}
-use Rattle.desk_book.proofs.KeptLookups.{count-paragraphs, ids_of-book}
+use Rattle.desk_book.proofs.KeptLookups.{Contains-there, count-paragraphs, ids_of-book}
 use Rattle.desk_book.proofs.NewParagraphs.{IsKeptTyped-new}
 use Rattle.desk_book.proofs.OrderLists.{ids_of-with_paragraph}
 use Rattle.desk_book.proofs.ParagraphLists.{ids_of}
@@ -110,15 +112,30 @@ returns-in_err-new_paragraph c =
     let p = err_from_is_err_and c.from_residual-in_err-new_paragraph.result c.from_residual-in_err-new_paragraph.ensures.1 in
     rw p.1 (record { planned = tt; refused = inr p.2 })
 
-pub returns-in_err-new : goal.returns-in_err-new
-returns-in_err-new c =
-    let p = err_from_is_err_and c.from_residual-in_err-new.result c.from_residual-in_err-new.ensures.1 in
+pub room-requires : goal.room-requires
+room-requires c =
+    let count = count-paragraphs _ _ _ _ c.args.self.now c.self.view_is in
+    let few = c.in_ok-check_room.ensures.left in
+    omega arith
+
+pub returns-in_err-room : goal.returns-in_err-room
+returns-in_err-room c =
+    let p = err_from_is_err_and c.from_residual-in_err-room.result c.from_residual-in_err-room.ensures.1 in
     rw p.1 (record { planned = tt; refused = inr p.2 })
 
-pub returns-in_err-order_with_next : goal.returns-in_err-order_with_next
-returns-in_err-order_with_next c =
-    let p = err_from_is_err_and c.from_residual-in_err-order_with_next.result c.from_residual-in_err-order_with_next.ensures.1 in
+pub order_room-requires : goal.order_room-requires
+order_room-requires c =
+    let count = count-paragraphs _ _ _ _ c.args.self.now c.self.view_is in
+    let few = c.in_ok-check_room.ensures.left in
+    omega arith
+
+pub returns-in_err-order_room : goal.returns-in_err-order_room
+returns-in_err-order_room c =
+    let p = err_from_is_err_and c.from_residual-in_err-order_room.result c.from_residual-in_err-order_room.ensures.1 in
     rw p.1 (record { planned = tt; refused = inr p.2 })
+
+pub place_for-requires : goal.place_for-requires
+place_for-requires c = Contains-there _ _ _ _ c.args.self.now c.self.view_is (paragraph_before c.args.anchor) c.in_ok-check_anchor.ensures.there
 
 pub returns-clause-planned : goal.returns-clause-planned
 returns-clause-planned c =
@@ -132,14 +149,26 @@ returns-clause-planned c =
     let judged = past_print book (TypeIn c.args.anchor c.args.table.now c.args.text.now) c.args.table.now (stored c.args.text.now) _ refl c.in_ok-kept.ensures.found passes defined in
     let new = subst (λ (t : List ℕ). IsNewParagraph c.args.table.now t rules kept) printed c.in_ok-new_paragraph.ensures in
     let count = count-paragraphs _ _ _ _ book c.self.view_is in
-    let room = c.in_ok-new.ensures in
-    let more = c.len.ensures in
-    let order : c.in_ok-order_with_next.field-0 ≡ ids_of (with_paragraph c.args.anchor (typed (next_id book) c.args.table.now c.args.text.now) book.paragraphs) =
-    c.in_ok-order_with_next.ensures
-    ∙ (ap (λ (n : ℕ). with_id c.args.anchor (n + 1) (ids c.self.inside.paragraphs)) (sym count)
+    let order : insert (ids_of book.paragraphs) c.place_for.result (next_id book) ≡ ids_of (with_paragraph c.args.anchor (typed (next_id book) c.args.table.now c.args.text.now) book.paragraphs) =
+    ap (λ (list : List ℕ). insert list c.place_for.result (next_id book)) (ids_of-book _ _ _ _ book c.self.view_is)
+    ∙ (c.place_for.ensures.place (next_id book)
     ∙ (ap (with_id c.args.anchor (next_id book)) (sym (ids_of-book _ _ _ _ book c.self.view_is))
     ∙ sym (ids_of-with_paragraph c.args.anchor (typed (next_id book) c.args.table.now c.args.text.now) book.paragraphs))) in (
       accepted_after book (TypeIn c.args.anchor c.args.table.now c.args.text.now) 190 judged refl,
-      (_, refl, (c.args.anchor, c.args.text.now, ap (λ (t : List ℕ). TypeIn c.args.anchor t c.args.text.now) (sym new.table_is), IsKeptTyped-new book c.args.table.now c.args.text.now _ kept c.in_ok-kept.ensures.found new, omega arith, order)),
+      (
+        _,
+        refl,
+        record {
+          anchor = c.args.anchor;
+          text = c.args.text.now;
+          command_is = ap (λ (t : List ℕ). TypeIn c.args.anchor t c.args.text.now) (sym new.table_is);
+          typed_is = IsKeptTyped-new book c.args.table.now c.args.text.now _ kept c.in_ok-kept.ensures.found new;
+          few = c.in_ok-check_room.ensures.left;
+          room_is = subst (λ (n : ℕ). Suffices n c.in_ok-room.field-0) (sym count) c.in_ok-room.ensures;
+          order_room_is = subst (λ (n : ℕ). Suffices n c.in_ok-order_room.field-0) (sym count) c.in_ok-order_room.ensures;
+          within = subst (λ (n : ℕ). c.place_for.result ≤ n) (sym count) c.place_for.ensures.within;
+          order = order;
+        },
+      ),
       new.characters,
     )

@@ -1,6 +1,6 @@
 use Rattle.std.proofs.Common.{◌≡◌, length, sym, ap, subst, ◌∙◌, refl, arith}
 use Rattle.desk_book.specs.Corrected.{replaced_by}
-use Rattle.desk_book.specs.Histories.{IsInForce, entries_kept}
+use Rattle.desk_book.specs.Histories.{IsNewestInForce, entries_kept}
 use Rattle.desk_book.specs.Sound.{AreSoundEntries}
 use Rattle.desk_book.proofs.KeptLookups.{IfErr-weaker, IfOk-weaker}
 use Rattle.desk_book.proofs.UndoPlanning.{back, halted_here, planned_here, sound_kept, span_here}
@@ -14,7 +14,7 @@ newest-requires c =
 pub replaced-requires : goal.replaced-requires
 replaced-requires c =
     let found = c.in_ok-paragraph.ensures.found in
-    let force = subst (λ h. IsInForce h c.in-Some.number c.in-Some.correction.now) c.as_slice.ensures c.in-Some.ensures.found in
+    let force = subst (λ h. IsNewestInForce h c.in-Some.number c.in-Some.correction.now) c.as_slice.ensures c.in-Some.ensures.found in
     let old : c.as_slice-old.result.now ≡ c.in_ok-paragraph.paragraph.now.print = c.as_slice-old.ensures in
     let count : c.count_of-count.result ≡ length c.in-Some.correction.now.text = c.count_of-count.ensures ∙ ap length c.as_str.ensures in
     let span = span_here c.args.self.now c.args.id _ _ found.0 found.1 c.in-Some.number c.in-Some.correction.now force in
@@ -25,7 +25,7 @@ pub returns-clause-planned : goal.returns-clause-planned
 returns-clause-planned c =
     let found = c.in_ok-paragraph.ensures.found in
     let correction = c.in-Some.correction.now in
-    let force = subst (λ h. IsInForce h c.in-Some.number correction) c.as_slice.ensures c.in-Some.ensures.found in
+    let force = subst (λ h. IsNewestInForce h c.in-Some.number correction) c.as_slice.ensures c.in-Some.ensures.found in
     let old = c.as_slice-old.ensures ∙ found.0.print in
     let count : c.count_of-count.result ≡ length correction.text = c.count_of-count.ensures ∙ ap length c.as_str.ensures in
     let printed = c.in_ok-replaced.ensures ∙ ((λ i. replaced_by correction.start (count i) (c.as_slice-taken.ensures i) (old i)) ∙ back c.args.self.now c.args.id _ _ found.0 found.1 c.in-Some.number correction force) in
@@ -36,7 +36,7 @@ pub returns-clause-refused : goal.returns-clause-refused
 returns-clause-refused c =
     let found = c.in_ok-paragraph.ensures.found in
     let correction = c.in-Some.correction.now in
-    let force = subst (λ h. IsInForce h c.in-Some.number correction) c.as_slice.ensures c.in-Some.ensures.found in
+    let force = subst (λ h. IsNewestInForce h c.in-Some.number correction) c.as_slice.ensures c.in-Some.ensures.found in
     let old = c.as_slice-old.ensures ∙ found.0.print in
     let count : c.count_of-count.result ≡ length correction.text = c.count_of-count.ensures ∙ ap length c.as_str.ensures in
     let printed = c.in_ok-replaced.ensures ∙ ((λ i. replaced_by correction.start (count i) (c.as_slice-taken.ensures i) (old i)) ∙ back c.args.self.now c.args.id _ _ found.0 found.1 c.in-Some.number correction force) in

@@ -1,42 +1,74 @@
-use Rattle.std.proofs.Common.{None, sym, ap, subst, ◌∙◌}
+use Rattle.std.proofs.Common.{◌+◌, None, length, sym, ap, subst, ◌∙◌}
+use Rattle.std.specs.List.{insert}
 use Rattle.desk_book.specs.declared.change.Effect.TheVariants.{AddParagraph}
 use Rattle.desk_book.specs.declared.command.Command.{Command}
 use Rattle.desk_book.specs.Book.{Book}
-use Rattle.desk_book.specs.Changes.{Puts}
-use Rattle.desk_book.specs.Kept.{KeptParagraphs, IsKept, book_kept}
+use Rattle.desk_book.specs.Changes.{IsEffect}
+use Rattle.desk_book.specs.Kept.{KeptParagraphs, IsKept, book_kept, ids}
 use Rattle.desk_book.specs.Refusals.{IsAccepted}
 use Rattle.desk_book.specs.Step.{Makes}
-use Rattle.desk_book.proofs.Settled.{sound-next, order-typed, next-typed, IsKept-typed}
+use Rattle.desk_book.proofs.Settled.{few-placed, order-placed, room-placed, sound-next, order-typed, next-typed, within-placed, IsKept-typed}
 use Rattle.desk_book.proofs.book.Book.with_new_paragraph.Goals as goal
+
+pub typed-requires-clause-few : goal.typed-requires-clause-few
+typed-requires-clause-few c =
+    let was = c.self.inside in
+    let here : IsEffect (book_kept was.version was.tables was.paragraphs was.marks) c.args.version (AddParagraph c.args.paragraph c.args.room c.args.order_room c.args.place) c.requires.0 =
+    subst (λ (b : Book). IsEffect b c.args.version (AddParagraph c.args.paragraph c.args.room c.args.order_room c.args.place) c.requires.0) (sym c.self.view_is) c.requires.1 in
+    few-placed was.version was.tables was.paragraphs was.marks here.does.few
+
+pub typed-requires-clause-room : goal.typed-requires-clause-room
+typed-requires-clause-room c =
+    let was = c.self.inside in
+    let here : IsEffect (book_kept was.version was.tables was.paragraphs was.marks) c.args.version (AddParagraph c.args.paragraph c.args.room c.args.order_room c.args.place) c.requires.0 =
+    subst (λ (b : Book). IsEffect b c.args.version (AddParagraph c.args.paragraph c.args.room c.args.order_room c.args.place) c.requires.0) (sym c.self.view_is) c.requires.1 in
+    room-placed was.version was.tables was.paragraphs was.marks c.args.room here.does.room_is
+
+pub typed-requires-clause-order_room : goal.typed-requires-clause-order_room
+typed-requires-clause-order_room c =
+    let was = c.self.inside in
+    let here : IsEffect (book_kept was.version was.tables was.paragraphs was.marks) c.args.version (AddParagraph c.args.paragraph c.args.room c.args.order_room c.args.place) c.requires.0 =
+    subst (λ (b : Book). IsEffect b c.args.version (AddParagraph c.args.paragraph c.args.room c.args.order_room c.args.place) c.requires.0) (sym c.self.view_is) c.requires.1 in
+    room-placed was.version was.tables was.paragraphs was.marks c.args.order_room here.does.order_room_is
+
+pub typed-requires-clause-place : goal.typed-requires-clause-place
+typed-requires-clause-place c =
+    let was = c.self.inside in
+    let here : IsEffect (book_kept was.version was.tables was.paragraphs was.marks) c.args.version (AddParagraph c.args.paragraph c.args.room c.args.order_room c.args.place) c.requires.0 =
+    subst (λ (b : Book). IsEffect b c.args.version (AddParagraph c.args.paragraph c.args.room c.args.order_room c.args.place) c.requires.0) (sym c.self.view_is) c.requires.1 in
+    within-placed was.version was.tables was.paragraphs was.marks c.args.place here.does.within
 
 pub typed-requires-clause-order : goal.typed-requires-clause-order
 typed-requires-clause-order c =
     let was = c.self.inside in
-    let here : Puts (book_kept was.version was.tables was.paragraphs was.marks) c.args.version (AddParagraph c.args.paragraph c.args.room c.args.order) c.requires.0 =
-    subst (λ (b : Book). Puts b c.args.version (AddParagraph c.args.paragraph c.args.room c.args.order) c.requires.0) (sym c.self.view_is) c.requires.1 in
-    let sound = sound-next was.version was.tables was.paragraphs was.marks c.self.invariant c.requires.0 c.args.version (AddParagraph c.args.paragraph c.args.room c.args.order) here in
-    let makes = subst (λ (command : Command). Makes (book_kept was.version was.tables was.paragraphs was.marks) command c.requires.0) here.does.2 here.makes in
-    let accepted = subst (λ (command : Command). IsAccepted (book_kept was.version was.tables was.paragraphs was.marks) None command) here.does.2 here.accepted in
-    order-typed was.version was.tables was.paragraphs was.marks c.requires.0 c.args.version here.does.0 here.does.1 c.args.order c.args.paragraph here.at accepted makes here.does.3 here.does.5 c.self.invariant sound
+    let here : IsEffect (book_kept was.version was.tables was.paragraphs was.marks) c.args.version (AddParagraph c.args.paragraph c.args.room c.args.order_room c.args.place) c.requires.0 =
+    subst (λ (b : Book). IsEffect b c.args.version (AddParagraph c.args.paragraph c.args.room c.args.order_room c.args.place) c.requires.0) (sym c.self.view_is) c.requires.1 in
+    let order = order-placed was.version was.tables was.paragraphs was.marks c.requires.0 c.args.place here.does.order in
+    let sound = sound-next was.version was.tables was.paragraphs was.marks c.self.invariant c.requires.0 c.args.version (AddParagraph c.args.paragraph c.args.room c.args.order_room c.args.place) here in
+    let makes = subst (λ (command : Command). Makes (book_kept was.version was.tables was.paragraphs was.marks) command c.requires.0) here.does.command_is here.makes in
+    let accepted = subst (λ (command : Command). IsAccepted (book_kept was.version was.tables was.paragraphs was.marks) None command) here.does.command_is here.accepted in
+    order-typed was.version was.tables was.paragraphs was.marks c.requires.0 c.args.version here.does.anchor here.does.text (insert (ids was.paragraphs) c.args.place (length was.paragraphs + 1)) c.args.paragraph here.at accepted makes here.does.typed_is order c.self.invariant sound
 
 pub invariant_of-result : goal.invariant_of-result
 invariant_of-result c =
     let was = c.self.inside in
-    let here : Puts (book_kept was.version was.tables was.paragraphs was.marks) c.args.version (AddParagraph c.args.paragraph c.args.room c.args.order) c.requires.0 =
-    subst (λ (b : Book). Puts b c.args.version (AddParagraph c.args.paragraph c.args.room c.args.order) c.requires.0) (sym c.self.view_is) c.requires.1 in
-    let sound = sound-next was.version was.tables was.paragraphs was.marks c.self.invariant c.requires.0 c.args.version (AddParagraph c.args.paragraph c.args.room c.args.order) here in
-    let makes = subst (λ (command : Command). Makes (book_kept was.version was.tables was.paragraphs was.marks) command c.requires.0) here.does.2 here.makes in
-    let accepted = subst (λ (command : Command). IsAccepted (book_kept was.version was.tables was.paragraphs was.marks) None command) here.does.2 here.accepted in
+    let here : IsEffect (book_kept was.version was.tables was.paragraphs was.marks) c.args.version (AddParagraph c.args.paragraph c.args.room c.args.order_room c.args.place) c.requires.0 =
+    subst (λ (b : Book). IsEffect b c.args.version (AddParagraph c.args.paragraph c.args.room c.args.order_room c.args.place) c.requires.0) (sym c.self.view_is) c.requires.1 in
+    let order = order-placed was.version was.tables was.paragraphs was.marks c.requires.0 c.args.place here.does.order in
+    let sound = sound-next was.version was.tables was.paragraphs was.marks c.self.invariant c.requires.0 c.args.version (AddParagraph c.args.paragraph c.args.room c.args.order_room c.args.place) here in
+    let makes = subst (λ (command : Command). Makes (book_kept was.version was.tables was.paragraphs was.marks) command c.requires.0) here.does.command_is here.makes in
+    let accepted = subst (λ (command : Command). IsAccepted (book_kept was.version was.tables was.paragraphs was.marks) None command) here.does.command_is here.accepted in
     subst (λ (paragraphs : KeptParagraphs). IsKept c.args.version was.tables paragraphs was.marks) (sym c.typed.ensures)
-    (IsKept-typed was.version was.tables was.paragraphs was.marks c.requires.0 c.args.version here.does.0 here.does.1 c.args.order c.args.paragraph here.at accepted makes here.does.3 here.does.5 c.self.invariant sound)
+    (IsKept-typed was.version was.tables was.paragraphs was.marks c.requires.0 c.args.version here.does.anchor here.does.text (insert (ids was.paragraphs) c.args.place (length was.paragraphs + 1)) c.args.paragraph here.at accepted makes here.does.typed_is order c.self.invariant sound)
 
 pub returns : goal.returns
 returns c = λ next given.
     let was = c.self.inside in
-    let here : Puts (book_kept was.version was.tables was.paragraphs was.marks) c.args.version (AddParagraph c.args.paragraph c.args.room c.args.order) next =
-    subst (λ (b : Book). Puts b c.args.version (AddParagraph c.args.paragraph c.args.room c.args.order) next) (sym c.self.view_is) given in
-    let sound = sound-next was.version was.tables was.paragraphs was.marks c.self.invariant next c.args.version (AddParagraph c.args.paragraph c.args.room c.args.order) here in
-    let makes = subst (λ (command : Command). Makes (book_kept was.version was.tables was.paragraphs was.marks) command next) here.does.2 here.makes in
-    let accepted = subst (λ (command : Command). IsAccepted (book_kept was.version was.tables was.paragraphs was.marks) None command) here.does.2 here.accepted in
+    let here : IsEffect (book_kept was.version was.tables was.paragraphs was.marks) c.args.version (AddParagraph c.args.paragraph c.args.room c.args.order_room c.args.place) next =
+    subst (λ (b : Book). IsEffect b c.args.version (AddParagraph c.args.paragraph c.args.room c.args.order_room c.args.place) next) (sym c.self.view_is) given in
+    let order = order-placed was.version was.tables was.paragraphs was.marks next c.args.place here.does.order in
+    let sound = sound-next was.version was.tables was.paragraphs was.marks c.self.invariant next c.args.version (AddParagraph c.args.paragraph c.args.room c.args.order_room c.args.place) here in
+    let makes = subst (λ (command : Command). Makes (book_kept was.version was.tables was.paragraphs was.marks) command next) here.does.command_is here.makes in
+    let accepted = subst (λ (command : Command). IsAccepted (book_kept was.version was.tables was.paragraphs was.marks) None command) here.does.command_is here.accepted in
     ap (λ (paragraphs : KeptParagraphs). book_kept c.args.version was.tables paragraphs was.marks) c.typed.ensures
-    ∙ next-typed was.version was.tables was.paragraphs was.marks next c.args.version here.does.0 here.does.1 c.args.order c.args.paragraph here.at accepted makes here.does.3 here.does.5 c.self.invariant sound
+    ∙ next-typed was.version was.tables was.paragraphs was.marks next c.args.version here.does.anchor here.does.text (insert (ids was.paragraphs) c.args.place (length was.paragraphs + 1)) c.args.paragraph here.at accepted makes here.does.typed_is order c.self.invariant sound

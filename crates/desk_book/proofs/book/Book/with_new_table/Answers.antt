@@ -1,7 +1,7 @@
 use Rattle.std.proofs.Common.{sym, ap, subst, ◌∙◌}
 use Rattle.desk_book.specs.declared.change.Effect.TheVariants.{AddTable}
 use Rattle.desk_book.specs.Book.{Book}
-use Rattle.desk_book.specs.Changes.{Puts}
+use Rattle.desk_book.specs.Changes.{IsEffect}
 use Rattle.desk_book.specs.Kept.{KeptTables, IsKept, book_kept}
 use Rattle.desk_book.proofs.Settled.{room-added, new-added, next-added, IsKept-added}
 use Rattle.desk_book.proofs.book.Book.with_new_table.Goals as goal
@@ -9,29 +9,29 @@ use Rattle.desk_book.proofs.book.Book.with_new_table.Goals as goal
 pub joined-requires-clause-room : goal.joined-requires-clause-room
 joined-requires-clause-room c =
     let was = c.self.inside in
-    let here : Puts (book_kept was.version was.tables was.paragraphs was.marks) c.args.version (AddTable c.args.name c.args.table c.args.room) c.requires.0 =
-    subst (λ (b : Book). Puts b c.args.version (AddTable c.args.name c.args.table c.args.room) c.requires.0) (sym c.self.view_is) c.requires.1 in
+    let here : IsEffect (book_kept was.version was.tables was.paragraphs was.marks) c.args.version (AddTable c.args.name c.args.table c.args.room) c.requires.0 =
+    subst (λ (b : Book). IsEffect b c.args.version (AddTable c.args.name c.args.table c.args.room) c.requires.0) (sym c.self.view_is) c.requires.1 in
     room-added was.version was.tables was.paragraphs was.marks c.requires.0 c.args.version c.args.name c.args.table c.args.room here
 
 pub joined-requires-clause-new : goal.joined-requires-clause-new
 joined-requires-clause-new c =
     let was = c.self.inside in
-    let here : Puts (book_kept was.version was.tables was.paragraphs was.marks) c.args.version (AddTable c.args.name c.args.table c.args.room) c.requires.0 =
-    subst (λ (b : Book). Puts b c.args.version (AddTable c.args.name c.args.table c.args.room) c.requires.0) (sym c.self.view_is) c.requires.1 in
+    let here : IsEffect (book_kept was.version was.tables was.paragraphs was.marks) c.args.version (AddTable c.args.name c.args.table c.args.room) c.requires.0 =
+    subst (λ (b : Book). IsEffect b c.args.version (AddTable c.args.name c.args.table c.args.room) c.requires.0) (sym c.self.view_is) c.requires.1 in
     new-added was.version was.tables was.paragraphs was.marks c.requires.0 c.args.version c.args.name c.args.table c.args.room here
 
 pub invariant_of-result : goal.invariant_of-result
 invariant_of-result c =
     let was = c.self.inside in
-    let here : Puts (book_kept was.version was.tables was.paragraphs was.marks) c.args.version (AddTable c.args.name c.args.table c.args.room) c.requires.0 =
-    subst (λ (b : Book). Puts b c.args.version (AddTable c.args.name c.args.table c.args.room) c.requires.0) (sym c.self.view_is) c.requires.1 in
+    let here : IsEffect (book_kept was.version was.tables was.paragraphs was.marks) c.args.version (AddTable c.args.name c.args.table c.args.room) c.requires.0 =
+    subst (λ (b : Book). IsEffect b c.args.version (AddTable c.args.name c.args.table c.args.room) c.requires.0) (sym c.self.view_is) c.requires.1 in
     subst (λ (tables : KeptTables). IsKept c.args.version tables was.paragraphs was.marks) (sym c.joined.ensures)
     (IsKept-added was.version was.tables was.paragraphs was.marks c.requires.0 c.args.version c.args.name c.args.table c.args.room here c.self.invariant)
 
 pub returns : goal.returns
 returns c = λ next given.
     let was = c.self.inside in
-    let here : Puts (book_kept was.version was.tables was.paragraphs was.marks) c.args.version (AddTable c.args.name c.args.table c.args.room) next =
-    subst (λ (b : Book). Puts b c.args.version (AddTable c.args.name c.args.table c.args.room) next) (sym c.self.view_is) given in
+    let here : IsEffect (book_kept was.version was.tables was.paragraphs was.marks) c.args.version (AddTable c.args.name c.args.table c.args.room) next =
+    subst (λ (b : Book). IsEffect b c.args.version (AddTable c.args.name c.args.table c.args.room) next) (sym c.self.view_is) given in
     ap (λ (tables : KeptTables). book_kept c.args.version tables was.paragraphs was.marks) c.joined.ensures
     ∙ next-added was.version was.tables was.paragraphs was.marks next c.args.version c.args.name c.args.table c.args.room here

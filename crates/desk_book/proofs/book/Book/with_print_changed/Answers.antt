@@ -2,7 +2,7 @@ use Rattle.std.proofs.Common.{List, sym, ap, subst, ◌∙◌}
 use Rattle.desk_book.specs.declared.change.Effect.TheVariants.{ChangePrint}
 use Rattle.desk_book.specs.declared.marks.KeptMark.{KeptMark}
 use Rattle.desk_book.specs.Book.{Book}
-use Rattle.desk_book.specs.Changes.{Puts}
+use Rattle.desk_book.specs.Changes.{IsEffect}
 use Rattle.desk_book.specs.Kept.{KeptParagraphs, IsKept, book_kept, with_kept_change}
 use Rattle.desk_book.specs.KeptPrints.{with_print_changed}
 use Rattle.desk_book.proofs.Settled.{AreWithin-marks, HasRoomFor-print_changed, IsKept-print_changed, next-print_changed, sound-next}
@@ -22,15 +22,15 @@ give_way-requires-clause-short c = c.requires.1.does.short
 pub change_print-requires : goal.change_print-requires
 change_print-requires c =
     let was = c.self.inside in
-    let here : Puts (book_kept was.version was.tables was.paragraphs was.marks) c.args.version (ChangePrint c.args.id c.args.change) c.requires.0 =
-    subst (λ (b : Book). Puts b c.args.version (ChangePrint c.args.id c.args.change) c.requires.0) (sym c.self.view_is) c.requires.1 in
+    let here : IsEffect (book_kept was.version was.tables was.paragraphs was.marks) c.args.version (ChangePrint c.args.id c.args.change) c.requires.0 =
+    subst (λ (b : Book). IsEffect b c.args.version (ChangePrint c.args.id c.args.change) c.requires.0) (sym c.self.view_is) c.requires.1 in
     HasRoomFor-print_changed was.version was.tables was.paragraphs was.marks c.requires.0 c.args.version c.args.id c.args.change here.at here.does
 
 pub invariant_of-result : goal.invariant_of-result
 invariant_of-result c =
     let was = c.self.inside in
-    let here : Puts (book_kept was.version was.tables was.paragraphs was.marks) c.args.version (ChangePrint c.args.id c.args.change) c.requires.0 =
-    subst (λ (b : Book). Puts b c.args.version (ChangePrint c.args.id c.args.change) c.requires.0) (sym c.self.view_is) c.requires.1 in
+    let here : IsEffect (book_kept was.version was.tables was.paragraphs was.marks) c.args.version (ChangePrint c.args.id c.args.change) c.requires.0 =
+    subst (λ (b : Book). IsEffect b c.args.version (ChangePrint c.args.id c.args.change) c.requires.0) (sym c.self.view_is) c.requires.1 in
     let sound = sound-next was.version was.tables was.paragraphs was.marks c.self.invariant c.requires.0 c.args.version (ChangePrint c.args.id c.args.change) here in
     subst (λ (paragraphs : KeptParagraphs). IsKept c.args.version was.tables paragraphs c.give_way.new.self) (sym c.change_print.ensures)
     (subst (λ (marks : List KeptMark). IsKept c.args.version was.tables (with_kept_change c.args.id (with_print_changed c.args.change) was.paragraphs) marks) (sym c.give_way.ensures)
@@ -39,8 +39,8 @@ invariant_of-result c =
 pub returns : goal.returns
 returns c = λ next given.
     let was = c.self.inside in
-    let here : Puts (book_kept was.version was.tables was.paragraphs was.marks) c.args.version (ChangePrint c.args.id c.args.change) next =
-    subst (λ (b : Book). Puts b c.args.version (ChangePrint c.args.id c.args.change) next) (sym c.self.view_is) given in
+    let here : IsEffect (book_kept was.version was.tables was.paragraphs was.marks) c.args.version (ChangePrint c.args.id c.args.change) next =
+    subst (λ (b : Book). IsEffect b c.args.version (ChangePrint c.args.id c.args.change) next) (sym c.self.view_is) given in
     ap (λ (paragraphs : KeptParagraphs). book_kept c.args.version was.tables paragraphs c.give_way.new.self) c.change_print.ensures
     ∙ (ap (λ (marks : List KeptMark). book_kept c.args.version was.tables (with_kept_change c.args.id (with_print_changed c.args.change) was.paragraphs) marks) c.give_way.ensures
     ∙ next-print_changed was.version was.tables was.paragraphs was.marks next c.args.version c.args.id c.args.change here.at here.does)

@@ -5,7 +5,7 @@ use Rattle.std.specs.Prelude.{IsSome, nat_eq}
 use Rattle.desk_book.specs.declared.change.Effect.TheVariants.{ReplaceTable}
 use Rattle.desk_book.specs.declared.command.Command.{Command}
 use Rattle.desk_book.specs.Book.{Book}
-use Rattle.desk_book.specs.Changes.{Puts}
+use Rattle.desk_book.specs.Changes.{IsEffect}
 use Rattle.desk_book.specs.Kept.{KeptTables, KeptParagraphs, IsKept, book_kept, renewed, with_table}
 use Rattle.desk_book.specs.Step.{Makes}
 use Rattle.desk_book.proofs.Settled.{sound-next, there-replaced, next-replaced, IsKept-replaced}
@@ -14,15 +14,15 @@ use Rattle.desk_book.proofs.book.Book.with_table_replaced.Goals as goal
 pub replace-requires : goal.replace-requires
 replace-requires c =
     let was = c.self.inside in
-    let here : Puts (book_kept was.version was.tables was.paragraphs was.marks) c.args.version (ReplaceTable c.args.name c.args.table c.args.cells) c.requires.0 =
-    subst (λ (b : Book). Puts b c.args.version (ReplaceTable c.args.name c.args.table c.args.cells) c.requires.0) (sym c.self.view_is) c.requires.1 in
+    let here : IsEffect (book_kept was.version was.tables was.paragraphs was.marks) c.args.version (ReplaceTable c.args.name c.args.table c.args.cells) c.requires.0 =
+    subst (λ (b : Book). IsEffect b c.args.version (ReplaceTable c.args.name c.args.table c.args.cells) c.requires.0) (sym c.self.view_is) c.requires.1 in
     subst (λ (name : List ℕ). IsSome (lookup (pointwise nat_eq name) was.tables)) (sym c.as_str.ensures) (there-replaced was.version was.tables was.paragraphs was.marks c.args.name here.does.1)
 
 pub invariant_of-result : goal.invariant_of-result
 invariant_of-result c =
     let was = c.self.inside in
-    let here : Puts (book_kept was.version was.tables was.paragraphs was.marks) c.args.version (ReplaceTable c.args.name c.args.table c.args.cells) c.requires.0 =
-    subst (λ (b : Book). Puts b c.args.version (ReplaceTable c.args.name c.args.table c.args.cells) c.requires.0) (sym c.self.view_is) c.requires.1 in
+    let here : IsEffect (book_kept was.version was.tables was.paragraphs was.marks) c.args.version (ReplaceTable c.args.name c.args.table c.args.cells) c.requires.0 =
+    subst (λ (b : Book). IsEffect b c.args.version (ReplaceTable c.args.name c.args.table c.args.cells) c.requires.0) (sym c.self.view_is) c.requires.1 in
     let sound = sound-next was.version was.tables was.paragraphs was.marks c.self.invariant c.requires.0 c.args.version (ReplaceTable c.args.name c.args.table c.args.cells) here in
     let makes = subst (λ (command : Command). Makes (book_kept was.version was.tables was.paragraphs was.marks) command c.requires.0) here.does.0 here.makes in
     let tables : c.replace.new.self ≡ with_table c.args.name c.args.table was.tables =
@@ -34,8 +34,8 @@ invariant_of-result c =
 pub returns : goal.returns
 returns c = λ next given.
     let was = c.self.inside in
-    let here : Puts (book_kept was.version was.tables was.paragraphs was.marks) c.args.version (ReplaceTable c.args.name c.args.table c.args.cells) next =
-    subst (λ (b : Book). Puts b c.args.version (ReplaceTable c.args.name c.args.table c.args.cells) next) (sym c.self.view_is) given in
+    let here : IsEffect (book_kept was.version was.tables was.paragraphs was.marks) c.args.version (ReplaceTable c.args.name c.args.table c.args.cells) next =
+    subst (λ (b : Book). IsEffect b c.args.version (ReplaceTable c.args.name c.args.table c.args.cells) next) (sym c.self.view_is) given in
     let makes = subst (λ (command : Command). Makes (book_kept was.version was.tables was.paragraphs was.marks) command next) here.does.0 here.makes in
     let tables : c.replace.new.self ≡ with_table c.args.name c.args.table was.tables =
     c.replace.ensures ∙ ap (λ (name : List ℕ). with_table name c.args.table was.tables) c.as_str.ensures in

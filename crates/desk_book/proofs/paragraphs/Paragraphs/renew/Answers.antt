@@ -1,38 +1,21 @@
-use Rattle.std.proofs.Common.{◌≡◌, [], ◌∷◌, get_or, length, map, refl, subst, sym, ap, ◌∙◌, arith, MatchOption}
+use Rattle.std.proofs.Common.{◌≡◌, length, map, vec_len, sym, ap, ap₂, ◌∙◌}
 use Rattle.std.proofs.lemmas.List.{with_items_is}
-use Rattle.std.proofs.lemmas.Option.{slice_get_read}
 use Rattle.std.specs.List.{flat_map}
-use Rattle.std.specs.Vec.Iter.{into_iter_items}
-use Rattle.desk_book.specs.Kept.{numbered, renewed}
-use Rattle.desk_book.proofs.Arranging.{permutes_items}
-use Rattle.desk_book.proofs.Renewing.{drop_next, length-renewed_items, next_cases, reached-renewed, reached_all, renewed-in_order, renewed_items, with_cells}
+use Rattle.desk_book.specs.declared.paragraphs.Paragraphs.TheInside.{Inside}
+use Rattle.desk_book.specs.Kept.{numbered, renewed, renewed_items}
+use Rattle.desk_book.proofs.Renewing.{length-renewed_items, renewed-in_order}
 use Rattle.desk_book.proofs.paragraphs.Paragraphs.renew.Goals as goal
-
-pub loop-paragraph-preserved : goal.loop-paragraph-preserved
-loop-paragraph-preserved c =
-    let i = c.loop-paragraph.paragraph-index in
-    let cells = c.args.cells.items in
-    let next = drop_next cells i c.next.result (into_iter_items c.next.new.self)
-    (subst (λ left. MatchOption c.next.result ((left ≡ []) × (into_iter_items c.next.new.self ≡ [])) (λ new. left ≡ new ∷ into_iter_items c.next.new.self))
-    c.loop-paragraph.invariant.0 (next_cases c.loop-paragraph.cells c.next.new.self c.next.result c.next.ensures.cases)) in
-    let item = slice_get_read c.loop-paragraph.paragraph-items (length c.loop-paragraph.paragraph-items) i c.paragraph-item.result refl (omega (arith, c.loop-paragraph-test.true, c.loop-paragraph.auto.paragraph-items)) c.paragraph-item.is in
-    let was = get_or c.loop-paragraph.paragraph-items i c.paragraph-item.result in
-    let new : c.renew.new.self ≡ with_cells c.flatten.result was = c.renew.ensures in (
-      next.1,
-      reached-renewed cells c.deref_mut-paragraph-items.result.now c.loop-paragraph.paragraph-items i c.next.result c.paragraph-item.result c.renew.new.self
-          c.loop-paragraph.invariant.1 item next.0 (new ∙ (ap (with_cells c.flatten.result) (sym c.paragraph-item.is) ∙ ap (λ new. with_cells new c.paragraph-item.result) c.flatten.ensures)),
-    )
 
 pub returns : goal.returns
 returns c =
     let items = c.self.inside.items in
-    let order = c.self.inside.order.items in
+    let order = c.self.inside.order in
     let cells = c.args.cells.items in
-    let was = c.deref_mut-paragraph-items.ensures.value in
-    let long = c.loop-paragraph.auto.paragraph-items ∙ (ap length was ∙ sym items.ok.0) in
-    let now = c.loop-paragraph.invariant.1
-    ∙ reached_all c.loop-paragraph.paragraph-index (renewed_items cells c.deref_mut-paragraph-items.result.now) c.deref_mut-paragraph-items.result.now
-    (length-renewed_items cells c.deref_mut-paragraph-items.result.now) c.loop-paragraph-test.false
-    ∙ ap (renewed_items cells) was in
-    ap (λ list. flat_map (numbered list) order) (with_items_is items c.loop-paragraph.paragraph-items long ∙ now)
-    ∙ (sym (renewed-in_order cells items.items order (permutes_items items order c.self.invariant)) ∙ ap (map (renewed cells)) c.self.view_is)
+    let vector = c.self-inside.inside.0.0.items in
+    let shown : vector.items ≡ items = ap (λ (s : Inside). s.items) c.self-inside.view_is in
+    let placed : c.self-inside.inside.0.1.0 ≡ order = ap (λ (s : Inside). s.order) c.self-inside.view_is in
+    let was = c.deref_mut.ensures.value in
+    let long : length c.renew.new.paragraphs ≡ vec_len vector =
+    ap length c.renew.ensures ∙ (length-renewed_items cells c.deref_mut.result.now ∙ (ap length was ∙ sym vector.ok.0)) in
+    ap₂ (λ list ids. flat_map (numbered list) ids) (with_items_is vector c.renew.new.paragraphs long ∙ (c.renew.ensures ∙ ap (renewed_items cells) (was ∙ shown))) placed
+    ∙ (sym (renewed-in_order cells items order c.self.invariant) ∙ ap (map (renewed cells)) c.self.view_is)

@@ -1,43 +1,59 @@
-use Rattle.std.proofs.Common.{◌≡◌, ◌+◌, [], ◌∷◌, ◌++◌, true, is_ok, length, vec_len, subst, sym, ap, ap₂, ◌∙◌, arith}
-use Rattle.std.specs.List.{flat_map, range_with_len}
+use Rattle.std.proofs.Common.{◌≡◌, ◌+◌, ◌∷◌, ◌++◌, [], length, subst, sym, ap, ap₂, ◌∙◌, arith}
+use Rattle.std.specs.List.{flat_map, insert, range_with_len}
 use Rattle.std.specs.List.Sorted.{IsPermutation}
-use Rattle.desk_book.specs.Kept.{arranged, numbered}
-use Rattle.desk_book.proofs.Arranging.{arranged-pushed, length-shown, permutes_items}
+use Rattle.std.proofs.lemmas.List.{length-append}
+use Rattle.desk_book.specs.Kept.{arranged, ids, numbered}
+use Rattle.desk_book.specs.Room.{Suffices}
+use Rattle.desk_book.proofs.Arranging.{arranged-pushed, ids-shown, length-order, length-shown}
 use Rattle.desk_book.proofs.paragraphs.Paragraphs.typed.Goals as goal
 
-pub unwrap-requires : goal.unwrap-requires
-unwrap-requires c =
-    let count = length-shown c.self.inside.items c.self.inside.order.items c.args.self c.self.invariant c.self.view_is in
-    let empty = c.room.inside.items.ok.0 ∙ ap length c.room.invariant in
-    c.append.ensures.succeeds (omega (arith, count, empty, c.room.view_is, c.requires.room))
+pub push-requires-clause-few : goal.push-requires-clause-few
+push-requires-clause-few c =
+    let count = length-shown c.self.inside.items c.self.inside.order c.args.self c.self.invariant c.self.view_is in
+    omega (arith, count, c.requires.few)
 
-pub push_reserved-requires : goal.push_reserved-requires
-push_reserved-requires c =
-    let count = length-shown c.self.inside.items c.self.inside.order.items c.args.self c.self.invariant c.self.view_is in
-    let empty = c.room.inside.items.ok.0 ∙ ap length c.room.invariant in
-    let done : is_ok c.append.result ≡ true = ap is_ok c.unwrap.ensures in
-    let len = rw done at c.append.ensures.len in
-    omega (arith, count, empty, len, c.append.ensures.capacity, c.room.view_is, c.requires.room)
+pub push-requires-clause-room : goal.push-requires-clause-room
+push-requires-clause-room c =
+    subst (λ n. Suffices n c.args.room) (length-shown c.self.inside.items c.self.inside.order c.args.self c.self.invariant c.self.view_is) c.requires.room
+
+pub inserted-order-requires-clause-few : goal.inserted-order-requires-clause-few
+inserted-order-requires-clause-few c =
+    let count = length-shown c.self.inside.items c.self.inside.order c.args.self c.self.invariant c.self.view_is in
+    let ordered = length-order (length c.self.inside.items) c.self.inside.order c.self.invariant in
+    omega (arith, count, ordered, c.requires.few)
+
+pub inserted-order-requires-clause-room : goal.inserted-order-requires-clause-room
+inserted-order-requires-clause-room c =
+    let count = length-shown c.self.inside.items c.self.inside.order c.args.self c.self.invariant c.self.view_is in
+    let ordered = length-order (length c.self.inside.items) c.self.inside.order c.self.invariant in
+    subst (λ n. Suffices n c.args.order_room) (count ∙ sym ordered) c.requires.order_room
+
+pub inserted-order-requires-clause-place : goal.inserted-order-requires-clause-place
+inserted-order-requires-clause-place c =
+    let count = length-shown c.self.inside.items c.self.inside.order c.args.self c.self.invariant c.self.view_is in
+    let ordered = length-order (length c.self.inside.items) c.self.inside.order c.self.invariant in
+    omega (arith, count, ordered, c.requires.place)
 
 pub invariant_of-result : goal.invariant_of-result
 invariant_of-result c =
-    let count = length-shown c.self.inside.items c.self.inside.order.items c.args.self c.self.invariant c.self.view_is in
-    let empty = c.room.inside.items.ok.0 ∙ ap length c.room.invariant in
-    let done : is_ok c.append.result ≡ true = ap is_ok c.unwrap.ensures in
-    let len = rw done at c.append.ensures.len in
-    let all : length c.args.self + 1 ≡ vec_len c.push_reserved.new.self = omega (arith, count, empty, len, c.push_reserved.ensures.len) in
-    rw c.order.view_is (subst (λ n. IsPermutation (range_with_len 1 n) c.args.order) all c.requires.order)
+    let items = c.self.inside.items in
+    let order = c.self.inside.order in
+    let count = length-shown items order c.args.self c.self.invariant c.self.view_is in
+    let long = length-append items (c.args.paragraph ∷ []) in
+    let more : length c.args.self + 1 ≡ length (items ++ c.args.paragraph ∷ []) = omega (arith, count, long) in
+    let put = ap₂ (λ list n. insert list c.args.place (n + 1)) (ids-shown items order c.args.self c.self.invariant c.self.view_is) (sym c.len.ensures) in
+    rw (c.push.ensures, c.inserted-order.ensures)
+    (subst (λ n. IsPermutation (range_with_len 1 n) (insert order c.args.place (c.len.result + 1))) more
+    (subst (IsPermutation (range_with_len 1 (length c.args.self + 1))) put c.requires.order))
 
 pub returns : goal.returns
 returns c =
-    let items = c.self.inside.items.items in
-    let order = c.self.inside.order.items in
-    let permutes = permutes_items c.self.inside.items c.self.inside.order.items c.self.invariant in
-    let count = length-shown c.self.inside.items c.self.inside.order.items c.args.self c.self.invariant c.self.view_is ∙ c.self.inside.items.ok.0 in
-    let others = subst (λ n. IsPermutation (range_with_len 1 (n + 1)) c.args.order) count c.requires.order in
-    let done : is_ok c.append.result ≡ true = ap is_ok c.unwrap.ensures in
-    let moved = rw done at c.append.ensures.items in
-    let all = c.push_reserved.ensures.items ∙ ap (λ list. list ++ c.args.paragraph ∷ []) (moved ∙ ap (λ front. front ++ items) c.room.invariant) in
-    ap₂ (λ items order. flat_map (numbered items) order) all c.order.view_is
-    ∙ (sym (arranged-pushed items order c.args.order c.args.paragraph permutes others)
-    ∙ ap (arranged c.args.order) (ap₂ (λ list n. list ++ (n + 1, c.args.paragraph) ∷ []) c.self.view_is (sym count)))
+    let items = c.self.inside.items in
+    let order = c.self.inside.order in
+    let count = length-shown items order c.args.self c.self.invariant c.self.view_is in
+    let other = insert (ids c.args.self) c.args.place (length c.args.self + 1) in
+    let put = ap₂ (λ list n. insert list c.args.place (n + 1)) (ids-shown items order c.args.self c.self.invariant c.self.view_is) (sym c.len.ensures) in
+    let others = subst (λ n. IsPermutation (range_with_len 1 (n + 1)) other) count c.requires.order in
+    ap₂ (λ list ids. flat_map (numbered list) ids) c.push.ensures (c.inserted-order.ensures ∙ sym put)
+    ∙ (sym (arranged-pushed items order other c.args.paragraph c.self.invariant others)
+    ∙ ap (arranged other) (ap₂ (λ list n. list ++ (n + 1, c.args.paragraph) ∷ []) c.self.view_is (sym count)))
