@@ -25,3 +25,7 @@ pub mod Rows
 pub mod Room
 pub mod Told
 pub mod ParagraphMarks
+pub mod FileRows
+pub mod Shows
+pub mod Damage
+pub mod Rebuilt

@@ -28,6 +28,11 @@ pub record Corr : Type 0 where
   pub len : ℤ
   pub body : List ℕ
 
+-- an entry of a history, and the name of its reader
+pub record NamedCorr : Type 0 where
+  pub entry : Corr
+  pub who : List ℕ
+
 pub record Mark : Type 0 where
   pub id : ℤ
   pub para : ℤ
@@ -36,3 +41,8 @@ pub record Mark : Type 0 where
   pub note : List ℕ
   pub touched : ℤ
   pub resolved : ℤ
+
+-- the braille of a paragraph, one mask a cell
+pub record Cached : Type 0 where
+  pub para : ℤ
+  pub cells : List ℕ

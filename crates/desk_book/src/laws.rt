@@ -1,13 +1,17 @@
 //! What holds of every book.
 ghost use Rattle.desk_book.specs.After.{After};
 ghost use Rattle.desk_book.specs.Book.{Book};
+ghost use Rattle.desk_book.specs.Damage.{IsDamaged, IsFirstDamage};
 ghost use Rattle.desk_book.specs.declared.command.Command.{Command};
+ghost use Rattle.desk_book.specs.declared.parts.FileTable.{FileTable};
+ghost use Rattle.desk_book.specs.FileRows.{FileRows};
 ghost use Rattle.desk_book.specs.Refusals.{IsAccepted};
 ghost use Rattle.desk_book.specs.Restored.{RestoresPrint};
+ghost use Rattle.desk_book.specs.Shows.{Shows};
 ghost use Rattle.desk_book.specs.Sound.{IsSound};
 ghost use Rattle.desk_book.specs.Step.{HasCharacters, Makes};
 ghost use Rattle.std.specs.List.{All};
-ghost use Rattle.std.specs.Prelude.{List, None, ℕ, ◌++◌, ◌↔◌};
+ghost use Rattle.std.specs.Prelude.{IsSome, List, None, ℕ, ℤ, ◌++◌, ◌↔◌, ◌≡◌};
 
 /// A list of commands, cut anywhere: the whole of it makes of a book what its second part makes of the book that its
 /// first part makes, and is accepted exactly where both parts are.
@@ -27,4 +31,25 @@ pub fn commands_keep_a_book_sound()
 pub fn undo_restores_the_print()
     ensures { (book next : Book) (id : ℕ) → IsSound book → IsAccepted book None (Command.Undo id)
         → Makes book (Command.Undo id) next → RestoresPrint book next id }
+{}
+
+/// Rows show at most one book.
+pub fn one_book()
+    ensures { (rows : FileRows) (book other : Book) → Shows rows book → Shows rows other → book ≡ other }
+{}
+
+/// Each sound book has rows that show it, with the braille of its paragraphs.
+pub fn some_rows()
+    ensures { (book : Book) → IsSound book → (rows : FileRows) × IsSome rows.caches × Shows rows book }
+{}
+
+/// Rows that show a book have no damage.
+pub fn shown_rows_are_sound()
+    ensures { (rows : FileRows) (book : Book) → Shows rows book → (table : FileTable) (id : ℤ) → ¬ IsDamaged rows table id }
+{}
+
+/// At most one damage of rows is the first.
+pub fn one_first_damage()
+    ensures { (rows : FileRows) (table other : FileTable) (id n : ℤ) → IsFirstDamage rows table id
+        → IsFirstDamage rows other n → (table ≡ other) × (id ≡ n) }
 {}

@@ -32,6 +32,7 @@ mod marking;
 mod marks;
 mod paragraph_marks;
 mod paragraphs;
+pub mod parts;
 mod plan;
 mod queries;
 mod refusal;

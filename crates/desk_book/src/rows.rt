@@ -3,7 +3,7 @@
 //! A row holds what stands in its table, whether it makes sense or not: a file may hold any integers, negative ones too.
 
 ghost use Rattle.std.specs.Prelude.{string_bytes};
-ghost use Rattle.desk_book.specs.Rows.{Tab, StoredTab as StoredTabRow, Para, Corr, Mark};
+ghost use Rattle.desk_book.specs.Rows.{Tab, StoredTab as StoredTabRow, Para, Corr, NamedCorr, Mark, Cached};
 
 use std::marker::Model;
 
@@ -96,6 +96,21 @@ impl Model for CorrRow {
     ghost view = { λ r. record { para = r.para; seq = r.seq; kind = r.kind; start = r.start; len = r.len; body = string_bytes r.body } };
 }
 
+/// A row of `corr2`: an entry of a paragraph's history, and the name of its reader.
+#[derive(Drop)]
+pub struct NamedCorrRow {
+    /// The entry. Its paragraph and its number are the key.
+    pub entry: CorrRow,
+    /// The reader's name, which may be empty.
+    pub who: String,
+}
+
+impl Model for NamedCorrRow {
+    ghost Value = { NamedCorr };
+
+    ghost view = { λ r. record { entry = r.entry; who = string_bytes r.who } };
+}
+
 /// A row of `mark`: a proofreader's mark.
 #[derive(Drop)]
 pub struct MarkRow {
@@ -121,17 +136,65 @@ impl Model for MarkRow {
     ghost view = { λ r. record { id = r.id; para = r.para; start = r.start; stop = r.stop; note = string_bytes r.note; touched = r.touched; resolved = r.resolved } };
 }
 
-/// A row that a change adds or replaces, or the one value of a row that it sets.
+/// A row of `cache`: the braille of a paragraph.
+#[derive(Drop)]
+pub struct CacheRow {
+    /// The paragraph's id, which is the key.
+    pub para: i64,
+    /// Its cells, one mask a cell.
+    pub cells: Vec<u8>,
+}
+
+impl Model for CacheRow {
+    ghost Value = { Cached };
+
+    ghost view = { λ r. record { para = r.para; cells = r.cells.items } };
+}
+
+/// A row that is added, or replaces the one with its key, or columns that a row that is there gets.
 #[derive(Clone, Copy)]
 pub enum Put<'a> {
     Book(&'a BookRow),
     Tab(&'a TabRow),
     Para(&'a ParaRow),
-    /// A paragraph that is there gets another place.
-    Place { id: i64, place: i64 },
-    /// An entry that its history lacks.
-    Corr(&'a CorrRow),
     Mark(&'a MarkRow),
-    /// The book gets another version.
+    Cache(&'a CacheRow),
+    /// An entry that its history lacks.
+    Corr(&'a NamedCorrRow),
+    /// The place of a paragraph.
+    Place {
+        id: i64,
+        place: i64,
+    },
+    /// The style of a paragraph, whether a volume begins with it, and whether it is struck.
+    Flags {
+        id: i64,
+        style: i64,
+        volume: i64,
+        struck: i64,
+    },
+    /// The braille table of a paragraph.
+    Table {
+        id: i64,
+        tab: &'a str,
+    },
+    /// The print of a paragraph, with its corrections.
+    Print {
+        id: i64,
+        print: &'a str,
+    },
+    /// The span of a mark, and whether a correction has touched it.
+    Span {
+        id: i64,
+        start: i64,
+        stop: i64,
+        touched: i64,
+    },
+    /// Whether a mark is resolved.
+    Resolved {
+        id: i64,
+        resolved: i64,
+    },
+    /// The version of the book.
     Version(i64),
 }

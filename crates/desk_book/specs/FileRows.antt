@@ -1,0 +1,76 @@
+-- The rows of a book's whole file.
+use Rattle.std.specs.Prelude.{ℕ, List, [], map, Option, IsUtf8}
+use Rattle.std.specs.List.{All}
+use Rattle.std.specs.Str.{chars}
+use Rattle.desk_book.specs.declared.parts.FileTable.{FileTable}
+use Rattle.desk_book.specs.declared.parts.FileTable.TheVariants.{Corr as CorrTable, NamedCorr as NamedCorrTable}
+use Rattle.desk_book.specs.declared.rows.BookRow.{BookRow}
+use Rattle.desk_book.specs.Rows.{Tab, Para, Corr, NamedCorr, Mark, Cached}
+
+-- The entries of all histories: of the table `corr`, as the first format keeps them, or of `corr2`, as the second does.
+pub data EntryRows : Type 0 where
+  Unnamed : List Corr → EntryRows
+  Named : List NamedCorr → EntryRows
+
+-- The rows of the tables, those of each in any order; of `cache` where the file has it. The rowids of `tab` are hidden,
+-- and say nothing.
+pub record FileRows : Type 0 where
+  pub books : List BookRow
+  pub tabs : List Tab
+  pub paras : List Para
+  pub entries : EntryRows
+  pub marks : List Mark
+  pub caches : Option (List Cached)
+
+-- the format of a file that keeps entries so
+abbrev pub format_of : EntryRows → ℕ
+format_of (Unnamed corrs) = 1
+format_of (Named corrs) = 2
+
+-- the table that they are the rows of
+abbrev pub table_of : EntryRows → FileTable
+table_of (Unnamed corrs) = CorrTable
+table_of (Named corrs) = NamedCorrTable
+
+-- an entry of the first format is that of a reader without a name
+abbrev pub unnamed : Corr → NamedCorr
+unnamed entry = record { entry = entry; who = [] }
+
+abbrev pub entries_in : EntryRows → List NamedCorr
+entries_in (Unnamed corrs) = map unnamed corrs
+entries_in (Named corrs) = corrs
+
+-- ---- texts
+
+-- the texts of a row are UTF-8
+abbrev pub HasTabText : Tab → Type 0
+HasTabText t = IsUtf8 t.name
+
+abbrev pub HasParaTexts : Para → Type 0
+HasParaTexts p = IsUtf8 p.tab × IsUtf8 p.original × IsUtf8 p.print
+
+abbrev pub HasEntryTexts : NamedCorr → Type 0
+HasEntryTexts e = IsUtf8 e.entry.body × IsUtf8 e.who
+
+abbrev pub HasMarkText : Mark → Type 0
+HasMarkText m = IsUtf8 m.note
+
+-- each text is UTF-8
+pub record AreTexts (rows : FileRows) : Type 0 where
+  pub tabs : All HasTabText rows.tabs
+  pub paras : All HasParaTexts rows.paras
+  pub entries : All HasEntryTexts (entries_in rows.entries)
+  pub marks : All HasMarkText rows.marks
+
+-- a row with its texts as characters, in place of their bytes
+abbrev pub spelled_tab : Tab → Tab
+spelled_tab t = record t { name = chars t.name }
+
+abbrev pub spelled_para : Para → Para
+spelled_para p = record p { tab = chars p.tab; original = chars p.original; print = chars p.print }
+
+abbrev pub spelled_entry : NamedCorr → NamedCorr
+spelled_entry e = record { entry = record e.entry { body = chars e.entry.body }; who = chars e.who }
+
+abbrev pub spelled_mark : Mark → Mark
+spelled_mark m = record m { note = chars m.note }
