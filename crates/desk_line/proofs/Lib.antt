@@ -1,0 +1,15 @@
+pub mod CutLaws
+mod DigitValues
+mod FieldLists
+pub mod HeadLines
+pub mod FieldParts
+pub mod OrderLaws
+pub mod QueryLaws
+pub mod HeadLaws
+pub mod LineFeeds
+pub mod LineLists
+pub mod OperandLaws
+pub mod RequestLaws
+pub mod Putting
+pub mod Replying
+mod WorkedRows

@@ -1,0 +1,107 @@
+-- What is read of bytes is the request that they are, and what they are is read.
+use Rattle.std.proofs.Common.{◌≡◌, ◌≢◌, ℕ, ◌-◌, true, ◌&&◌, ltb, leb, List, [], ◌∷◌, length, Option, Some, None, Result, Ok, Err, refl, sym, ap, subst, ◌∙◌, arith, lit≤}
+use Rattle.std.specs.Prelude.{MatchResult}
+use Rattle.std.specs.List.{AllByRecursion}
+use Rattle.std.specs.Option.{option_and_then}
+use Rattle.std.proofs.lemmas.Bool.{lt-ltb, ltb-true, le-leb, leb-true, and_parts, and_from, cond-true, eqb-true, eq-eqb}
+use Rattle.std.proofs.lemmas.Str.{IsUtf8-nil}
+use Rattle.louis_table.specs.Lines.{lines_of}
+use Rattle.louis_table.proofs.LineLaws.{lines_of-split}
+use Rattle.desk_line.specs.declared.fault.Fault.{Fault}
+use Rattle.desk_line.specs.declared.fault.Fault.TheVariants.{Syntax, NoMemory}
+use Rattle.desk_line.specs.declared.head.Head.{Head}
+use Rattle.desk_line.specs.declared.request.Request.{Request}
+use Rattle.desk_line.specs.declared.request.Request.TheVariants.{Do}
+use Rattle.desk_line.specs.Head.{Says}
+use Rattle.desk_line.specs.Limits.{most_line_bytes}
+use Rattle.desk_line.specs.Lines.{IsShort, behind_first_line}
+use Rattle.desk_line.specs.Reading.{Gives, are_lines, head_line, head_in, head_of, query_in, order_in, request_in, with_text}
+use Rattle.desk_line.specs.Request.{Reads, Takes, said, nothing, Tells, lines_behind, request_of}
+use Rattle.desk_line.proofs.HeadLines.{some-is, head-of-text}
+use Rattle.desk_line.proofs.HeadLaws.{head-read, head-found}
+use Rattle.desk_line.proofs.OperandLaws.{taken, followed}
+
+-- ---- lines
+
+lines-counted : (lines : List (List ℕ)) (count : ℕ) → are_lines lines count ≡ true → (length lines ≡ count) × AllByRecursion IsShort lines
+lines-counted [] count e = (sym (eqb-true count 0 e), tt)
+lines-counted (line ∷ lines) count e =
+    let all = and_parts (ltb 0 count && leb (length line) most_line_bytes) (are_lines lines (count - 1)) e in
+    let first = and_parts (ltb 0 count) (leb (length line) most_line_bytes) all.0 in
+    let others = lines-counted lines (count - 1) all.1 in
+    let more = ltb-true 0 count first.0 in
+    let fewer = others.0 in
+    (omega arith, (leb-true (length line) most_line_bytes first.1, others.1))
+
+lines-tested : (lines : List (List ℕ)) (count : ℕ) → length lines ≡ count → AllByRecursion IsShort lines → are_lines lines count ≡ true
+lines-tested [] count e h = eq-eqb count 0 (sym e)
+lines-tested (line ∷ lines) count e h =
+    and_from (ltb 0 count && leb (length line) most_line_bytes) (are_lines lines (count - 1))
+    (and_from (ltb 0 count) (leb (length line) most_line_bytes) (lt-ltb 0 count (omega arith)) (le-leb (length line) most_line_bytes h.0))
+    (lines-tested lines (count - 1) (omega arith) h.1)
+
+-- no line says nothing
+nothing-said : head_of (head_line []) ≡ None
+unfolding head_in query_in order_in
+nothing-said = head-of-text [] (lit≤ tt) IsUtf8-nil
+
+-- ---- requests
+
+pub request-read : (bytes : List ℕ) (request : Request) → request_in bytes ≡ Some request → Reads bytes request
+unfolding request_in
+request-read [] request e = let n = nothing-said in absurd (let h = followed (with_text (behind_first_line [])) (head_of (head_line [])) request e in cc)
+request-read (b ∷ bytes) request e =
+    let all = b ∷ bytes in
+    let h = followed (with_text (behind_first_line (b ∷ bytes))) (head_of (head_line (b ∷ bytes))) request e in
+    let t = taken (are_lines (lines_of (behind_first_line (b ∷ bytes))) (lines_behind h.0)) (Some (request_of h.0 (behind_first_line (b ∷ bytes)))) request h.2 in
+    let counted = lines-counted (lines_of (behind_first_line (b ∷ bytes))) (lines_behind h.0) t.0 in
+    record {
+      line = head_line (b ∷ bytes);
+      block = lines_of (behind_first_line (b ∷ bytes));
+      head = h.0;
+      lines = lines_of-split (b ∷ bytes) (λ n. cc);
+      says = head-read (head_line (b ∷ bytes)) h.0 h.1;
+      whole = counted.0;
+      short = counted.1;
+      is = sym (some-is (request_of h.0 (behind_first_line (b ∷ bytes))) request t.1);
+    }
+
+pub heads-same : {A : Type 0} (x y : A) (xs ys : List A) → x ∷ xs ≡ y ∷ ys → x ≡ y
+heads-same x y xs ys e = cc
+
+pub tails-same : {A : Type 0} (x y : A) (xs ys : List A) → x ∷ xs ≡ y ∷ ys → xs ≡ ys
+tails-same x y xs ys e = cc
+
+pub some-lines : (bytes line : List ℕ) (block : List (List ℕ)) → lines_of bytes ≡ line ∷ block → bytes ≢ []
+some-lines bytes line block e n = let h : lines_of [] ≡ line ∷ block = ap lines_of (sym n) ∙ e in cc
+
+pub request-found : (bytes : List ℕ) (request : Request) → Reads bytes request → request_in bytes ≡ Some request
+unfolding request_in
+request-found bytes request r =
+    let split = sym r.lines ∙ lines_of-split bytes (some-lines bytes r.line r.block r.lines) in
+    let line = heads-same r.line (head_line bytes) r.block (lines_of (behind_first_line bytes)) split in
+    let block = tails-same r.line (head_line bytes) r.block (lines_of (behind_first_line bytes)) split in
+    ap (option_and_then (with_text (behind_first_line bytes))) (head-found (head_line bytes) r.head (subst (λ (l : List ℕ). Says l r.head) line r.says))
+    ∙ (cond-true (are_lines (lines_of (behind_first_line bytes)) (lines_behind r.head)) (Some (request_of r.head (behind_first_line bytes))) None
+    (ap (λ (lines : List (List ℕ)). are_lines lines (lines_behind r.head)) (sym block) ∙ lines-tested r.block (lines_behind r.head) r.whole r.short)
+    ∙ ap Some (sym r.is))
+
+-- bytes are one request at most
+pub one-request : (bytes : List ℕ) (this that : Request) → Reads bytes this → Reads bytes that → this ≡ that
+one-request bytes this that a b = some-is this that (sym (request-found bytes this a) ∙ request-found bytes that b)
+
+-- ---- what is answered
+
+some-none : {A : Type 0} (x : A) (o : Option A) → o ≡ Some x → o ≡ None → ⊥
+some-none x o s n = cc
+
+pub is-told : (bytes : List ℕ) (result : Result Request Fault) → Gives result (request_in bytes) → MatchResult result (Reads bytes) (Tells bytes)
+is-told bytes (Ok request) e = request-read bytes request e
+is-told bytes (Err Syntax) e = λ request r. some-none request (request_in bytes) (request-found bytes request r) e
+is-told bytes (Err NoMemory) e = (e.0, e.1, request-read bytes (Do e.0 e.1) e.2)
+
+pub takes-some : (line : List ℕ) (head : Head) → head_of line ≡ Some head → Takes line (lines_behind head)
+takes-some line head e = said head (head-read line head e) refl
+
+pub takes-none : (line : List ℕ) → head_of line ≡ None → Takes line 0
+takes-none line e = nothing (λ head s. some-none head (head_of line) (head-found line head s) e) refl

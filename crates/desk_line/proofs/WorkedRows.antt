@@ -1,0 +1,300 @@
+-- Requests and replies, worked by the definitions alone: they say what these rows say, and not only what the code does.
+use Rattle.std.proofs.Common.{◌≡◌, ℕ, ◌≤◌, true, false, List, [], ◌∷◌, ◌++◌, length, refl, sym, ap, ◌∙◌, lit≤, arith}
+use Rattle.std.specs.Prelude.{Some, None, codes}
+use Rattle.std.specs.Char.{encode_utf8}
+use Rattle.std.specs.Str.{chars, all_scalars, encode_utf8_all}
+use Rattle.std.specs.Fmt.{digits}
+use Rattle.louis_table.specs.Lines.{lines_of}
+use Rattle.desk_book.specs.declared.command.Anchor.TheVariants.{End}
+use Rattle.desk_book.specs.declared.command.Command.TheVariants as commands
+use Rattle.desk_book.specs.declared.refusal.Limit.TheVariants as limits
+use Rattle.desk_book.specs.declared.refusal.Refusal.TheVariants as refusals
+use Rattle.desk_book.specs.declared.style.Style.TheVariants.{Body}
+use Rattle.desk_book.specs.Book.{empty_book, Corrects, Undoes}
+use Rattle.desk_line.specs.declared.answer.Answer.TheVariants as answers
+use Rattle.desk_line.specs.declared.head.Head.{Head}
+use Rattle.desk_line.specs.declared.head.Head.TheVariants as heads
+use Rattle.desk_line.specs.declared.order.Order.TheVariants as orders
+use Rattle.desk_line.specs.declared.request.Query.TheVariants as queries
+use Rattle.desk_line.specs.declared.request.Request.TheVariants as requests
+use Rattle.desk_line.specs.Fields.{IsNumber, end, fields_of}
+use Rattle.desk_line.specs.Head.{Says, SaysOrder, asks, correct, correct_by, does, expected, nothing, strike, table, type_in, version}
+use Rattle.desk_line.specs.Lines.{IsText}
+use Rattle.desk_line.specs.Reading.{head_in, query_in, order_in, number_in, count_in, table_in, type_in as read_type_in, anchor_in}
+use Rattle.desk_line.specs.Reply.{IsReply, entry_line, mark_line, refusal_line, listed, shown_line}
+use Rattle.desk_line.specs.Request.{IsWhole, Reads, Requests, Takes, WholeRequests, last, said, whole}
+use Rattle.desk_line.specs.Request.{nothing as takes_nothing}
+use Rattle.desk_line.proofs.HeadLines.{head-of-text}
+use Rattle.desk_line.proofs.HeadLaws.{head-found}
+use Rattle.desk_line.proofs.LineFeeds.{feeds, feeds-append}
+
+-- ---- lines
+
+-- `a`, a line feed, an empty line with a carriage return, and `b` without a line feed
+lines-of-an-input : lines_of (97 ∷ 10 ∷ 13 ∷ 10 ∷ 98 ∷ []) ≡ (97 ∷ []) ∷ [] ∷ (98 ∷ []) ∷ []
+lines-of-an-input = refl
+
+-- a carriage return alone is a line, and of two one is dropped
+lone-return : lines_of (13 ∷ []) ≡ [] ∷ []
+lone-return = refl
+
+two-returns : lines_of (97 ∷ 13 ∷ 13 ∷ 10 ∷ []) ≡ (97 ∷ 13 ∷ []) ∷ []
+two-returns = refl
+
+-- ---- head lines
+
+number-with-zeros : IsNumber (codes "007") 7
+number-with-zeros = record { numeral = (lit≤ tt, (lit≤ tt, (lit≤ tt, (lit≤ tt, tt)))); short = lit≤ tt; value = refl; small = lit≤ tt }
+
+one-is-a-number : IsNumber (codes "1") 1
+one-is-a-number = record { numeral = (lit≤ tt, (lit≤ tt, tt)); short = lit≤ tt; value = refl; small = lit≤ tt }
+
+nine-is-a-number : IsNumber (codes "9") 9
+nine-is-a-number = record { numeral = (lit≤ tt, (lit≤ tt, tt)); short = lit≤ tt; value = refl; small = lit≤ tt }
+
+zero-is-a-number : IsNumber (codes "0") 0
+zero-is-a-number = record { numeral = (lit≤ tt, (lit≤ tt, tt)); short = lit≤ tt; value = refl; small = lit≤ tt }
+
+-- a short line of ASCII
+text-of-line : (line : List ℕ) → length line ≤ 65536 → all_scalars line ≡ true → encode_utf8_all line ≡ line → IsText line
+text-of-line line short scalars same = record { short = short; utf8 = (line, (scalars, same)) }
+
+strike-a-paragraph : Says (codes "strike 1") (heads.Do (orders.Strike 1) None)
+unfolding encode_utf8
+strike-a-paragraph =
+    does None (fields_of (codes "strike 1")) (orders.Strike 1) (text-of-line (codes "strike 1") (lit≤ tt) refl refl) (nothing refl refl)
+    (strike (codes "1") 1 one-is-a-number refl refl) refl
+
+strike-at-a-version : Says (codes "@9 strike 1") (heads.Do (orders.Strike 1) (Some 9))
+unfolding encode_utf8
+strike-at-a-version =
+    does (Some 9) (codes "strike" ∷ codes "1" ∷ []) (orders.Strike 1) (text-of-line (codes "@9 strike 1") (lit≤ tt) refl refl)
+    (expected (codes "9") 9 nine-is-a-number refl refl) (strike (codes "1") 1 one-is-a-number refl refl) refl
+
+-- an empty text, with the blank before it or without
+typed-nothing : SaysOrder (fields_of (codes "type end en")) (orders.TypeIn End (codes "en") [])
+typed-nothing = type_in (codes "end") (codes "en") [] End (end refl refl) (λ n. cc) refl refl
+
+typed-nothing-behind-a-blank : SaysOrder (fields_of (codes "type end en ")) (orders.TypeIn End (codes "en") [])
+typed-nothing-behind-a-blank = type_in (codes "end") (codes "en") ([] ∷ []) End (end refl refl) (λ n. cc) refl refl
+
+-- a correction by nothing, without the blank before it, and one by a reader, whose text keeps its blanks
+erased : SaysOrder (fields_of (codes "correct 1 0 9")) (orders.Correct (record { paragraph = 1; start = 0; count = 9; text = [] }) [])
+erased =
+    correct (codes "1" ∷ codes "0" ∷ codes "9" ∷ []) (record { paragraph = 1; start = 0; count = 9; text = [] })
+    (record {
+      number = codes "1";
+      first = codes "0";
+      size = codes "9";
+      rest = [];
+      are = refl;
+      paragraph = one-is-a-number;
+      start = zero-is-a-number;
+      count = nine-is-a-number;
+      text = refl;
+    }) refl refl
+
+corrected-by-ann : SaysOrder (fields_of (codes "correct-by Ann 1 0 9  a")) (orders.Correct (record { paragraph = 1; start = 0; count = 9; text = codes " a" }) (codes "Ann"))
+corrected-by-ann =
+    correct_by (codes "Ann") (codes "1" ∷ codes "0" ∷ codes "9" ∷ [] ∷ codes "a" ∷ []) (record { paragraph = 1; start = 0; count = 9; text = codes " a" })
+    (λ n. cc) (record {
+      number = codes "1";
+      first = codes "0";
+      size = codes "9";
+      rest = [] ∷ codes "a" ∷ [];
+      are = refl;
+      paragraph = one-is-a-number;
+      start = zero-is-a-number;
+      count = nine-is-a-number;
+      text = refl;
+    }) refl refl
+
+-- a text keeps its blanks
+typed-blanks : SaysOrder (fields_of (codes "type end en  a b")) (orders.TypeIn End (codes "en") (codes " a b"))
+typed-blanks = type_in (codes "end") (codes "en") ([] ∷ codes "a" ∷ codes "b" ∷ []) End (end refl refl) (λ n. cc) refl refl
+
+-- what says nothing
+silent : (line : List ℕ) → IsText line → head_in (fields_of line) ≡ None → (head : Head) → ¬ Says line head
+silent line text none head says = let e = sym none ∙ (sym (head-of-text line text.short text.utf8) ∙ head-found line head says) in cc
+
+two-blanks : (head : Head) → ¬ Says (codes "print  1") head
+unfolding encode_utf8 head_in query_in order_in number_in
+two-blanks = silent (codes "print  1") (text-of-line (codes "print  1") (lit≤ tt) refl refl) refl
+
+blank-at-the-end : (head : Head) → ¬ Says (codes "version ") head
+unfolding encode_utf8 head_in query_in order_in number_in
+blank-at-the-end = silent (codes "version ") (text-of-line (codes "version ") (lit≤ tt) refl refl) refl
+
+query-at-a-version : (head : Head) → ¬ Says (codes "@1 version") head
+unfolding encode_utf8 head_in query_in order_in number_in
+query-at-a-version = silent (codes "@1 version") (text-of-line (codes "@1 version") (lit≤ tt) refl refl) refl
+
+empty-name : (head : Head) → ¬ Says (codes "type end  x") head
+unfolding encode_utf8 head_in query_in order_in read_type_in anchor_in
+empty-name = silent (codes "type end  x") (text-of-line (codes "type end  x") (lit≤ tt) refl refl) refl
+
+empty-line : (head : Head) → ¬ Says [] head
+unfolding encode_utf8 head_in query_in order_in
+empty-line = silent [] (text-of-line [] (lit≤ tt) refl refl) refl
+
+too-many-lines : (head : Head) → ¬ Says (codes "table x 20001") head
+unfolding encode_utf8 head_in query_in order_in table_in count_in number_in
+too-many-lines = silent (codes "table x 20001") (text-of-line (codes "table x 20001") (lit≤ tt) refl refl) refl
+
+-- ---- requests
+
+-- a table of no line, at the end of an input
+table-of-nothing : Reads (codes "table t 0") (requests.Do (commands.Table (chars (codes "t")) []) None)
+unfolding encode_utf8
+table-of-nothing = record {
+  line = codes "table t 0";
+  block = [];
+  head = heads.Do (orders.Table (codes "t") 0) None;
+  lines = refl;
+  says = does None (fields_of (codes "table t 0")) (orders.Table (codes "t") 0) (text-of-line (codes "table t 0") (lit≤ tt) refl refl)
+      (nothing refl refl) (table (codes "t") (codes "0") 0 (λ n. cc) zero-is-a-number (lit≤ tt) refl refl) refl;
+  whole = refl;
+  short = tt;
+  is = refl;
+}
+
+-- a query, and a line that says nothing, are a whole request each
+asked-version : IsWhole (codes "version\n")
+unfolding encode_utf8
+asked-version = record {
+  line = codes "version";
+  block = [];
+  lines = refl;
+  takes = said (heads.Ask queries.Version) (asks queries.Version (text-of-line (codes "version") (lit≤ tt) refl refl) (version refl refl) refl) refl;
+  front = codes "version";
+  ends = refl;
+}
+
+line-of-nothing : IsWhole (codes "\n")
+line-of-nothing = record { line = []; block = []; lines = refl; takes = takes_nothing empty-line refl; front = []; ends = refl }
+
+cut-of-an-input : Requests (codes "version\n\n") (codes "version\n" ∷ codes "\n" ∷ [])
+cut-of-an-input = (codes "\n", refl, whole asked-version, ([], refl, whole line-of-nothing, refl))
+
+-- a last line of a carriage return alone
+cut-at-a-return : Requests (codes "version\n\r") (codes "version\n" ∷ codes "\r" ∷ [])
+cut-at-a-return = (
+  codes "\r",
+  refl,
+  whole asked-version,
+  ([], refl, last refl (record { line = []; block = []; lines = refl; count = 0; takes = takes_nothing empty-line refl; most = lit≤ tt }), refl),
+)
+
+-- a table of two lines
+two-is-a-number : IsNumber (codes "2") 2
+two-is-a-number = record { numeral = (lit≤ tt, (lit≤ tt, tt)); short = lit≤ tt; value = refl; small = lit≤ tt }
+
+table-of-two : Takes (codes "table x 2") 2
+unfolding encode_utf8
+table-of-two =
+    said (heads.Do (orders.Table (codes "x") 2) None)
+    (does None (fields_of (codes "table x 2")) (orders.Table (codes "x") 2) (text-of-line (codes "table x 2") (lit≤ tt) refl refl)
+    (nothing refl refl) (table (codes "x") (codes "2") 2 (λ n. cc) two-is-a-number (lit≤ tt) refl refl) refl) refl
+
+-- it takes its lines whatever they say
+whole-table : IsWhole (codes "table x 2\nversion\na\r\n")
+whole-table = record {
+  line = codes "table x 2";
+  block = codes "version" ∷ codes "a" ∷ [];
+  lines = refl;
+  takes = table-of-two;
+  front = codes "table x 2\nversion\na\r";
+  ends = refl;
+}
+
+cut-behind-a-table : Requests (codes "table x 2\nversion\na\r\nversion\n") (codes "table x 2\nversion\na\r\n" ∷ codes "version\n" ∷ [])
+cut-behind-a-table = (codes "version\n", refl, whole whole-table, ([], refl, whole asked-version, refl))
+
+-- the input ends before its second line, or within it
+short-block : Requests (codes "table x 2\na\n") (codes "table x 2\na\n" ∷ [])
+short-block = (
+  [],
+  refl,
+  last refl (record { line = codes "table x 2"; block = codes "a" ∷ []; lines = refl; count = 2; takes = table-of-two; most = lit≤ tt }),
+  refl,
+)
+
+cut-block : Requests (codes "table x 2\na\nb") (codes "table x 2\na\nb" ∷ [])
+cut-block = (
+  [],
+  refl,
+  last refl (record { line = codes "table x 2"; block = codes "a" ∷ codes "b" ∷ []; lines = refl; count = 2; takes = table-of-two; most = lit≤ tt }),
+  refl,
+)
+
+-- a table of too many lines takes none
+cut-behind-too-many : Requests (codes "table x 20001\nversion\n") (codes "table x 20001\n" ∷ codes "version\n" ∷ [])
+cut-behind-too-many = (
+  codes "version\n",
+  refl,
+  whole (record { line = codes "table x 20001"; block = []; lines = refl; takes = takes_nothing too-many-lines refl; front = codes "table x 20001"; ends = refl }),
+  ([], refl, whole asked-version, refl),
+)
+
+-- of bytes behind which a read failed, a line that is cut is no request
+none-within-a-line : (request later : List ℕ) → codes "strike" ≡ request ++ later → ¬ IsWhole request
+none-within-a-line request later e w =
+    let feeds-of = feeds-append request later in
+    let h : 0 ≡ feeds (request ++ later) = ap feeds e in
+    let some : feeds request ≡ feeds (w.front ++ 10 ∷ []) = ap feeds w.ends in
+    let one = feeds-append w.front (10 ∷ []) in
+    omega arith
+
+whole-of-a-cut-input : WholeRequests (codes "version\nstrike") (codes "version\n" ∷ [])
+whole-of-a-cut-input = (codes "strike", refl, asked-version, none-within-a-line)
+
+-- ---- replies
+
+reply-to-a-typed-paragraph : IsReply (record empty_book { version = 2 }) (answers.Done (Some 1)) (codes "ok 2 1\n")
+unfolding digits
+reply-to-a-typed-paragraph = refl
+
+untranslatable : refusal_line (refusals.Untranslatable 1 0) ≡ codes "no 9 1 0\n"
+unfolding digits
+untranslatable = refl
+
+bad-table : refusal_line (refusals.BadTable (record { line = 2; cause = 9 })) ≡ codes "no 8 2 9\n"
+unfolding digits
+bad-table = refl
+
+full-of-versions : refusal_line (refusals.Full limits.Version) ≡ codes "no 15 5\n"
+unfolding digits
+full-of-versions = refl
+
+nothing-to-undo : refusal_line refusals.NothingToUndo ≡ codes "no 10\n"
+unfolding digits
+nothing-to-undo = refl
+
+-- the list of a book with the paragraph 1, `The cat`, that uses the table `en`
+listed-paragraph : shown_line (listed (record { id = 1; table = codes "en"; original = codes "The cat"; history = []; style = Body; begins_volume = false; struck = false }))
+    ≡ codes "| 1 en body - live 7\n"
+unfolding digits encode_utf8
+listed-paragraph = refl
+
+-- entries of a history: a correction that puts nothing in the place of nine characters, the same by Ann, and an undo
+erased-line : shown_line (entry_line (3, Corrects (record { start = 0; count = 9; text = [] }) [])) ≡ codes "| 3 correct 0 9 \n"
+unfolding digits
+erased-line = refl
+
+named-line : shown_line (entry_line (3, Corrects (record { start = 4; count = 3; text = codes "dog" }) (codes "Ann"))) ≡ codes "| 3 correct-by Ann 4 3 dog\n"
+unfolding digits encode_utf8
+named-line = refl
+
+undo-line : shown_line (entry_line (4, Undoes 3)) ≡ codes "| 4 undo 3\n"
+unfolding digits
+undo-line = refl
+
+-- a mark that a correction has touched
+touched-mark : shown_line (mark_line (record { id = 1; paragraph = 2; start = 0; end = 0; note = codes "cat?"; touched = true; resolved = false }))
+    ≡ codes "| 1 0 0 open touched cat?\n"
+unfolding digits encode_utf8
+touched-mark = refl
+
+-- an empty print
+shown-nothing : shown_line [] ≡ codes "| \n"
+shown-nothing = refl

@@ -1,0 +1,30 @@
+use Rattle.std.proofs.Common.{◌≡◌, Bor, List, ℕ, ap, sym, ◌∙◌}
+use Rattle.std.specs.Prelude.{decimal}
+use Rattle.std.specs.Str.{chars}
+use Rattle.std.proofs.lemmas.Str.{encodes-chars}
+use Rattle.desk_line.specs.Reply.{life_word, listed, shown_line, shown_text, style_word, volume_word}
+use Rattle.desk_line.proofs.Putting.{Adds-same}
+use Rattle.desk_line.proofs.Replying.{listed-fields}
+use Rattle.desk_line.proofs.shown.put_listed.Goals as goal
+use Rattle.desk_line.proofs.shown.put_listed.Goals.{in-Body, in-Heading, then-paragraph, else-paragraph, then-paragraph-2, else-paragraph-2}
+
+pub returns : goal.returns
+returns g c = λ told is.
+    let style : c.match-paragraph.style.now ≡ style_word told.style = elim c.match-paragraph.branch [
+      | in-Body w ↦ ap (λ (b : Bor (List ℕ)). b.now) w.style-is ∙ ap style_word (sym w.in-Body.is ∙ is.style)
+      | in-Heading w ↦ ap (λ (b : Bor (List ℕ)). b.now) w.style-is ∙ ap style_word (sym w.in-Heading.is ∙ is.style)
+    ] in
+    let volume : c.if-paragraph.volume.now ≡ volume_word told.begins_volume = elim c.if-paragraph.branch [
+      | then-paragraph w ↦ ap (λ (b : Bor (List ℕ)). b.now) w.volume-is ∙ ap volume_word (sym w.if-paragraph.true ∙ is.begins_volume)
+      | else-paragraph w ↦ ap (λ (b : Bor (List ℕ)). b.now) w.volume-is ∙ ap volume_word (sym w.if-paragraph.false ∙ is.begins_volume)
+    ] in
+    let life : c.if-paragraph-2.life.now ≡ life_word told.struck = elim c.if-paragraph-2.branch [
+      | then-paragraph-2 w ↦ ap (λ (b : Bor (List ℕ)). b.now) w.life-is ∙ ap life_word (sym w.if-paragraph-2.true ∙ is.struck)
+      | else-paragraph-2 w ↦ ap (λ (b : Bor (List ℕ)). b.now) w.life-is ∙ ap life_word (sym w.if-paragraph-2.false ∙ is.struck)
+    ] in
+    Adds-same g.K.Sink.can_fail (g.K.Sink.contents c.args.sink.now) (g.K.Sink.contents c.put_fields.new.sink) c.args.waiting.now c.put_fields.new.waiting _ (shown_line (listed told))
+    (listed-fields told c.as_bytes-id.result.now c.as_bytes-table.result.now c.match-paragraph.style.now c.if-paragraph.volume.now c.if-paragraph-2.life.now c.as_bytes-length.result.now
+    (c.as_bytes-id.ensures.value ∙ (c.format.ensures.text ∙ ap decimal is.id))
+    (sym (encodes-chars c.as_bytes-table.result.now c.as_bytes-table.ensures.utf8) ∙ ap shown_text (ap chars c.as_bytes-table.ensures.value ∙ is.table))
+    style volume life (c.as_bytes-length.ensures.value ∙ (c.format-2.ensures.text ∙ ap decimal is.length_is)))
+    c.put_fields.ensures

@@ -1,0 +1,88 @@
+-- What a head line says, by cases: one for each form of a head line.
+use Rattle.std.specs.Prelude.{◌≡◌, ℕ, ◌≤◌, Bool, List, [], ◌∷◌, codes, Option, Some, None}
+use Rattle.louis_table.specs.Table.{most_lines}
+use Rattle.desk_book.specs.declared.command.Anchor.{Anchor}
+use Rattle.desk_book.specs.declared.style.Style.{Style as ParagraphStyle}
+use Rattle.desk_line.specs.declared.head.Head.{Head}
+use Rattle.desk_line.specs.declared.head.Head.TheVariants.{Do, Ask}
+use Rattle.desk_line.specs.declared.order.Order.{Order}
+use Rattle.desk_line.specs.declared.order.Order.TheVariants.{Table, Supply, TypeIn, Correct, Undo, Mark, Resolve, Strike, Restore, Style, Volume, Retable, Move}
+use Rattle.desk_line.specs.declared.order.SpanText.{SpanText}
+use Rattle.desk_line.specs.declared.request.Query.{Query}
+use Rattle.desk_line.specs.declared.request.Query.TheVariants as queries
+use Rattle.desk_line.specs.Fields.{fields_of, joined, IsName, IsNumber, IsAnchor, IsStyle, IsFlag}
+use Rattle.desk_line.specs.Lines.{IsText}
+
+-- the fields name a paragraph, the first of its places and how many places, and the rest of the line is a text, with its
+-- blanks; before an empty one the blank may be missing
+pub record IsSpanText (fields : List (List ℕ)) (span : SpanText) : Type 0 where
+  pub number : List ℕ
+  pub first : List ℕ
+  pub size : List ℕ
+  pub rest : List (List ℕ)
+  pub are : fields ≡ number ∷ first ∷ size ∷ rest
+  pub paragraph : IsNumber number span.paragraph
+  pub start : IsNumber first span.start
+  pub count : IsNumber size span.count
+  pub text : span.text ≡ joined rest
+
+-- the fields give this command; of a table, its text is still to come in so many lines. A typed text is the rest of the
+-- line, with its blanks; before an empty one the blank may be missing
+pub data SaysOrder (fields : List (List ℕ)) (order : Order) : Type 0 where
+  table : (name number : List ℕ) (count : ℕ) → IsName name → IsNumber number count → count ≤ most_lines
+      → fields ≡ codes "table" ∷ name ∷ number ∷ [] → order ≡ Table name count → SaysOrder fields order
+  supply : (name : List ℕ) → IsName name
+      → fields ≡ codes "supply" ∷ name ∷ [] → order ≡ Supply name → SaysOrder fields order
+  type_in : (after name : List ℕ) (text : List (List ℕ)) (anchor : Anchor) → IsAnchor after anchor → IsName name
+      → fields ≡ codes "type" ∷ after ∷ name ∷ text → order ≡ TypeIn anchor name (joined text) → SaysOrder fields order
+  correct : (others : List (List ℕ)) (span : SpanText) → IsSpanText others span
+      → fields ≡ codes "correct" ∷ others → order ≡ Correct span [] → SaysOrder fields order
+  correct_by : (who : List ℕ) (others : List (List ℕ)) (span : SpanText) → IsName who → IsSpanText others span
+      → fields ≡ codes "correct-by" ∷ who ∷ others → order ≡ Correct span who → SaysOrder fields order
+  undo : (number : List ℕ) (id : ℕ) → IsNumber number id
+      → fields ≡ codes "undo" ∷ number ∷ [] → order ≡ Undo id → SaysOrder fields order
+  mark : (others : List (List ℕ)) (span : SpanText) → IsSpanText others span
+      → fields ≡ codes "mark" ∷ others → order ≡ Mark span → SaysOrder fields order
+  resolve : (number : List ℕ) (id : ℕ) → IsNumber number id
+      → fields ≡ codes "resolve" ∷ number ∷ [] → order ≡ Resolve id → SaysOrder fields order
+  strike : (number : List ℕ) (id : ℕ) → IsNumber number id
+      → fields ≡ codes "strike" ∷ number ∷ [] → order ≡ Strike id → SaysOrder fields order
+  restore : (number : List ℕ) (id : ℕ) → IsNumber number id
+      → fields ≡ codes "restore" ∷ number ∷ [] → order ≡ Restore id → SaysOrder fields order
+  style : (number word : List ℕ) (id : ℕ) (look : ParagraphStyle) → IsNumber number id → IsStyle word look
+      → fields ≡ codes "style" ∷ number ∷ word ∷ [] → order ≡ Style id look → SaysOrder fields order
+  volume : (number word : List ℕ) (id : ℕ) (begins : Bool) → IsNumber number id → IsFlag word begins
+      → fields ≡ codes "volume" ∷ number ∷ word ∷ [] → order ≡ Volume id begins → SaysOrder fields order
+  retable : (number name : List ℕ) (id : ℕ) → IsNumber number id → IsName name
+      → fields ≡ codes "retable" ∷ number ∷ name ∷ [] → order ≡ Retable id name → SaysOrder fields order
+  move : (number after : List ℕ) (id : ℕ) (anchor : Anchor) → IsNumber number id → IsAnchor after anchor
+      → fields ≡ codes "move" ∷ number ∷ after ∷ [] → order ≡ Move id anchor → SaysOrder fields order
+
+-- the fields ask this
+pub data SaysQuery (fields : List (List ℕ)) (query : Query) : Type 0 where
+  print : (number : List ℕ) (id : ℕ) → IsNumber number id
+      → fields ≡ codes "print" ∷ number ∷ [] → query ≡ queries.Print id → SaysQuery fields query
+  braille : (number : List ℕ) (id : ℕ) → IsNumber number id
+      → fields ≡ codes "braille" ∷ number ∷ [] → query ≡ queries.Braille id → SaysQuery fields query
+  history : (number : List ℕ) (id : ℕ) → IsNumber number id
+      → fields ≡ codes "history" ∷ number ∷ [] → query ≡ queries.History id → SaysQuery fields query
+  marks : (number : List ℕ) (id : ℕ) → IsNumber number id
+      → fields ≡ codes "marks" ∷ number ∷ [] → query ≡ queries.Marks id → SaysQuery fields query
+  where_is : (number at : List ℕ) (id place : ℕ) → IsNumber number id → IsNumber at place
+      → fields ≡ codes "where" ∷ number ∷ at ∷ [] → query ≡ queries.WhereIs id place → SaysQuery fields query
+  whence : (number at : List ℕ) (id cell : ℕ) → IsNumber number id → IsNumber at cell
+      → fields ≡ codes "whence" ∷ number ∷ at ∷ [] → query ≡ queries.Whence id cell → SaysQuery fields query
+  list : fields ≡ codes "list" ∷ [] → query ≡ queries.List → SaysQuery fields query
+  version : fields ≡ codes "version" ∷ [] → query ≡ queries.Version → SaysQuery fields query
+
+-- before the fields of a command may stand the version that the book is expected to have, behind an at sign
+pub data Expects (fields : List (List ℕ)) (expect : Option ℕ) (command : List (List ℕ)) : Type 0 where
+  nothing : expect ≡ None → fields ≡ command → Expects fields expect command
+  expected : (number : List ℕ) (version : ℕ) → IsNumber number version
+      → fields ≡ (64 ∷ number) ∷ command → expect ≡ Some version → Expects fields expect command
+
+-- what a head line, without its ending, says; before a query no version may stand
+pub data Says (line : List ℕ) (head : Head) : Type 0 where
+  does : (expect : Option ℕ) (command : List (List ℕ)) (order : Order) → IsText line → Expects (fields_of line) expect command
+      → SaysOrder command order → head ≡ Do order expect → Says line head
+  asks : (query : Query) → IsText line → SaysQuery (fields_of line) query → head ≡ Ask query → Says line head

@@ -1,0 +1,19 @@
+-- The lines of a request. What the lines of an input are, and that one carriage return at the end of a line is no part of it,
+-- `louis_table` says.
+use Rattle.std.specs.Prelude.{ℕ, ◌≤◌, ◌==◌, List, length}
+use Rattle.std.specs.List.{after_first}
+use Rattle.std.specs.Str.{IsUtf8}
+use Rattle.desk_line.specs.Limits.{most_line_bytes}
+
+-- a line that isn't too long
+abbrev pub IsShort : List ℕ → Type 0
+IsShort line = length line ≤ most_line_bytes
+
+-- a line that can be a head line: UTF-8, and not too long
+pub record IsText (line : List ℕ) : Type 0 where
+  pub short : IsShort line
+  pub utf8 : IsUtf8 line
+
+-- the bytes behind the first line, with the endings of their lines
+abbrev pub behind_first_line : List ℕ → List ℕ
+behind_first_line bytes = after_first (λ b. b == 10) bytes

@@ -1,0 +1,257 @@
+-- How a head line is read, step by step. Only proofs need these words: `Head` says what a head line says.
+use Rattle.std.specs.Prelude.{ℕ, Bool, true, false, ◌&&◌, ◌==◌, ◌≡◌, ◌-◌, Result, Ok, Err, nat_lt, nat_le, if◌then◌else◌, List, [], ◌∷◌, length, codes, Option, Some, None, option_map}
+use Rattle.std.specs.Option.{option_and_then}
+use Rattle.std.specs.List.{list_all, before_first}
+use Rattle.std.specs.Io.BufRead.{strip_last}
+use Rattle.std.specs.Char.{is_ascii_digit}
+use Rattle.std.specs.Str.{bytes_eq, is_utf8}
+use Rattle.std.specs.Str.Parse.{digits_value}
+use Rattle.louis_table.specs.Table.{most_lines}
+use Rattle.desk_book.specs.declared.command.Anchor.{Anchor}
+use Rattle.desk_book.specs.declared.command.Anchor.TheVariants.{Front, End, Para}
+use Rattle.desk_book.specs.declared.style.Style.{Style as ParagraphStyle}
+use Rattle.desk_book.specs.declared.style.Style.TheVariants.{Body, Heading}
+use Rattle.desk_line.specs.declared.head.Head.{Head}
+use Rattle.desk_line.specs.declared.head.Head.TheVariants.{Do, Ask}
+use Rattle.desk_line.specs.declared.order.Order.{Order}
+use Rattle.desk_line.specs.declared.order.Order.TheVariants.{Table, Supply, TypeIn, Correct, Undo, Mark, Resolve, Strike, Restore, Style, Volume, Retable, Move}
+use Rattle.desk_line.specs.declared.order.SpanText.{SpanText}
+use Rattle.desk_line.specs.declared.request.Query.{Query}
+use Rattle.desk_line.specs.declared.request.Query.TheVariants as queries
+use Rattle.desk_line.specs.Fields.{fields_of, joined}
+use Rattle.louis_table.specs.Lines.{lines_of}
+use Rattle.desk_book.specs.declared.command.Command.{Command}
+use Rattle.desk_line.specs.declared.fault.Fault.{Fault}
+use Rattle.desk_line.specs.declared.fault.Fault.TheVariants.{Syntax, NoMemory}
+use Rattle.desk_line.specs.declared.request.Request.{Request}
+use Rattle.desk_line.specs.declared.request.Request.TheVariants as requests
+use Rattle.desk_line.specs.Lines.{behind_first_line}
+use Rattle.desk_line.specs.Request.{lines_behind, request_of}
+use Rattle.desk_line.specs.Limits.{most_digits, most_line_bytes, most_number}
+
+-- ---- lists
+
+-- the first and the others
+abbrev pub first_and_others : List (List ℕ) → Option (List ℕ × List (List ℕ))
+first_and_others [] = None
+first_and_others (x ∷ xs) = Some (x, xs)
+
+-- the only one of a list of one, and the two of a list of two
+abbrev pub only_one : List (List ℕ) → Option (List ℕ)
+only_one [] = None
+only_one (x ∷ []) = Some x
+only_one (x ∷ y ∷ xs) = None
+
+abbrev pub only_two : List (List ℕ) → Option (List ℕ × List ℕ)
+only_two [] = None
+only_two (x ∷ xs) = option_map (λ y. (x, y)) (only_one xs)
+
+-- what is made of two, if both are there
+abbrev pub of_both : {A B C : Type 0} → (A → B → C) → Option A → Option B → Option C
+of_both make None b = None
+of_both make (Some a) b = option_map (make a) b
+
+abbrev pub of_three : {A B C D : Type 0} → (A → B → C → D) → Option A → Option B → Option C → Option D
+of_three make None b c = None
+of_three make (Some a) b c = of_both (make a) b c
+
+-- ---- fields
+
+abbrev pub name_in : List ℕ → Option (List ℕ)
+name_in [] = None
+name_in (b ∷ field) = Some (b ∷ field)
+
+-- the value of digits, if it is a number's
+abbrev pub small_number : ℕ → Option ℕ
+small_number value = if nat_le value most_number then Some value else None
+
+unfoldable pub number_in : List ℕ → Option ℕ
+number_in field =
+    if nat_lt 0 (length field) && nat_le (length field) most_digits && list_all is_ascii_digit field then small_number (digits_value 10 field)
+    else None
+
+-- a number of lines
+abbrev pub few_lines : ℕ → Option ℕ
+few_lines count = if nat_le count most_lines then Some count else None
+
+unfoldable pub count_in : List ℕ → Option ℕ
+count_in field = option_and_then few_lines (number_in field)
+
+unfoldable pub anchor_in : List ℕ → Option Anchor
+anchor_in field =
+    if bytes_eq field (codes "front") then Some Front
+    else if bytes_eq field (codes "end") then Some End
+    else option_map Para (number_in field)
+
+unfoldable pub style_in : List ℕ → Option ParagraphStyle
+style_in field =
+    if bytes_eq field (codes "body") then Some Body
+    else if bytes_eq field (codes "heading") then Some Heading
+    else None
+
+unfoldable pub flag_in : List ℕ → Option Bool
+flag_in field =
+    if bytes_eq field (codes "on") then Some true
+    else if bytes_eq field (codes "off") then Some false
+    else None
+
+-- ---- commands and queries, by the fields behind their words
+
+-- the number of a paragraph alone
+abbrev pub paragraph_in : List (List ℕ) → Option ℕ
+paragraph_in fields = option_and_then number_in (only_one fields)
+
+abbrev pub with_two : {A B C : Type 0} → (List ℕ → Option A) → (List ℕ → Option B) → (A → B → C) → List (List ℕ) → Option C
+with_two first second make fields = option_and_then (λ two. of_both make (first two.0) (second two.1)) (only_two fields)
+
+-- two numbers alone
+abbrev pub numbers_in : List (List ℕ) → Option (ℕ × ℕ)
+numbers_in fields = with_two number_in number_in (λ first second. (first, second)) fields
+
+unfoldable pub table_in : List (List ℕ) → Option Order
+table_in fields = with_two name_in count_in Table fields
+
+unfoldable pub supply_in : List (List ℕ) → Option Order
+supply_in fields = option_map Supply (option_and_then name_in (only_one fields))
+
+unfoldable pub type_in : List (List ℕ) → Option Order
+type_in fields =
+    option_and_then (λ first. option_and_then (λ second.
+    of_both (λ anchor name. TypeIn anchor name (joined second.1)) (anchor_in first.0) (name_in second.0)) (first_and_others first.1)) (first_and_others fields)
+
+abbrev pub span_text : (id start count : ℕ) → List (List ℕ) → SpanText
+span_text id start count rest = record { paragraph = id; start = start; count = count; text = joined rest }
+
+unfoldable pub span_text_in : List (List ℕ) → Option SpanText
+span_text_in fields =
+    option_and_then (λ first. option_and_then (λ second. option_and_then (λ third.
+    of_three (λ id start count. span_text id start count third.1) (number_in first.0) (number_in second.0) (number_in third.0))
+    (first_and_others second.1)) (first_and_others first.1)) (first_and_others fields)
+
+unfoldable pub correct_in : List (List ℕ) → Option Order
+correct_in fields = option_map (λ span. Correct span []) (span_text_in fields)
+
+unfoldable pub correct_by_in : List (List ℕ) → Option Order
+correct_by_in fields =
+    option_and_then (λ first. of_both (λ who span. Correct span who) (name_in first.0) (span_text_in first.1)) (first_and_others fields)
+
+unfoldable pub mark_in : List (List ℕ) → Option Order
+mark_in fields = option_map Mark (span_text_in fields)
+
+unfoldable pub style_order_in : List (List ℕ) → Option Order
+style_order_in fields = with_two number_in style_in Style fields
+
+unfoldable pub volume_in : List (List ℕ) → Option Order
+volume_in fields = with_two number_in flag_in Volume fields
+
+unfoldable pub retable_in : List (List ℕ) → Option Order
+retable_in fields = with_two number_in name_in Retable fields
+
+unfoldable pub move_in : List (List ℕ) → Option Order
+move_in fields = with_two number_in anchor_in Move fields
+
+-- a command that names one number
+abbrev pub numbered_order : List ℕ → ℕ → Option Order
+numbered_order word number =
+    if bytes_eq word (codes "undo") then Some (Undo number)
+    else if bytes_eq word (codes "resolve") then Some (Resolve number)
+    else if bytes_eq word (codes "strike") then Some (Strike number)
+    else if bytes_eq word (codes "restore") then Some (Restore number)
+    else None
+
+abbrev pub order_by : List ℕ → List (List ℕ) → Option Order
+order_by word fields =
+    if bytes_eq word (codes "table") then table_in fields
+    else if bytes_eq word (codes "supply") then supply_in fields
+    else if bytes_eq word (codes "type") then type_in fields
+    else if bytes_eq word (codes "correct") then correct_in fields
+    else if bytes_eq word (codes "correct-by") then correct_by_in fields
+    else if bytes_eq word (codes "mark") then mark_in fields
+    else if bytes_eq word (codes "style") then style_order_in fields
+    else if bytes_eq word (codes "volume") then volume_in fields
+    else if bytes_eq word (codes "retable") then retable_in fields
+    else if bytes_eq word (codes "move") then move_in fields
+    else option_and_then (numbered_order word) (paragraph_in fields)
+
+unfoldable pub order_in : List (List ℕ) → Option Order
+order_in [] = None
+order_in (word ∷ fields) = order_by word fields
+
+-- a word that stands alone
+abbrev pub lone_query : List ℕ → Option Query
+lone_query word =
+    if bytes_eq word (codes "list") then Some queries.List
+    else if bytes_eq word (codes "version") then Some queries.Version
+    else None
+
+-- a query of a paragraph
+abbrev pub paragraph_query : List ℕ → ℕ → Option Query
+paragraph_query word id =
+    if bytes_eq word (codes "print") then Some (queries.Print id)
+    else if bytes_eq word (codes "braille") then Some (queries.Braille id)
+    else if bytes_eq word (codes "history") then Some (queries.History id)
+    else if bytes_eq word (codes "marks") then Some (queries.Marks id)
+    else None
+
+abbrev pub query_by_count : List ℕ → List (List ℕ) → Option Query
+query_by_count word [] = lone_query word
+query_by_count word (field ∷ fields) = option_and_then (paragraph_query word) (paragraph_in (field ∷ fields))
+
+abbrev pub query_by : List ℕ → List (List ℕ) → Option Query
+query_by word fields =
+    if bytes_eq word (codes "where") then option_map (λ two. queries.WhereIs two.0 two.1) (numbers_in fields)
+    else if bytes_eq word (codes "whence") then option_map (λ two. queries.Whence two.0 two.1) (numbers_in fields)
+    else query_by_count word fields
+
+unfoldable pub query_in : List (List ℕ) → Option Query
+query_in [] = None
+query_in (word ∷ fields) = query_by word fields
+
+-- ---- head lines
+
+abbrev pub or_else : {A : Type 0} → Option A → Option A → Option A
+or_else None other = other
+or_else (Some x) other = Some x
+
+-- a command behind an expected version
+abbrev pub expecting : List ℕ → List (List ℕ) → Option Head
+expecting number fields = of_both (λ version order. Do order (Some version)) (number_in number) (order_in fields)
+
+abbrev pub command_behind : List ℕ → List (List ℕ) → Option Head
+command_behind [] fields = option_map (λ order. Do order None) (order_by [] fields)
+command_behind (b ∷ word) fields =
+    if b == 64 then expecting word fields else option_map (λ order. Do order None) (order_by (b ∷ word) fields)
+
+abbrev pub command_in : List (List ℕ) → Option Head
+command_in [] = None
+command_in (field ∷ fields) = command_behind field fields
+
+unfoldable pub head_in : List (List ℕ) → Option Head
+head_in fields = or_else (option_map Ask (query_in fields)) (command_in fields)
+
+-- what a line says, if it can be a head line and says something
+abbrev pub head_of : List ℕ → Option Head
+head_of line = if nat_le (length line) most_line_bytes && is_utf8 line then head_in (fields_of line) else None
+
+-- ---- requests
+
+-- the head line: the first one, without its ending
+abbrev pub head_line : List ℕ → List ℕ
+head_line bytes = strip_last 13 (before_first (λ b. b == 10) bytes)
+
+-- whether the lines are so many, and none too long
+abbrev pub are_lines : List (List ℕ) → ℕ → Bool
+are_lines [] count = count == 0
+are_lines (line ∷ lines) count = nat_lt 0 count && nat_le (length line) most_line_bytes && are_lines lines (count - 1)
+
+abbrev pub with_text : List ℕ → Head → Option Request
+with_text text head = if are_lines (lines_of text) (lines_behind head) then Some (request_of head text) else None
+
+unfoldable pub request_in : List ℕ → Option Request
+request_in bytes = option_and_then (with_text (behind_first_line bytes)) (head_of (head_line bytes))
+
+-- a result gives what was found; where it gives no memory, that is a command
+abbrev pub Gives : Result Request Fault → Option Request → Type 0
+Gives (Ok request) found = found ≡ Some request
+Gives (Err Syntax) found = found ≡ None
+Gives (Err NoMemory) found = (command : Command) × (expect : Option ℕ) × (found ≡ Some (requests.Do command expect))

@@ -1,0 +1,188 @@
+-- What is replied to a request.
+use Rattle.std.specs.Prelude.{◌≡◌, ℕ, Bool, true, false, List, [], ◌∷◌, ◌++◌, length, map, codes, decimal, option_to_list, Option, Some, None}
+use Rattle.std.specs.List.{flat_map, enumerate_from}
+use Rattle.std.specs.Str.{encode_utf8_all}
+use Rattle.desk_ends.specs.Cells.{text_of}
+use Rattle.desk_ends.specs.Sent.{Sent}
+use Rattle.desk_book.specs.declared.refusal.Refusal.{Refusal}
+use Rattle.desk_book.specs.declared.refusal.Refusal.TheVariants as refusals
+use Rattle.desk_book.specs.declared.style.Style.{Style}
+use Rattle.desk_book.specs.declared.style.Style.TheVariants.{Body, Heading}
+use Rattle.desk_book.specs.Book.{Book, Paragraph, Entry, Corrects, Undoes, Mark, Replacement, paragraph_of}
+use Rattle.desk_book.specs.ParagraphMarks.{marks_on}
+use Rattle.desk_book.specs.Print.{print_of}
+use Rattle.desk_book.specs.Refusals.{code_of, limit_number}
+use Rattle.desk_book.specs.Translated.{IsBraille, IsOutputPlace, IsPrintPlace, LacksPlace, LacksCell}
+use Rattle.desk_line.specs.declared.answer.Answer.{Answer}
+use Rattle.desk_line.specs.declared.answer.Answer.TheVariants.{Done, Refused, Asked, Syntax, NoMemory, Lost}
+use Rattle.desk_line.specs.declared.request.Query.{Query}
+use Rattle.desk_line.specs.declared.request.Query.TheVariants.{Print, Braille, History, Marks, WhereIs, Whence, Version}
+use Rattle.desk_line.specs.declared.request.Query.TheVariants as queries
+use Rattle.desk_line.specs.declared.waiting.Waiting.{Waiting}
+use Rattle.desk_line.specs.Fields.{joined}
+use Rattle.desk_line.specs.Waiting.{Adds}
+
+-- ---- lines
+
+-- a line: its fields with one blank between them, and a line feed
+abbrev pub line_of : List (List ℕ) → List ℕ
+line_of fields = joined fields ++ 10 ∷ []
+
+-- a word, and numbers behind it
+abbrev pub word_and : List ℕ → List ℕ → List ℕ
+word_and word numbers = line_of (word ∷ map decimal numbers)
+
+-- ---- refusals
+
+-- the numbers that a refusal tells behind its code
+abbrev pub details : Refusal → List ℕ
+details (refusals.Moved version) = version ∷ []
+details (refusals.BadText place) = place ∷ []
+details (refusals.Undefined place) = place ∷ []
+details (refusals.BadTable fault) = fault.line ∷ fault.cause ∷ []
+details (refusals.Untranslatable id place) = id ∷ place ∷ []
+details (refusals.Full limit) = limit_number limit ∷ []
+details refusals.BadName = []
+details refusals.BadReader = []
+details refusals.NoParagraph = []
+details refusals.NoTable = []
+details refusals.NoMark = []
+details refusals.Struck = []
+details refusals.NotStruck = []
+details refusals.Resolved = []
+details refusals.BadSpan = []
+details refusals.NothingToUndo = []
+details refusals.TooLong = []
+details refusals.NoMemory = []
+
+abbrev pub refusal_line : Refusal → List ℕ
+refusal_line refusal = word_and (codes "no") (code_of refusal ∷ details refusal)
+
+-- ---- what a query shows
+
+-- a text in UTF-8
+abbrev pub shown_text : List ℕ → List ℕ
+shown_text = encode_utf8_all
+
+abbrev pub style_word : Style → List ℕ
+style_word Body = codes "body"
+style_word Heading = codes "heading"
+
+abbrev pub volume_word : Bool → List ℕ
+volume_word true = codes "volume"
+volume_word false = codes "-"
+
+abbrev pub life_word : Bool → List ℕ
+life_word true = codes "struck"
+life_word false = codes "live"
+
+-- a paragraph in the list of a book
+abbrev pub listed : Paragraph → List ℕ
+listed paragraph = joined (decimal paragraph.id ∷ shown_text paragraph.table ∷ style_word paragraph.style
+    ∷ volume_word paragraph.begins_volume ∷ life_word paragraph.struck ∷ decimal (length (print_of paragraph)) ∷ [])
+
+-- a correction, with the name of its reader where somebody is named
+abbrev pub correction_line : ℕ → Replacement → List ℕ → List ℕ
+correction_line number r [] =
+    joined (decimal number ∷ codes "correct" ∷ decimal r.start ∷ decimal r.count ∷ shown_text r.text ∷ [])
+correction_line number r (c ∷ who) =
+    joined (decimal number ∷ codes "correct-by" ∷ shown_text (c ∷ who) ∷ decimal r.start ∷ decimal r.count ∷ shown_text r.text ∷ [])
+
+-- an entry of a history, with its number
+abbrev pub entry_line : ℕ × Entry → List ℕ
+entry_line (number, Corrects r who) = correction_line number r who
+entry_line (number, Undoes undone) = joined (decimal number ∷ codes "undo" ∷ decimal undone ∷ [])
+
+abbrev pub state_word : Bool → List ℕ
+state_word true = codes "resolved"
+state_word false = codes "open"
+
+abbrev pub touch_word : Bool → List ℕ
+touch_word true = codes "touched"
+touch_word false = codes "kept"
+
+-- a mark of a paragraph
+abbrev pub mark_line : Mark → List ℕ
+mark_line mark = joined (decimal mark.id ∷ decimal mark.start ∷ decimal mark.end ∷ state_word mark.resolved
+    ∷ touch_word mark.touched ∷ shown_text mark.note ∷ [])
+
+-- the lines that the book shows for the query
+pub data ShowsLines (book : Book) (query : Query) (lines : List (List ℕ)) : Type 0 where
+  print : (id : ℕ) (paragraph : Paragraph) → query ≡ Print id → paragraph_of book id ≡ Some paragraph
+      → lines ≡ shown_text (print_of paragraph) ∷ [] → ShowsLines book query lines
+  braille : (id : ℕ) (paragraph : Paragraph) (cells : List ℕ) → query ≡ Braille id → paragraph_of book id ≡ Some paragraph
+      → IsBraille book paragraph cells → lines ≡ text_of cells ∷ [] → ShowsLines book query lines
+  history : (id : ℕ) (paragraph : Paragraph) → query ≡ History id → paragraph_of book id ≡ Some paragraph
+      → lines ≡ map entry_line (enumerate_from 1 paragraph.history) → ShowsLines book query lines
+  marks : (id : ℕ) (paragraph : Paragraph) → query ≡ Marks id → paragraph_of book id ≡ Some paragraph
+      → lines ≡ map mark_line (marks_on id book.marks) → ShowsLines book query lines
+  where_is : (id place cell : ℕ) (paragraph : Paragraph) → query ≡ WhereIs id place → paragraph_of book id ≡ Some paragraph
+      → IsOutputPlace book paragraph place cell → lines ≡ decimal cell ∷ [] → ShowsLines book query lines
+  whence : (id cell place : ℕ) (paragraph : Paragraph) → query ≡ Whence id cell → paragraph_of book id ≡ Some paragraph
+      → IsPrintPlace book paragraph cell place → lines ≡ decimal place ∷ [] → ShowsLines book query lines
+  list : query ≡ queries.List → lines ≡ map listed book.paragraphs → ShowsLines book query lines
+  version : query ≡ Version → lines ≡ [] → ShowsLines book query lines
+
+-- the paragraph that a query asks of, if it asks of one
+abbrev pub paragraph_asked : Query → Option ℕ
+paragraph_asked (Print id) = Some id
+paragraph_asked (Braille id) = Some id
+paragraph_asked (History id) = Some id
+paragraph_asked (Marks id) = Some id
+paragraph_asked (WhereIs id place) = Some id
+paragraph_asked (Whence id cell) = Some id
+paragraph_asked queries.List = None
+paragraph_asked Version = None
+
+-- the book refuses the query
+pub data Refuses (book : Book) (query : Query) (refusal : Refusal) : Type 0 where
+  no_paragraph : (id : ℕ) → paragraph_asked query ≡ Some id → paragraph_of book id ≡ None
+      → refusal ≡ refusals.NoParagraph → Refuses book query refusal
+  no_place : (id place : ℕ) → query ≡ WhereIs id place → LacksPlace book id place
+      → refusal ≡ refusals.BadSpan → Refuses book query refusal
+  no_cell : (id cell : ℕ) → query ≡ Whence id cell → LacksCell book id cell
+      → refusal ≡ refusals.BadSpan → Refuses book query refusal
+
+-- a line that a query shows, behind a bar and a blank
+abbrev pub shown_line : List ℕ → List ℕ
+shown_line line = line_of (codes "|" ∷ line ∷ [])
+
+-- ---- the reply
+
+-- the reply to a query: its lines and the book's version, or the refusal
+pub data RepliesToQuery (book : Book) (query : Query) (text : List ℕ) : Type 0 where
+  shown : (lines : List (List ℕ)) → ShowsLines book query lines
+      → text ≡ flat_map shown_line lines ++ word_and (codes "end") (book.version ∷ []) → RepliesToQuery book query text
+  refused : (refusal : Refusal) → Refuses book query refusal → text ≡ refusal_line refusal → RepliesToQuery book query text
+
+-- the reply to a request by its answer, on the book as it is then
+abbrev pub IsReply : Book → Answer → List ℕ → Type 0
+IsReply book (Done number) text = text ≡ word_and (codes "ok") (book.version ∷ option_to_list number)
+IsReply book (Refused refusal) text = text ≡ refusal_line refusal
+IsReply book (Asked query) text = RepliesToQuery book query text
+IsReply book Syntax text = text ≡ word_and (codes "no") (1 ∷ [])
+IsReply book NoMemory text = text ≡ word_and (codes "no") (90 ∷ [])
+IsReply book Lost text = text ≡ word_and (codes "no") (91 ∷ [])
+
+-- ---- what is sent
+
+-- the lines that a query shows come behind whatever text was sent
+abbrev pub AddsShown : Type 0 → (now new : Option (List ℕ)) → (was waiting : Waiting) → Book → Query → Type 0
+AddsShown CanFail now new was waiting book query =
+    (lines : List (List ℕ)) × ShowsLines book query lines × Adds CanFail now new was waiting (flat_map shown_line lines)
+
+-- the same of the reply to a query
+abbrev pub AddsQueryReply : Type 0 → (now new : Option (List ℕ)) → (was waiting : Waiting) → Book → Query → Type 0
+AddsQueryReply CanFail now new was waiting book query =
+    (text : List ℕ) × RepliesToQuery book query text × Adds CanFail now new was waiting text
+
+-- and of the reply to a request
+abbrev pub AddsReply : Type 0 → (now new : Option (List ℕ)) → (was waiting : Waiting) → Book → Answer → Type 0
+AddsReply CanFail now new was waiting book answer =
+    (text : List ℕ) × IsReply book answer text × Adds CanFail now new was waiting text
+
+-- what went out is a beginning of a reply to the request, and all of it where that succeeded
+pub record IsReplied (CanFail : Type 0) (old new : Option (List ℕ)) (book : Book) (answer : Answer) (whole : Bool) : Type 0 where
+  pub text : List ℕ
+  pub is : IsReply book answer text
+  pub sent : Sent CanFail old new text [] whole

@@ -1,0 +1,128 @@
+-- Requests, and how an input is cut into them.
+use Rattle.std.specs.Prelude.{◌≡◌, ℕ, ◌≤◌, List, [], ◌∷◌, ◌++◌, length, Option}
+use Rattle.std.specs.List.{AllByRecursion}
+use Rattle.std.specs.Str.{chars}
+use Rattle.louis_table.specs.declared.en.TheConstants.{EN}
+use Rattle.louis_table.specs.Lines.{lines_of}
+use Rattle.desk_book.specs.declared.command.Command.{Command}
+use Rattle.desk_book.specs.declared.command.Command.TheVariants as commands
+use Rattle.desk_line.specs.declared.fault.Fault.{Fault}
+use Rattle.desk_line.specs.declared.fault.Fault.TheVariants.{Syntax, NoMemory}
+use Rattle.desk_line.specs.declared.head.Head.{Head}
+use Rattle.desk_line.specs.declared.head.Head.TheVariants as heads
+use Rattle.desk_line.specs.declared.order.Order.{Order}
+use Rattle.desk_line.specs.declared.order.Order.TheVariants.{Table, Supply, TypeIn, Correct, Undo, Mark, Resolve, Strike, Restore, Style, Volume, Retable, Move}
+use Rattle.desk_line.specs.declared.order.SpanText.{SpanText}
+use Rattle.desk_line.specs.declared.request.Request.{Request}
+use Rattle.desk_line.specs.declared.request.Request.TheVariants.{Do, Ask}
+use Rattle.desk_line.specs.Head.{Says}
+use Rattle.desk_line.specs.Lines.{IsShort, behind_first_line}
+
+-- ---- what follows a head line
+
+-- how many lines follow what a head line says
+abbrev pub lines_behind_order : Order → ℕ
+lines_behind_order (Table name count) = count
+lines_behind_order (Supply name) = 0
+lines_behind_order (TypeIn after name print) = 0
+lines_behind_order (Correct span who) = 0
+lines_behind_order (Undo id) = 0
+lines_behind_order (Mark span) = 0
+lines_behind_order (Resolve id) = 0
+lines_behind_order (Strike id) = 0
+lines_behind_order (Restore id) = 0
+lines_behind_order (Style id style) = 0
+lines_behind_order (Volume id begins) = 0
+lines_behind_order (Retable id name) = 0
+lines_behind_order (Move id after) = 0
+
+abbrev pub lines_behind : Head → ℕ
+lines_behind (heads.Do order expect) = lines_behind_order order
+lines_behind (heads.Ask query) = 0
+
+-- how many lines a head line takes: those that it says, or none where it says nothing
+pub data Takes (line : List ℕ) (count : ℕ) : Type 0 where
+  said : (head : Head) → Says line head → count ≡ lines_behind head → Takes line count
+  nothing : ((head : Head) → ¬ Says line head) → count ≡ 0 → Takes line count
+
+-- ---- the requests of an input
+
+-- a whole request: a head line and just as many lines behind it as it takes, each ended by a line feed
+pub record IsWhole (request : List ℕ) : Type 0 where
+  pub line : List ℕ
+  pub block : List (List ℕ)
+  pub lines : lines_of request ≡ line ∷ block
+  pub takes : Takes line (length block)
+  pub front : List ℕ
+  pub ends : request ≡ front ++ 10 ∷ []
+
+-- a request that the end of the input ends: the last line may lack its line feed, and lines that the head line takes may be missing
+pub record IsLast (request : List ℕ) : Type 0 where
+  pub line : List ℕ
+  pub block : List (List ℕ)
+  pub lines : lines_of request ≡ line ∷ block
+  pub count : ℕ
+  pub takes : Takes line count
+  pub most : length block ≤ count
+
+-- the bytes are a request, with these bytes later in the input
+pub data IsRequestBefore (later request : List ℕ) : Type 0 where
+  whole : IsWhole request → IsRequestBefore later request
+  last : later ≡ [] → IsLast request → IsRequestBefore later request
+
+-- the input is these requests, one after another
+abbrev pub Requests : List ℕ → List (List ℕ) → Type 0
+Requests input [] = input ≡ []
+Requests input (request ∷ requests) =
+    (later : List ℕ) × (input ≡ request ++ later) × IsRequestBefore later request × Requests later requests
+
+-- these requests stand whole in bytes behind which a read failed; what follows the last of them begins with no whole request
+abbrev pub WholeRequests : List ℕ → List (List ℕ) → Type 0
+WholeRequests bytes [] = (request later : List ℕ) → bytes ≡ request ++ later → ¬ IsWhole request
+WholeRequests bytes (request ∷ requests) =
+    (later : List ℕ) × (bytes ≡ request ++ later) × IsWhole request × WholeRequests later requests
+
+-- ---- what a request asks
+
+-- a text for places of a paragraph as a correction, and as a mark's note
+abbrev pub correction_of : SpanText → List ℕ → Command
+correction_of span who = commands.Correct span.paragraph span.start span.count (chars span.text) (chars who)
+
+abbrev pub mark_of : SpanText → Command
+mark_of span = commands.Mark span.paragraph span.start span.count (chars span.text)
+
+-- the command that a head line and the bytes of the lines behind it give
+abbrev pub command_of : Order → List ℕ → Command
+command_of (Table name count) text = commands.Table (chars name) text
+command_of (Supply name) text = commands.Table (chars name) EN.now
+command_of (TypeIn after name print) text = commands.TypeIn after (chars name) (chars print)
+command_of (Correct span who) text = correction_of span who
+command_of (Undo id) text = commands.Undo id
+command_of (Mark span) text = mark_of span
+command_of (Resolve id) text = commands.Resolve id
+command_of (Strike id) text = commands.Strike id
+command_of (Restore id) text = commands.Restore id
+command_of (Style id style) text = commands.Style id style
+command_of (Volume id begins) text = commands.Volume id begins
+command_of (Retable id name) text = commands.Retable id (chars name)
+command_of (Move id after) text = commands.Move id after
+
+abbrev pub request_of : Head → List ℕ → Request
+request_of (heads.Do order expect) text = Do (command_of order text) expect
+request_of (heads.Ask query) text = Ask query
+
+-- the bytes are this request: a head line that says it, and just the lines that follow it, none of them too long
+pub record Reads (bytes : List ℕ) (request : Request) : Type 0 where
+  pub line : List ℕ
+  pub block : List (List ℕ)
+  pub head : Head
+  pub lines : lines_of bytes ≡ line ∷ block
+  pub says : Says line head
+  pub whole : length block ≡ lines_behind head
+  pub short : AllByRecursion IsShort block
+  pub is : request ≡ request_of head (behind_first_line bytes)
+
+-- the fault is told of the bytes: they are no request; want of memory is told of commands alone
+abbrev pub Tells : List ℕ → Fault → Type 0
+Tells bytes Syntax = (request : Request) → ¬ Reads bytes request
+Tells bytes NoMemory = (command : Command) × (expect : Option ℕ) × Reads bytes (Do command expect)

@@ -1,0 +1,40 @@
+//! The requests that a book is asked in, and the replies, as lines of text.
+//!
+//! A request is a head line, and for `table` the lines that it announces. It is read whole into a command or a query; an
+//! answer is written as the lines of its reply.
+//!
+//! ```rust
+//! use desk_line::{lines_after, read_request};
+//!
+//! assert_eq!(rt; lines_after(b"table en 58"), 58);
+//! let request = read_request(alloc, b"type end en Hello\n")?;
+//! ```
+//!
+//! What a request does to a book is `desk_book`'s; where requests come from and replies go, `braildesk`'s.
+#![tactic(auto)]
+
+mod answer;
+mod fault;
+mod fields;
+mod head;
+pub mod laws;
+mod limits;
+mod operand;
+mod order;
+mod put;
+mod query;
+mod read;
+mod reply;
+mod request;
+mod shown;
+mod waiting;
+
+pub use answer::Answer;
+pub use fault::{Broken, Fault};
+pub use limits::MOST_LINE_BYTES;
+pub use read::{lines_after, read_request};
+pub use reply::write_reply;
+pub use request::{Query, Request};
+
+#[cfg(test)]
+mod tests;

@@ -1,0 +1,111 @@
+//! What the fields behind the first word of a head line stand for.
+ghost use Rattle.desk_line.specs.Reading.{anchor_in, count_in, flag_in, name_in, number_in, style_in};
+ghost use Rattle.std.specs.Char.{is_ascii_digit};
+ghost use Rattle.std.specs.List.{list_all};
+ghost use Rattle.std.specs.Prelude.{◌≡◌, ◌≤◌, length, true};
+ghost use Rattle.std.specs.Str.Parse.{digits_value};
+
+use super::fields::Field;
+use super::limits::{MOST_DIGITS, MOST_NUMBER};
+use desk_book::{Anchor, Style};
+use louis_table::MOST_LINES;
+
+/// A name: one character or more.
+pub(crate) fn read_name(field: Field<'_>) -> Option<Field<'_>>
+    ensures { result ≡ name_in field.entry }
+{
+    if field.as_bytes().is_empty() {
+        return None;
+    }
+    Some(field)
+}
+
+/// A number: 1 to 16 decimal digits, leading zeros too, of a value up to 2^53.
+#[tactic(auto, unfolding(crate::specs::Reading::number_in))]
+pub(crate) fn read_number(digits: &[u8]) -> Option<u64>
+    ensures { result ≡ number_in digits.now }
+{
+    if digits.is_empty() || digits.len() > MOST_DIGITS || !are_digits(digits) {
+        return None;
+    }
+    let value = value_of(digits);
+    if value > MOST_NUMBER {
+        return None;
+    }
+    Some(value)
+}
+
+/// Whether each byte is a decimal digit.
+fn are_digits(bytes: &[u8]) -> bool
+    ensures { result ≡ list_all is_ascii_digit bytes.now }
+{
+    bytes.iter().all(|byte| byte.is_ascii_digit())
+}
+
+/// The value of decimal digits.
+fn value_of(digits: &[u8]) -> u64
+    requires few { length digits.now ≤ MOST_DIGITS }
+    requires all { list_all is_ascii_digit digits.now ≡ true }
+    ensures { result ≡ digits_value 10 digits.now }
+{
+    let mut value = 0u64;
+    for digit in digits {
+        value = value * 10 + u64::from(*digit - b'0');
+    }
+    value
+}
+
+/// A number of lines of a table, up to 20,000.
+#[tactic(auto, unfolding(crate::specs::Reading::count_in))]
+pub(crate) fn read_count(field: &[u8]) -> Option<u64>
+    ensures { result ≡ count_in field.now }
+{
+    let count = read_number(field)?;
+    if count > MOST_LINES as u64 {
+        return None;
+    }
+    Some(count)
+}
+
+/// Where a paragraph is put: `front`, `end` or the number of the paragraph before it.
+#[tactic(auto, unfolding(crate::specs::Reading::anchor_in))]
+pub(crate) fn read_anchor(field: &Field<'_>) -> Option<Anchor>
+    ensures { result ≡ anchor_in field.now }
+{
+    if field.is("front") {
+        Some(Anchor::Front)
+    } else if field.is("end") {
+        Some(Anchor::End)
+    } else {
+        let paragraph = read_number(field.as_bytes())?;
+        Some(Anchor::Para(paragraph))
+    }
+}
+
+/// A style: `body` or `heading`.
+#[tactic(auto, unfolding(crate::specs::Reading::style_in))]
+pub(crate) fn read_style(field: &Field<'_>) -> Option<Style>
+    ensures { result ≡ style_in field.now }
+{
+    if field.is("body") {
+        Some(Style::Body)
+    } else if field.is("heading") {
+        Some(Style::Heading)
+    } else {
+        None
+    }
+}
+
+/// Whether a flag is set: `on` or `off`.
+#[tactic(auto, unfolding(crate::specs::Reading::flag_in))]
+pub(crate) fn read_flag(field: &Field<'_>) -> Option<bool>
+    ensures { result ≡ flag_in field.now }
+{
+    if field.is("on") {
+        Some(true)
+    } else if field.is("off") {
+        Some(false)
+    } else {
+        None
+    }
+}

@@ -1,0 +1,209 @@
+//! Reads requests.
+ghost use Rattle.desk_line.specs.Lines.{behind_first_line};
+ghost use Rattle.desk_line.specs.Reading.{Gives, are_lines, head_line, request_in};
+ghost use Rattle.desk_line.specs.Request.{Reads, Takes, Tells, command_of, correction_of, mark_of, request_of};
+ghost use Rattle.louis_table.specs.Lines.{lines_of};
+ghost use Rattle.std.specs.Io.BufRead.{strip_last};
+ghost use Rattle.std.specs.List.{after_first, before_first, position_or_len};
+ghost use Rattle.std.specs.Prelude.{◌==◌, ◌≡◌, ◌≤◌, IfOk, MatchResult, Some, length};
+ghost use Rattle.std.specs.Str.{chars};
+
+use super::fault::Fault;
+use super::fields::Field;
+use super::head::{Head, lines_behind, read_head};
+use super::limits::MOST_LINE_BYTES;
+use super::order::{Order, SpanText};
+use super::request::Request;
+use desk_book::{Anchor, Bytes, Command, Text};
+use louis_table::EN;
+use std::alloc::{AllocError, Global};
+
+/// How many lines follow a head line in its request. The head line is given without its ending, a line feed and one
+/// carriage return before it. It is 0 where the line takes none: a query, another command than `table`, a line that says
+/// nothing, and a line that still has its ending.
+pub fn lines_after(head: &[u8]) -> u64
+    ensures { Takes head.now result }
+{
+    match read_head(head) {
+        Some(head) => lines_behind(&head),
+        None => 0,
+    }
+}
+
+/// Reads a whole request: its head line and the lines that follow it, as they came.
+///
+/// # Errors
+///
+/// `Syntax` exactly where the bytes are no request; `NoMemory` where an allocation for a command was refused.
+pub fn read_request(alloc: Global, bytes: &[u8]) -> Result<Request, Fault>
+    ensures { MatchResult result (Reads bytes.now) (Tells bytes.now) }
+{
+    read(alloc, bytes)
+}
+
+/// Reads a request.
+#[tactic(auto, unfolding(crate::specs::Reading::request_in))]
+fn read(alloc: Global, bytes: &[u8]) -> Result<Request, Fault>
+    ensures { Gives result (request_in bytes.now) }
+{
+    let (line, text) = split_line(bytes);
+    let Some(head) = read_head(without_return(line)) else {
+        return Err(Fault::Syntax);
+    };
+    if !are_lines(text, lines_behind(&head)) {
+        return Err(Fault::Syntax);
+    }
+    make_request(alloc, head, text)
+}
+
+/// How many bytes stand before the first line feed, or in all.
+fn line_len(bytes: &[u8]) -> usize
+    ensures within { result ≤ length bytes.now }
+    ensures value { result ≡ position_or_len (λ b. b == 10) bytes.now }
+{
+    for (i, byte) in bytes.iter().enumerate() {
+        if *byte == b'\n' {
+            return i;
+        }
+    }
+    bytes.len()
+}
+
+/// What stands before the first line feed, and what follows it.
+fn split_line(bytes: &[u8]) -> (&[u8], &[u8])
+    ensures line { result.0.now ≡ before_first (λ b. b == 10) bytes.now }
+    ensures rest { result.1.now ≡ after_first (λ b. b == 10) bytes.now }
+{
+    let len = line_len(bytes);
+    if len == bytes.len() {
+        return (bytes, &[]);
+    }
+    (&bytes[..len], &bytes[len + 1..])
+}
+
+/// A line without one carriage return at its end.
+fn without_return(line: &[u8]) -> &[u8]
+    ensures { result.now ≡ strip_last 13 line.now }
+{
+    match line {
+        [front @ .., b'\r'] => front,
+        _ => line,
+    }
+}
+
+/// Whether the bytes are so many lines, none of them too long.
+fn are_lines(bytes: &[u8], count: u64) -> bool
+    ensures { result ≡ are_lines (lines_of bytes.now) count }
+{
+    let mut rest = bytes;
+    let mut left = count;
+    while !rest.is_empty() {
+        if left == 0 {
+            return false;
+        }
+        let (line, later) = split_line(rest);
+        if without_return(line).len() > MOST_LINE_BYTES {
+            return false;
+        }
+        left -= 1;
+        rest = later;
+    }
+    left == 0
+}
+
+/// The request that a head line and the bytes of the lines behind it make.
+fn make_request(alloc: Global, head: Head<'_>, text: &[u8]) -> Result<Request, Fault>
+    ensures { Gives result (Some (request_of head.entry text.now)) }
+{
+    match head {
+        Head::Ask(query) => Ok(Request::Ask(query)),
+        Head::Do { order, expect } => {
+            let command = make_command(alloc, order, text)?;
+            Ok(Request::Do { command, expect })
+        }
+    }
+}
+
+/// The command that a head line and the bytes of the lines behind it make.
+fn make_command(alloc: Global, order: Order<'_>, text: &[u8]) -> Result<Command, AllocError>
+    ensures { IfOk result (λ command. command ≡ command_of order.entry text.now) }
+{
+    match order {
+        Order::Table { name, .. } => make_table(alloc, &name, text),
+        Order::Supply { name } => make_table(alloc, &name, EN.as_bytes()),
+        Order::TypeIn { after, table, text } => make_typed(alloc, after, &table, &text),
+        Order::Correct { span, who } => make_correction(alloc, &span, &who),
+        Order::Undo { paragraph } => Ok(Command::Undo { paragraph }),
+        Order::Mark { span } => make_mark(alloc, &span),
+        Order::Resolve { mark } => Ok(Command::Resolve { mark }),
+        Order::Strike { paragraph } => Ok(Command::Strike { paragraph }),
+        Order::Restore { paragraph } => Ok(Command::Restore { paragraph }),
+        Order::Style { paragraph, style } => Ok(Command::Style { paragraph, style }),
+        Order::Volume { paragraph, begins } => Ok(Command::Volume { paragraph, begins }),
+        Order::Retable { paragraph, table } => {
+            let table = copy_text(alloc, &table)?;
+            Ok(Command::Retable { paragraph, table })
+        }
+        Order::Move { paragraph, after } => Ok(Command::Move { paragraph, after }),
+    }
+}
+
+/// The command that gives a table this text.
+fn make_table(alloc: Global, name: &Field<'_>, text: &[u8]) -> Result<Command, AllocError>
+    ensures { IfOk result (λ command. command ≡ Command.Table (chars name.now) text.now) }
+{
+    let name = copy_text(alloc, name)?;
+    let text = Bytes::from_vec(Vec::from_slice(alloc, text)?);
+    Ok(Command::Table { name, text })
+}
+
+/// The command that types a paragraph.
+fn make_typed(
+    alloc: Global,
+    after: Anchor,
+    table: &Field<'_>,
+    text: &Field<'_>,
+) -> Result<Command, AllocError>
+    ensures { IfOk result (λ command. command ≡ Command.TypeIn after (chars table.now) (chars text.now)) }
+{
+    let table = copy_text(alloc, table)?;
+    let text = copy_text(alloc, text)?;
+    Ok(Command::TypeIn { after, table, text })
+}
+
+/// The command that puts a text in place of characters.
+fn make_correction(
+    alloc: Global,
+    span: &SpanText<'_>,
+    who: &Field<'_>,
+) -> Result<Command, AllocError>
+    ensures { IfOk result (λ command. command ≡ correction_of span.now who.now) }
+{
+    Ok(Command::Correct {
+        paragraph: span.paragraph,
+        start: span.start,
+        count: span.count,
+        text: copy_text(alloc, &span.text)?,
+        who: copy_text(alloc, who)?,
+    })
+}
+
+/// The command that puts a mark on cells.
+fn make_mark(alloc: Global, span: &SpanText<'_>) -> Result<Command, AllocError>
+    ensures { IfOk result (λ command. command ≡ mark_of span.now) }
+{
+    Ok(Command::Mark {
+        paragraph: span.paragraph,
+        cell: span.start,
+        count: span.count,
+        note: copy_text(alloc, &span.text)?,
+    })
+}
+
+/// A copy of a part of a head line.
+fn copy_text(alloc: Global, field: &Field<'_>) -> Result<Text, AllocError>
+    ensures { IfOk result (λ text. text ≡ chars field.now) }
+{
+    let string = String::from_str(alloc, field.as_str())?;
+    Ok(Text::from_string(string))
+}

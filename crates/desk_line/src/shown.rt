@@ -1,0 +1,157 @@
+//! Puts the lines that queries show.
+ghost use Rattle.desk_book.specs.Book.{Entry, Mark as BookMark, Paragraph as BookParagraph};
+ghost use Rattle.desk_book.specs.Listed.{IsListed};
+ghost use Rattle.desk_book.specs.ParagraphMarks.{TellsOf as TellsOfMark};
+ghost use Rattle.desk_book.specs.Told.{TellsOf};
+ghost use Rattle.desk_ends.specs.Cells.{text_of};
+ghost use Rattle.desk_line.specs.Reply.{entry_line, listed, mark_line, shown_line, shown_text};
+ghost use Rattle.desk_line.specs.Waiting.{Adds};
+ghost use Rattle.std.specs.List.{flat_map};
+ghost use Rattle.std.specs.Prelude.{decimal, map, ◌≡◌};
+
+use super::put::{put_bytes, put_cells, put_characters, put_fields};
+use super::waiting::Waiting;
+use cell_core::Cell;
+use desk_book::{Done, History, HistoryItem, List, Listed, MarkItem, ParagraphMarks, Style};
+use desk_ends::Sink;
+use itoa::Buffer;
+
+/// Puts a print.
+pub(crate) fn put_print<K: Sink>(sink: &mut K, waiting: &mut Waiting, print: &[char])
+    ensures { Adds K.can_fail (K.contents sink.old) (K.contents sink.new)
+        waiting.old waiting.new (shown_line (shown_text print.now)) }
+{
+    put_bytes(sink, waiting, b"| ");
+    put_characters(sink, waiting, print);
+    put_bytes(sink, waiting, b"\n");
+}
+
+/// Puts braille.
+pub(crate) fn put_braille<K: Sink>(sink: &mut K, waiting: &mut Waiting, cells: &[Cell])
+    ensures { Adds K.can_fail (K.contents sink.old) (K.contents sink.new)
+        waiting.old waiting.new (shown_line (text_of cells.now)) }
+{
+    put_bytes(sink, waiting, b"| ");
+    put_cells(sink, waiting, cells);
+    put_bytes(sink, waiting, b"\n");
+}
+
+/// Puts the number of a place or of a cell.
+pub(crate) fn put_place<K: Sink>(sink: &mut K, waiting: &mut Waiting, place: usize)
+    ensures { Adds K.can_fail (K.contents sink.old) (K.contents sink.new)
+        waiting.old waiting.new (shown_line (decimal place)) }
+{
+    let mut digits = Buffer::new();
+    put_fields(sink, waiting, &[digits.format(place).as_bytes()]);
+}
+
+/// Puts the entries of a history.
+pub(crate) fn put_history<K: Sink>(sink: &mut K, waiting: &mut Waiting, history: History<'_>)
+    ensures { Adds K.can_fail (K.contents sink.old) (K.contents sink.new)
+        waiting.old waiting.new (flat_map shown_line (map entry_line history.entry)) }
+{
+    for item in history {
+        put_entry(sink, waiting, &item);
+    }
+}
+
+/// Puts an entry of a history.
+fn put_entry<K: Sink>(sink: &mut K, waiting: &mut Waiting, item: &HistoryItem<'_>)
+    ensures { (entry : Entry) → TellsOf entry item.now.done
+        → Adds K.can_fail (K.contents sink.old) (K.contents sink.new)
+        waiting.old waiting.new (shown_line (entry_line (item.now.number, entry))) }
+{
+    let mut number = Buffer::new();
+    let number = number.format(item.number).as_bytes();
+    match item.done {
+        Done::Corrected {
+            start,
+            count,
+            text,
+            who,
+        } => {
+            let mut first = Buffer::new();
+            let mut size = Buffer::new();
+            let first = first.format(start).as_bytes();
+            let size = size.format(count).as_bytes();
+            let text = text.as_bytes();
+            if who.is_empty() {
+                put_fields(sink, waiting, &[number, b"correct", first, size, text]);
+            } else {
+                let who = who.as_bytes();
+                put_fields(
+                    sink,
+                    waiting,
+                    &[number, b"correct-by", who, first, size, text],
+                );
+            }
+        }
+        Done::TookBack(undone) => {
+            let mut digits = Buffer::new();
+            let undone = digits.format(undone).as_bytes();
+            put_fields(sink, waiting, &[number, b"undo", undone]);
+        }
+    }
+}
+
+/// Puts the marks of a paragraph.
+pub(crate) fn put_marks<K: Sink>(sink: &mut K, waiting: &mut Waiting, marks: ParagraphMarks<'_>)
+    ensures { Adds K.can_fail (K.contents sink.old) (K.contents sink.new)
+        waiting.old waiting.new (flat_map shown_line (map mark_line marks.entry)) }
+{
+    for mark in marks {
+        put_mark(sink, waiting, &mark);
+    }
+}
+
+/// Puts a mark.
+fn put_mark<K: Sink>(sink: &mut K, waiting: &mut Waiting, mark: &MarkItem<'_>)
+    ensures { (told : BookMark) → TellsOfMark told mark.now
+        → Adds K.can_fail (K.contents sink.old) (K.contents sink.new)
+        waiting.old waiting.new (shown_line (mark_line told)) }
+{
+    let mut id = Buffer::new();
+    let mut start = Buffer::new();
+    let mut end = Buffer::new();
+    let id = id.format(mark.id).as_bytes();
+    let start = start.format(mark.start).as_bytes();
+    let end = end.format(mark.end).as_bytes();
+    let state: &[u8] = if mark.resolved { b"resolved" } else { b"open" };
+    let touch: &[u8] = if mark.touched { b"touched" } else { b"kept" };
+    let note = mark.note.as_bytes();
+    put_fields(sink, waiting, &[id, start, end, state, touch, note]);
+}
+
+/// Puts the paragraphs of a book.
+pub(crate) fn put_list<K: Sink>(sink: &mut K, waiting: &mut Waiting, list: List<'_>)
+    ensures { Adds K.can_fail (K.contents sink.old) (K.contents sink.new)
+        waiting.old waiting.new (flat_map shown_line (map listed list.entry)) }
+{
+    for paragraph in list {
+        put_listed(sink, waiting, &paragraph);
+    }
+}
+
+/// Puts a paragraph of the list.
+fn put_listed<K: Sink>(sink: &mut K, waiting: &mut Waiting, paragraph: &Listed<'_>)
+    ensures { (told : BookParagraph) → IsListed told paragraph.now
+        → Adds K.can_fail (K.contents sink.old) (K.contents sink.new)
+        waiting.old waiting.new (shown_line (listed told)) }
+{
+    let mut id = Buffer::new();
+    let mut length = Buffer::new();
+    let id = id.format(paragraph.id).as_bytes();
+    let table = paragraph.table.as_bytes();
+    let style: &[u8] = match paragraph.style {
+        Style::Body => b"body",
+        Style::Heading => b"heading",
+    };
+    let volume: &[u8] = if paragraph.begins_volume {
+        b"volume"
+    } else {
+        b"-"
+    };
+    let life: &[u8] = if paragraph.struck { b"struck" } else { b"live" };
+    let length = length.format(paragraph.length).as_bytes();
+    put_fields(sink, waiting, &[id, table, style, volume, life, length]);
+}

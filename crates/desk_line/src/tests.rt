@@ -1,0 +1,492 @@
+//! Requests and their replies, worked out by hand from their grammar and the rules of books.
+//!
+//! The rows stand in texts, one request to a row, since the proof of a test with long arrays takes minutes: the request,
+//! ` => `, and the reply. In both a pilcrow is a line feed, `←` a carriage return, `␀` U+0000, `~` the byte FF, and `{a×3}`
+//! is `aaa`.
+ghost use Rattle.std.specs.Prelude.{Some};
+
+use super::{Answer, Fault, Query, Request, lines_after, read_request, write_reply};
+use desk_book::{Book, Command, Limit, Refusal};
+use std::alloc::{AllocError, Global};
+use std::io::{self, Error, ErrorKind, Write};
+use std::process::Abort;
+use std::test::Fail;
+use std::{iter, mem};
+
+/// The character that a row writes.
+fn character(written: char) -> char {
+    match written {
+        '¶' => '\n',
+        '←' => '\r',
+        '␀' => '\0',
+        other => other,
+    }
+}
+
+/// The byte that a row writes.
+fn byte(written: u8) -> u8 {
+    match written {
+        b'~' => 0xFF,
+        other => other,
+    }
+}
+
+/// The bytes that a row writes.
+fn bytes_of(alloc: Global, written: &str) -> Result<Vec<u8>, Fail> {
+    let mut text = String::new(alloc);
+    for part in written.split('}') {
+        let (plain, repeated) = part.split_once('{').unwrap_or((part, ""));
+        let (piece, count) = repeated.split_once('×').unwrap_or((repeated, "0"));
+        text.push_str(plain)?;
+        text.extend(iter::repeat_n(piece, count.parse()?))?;
+    }
+    let text: String = text.chars().map(|c| character(c)).collect(alloc)?;
+    Ok(text.bytes().map(|b| byte(b)).collect(alloc)?)
+}
+
+/// The book after a command, and what became of it.
+fn after(alloc: Global, book: Book, command: &Command, expect: Option<u64>) -> (Book, Answer) {
+    match book.plan(alloc, command, expect) {
+        Ok(change) => {
+            let number = change.number();
+            (book.settle(change), Answer::Done { number })
+        }
+        Err(refusal) => (book, Answer::Refused(refusal)),
+    }
+}
+
+/// Carries out a command.
+fn carry_out(
+    alloc: Global,
+    book: &mut Book,
+    command: &Command,
+    expect: Option<u64>,
+) -> Result<Answer, AllocError> {
+    let old = mem::replace(book, Book::new(alloc)?);
+    let (new, answer) = after(alloc, old, command, expect);
+    *book = new;
+    Ok(answer)
+}
+
+/// What becomes of a request.
+fn answer(alloc: Global, book: &mut Book, request: &[u8]) -> Result<Answer, AllocError> {
+    match read_request(alloc, request) {
+        Ok(Request::Do { command, expect }) => carry_out(alloc, book, &command, expect),
+        Ok(Request::Ask(query)) => Ok(Answer::Asked(query)),
+        Err(Fault::Syntax) => Ok(Answer::Syntax),
+        Err(Fault::NoMemory) => Ok(Answer::NoMemory),
+    }
+}
+
+/// What is replied to an answer.
+fn replied(alloc: Global, book: &Book, answer: &Answer) -> Result<Vec<u8>, Fail> {
+    let mut out = Vec::new(alloc);
+    write_reply(&mut out, book, answer)?;
+    Ok(out)
+}
+
+/// What is replied to a request.
+fn reply(alloc: Global, book: &mut Book, request: &[u8]) -> Result<Vec<u8>, Fail> {
+    let answer = answer(alloc, book, request)?;
+    replied(alloc, book, &answer)
+}
+
+/// Compares a reply.
+fn judge(rt: &impl Abort, row: &str, given: &[u8], wanted: &[u8]) {
+    assert_eq!(rt; given, wanted, "{row}");
+}
+
+/// Compares what is replied to each row's request.
+fn judge_rows(rt: &impl Abort, alloc: Global, book: &mut Book, rows: &str) -> Result<(), Fail> {
+    for row in rows.split('\n') {
+        let (request, wanted) = row.split_once(" => ").unwrap_or((row, ""));
+        let given = reply(alloc, book, bytes_of(alloc, request)?.as_slice())?;
+        judge(
+            rt,
+            row,
+            given.as_slice(),
+            bytes_of(alloc, wanted)?.as_slice(),
+        );
+    }
+    Ok(())
+}
+
+/// Compares the replies of a session that begins with a new book.
+fn judge_session(rt: &impl Abort, alloc: Global, rows: &str) -> Result<(), Fail> {
+    let mut book = Book::new(alloc)?;
+    judge_rows(rt, alloc, &mut book, rows)
+}
+
+#[test]
+fn a_greeting_is_struck_and_restored(rt: HostRuntime) -> Result<(), Fail> {
+    judge_session(
+        &rt,
+        rt.alloc(),
+        "\
+supply en¶ => ok 1¶
+type end en Hello←¶ => ok 2 1¶
+braille 1¶ => | ⠠⠓⠑⠇⠇⠕¶end 2¶
+where 1 1¶ => | 2¶end 2¶
+whence 1 1¶ => | 0¶end 2¶
+where 1 5¶ => no 5¶
+print 1¶ => | Hello¶end 2¶
+list¶ => | 1 en body - live 5¶end 2¶
+table en 1¶space \\s 0¶ => no 9 1 0¶
+table x 2¶space \\s 0¶ => no 1¶
+table x 1¶foo¶ => no 8 1 1¶
+version¶ => end 2¶
+strike 1¶ => ok 3¶
+strike 1¶ => no 11¶
+list => | 1 en body - struck 5¶end 3¶
+restore 1¶ => ok 4¶
+restore 1¶ => no 12¶
+@9 strike 1¶ => no 16 4¶
+@4 volume 1 on¶ => ok 5¶
+style 1 heading¶ => ok 6¶
+list¶ => | 1 en heading volume live 5¶end 6¶
+print  1¶ => no 1¶
+@1 version¶ => no 1¶
+type end en Cafe\u{301}¶ => no 7 3¶",
+    )
+}
+
+#[test]
+fn head_lines_are_in_the_grammar_or_not(rt: HostRuntime) -> Result<(), Fail> {
+    judge_session(
+        &rt,
+        rt.alloc(),
+        "\
+¶ => no 1¶
+ => no 1¶
+← => no 1¶
+version => end 0¶
+version← => end 0¶
+version←¶ => end 0¶
+version←←¶ => no 1¶
+version ¶ => no 1¶
+ version¶ => no 1¶
+Version¶ => no 1¶
+version¶version¶ => no 1¶
+list¶ => end 0¶
+supply en¶ => ok 1¶
+supply  en¶ => no 1¶
+supply en ¶ => no 1¶
+supply \u{A0}¶ => no 17¶
+supply a\tb¶ => no 17¶
+supply ␀¶ => no 17¶
+supply ~¶ => no 1¶
+type end en¶ => ok 2 1¶
+type end en ¶ => ok 3 2¶
+type end en  a ¶ => ok 4 3¶
+type end  a¶ => no 1¶
+type end ¶ => no 1¶
+type end¶ => no 1¶
+type 4 en a¶ => no 2¶
+type 3 xx a¶ => no 3¶
+type end en a␀¶ => no 6 1¶
+type end en a←b¶ => no 6 1¶
+type end en ~¶ => no 1¶
+print 1¶ => | ¶end 4¶
+braille 1¶ => | ¶end 4¶
+print 3¶ => |  a ¶end 4¶
+print 4¶ => no 2¶
+braille 4¶ => no 2¶
+where 4 0¶ => no 2¶
+whence 4 0¶ => no 2¶
+whence 1 0¶ => no 5¶
+@4 strike 1¶ => ok 5¶
+@ strike 1¶ => no 1¶
+@5 @5 restore 1¶ => no 1¶
+@5  restore 1¶ => no 1¶
+@5¶ => no 1¶
+@x restore 1¶ => no 1¶
+@5 print 1¶ => no 1¶
+volume 1 yes¶ => no 1¶
+style 1 title¶ => no 1¶
+move 1 behind¶ => no 1¶
+undo 1 ¶ => no 1¶
+restore 0000000000000001¶ => ok 6¶
+strike 00000000000000001¶ => no 1¶
+strike 9007199254740992¶ => no 2¶
+strike 9007199254740993¶ => no 1¶
+strike 9999999999999999¶ => no 1¶
+strike -1¶ => no 1¶
+strike +1¶ => no 1¶
+strike 1x¶ => no 1¶
+@9007199254740992 strike 1¶ => no 16 6¶
+@9007199254740993 strike 1¶ => no 1¶
+version¶ => end 6¶",
+    )
+}
+
+#[test]
+fn tables_are_in_the_lines_behind(rt: HostRuntime) -> Result<(), Fail> {
+    judge_session(
+        &rt,
+        rt.alloc(),
+        "\
+table t 0¶ => ok 1¶
+table t 0 => ok 2¶
+table t 0¶¶ => no 1¶
+table t 1¶ => no 1¶
+table t 1¶¶ => ok 3¶
+table t 1¶letter a 1 => ok 4¶
+table t 1¶letter a 1←¶ => ok 5¶
+table t 1¶letter a 1←←¶ => no 8 1 4¶
+table t 1¶← => ok 6¶
+table t 2¶letter a 1¶letter b 12 => ok 7¶
+table t 2¶letter a 1¶ => no 1¶
+table t 2¶letter a 1¶version¶ => no 8 2 1¶
+table t 1¶letter a 1¶letter b 12¶ => no 1¶
+table t 1¶~¶ => no 8 1 9¶
+table t 0000000000000001¶¶ => ok 8¶
+table t 20001¶ => no 1¶
+table t x¶ => no 1¶
+table T 1¶foo¶ => no 17¶
+@1 table t 1¶foo¶ => no 16 8¶
+table t 20000¶{¶×20000} => ok 9¶
+table t 20000¶{¶×19999} => no 1¶
+table t 1¶{#×65536}¶ => no 8 1 8¶
+table t 1¶{#×65536}←¶ => no 8 1 8¶
+table t 1¶{#×65537}¶ => no 1¶
+table t 1¶{#×65536}←←¶ => no 1¶
+type end t {a×65525}¶ => no 14¶
+type end t {a×65525}←¶ => no 14¶
+type end t {a×65526}¶ => no 1¶
+type end t {a×65525}←←¶ => no 1¶
+version¶ => end 9¶",
+    )
+}
+
+#[test]
+fn a_cat_is_corrected_and_marked(rt: HostRuntime) -> Result<(), Fail> {
+    judge_session(
+        &rt,
+        rt.alloc(),
+        "\
+supply en¶ => ok 1¶
+type end en The cat¶ => ok 2 1¶
+mark 1 5 3 cat?¶ => ok 3 1¶
+marks 1¶ => | 1 4 7 open kept cat?¶end 3¶
+correct 1 7 0 s¶ => ok 4 1¶
+correct 1 4 0 x¶ => ok 5 2¶
+marks 1¶ => | 1 5 8 open kept cat?¶end 5¶
+correct 1 0 9¶ => ok 6 3¶
+marks 1¶ => | 1 0 0 open touched cat?¶end 6¶
+undo 1¶ => ok 7 4¶
+print 1¶ => | The xcats¶end 7¶
+resolve 1¶ => ok 8¶
+resolve 1¶ => no 13¶
+resolve 2¶ => no 4¶
+mark 1 0 0 x¶ => no 5¶
+history 1¶ => | 1 correct 7 0 s¶| 2 correct 4 0 x¶| 3 correct 0 9 ¶| 4 undo 3¶end 8¶
+marks 1¶ => | 1 0 0 resolved touched cat?¶end 8¶
+correct-by Ann 1 4 4 dog¶ => ok 9 5¶
+correct-by {A×40} 1 0 3 A¶ => ok 10 6¶
+correct-by {A×41} 1 0 3 A¶ => no 18¶
+correct-by a␀ 1 0 3 A¶ => no 18¶
+correct-by \u{A0} 9 0 3 A¶ => no 2¶
+correct-by Ann 1 0 0¶ => ok 11 7¶
+correct-by Ann 1 0 0 ¶ => ok 12 8¶
+@3 correct-by Ann 1 0 0 x¶ => no 16 12¶
+@12 mark 1 0 1¶ => ok 13 2¶
+mark 1 0 1  a note ¶ => ok 14 3¶
+mark 1 0 1 {n×501}¶ => no 14¶
+mark 1 0 1 a←b¶ => no 6 1¶
+marks 1¶ => | 1 0 0 resolved touched cat?¶| 2 0 1 open kept ¶| 3 0 1 open kept  a note ¶end 14¶
+type end en c¶ => ok 15 2¶
+undo 2¶ => no 10¶
+history 2¶ => end 15¶
+marks 2¶ => end 15¶
+history 3¶ => no 2¶
+marks 3¶ => no 2¶
+correct 2 9007199254740992 9007199254740992 x¶ => no 5¶
+correct 2 0 9007199254740993 x¶ => no 1¶
+history 1¶ => | 1 correct 7 0 s¶| 2 correct 4 0 x¶| 3 correct 0 9 ¶| 4 undo 3¶| 5 correct-by Ann 4 4 dog¶| 6 correct-by {A×40} 0 3 A¶| 7 correct-by Ann 0 0 ¶| 8 correct-by Ann 0 0 ¶end 15¶",
+    )
+}
+
+#[test]
+fn corrections_and_marks_are_in_the_grammar_or_not(rt: HostRuntime) -> Result<(), Fail> {
+    judge_session(
+        &rt,
+        rt.alloc(),
+        "\
+correct¶ => no 1¶
+correct 1¶ => no 1¶
+correct 1 0¶ => no 1¶
+correct 1 0 ¶ => no 1¶
+correct 1 0 0¶ => no 2¶
+correct  1 0 0¶ => no 1¶
+correct 1  0 0¶ => no 1¶
+correct 1 0  0¶ => no 1¶
+correct 1 0 -1 x¶ => no 1¶
+correct 1 0 +1 x¶ => no 1¶
+correct 00000000000000001 0 0¶ => no 1¶
+correct 01 00 0000000000000000 x¶ => no 2¶
+correct 1 9007199254740993 0 x¶ => no 1¶
+correct 1 0 0 a␀¶ => no 6 1¶
+correct-by¶ => no 1¶
+correct-by Ann¶ => no 1¶
+correct-by Ann 1 0¶ => no 1¶
+correct-by  1 0 0 x¶ => no 1¶
+correct-by Ann  1 0 0 x¶ => no 1¶
+correct-by Ann 1 0 0¶ => no 2¶
+correct-by 1 0 0¶ => no 1¶
+correct-by 1 0 0 0¶ => no 2¶
+undo¶ => no 1¶
+undo ¶ => no 1¶
+undo 1 ¶ => no 1¶
+undo 1 1¶ => no 1¶
+undo 1¶ => no 2¶
+mark 1 0¶ => no 1¶
+mark 1 0 1¶ => no 2¶
+mark 1 0 x¶ => no 1¶
+resolve¶ => no 1¶
+resolve 1 1¶ => no 1¶
+resolve 0¶ => no 4¶
+resolve 9007199254740992¶ => no 4¶
+resolve 9007199254740993¶ => no 1¶
+history¶ => no 1¶
+history 1 ¶ => no 1¶
+history 1 1¶ => no 1¶
+history 1¶ => no 2¶
+marks¶ => no 1¶
+marks x¶ => no 1¶
+marks 1¶ => no 2¶
+@0 history 1¶ => no 1¶
+@0 marks 1¶ => no 1¶
+@0 undo 1¶ => no 2¶
+@1 resolve 1¶ => no 16 0¶
+\u{FEFF}version¶ => no 1¶
+version\t¶ => no 1¶
+\tversion¶ => no 1¶
+where 1¶ => no 1¶
+where 1 1 1¶ => no 1¶
+where 1 -1¶ => no 1¶
+whence 1¶ => no 1¶
+whence 1 9007199254740993¶ => no 1¶
+list 1¶ => no 1¶
+list ¶ => no 1¶
+retable 1¶ => no 1¶
+retable 1 en ¶ => no 1¶
+move 1¶ => no 1¶
+move 1 1 1¶ => no 1¶
+move 1 front¶ => no 2¶
+volume 1¶ => no 1¶
+style 1¶ => no 1¶
+table t¶ => no 1¶
+supply¶ => no 1¶
+strike¶ => no 1¶
+restore¶ => no 1¶
+version¶ => end 0¶",
+    )
+}
+
+#[test]
+fn a_book_is_full_of_tables(rt: HostRuntime) -> Result<(), Fail> {
+    judge_session(
+        &rt,
+        rt.alloc(),
+        "\
+supply a¶ => ok 1¶
+supply b¶ => ok 2¶
+supply c¶ => ok 3¶
+supply d¶ => ok 4¶
+supply e¶ => ok 5¶
+supply f¶ => ok 6¶
+supply g¶ => ok 7¶
+supply h¶ => ok 8¶
+supply i¶ => ok 9¶
+supply j¶ => ok 10¶
+supply k¶ => ok 11¶
+supply l¶ => ok 12¶
+supply m¶ => ok 13¶
+supply n¶ => ok 14¶
+supply o¶ => ok 15¶
+supply p¶ => ok 16¶
+supply q¶ => no 15 1¶",
+    )
+}
+
+/// Compares what is replied to an answer on a new book.
+fn judge_answer(rt: &impl Abort, alloc: Global, answer: &Answer, wanted: &str) -> Result<(), Fail> {
+    let book = Book::new(alloc)?;
+    let given = replied(alloc, &book, answer)?;
+    judge(rt, wanted, given.as_slice(), wanted.as_bytes());
+    Ok(())
+}
+
+#[test]
+fn what_no_short_session_answers(rt: HostRuntime) -> Result<(), Fail> {
+    let full = Answer::Refused(Refusal::Full(Limit::Version));
+    judge_answer(&rt, rt.alloc(), &full, "no 15 5\n")?;
+    judge_answer(&rt, rt.alloc(), &Answer::NoMemory, "no 90\n")?;
+    judge_answer(&rt, rt.alloc(), &Answer::Lost, "no 91\n")
+}
+
+/// Takes so many bytes, at most 1,000 at a time, and then fails.
+#[derive(Drop)]
+struct Full {
+    taken: Vec<u8>,
+    room: usize,
+}
+
+impl Write for Full {
+    ghost contents = { λ s. Some s.taken.items };
+
+    fn write(&mut self, buf: &[u8]) -> io::Result<usize> {
+        if self.room == 0 {
+            return Err(Error::from(ErrorKind::Interrupted));
+        }
+        let few = buf.len().min(self.room).min(1_000);
+        let count = self.taken.write(&buf[..few])?;
+        self.room -= count;
+        Ok(count)
+    }
+
+    fn flush(&mut self) -> io::Result<()> {
+        Ok(())
+    }
+}
+
+/// What a writer with room for so many bytes takes of a reply, and whether that was all.
+fn taken(alloc: Global, book: &Book, answer: &Answer, room: usize) -> (Vec<u8>, bool) {
+    let taken = Vec::new(alloc);
+    let mut full = Full { taken, room };
+    let is_whole = write_reply(&mut full, book, answer).is_ok();
+    (full.taken, is_whole)
+}
+
+/// Judges that a reply is broken off behind each of its bytes where a write fails there.
+fn judge_breaks(rt: &impl Abort, alloc: Global, book: &Book, answer: &Answer) -> Result<(), Fail> {
+    let whole = replied(alloc, book, answer)?;
+    for room in 0..=whole.len() {
+        let (taken, is_whole) = taken(alloc, book, answer, room);
+        judge(rt, "broken off", taken.as_slice(), &whole[..room]);
+        assert_eq!(rt; is_whole, room == whole.len(), "at {room}");
+    }
+    Ok(())
+}
+
+#[test]
+fn a_reply_is_broken_off(rt: HostRuntime) -> Result<(), Fail> {
+    let mut book = Book::new(rt.alloc())?;
+    let rows = "supply en¶ => ok 1¶\ntype end en {a×1400}¶ => ok 2 1¶";
+    judge_rows(&rt, rt.alloc(), &mut book, rows)?;
+    let query = Query::Braille { paragraph: 1 };
+    judge_breaks(&rt, rt.alloc(), &book, &Answer::Asked(query))
+}
+
+#[test]
+fn lines(rt: HostRuntime) -> Result<(), Fail> {
+    assert_eq!(rt; lines_after(b"table en 58"), 58);
+    assert_eq!(rt; lines_after(b"@7 table en 20000"), 20000);
+    assert_eq!(rt; lines_after(b"table en 20001"), 0);
+    assert_eq!(rt; lines_after(b"table en 58\n"), 0);
+    assert_eq!(rt; lines_after(b"table en 58\r"), 0);
+    assert_eq!(rt; lines_after(b"table \xFF 58"), 0);
+    assert_eq!(rt; lines_after(b"version"), 0);
+    assert_eq!(rt; lines_after(b""), 0);
+    Ok(())
+}
