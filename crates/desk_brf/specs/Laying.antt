@@ -1,0 +1,79 @@
+-- What the functions that lay lines do to them.
+use Rattle.std.specs.Prelude.{◌≡◌, ℕ, ◌+◌, ◌-◌, ◌/◌, ◌%◌, ◌<◌, ◌≤◌, ◌==◌, if◌then◌else◌, Bool, true, List, [], ◌∷◌, ◌++◌, length, replicate, Option}
+use Rattle.std.specs.List.{flat_map}
+use Rattle.desk_book.specs.declared.style.Style.{Style}
+use Rattle.desk_ends.specs.Sent.{Sent}
+use Rattle.desk_brf.specs.Layout.{Layout, text_lines}
+use Rattle.desk_brf.specs.Pages.{ended, number_line}
+use Rattle.desk_brf.specs.Placing.{IsAscii, IsText, IsLine, joined, first_indent, other_indent}
+use Rattle.desk_brf.specs.Volume.{gap_before}
+
+-- what stands behind the line with a number, counted from 1: the end of its page, where it is the last one there
+abbrev pub page_end : Layout → ℕ → List ℕ
+page_end layout line =
+    if line % text_lines layout == 0
+    then ended (number_line layout.width (line / text_lines layout)) ++ 12 ∷ []
+    else []
+
+-- the bytes of lines behind so many others
+abbrev pub written : Layout → ℕ → List (List ℕ) → List ℕ
+written layout before [] = []
+written layout before (line ∷ lines) =
+    (ended line ++ page_end layout (before + 1)) ++ written layout (before + 1) lines
+
+-- the lines of words as they are laid, one after another
+abbrev pub AreLaid : (width first other : ℕ) → List (List ℕ) → List (List ℕ) → Type 0
+AreLaid width first other words [] = words ≡ []
+AreLaid width first other words (line ∷ lines) =
+    (pieces : List (List ℕ)) × (left : List (List ℕ)) × IsLine (width - first) words pieces left
+    × IsText first pieces line × AreLaid width other other left lines
+
+-- pieces with a blank before each
+abbrev pub led : List (List ℕ) → List ℕ
+led pieces = flat_map (λ piece. 0 ∷ piece) pieces
+
+-- behind so many cells of a line, these words are put, each behind a blank; others are left
+pub record AddsWords (used : ℕ) (words left : List (List ℕ)) (old new : List ℕ) (after : ℕ) : Type 0 where
+  pub pieces : List (List ℕ)
+  pub parts : words ≡ pieces ++ left
+  pub after_is : after ≡ used + length (led pieces)
+  pub bytes : List ℕ
+  pub ascii : IsAscii (led pieces) bytes
+  pub adds : new ≡ old ++ bytes
+
+-- as many are put as there is room for
+pub record FillsLine (room used : ℕ) (words left : List (List ℕ)) (old new : List ℕ) : Type 0 where
+  pub after : ℕ
+  pub added : AddsWords used words left old new after
+  pub fits : after ≤ room
+  pub full : (next : List ℕ) (others : List (List ℕ)) → left ≡ next ∷ others → room < after + 1 + length next
+
+-- a line of the words is put behind what is there
+pub record LaysLine (room : ℕ) (words left : List (List ℕ)) (old new : List ℕ) : Type 0 where
+  pub pieces : List (List ℕ)
+  pub is_line : IsLine room words pieces left
+  pub bytes : List ℕ
+  pub ascii : IsAscii (joined pieces) bytes
+  pub adds : new ≡ old ++ bytes
+
+-- the lines of words, the first behind so many blanks and the others behind so many, are sent, or a beginning of them
+pub record PutsLines (F : Type 0) (old new : Option (List ℕ)) (layout : Layout) (first other : ℕ) (words : List (List ℕ)) (before after : ℕ) (whole : Bool) : Type 0 where
+  pub lines : List (List ℕ)
+  pub placed : AreLaid layout.width first other words lines
+  pub sent : Sent F old new (written layout before lines) [] whole
+  pub count : whole ≡ true → after ≡ before + length lines
+
+-- the lines of a paragraph with these words, behind the empty line of a heading, are sent, or a beginning of them
+pub record PutsParagraph (F : Type 0) (old new : Option (List ℕ)) (layout : Layout) (style : Style) (words : List (List ℕ)) (before after : ℕ) (whole : Bool) : Type 0 where
+  pub lines : List (List ℕ)
+  pub placed : AreLaid layout.width (first_indent style) (other_indent style) words lines
+  pub sent : Sent F old new (written layout before (gap_before layout before style lines ++ lines)) [] whole
+  pub count : whole ≡ true → after ≡ before + length (gap_before layout before style lines ++ lines)
+
+-- empty lines are sent until the page is full, or a beginning of them
+pub record FillsPage (F : Type 0) (old new : Option (List ℕ)) (layout : Layout) (before after : ℕ) (whole : Bool) : Type 0 where
+  pub blank : ℕ
+  pub fewest : blank < text_lines layout
+  pub full : (before + blank) % text_lines layout ≡ 0
+  pub sent : Sent F old new (written layout before (replicate blank [])) [] whole
+  pub count : whole ≡ true → after ≡ before + blank

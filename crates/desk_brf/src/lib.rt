@@ -1,0 +1,24 @@
+//! Volumes of a book as pages for embossers, in Braille Ready Format (BRF): bytes of North American Braille ASCII in
+//! lines, each ended by CR LF, and a form feed after each page.
+//!
+//! ```rust
+//! use desk_brf::Layout;
+//!
+//! let layout = Layout::new(40, 25)?;
+//! ```
+//!
+//! Nothing here takes memory: a line is laid in an array and written before the next. What the cells are is left to
+//! `desk_book`, and where the bytes go to `desk_ends`.
+#![tactic(auto)]
+
+pub mod laws;
+mod layout;
+mod line;
+mod page;
+mod placing;
+mod word;
+
+pub use layout::{BadLayout, Layout};
+
+#[cfg(test)]
+mod tests;
