@@ -1,8 +1,8 @@
 //! Prints, and the braille that tables give for them.
 use super::print::defined_characters;
 use super::{
-    Choice, Choices, Fault, Part, PlainRules, RuleBook, RuleIndex, Translation, translate,
-    translate_string,
+    Choice, Choices, Fault, Part, PlainRules, RuleBook, RuleIndex, Translation, is_defined,
+    translate, translate_string,
 };
 use cell_core::Cell;
 use louis_table::{EN, Table};
@@ -35,6 +35,9 @@ enum Asked {
     Room(usize),
     /// Its choices, as `Debug` writes them.
     Choices,
+    /// The lone cells of its characters, with a hyphen for a character of which none is known, and a question mark for
+    /// one that isn't defined.
+    LoneCells,
 }
 
 /// What is asked, table lines that stand behind others, a print, and the answer.
@@ -195,6 +198,13 @@ const SMALL: &[Row] = &[
 /// A word of one letter.
 const WORDS: &[Row] = &[(Asked::Cells, "word a 123456\n", "a aa", "⠿⠀⠁⠁")];
 
+/// Lone cells by the supplied table, and with rules. A letter that could be read into a number has none.
+const LONE: &[Row] = &[
+    (Asked::LoneCells, "", "kxyz .,;-", "⠅⠭⠽⠵⠀⠲⠂⠆⠤"),
+    (Asked::LoneCells, "", "aj Kk 5(€", "--⠀-⠅⠀--?"),
+    (Asked::LoneCells, RULES, "kte", "⠅⠞-"),
+];
+
 /// The cells as characters.
 fn shown(alloc: Global, cells: &[Cell]) -> Result<String, AllocError> {
     cells.iter().map(|cell| cell.to_unicode()).collect(alloc)
@@ -256,6 +266,28 @@ fn choices_text<B: RuleBook>(alloc: Global, book: &B, print: &str) -> Result<Str
     Ok(format!(in alloc; "{choices:?}")?)
 }
 
+/// The lone cell of a character, or what is told in its place.
+fn lone_cell_of<B: RuleBook>(book: &B, character: char) -> char {
+    match book.lone_cell(character) {
+        Some(cell) => cell.to_unicode(),
+        None if is_defined(book, character) => '-',
+        None => '?',
+    }
+}
+
+/// The answer for lone cells.
+fn lone_cells_text<B: RuleBook>(
+    alloc: Global,
+    book: &B,
+    print: &str,
+) -> Result<String, AllocError> {
+    let mut text = String::new(alloc);
+    for character in print.chars() {
+        text.push(lone_cell_of(book, character))?;
+    }
+    Ok(text)
+}
+
 /// What a rule book answers.
 fn answer<B: RuleBook>(alloc: Global, book: &B, asked: Asked, print: &str) -> Result<String, Fail> {
     match asked {
@@ -263,6 +295,7 @@ fn answer<B: RuleBook>(alloc: Global, book: &B, asked: Asked, print: &str) -> Re
         Asked::Places => Ok(places_text(alloc, book, print)?),
         Asked::Room(room) => Ok(room_text(alloc, book, print, room)?),
         Asked::Choices => choices_text(alloc, book, print),
+        Asked::LoneCells => Ok(lone_cells_text(alloc, book, print)?),
     }
 }
 
@@ -328,6 +361,28 @@ fn assert_rows(rt: &impl Abort, alloc: Global, lines: &str, rows: &[Row]) -> Res
         );
     }
     Ok(())
+}
+
+/// Asserts the answers of rows by the index.
+fn assert_index_rows(
+    rt: &impl Abort,
+    alloc: Global,
+    lines: &str,
+    rows: &[Row],
+) -> Result<(), Fail> {
+    for row in rows {
+        assert_answer(
+            rt,
+            row,
+            row_answer(alloc, Kind::Index, lines, row)?.as_str(),
+        );
+    }
+    Ok(())
+}
+
+#[test]
+fn gives_lone_cells(rt: HostRuntime) -> Result<(), Fail> {
+    assert_index_rows(&rt, rt.alloc(), EN, LONE)
 }
 
 #[test]
