@@ -18,6 +18,7 @@ use Rattle.desk_store.specs.declared.fault.Fault.{Fault}
 use Rattle.desk_store.specs.declared.fault.Fault.TheVariants.{NoMemory, Lost}
 use Rattle.desk_store.proofs.OneList.{one_list}
 use Rattle.desk_store.proofs.Asking.{fails_to_read, fails_to_ask, refused_as_it_was, never_refused, not_refused}
+use Rattle.sql_tables.proofs.Answered.{answered_fails}
 use Rattle.sql_tables.proofs.Quiet.{on_ok, on_err, shown_quietly}
 use Rattle.desk_store.specs.Asked.{AnswersRows, asked, given}
 use Rattle.desk_store.specs.Described.{Which, books, tabs, paras, corrs, marks, caches, named_corrs, described, table_of}
@@ -95,6 +96,7 @@ module _ {V X : Type 0} (items : V → List X) (w : Which) (view : X → ShownOf
         unchanged = on_ok r _ (shown_quietly (described w).read (reads_only w) [] old new rows seen);
         told = fails_to_read (asked w) old new rows seen r not_lost kinds;
         refused = on_err r _ (λ fault refused. shown_quietly (described w).read (reads_only w) [] old new rows seen);
+        answered = λ can unlimited readable. not_refused r (kinds (readable rows seen));
         cause = λ tree has unlimited readable. not_refused r (kinds (table_kinds w old.now.schema tree has.declared old new refl has.sound rows seen readable));
       }
 
@@ -106,5 +108,6 @@ module _ {V X : Type 0} (items : V → List X) (w : Which) (view : X → ShownOf
     unchanged = tt;
     told = fails_to_ask (asked w) old new fault why;
     refused = refused_as_it_was (described w).read (reads_only w) [] old new fault why;
+    answered = λ can unlimited readable. never_refused (described w).read [] old new fault (answered_fails (described w).read (reads_only w) old new can unlimited) why;
     cause = λ tree has unlimited readable. never_refused (described w).read [] old new fault (table_fails w old.now.schema tree has.declared old new refl has.sound unlimited) why;
   }

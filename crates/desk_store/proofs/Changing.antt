@@ -1,12 +1,12 @@
 -- What a statement that puts rows makes of the contents.
-use Rattle.std.proofs.Common.{◌<◌, length, get_or, zero, suc, arith, ◌≡◌, ◌≢◌, ◌⊎◌, inl, inr, ℕ, true, false, List, [], ◌∷◌, Ok, Err, refl, sym, subst, ◌∙◌, true≢false, bytes_eq, Result}
+use Rattle.std.proofs.Common.{◌≡◌, ◌++◌, ◌≢◌, ◌⊎◌, inl, inr, ℕ, true, false, List, [], ◌∷◌, Ok, Err, OnOk, refl, sym, subst, ◌∙◌, true≢false, bytes_eq, Result}
 use Rattle.std.specs.List.{AllByRecursion}
-use Rattle.sqlite_value.specs.Order.{Row}
 use Rattle.sqlite_trees.specs.Tree.{Trees}
 use Rattle.sqlite_rules.proofs.ListLemmas.{all_has}
 use Rattle.sqlite_schema.specs.declared.schema.Table.{Table}
 use Rattle.sqlite_catalog.specs.Listing.{IsSound}
 use Rattle.sqlite.specs.declared.error.Error.{Error}
+use Rattle.sqlite.specs.Effect.{Database}
 use Rattle.sqlite.specs.State.{State, ExecutesInside}
 use Rattle.sqlite.proofs.InsideLemmas.{inside_keeps}
 use Rattle.sql_tables.specs.Rows.{HaveRowids, Lists, picked}
@@ -16,8 +16,9 @@ use Rattle.sql_tables.proofs.Running.{Wrote}
 use Rattle.sql_tables.proofs.Writing.{Spares}
 use Rattle.desk_store.specs.Described.{Which, books, tabs, paras, corrs, marks, caches, named_corrs, described, table_of}
 use Rattle.desk_store.specs.Layout.{Layout, AreDeclared, IsOther}
-use Rattle.desk_store.specs.Contents.{Contents, Holds, with_rows}
-use Rattle.desk_store.specs.Puts.{Changes, RunsTo}
+use Rattle.desk_store.specs.Contents.{Contents, Holds, with_row, with_rows}
+use Rattle.desk_store.specs.Puts.{Changes, HasThem, PutsAll, PutsRow, RunsTo, row_put, Statement, table_put, with_put, with_puts}
+use Rattle.desk_store.specs.declared.rows.Put.{Put}
 use Rattle.desk_store.specs.Rows.{RowOf, written, set_at}
 use Rattle.desk_store.specs.States.{IsUnder}
 use Rattle.desk_store.proofs.PutTables.{Does}
@@ -34,7 +35,7 @@ same caches caches = inl refl
 same named_corrs named_corrs = inl refl
 same v w = inr refl
 
-set_own : (w : Which) (f : List (RowOf w) → List (RowOf w)) (rows : (v : Which) → List (RowOf v)) → set_at w f rows w ≡ f (rows w)
+pub set_own : (w : Which) (f : List (RowOf w) → List (RowOf w)) (rows : (v : Which) → List (RowOf v)) → set_at w f rows w ≡ f (rows w)
 set_own books f rows = refl
 set_own tabs f rows = refl
 set_own paras f rows = refl
@@ -43,7 +44,7 @@ set_own marks f rows = refl
 set_own caches f rows = refl
 set_own named_corrs f rows = refl
 
-set_other : (w v : Which) (f : List (RowOf w) → List (RowOf w)) (rows : (v : Which) → List (RowOf v)) → bytes_eq (described v).name (described w).name ≡ false → set_at w f rows v ≡ rows v
+pub set_other : (w v : Which) (f : List (RowOf w) → List (RowOf w)) (rows : (v : Which) → List (RowOf v)) → bytes_eq (described v).name (described w).name ≡ false → set_at w f rows v ≡ rows v
 set_other books books f rows other = absurd (true≢false other)
 set_other tabs tabs f rows other = absurd (true≢false other)
 set_other paras paras f rows other = absurd (true≢false other)
@@ -92,25 +93,41 @@ goes_on old new l c next committed was wrote all = record {
   over = (rw was.inside at wrote.shown.committed_is) ∙ was.over;
 }
 
-module _ (w : Which) (f : List (RowOf w) → List (RowOf w)) (text : List ℕ) (params : Row) (old new : State) where
-  put_ok : Does w f text params → (v : Unit {0}) (count : ℕ) → ExecutesInside 0 text params old new (Ok count) → Changes {V = Unit {0}} {E = Error} (Ok v) w (with_rows w f) old new
+module _ (w : Which) (f : List (RowOf w) → List (RowOf w)) (it : Statement) (old new : State) where
+  put_ok : Does w f it.text it.params → (v : Unit {0}) (count : ℕ) → ExecutesInside 0 it.text it.params old new (Ok count) → Changes {V = Unit {0}} (Ok v) it w (with_rows w f) old new
   put_ok does v count h = record {
     put = λ committed l c there was.
         let file = was.shows.is in
         let did = does l.schema (l.tree w) (file.declared w there) old new count (c.rows w) was.shows.schema file.sound (file.holds.ids w there) (file.holds.tables w there) h.0 in
         goes_on old new l c (with_rows w f c) committed was did.wrote (holds l c file.declared old.now.trees new.now.trees file.holds w f there did.spares did.lists did.ids);
+    is_open = h.1.was_open;
     inside = h.1.mode;
-    kept = inside_keeps old new 0 false text params (Ok count) h;
+    kept = inside_keeps old new 0 false it.text it.params (Ok count) h;
+    told = λ was. tt;
   }
 
   -- a statement that ran changed the contents so
-  pub changes : Does w f text params → (r : Result (Unit {0}) Error) → RunsTo r text params old new → Changes r w (with_rows w f) old new
+  pub changes : Does w f it.text it.params → (r : Result (Unit {0}) Error) → RunsTo r it.text it.params old new → Changes r it w (with_rows w f) old new
   changes does (Ok v) ran = put_ok does v ran.0 ran.1
-  changes does (Err e) ran = record { put = λ committed l c there was. tt; inside = tt; kept = ran }
+  changes does (Err e) ran = record { put = λ committed l c there was. tt; is_open = tt; inside = tt; kept = ran.0; told = ran.1 }
+
+pub puts_row : (w : Which) (x : RowOf w) (old new : State) (r : Result (Unit {0}) Error) → Changes r (row_put w x) w (with_row w x) old new → OnOk r (PutsRow w x old new)
+puts_row w x old new (Ok v) changed = changed.put
+puts_row w x old new (Err e) changed = tt
 
 -- ---- puts in turn
 
-pub all_at : {X : Type 0} (P : X → Type 0) (xs : List X) (i : ℕ) (d : X) → i < length xs → AllByRecursion P xs → P (get_or xs i d)
-all_at P [] i d lt all = absurd (omega (arith, lt))
-all_at P (x ∷ xs) zero d lt all = all.0
-all_at P (x ∷ xs) (suc i) d lt all = all_at P xs i d (omega (arith, lt)) all.1
+with_one_more : (xs : List Put) (x : Put) (c : Contents) → with_puts (xs ++ x ∷ []) c ≡ with_put (with_puts xs c) x
+with_one_more [] x c = refl
+with_one_more (y ∷ ys) x c = with_one_more ys x (with_put c y)
+
+have_one_more : (l : Layout) (xs : List Put) (x : Put) → HasThem l (xs ++ x ∷ []) → HasThem l xs × (l.has (table_put x) ≡ true)
+have_one_more l [] x all = (tt, all.0)
+have_one_more l (y ∷ ys) x all = let more = have_one_more l ys x all.1 in ((all.0, more.0), more.1)
+
+-- one is put after others
+pub puts_more : (xs : List Put) (x : Put) (old mid new : State) → PutsAll xs old mid
+    → ((committed : Database) (l : Layout) (c : Contents) → l.has (table_put x) ≡ true → IsUnder committed l c mid → IsUnder committed l (with_put c x) new) → PutsAll (xs ++ x ∷ []) old new
+puts_more xs x old mid new first last committed l c there was =
+    let have = have_one_more l xs x there in
+    subst (λ d. IsUnder committed l d new) (sym (with_one_more xs x c)) (last committed l (with_puts xs c) have.1 (first committed l c have.0 was))

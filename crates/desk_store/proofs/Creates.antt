@@ -1,5 +1,5 @@
 -- The text of a table makes it.
-use Rattle.std.proofs.Common.{◌≡◌, ℕ, Bool, IsTrue, List, true, false, [], ◌∷◌, Ok, Err, OnOk, Result, refl, sym, subst}
+use Rattle.std.proofs.Common.{◌≡◌, ℕ, Bool, IsTrue, List, true, false, [], ◌∷◌, Ok, Err, IfErr, OnOk, Result, refl, sym, subst, true≢false, ◌∙◌}
 use Rattle.sqlite_value.specs.Order.{Row}
 use Rattle.sqlite_ast.specs.declared.CreateTable as create
 use Rattle.sqlite_ast.specs.declared.Statement.{Statement}
@@ -33,10 +33,12 @@ is_make named_corrs is = record { def = def_in (parse_of (described named_corrs)
 
 -- ---- all tables
 
--- a statement that failed committed nothing
-pub err_keeps : (text : List ℕ) (params : Row) (old new : State) (e : Error) (inside : Bool) → old.in_transaction ≡ inside → (old.in_transaction ≡ false → new ≡ old) → (IsTrue old.in_transaction → ExecutesInside 0 text params old new (Err e)) → KeepsCommit old new
-err_keeps text params old new e true is ended ran = inside_keeps old new 0 false text params (Err e) (ran is)
-err_keeps text params old new e false is ended ran = subst (KeepsCommit old) (sym (ended is)) (record { was_open = λ it. it; committed = λ it. refl })
+-- a statement that failed committed nothing, and was answered so
+pub err_runs : (text : List ℕ) (params : Row) (old new : State) (e : Error) (inside : Bool) → old.in_transaction ≡ inside → (old.in_transaction ≡ false → new ≡ old) → (IsTrue old.in_transaction → ExecutesInside 0 text params old new (Err e))
+    → RunsTo {V = Unit {0}} (Err e) text params old new
+err_runs text params old new e true is ended ran = (inside_keeps old new 0 false text params (Err e) (ran is), λ was. ran was)
+err_runs text params old new e false is ended ran =
+    (subst (KeepsCommit old) (sym (ended is)) (record { was_open = λ it. it; committed = λ it. refl }), λ was. absurd (true≢false (sym was ∙ is)))
 
 module _ (w : Which) (is : (described w).is_written ≡ true) (old new : State) where
   -- a statement that ran made it
@@ -44,9 +46,19 @@ module _ (w : Which) (is : (described w).is_written ≡ true) (old new : State) 
   creates (Err e) ran = tt
   creates (Ok v) ran = record {
     taken = takes (described w).create (table_of w 0) (is_make w is) old new ran.0 ran.1;
-    made = λ committed first rows before was free. makes_first (described w).create (table_of w 0) (is_make w is) committed first rows before old new ran.0 was free.0 ran.1;
+    made = λ committed first rows before differ was free. makes_first (described w).create (table_of w 0) (is_make w is) committed first rows before old new ran.0 was free.0 ran.1;
   }
 
-  pub creates_keeps : (r : Result (Unit {0}) Error) → RunsTo r (described w).create [] old new → KeepsCommit old new
-  creates_keeps (Ok v) ran = inside_keeps old new 0 false (described w).create [] (Ok ran.0) ran.1
-  creates_keeps (Err e) ran = ran
+-- what a statement that ran, or failed, leaves of the transaction
+module _ (text : List ℕ) (params : Row) (old new : State) where
+  pub runs_keeps : (r : Result (Unit {0}) Error) → RunsTo r text params old new → KeepsCommit old new
+  runs_keeps (Ok v) ran = inside_keeps old new 0 false text params (Ok ran.0) ran.1
+  runs_keeps (Err e) ran = ran.0
+
+  pub runs_inside : (r : Result (Unit {0}) Error) → RunsTo r text params old new → OnOk r (new.in_transaction ≡ true)
+  runs_inside (Ok v) ran = ran.1.1.mode
+  runs_inside (Err e) ran = tt
+
+  pub runs_told : (r : Result (Unit {0}) Error) → RunsTo r text params old new → old.in_transaction ≡ true → IfErr r (λ e. ExecutesInside 0 text params old new (Err e))
+  runs_told (Ok v) ran was = tt
+  runs_told (Err e) ran was = ran.1 was

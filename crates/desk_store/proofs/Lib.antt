@@ -14,5 +14,6 @@ pub mod PlainReads
 pub mod PutTables
 pub mod Schemas
 pub mod TabNames
+pub mod Utf8Puts
 pub mod WholeFile
 pub mod WholeReads

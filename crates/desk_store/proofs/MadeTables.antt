@@ -1,5 +1,5 @@
 -- The file once tables are made.
-use Rattle.std.proofs.Common.{◌≡◌, ◌≢◌, ℕ, ◌&&◌, ◌+◌, ◌<◌, ◌≤◌, true, false, ◌==◌, List, [], ◌∷◌, ◌++◌, map, filter, codes, is_some, refl, sym, subst, ◌∙◌, arith, nat_lt, eq-eqb, inl, inr, bytes_eq, IsTrue}
+use Rattle.std.proofs.Common.{length, get_or, take, drop, zero, suc, ap, ◌≡◌, ◌≢◌, ℕ, ◌&&◌, ◌+◌, ◌<◌, ◌≤◌, true, false, ◌==◌, List, [], ◌∷◌, ◌++◌, map, filter, codes, is_some, refl, sym, subst, ◌∙◌, arith, nat_lt, eq-eqb, inl, inr, bytes_eq, IsTrue}
 use Rattle.std.specs.List.{AllByRecursion, position_from}
 use Rattle.std.specs.Fmt.{digits}
 use Rattle.std.proofs.lemmas.Bool.Decides.{nat_tests}
@@ -16,7 +16,7 @@ use Rattle.sqlite_rules.proofs.ListLemmas.{all_from, all_has}
 use Rattle.sqlite_trees.specs.declared.store.Store.{Ghosts}
 use Rattle.sqlite.specs.Held.{Held, state}
 use Rattle.sqlite.specs.Effect.{Database, IsDatabase}
-use Rattle.sqlite.specs.State.{State, HasCleanDisk, IsLive}
+use Rattle.sqlite.specs.State.{State, IsLive}
 use Rattle.sql_tables.specs.Making.{IndexesLow, IsForeignTree, IsMaking, KeepsAside, first_created, first_rows}
 use Rattle.sql_tables.specs.Rows.{HaveRowids}
 use Rattle.sql_tables.specs.Tables.{IsDeclared, counter}
@@ -25,7 +25,8 @@ use Rattle.sql_tables.proofs.Creating.{declares, declared_stays, sound_is_low}
 use Rattle.sql_tables.proofs.Declaring.{has_table}
 use Rattle.sql_tables.proofs.Makes.{none_below}
 use Rattle.desk_store.specs.Described.{Which, books, tabs, paras, corrs, marks, caches, named_corrs, described, table_of}
-use Rattle.desk_store.specs.Making.{AreAbsent, CountsNone, IsNew, Differ, MakesTables, after, is_among, new_tables, made, no_contents, tree_in}
+use Rattle.desk_store.specs.Making.{AreAbsent, CountsNone, IsNew, Differ, MakesTables, after, first_row, is_among, new_tables, made, no_contents, tree_in}
+use Rattle.desk_store.specs.Puts.{PutsRow}
 use Rattle.desk_store.specs.States.{IsUnder, Shows}
 
 pub is_below : (m n : ℕ) → m < n → nat_lt m n ≡ true
@@ -109,6 +110,23 @@ listed marks is = inr (inr (inr (inl refl)))
 listed caches is = inr (inr (inr (inr (inl refl))))
 listed named_corrs is = inr (inr (inr (inr (inr (inl refl)))))
 
+-- ---- a list, up to a place and from there
+
+pub all_at : {X : Type 0} (P : X → Type 0) (xs : List X) (i : ℕ) (d : X) → i < length xs → AllByRecursion P xs → P (get_or xs i d)
+all_at P [] i d lt all = absurd (omega (arith, lt))
+all_at P (x ∷ xs) zero d lt all = all.0
+all_at P (x ∷ xs) (suc i) d lt all = all_at P xs i d (omega (arith, lt)) all.1
+
+pub map_more : {X Y : Type 0} (f : X → Y) (xs : List X) (i : ℕ) (d : X) → i < length xs → map f (take (suc i) xs) ≡ map f (take i xs) ++ f (get_or xs i d) ∷ []
+map_more f [] i d lt = absurd (omega (arith, lt))
+map_more f (x ∷ xs) zero d lt = refl
+map_more f (x ∷ xs) (suc i) d lt = ap (λ ys. f x ∷ ys) (map_more f xs i d (omega (arith, lt)))
+
+pub map_split : {X Y : Type 0} (f : X → Y) (xs : List X) (i : ℕ) (d : X) → i < length xs → map f xs ≡ map f (take i xs) ++ f (get_or xs i d) ∷ map f (drop (suc i) xs)
+map_split f [] i d lt = absurd (omega (arith, lt))
+map_split f (x ∷ xs) zero d lt = refl
+map_split f (x ∷ xs) (suc i) d lt = ap (λ ys. f x ∷ ys) (map_split f xs i d (omega (arith, lt)))
+
 -- ---- tables made in turn
 
 -- each of these differs from each of those
@@ -137,17 +155,35 @@ names_of_both P Q [] [] each first later = tt
 names_of_both P Q [] (v ∷ vs) each first later = (each (name v) later.0, names_of_both P Q [] vs each first later.1)
 names_of_both P Q (u ∷ us) vs each first later = (first.0, names_of_both P Q us vs each first.1 later)
 
+none_apart : (vs : List Which) → Apart [] vs
+none_apart [] = tt
+none_apart (v ∷ vs) = (tt, none_apart vs)
+
+one_more_apart : (u : Which) (us vs : List Which) → AllByRecursion (AreApart u) vs → Apart us vs → Apart (u ∷ us) vs
+one_more_apart u us [] first others = tt
+one_more_apart u us (v ∷ vs) first others = ((first.0, others.0), one_more_apart u us vs first.1 others.1)
+
+-- where all differ, so do those of each part, and those of one part from those of the other
+parts_differ : (us vs : List Which) → Differ (us ++ vs) → Differ us × Differ vs × Apart us vs
+parts_differ [] vs all = (tt, all, none_apart vs)
+parts_differ (u ∷ us) vs all =
+    let here = fronts (AreApart u) us vs all.0 in
+    let more = parts_differ us vs all.1 in
+    ((here.0, more.0), more.1, one_more_apart u us vs here.1 more.2)
+
+-- no tables
+pub makes_none : (s : State) → MakesTables [] s s
+makes_none s = record { taken = (tt, λ n free. free); made = λ committed start rows before differ was free. was }
+
 -- some tables, and then others
-pub makes_then : (us vs : List Which) → Apart us vs → (old mid new : State) → MakesTables us old mid → MakesTables vs mid new → MakesTables (us ++ vs) old new
-makes_then us vs apart old mid new first later = record {
-  taken = (
-    record { is_open = first.taken.0.is_open; free = names_of_both _ _ us vs (λ n free. first.taken.1 n free) first.taken.0.free later.taken.0.free },
-    λ n free. first.taken.1 n (later.taken.1 n free),
-  );
-  made = λ committed start rows before was free.
+pub makes_then : (us vs : List Which) (old mid new : State) → MakesTables us old mid → MakesTables vs mid new → MakesTables (us ++ vs) old new
+makes_then us vs old mid new first later = record {
+  taken = (names_of_both _ _ us vs (λ n free. first.taken.1 n free) first.taken.0 later.taken.0, λ n free. first.taken.1 n (later.taken.1 n free));
+  made = λ committed start rows before differ was free.
       let both = fronts _ us vs free in
+      let parts = parts_differ us vs differ in
       subst (λ s. IsMaking committed start rows s new) (sym (after_both us vs before))
-      (later.made committed start rows (after us before) (first.made committed start rows before was both.0) (all_free_after us vs before apart both.1));
+      (later.made committed start rows (after us before) parts.1 (first.made committed start rows before parts.0 was both.0) (all_free_after us vs before parts.2 both.1));
 }
 
 pub through : (ws : List Which) (s : Schema) (a : Table) → IsDeclared s a → IsDeclared (after ws s) a
@@ -191,13 +227,6 @@ declared_after (v ∷ ws) s apart low free w (inr later) =
 
 differ : Differ new_tables
 differ = ((refl, (refl, (refl, (refl, (refl, tt))))), ((refl, (refl, (refl, (refl, tt)))), ((refl, (refl, (refl, tt))), ((refl, (refl, tt)), ((refl, tt), (tt, tt))))))
-
--- the first three and the others
-pub halves : Apart (books ∷ tabs ∷ paras ∷ []) (marks ∷ caches ∷ named_corrs ∷ [])
-halves = ((refl, (refl, (refl, tt))), ((refl, (refl, (refl, tt))), ((refl, (refl, (refl, tt))), tt)))
-
-pub absent : (s : Schema) → AllByRecursion (λ n. is_used s n ≡ false) (map name new_tables) → AreAbsent s
-absent s free = free
 
 module _ (s : Schema) (none : AreAbsent s) (low : IndexesLow s) where
   each_made : (w : Which) → is_among new_tables w ≡ true → IsDeclared (made s).schema (table_of w ((made s).tree w)) × (next_tree s ≤ (made s).tree w)
@@ -266,17 +295,19 @@ begins_making g old sound = record {
   over = refl;
 }
 
-module _ {S : Type 0} (g : Ghosts S) (old begun last : Held S) (begins : begun ≡ record old { in_transaction = true }) where
-  -- what the making within a transaction made of what was there
-  pub whole : (HasCleanDisk (state g last) → AreAbsent (state g begun).now.schema × IsTrue (state g begun).is_open)
-      → (HasCleanDisk (state g last) → (committed : Database) (s : Schema) (rows : Trees) → AreAbsent s → IndexesLow s → IsMaking committed s rows s (state g begun) → IsNew s rows (λ c. IsUnder committed (made s) c (state g last)))
-      → HasCleanDisk (state g last) → AreAbsent old.schema × (IsLive (state g old) → IsNew old.schema (state g old).now.trees (λ c. Shows (made old.schema) c (state g last)))
-  whole free ran clean =
-      let taken = rw begins at free clean in (
-        taken.0,
-        λ live.
-            let sound = (live taken.1).0 in
-            let rows = (state g old).now.trees in
-            let done = ran clean (state g old).committed old.schema rows taken.0 (sound_is_low old.schema rows sound) (rw begins (begins_making g old sound)) in
-            (done.0, done.1, done.2, done.3, done.4.shows),
-      )
+module _ {S : Type 0} (g : Ghosts S) (old mid last : Held S) where
+  -- what the making within a transaction, and the putting of the row of a new book, made of what was there
+  pub whole : MakesTables new_tables (state g (record old { in_transaction = true })) (state g mid) → IsTrue (state g old).is_open → PutsRow books first_row (state g mid) (state g last)
+      → AreAbsent old.schema × (IsLive (state g old) → IsNew old.schema (state g old).now.trees (λ c. Shows (made old.schema) c (state g last)))
+  whole makes is_open puts = (
+    makes.taken.0,
+    λ live.
+        let sound = (live is_open).0 in
+        let rows = (state g old).now.trees in
+        let low = sound_is_low old.schema rows sound in
+        let committed = (state g old).committed in
+        let making = makes.made committed old.schema rows old.schema differ (begins_making g old sound) makes.taken.0 in
+        let done = finished old.schema makes.taken.0 low committed rows (state g mid) making in
+        let others = (state g mid).now.trees in
+        (others, done.1, done.2, done.3, (puts committed (made old.schema) (no_contents others) refl done.0).shows),
+  )

@@ -9,7 +9,9 @@ use Rattle.sqlite_catalog.specs.Change.{KeepsRows, is_used, next_tree}
 use Rattle.sqlite_catalog.proofs.StepLemmas.{table_below}
 use Rattle.sqlite_rules.specs.Lists.{Has}
 use Rattle.sqlite_rules.proofs.ListLemmas.{all_from, all_has}
+use Rattle.sqlite_trees.specs.declared.store.Store.{Ghosts}
 use Rattle.sqlite.specs.Effect.{Database}
+use Rattle.sqlite.specs.Held.{Held, state}
 use Rattle.sqlite.specs.State.{State}
 use Rattle.sql_tables.specs.Making.{IsMaking, KeepsAside}
 use Rattle.sql_tables.specs.Rows.{HaveRowids}
@@ -20,9 +22,12 @@ use Rattle.sql_tables.proofs.Makes.{none_below}
 use Rattle.desk_store.specs.Contents.{Contents}
 use Rattle.desk_store.specs.Described.{Which, described, table_of}
 use Rattle.desk_store.specs.Layout.{Layout}
-use Rattle.desk_store.specs.Making.{AreFreeIn, Differ, MakesTables, after, is_among, tree_in, with_none, with_tables}
+use Rattle.desk_store.specs.Making.{AreFreeIn, Differ, IsFileWithTables, MakesTables, WritesWithTables, after, is_among, tree_in, with_none, with_tables}
+use Rattle.desk_store.specs.Puts.{PutsAll, with_puts}
+use Rattle.desk_store.specs.declared.rows.Put.{Put}
 use Rattle.desk_store.specs.States.{IsUnder}
 use Rattle.desk_store.proofs.Changing.{same}
+use Rattle.desk_store.proofs.Committing.{begins, shows_on}
 use Rattle.desk_store.proofs.MadeTables.{declared_after, has_after, is_below, rows_there, through}
 
 -- a table among these is one of them
@@ -42,7 +47,7 @@ module _ (l : Layout) (c : Contents) (ws : List Which) (differ : Differ ws) (com
   s = l.schema
 
   free : AreFreeIn s ws
-  free = subst (λ s. AreFreeIn s ws) was.shows.schema (unmapped old.now.schema ws makes.taken.0.free)
+  free = subst (λ s. AreFreeIn s ws) was.shows.schema (unmapped old.now.schema ws makes.taken.0)
 
   start : IsMaking committed s old.now.trees s old
   start = record {
@@ -57,7 +62,7 @@ module _ (l : Layout) (c : Contents) (ws : List Which) (differ : Differ ws) (com
   }
 
   making : IsMaking committed s old.now.trees (after ws s) new
-  making = makes.made committed s old.now.trees s start free
+  making = makes.made committed s old.now.trees s differ start free
 
   new_one : (v : Which) → is_among ws v ≡ true → IsDeclared (after ws s) (table_of v (tree_in ws s v)) × (next_tree s ≤ tree_in ws s v)
   new_one v is = declared_after ws s differ (sound_is_low s old.now.trees was.shows.is.sound) free v (among_has ws v is)
@@ -109,3 +114,19 @@ module _ (l : Layout) (c : Contents) (ws : List Which) (differ : Differ ws) (com
     all_from _ s.tables keeps_row,
     making.aside,
   )
+
+-- ---- as one transaction
+
+module _ {S : Type 0} (g : Ghosts S) (old mid last : Held S) (ws : List Which) (puts : List Put) where
+  -- tables that were made and rows that were put then are in the file
+  pub grows : MakesTables ws (state g (record old { in_transaction = true })) (state g mid) → PutsAll puts (state g mid) (state g last) → (new : State) → new.now ≡ (state g last).now → WritesWithTables ws puts (state g old) new
+  grows makes all new same l c differ there was =
+      let committed = (state g old).committed in
+      let more = more_made l c ws differ committed (state g (record old { in_transaction = true })) (state g mid) (begins g old l c was) makes in
+      let others = (state g mid).now.trees in
+      let after = with_tables ws l in
+      let next = with_none ws others c in
+      (others, more.1, more.2, shows_on (state g last) new after (with_puts puts next) same (all committed after next there more.0).shows)
+
+pub file_with_tables : (ws : List Which) (puts : List Put) (old new : State) → WritesWithTables ws puts old new → IsFileWithTables ws puts old new.now.trees
+file_with_tables ws puts old new writes l c differ there was = let it = writes l c differ there was in (it.0, it.1, it.2, it.3.is)

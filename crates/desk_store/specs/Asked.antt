@@ -9,7 +9,7 @@ use Rattle.sqlite.specs.declared.error.Error.{Error}
 use Rattle.sqlite.specs.State.{State, Shown, FailsToQuery, IsUnchanged}
 use Rattle.sql_tables.specs.Kinds.{HasKinds, HaveIntegerRowids, HaveUtf8Texts}
 use Rattle.sql_tables.specs.Rows.{Lists, picked, numbers_from}
-use Rattle.sql_tables.specs.States.{HasTable}
+use Rattle.sql_tables.specs.States.{HasAnswer, HasTable}
 use Rattle.desk_store.specs.Contents.{Contents}
 use Rattle.desk_store.specs.Described.{Which, described, table_of, kind_at, shows_rowid, has_texts}
 use Rattle.desk_store.specs.Fault.{IsToldAs}
@@ -60,3 +60,7 @@ pub record AnswersRows {V X : Type 0} (result : Result V Fault) (items : V → L
   pub refused : IfErr result (λ fault. fault ≡ Refused → IsUnchanged old new)
   -- where its rows can be read, and the steps have no limit, it isn't refused
   pub cause : (tree : ℕ) → HasTable (table_of w tree) old → old.step_limit ≡ None → AreReadable w (old.now.trees tree) → IfErr result (λ fault. fault ≢ Refused)
+  -- in any file, where the statement has an answer whose values can be read, and the steps have no limit, it isn't refused
+  pub answered : HasAnswer (asked w).text old → old.step_limit ≡ None
+      → ((rows : List Row) → Shown (asked w).text [] old new rows → AllByRecursion (HasKinds (asked w).kinds) rows)
+      → IfErr result (λ fault. fault ≢ Refused)

@@ -1,4 +1,5 @@
 pub mod Described
+pub mod Tables
 pub mod Rows
 pub mod Layout
 pub mod Contents
@@ -7,4 +8,5 @@ pub mod Puts
 pub mod Fault
 pub mod Asked
 pub mod Making
+pub mod Failing
 pub mod Whole

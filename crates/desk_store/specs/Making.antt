@@ -12,7 +12,9 @@ use Rattle.sql_tables.specs.Making.{AreFree, FreesNone, IsMaking, KeepsAside, fi
 use Rattle.desk_store.specs.Contents.{Contents, with_row}
 use Rattle.desk_store.specs.Described.{Which, books, tabs, paras, marks, caches, named_corrs, described, table_of}
 use Rattle.desk_store.specs.Layout.{Layout}
-use Rattle.desk_store.specs.States.{IsFile}
+use Rattle.desk_store.specs.Puts.{HasThem, with_puts}
+use Rattle.desk_store.specs.States.{IsFile, Shows}
+use Rattle.desk_store.specs.declared.rows.Put.{Put}
 
 -- the tables of a new file, in the order in which they are made
 abbrev pub new_tables : List Which
@@ -64,10 +66,16 @@ CountsNone s db = lacks_sequence s ≡ true → db (next_tree (created s (table_
 abbrev pub IsNew : Schema → Trees → (Contents → Type 0) → Type 0
 IsNew s rows P = (others : Trees) × KeepsRows s.tables rows others × CountsNone s others × KeepsAside s rows others × P (first_contents others)
 
+-- each differs from those behind it
+abbrev pub Differ : List Which → Type 0
+Differ [] = ⊤
+Differ (w ∷ ws) = AllByRecursion (λ v. bytes_eq (described w).name (described v).name ≡ false) ws × Differ ws
+
 -- Statements within a transaction made these tables, whose names were free.
 pub record MakesTables (ws : List Which) (old new : State) : Type 0 where
   pub taken : AreFree (map (λ w. (described w).name) ws) old × FreesNone old new
-  pub made : (committed : Database) (first : Schema) (rows : Trees) (before : Schema) → IsMaking committed first rows before old → AreFreeIn before ws
+  pub made : (committed : Database) (first : Schema) (rows : Trees) (before : Schema)
+      → Differ ws → IsMaking committed first rows before old → AreFreeIn before ws
       → IsMaking committed first rows (after ws before) new
 
 -- What making adds to what a crash may leave: only where the names were free, and then the file with the tables.
@@ -87,7 +95,20 @@ with_tables ws l = record {
 abbrev pub with_none : List Which → Trees → Contents → Contents
 with_none ws others c = record { rows = λ v. if is_among ws v then [] else c.rows v; others = others }
 
--- each differs from those behind it
-abbrev pub Differ : List Which → Type 0
-Differ [] = ⊤
-Differ (w ∷ ws) = AllByRecursion (λ v. bytes_eq (described w).name (described v).name ≡ false) ws × Differ ws
+-- ---- tables that are made, and rows that are put then
+
+-- What a file is once these tables are made in it and these rows are put: the rows of all other tables that were there, and what the
+-- database keeps aside, are as they were.
+abbrev pub IsGrown : List Which → List Put → Layout → Contents → Trees → (Layout → Contents → Type 0) → Type 0
+IsGrown ws puts l c rows P =
+    (others : Trees) × KeepsRows l.schema.tables rows others × KeepsAside l.schema rows others × P (with_tables ws l) (with_puts puts (with_none ws others c))
+
+-- The tables were made in whatever file the connection showed, and the rows put, which have their tables then.
+abbrev pub WritesWithTables : List Which → List Put → State → State → Type 0
+WritesWithTables ws puts old new =
+    (l : Layout) (c : Contents) → Differ ws → HasThem (with_tables ws l) puts → Shows l c old → IsGrown ws puts l c old.now.trees (λ after d. Shows after d new)
+
+-- The trees are such a file.
+abbrev pub IsFileWithTables : List Which → List Put → State → Trees → Type 0
+IsFileWithTables ws puts s db =
+    (l : Layout) (c : Contents) → Differ ws → HasThem (with_tables ws l) puts → Shows l c s → IsGrown ws puts l c s.now.trees (λ after d. IsFile after d db)

@@ -1,19 +1,25 @@
 -- What rows that are put in turn make of the contents.
-use Rattle.std.specs.Prelude.{◌≡◌, ℕ, ℤ, pos, true, List, fold, Result, Ok, Err, OnOk}
+use Rattle.std.specs.Prelude.{◌≡◌, ℕ, ℤ, pos, true, List, [], ◌∷◌, fold, Option, Some, Result, Ok, Err, IfErr, IsTrue, OnOk}
+use Rattle.std.specs.Iterator.{Drains, YieldsThen}
 use Rattle.std.specs.List.{AllByRecursion}
 use Rattle.std.specs.Ordering.{int_eq}
+use Rattle.sqlite_value.specs.declared.value.Value.TheVariants.{Int, Text}
 use Rattle.sqlite_value.specs.Order.{Row}
+use Rattle.sqlite_trees.specs.declared.store.Store.{Ghosts}
 use Rattle.sqlite_trees.specs.Tree.{Trees}
 use Rattle.sqlite.specs.declared.error.Error.{Error}
 use Rattle.sqlite.specs.Effect.{Database}
+use Rattle.sqlite.specs.Held.{Held, state}
 use Rattle.sqlite.specs.State.{State, KeepsCommit, ExecutesInside}
 use Rattle.desk_book.specs.declared.rows.BookRow.{BookRow}
 use Rattle.desk_book.specs.Rows.{Mark, Para}
 use Rattle.sql_tables.specs.Rows.{set_where}
 use Rattle.desk_store.specs.Contents.{Contents, with_row, with_rows}
-use Rattle.desk_store.specs.Described.{Which, books, tabs, paras, marks, caches, named_corrs}
+use Rattle.desk_store.specs.Described.{Which, books, tabs, paras, marks, caches, named_corrs, described}
 use Rattle.desk_store.specs.Layout.{Layout}
+use Rattle.desk_store.specs.Rows.{RowOf, written}
 use Rattle.desk_store.specs.States.{IsFile, IsUnder, Shows}
+use Rattle.desk_store.specs.declared.texts.TheConstants.{SET_FLAGS, SET_PLACE, SET_PRINT, SET_RESOLVED, SET_SPAN, SET_TABLE, SET_VERSION}
 use Rattle.desk_store.specs.declared.rows.Put.{Put}
 use Rattle.desk_store.specs.declared.rows.Put.TheVariants as put
 
@@ -90,15 +96,75 @@ HasThem l = AllByRecursion (λ it. l.has (table_put it) ≡ true)
 abbrev pub IsFileWith : List Put → State → Trees → Type 0
 IsFileWith puts s db = (l : Layout) (c : Contents) → HasThem l puts → Shows l c s → IsFile l (with_puts puts c) db
 
+-- All of these were put into whatever file the connection showed that has their tables.
+abbrev pub Writes : List Put → State → State → Type 0
+Writes puts old new = (l : Layout) (c : Contents) → HasThem l puts → Shows l c old → Shows l (with_puts puts c) new
+
+-- ---- the statement of a put
+
+pub record Statement : Type 0 where
+  pub text : List ℕ
+  pub params : Row
+
+-- a row of a table
+abbrev pub row_put : (w : Which) → RowOf w → Statement
+row_put w x = record { text = (described w).put; params = written w x }
+
+abbrev pub statement : Put → Statement
+statement (put.Book row) = row_put books row.now
+statement (put.Tab row) = row_put tabs row.now
+statement (put.Para row) = row_put paras row.now
+statement (put.Mark row) = row_put marks row.now
+statement (put.Cache row) = row_put caches row.now
+statement (put.Corr row) = row_put named_corrs row.now
+statement (put.Place id place) = record { text = SET_PLACE.now; params = Int id ∷ Int place ∷ [] }
+statement (put.Flags id style volume struck) = record { text = SET_FLAGS.now; params = Int id ∷ Int style ∷ Int volume ∷ Int struck ∷ [] }
+statement (put.Table id tab) = record { text = SET_TABLE.now; params = Int id ∷ Text tab.now ∷ [] }
+statement (put.Print id print) = record { text = SET_PRINT.now; params = Int id ∷ Text print.now ∷ [] }
+statement (put.Span id start stop touched) = record { text = SET_SPAN.now; params = Int id ∷ Int start ∷ Int stop ∷ Int touched ∷ [] }
+statement (put.Resolved id resolved) = record { text = SET_RESOLVED.now; params = Int id ∷ Int resolved ∷ [] }
+statement (put.Version version) = record { text = SET_VERSION.now; params = Int (pos 1) ∷ Int version ∷ [] }
+
 -- ---- what a statement within a transaction does
 
--- A statement ran inside a transaction with these parameters, or failed, and committed nothing.
+-- A statement ran inside a transaction with these parameters, or failed, as the database answers, and committed nothing.
 abbrev pub RunsTo : {V : Type 0} → Result V Error → List ℕ → Row → State → State → Type 0
 RunsTo (Ok v) text params old new = (count : ℕ) × ExecutesInside 0 text params old new (Ok count)
-RunsTo (Err e) text params old new = KeepsCommit old new
+RunsTo (Err e) text params old new = KeepsCommit old new × (old.in_transaction ≡ true → ExecutesInside 0 text params old new (Err e))
 
--- A statement changes the contents so, over the same commit, where its table is there, and the transaction goes on.
-pub record Changes {V E : Type 0} (result : Result V E) (w : Which) (change : Contents → Contents) (old new : State) : Type 0 where
+-- a row is put, over the same commit
+abbrev pub PutsRow : (w : Which) → RowOf w → State → State → Type 0
+PutsRow w x old new = (committed : Database) (l : Layout) (c : Contents) → l.has w ≡ true → IsUnder committed l c old → IsUnder committed l (with_row w x c) new
+
+-- A statement changes the contents so, over the same commit, where its table is there, and the transaction goes on. Its error is what the
+-- database answered to it.
+pub record Changes {V : Type 0} (result : Result V Error) (it : Statement) (w : Which) (change : Contents → Contents) (old new : State) : Type 0 where
   pub put : (committed : Database) (l : Layout) (c : Contents) → l.has w ≡ true → IsUnder committed l c old → OnOk result (IsUnder committed l (change c) new)
+  pub is_open : OnOk result (IsTrue old.is_open)
   pub inside : OnOk result (new.in_transaction ≡ true)
   pub kept : KeepsCommit old new
+  pub told : old.in_transaction ≡ true → IfErr result (λ e. ExecutesInside 0 it.text it.params old new (Err e))
+
+-- this is put
+abbrev pub IsPut : {V : Type 0} → Result V Error → Put → State → State → Type 0
+IsPut result it = Changes result (statement it) (table_put it) (λ c. with_put c it)
+
+-- ---- puts in turn
+
+-- all of these, over the same commit
+abbrev pub PutsAll : List Put → State → State → Type 0
+PutsAll puts old new = (committed : Database) (l : Layout) (c : Contents) → HasThem l puts → IsUnder committed l c old → IsUnder committed l (with_puts puts c) new
+
+-- Those so far were put, and this is what the database answered to the statement of the next.
+pub record StopsAt {S : Type 0} (g : Ghosts S) (done : List Put) (next : Put) (old new : State) (e : Error) : Type 0 where
+  pub before : Held S
+  pub put : PutsAll done old (state g before)
+  pub answered : ExecutesInside 0 (statement next).text (statement next).params (state g before) new (Err e)
+
+-- what an iterator gives until it ends, with this
+abbrev pub OfItems : {I A : Type 0} → (I → Option A → I → Type 0) → I → (List A → Type 0) → Type 0
+OfItems {A = A} gives it P = (xs : List A) × Drains gives it xs × P xs
+
+-- what it gives before an item, and the item, with this
+abbrev pub OfItemsBefore : {I A : Type 0} → (I → Option A → I → Type 0) → I → (List A → A → Type 0) → Type 0
+OfItemsBefore {I} {A} gives it P = (xs : List A) × (next : A) × (rest : I) × YieldsThen gives it xs (Some next) rest × P xs next

@@ -9,6 +9,8 @@ use Rattle.desk_store.specs.Contents.{Contents}
 use Rattle.desk_store.specs.Described.{Which, books, tabs, paras, corrs, marks, caches, named_corrs, described}
 use Rattle.desk_store.specs.Layout.{Layout, IsOther}
 use Rattle.desk_store.specs.Rows.{RowOf, ShownOf, own, shown}
+use Rattle.desk_store.specs.declared.rows.Put.{Put}
+use Rattle.desk_store.specs.declared.rows.Put.TheVariants as put
 
 -- the same rows in each of the tables, in any order, and in each other tree
 pub record HaveSameRows (l : Layout) (c d : Contents) : Type 0 where
@@ -58,3 +60,19 @@ IsUtf8Row named_corrs e = IsUtf8 e.entry.body × IsUtf8 e.who
 -- each text is UTF-8
 abbrev pub AreUtf8 : Contents → Type 0
 AreUtf8 c = (w : Which) → AllByRecursion (IsUtf8Row w) (c.rows w)
+
+-- the texts of what is put are UTF-8
+abbrev pub IsUtf8Put : Put → Type 0
+IsUtf8Put (put.Book row) = ⊤
+IsUtf8Put (put.Tab row) = IsUtf8Row tabs row.now
+IsUtf8Put (put.Para row) = IsUtf8Row paras row.now
+IsUtf8Put (put.Mark row) = IsUtf8Row marks row.now
+IsUtf8Put (put.Cache row) = ⊤
+IsUtf8Put (put.Corr row) = IsUtf8Row named_corrs row.now
+IsUtf8Put (put.Place id place) = ⊤
+IsUtf8Put (put.Flags id style volume struck) = ⊤
+IsUtf8Put (put.Table id tab) = IsUtf8 tab.now
+IsUtf8Put (put.Print id print) = IsUtf8 print.now
+IsUtf8Put (put.Span id start stop touched) = ⊤
+IsUtf8Put (put.Resolved id resolved) = ⊤
+IsUtf8Put (put.Version version) = ⊤

@@ -5,7 +5,8 @@ ghost use Rattle.sqlite.specs.Held.{state};
 ghost use Rattle.sqlite.specs.State.{HasCleanDisk, IsLive, Opens};
 ghost use Rattle.desk_store.specs.Contents.{Contents};
 ghost use Rattle.desk_store.specs.Layout.{Layout};
-ghost use Rattle.desk_store.specs.Puts.{HasThem, with_puts};
+ghost use Rattle.std.specs.Iterator.{IsFinite};
+ghost use Rattle.desk_store.specs.Puts.{HasThem, OfItems, Writes, with_puts};
 ghost use Rattle.desk_store.specs.States.{IsFile, Shows};
 ghost use Rattle.sql_tables.specs.States.{Leaves};
 
@@ -43,22 +44,23 @@ pub fn reopen<S: Alter + Reopen + Drop>(
     }
 }
 
-/// Puts these, has the store crash whatever the answer, and opens what is left: it shows the rows from before, or those with all of
-/// these, which at `Ok` are there.
-pub fn reopen_after_write<S: Alter + Reopen + Drop>(
+/// Puts in turn what an iterator gives, has the store crash whatever the answer, and opens what is left: it shows the rows from before, or
+/// those with all of these, which at `Ok` are there.
+pub fn reopen_after_write<'a, S: Alter + Reopen + Drop, I: Iterator<Item = Put<'a>> + Drop>(
     alloc: Global,
     mut conn: Connection<S>,
-    puts: &[Put<'_>],
+    puts: I,
 ) -> Result<(Result<(), Error>, Connection<S>), Fault>
-    requires { conn.in_transaction ≡ false }
+    requires idle { conn.in_transaction ≡ false }
+    requires can { I.can_next puts }
+    requires ends { IsFinite (I.remaining puts) }
     ensures idle { IfOk result (λ it. it.1.in_transaction ≡ false) }
     ensures opens { IfOk result (λ it. HasCleanDisk (state S.Store it.1) → Opens (state S.Store it.1) × IsLive (state S.Store it.1)) }
     ensures unlimited { IfOk result (λ it. (state S.Store it.1).step_limit ≡ None) }
     ensures clean { IfOk result (λ it. HasCleanDisk (state S.Store it.1) → HasCleanDisk (state S.Store conn)) }
-    ensures crash { IfOk result (λ it. HasCleanDisk (state S.Store it.1) → (l : Layout) (c : Contents) → HasThem l puts.now → Shows l c (state S.Store conn) → Leaves (IsFile l c) (state S.Store conn)
-        → Shows l c (state S.Store it.1) ⊎ Shows l (with_puts puts.now c) (state S.Store it.1)) }
-    ensures kept { IfOk result (λ it. HasCleanDisk (state S.Store it.1) → (l : Layout) (c : Contents) → HasThem l puts.now → Shows l c (state S.Store conn)
-        → OnOk it.0 (Shows l (with_puts puts.now c) (state S.Store it.1))) }
+    ensures crash { IfOk result (λ it. HasCleanDisk (state S.Store it.1) → (l : Layout) (c : Contents) → Shows l c (state S.Store conn) → Leaves (IsFile l c) (state S.Store conn)
+        → Shows l c (state S.Store it.1) ⊎ OfItems I.next_gives puts (λ xs. HasThem l xs → Shows l (with_puts xs c) (state S.Store it.1))) }
+    ensures kept { IfOk result (λ it. HasCleanDisk (state S.Store it.1) → OnOk it.0 (OfItems I.next_gives puts (λ xs. Writes xs (state S.Store conn) (state S.Store it.1)))) }
 {
     let answer = write(&mut conn, puts);
     let after = reopen(alloc, conn)?;

@@ -1,14 +1,14 @@
 //! Laws of files, and of the connections that show them.
 ghost use Rattle.desk_store.specs.Asked.{AreReadable};
 ghost use Rattle.desk_store.specs.Contents.{Contents};
-ghost use Rattle.desk_store.specs.Described.{Which, shows_rowid};
+ghost use Rattle.desk_store.specs.Described.{Which, described, shows_rowid};
 ghost use Rattle.sql_tables.specs.Kinds.{HaveIntegerRowids};
 ghost use Rattle.desk_store.specs.Layout.{AreDeclared, Layout};
 ghost use Rattle.desk_store.specs.Making.{Differ, IsNew, MakesTables, made, with_none, with_tables};
 ghost use Rattle.sql_tables.specs.Making.{KeepsAside};
 ghost use Rattle.desk_store.specs.States.{IsFile, IsUnder, Shows};
 ghost use Rattle.sql_tables.specs.States.{Leaves};
-ghost use Rattle.desk_store.specs.Whole.{AreApart, AreRows, AreUtf8, HaveSameRows, Rows, contents_of};
+ghost use Rattle.desk_store.specs.Whole.{AreApart, AreRows, AreUtf8, HaveSameRows, IsUtf8Put, Rows, contents_of};
 ghost use Rattle.sqlite.specs.Effect.{Database};
 ghost use Rattle.sqlite.specs.Held.{state};
 ghost use Rattle.sqlite.specs.State.{IsLive, Opens};
@@ -16,8 +16,13 @@ ghost use Rattle.sqlite_catalog.specs.Change.{KeepsRows};
 ghost use Rattle.sqlite_catalog.specs.Listing.{IsSound};
 ghost use Rattle.sqlite_schema.specs.declared.schema.Schema.{Schema};
 ghost use Rattle.sqlite_trees.specs.Tree.{Trees};
-ghost use Rattle.std.specs.Prelude.{IsTrue, List, true, ◌≡◌, ◌↔◌, ◌⊎◌};
+ghost use Rattle.std.specs.Prelude.{IsTrue, List, false, true, ◌≡◌, ◌↔◌, ◌⊎◌};
+ghost use Rattle.std.specs.List.{AllByRecursion};
+ghost use Rattle.desk_store.specs.Puts.{with_puts};
+ghost use Rattle.desk_store.specs.Tables.{is_there};
+ghost use Rattle.sqlite_catalog.specs.Change.{is_used};
 
+use crate::rows::Put;
 use sqlite::{Alter, Connection};
 
 /// Trees are a database of one schema at most.
@@ -27,7 +32,9 @@ pub fn one_schema()
 
 /// A connection that is open over the trees of a file shows that file, however it was opened.
 pub fn one_file<S: Alter>(conn: &Connection<S>)
-    ensures { IsLive (state S.Store conn.now) → IsTrue (state S.Store conn.now).is_open → (l : Layout) (c : Contents) → IsFile l c (state S.Store conn.now).now.trees → Shows l c (state S.Store conn.now) }
+    ensures { IsLive (state S.Store conn.now) → IsTrue (state S.Store conn.now).is_open
+        → (l : Layout) (c : Contents) → IsFile l c (state S.Store conn.now).now.trees
+        → Shows l c (state S.Store conn.now) }
 {}
 
 /// A connection that opened at what a crash may leave of another one shows what that is, whatever stores they are over.
@@ -38,23 +45,28 @@ pub fn found_again<S: Alter, T: Alter>(last: &Connection<S>, next: &Connection<T
 
 /// A file has one contents, but for the order of the rows.
 pub fn one_contents()
-    ensures { (l : Layout) (c d : Contents) (db : Trees) → IsFile l c db → (IsFile l d db ↔ HaveSameRows l c d) }
+    ensures { (l : Layout) (c d : Contents) (db : Trees) → IsFile l c db
+        → (IsFile l d db ↔ HaveSameRows l c d) }
 {}
 
 /// What was read whole, and differs by its keys, is what the file holds.
 pub fn read_whole()
-    ensures { (l : Layout) (rows : Rows) (db : Trees) → AreDeclared l → IsSound l.schema db → AreRows l rows db → AreApart rows → IsFile l (contents_of rows db) db }
+    ensures { (l : Layout) (rows : Rows) (db : Trees) → AreDeclared l → IsSound l.schema db
+        → AreRows l rows db → AreApart rows → IsFile l (contents_of rows db) db }
 {}
 
 /// The rows of a file can be read: the rowids that are read are integers, and the texts are UTF-8 where those of the file are.
 pub fn texts_as_written()
-    ensures readable { (l : Layout) (c : Contents) (db : Trees) → IsFile l c db → AreUtf8 c → (w : Which) → l.has w ≡ true → AreReadable w (db (l.tree w)) }
-    ensures rowids { (l : Layout) (c : Contents) (db : Trees) → IsFile l c db → (w : Which) → l.has w ≡ true → shows_rowid w ≡ true → HaveIntegerRowids (db (l.tree w)) }
+    ensures readable { (l : Layout) (c : Contents) (db : Trees) → IsFile l c db → AreUtf8 c
+        → (w : Which) → l.has w ≡ true → AreReadable w (db (l.tree w)) }
+    ensures rowids { (l : Layout) (c : Contents) (db : Trees) → IsFile l c db → (w : Which)
+        → l.has w ≡ true → shows_rowid w ≡ true → HaveIntegerRowids (db (l.tree w)) }
 {}
 
 /// A file where the tables were made keeps what the database keeps aside.
 pub fn made_keeps()
-    ensures { (s : Schema) (rows db : Trees) → IsNew s rows (λ c. IsFile (made s) c db) → KeepsAside s rows db }
+    ensures { (s : Schema) (rows db : Trees) → IsNew s rows (λ c. IsFile (made s) c db)
+        → KeepsAside s rows db }
 {}
 
 /// A connection in a transaction that shows a file, and that made tables there which the file lacks, shows the file with these, which have
@@ -63,4 +75,18 @@ pub fn more_tables<S: Alter>(old: &Connection<S>, new: &Connection<S>)
     ensures { (l : Layout) (c : Contents) (ws : List Which) (committed : Database) → Differ ws → IsUnder committed l c (state S.Store old.now) → MakesTables ws (state S.Store old.now) (state S.Store new.now)
         → IsUnder committed (with_tables ws l) (with_none ws (state S.Store new.now).now.trees c) (state S.Store new.now)
         × KeepsRows l.schema.tables (state S.Store old.now).now.trees (state S.Store new.now).now.trees × KeepsAside l.schema (state S.Store old.now).now.trees (state S.Store new.now).now.trees }
+{}
+
+/// Texts in UTF-8 that are put leave the texts of a file in UTF-8.
+pub fn texts_stay()
+    ensures { (puts : List Put) (c : Contents) → AllByRecursion IsUtf8Put puts → AreUtf8 c
+        → AreUtf8 (with_puts puts c) }
+{}
+
+/// A table that a file has is there by its schema, and one whose name is free isn't.
+pub fn tables_there()
+    ensures has { (l : Layout) (c : Contents) (db : Trees) → IsFile l c db → (w : Which)
+        → l.has w ≡ true → is_there l.schema w ≡ true }
+    ensures free { (s : Schema) (w : Which) → is_used s (described w).name ≡ false
+        → is_there s w ≡ false }
 {}

@@ -10,6 +10,7 @@ mod put;
 mod read;
 mod row;
 pub mod rows;
+mod table;
 mod texts;
 mod transaction;
 
@@ -20,7 +21,8 @@ pub use open::open_file;
 pub use read::{
     read_books, read_caches, read_corrs, read_marks, read_named_corrs, read_paras, read_tabs,
 };
-pub use transaction::write;
+pub use table::{Table, has_table};
+pub use transaction::{write, write_with_tables};
 
 #[cfg(test)]
 mod lines;

@@ -6,7 +6,8 @@
 
 use crate::rows::{CacheRow, NamedCorrRow, Put};
 use crate::{
-    read_books, read_caches, read_corrs, read_marks, read_named_corrs, read_paras, read_tabs,
+    Table, has_table, read_books, read_caches, read_corrs, read_marks, read_named_corrs,
+    read_paras, read_tabs,
 };
 use desk_book::rows::{BookRow, CorrRow, MarkRow, ParaRow, StoredTab, TabRow};
 use sqlite::{Alter, Connection};
@@ -352,22 +353,26 @@ fn add_read<T: Listed + Drop>(text: &mut String, rows: Option<Vec<T>>) -> Option
     add_rows(text, rows?.as_slice()).ok()
 }
 
-/// Adds the rows of the six tables.
+/// Adds the rows of the four tables that each format has, and of those that one of them may lack where they are there.
 fn add_tables<S: Alter>(alloc: Global, conn: &mut Connection<S>, text: &mut String) -> Option<()> {
     add_read(text, read_books(alloc, conn).ok())?;
     add_read(text, read_tabs(alloc, conn).ok())?;
     add_read(text, read_paras(alloc, conn).ok())?;
-    add_read(text, read_named_corrs(alloc, conn).ok())?;
-    add_read(text, read_marks(alloc, conn).ok())?;
-    add_read(text, read_caches(alloc, conn).ok())
+    if has_table(conn, Table::NamedCorr) {
+        add_read(text, read_named_corrs(alloc, conn).ok())?;
+    }
+    add_read(text, read_marks(alloc, conn).ok())
 }
 
-/// Adds the rows of an older table of histories, where there is one.
-fn add_older<S: Alter>(alloc: Global, conn: &mut Connection<S>, text: &mut String) -> Option<()> {
-    if conn.schema().table_named(b"corr").is_none() {
-        return Some(());
+/// Adds the rows of the cells and of an older table of histories, where these are there.
+fn add_others<S: Alter>(alloc: Global, conn: &mut Connection<S>, text: &mut String) -> Option<()> {
+    if has_table(conn, Table::Cache) {
+        add_read(text, read_caches(alloc, conn).ok())?;
     }
-    add_read(text, read_corrs(alloc, conn).ok())
+    if has_table(conn, Table::Corr) {
+        add_read(text, read_corrs(alloc, conn).ok())?;
+    }
+    Some(())
 }
 
 /// The paragraphs and words of the notes, with 0 for no paragraph.
@@ -388,7 +393,7 @@ pub(crate) fn list<S: Alter>(alloc: Global, conn: &mut Connection<S>) -> Option<
     let has_notes = conn.schema().table_named(b"note").is_some();
     if conn.schema().tables.as_slice().len() > usize::from(has_notes) {
         add_tables(alloc, conn, &mut text)?;
-        add_older(alloc, conn, &mut text)?;
+        add_others(alloc, conn, &mut text)?;
     }
     if has_notes {
         add_notes(conn, &mut text)?;

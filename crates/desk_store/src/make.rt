@@ -1,80 +1,99 @@
-//! The tables of a new book.
+//! The making of tables.
 
-ghost use Rattle.std.specs.Prelude.{◌≡◌, false, true, [], ◌∷◌, IfErr, IsTrue, OnErr, OnOk};
+ghost use Rattle.std.specs.Prelude.{◌≡◌, false, true, [], ◌∷◌, IfErr, IsTrue, OnErr, OnOk, map};
 ghost use Rattle.sqlite_trees.specs.Tree.{Trees};
 ghost use Rattle.sqlite_schema.specs.declared.schema.Schema.{Schema};
 ghost use Rattle.sqlite.specs.Effect.{Database};
 ghost use Rattle.sqlite.specs.Held.{state};
-ghost use Rattle.sqlite.specs.State.{HasCleanDisk, IsLive, KeepsCommit, Survives};
+ghost use Rattle.sqlite.specs.State.{ExecutesInside, HasCleanDisk, IsLive, KeepsCommit, Survives};
 ghost use Rattle.sql_tables.specs.Making.{IndexesLow, IsMaking};
-ghost use Rattle.sql_tables.specs.States.{IsUndone, Leaves, seen};
-ghost use Rattle.desk_store.specs.Described.{books, caches, marks, named_corrs, paras, tabs};
+ghost use Rattle.sql_tables.specs.States.{IsCommitted, IsSettled, IsUndone, seen};
+ghost use Rattle.desk_store.specs.Described.{described};
+ghost use Rattle.desk_store.specs.Failing.{FailsToChange, StopsMaking, begun, of_first_row};
 ghost use Rattle.desk_store.specs.Fault.{IsToldAs};
-ghost use Rattle.desk_store.specs.Making.{AreAbsent, IsMade, IsNew, MakesTables, made};
+ghost use Rattle.desk_store.specs.Making.{AreAbsent, IsMade, IsNew, MakesTables, first_row, made, new_tables};
+ghost use Rattle.desk_store.specs.Puts.{PutsRow};
 ghost use Rattle.desk_store.specs.States.{IsUnder, Shows};
+ghost use Rattle.desk_store.specs.Tables.{AreWritten, which};
 
 use crate::fault::Fault;
 use crate::put::{put_row, run};
-use crate::row::PutRow;
-use crate::rows::{CacheRow, NamedCorrRow};
-use desk_book::rows::{BookRow, MarkRow, ParaRow, TabRow};
+use crate::table::Table;
+use desk_book::rows::BookRow;
 use sqlite::{Alter, Connection, Error, Transaction};
 
-/// Makes the table of such rows, and with it the counter of rowids where a table counts them and it is missing.
-pub(crate) fn create<T: PutRow, S: Alter>(tx: &mut Transaction<'_, S>) -> Result<(), Error>
+/// The tables of a new file, in the order in which they are made.
+const NEW_TABLES: [Table; 6] = [
+    Table::Book,
+    Table::Tab,
+    Table::Para,
+    Table::Mark,
+    Table::Cache,
+    Table::NamedCorr,
+];
+
+/// Makes a table, and with it the counter of rowids where a table counts them and it is missing. The error is the database's.
+fn create<S: Alter>(tx: &mut Transaction<'_, S>, table: Table) -> Result<(), Error>
+    requires { (described (which table)).is_written ≡ true }
     ensures same_reference { tx.new.conn.ghost_name ≡ tx.old.conn.ghost_name }
-    ensures makes { HasCleanDisk (seen S.Store tx.new) → OnOk result (MakesTables (T.which ∷ []) (seen S.Store tx.old) (seen S.Store tx.new)) }
-    ensures kept { HasCleanDisk (seen S.Store tx.new) → KeepsCommit (seen S.Store tx.old) (seen S.Store tx.new) }
+    ensures makes { HasCleanDisk (seen S.Store tx.new)
+        → OnOk result (MakesTables (which table ∷ []) (seen S.Store tx.old) (seen S.Store tx.new)) }
+    ensures inside { HasCleanDisk (seen S.Store tx.new)
+        → OnOk result ((seen S.Store tx.new).in_transaction ≡ true) }
+    ensures told { HasCleanDisk (seen S.Store tx.new) → (seen S.Store tx.old).in_transaction ≡ true
+        → IfErr result (λ e. ExecutesInside 0 (described (which table)).create [] (seen S.Store tx.old) (seen S.Store tx.new) (Err e)) }
+    ensures kept { HasCleanDisk (seen S.Store tx.new)
+        → KeepsCommit (seen S.Store tx.old) (seen S.Store tx.new) }
     ensures survives { Survives (seen S.Store tx.old) (seen S.Store tx.new) (λ _. ⊥) }
 {
-    run(tx, T::creation(), &[])
+    run(tx, table.creation(), &[])
 }
 
-/// Makes the first three tables.
-fn create_first<S: Alter>(tx: &mut Transaction<'_, S>) -> Result<(), Error>
+/// Makes these tables in turn. The error is the database's.
+pub(crate) fn create_all<S: Alter>(
+    tx: &mut Transaction<'_, S>,
+    tables: &[Table],
+) -> Result<(), Error>
+    requires { AreWritten tables.now }
     ensures same_reference { tx.new.conn.ghost_name ≡ tx.old.conn.ghost_name }
-    ensures makes { HasCleanDisk (seen S.Store tx.new) → OnOk result (MakesTables (books ∷ tabs ∷ paras ∷ []) (seen S.Store tx.old) (seen S.Store tx.new)) }
-    ensures kept { HasCleanDisk (seen S.Store tx.new) → KeepsCommit (seen S.Store tx.old) (seen S.Store tx.new) }
+    ensures makes { HasCleanDisk (seen S.Store tx.new)
+        → OnOk result (MakesTables (map which tables.now) (seen S.Store tx.old) (seen S.Store tx.new)) }
+    ensures inside { HasCleanDisk (seen S.Store tx.new)
+        → (seen S.Store tx.old).in_transaction ≡ true
+        → OnOk result ((seen S.Store tx.new).in_transaction ≡ true) }
+    ensures told { HasCleanDisk (seen S.Store tx.new) → (seen S.Store tx.old).in_transaction ≡ true
+        → IfErr result (StopsMaking S.Store (map which tables.now) (seen S.Store tx.old) (seen S.Store tx.new)) }
+    ensures kept { HasCleanDisk (seen S.Store tx.new)
+        → KeepsCommit (seen S.Store tx.old) (seen S.Store tx.new) }
     ensures survives { Survives (seen S.Store tx.old) (seen S.Store tx.new) (λ _. ⊥) }
 {
-    create::<BookRow, S>(tx)?;
-    create::<TabRow, S>(tx)?;
-    create::<ParaRow, S>(tx)?;
+    for table in tables {
+        create(tx, *table)?;
+    }
     Ok(())
 }
 
-/// Makes the other three.
-fn create_rest<S: Alter>(tx: &mut Transaction<'_, S>) -> Result<(), Error>
+/// Puts the row of a new book, in format 2 and at version 0.
+fn put_first_row<S: Alter>(tx: &mut Transaction<'_, S>) -> Result<(), Error>
     ensures same_reference { tx.new.conn.ghost_name ≡ tx.old.conn.ghost_name }
-    ensures makes { HasCleanDisk (seen S.Store tx.new) → OnOk result (MakesTables (marks ∷ caches ∷ named_corrs ∷ []) (seen S.Store tx.old) (seen S.Store tx.new)) }
-    ensures kept { HasCleanDisk (seen S.Store tx.new) → KeepsCommit (seen S.Store tx.old) (seen S.Store tx.new) }
+    ensures put { HasCleanDisk (seen S.Store tx.new)
+        → OnOk result (of_first_row.puts (seen S.Store tx.old) (seen S.Store tx.new)) }
+    ensures is_open { HasCleanDisk (seen S.Store tx.new)
+        → OnOk result (IsTrue (seen S.Store tx.old).is_open) }
+    ensures inside { HasCleanDisk (seen S.Store tx.new)
+        → OnOk result ((seen S.Store tx.new).in_transaction ≡ true) }
+    ensures told { HasCleanDisk (seen S.Store tx.new) → (seen S.Store tx.old).in_transaction ≡ true
+        → IfErr result (of_first_row.stops (seen S.Store tx.old) (seen S.Store tx.new)) }
+    ensures kept { HasCleanDisk (seen S.Store tx.new)
+        → KeepsCommit (seen S.Store tx.old) (seen S.Store tx.new) }
     ensures survives { Survives (seen S.Store tx.old) (seen S.Store tx.new) (λ _. ⊥) }
 {
-    create::<MarkRow, S>(tx)?;
-    create::<CacheRow, S>(tx)?;
-    create::<NamedCorrRow, S>(tx)?;
-    Ok(())
-}
-
-/// Makes the six tables and puts the row of a new book.
-fn create_all<S: Alter>(tx: &mut Transaction<'_, S>) -> Result<(), Error>
-    ensures same_reference { tx.new.conn.ghost_name ≡ tx.old.conn.ghost_name }
-    ensures free { HasCleanDisk (seen S.Store tx.new) → OnOk result (AreAbsent (seen S.Store tx.old).now.schema × IsTrue (seen S.Store tx.old).is_open) }
-    ensures made { HasCleanDisk (seen S.Store tx.new) → (committed : Database) (s : Schema) (rows : Trees) → AreAbsent s → IndexesLow s → IsMaking committed s rows s (seen S.Store tx.old)
-        → OnOk result (IsNew s rows (λ c. IsUnder committed (made s) c (seen S.Store tx.new))) }
-    ensures inside { HasCleanDisk (seen S.Store tx.new) → OnOk result ((seen S.Store tx.new).in_transaction ≡ true) }
-    ensures kept { HasCleanDisk (seen S.Store tx.new) → KeepsCommit (seen S.Store tx.old) (seen S.Store tx.new) }
-    ensures survives { Survives (seen S.Store tx.old) (seen S.Store tx.new) (λ _. ⊥) }
-{
-    create_first(tx)?;
-    create_rest(tx)?;
     let row = BookRow {
         id: 1,
         format: 2,
         version: 0,
     };
-    put_row(tx, &row)?;
-    Ok(())
+    put_row(tx, &row)
 }
 
 /// Makes the six tables with the row of a new book, in format 2 and at version 0, as one. Where a table counts its rowids and the
@@ -84,20 +103,29 @@ pub fn make_tables<S: Alter>(conn: &mut Connection<S>) -> Result<(), Error>
     requires { conn.old.in_transaction ≡ false }
     ensures idle { conn.new.in_transaction ≡ false }
     // Where a name is taken, the answer is an error.
-    ensures free { HasCleanDisk (state S.Store conn.new) → OnOk result (AreAbsent (state S.Store conn.old).now.schema) }
+    ensures free { HasCleanDisk (state S.Store conn.new)
+        → OnOk result (AreAbsent (state S.Store conn.old).now.schema) }
     ensures made { HasCleanDisk (state S.Store conn.new) → IsLive (state S.Store conn.old)
         → OnOk result (IsNew (state S.Store conn.old).now.schema (state S.Store conn.old).now.trees (λ c. Shows (made (state S.Store conn.old).now.schema) c (state S.Store conn.new))) }
-    ensures open { HasCleanDisk (state S.Store conn.new) → OnOk result (IsTrue (state S.Store conn.new).is_open × ((state S.Store conn.new).committed ≡ (state S.Store conn.new).now)) }
+    ensures open { HasCleanDisk (state S.Store conn.new)
+        → OnOk result (IsCommitted (state S.Store conn.new)) }
     // Of a crash at any exit: nothing new is left but all of it, and that only where no name was taken.
     ensures crash { Survives (state S.Store conn.old) (state S.Store conn.new) (IsMade (state S.Store conn.old)) }
     // At `Ok` it leaves the trees that the connection shows.
-    ensures settled { HasCleanDisk (state S.Store conn.new) → OnOk result (Leaves (λ db. db ≡ (state S.Store conn.new).now.trees) (state S.Store conn.new)) }
-    ensures undone { HasCleanDisk (state S.Store conn.new) → OnErr result (IsUndone (state S.Store conn.old) (state S.Store conn.new)) }
+    ensures settled { HasCleanDisk (state S.Store conn.new)
+        → OnOk result (IsSettled (state S.Store conn.new)) }
+    // The error is what the database answered to one of the statements or to the commit.
+    ensures told { HasCleanDisk (state S.Store conn.new)
+        → IfErr result (FailsToChange S.Store new_tables of_first_row (begun conn.old) (state S.Store conn.new)) }
+    ensures undone { HasCleanDisk (state S.Store conn.new)
+        → OnErr result (IsUndone (state S.Store conn.old) (state S.Store conn.new)) }
     // After a refusal a crash leaves nothing new.
-    ensures refused { HasCleanDisk (state S.Store conn.new) → IfErr result (λ e. IsToldAs e Fault.Refused → Survives (state S.Store conn.old) (state S.Store conn.new) (λ _. ⊥)) }
+    ensures refused { HasCleanDisk (state S.Store conn.new)
+        → IfErr result (λ e. IsToldAs e Fault.Refused → Survives (state S.Store conn.old) (state S.Store conn.new) (λ _. ⊥)) }
 {
     let mut tx = conn.transaction();
-    create_all(&mut tx)?;
+    create_all(&mut tx, &NEW_TABLES)?;
+    put_first_row(&mut tx)?;
     tx.commit()?;
     Ok(())
 }

@@ -4,7 +4,10 @@ ghost use Rattle.std.specs.Prelude.{◌≡◌, ◌<◌, ◌^◌, ◌-◌, false,
 ghost use Rattle.sqlite_trees.specs.View.{IsClean, IsQuiet};
 ghost use Rattle.sqlite.specs.Held.{state};
 ghost use Rattle.sqlite.specs.State.{HasCleanDisk, IsLive, Opens};
-ghost use Rattle.sqlite.specs.Steps.{IsFresh};
+ghost use Rattle.sqlite.specs.Steps.{FailsToOpen, IsFresh};
+ghost use Rattle.sqlite.specs.declared.error.Error.{Error as Failure};
+ghost use Rattle.sqlite_disk.specs.Disk.{MoreFaults};
+ghost use Rattle.desk_store.specs.Fault.{IsToldAs};
 ghost use Rattle.desk_store.specs.Contents.{Contents};
 ghost use Rattle.desk_store.specs.Layout.{Layout};
 ghost use Rattle.desk_store.specs.States.{IsFile, Shows};
@@ -26,6 +29,9 @@ pub fn open_file<S: Alter + Drop>(alloc: Global, store: S) -> Result<Connection<
     ensures clean { IfOk result (λ conn. HasCleanDisk (state S.Store conn) → IsClean (S.Store.view store)) }
     // A crash then leaves what was there.
     ensures crash { IfOk result (λ conn. HasCleanDisk (state S.Store conn) → Leaves (λ db. db ≡ (S.Store.view store).trees) (state S.Store conn)) }
+    // It is what the database answers to such trees.
+    ensures told { IfErr result (λ e. IsClean (S.Store.view e.1)
+        → (error : Failure) × FailsToOpen (S.Store.view store).trees (MoreFaults (S.Store.faults store) (S.Store.faults e.1)) error × IsToldAs error e.0) }
     // What is a file of any layout is never refused.
     ensures refused { IfErr result (λ e. IsClean (S.Store.view e.1) → e.0 ≡ Fault.Refused → (l : Layout) (c : Contents) → ¬ IsFile l c (S.Store.view store).trees) }
     // It is lost only where the store counts more failures, unless its count stands at its limit.

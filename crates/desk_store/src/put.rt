@@ -4,17 +4,14 @@
 //! place of the one with its key, or with it more, or with the columns set of the row with that key, those of the other tables stay, and
 //! the transaction goes on. The error is the database's.
 
-ghost use Rattle.std.specs.Prelude.{◌≡◌, true, [], ◌∷◌, OnOk};
+ghost use Rattle.std.specs.Prelude.{◌≡◌, true, [], ◌∷◌, IfErr, OnOk};
+ghost use Rattle.std.specs.Iterator.{IsFinite};
 ghost use Rattle.sqlite_value.specs.declared.value.Value.TheVariants.{Int, Text};
-ghost use Rattle.sqlite.specs.Effect.{Database};
 ghost use Rattle.sqlite.specs.State.{HasCleanDisk, KeepsCommit, Survives};
 ghost use Rattle.sqlite.specs.Values.{bound};
 ghost use Rattle.sql_tables.specs.States.{seen};
-ghost use Rattle.desk_store.specs.Contents.{Contents, with_row};
-ghost use Rattle.desk_store.specs.Described.{books, marks, paras};
-ghost use Rattle.desk_store.specs.Layout.{Layout};
-ghost use Rattle.desk_store.specs.Puts.{Changes, HasThem, RunsTo, at_version, flagged, moved, placed, printed, retabled, settled, table_put, with_book, with_mark, with_para, with_put, with_puts};
-ghost use Rattle.desk_store.specs.States.{IsUnder};
+ghost use Rattle.desk_store.specs.Contents.{with_row};
+ghost use Rattle.desk_store.specs.Puts.{Changes, IsPut, OfItems, OfItemsBefore, PutsAll, RunsTo, StopsAt, row_put};
 
 use crate::row::PutRow;
 use crate::rows::Put;
@@ -31,7 +28,8 @@ pub(crate) fn run<S: Alter>(
     params: &[ValueRef<'_>],
 ) -> Result<(), Error>
     ensures same_reference { tx.new.conn.ghost_name ≡ tx.old.conn.ghost_name }
-    ensures runs { HasCleanDisk (seen S.Store tx.new) → RunsTo result text.now (bound params.now) (seen S.Store tx.old) (seen S.Store tx.new) }
+    ensures runs { HasCleanDisk (seen S.Store tx.new)
+        → RunsTo result text.now (bound params.now) (seen S.Store tx.old) (seen S.Store tx.new) }
     ensures survives { Survives (seen S.Store tx.old) (seen S.Store tx.new) (λ _. ⊥) }
 {
     tx.execute(text, params)?;
@@ -70,7 +68,8 @@ pub(crate) fn put_row<T: PutRow, S: Alter>(
     row: &T,
 ) -> Result<(), Error>
     ensures same_reference { tx.new.conn.ghost_name ≡ tx.old.conn.ghost_name }
-    ensures changes { HasCleanDisk (seen S.Store tx.new) → Changes result T.which (with_row T.which (T.own row.now)) (seen S.Store tx.old) (seen S.Store tx.new) }
+    ensures changes { HasCleanDisk (seen S.Store tx.new)
+        → Changes result (row_put T.which (T.own row.now)) T.which (with_row T.which (T.own row.now)) (seen S.Store tx.old) (seen S.Store tx.new) }
     ensures survives { Survives (seen S.Store tx.old) (seen S.Store tx.new) (λ _. ⊥) }
 {
     row.execute(tx)
@@ -79,7 +78,8 @@ pub(crate) fn put_row<T: PutRow, S: Alter>(
 /// Moves the paragraph with this id to a place, if it is there.
 fn set_place<S: Alter>(tx: &mut Transaction<'_, S>, id: i64, place: i64) -> Result<(), Error>
     ensures same_reference { tx.new.conn.ghost_name ≡ tx.old.conn.ghost_name }
-    ensures changes { HasCleanDisk (seen S.Store tx.new) → Changes result paras (with_para id (placed place)) (seen S.Store tx.old) (seen S.Store tx.new) }
+    ensures changes { HasCleanDisk (seen S.Store tx.new)
+        → IsPut result (Put.Place id place) (seen S.Store tx.old) (seen S.Store tx.new) }
     ensures survives { Survives (seen S.Store tx.old) (seen S.Store tx.new) (λ _. ⊥) }
 {
     let columns = numbers(id, place);
@@ -95,7 +95,8 @@ fn set_flags<S: Alter>(
     struck: i64,
 ) -> Result<(), Error>
     ensures same_reference { tx.new.conn.ghost_name ≡ tx.old.conn.ghost_name }
-    ensures changes { HasCleanDisk (seen S.Store tx.new) → Changes result paras (with_para id (flagged style volume struck)) (seen S.Store tx.old) (seen S.Store tx.new) }
+    ensures changes { HasCleanDisk (seen S.Store tx.new)
+        → IsPut result (Put.Flags id style volume struck) (seen S.Store tx.old) (seen S.Store tx.new) }
     ensures survives { Survives (seen S.Store tx.old) (seen S.Store tx.new) (λ _. ⊥) }
 {
     let columns = four_numbers(id, style, volume, struck);
@@ -105,7 +106,8 @@ fn set_flags<S: Alter>(
 /// Sets the braille table of the paragraph with this id, if it is there.
 fn set_table<S: Alter>(tx: &mut Transaction<'_, S>, id: i64, tab: &str) -> Result<(), Error>
     ensures same_reference { tx.new.conn.ghost_name ≡ tx.old.conn.ghost_name }
-    ensures changes { HasCleanDisk (seen S.Store tx.new) → Changes result paras (with_para id (retabled tab.now)) (seen S.Store tx.old) (seen S.Store tx.new) }
+    ensures changes { HasCleanDisk (seen S.Store tx.new)
+        → IsPut result (Put.Table id tab.entry) (seen S.Store tx.old) (seen S.Store tx.new) }
     ensures survives { Survives (seen S.Store tx.old) (seen S.Store tx.new) (λ _. ⊥) }
 {
     let columns = number_and_text(id, tab);
@@ -115,7 +117,8 @@ fn set_table<S: Alter>(tx: &mut Transaction<'_, S>, id: i64, tab: &str) -> Resul
 /// Sets the print of the paragraph with this id, if it is there.
 fn set_print<S: Alter>(tx: &mut Transaction<'_, S>, id: i64, print: &str) -> Result<(), Error>
     ensures same_reference { tx.new.conn.ghost_name ≡ tx.old.conn.ghost_name }
-    ensures changes { HasCleanDisk (seen S.Store tx.new) → Changes result paras (with_para id (printed print.now)) (seen S.Store tx.old) (seen S.Store tx.new) }
+    ensures changes { HasCleanDisk (seen S.Store tx.new)
+        → IsPut result (Put.Print id print.entry) (seen S.Store tx.old) (seen S.Store tx.new) }
     ensures survives { Survives (seen S.Store tx.old) (seen S.Store tx.new) (λ _. ⊥) }
 {
     let columns = number_and_text(id, print);
@@ -131,7 +134,8 @@ fn set_span<S: Alter>(
     touched: i64,
 ) -> Result<(), Error>
     ensures same_reference { tx.new.conn.ghost_name ≡ tx.old.conn.ghost_name }
-    ensures changes { HasCleanDisk (seen S.Store tx.new) → Changes result marks (with_mark id (moved start stop touched)) (seen S.Store tx.old) (seen S.Store tx.new) }
+    ensures changes { HasCleanDisk (seen S.Store tx.new)
+        → IsPut result (Put.Span id start stop touched) (seen S.Store tx.old) (seen S.Store tx.new) }
     ensures survives { Survives (seen S.Store tx.old) (seen S.Store tx.new) (λ _. ⊥) }
 {
     let columns = four_numbers(id, start, stop, touched);
@@ -141,7 +145,8 @@ fn set_span<S: Alter>(
 /// Sets whether the mark with this id is resolved, if it is there.
 fn set_resolved<S: Alter>(tx: &mut Transaction<'_, S>, id: i64, resolved: i64) -> Result<(), Error>
     ensures same_reference { tx.new.conn.ghost_name ≡ tx.old.conn.ghost_name }
-    ensures changes { HasCleanDisk (seen S.Store tx.new) → Changes result marks (with_mark id (settled resolved)) (seen S.Store tx.old) (seen S.Store tx.new) }
+    ensures changes { HasCleanDisk (seen S.Store tx.new)
+        → IsPut result (Put.Resolved id resolved) (seen S.Store tx.old) (seen S.Store tx.new) }
     ensures survives { Survives (seen S.Store tx.old) (seen S.Store tx.new) (λ _. ⊥) }
 {
     let columns = numbers(id, resolved);
@@ -151,7 +156,8 @@ fn set_resolved<S: Alter>(tx: &mut Transaction<'_, S>, id: i64, resolved: i64) -
 /// Sets the version in the row of `book` with id 1, if it is there.
 fn set_version<S: Alter>(tx: &mut Transaction<'_, S>, version: i64) -> Result<(), Error>
     ensures same_reference { tx.new.conn.ghost_name ≡ tx.old.conn.ghost_name }
-    ensures changes { HasCleanDisk (seen S.Store tx.new) → Changes result books (with_book (at_version version)) (seen S.Store tx.old) (seen S.Store tx.new) }
+    ensures changes { HasCleanDisk (seen S.Store tx.new)
+        → IsPut result (Put.Version version) (seen S.Store tx.old) (seen S.Store tx.new) }
     ensures survives { Survives (seen S.Store tx.old) (seen S.Store tx.new) (λ _. ⊥) }
 {
     let columns = numbers(1, version);
@@ -161,7 +167,8 @@ fn set_version<S: Alter>(tx: &mut Transaction<'_, S>, version: i64) -> Result<()
 /// Puts a row into its table, or sets columns of one.
 fn put<S: Alter>(tx: &mut Transaction<'_, S>, put: &Put<'_>) -> Result<(), Error>
     ensures same_reference { tx.new.conn.ghost_name ≡ tx.old.conn.ghost_name }
-    ensures changes { HasCleanDisk (seen S.Store tx.new) → Changes result (table_put put.now) (λ c. with_put c put.now) (seen S.Store tx.old) (seen S.Store tx.new) }
+    ensures changes { HasCleanDisk (seen S.Store tx.new)
+        → IsPut result put.now (seen S.Store tx.old) (seen S.Store tx.new) }
     ensures survives { Survives (seen S.Store tx.old) (seen S.Store tx.new) (λ _. ⊥) }
 {
     match put {
@@ -191,17 +198,27 @@ fn put<S: Alter>(tx: &mut Transaction<'_, S>, put: &Put<'_>) -> Result<(), Error
     }
 }
 
-/// Puts these in turn.
-pub(crate) fn put_all<S: Alter>(tx: &mut Transaction<'_, S>, puts: &[Put<'_>]) -> Result<(), Error>
+/// Puts in turn what an iterator gives.
+pub(crate) fn put_all<'a, S: Alter, I: Iterator<Item = Put<'a>> + Drop>(
+    tx: &mut Transaction<'_, S>,
+    puts: I,
+) -> Result<(), Error>
+    requires can { I.can_next puts }
+    requires ends { IsFinite (I.remaining puts) }
     ensures same_reference { tx.new.conn.ghost_name ≡ tx.old.conn.ghost_name }
-    ensures put { HasCleanDisk (seen S.Store tx.new) → (committed : Database) (l : Layout) (c : Contents) → HasThem l puts.now → IsUnder committed l c (seen S.Store tx.old)
-        → OnOk result (IsUnder committed l (with_puts puts.now c) (seen S.Store tx.new)) }
-    ensures inside { HasCleanDisk (seen S.Store tx.new) → (seen S.Store tx.old).in_transaction ≡ true → OnOk result ((seen S.Store tx.new).in_transaction ≡ true) }
-    ensures kept { HasCleanDisk (seen S.Store tx.new) → KeepsCommit (seen S.Store tx.old) (seen S.Store tx.new) }
+    ensures put { HasCleanDisk (seen S.Store tx.new)
+        → OnOk result (OfItems I.next_gives puts (λ xs. PutsAll xs (seen S.Store tx.old) (seen S.Store tx.new))) }
+    ensures inside { HasCleanDisk (seen S.Store tx.new)
+        → (seen S.Store tx.old).in_transaction ≡ true
+        → OnOk result ((seen S.Store tx.new).in_transaction ≡ true) }
+    ensures told { HasCleanDisk (seen S.Store tx.new) → (seen S.Store tx.old).in_transaction ≡ true
+        → IfErr result (λ e. OfItemsBefore I.next_gives puts (λ xs next. StopsAt S.Store xs next (seen S.Store tx.old) (seen S.Store tx.new) e)) }
+    ensures kept { HasCleanDisk (seen S.Store tx.new)
+        → KeepsCommit (seen S.Store tx.old) (seen S.Store tx.new) }
     ensures survives { Survives (seen S.Store tx.old) (seen S.Store tx.new) (λ _. ⊥) }
 {
     for one in puts {
-        put(tx, one)?;
+        put(tx, &one)?;
     }
     Ok(())
 }

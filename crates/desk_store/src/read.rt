@@ -31,8 +31,10 @@ use std::alloc::Global;
 
 /// The rows that a query shows.
 fn ask<S: Alter>(conn: &mut Connection<S>, sql: &str) -> Result<Vec<Row>, Fault>
-    ensures shown { HasCleanDisk (state S.Store conn.new) → IfOk result (λ rows. Shown sql.now [] (state S.Store conn.old) (state S.Store conn.new) rows.items) }
-    ensures failed { HasCleanDisk (state S.Store conn.new) → IfErr result (λ fault. (e : Failure) × FailsToQuery sql.now [] (state S.Store conn.old) (state S.Store conn.new) e × IsToldAs e fault) }
+    ensures shown { HasCleanDisk (state S.Store conn.new)
+        → IfOk result (λ rows. Shown sql.now [] (state S.Store conn.old) (state S.Store conn.new) rows.items) }
+    ensures failed { HasCleanDisk (state S.Store conn.new)
+        → IfErr result (λ fault. (e : Failure) × FailsToQuery sql.now [] (state S.Store conn.old) (state S.Store conn.new) e × IsToldAs e fault) }
     ensures mode { conn.old.in_transaction ≡ false → conn.new.in_transaction ≡ false }
     ensures survives { Survives (state S.Store conn.old) (state S.Store conn.new) (CommitsShowing sql.now [] (state S.Store conn.old)) }
 {
@@ -45,7 +47,8 @@ fn ask<S: Alter>(conn: &mut Connection<S>, sql: &str) -> Result<Vec<Row>, Fault>
 /// Each of the rows, in turn.
 fn all_of<T: TableRow>(alloc: Global, rows: &[Row]) -> Result<Vec<T>, Fault>
     ensures reads { IfOk result (λ xs. map (given T.which) rows.now ≡ map (λ x. shown T.which (T.view x)) xs.items) }
-    ensures kinds { AllByRecursion (HasKinds (asked T.which).kinds) rows.now → IfErr result (λ fault. fault ≡ Fault.NoMemory) }
+    ensures kinds { AllByRecursion (HasKinds (asked T.which).kinds) rows.now
+        → IfErr result (λ fault. fault ≡ Fault.NoMemory) }
     ensures not_lost { IfErr result (λ fault. fault ≢ Fault.Lost) }
 {
     let mut all = Vec::new(alloc);
@@ -60,7 +63,8 @@ fn all_of<T: TableRow>(alloc: Global, rows: &[Row]) -> Result<Vec<T>, Fault>
 
 /// The rows of a table, in order.
 fn read_all<T: TableRow, S: Alter>(alloc: Global, conn: &mut Connection<S>) -> Result<Vec<T>, Fault>
-    ensures answers { HasCleanDisk (state S.Store conn.new) → AnswersRows result (λ xs. xs.items) T.which T.view (state S.Store conn.old) (state S.Store conn.new) }
+    ensures answers { HasCleanDisk (state S.Store conn.new)
+        → AnswersRows result (λ xs. xs.items) T.which T.view (state S.Store conn.old) (state S.Store conn.new) }
     ensures mode { conn.old.in_transaction ≡ false → conn.new.in_transaction ≡ false }
     ensures survives { Survives (state S.Store conn.old) (state S.Store conn.new) (λ _. ⊥) }
 {
@@ -70,7 +74,8 @@ fn read_all<T: TableRow, S: Alter>(alloc: Global, conn: &mut Connection<S>) -> R
 
 /// The rows of `book`, in order of their ids.
 pub fn read_books<S: Alter>(alloc: Global, conn: &mut Connection<S>) -> Result<Vec<BookRow>, Fault>
-    ensures answers { HasCleanDisk (state S.Store conn.new) → AnswersRows result (λ xs. xs.items) books (λ x. x) (state S.Store conn.old) (state S.Store conn.new) }
+    ensures answers { HasCleanDisk (state S.Store conn.new)
+        → AnswersRows result (λ xs. xs.items) books (λ x. x) (state S.Store conn.old) (state S.Store conn.new) }
     ensures mode { conn.old.in_transaction ≡ false → conn.new.in_transaction ≡ false }
     ensures survives { Survives (state S.Store conn.old) (state S.Store conn.new) (λ _. ⊥) }
 {
@@ -79,8 +84,11 @@ pub fn read_books<S: Alter>(alloc: Global, conn: &mut Connection<S>) -> Result<V
 
 /// The braille tables, in order of the bytes of their names, which is that of the names' code points.
 pub fn read_tabs<S: Alter>(alloc: Global, conn: &mut Connection<S>) -> Result<Vec<StoredTab>, Fault>
-    ensures answers { HasCleanDisk (state S.Store conn.new) → AnswersRows result (λ xs. xs.items) tabs (λ x. x) (state S.Store conn.old) (state S.Store conn.new) }
-    ensures apart { HasCleanDisk (state S.Store conn.new) → (l : Layout) (c : Contents) → l.has tabs ≡ true → Shows l c (state S.Store conn.old) → IfOk result (λ xs. IsDistinct int_eq (map (λ t. t.rowid) xs.items)) }
+    ensures answers { HasCleanDisk (state S.Store conn.new)
+        → AnswersRows result (λ xs. xs.items) tabs (λ x. x) (state S.Store conn.old) (state S.Store conn.new) }
+    ensures apart { HasCleanDisk (state S.Store conn.new) → (l : Layout) (c : Contents)
+        → l.has tabs ≡ true → Shows l c (state S.Store conn.old)
+        → IfOk result (λ xs. IsDistinct int_eq (map (λ t. t.rowid) xs.items)) }
     ensures mode { conn.old.in_transaction ≡ false → conn.new.in_transaction ≡ false }
     ensures survives { Survives (state S.Store conn.old) (state S.Store conn.new) (λ _. ⊥) }
 {
@@ -89,7 +97,8 @@ pub fn read_tabs<S: Alter>(alloc: Global, conn: &mut Connection<S>) -> Result<Ve
 
 /// The paragraphs, in order of their ids.
 pub fn read_paras<S: Alter>(alloc: Global, conn: &mut Connection<S>) -> Result<Vec<ParaRow>, Fault>
-    ensures answers { HasCleanDisk (state S.Store conn.new) → AnswersRows result (λ xs. xs.items) paras (λ x. x) (state S.Store conn.old) (state S.Store conn.new) }
+    ensures answers { HasCleanDisk (state S.Store conn.new)
+        → AnswersRows result (λ xs. xs.items) paras (λ x. x) (state S.Store conn.old) (state S.Store conn.new) }
     ensures mode { conn.old.in_transaction ≡ false → conn.new.in_transaction ≡ false }
     ensures survives { Survives (state S.Store conn.old) (state S.Store conn.new) (λ _. ⊥) }
 {
@@ -98,7 +107,8 @@ pub fn read_paras<S: Alter>(alloc: Global, conn: &mut Connection<S>) -> Result<V
 
 /// The entries of the histories, in order of their paragraphs and numbers.
 pub fn read_corrs<S: Alter>(alloc: Global, conn: &mut Connection<S>) -> Result<Vec<CorrRow>, Fault>
-    ensures answers { HasCleanDisk (state S.Store conn.new) → AnswersRows result (λ xs. xs.items) corrs (λ x. x) (state S.Store conn.old) (state S.Store conn.new) }
+    ensures answers { HasCleanDisk (state S.Store conn.new)
+        → AnswersRows result (λ xs. xs.items) corrs (λ x. x) (state S.Store conn.old) (state S.Store conn.new) }
     ensures mode { conn.old.in_transaction ≡ false → conn.new.in_transaction ≡ false }
     ensures survives { Survives (state S.Store conn.old) (state S.Store conn.new) (λ _. ⊥) }
 {
@@ -107,7 +117,8 @@ pub fn read_corrs<S: Alter>(alloc: Global, conn: &mut Connection<S>) -> Result<V
 
 /// The marks, in order of their ids.
 pub fn read_marks<S: Alter>(alloc: Global, conn: &mut Connection<S>) -> Result<Vec<MarkRow>, Fault>
-    ensures answers { HasCleanDisk (state S.Store conn.new) → AnswersRows result (λ xs. xs.items) marks (λ x. x) (state S.Store conn.old) (state S.Store conn.new) }
+    ensures answers { HasCleanDisk (state S.Store conn.new)
+        → AnswersRows result (λ xs. xs.items) marks (λ x. x) (state S.Store conn.old) (state S.Store conn.new) }
     ensures mode { conn.old.in_transaction ≡ false → conn.new.in_transaction ≡ false }
     ensures survives { Survives (state S.Store conn.old) (state S.Store conn.new) (λ _. ⊥) }
 {
@@ -119,7 +130,8 @@ pub fn read_caches<S: Alter>(
     alloc: Global,
     conn: &mut Connection<S>,
 ) -> Result<Vec<CacheRow>, Fault>
-    ensures answers { HasCleanDisk (state S.Store conn.new) → AnswersRows result (λ xs. xs.items) caches (λ x. x) (state S.Store conn.old) (state S.Store conn.new) }
+    ensures answers { HasCleanDisk (state S.Store conn.new)
+        → AnswersRows result (λ xs. xs.items) caches (λ x. x) (state S.Store conn.old) (state S.Store conn.new) }
     ensures mode { conn.old.in_transaction ≡ false → conn.new.in_transaction ≡ false }
     ensures survives { Survives (state S.Store conn.old) (state S.Store conn.new) (λ _. ⊥) }
 {
@@ -131,7 +143,8 @@ pub fn read_named_corrs<S: Alter>(
     alloc: Global,
     conn: &mut Connection<S>,
 ) -> Result<Vec<NamedCorrRow>, Fault>
-    ensures answers { HasCleanDisk (state S.Store conn.new) → AnswersRows result (λ xs. xs.items) named_corrs (λ x. x) (state S.Store conn.old) (state S.Store conn.new) }
+    ensures answers { HasCleanDisk (state S.Store conn.new)
+        → AnswersRows result (λ xs. xs.items) named_corrs (λ x. x) (state S.Store conn.old) (state S.Store conn.new) }
     ensures mode { conn.old.in_transaction ≡ false → conn.new.in_transaction ≡ false }
     ensures survives { Survives (state S.Store conn.old) (state S.Store conn.new) (λ _. ⊥) }
 {

@@ -15,9 +15,8 @@ use crate::fault::Fault;
 use crate::put::run;
 use crate::rows::{CacheRow, NamedCorrRow};
 use crate::texts::{
-    CREATE_BOOK, CREATE_CACHE, CREATE_MARK, CREATE_NAMED_CORR, CREATE_PARA, CREATE_TAB, PUT_BOOK,
-    PUT_CACHE, PUT_MARK, PUT_NAMED_CORR, PUT_PARA, PUT_TAB, READ_BOOKS, READ_CACHES, READ_CORRS,
-    READ_MARKS, READ_NAMED_CORRS, READ_PARAS, READ_TABS,
+    PUT_BOOK, PUT_CACHE, PUT_MARK, PUT_NAMED_CORR, PUT_PARA, PUT_TAB, READ_BOOKS, READ_CACHES,
+    READ_CORRS, READ_MARKS, READ_NAMED_CORRS, READ_PARAS, READ_TABS,
 };
 use desk_book::rows::{BookRow, CorrRow, MarkRow, ParaRow, StoredTab, TabRow};
 use sqlite::types::{FromSql, ToSql, ValueRef};
@@ -26,7 +25,8 @@ use sqlite::{Alter, Error, Row, Transaction};
 /// The value in a column.
 fn value<T: FromSql>(row: &Row, at: usize) -> Result<T, Fault>
     ensures reads { IfOk result (λ x. T.FromSql.reads_as (column row.now at) x) }
-    ensures kind { at < length row.now → T.FromSql.is_readable (column row.now at) → IfErr result (λ fault. fault ≡ Fault.NoMemory) }
+    ensures kind { at < length row.now → T.FromSql.is_readable (column row.now at)
+        → IfErr result (λ fault. fault ≡ Fault.NoMemory) }
     ensures not_lost { IfErr result (λ fault. fault ≢ Fault.Lost) }
 {
     match row.get(at) {
@@ -49,7 +49,8 @@ pub(crate) trait TableRow: Drop {
     /// A row from what the query shows.
     fn from_row(row: &Row) -> Result<Self, Fault>
         ensures reads { IfOk result (λ x. given which row.now ≡ shown which (view x)) }
-        ensures kinds { HasKinds (asked which).kinds row.now → IfErr result (λ fault. fault ≡ Fault.NoMemory) }
+        ensures kinds { HasKinds (asked which).kinds row.now
+            → IfErr result (λ fault. fault ≡ Fault.NoMemory) }
         ensures not_lost { IfErr result (λ fault. fault ≢ Fault.Lost) };
 }
 
@@ -60,16 +61,12 @@ pub(crate) trait PutRow {
     /// The row of the table.
     ghost own: { Self → RowOf which };
 
-    /// The statement that makes its table.
-    fn creation() -> &'static str
-        ensures text { result.now ≡ (described which).create }
-        ensures written { (described which).is_written ≡ true };
-
     /// Runs the statement that puts it.
     fn execute<S: Alter>(&self, tx: &mut Transaction<'_, S>) -> Result<(), Error>
         ensures same_reference { tx.new.conn.ghost_name ≡ tx.old.conn.ghost_name }
         ensures written { (described which).is_written ≡ true }
-        ensures runs { HasCleanDisk (seen S.Store tx.new) → RunsTo result (described which).put (written which (own self.now)) (seen S.Store tx.old) (seen S.Store tx.new) }
+        ensures runs { HasCleanDisk (seen S.Store tx.new)
+            → RunsTo result (described which).put (written which (own self.now)) (seen S.Store tx.old) (seen S.Store tx.new) }
         ensures survives { Survives (seen S.Store tx.old) (seen S.Store tx.new) (λ _. ⊥) };
 }
 
@@ -102,10 +99,6 @@ impl PutRow for BookRow {
     ghost which = { books };
 
     ghost own = { λ x. x };
-
-    fn creation() -> &'static str {
-        CREATE_BOOK
-    }
 
     fn execute<S: Alter>(&self, tx: &mut Transaction<'_, S>) -> Result<(), Error> {
         let columns = book_columns(self);
@@ -144,10 +137,6 @@ impl PutRow for TabRow {
     ghost which = { tabs };
 
     ghost own = { λ x. x };
-
-    fn creation() -> &'static str {
-        CREATE_TAB
-    }
 
     fn execute<S: Alter>(&self, tx: &mut Transaction<'_, S>) -> Result<(), Error> {
         let columns = tab_columns(self);
@@ -198,10 +187,6 @@ impl PutRow for ParaRow {
     ghost which = { paras };
 
     ghost own = { λ x. x };
-
-    fn creation() -> &'static str {
-        CREATE_PARA
-    }
 
     fn execute<S: Alter>(&self, tx: &mut Transaction<'_, S>) -> Result<(), Error> {
         let columns = para_columns(self);
@@ -272,10 +257,6 @@ impl PutRow for MarkRow {
 
     ghost own = { λ x. x };
 
-    fn creation() -> &'static str {
-        CREATE_MARK
-    }
-
     fn execute<S: Alter>(&self, tx: &mut Transaction<'_, S>) -> Result<(), Error> {
         let columns = mark_columns(self);
         run(tx, PUT_MARK, &columns)
@@ -310,10 +291,6 @@ impl PutRow for CacheRow {
     ghost which = { caches };
 
     ghost own = { λ x. x };
-
-    fn creation() -> &'static str {
-        CREATE_CACHE
-    }
 
     fn execute<S: Alter>(&self, tx: &mut Transaction<'_, S>) -> Result<(), Error> {
         let columns = cache_columns(self);
@@ -364,10 +341,6 @@ impl PutRow for NamedCorrRow {
     ghost which = { named_corrs };
 
     ghost own = { λ x. x };
-
-    fn creation() -> &'static str {
-        CREATE_NAMED_CORR
-    }
 
     fn execute<S: Alter>(&self, tx: &mut Transaction<'_, S>) -> Result<(), Error> {
         let columns = named_corr_columns(self);

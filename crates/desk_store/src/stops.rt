@@ -8,7 +8,7 @@
 use super::lines::{list, puts, read_lines};
 use super::tests::{NOTES, judge};
 use crate::rows::Put;
-use crate::{make_tables, write};
+use crate::{Table, make_tables, write, write_with_tables};
 use sqlite::{Alter, Connection, FileStore, Files, Options};
 use sqlite_disk::{Crash, Disk, Fuse, Memory};
 use std::alloc::Global;
@@ -138,6 +138,57 @@ cache 3 d3
 note 0 apart,1 first
 ";
 
+/// A file of the older format, with rows of all kinds.
+const OLDER: &str = "\
+CREATE TABLE book (id INTEGER NOT NULL PRIMARY KEY, format INTEGER NOT NULL, version INTEGER NOT NULL) STRICT;
+CREATE TABLE tab (name TEXT NOT NULL PRIMARY KEY, body BLOB NOT NULL) STRICT;
+CREATE TABLE para (id INTEGER NOT NULL PRIMARY KEY, place INTEGER NOT NULL, tab TEXT NOT NULL, original TEXT NOT NULL, print TEXT NOT NULL, style INTEGER NOT NULL, volume INTEGER NOT NULL, struck INTEGER NOT NULL) STRICT;
+CREATE TABLE corr (para INTEGER NOT NULL, seq INTEGER NOT NULL, kind INTEGER NOT NULL, start INTEGER NOT NULL, len INTEGER NOT NULL, body TEXT NOT NULL, PRIMARY KEY (para, seq)) STRICT;
+CREATE TABLE mark (id INTEGER NOT NULL PRIMARY KEY, para INTEGER NOT NULL, start INTEGER NOT NULL, stop INTEGER NOT NULL, note TEXT NOT NULL, touched INTEGER NOT NULL, resolved INTEGER NOT NULL) STRICT;
+INSERT INTO book VALUES (1, 1, 7);
+INSERT INTO tab VALUES ('en', x'6F6E65');
+INSERT INTO para VALUES (1, 1, 'en', 'o1', 'p1', 0, 1, 0), (2, 2, 'en', 'o2', 'o2', 1, 0, 1);
+INSERT INTO corr VALUES (1, 1, 0, 2, 3, 'a'), (1, 2, 1, 1, 0, '');
+INSERT INTO mark VALUES (1, 2, 0, 1, 'm', 1, 0);
+";
+
+/// Its rows.
+const OLDER_ROWS: &str = "\
+book 1 1 7
+tab 1 en one
+para 1 1 en o1 p1 0 1 0
+para 2 2 en o2 o2 1 0 1
+mark 1 2 0 1 m 1 0
+older 1 1 0 2 3 a
+older 1 2 1 1 0 _
+";
+
+/// The tables that it lacks.
+const NEWER_TABLES: [Table; 2] = [Table::Cache, Table::NamedCorr];
+
+/// What it gets with these.
+const NEWER_PUTS: &str = "\
+corr 1 1 0 2 3 a _
+corr 1 2 1 1 0 _ _
+cache 1 c1
+cache 2 c2
+book 1 2 7";
+
+/// The rows that it has then.
+const NEWER_ROWS: &str = "\
+book 1 2 7
+tab 1 en one
+para 1 1 en o1 p1 0 1 0
+para 2 2 en o2 o2 1 0 1
+corr 1 1 0 2 3 a _
+corr 1 2 1 1 0 _ _
+mark 1 2 0 1 m 1 0
+cache 1 c1
+cache 2 c2
+older 1 1 0 2 3 a
+older 1 2 1 1 0 _
+";
+
 /// What a run does.
 #[derive(Clone, Copy)]
 enum Task<'a> {
@@ -145,6 +196,8 @@ enum Task<'a> {
     Run(&'a str),
     Make,
     Write(&'a [Put<'a>]),
+    /// The tables that the older format lacks, and rows.
+    Renew(&'a [Put<'a>]),
     List,
 }
 
@@ -234,7 +287,8 @@ fn carry_out<S: Alter>(alloc: Global, conn: &mut Connection<S>, task: Task<'_>) 
     match task {
         Task::Run(sql) => conn.execute_batch(sql).ok()?,
         Task::Make => make_tables(conn).ok()?,
-        Task::Write(puts) => write(conn, puts).ok()?,
+        Task::Write(puts) => write(conn, puts.iter().copied()).ok()?,
+        Task::Renew(puts) => write_with_tables(conn, &NEWER_TABLES, puts.iter().copied()).ok()?,
         Task::List => return list(alloc, conn),
     }
     Some(String::new(alloc))
@@ -510,6 +564,19 @@ fn a_stop_while_rows_are_put(rt: HostRuntime) -> Result<(), Fail> {
         task: Task::Write(&puts),
         before: FIRST_ROWS,
         after: LATER_ROWS,
+    };
+    stop_everywhere(&rt, rt.alloc(), &start, change)
+}
+
+#[test]
+fn a_stop_while_an_older_file_gets_its_tables(rt: HostRuntime) -> Result<(), Fail> {
+    let start = unstopped(rt.alloc(), &nothing(rt.alloc()), Task::Run(OLDER))?;
+    let lines = read_lines(rt.alloc(), NEWER_PUTS)?;
+    let puts = puts(rt.alloc(), &lines)?;
+    let change = Change {
+        task: Task::Renew(&puts),
+        before: OLDER_ROWS,
+        after: NEWER_ROWS,
     };
     stop_everywhere(&rt, rt.alloc(), &start, change)
 }

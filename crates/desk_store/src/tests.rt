@@ -61,7 +61,7 @@ fn make_and_put(
     puts: &[Put<'_>],
 ) -> Result<String, Fail> {
     make(conn, further)?;
-    let answer = write(conn, puts);
+    let answer = write(conn, puts.iter().copied());
     list_after(alloc, conn, answer)
 }
 
@@ -216,8 +216,8 @@ fn put_twice(
     again: &[Put<'_>],
 ) -> Result<String, Fail> {
     make(conn, "")?;
-    write(conn, entry)?;
-    if write(conn, again).is_ok() {
+    write(conn, entry.iter().copied())?;
+    if write(conn, again.iter().copied()).is_ok() {
         return Err("the entry was put again".into());
     }
     list_after(alloc, conn, Ok(()))
@@ -289,7 +289,7 @@ fn list_after_crash(
 ) -> Result<String, Fail>
     requires { conn.in_transaction ≡ false }
 {
-    let (answer, mut again) = reopen_after_write(alloc, conn, puts)?;
+    let (answer, mut again) = reopen_after_write(alloc, conn, puts.iter().copied())?;
     list_after(alloc, &mut again, answer)
 }
 

@@ -1,37 +1,93 @@
-//! A change of the rows, as one transaction.
+//! A change of the file, as one transaction.
 
-ghost use Rattle.std.specs.Prelude.{◌≡◌, false, IfErr, IsTrue, OnErr, OnOk};
+ghost use Rattle.std.specs.Prelude.{◌≡◌, false, IfErr, IsTrue, OnErr, OnOk, map};
+ghost use Rattle.std.specs.Iterator.{IsFinite};
 ghost use Rattle.sqlite.specs.Held.{state};
 ghost use Rattle.sqlite.specs.State.{HasCleanDisk, Survives};
-ghost use Rattle.desk_store.specs.Layout.{Layout};
-ghost use Rattle.desk_store.specs.Contents.{Contents};
+ghost use Rattle.desk_store.specs.Failing.{FailsToChange, FailsToPut, begun, of_items};
 ghost use Rattle.desk_store.specs.Fault.{IsToldAs};
-ghost use Rattle.desk_store.specs.Puts.{HasThem, IsFileWith, with_puts};
-ghost use Rattle.desk_store.specs.States.{Shows};
-ghost use Rattle.sql_tables.specs.States.{IsUndone, Leaves};
+ghost use Rattle.desk_store.specs.Puts.{IsFileWith, OfItems, Writes};
+ghost use Rattle.desk_store.specs.Making.{IsFileWithTables, WritesWithTables};
+ghost use Rattle.desk_store.specs.Tables.{AreWritten, which};
+ghost use Rattle.sql_tables.specs.States.{IsCommitted, IsSettled, IsUndone};
 
 use crate::fault::Fault;
+use crate::make::create_all;
 use crate::put::put_all;
 use crate::rows::Put;
+use crate::table::Table;
 use sqlite::{Alter, Connection, Error};
 
-/// Puts these in turn and commits them, as one. The error is the database's. A connection that is open then shows the last commit, which is
-/// that of before, and a crash leaves the rows from before or, where the store failed, all of these.
-pub fn write<S: Alter>(conn: &mut Connection<S>, puts: &[Put<'_>]) -> Result<(), Error>
-    requires { conn.old.in_transaction ≡ false }
+/// Puts in turn what an iterator gives and commits it, as one. The error is the database's. A connection that is open then shows the last
+/// commit, which is that of before, and a crash leaves the rows from before or, where the store failed, all of these.
+pub fn write<'a, S: Alter, I: Iterator<Item = Put<'a>> + Drop>(
+    conn: &mut Connection<S>,
+    puts: I,
+) -> Result<(), Error>
+    requires idle { conn.old.in_transaction ≡ false }
+    requires can { I.can_next puts }
+    requires ends { IsFinite (I.remaining puts) }
     ensures idle { conn.new.in_transaction ≡ false }
-    ensures written { HasCleanDisk (state S.Store conn.new) → (l : Layout) (c : Contents) → HasThem l puts.now → Shows l c (state S.Store conn.old) → OnOk result (Shows l (with_puts puts.now c) (state S.Store conn.new)) }
-    ensures open { HasCleanDisk (state S.Store conn.new) → OnOk result (IsTrue (state S.Store conn.new).is_open × ((state S.Store conn.new).committed ≡ (state S.Store conn.new).now)) }
+    ensures written { HasCleanDisk (state S.Store conn.new)
+        → OnOk result (OfItems I.next_gives puts (λ xs. Writes xs (state S.Store conn.old) (state S.Store conn.new))) }
+    ensures open { HasCleanDisk (state S.Store conn.new)
+        → OnOk result (IsCommitted (state S.Store conn.new)) }
     // Of a crash at any exit: nothing new is left but all of it.
-    ensures crash { Survives (state S.Store conn.old) (state S.Store conn.new) (IsFileWith puts.now (state S.Store conn.old)) }
+    ensures crash { Survives (state S.Store conn.old) (state S.Store conn.new) (λ db. OfItems I.next_gives puts (λ xs. IsFileWith xs (state S.Store conn.old) db)) }
     // At `Ok` it leaves the trees that the connection shows.
-    ensures settled { HasCleanDisk (state S.Store conn.new) → OnOk result (Leaves (λ db. db ≡ (state S.Store conn.new).now.trees) (state S.Store conn.new)) }
-    ensures undone { HasCleanDisk (state S.Store conn.new) → OnErr result (IsUndone (state S.Store conn.old) (state S.Store conn.new)) }
+    ensures settled { HasCleanDisk (state S.Store conn.new)
+        → OnOk result (IsSettled (state S.Store conn.new)) }
+    // The error is what the database answered to one of the statements or to the commit.
+    ensures told { HasCleanDisk (state S.Store conn.new)
+        → IfErr result (FailsToPut S.Store (of_items S.Store I.next_gives puts) (begun conn.old) (state S.Store conn.new)) }
+    ensures undone { HasCleanDisk (state S.Store conn.new)
+        → OnErr result (IsUndone (state S.Store conn.old) (state S.Store conn.new)) }
     // After a refusal a crash leaves nothing new.
-    ensures refused { HasCleanDisk (state S.Store conn.new) → IfErr result (λ e. IsToldAs e Fault.Refused → Survives (state S.Store conn.old) (state S.Store conn.new) (λ _. ⊥)) }
+    ensures refused { HasCleanDisk (state S.Store conn.new)
+        → IfErr result (λ e. IsToldAs e Fault.Refused → Survives (state S.Store conn.old) (state S.Store conn.new) (λ _. ⊥)) }
 {
     let mut tx = conn.transaction();
     put_all(&mut tx, puts)?;
     tx.commit()?;
+    Ok(())
+}
+
+/// Makes these tables, puts in turn what an iterator gives and commits all of it, as one: so a file gets the tables that it lacks together
+/// with their rows. The caller's condition: `corr` isn't among the tables. The error is the database's, as where a name is taken. A
+/// connection that is open then shows the last commit, which is that of before, and a crash leaves the file from before or, where the store
+/// failed, the one with all of this.
+pub fn write_with_tables<'a, S: Alter, I: Iterator<Item = Put<'a>> + Drop>(
+    conn: &mut Connection<S>,
+    tables: &[Table],
+    puts: I,
+) -> Result<(), Error>
+    requires idle { conn.old.in_transaction ≡ false }
+    requires written { AreWritten tables.now }
+    requires can { I.can_next puts }
+    requires ends { IsFinite (I.remaining puts) }
+    ensures idle { conn.new.in_transaction ≡ false }
+    ensures written { HasCleanDisk (state S.Store conn.new)
+        → OnOk result (OfItems I.next_gives puts (λ xs. WritesWithTables (map which tables.now) xs (state S.Store conn.old) (state S.Store conn.new))) }
+    ensures open { HasCleanDisk (state S.Store conn.new)
+        → OnOk result (IsCommitted (state S.Store conn.new)) }
+    // Of a crash at any exit: nothing new is left but all of it.
+    ensures crash { Survives (state S.Store conn.old) (state S.Store conn.new)
+        (λ db. OfItems I.next_gives puts (λ xs. IsFileWithTables (map which tables.now) xs (state S.Store conn.old) db)) }
+    // At `Ok` it leaves the trees that the connection shows.
+    ensures settled { HasCleanDisk (state S.Store conn.new)
+        → OnOk result (IsSettled (state S.Store conn.new)) }
+    // The error is what the database answered to one of the statements or to the commit.
+    ensures told { HasCleanDisk (state S.Store conn.new)
+        → IfErr result (FailsToChange S.Store (map which tables.now) (of_items S.Store I.next_gives puts) (begun conn.old) (state S.Store conn.new)) }
+    ensures undone { HasCleanDisk (state S.Store conn.new)
+        → OnErr result (IsUndone (state S.Store conn.old) (state S.Store conn.new)) }
+    // After a refusal a crash leaves nothing new.
+    ensures refused { HasCleanDisk (state S.Store conn.new)
+        → IfErr result (λ e. IsToldAs e Fault.Refused → Survives (state S.Store conn.old) (state S.Store conn.new) (λ _. ⊥)) }
+{
+    let mut both = conn.transaction();
+    create_all(&mut both, tables)?;
+    put_all(&mut both, puts)?;
+    both.commit()?;
     Ok(())
 }

@@ -1,3 +1,4 @@
+pub mod Answered
 pub mod Apart
 pub mod ByRowid
 pub mod Casts

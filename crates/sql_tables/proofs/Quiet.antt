@@ -32,7 +32,7 @@ unfolding returning
 none_by schema base (Select s) h = refl
 none_by schema base s h = absurd (true≢false (sym h))
 
-same_compiled : (a b : Compiled) → ◌≡◌ {A = Result Compiled CompileError} (Ok a) (Ok b) → a ≡ b
+pub same_compiled : (a b : Compiled) → ◌≡◌ {A = Result Compiled CompileError} (Ok a) (Ok b) → a ≡ b
 same_compiled a b e = cc
 
 carried : (p : Parsed) (formats : List (List ℕ)) (k : Result Command CompileError) (c : Compiled)
@@ -69,7 +69,7 @@ module _ (text : List ℕ) (is : reads (first text) ≡ true) where
       go true same = plain c same
       go false same = absurd (cc)
 
-  never_returns : (schema : Schema) (c : Compiled) → understood schema text ≡ Ok c → c.returning ≡ None
+  pub never_returns : (schema : Schema) (c : Compiled) → understood schema text ≡ Ok c → c.returning ≡ None
   unfolding understood
   never_returns schema c e = go (reads_listing schema text) e
     where

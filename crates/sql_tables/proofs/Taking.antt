@@ -56,7 +56,7 @@ takes text table m old new count h =
     let all = went w.changed in
     let first = went all.1 in
     let now : new.now ≡ all.0 = ap (λ (p : Tally × Database). p.1) (same_value all.2) in (
-      record { is_open = h.1.was_open; free = (free, tt) },
+      (free, tt),
       λ name unused.
           let late = subst (λ (d : Database). is_used d.schema name ≡ false) now unused in
           let mid = sequence_frees_none (lacks_sequence first.0.schema) first.0 all.0 first.2 name late in

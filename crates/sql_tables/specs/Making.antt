@@ -59,10 +59,9 @@ pub record IsMaking (committed : Database) (first : Schema) (rows : Trees) (now 
   pub inside : s.in_transaction ≡ true
   pub over : s.committed ≡ committed
 
--- the connection is open, and the names are free
-pub record AreFree (names : List (List ℕ)) (s : State) : Type 0 where
-  pub is_open : IsTrue s.is_open
-  pub free : AllByRecursion (λ name. is_used s.now.schema name ≡ false) names
+-- the names are free
+abbrev pub AreFree : List (List ℕ) → State → Type 0
+AreFree names s = AllByRecursion (λ name. is_used s.now.schema name ≡ false) names
 
 -- a name that is free now was free
 abbrev pub FreesNone : State → State → Type 0

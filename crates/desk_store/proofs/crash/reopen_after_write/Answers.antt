@@ -1,30 +1,38 @@
 use Rattle.std.proofs.Common.{Err, Ok, OnOk, Result, arith, inl, inr, subst, sym}
+use Rattle.sqlite.specs.Held.{state}
 use Rattle.desk_store.specs.Puts.{with_puts}
 use Rattle.desk_store.specs.States.{IsFile}
+use Rattle.desk_store.proofs.Schemas.{shows_own}
 use Rattle.desk_store.proofs.crash.reopen_after_write.Goals as goal
 
 pub returns-clause-crash : goal.returns-clause-crash
-returns-clause-crash g c clean l contents there was leaves =
-    let next = with_puts c.args.puts.now contents in
-    c.in_ok-after.ensures.shows clean l contents next (λ db left.
-    elim (c.write-answer.ensures.crash.crash (c.in_ok-after.ensures.clean clean) db left) [
-      | inl before ↦ inl (leaves db before)
-      | inr all ↦ inr (all l contents there was)
-    ])
+returns-clause-crash g c clean l contents was leaves =
+    let after = state g.S.Store c.in_ok-after.after in
+    let early = c.in_ok-after.ensures.clean clean in
+    let opened = c.in_ok-after.ensures.opens clean in
+    let found = c.in_ok-after.ensures.found clean in
+    elim (c.write-answer.ensures.crash.crash early after.now.trees found) [
+      | inl before ↦ inl (shows_own after l contents opened.1 opened.0.is_open (leaves after.now.trees before))
+      | inr all ↦ inr (all.0, all.1, λ there. shows_own after l (with_puts all.0 contents) opened.1 opened.0.is_open (all.2 l contents there was))
+    ]
 
 on_both : {A E : Type 0} (r : Result A E) (P Q R : Type 0) → (P → Q → R) → OnOk r P → OnOk r Q → OnOk r R
 on_both (Ok a) P Q R f p q = f p q
 on_both (Err e) P Q R f p q = tt
 
 pub returns-clause-kept : goal.returns-clause-kept
-returns-clause-kept g c clean l contents there was =
-    let next = with_puts c.args.puts.now contents in
+returns-clause-kept g c clean =
+    let after = state g.S.Store c.in_ok-after.after in
     let early = c.in_ok-after.ensures.clean clean in
-    on_both c.write-answer.result _ _ _ (λ shows leaves.
-    elim (c.in_ok-after.ensures.shows clean l next next (λ db left. inl (subst (IsFile l next) (sym (leaves db left)) shows.is))) [
-      | inl again ↦ again
-      | inr again ↦ again
-    ]) (c.write-answer.ensures.written early l contents there was) (c.write-answer.ensures.settled early)
+    let opened = c.in_ok-after.ensures.opens clean in
+    let found = c.in_ok-after.ensures.found clean in
+    on_both c.write-answer.result _ _ _ (λ written leaves. (
+      written.0,
+      written.1,
+      λ l contents there was.
+          shows_own after l (with_puts written.0 contents) opened.1 opened.0.is_open
+          (subst (IsFile l (with_puts written.0 contents)) (sym (leaves after.now.trees found)) (written.2 l contents there was).is),
+    )) (c.write-answer.ensures.written early) (c.write-answer.ensures.settled early)
 
 pub returns-clause-clean : goal.returns-clause-clean
 returns-clause-clean g c clean = let early = c.in_ok-after.ensures.clean clean in omega (arith, c.write-answer.ensures.crash.clean, early)

@@ -1,10 +1,6 @@
-use Rattle.std.proofs.Common.{◌≡◌, true, take}
-use Rattle.sqlite.specs.Effect.{Database}
+use Rattle.std.proofs.Common.{◌≡◌, true}
 use Rattle.sqlite.specs.State.{HasCleanDisk, KeepsCommit, Survives}
-use Rattle.desk_store.specs.Contents.{Contents}
-use Rattle.desk_store.specs.Layout.{Layout}
-use Rattle.desk_store.specs.Puts.{HasThem, with_puts}
-use Rattle.desk_store.specs.States.{IsUnder}
+use Rattle.desk_store.specs.Puts.{PutsAll}
 use Rattle.sql_tables.specs.States.{seen}
 use Rattle.desk_store.proofs.put.put_all.Given as goal
 
@@ -18,5 +14,5 @@ invariant-loop-one g l =
       survives : Survives old now (λ _. ⊥);
       kept : HasCleanDisk now → KeepsCommit old now;
       inside : HasCleanDisk now → old.in_transaction ≡ true → now.in_transaction ≡ true;
-      put : HasCleanDisk now → (committed : Database) (layout : Layout) (c : Contents) → HasThem layout l.puts → IsUnder committed layout c old → IsUnder committed layout (with_puts (take l.one-index l.puts) c) now;
+      put : HasCleanDisk now → PutsAll l.yielded old now;
     }

@@ -15,5 +15,5 @@ use Rattle.desk_store.proofs.put.set_flags.Goals as goal
 
 pub returns-clause-changes : goal.returns-clause-changes
 returns-clause-changes g c clean =
-    changes paras (set_where (λ (p : Para). int_eq p.id c.args.id) (flagged c.args.style c.args.volume c.args.struck)) SET_FLAGS.now (Int c.args.id ∷ Int c.args.style ∷ Int c.args.volume ∷ Int c.args.struck ∷ []) (seen g.S.Store c.args.tx.now) (seen g.S.Store c.run.new.tx) (sets_flags c.args.id c.args.style c.args.volume c.args.struck) c.run.result
+    changes paras (set_where (λ (p : Para). int_eq p.id c.args.id) (flagged c.args.style c.args.volume c.args.struck)) (record { text = SET_FLAGS.now; params = Int c.args.id ∷ Int c.args.style ∷ Int c.args.volume ∷ Int c.args.struck ∷ [] }) (seen g.S.Store c.args.tx.now) (seen g.S.Store c.run.new.tx) (sets_flags c.args.id c.args.style c.args.volume c.args.struck) c.run.result
     (rw (c.four_numbers-columns.ensures, to_z-of_z {w = w64} {z = c.args.id} (search rules), to_z-of_z {w = w64} {z = c.args.style} (search rules), to_z-of_z {w = w64} {z = c.args.volume} (search rules), to_z-of_z {w = w64} {z = c.args.struck} (search rules)) at (c.run.ensures.runs clean))

@@ -15,5 +15,5 @@ use Rattle.desk_store.proofs.put.set_place.Goals as goal
 
 pub returns-clause-changes : goal.returns-clause-changes
 returns-clause-changes g c clean =
-    changes paras (set_where (λ (p : Para). int_eq p.id c.args.id) (placed c.args.place)) SET_PLACE.now (Int c.args.id ∷ Int c.args.place ∷ []) (seen g.S.Store c.args.tx.now) (seen g.S.Store c.run.new.tx) (sets_place c.args.id c.args.place) c.run.result
+    changes paras (set_where (λ (p : Para). int_eq p.id c.args.id) (placed c.args.place)) (record { text = SET_PLACE.now; params = Int c.args.id ∷ Int c.args.place ∷ [] }) (seen g.S.Store c.args.tx.now) (seen g.S.Store c.run.new.tx) (sets_place c.args.id c.args.place) c.run.result
     (rw (c.numbers-columns.ensures, to_z-of_z {w = w64} {z = c.args.id} (search rules), to_z-of_z {w = w64} {z = c.args.place} (search rules)) at (c.run.ensures.runs clean))

@@ -15,5 +15,5 @@ use Rattle.desk_store.proofs.put.set_print.Goals as goal
 
 pub returns-clause-changes : goal.returns-clause-changes
 returns-clause-changes g c clean =
-    changes paras (set_where (λ (p : Para). int_eq p.id c.args.id) (printed c.args.print.now)) SET_PRINT.now (Int c.args.id ∷ Text c.args.print.now ∷ []) (seen g.S.Store c.args.tx.now) (seen g.S.Store c.run.new.tx) (sets_print c.args.id c.args.print.now) c.run.result
+    changes paras (set_where (λ (p : Para). int_eq p.id c.args.id) (printed c.args.print.now)) (record { text = SET_PRINT.now; params = Int c.args.id ∷ Text c.args.print.now ∷ [] }) (seen g.S.Store c.args.tx.now) (seen g.S.Store c.run.new.tx) (sets_print c.args.id c.args.print.now) c.run.result
     (rw (c.number_and_text-columns.ensures, to_z-of_z {w = w64} {z = c.args.id} (search rules)) at (c.run.ensures.runs clean))

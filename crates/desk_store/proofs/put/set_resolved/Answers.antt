@@ -15,5 +15,5 @@ use Rattle.desk_store.proofs.put.set_resolved.Goals as goal
 
 pub returns-clause-changes : goal.returns-clause-changes
 returns-clause-changes g c clean =
-    changes marks (set_where (λ (m : Mark). int_eq m.id c.args.id) (settled c.args.resolved)) SET_RESOLVED.now (Int c.args.id ∷ Int c.args.resolved ∷ []) (seen g.S.Store c.args.tx.now) (seen g.S.Store c.run.new.tx) (sets_resolved c.args.id c.args.resolved) c.run.result
+    changes marks (set_where (λ (m : Mark). int_eq m.id c.args.id) (settled c.args.resolved)) (record { text = SET_RESOLVED.now; params = Int c.args.id ∷ Int c.args.resolved ∷ [] }) (seen g.S.Store c.args.tx.now) (seen g.S.Store c.run.new.tx) (sets_resolved c.args.id c.args.resolved) c.run.result
     (rw (c.numbers-columns.ensures, to_z-of_z {w = w64} {z = c.args.id} (search rules), to_z-of_z {w = w64} {z = c.args.resolved} (search rules)) at (c.run.ensures.runs clean))

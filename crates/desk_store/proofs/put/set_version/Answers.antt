@@ -15,5 +15,5 @@ use Rattle.desk_store.proofs.put.set_version.Goals as goal
 
 pub returns-clause-changes : goal.returns-clause-changes
 returns-clause-changes g c clean =
-    changes books (set_where (λ (b : BookRow). int_eq b.id (pos 1)) (at_version c.args.version)) SET_VERSION.now (Int (pos 1) ∷ Int c.args.version ∷ []) (seen g.S.Store c.args.tx.now) (seen g.S.Store c.run.new.tx) (sets_version c.args.version) c.run.result
+    changes books (set_where (λ (b : BookRow). int_eq b.id (pos 1)) (at_version c.args.version)) (record { text = SET_VERSION.now; params = Int (pos 1) ∷ Int c.args.version ∷ [] }) (seen g.S.Store c.args.tx.now) (seen g.S.Store c.run.new.tx) (sets_version c.args.version) c.run.result
     (rw (c.numbers-columns.ensures, to_z-of_z {w = w64} {z = c.args.version} (search rules)) at (c.run.ensures.runs clean))

@@ -1,0 +1,107 @@
+use Rattle.std.proofs.Common.{◌≡◌, ap, map, arith, refl, rules, sym, subst, ◌∙◌}
+use Rattle.std.proofs.lemmas.Result.{err_from_is_err_and}
+use Rattle.sqlite.specs.Effect.{Database}
+use Rattle.sqlite.specs.Held.{state}
+use Rattle.sqlite.specs.State.{HasCleanDisk, Survives}
+use Rattle.sqlite.specs.Steps.{FailsToCommit}
+use Rattle.sql_tables.specs.States.{Leaves}
+use Rattle.sql_tables.proofs.Commits.{commits}
+use Rattle.desk_store.specs.Failing.{at_put, at_commit, at_table, after_tables}
+use Rattle.desk_store.specs.Making.{IsFileWithTables, WritesWithTables}
+use Rattle.desk_store.specs.Puts.{OfItems}
+use Rattle.desk_store.specs.Tables.{which}
+use Rattle.desk_store.proofs.Committing.{survive_both}
+use Rattle.desk_store.proofs.MoreTables.{file_with_tables, grows}
+use Rattle.desk_store.proofs.transaction.write_with_tables.Goals as goal
+
+pub returns-clause-written : goal.returns-clause-written
+returns-clause-written g c clean =
+    let old = c.args.conn.now in
+    let mid = c.create_all.new.tx.conn.now in
+    let last = c.put_all.new.tx.conn.now in
+    let end = c.commit.new.self.0 in
+    let ws = map which c.args.tables.now in
+    let same : end ≡ c.conn-2-1.given.0 = search rules in
+    let late : HasCleanDisk (state g.S.Store end) = search rules in
+    let clean_last : HasCleanDisk (state g.S.Store last) = omega (arith, c.commit.ensures.survives.clean) in
+    let clean_mid : HasCleanDisk (state g.S.Store mid) = omega (arith, c.put_all.ensures.survives.clean) in
+    let makes = rw c.transaction-both.ensures.begun at c.in_ok-create_all.ensures.makes clean_mid in
+    let it = c.in_ok-put_all.ensures.put clean_last in
+    let writes = grows g.S.Store old mid last ws it.0 makes it.2 (state g.S.Store end) (c.in_ok-commit.ensures.ok late).1.now_is in
+    (it.0, it.1, subst (λ h. WritesWithTables ws it.0 (state g.S.Store old) (state g.S.Store h)) same writes)
+
+pub returns-clause-crash : goal.returns-clause-crash
+returns-clause-crash g c =
+    let old = c.args.conn.now in
+    let last = c.put_all.new.tx.conn.now in
+    let end = c.commit.new.self.0 in
+    let begun = c.transaction-both.ensures.begun in
+    let inside = survive_both _ (state g.S.Store c.create_all.new.tx.conn.now) (state g.S.Store last) (rw begun at c.create_all.ensures.survives) c.put_all.ensures.survives in
+    let ran : HasCleanDisk (state g.S.Store last) → OfItems g.I.Iterator.next_gives c.args.puts (λ xs. IsFileWithTables (map which c.args.tables.now) xs (state g.S.Store old) (state g.S.Store last).now.trees) = λ clean. (
+    let mid = c.create_all.new.tx.conn.now in
+    let ws = map which c.args.tables.now in
+    let makes = rw begun at c.in_ok-create_all.ensures.makes (omega (arith, c.put_all.ensures.survives.clean)) in
+    let it = c.in_ok-put_all.ensures.put clean in
+    (it.0, it.1, file_with_tables ws it.0 (state g.S.Store old) (state g.S.Store last) (grows g.S.Store old mid last ws it.0 makes it.2 (state g.S.Store last) refl))
+    ) in
+    let whole = commits g.S.Store old last end (λ db. OfItems g.I.Iterator.next_gives c.args.puts (λ xs. IsFileWithTables (map which c.args.tables.now) xs (state g.S.Store old) db)) inside c.commit.ensures.survives ran in
+    let same : end ≡ c.conn-2-1.given.0 = search rules in
+    subst (λ h. Survives (state g.S.Store old) (state g.S.Store h) (λ db. OfItems g.I.Iterator.next_gives c.args.puts (λ xs. IsFileWithTables (map which c.args.tables.now) xs (state g.S.Store old) db))) same whole
+
+pub returns-in_err-commit-clause-crash : goal.returns-in_err-commit-clause-crash
+returns-in_err-commit-clause-crash g c =
+    let old = c.args.conn.now in
+    let last = c.put_all.new.tx.conn.now in
+    let end = c.commit.new.self.0 in
+    let begun = c.transaction-both.ensures.begun in
+    let inside = survive_both _ (state g.S.Store c.create_all.new.tx.conn.now) (state g.S.Store last) (rw begun at c.create_all.ensures.survives) c.put_all.ensures.survives in
+    let ran : HasCleanDisk (state g.S.Store last) → OfItems g.I.Iterator.next_gives c.args.puts (λ xs. IsFileWithTables (map which c.args.tables.now) xs (state g.S.Store old) (state g.S.Store last).now.trees) = λ clean. (
+    let mid = c.create_all.new.tx.conn.now in
+    let ws = map which c.args.tables.now in
+    let makes = rw begun at c.in_ok-create_all.ensures.makes (omega (arith, c.put_all.ensures.survives.clean)) in
+    let it = c.in_ok-put_all.ensures.put clean in
+    (it.0, it.1, file_with_tables ws it.0 (state g.S.Store old) (state g.S.Store last) (grows g.S.Store old mid last ws it.0 makes it.2 (state g.S.Store last) refl))
+    ) in
+    let whole = commits g.S.Store old last end (λ db. OfItems g.I.Iterator.next_gives c.args.puts (λ xs. IsFileWithTables (map which c.args.tables.now) xs (state g.S.Store old) db)) inside c.commit.ensures.survives ran in
+    let same : end ≡ c.conn-2-1.given.0 = search rules in
+    subst (λ h. Survives (state g.S.Store old) (state g.S.Store h) (λ db. OfItems g.I.Iterator.next_gives c.args.puts (λ xs. IsFileWithTables (map which c.args.tables.now) xs (state g.S.Store old) db))) same whole
+
+pub returns-clause-settled : goal.returns-clause-settled
+returns-clause-settled g c clean =
+    let end = c.commit.new.self.0 in
+    let same : end ≡ c.conn-2-1.given.0 = search rules in
+    let late : HasCleanDisk (state g.S.Store end) = search rules in
+    let done = (c.in_ok-commit.ensures.ok late).1 in
+    let all : Leaves (λ db. db ≡ (state g.S.Store end).now.trees) (state g.S.Store end) = λ db left. g.met.S.Store.settled end.store db done.is_open left ∙ ap (λ (d : Database). d.trees) (done.committed_is ∙ sym done.now_is) in
+    subst (λ h. Leaves (λ db. db ≡ (state g.S.Store h).now.trees) (state g.S.Store h)) same all
+
+pub returns-in_err-create_all-clause-told : goal.returns-in_err-create_all-clause-told
+returns-in_err-create_all-clause-told g c clean =
+    let p = err_from_is_err_and c.from_residual.result c.from_residual.ensures.1 in
+    let last = c.create_all.new.tx.conn.now in
+    let late : HasCleanDisk (state g.S.Store c.drop-both.new.self.0) = search rules in
+    let early : HasCleanDisk (state g.S.Store last) = omega (arith, c.drop-both.ensures.survives.clean) in
+    rw (p.1, p.2) (at_table last ((rw c.transaction-both.ensures.begun at c.in_err-create_all.ensures.told early) refl))
+
+pub returns-in_err-put_all-clause-told : goal.returns-in_err-put_all-clause-told
+returns-in_err-put_all-clause-told g c clean =
+    let p = err_from_is_err_and c.from_residual-in_err-put_all.result c.from_residual-in_err-put_all.ensures.1 in
+    let mid = c.create_all.new.tx.conn.now in
+    let last = c.put_all.new.tx.conn.now in
+    let late : HasCleanDisk (state g.S.Store c.drop-both-in_err-put_all.new.self.0) = search rules in
+    let early : HasCleanDisk (state g.S.Store last) = omega (arith, c.drop-both-in_err-put_all.ensures.survives.clean) in
+    let first : HasCleanDisk (state g.S.Store mid) = omega (arith, c.put_all.ensures.survives.clean) in
+    rw (p.1, p.2) (after_tables mid (rw c.transaction-both.ensures.begun at c.in_ok-create_all.ensures.makes first) (at_put last (c.in_err-put_all.ensures.told early ((rw c.transaction-both.ensures.begun at c.in_ok-create_all.ensures.inside first) refl))))
+
+pub returns-in_err-commit-clause-told : goal.returns-in_err-commit-clause-told
+returns-in_err-commit-clause-told g c clean =
+    let p = err_from_is_err_and c.from_residual-in_err-commit.result c.from_residual-in_err-commit.ensures.1 in
+    let mid = c.create_all.new.tx.conn.now in
+    let last = c.put_all.new.tx.conn.now in
+    let end = c.commit.new.self.0 in
+    let same : end ≡ c.conn-2-1.given.0 = search rules in
+    let late : HasCleanDisk (state g.S.Store end) = search rules in
+    let early : HasCleanDisk (state g.S.Store last) = omega (arith, c.commit.ensures.survives.clean) in
+    let first : HasCleanDisk (state g.S.Store mid) = omega (arith, c.put_all.ensures.survives.clean) in
+    let failed = subst (λ h. FailsToCommit (state g.S.Store last) (state g.S.Store h) c.in_err-commit.field-0.0) same (c.in_err-commit.ensures.err late) in
+    rw (p.1, p.2) (after_tables mid (rw c.transaction-both.ensures.begun at c.in_ok-create_all.ensures.makes first) (at_commit last (c.in_ok-put_all.ensures.put early) failed))
