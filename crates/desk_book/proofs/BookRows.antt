@@ -1,22 +1,23 @@
 -- Rows that show a sound book.
-use Rattle.std.proofs.Common.{◌≡◌, ℕ, ◌+◌, ◌≤◌, ◌&&◌, pos, true, List, [], ◌∷◌, map, take, get_or, Some, Contains, refl, ap₂, subst, arith, inl, inr}
+use Rattle.std.proofs.Common.{◌≡◌, ℕ, ◌+◌, ◌≤◌, ◌&&◌, pos, true, List, [], ◌∷◌, map, take, get_or, Some, Contains, refl, ap₂, subst, arith, inl, inr, None, sym, ◌∙◌}
 use Rattle.std.specs.Char.{IsScalar}
 use Rattle.std.specs.List.{All, enumerate_from, flat_map}
-use Rattle.std.specs.Prelude.{IsUtf8, IsSome}
+use Rattle.std.specs.Prelude.{IsNone, IsUtf8, IsSome}
 use Rattle.std.specs.Str.{chars}
 use Rattle.std.proofs.Math.Utf8.{encodes, scalars, low_scalar}
 use Rattle.std.proofs.lemmas.Bool.{cases_lt}
 use Rattle.std.proofs.lemmas.List.Elements.{All-append, All-cons, All-contains_itself, All-head, All-map, All-nil, All-tail, All-weaker}
 use Rattle.std.proofs.lemmas.Option.{slice_get-get_or}
-use Rattle.std.proofs.lemmas.Str.{chars-encodes}
+use Rattle.std.proofs.lemmas.Str.{chars-encodes, chars-nil}
 use Rattle.louis_translate.specs.Braille.{braille}
 use Rattle.louis_translate.proofs.Tilings.{one_tiling}
+use Rattle.desk_book.specs.declared.parts.FileTable.TheVariants.{Corr as CorrTable, NamedCorr as NamedCorrTable}
 use Rattle.desk_book.specs.Book.{Entry, Corrects, Undoes, Paragraph, Book}
-use Rattle.desk_book.specs.FileRows.{FileRows, Named, HasEntryTexts, HasMarkText, HasParaTexts, HasTabText, spelled_entry, spelled_mark, spelled_para, spelled_tab}
+use Rattle.desk_book.specs.FileRows.{FileRows, HasEntryTexts, HasMarkText, HasParaTexts, HasTabText, Named, Unnamed, spelled_entry, spelled_mark, spelled_para, spelled_tab, table_of, unnamed}
 use Rattle.desk_book.specs.Name.{IsTableName, is_name_character}
 use Rattle.desk_book.specs.Print.{print_of}
-use Rattle.desk_book.specs.Rows.{Tab, Para, NamedCorr, Mark as MarkRow, Cached}
-use Rattle.desk_book.specs.Shows.{Shows, AreCached, IsCached, book_row_of, entry_row_of, entry_rows_of, mark_row_of, para_of, paras_of, tab_of}
+use Rattle.desk_book.specs.Rows.{Corr, Tab, Para, NamedCorr, Mark as MarkRow, Cached}
+use Rattle.desk_book.specs.Shows.{AreCached, IsCached, IsUnnamed, Shows, book_row_of, entry_row_of, entry_rows_of, mark_row_of, para_of, paras_of, tab_of}
 use Rattle.desk_book.specs.Sound.{IsSound, IsSoundEntry, IsSoundMark, IsSoundParagraph, IsSoundTable}
 use Rattle.desk_book.specs.Stored.{AreCharacters}
 use Rattle.desk_book.proofs.Permutations.{IsPermutation-same}
@@ -123,6 +124,29 @@ entries-characters (p ∷ ps) all =
     All-append EntryCharacters (entry_rows_of p) (flat_map entry_rows_of ps) (rows-characters p.id 1 p.history (All-head (λ q. All HasCharacters q.history) p ps all))
     (entries-characters ps (All-tail (λ q. All HasCharacters q.history) p ps all))
 
+-- ---- entries without names
+
+abbrev encoded_corr : NamedCorr → Corr
+encoded_corr e = record e.entry { body = encodes e.entry.body }
+
+abbrev HasNoName : NamedCorr → Type 0
+HasNoName e = e.who ≡ []
+
+unnamed-back : (es : List NamedCorr) → All EntryCharacters es → All HasNoName es → map spelled_entry (map unnamed (map encoded_corr es)) ≡ es
+unnamed-back [] all none = refl
+unnamed-back (e ∷ es) all none =
+    let texts = All-head EntryCharacters e es all in
+    let name : chars [] ≡ e.who = chars-nil ∙ sym (All-head HasNoName e es none) in
+    let rest = unnamed-back es (All-tail EntryCharacters e es all) (All-tail HasNoName e es none) in
+    λ i. record { entry = record e.entry { body = spelled-encoded e.entry.body texts.0 i }; who = name i } ∷ rest i
+
+unnamed-texts : (es : List NamedCorr) → All EntryCharacters es → All HasEntryTexts (map unnamed (map encoded_corr es))
+unnamed-texts [] all = All-nil HasEntryTexts
+unnamed-texts (e ∷ es) all =
+    let texts = All-head EntryCharacters e es all in
+    All-cons HasEntryTexts (unnamed (encoded_corr e)) (map unnamed (map encoded_corr es)) (encoded-text e.entry.body texts.0, ([], (refl, refl)))
+    (unnamed-texts es (All-tail EntryCharacters e es all))
+
 module _ (book : Book) (sound : IsSound book) where
   -- ---- the cells of its paragraphs
 
@@ -195,27 +219,61 @@ module _ (book : Book) (sound : IsSound book) where
     caches = Some (cached book.paragraphs all-in);
   }
 
-  pub some_rows : (rows : FileRows) × IsSome rows.caches × Shows rows book
-  some_rows = (
-    rows_for,
-    refl,
-    record {
-      sound = sound;
-      texts = record {
-        tabs = All-map HasTabText encoded_tab (map tab_of book.tables) (All-weaker TabCharacters (λ t. HasTabText (encoded_tab t)) (λ t all. encoded-text t.name all) (map tab_of book.tables) tab_characters);
-        paras = All-map HasParaTexts encoded_para (paras_of book.paragraphs)
-            (All-weaker ParaCharacters (λ p. HasParaTexts (encoded_para p)) (λ p all. (encoded-text p.tab all.0, encoded-text p.original all.1, encoded-text p.print all.2)) (paras_of book.paragraphs) para_characters);
-        entries = All-map HasEntryTexts encoded_entry (flat_map entry_rows_of book.paragraphs)
-            (All-weaker EntryCharacters (λ e. HasEntryTexts (encoded_entry e)) (λ e all. (encoded-text e.entry.body all.0, encoded-text e.who all.1)) (flat_map entry_rows_of book.paragraphs) entry_characters);
-        marks = All-map HasMarkText encoded_mark (map mark_row_of book.marks) (All-weaker MarkCharacters (λ m. HasMarkText (encoded_mark m)) (λ m all. encoded-text m.note all) (map mark_row_of book.marks) mark_characters);
-      };
-      row = refl;
-      tables = IsPermutation-same _ (map tab_of book.tables) (map-back TabCharacters spelled_tab encoded_tab (λ t all. λ i. record t { name = spelled-encoded t.name all i }) (map tab_of book.tables) tab_characters);
-      paragraphs = IsPermutation-same _ (paras_of book.paragraphs) (map-back ParaCharacters spelled_para encoded_para
-          (λ p all. λ i. record p { tab = spelled-encoded p.tab all.0 i; original = spelled-encoded p.original all.1 i; print = spelled-encoded p.print all.2 i }) (paras_of book.paragraphs) para_characters);
-      entries = IsPermutation-same _ (flat_map entry_rows_of book.paragraphs) (map-back EntryCharacters spelled_entry encoded_entry
-          (λ e all. λ i. record { entry = record e.entry { body = spelled-encoded e.entry.body all.0 i }; who = spelled-encoded e.who all.1 i }) (flat_map entry_rows_of book.paragraphs) entry_characters);
-      marks = IsPermutation-same _ (map mark_row_of book.marks) (map-back MarkCharacters spelled_mark encoded_mark (λ m all. λ i. record m { note = spelled-encoded m.note all i }) (map mark_row_of book.marks) mark_characters);
-      caches = λ rows same. let own : cached book.paragraphs all-in ≡ rows = cc in subst (AreCached book) own are-cached;
-    },
-  )
+  rows-show : Shows rows_for book
+  rows-show = record {
+    sound = sound;
+    texts = record {
+      tabs = All-map HasTabText encoded_tab (map tab_of book.tables) (All-weaker TabCharacters (λ t. HasTabText (encoded_tab t)) (λ t all. encoded-text t.name all) (map tab_of book.tables) tab_characters);
+      paras = All-map HasParaTexts encoded_para (paras_of book.paragraphs)
+          (All-weaker ParaCharacters (λ p. HasParaTexts (encoded_para p)) (λ p all. (encoded-text p.tab all.0, encoded-text p.original all.1, encoded-text p.print all.2)) (paras_of book.paragraphs) para_characters);
+      entries = All-map HasEntryTexts encoded_entry (flat_map entry_rows_of book.paragraphs)
+          (All-weaker EntryCharacters (λ e. HasEntryTexts (encoded_entry e)) (λ e all. (encoded-text e.entry.body all.0, encoded-text e.who all.1)) (flat_map entry_rows_of book.paragraphs) entry_characters);
+      marks = All-map HasMarkText encoded_mark (map mark_row_of book.marks) (All-weaker MarkCharacters (λ m. HasMarkText (encoded_mark m)) (λ m all. encoded-text m.note all) (map mark_row_of book.marks) mark_characters);
+    };
+    row = refl;
+    tables = IsPermutation-same _ (map tab_of book.tables) (map-back TabCharacters spelled_tab encoded_tab (λ t all. λ i. record t { name = spelled-encoded t.name all i }) (map tab_of book.tables) tab_characters);
+    paragraphs = IsPermutation-same _ (paras_of book.paragraphs) (map-back ParaCharacters spelled_para encoded_para
+        (λ p all. λ i. record p { tab = spelled-encoded p.tab all.0 i; original = spelled-encoded p.original all.1 i; print = spelled-encoded p.print all.2 i }) (paras_of book.paragraphs) para_characters);
+    entries = IsPermutation-same _ (flat_map entry_rows_of book.paragraphs) (map-back EntryCharacters spelled_entry encoded_entry
+        (λ e all. λ i. record { entry = record e.entry { body = spelled-encoded e.entry.body all.0 i }; who = spelled-encoded e.who all.1 i }) (flat_map entry_rows_of book.paragraphs) entry_characters);
+    marks = IsPermutation-same _ (map mark_row_of book.marks) (map-back MarkCharacters spelled_mark encoded_mark (λ m all. λ i. record m { note = spelled-encoded m.note all i }) (map mark_row_of book.marks) mark_characters);
+    caches = λ rows same. let own : cached book.paragraphs all-in ≡ rows = cc in subst (AreCached book) own are-cached;
+  }
+
+  pub some_rows : (rows : FileRows) × (table_of rows.entries ≡ NamedCorrTable) × IsSome rows.caches × Shows rows book
+  some_rows = (rows_for, refl, refl, rows-show)
+
+  -- ---- in the first format, where no correction has a name
+
+  abbrev unnamed_rows : FileRows
+  unnamed_rows = record {
+    books = book_row_of 1 book.version ∷ [];
+    tabs = rows_for.tabs;
+    paras = rows_for.paras;
+    entries = Unnamed (map encoded_corr (flat_map entry_rows_of book.paragraphs));
+    marks = rows_for.marks;
+    caches = None;
+  }
+
+  pub some_unnamed_rows : IsUnnamed book → (rows : FileRows) × (table_of rows.entries ≡ CorrTable) × IsNone rows.caches × Shows rows book
+  some_unnamed_rows unnamed_book =
+      let all = rows-show in (
+        unnamed_rows,
+        refl,
+        refl,
+        record {
+          sound = sound;
+          texts = record {
+            tabs = all.texts.tabs;
+            paras = all.texts.paras;
+            entries = unnamed-texts (flat_map entry_rows_of book.paragraphs) entry_characters;
+            marks = all.texts.marks;
+          };
+          row = refl;
+          tables = all.tables;
+          paragraphs = all.paragraphs;
+          entries = IsPermutation-same _ (flat_map entry_rows_of book.paragraphs) (unnamed-back (flat_map entry_rows_of book.paragraphs) entry_characters unnamed_book);
+          marks = all.marks;
+          caches = λ rows same. absurd (cc);
+        },
+      )

@@ -1,5 +1,6 @@
 -- What is wrong with rows that show no book, and which of it is told: the first damaged table, and in it the smallest id.
--- The texts are UTF-8, and the tables are those of the format that the row of `book` names.
+-- All of this is meant of rows whose texts are UTF-8 and whose tables are those of their format; of others another fault is
+-- told before. A table's damage is meant where those that are judged before it are sound.
 use Rattle.std.specs.Prelude.{◌≡◌, ◌≢◌, ◌⊎◌, ℕ, ◌+◌, ◌<◌, ◌≤◌, ℤ, pos, ◌+ℤ◌, ◌≤ℤ◌, nat_abs, if◌then◌else◌, List, [], ◌∷◌, map, filter, length, take, slice_get, option_map, Some}
 use Rattle.std.specs.List.{Contains}
 use Rattle.std.specs.List.Sorted.{IsPermutation, IsSortedBy}
@@ -240,6 +241,6 @@ pub record IsFirstDamage (rows : FileRows) (table : FileTable) (id : ℤ) : Type
   pub tables : (other : FileTable) (n : ℤ) → IsDamaged rows other n → table_turn table ≤ table_turn other
   pub ids : (n : ℤ) → IsDamaged rows table n → id ≤ℤ n
 
--- the tables that are read are those of the format in the row of `book`, where that has one
+-- where `book` has one row, with a format from 1 on, the entries are those of this format
 abbrev pub HasItsTables : FileRows → Type 0
 HasItsTables rows = (row : BookRow) → rows.books ≡ row ∷ [] → pos 1 ≤ℤ row.format → row.format ≡ pos (format_of rows.entries)

@@ -85,6 +85,10 @@ pub record AreCached (book : Book) (rows : List Cached) : Type 0 where
   pub one_each : IsPermutation (map (λ row. row.para) rows) (map (λ paragraph. pos paragraph.id) book.paragraphs)
   pub cells : All (IsCached book) rows
 
+-- no correction of the book has a name
+abbrev pub IsUnnamed : Book → Type 0
+IsUnnamed book = All (λ row. row.who ≡ []) (flat_map entry_rows_of book.paragraphs)
+
 -- ---- a file's rows
 
 -- The book is sound, the texts are UTF-8, and the rows are those of the book's parts, in any order. In the first format

@@ -4,14 +4,14 @@ ghost use Rattle.desk_book.specs.Book.{Book};
 ghost use Rattle.desk_book.specs.Damage.{IsDamaged, IsFirstDamage};
 ghost use Rattle.desk_book.specs.declared.command.Command.{Command};
 ghost use Rattle.desk_book.specs.declared.parts.FileTable.{FileTable};
-ghost use Rattle.desk_book.specs.FileRows.{FileRows};
+ghost use Rattle.desk_book.specs.FileRows.{FileRows, table_of};
 ghost use Rattle.desk_book.specs.Refusals.{IsAccepted};
 ghost use Rattle.desk_book.specs.Restored.{RestoresPrint};
-ghost use Rattle.desk_book.specs.Shows.{Shows};
+ghost use Rattle.desk_book.specs.Shows.{IsUnnamed, Shows};
 ghost use Rattle.desk_book.specs.Sound.{IsSound};
 ghost use Rattle.desk_book.specs.Step.{HasCharacters, Makes};
 ghost use Rattle.std.specs.List.{All};
-ghost use Rattle.std.specs.Prelude.{IsSome, List, None, ℕ, ℤ, ◌++◌, ◌↔◌, ◌≡◌};
+ghost use Rattle.std.specs.Prelude.{IsNone, IsSome, List, None, ℕ, ℤ, ◌++◌, ◌↔◌, ◌≡◌};
 
 /// A list of commands, cut anywhere: the whole of it makes of a book what its second part makes of the book that its
 /// first part makes, and is accepted exactly where both parts are.
@@ -38,9 +38,13 @@ pub fn one_book()
     ensures { (rows : FileRows) (book other : Book) → Shows rows book → Shows rows other → book ≡ other }
 {}
 
-/// Each sound book has rows that show it, with the braille of its paragraphs.
+/// Each sound book has rows of the second format that show it, with the braille of its paragraphs; and one in which no
+/// correction has a name has rows of the first format, without the braille.
 pub fn some_rows()
-    ensures { (book : Book) → IsSound book → (rows : FileRows) × IsSome rows.caches × Shows rows book }
+    ensures second { (book : Book) → IsSound book
+        → (rows : FileRows) × (table_of rows.entries ≡ FileTable.NamedCorr) × IsSome rows.caches × Shows rows book }
+    ensures first { (book : Book) → IsSound book → IsUnnamed book
+        → (rows : FileRows) × (table_of rows.entries ≡ FileTable.Corr) × IsNone rows.caches × Shows rows book }
 {}
 
 /// Rows that show a book have no damage.
