@@ -1,4 +1,4 @@
-# make          proves all crates and builds build/braildesk
+# make          proves the program and what it stands on, and builds build/braildesk
 # make demo     does that, and shows the main job on a sample
 # make test     the gate: proves from nothing, tries the must-fail edits, runs the tests and the stored run, and
 #               compares files with sqlite3, which has to be installed
@@ -16,7 +16,7 @@ SOURCES := crates.txt HANDLES $(shell find crates -type f \( -path '*/src/*' -o 
 all: $(PROGRAM)
 
 $(PROGRAM): $(SOURCES)
-	@echo 'Proving and building braildesk. The first time every crate is proved, which takes some minutes.'
+	@echo 'Proving and building braildesk. The first time all that it stands on is proved, which takes some minutes.'
 	cd crates/braildesk && $(RT) run -- translate /dev/null < /dev/null
 	mkdir -p $(@D)
 	cp crates/braildesk/out/braildesk $@
