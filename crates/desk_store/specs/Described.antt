@@ -10,7 +10,7 @@ use Rattle.sqlite_schema.specs.declared.schema.Table.{Table}
 use Rattle.sql_tables.specs.Tables.{needed, plain_table}
 use Rattle.desk_store.specs.declared.texts.TheConstants.{CREATE_BOOK, CREATE_TAB, CREATE_PARA, CREATE_MARK, CREATE_CACHE, CREATE_NAMED_CORR, READ_BOOKS, READ_TABS, READ_PARAS, READ_CORRS, READ_MARKS, READ_CACHES, READ_NAMED_CORRS, PUT_BOOK, PUT_TAB, PUT_PARA, PUT_MARK, PUT_CACHE, PUT_NAMED_CORR}
 
--- The tables of a book's file in either format: `corr` only in the first, where nothing writes it any more, and `corr2` only in the second.
+-- The tables of a book's file in either format: `corr` only in the first, where nothing writes it, and `corr2` only in the second.
 pub data Which : Type 0 where
   books : Which
   tabs : Which

@@ -16,7 +16,7 @@ which Mark = marks
 which Cache = caches
 which NamedCorr = named_corrs
 
--- a table or a view has its name, in either case of the letters, so that a statement which names it finds something
+-- a table, a view or what the schema keeps without understanding it has its name, in either case of the letters
 abbrev pub is_there : Schema → Which → Bool
 is_there s w = is_some (table_named s (described w).name) || is_some (view_named s (described w).name)
 

@@ -45,7 +45,7 @@ pub fn reopen<S: Alter + Reopen + Drop>(
 }
 
 /// Puts in turn what an iterator gives, has the store crash whatever the answer, and opens what is left: it shows the rows from before, or
-/// those with all of these, which at `Ok` are there.
+/// those with all of these, which at `Ok` are there. The caller's condition: the iterator ends.
 pub fn reopen_after_write<'a, S: Alter + Reopen + Drop, I: Iterator<Item = Put<'a>> + Drop>(
     alloc: Global,
     mut conn: Connection<S>,

@@ -1,4 +1,4 @@
-//! The rows of the tables of the last format that no book has yet, and what is put into a file.
+//! The rows of `cache` and `corr2`, and what is put into a file.
 
 ghost use Rattle.std.specs.Prelude.{string_bytes};
 ghost use Rattle.desk_store.specs.Rows.{Cached, NamedCorr};

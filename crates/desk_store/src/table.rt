@@ -19,7 +19,7 @@ pub enum Table {
     Tab,
     /// `para`: the paragraphs.
     Para,
-    /// `corr`: the entries of the histories in format 1, which nothing makes or writes any more.
+    /// `corr`: the entries of the histories in format 1, which nothing makes or writes.
     Corr,
     /// `mark`: the proofreaders' marks.
     Mark,
@@ -62,7 +62,8 @@ impl Table {
 }
 
 /// Whether a table or a view has the name of this one, in either case of its letters, as the schema stands that was last read or made.
-/// A table that the database doesn't understand counts, and an index doesn't. It takes no memory and asks the store nothing.
+/// What the schema keeps without understanding it counts too: a table, a trigger, an index that the database can't read. Another index
+/// doesn't. It takes no memory and asks the store nothing.
 pub fn has_table<S: Alter>(conn: &Connection<S>, table: Table) -> bool
     ensures { result ≡ is_there (state S.Store conn.now).now.schema (which table) }
 {

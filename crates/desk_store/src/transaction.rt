@@ -18,8 +18,9 @@ use crate::rows::Put;
 use crate::table::Table;
 use sqlite::{Alter, Connection, Error};
 
-/// Puts in turn what an iterator gives and commits it, as one. The error is the database's. A connection that is open then shows the last
-/// commit, which is that of before, and a crash leaves the rows from before or, where the store failed, all of these.
+/// Puts in turn what an iterator gives and commits it, as one. The caller's condition: the iterator ends. The error is the database's. A
+/// connection that is open then shows the last commit, which is that of before, and a crash leaves the rows from before or, where the store
+/// failed, all of these.
 pub fn write<'a, S: Alter, I: Iterator<Item = Put<'a>> + Drop>(
     conn: &mut Connection<S>,
     puts: I,
@@ -53,9 +54,9 @@ pub fn write<'a, S: Alter, I: Iterator<Item = Put<'a>> + Drop>(
 }
 
 /// Makes these tables, puts in turn what an iterator gives and commits all of it, as one: so a file gets the tables that it lacks together
-/// with their rows. The caller's condition: `corr` isn't among the tables. The error is the database's, as where a name is taken. A
-/// connection that is open then shows the last commit, which is that of before, and a crash leaves the file from before or, where the store
-/// failed, the one with all of this.
+/// with their rows. The caller's conditions: `corr` isn't among the tables, and the iterator ends. The error is the database's, as where a
+/// name is taken. A connection that is open then shows the last commit, which is that of before, and a crash leaves the file from before
+/// or, where the store failed, the one with all of this.
 pub fn write_with_tables<'a, S: Alter, I: Iterator<Item = Put<'a>> + Drop>(
     conn: &mut Connection<S>,
     tables: &[Table],
