@@ -1,11 +1,11 @@
 -- The first undefined place of a print that grows.
 use Rattle.std.proofs.Common.{◌≡◌, ℕ, ◌<◌, true, false, List, [], ◌∷◌, ◌++◌, length, Option, Some, None, refl, sym, ap, ◌∙◌, arith, inl, inr}
-use Rattle.std.specs.Prelude.{IsSome, is_some, slice_index}
+use Rattle.std.specs.Prelude.{is_some, slice_index}
 use Rattle.std.proofs.lemmas.Bool.{cases_order}
 use Rattle.std.proofs.lemmas.List.{get_or_append_left, get_or_push, length_push}
 use Rattle.louis_table.specs.declared.definition.Definition.{Definition}
 use Rattle.louis_table.specs.Meaning.{Meaning, definition_of}
-use Rattle.louis_translate.specs.Position.{AreDefined, IsFirstUndefined}
+use Rattle.louis_translate.specs.Position.{IsFirstUndefined}
 use Rattle.braildesk.specs.Refusal.{FindsUndefined}
 
 is_some-none : (o : Option Definition) → is_some o ≡ false → o ≡ None

@@ -28,7 +28,6 @@ pub mod OrderPlaces
 pub mod ParagraphLists
 pub mod ParagraphMarkLists
 pub mod Permutations
-pub mod PieceLists
 pub mod Planning
 pub mod PrintCharacters
 pub mod Renewing

@@ -1,141 +1,123 @@
--- One place of a print, or one cell, sought along a tiling.
+-- One place of a print, or one cell, sought along the pieces.
 use Rattle.std.proofs.Common.{◌≡◌, ℕ, ◌+◌, ◌-◌, ◌<◌, ◌≤◌, ◌^◌, List, [], ◌∷◌, ◌++◌, length, refl, sym, ap, subst, ◌∙◌, append_assoc, arith}
-use Rattle.std.proofs.lemmas.List.{append-nil, length-append}
+use Rattle.std.specs.Prelude.{map}
+use Rattle.std.proofs.lemmas.List.{length-append}
 use Rattle.std.proofs.lemmas.List.Concat.{flat_map-append}
 use Rattle.louis_table.specs.Meaning.{Meaning}
 use Rattle.louis_translate.specs.declared.choices.Choice.{Choice}
 use Rattle.louis_translate.specs.declared.pieces.Piece.{Piece}
-use Rattle.louis_translate.specs.Piece.{IsPieceAt}
-use Rattle.louis_translate.specs.Tiling.{Covers, Tiles}
+use Rattle.louis_translate.specs.Items.{Made, shown, made_by}
+use Rattle.louis_translate.specs.Tiling.{Tiles}
 use Rattle.louis_translate.specs.Braille.{cells_of, braille, IsAmong, IsOutputPlace, MakesCell}
-use Rattle.louis_translate.proofs.PieceLists.{count-piece}
-use Rattle.louis_translate.proofs.PlaceLists.{flat_map-push}
-use Rattle.louis_translate.proofs.Tilings.{Covers-next, one_cover, one_tiling}
+use Rattle.louis_translate.proofs.PieceLists.{Left, Left-start, Left-one, Left-next, Left-step, Left-all, Left-end, Next, braille-next, count-next, parts-next}
+use Rattle.louis_translate.proofs.Tilings.{one_cover}
 
 module _ (meaning : Meaning) (print : List ℕ) where
-  -- a tiling, from place i on of which these choices are left
-  pub record Left (i : ℕ) : Type 0 where
-    pub before : List Choice
-    pub rest : List Choice
-    pub tiles : Tiles meaning print (before ++ rest)
-    pub covers : Covers meaning print i rest (length print)
+  -- the next piece's choice is one of the tiling
+  module _ (left : List Made) (l : Left meaning print left) (piece : Piece) (after : List Made) (next : Next meaning print left l piece after) where
+    among : IsAmong (l.before ++ l.rest) l.before piece.choice
+    among = record { after = next.others; parts = parts-next meaning print left l piece after next }
 
-  abbrev Left-start : Left 0
-  Left-start =
-      let tiling = one_tiling meaning print in
-      record { before = []; rest = tiling.0; tiles = tiling.1; covers = tiling.1 }
-
-  -- the next piece's choice is the first of those left
-  module _ (i : ℕ) (piece : Piece) (left : Left i) (lt : i < length print) (at : IsPieceAt meaning print i piece) where
-    abbrev next : (u : List Choice) × (left.rest ≡ piece.choice ∷ u) × Covers meaning print piece.choice.end u (length print)
-    next = Covers-next meaning print i left.rest piece.choice left.covers lt at.choice
-
-    abbrev among : IsAmong (left.before ++ left.rest) left.before piece.choice
-    among = record { after = next.0; parts = ap (λ (t : List Choice). left.before ++ t) next.1 }
-
-    abbrev Left-step : Left piece.choice.end
-    Left-step = record {
-      before = left.before ++ piece.choice ∷ [];
-      rest = next.0;
-      tiles = subst (λ (t : List Choice). Tiles meaning print t)
-          (among.parts ∙ sym (append_assoc left.before (piece.choice ∷ []) next.0)) left.tiles;
-      covers = next.2;
-    }
-
-    -- how many cells come before the next one's
-    count-before : length (braille meaning print (left.before ++ piece.choice ∷ []))
-        ≡ length (braille meaning print left.before) + (length piece.sign.now + length piece.own.now)
+    -- how many cells come before those after it
+    count-before : length (braille meaning print (l.before ++ piece.choice ∷ []))
+        ≡ length (braille meaning print l.before) + (length piece.sign.now + length piece.own.now)
     count-before =
-        ap length (flat_map-push (cells_of meaning print) left.before piece.choice)
-        ∙ (length-append (braille meaning print left.before) (cells_of meaning print piece.choice)
-        ∙ ap (λ (n : ℕ). length (braille meaning print left.before) + n) (count-piece meaning print i piece at))
+        ap length (braille-next meaning print left l piece after next)
+        ∙ (length-append (braille meaning print l.before) (piece.sign.now ++ piece.own.now)
+        ∙ ap (λ (n : ℕ). length (braille meaning print l.before) + n) (length-append piece.sign.now piece.own.now))
 
     -- and how many there are at least
-    count-all : length (braille meaning print left.before) + (length piece.sign.now + length piece.own.now)
-        ≤ length (braille meaning print (left.before ++ left.rest))
+    count-all : length (braille meaning print l.before) + (length piece.sign.now + length piece.own.now)
+        ≤ length (braille meaning print (l.before ++ l.rest))
     count-all =
-        let all : length (braille meaning print (left.before ++ left.rest))
-        ≡ length (braille meaning print (left.before ++ piece.choice ∷ [])) + length (braille meaning print next.0) =
-        ap (λ (t : List Choice). length (braille meaning print t)) (among.parts ∙ sym (append_assoc left.before (piece.choice ∷ []) next.0))
-        ∙ (ap length (flat_map-append (cells_of meaning print) (left.before ++ piece.choice ∷ []) next.0)
-        ∙ length-append (braille meaning print (left.before ++ piece.choice ∷ [])) (braille meaning print next.0)) in
+        let all : length (braille meaning print (l.before ++ l.rest))
+        ≡ length (braille meaning print (l.before ++ piece.choice ∷ [])) + length (braille meaning print next.others) =
+        ap (λ (t : List Choice). length (braille meaning print t))
+        (parts-next meaning print left l piece after next ∙ sym (append_assoc l.before (piece.choice ∷ []) next.others))
+        ∙ (ap length (flat_map-append (cells_of meaning print) (l.before ++ piece.choice ∷ []) next.others)
+        ∙ length-append (braille meaning print (l.before ++ piece.choice ∷ [])) (braille meaning print next.others)) in
         let first = count-before in
         omega arith
 
   -- ---- the cells before a place
 
-  -- so many cells come before the choices that are left
-  pub record OutputLeft (i before : ℕ) : Type 0 where
-    pub left : Left i
-    pub count : before ≡ length (braille meaning print left.before)
+  -- the place comes no earlier than what is left, before which there are so many cells
+  pub record OutputLeft (place : ℕ) (left : List Made) (before : ℕ) : Type 0 where
+    pub so_far : Left meaning print left
+    pub from : so_far.place ≤ place
+    pub count : before ≡ length (braille meaning print so_far.before)
 
-  pub OutputLeft-start : OutputLeft 0 0
-  OutputLeft-start = record { left = Left-start; count = refl }
+  pub OutputLeft-start : (place : ℕ) (left : List Made) → ((choices : List Choice) → Tiles meaning print choices → left ≡ map (made_by meaning print) choices) → OutputLeft place left 0
+  OutputLeft-start place left made = record { so_far = Left-start meaning print left made; from = omega arith; count = refl }
 
-  -- the cells of the next piece can be counted with those before
-  pub OutputLeft-fits : (i before : ℕ) (piece : Piece) → OutputLeft i before → i < length print → IsPieceAt meaning print i piece
-      → ((choices : List Choice) × Tiles meaning print choices × (length (braille meaning print choices) < 2 ^ 64))
-      → before + (length piece.sign.now + length piece.own.now) < 2 ^ 64
-  OutputLeft-fits i before piece o lt at (choices, tiles, fits) =
-      let all = count-all i piece o.left lt at in
-      let same = ap (λ (t : List Choice). length (braille meaning print t)) (one_cover meaning print 0 (o.left.before ++ o.left.rest) choices o.left.tiles tiles) in
-      omega (arith, o.count)
+  -- after the last piece the place is past the print
+  pub OutputLeft-past : (place : ℕ) (left : List Made) (before : ℕ) → OutputLeft place left before → left ≡ [] → length print ≤ place
+  OutputLeft-past place left before o e = let end = Left-end meaning print left o.so_far e in omega (arith, o.from)
 
-  pub OutputLeft-step : (i before : ℕ) (piece : Piece) → OutputLeft i before → i < length print → IsPieceAt meaning print i piece
-      → OutputLeft piece.choice.end (before + (length piece.sign.now + length piece.own.now))
-  OutputLeft-step i before piece o lt at =
-      let count = count-before i piece o.left lt at in
-      record { left = Left-step i piece o.left lt at; count = omega (arith, o.count) }
+  module _ (place : ℕ) (left : List Made) (before : ℕ) (piece : Piece) (after : List Made) (o : OutputLeft place left before) (e : left ≡ shown piece ∷ after) where
+    output_next : Next meaning print left o.so_far piece after
+    output_next = Left-next meaning print left o.so_far piece after e
 
-  pub OutputLeft-found : (place i before : ℕ) (piece : Piece) → OutputLeft i before → i < length print → IsPieceAt meaning print i piece
-      → i ≤ place → place < piece.choice.end
-      → (choices : List Choice) → Tiles meaning print choices → IsOutputPlace meaning print choices place before
-  OutputLeft-found place i before piece o lt at from to choices tiles =
-      let start = at.choice.start in
-      subst (λ (t : List Choice). IsOutputPlace meaning print t place before) (one_cover meaning print 0 (o.left.before ++ o.left.rest) choices o.left.tiles tiles)
-      (record {
-        before = o.left.before;
-        choice = piece.choice;
-        among = among i piece o.left lt at;
-        holds = (omega arith, to);
-        place_is = o.count;
-      })
+    -- its cells can be counted with those before
+    pub OutputLeft-fits : ((choices : List Choice) × Tiles meaning print choices × (length (braille meaning print choices) < 2 ^ 64))
+        → before + (length piece.sign.now + length piece.own.now) < 2 ^ 64
+    OutputLeft-fits (choices, tiles, fits) =
+        let all = count-all left o.so_far piece after output_next in
+        let same = ap (λ (t : List Choice). length (braille meaning print t)) (Left-one meaning print left o.so_far choices tiles) in
+        omega (arith, o.count)
+
+    pub OutputLeft-step : piece.choice.end ≤ place → OutputLeft place after (before + (length piece.sign.now + length piece.own.now))
+    OutputLeft-step past =
+        let count = count-before left o.so_far piece after output_next in
+        record { so_far = Left-step meaning print left o.so_far piece after output_next; from = past; count = omega (arith, o.count) }
+
+    pub OutputLeft-found : place < piece.choice.end → (choices : List Choice) → Tiles meaning print choices → IsOutputPlace meaning print choices place before
+    OutputLeft-found to choices tiles =
+        let start = output_next.choice.start in
+        subst (λ (t : List Choice). IsOutputPlace meaning print t place before) (Left-one meaning print left o.so_far choices tiles)
+        (record {
+          before = o.so_far.before;
+          choice = piece.choice;
+          among = among left o.so_far piece after output_next;
+          holds = (omega (arith, o.from), to);
+          place_is = o.count;
+        })
 
   -- ---- the choice of a cell
 
   -- so many cells are left up to a cell
-  pub record PrintLeft (cell i n : ℕ) : Type 0 where
-    pub left : Left i
-    pub count : cell ≡ length (braille meaning print left.before) + n
+  pub record PrintLeft (cell : ℕ) (left : List Made) (n : ℕ) : Type 0 where
+    pub so_far : Left meaning print left
+    pub count : cell ≡ length (braille meaning print so_far.before) + n
 
-  pub PrintLeft-start : (cell : ℕ) → PrintLeft cell 0 cell
-  PrintLeft-start cell = record { left = Left-start; count = omega arith }
+  pub PrintLeft-start : (cell : ℕ) (left : List Made) → ((choices : List Choice) → Tiles meaning print choices → left ≡ map (made_by meaning print) choices) → PrintLeft cell left cell
+  PrintLeft-start cell left made = record { so_far = Left-start meaning print left made; count = omega arith }
 
-  pub PrintLeft-step : (cell i n : ℕ) (piece : Piece) → PrintLeft cell i n → i < length print → IsPieceAt meaning print i piece
-      → length piece.sign.now + length piece.own.now ≤ n
-      → PrintLeft cell piece.choice.end (n - length piece.sign.now - length piece.own.now)
-  PrintLeft-step cell i n piece p lt at past =
-      let count = count-before i piece p.left lt at in
-      record { left = Left-step i piece p.left lt at; count = omega (arith, p.count) }
+  module _ (cell : ℕ) (left : List Made) (n : ℕ) (piece : Piece) (after : List Made) (p : PrintLeft cell left n) (e : left ≡ shown piece ∷ after) where
+    print_next : Next meaning print left p.so_far piece after
+    print_next = Left-next meaning print left p.so_far piece after e
 
-  pub PrintLeft-found : (cell i n : ℕ) (piece : Piece) → PrintLeft cell i n → i < length print → IsPieceAt meaning print i piece
-      → n < length piece.sign.now + length piece.own.now
-      → (choices : List Choice) → Tiles meaning print choices → MakesCell meaning print choices piece.choice cell
-  PrintLeft-found cell i n piece p lt at within choices tiles =
-      let own = count-piece meaning print i piece at in
-      subst (λ (t : List Choice). MakesCell meaning print t piece.choice cell) (one_cover meaning print 0 (p.left.before ++ p.left.rest) choices p.left.tiles tiles)
-      (record {
-        before = p.left.before;
-        among = among i piece p.left lt at;
-        from = omega (arith, p.count);
-        to = omega (arith, p.count);
-      })
+    pub PrintLeft-step : length piece.sign.now + length piece.own.now ≤ n → PrintLeft cell after (n - length piece.sign.now - length piece.own.now)
+    PrintLeft-step past =
+        let count = count-before left p.so_far piece after print_next in
+        record { so_far = Left-step meaning print left p.so_far piece after print_next; count = omega (arith, p.count) }
+
+    pub PrintLeft-found : n < length piece.sign.now + length piece.own.now
+        → (choices : List Choice) → Tiles meaning print choices → MakesCell meaning print choices piece.choice cell
+    PrintLeft-found within choices tiles =
+        let own = count-next meaning print left p.so_far piece after print_next in
+        subst (λ (t : List Choice). MakesCell meaning print t piece.choice cell) (Left-one meaning print left p.so_far choices tiles)
+        (record {
+          before = p.so_far.before;
+          among = among left p.so_far piece after print_next;
+          from = omega (arith, p.count);
+          to = omega (arith, p.count);
+        })
 
   -- after the last choice there is no cell left
-  pub PrintLeft-past : (cell i n : ℕ) → PrintLeft cell i n → i ≡ length print → (choices : List Choice) → Tiles meaning print choices
+  pub PrintLeft-past : (cell : ℕ) (left : List Made) (n : ℕ) → PrintLeft cell left n → left ≡ [] → (choices : List Choice) → Tiles meaning print choices
       → length (braille meaning print choices) ≤ cell
-  PrintLeft-past cell i n p end choices tiles =
-      let none : p.left.rest ≡ [] = one_cover meaning print i p.left.rest [] p.left.covers end in
-      let all : p.left.before ++ p.left.rest ≡ p.left.before = ap (λ (t : List Choice). p.left.before ++ t) none ∙ append-nil p.left.before in
-      let count = ap (λ (t : List Choice). length (braille meaning print t)) (sym all ∙ one_cover meaning print 0 (p.left.before ++ p.left.rest) choices p.left.tiles tiles) in
+  PrintLeft-past cell left n p e choices tiles =
+      let all = one_cover meaning print 0 p.so_far.before choices (Left-all meaning print left p.so_far e) tiles in
+      let count = ap (λ (t : List Choice). length (braille meaning print t)) all in
       omega (arith, p.count)

@@ -8,8 +8,9 @@ use Rattle.louis_translate.specs.declared.choices.Choice.{Choice}
 use Rattle.louis_translate.specs.Tiling.{Covers, IsChoiceAt}
 use Rattle.louis_translate.specs.Position.{AreDefined}
 use Rattle.louis_translate.specs.Braille.{cells_of, braille, IsPart}
+use Rattle.louis_translate.specs.Left.{choices_from}
 use Rattle.louis_translate.proofs.Spans.{span-fits}
-use Rattle.louis_translate.proofs.Tilings.{Covers-append, some_cover}
+use Rattle.louis_translate.proofs.Tilings.{Covers-append, choices_from-covers}
 
 -- a longer front of the same choices has the cells of the next choice too
 longer_has_more : (f : Choice → List ℕ) (t more less rest : List Choice) (c : Choice) → t ++ c ∷ rest ≡ more ++ less → length t < length more → length (flat_map f t) + length (f c) ≤ length (flat_map f more)
@@ -51,22 +52,22 @@ pub IsPart-cut : (meaning : Meaning) (print : List ℕ) (room i used : ℕ) (t :
 IsPart-cut meaning print room i used t c cells defined covers lt next end made fits over =
     let within = span-fits meaning print i c.rule lt next.chosen.candidate in
     let last = next.end in
-    let rest = some_cover meaning print (length print) c.end (omega arith) (omega arith) in
+    let rest = choices_from meaning print c.end in
     let many : length cells ≡ length (braille meaning print t) = ap length made in
     record {
       defined = defined;
-      choices = t ++ c ∷ rest.0;
+      choices = t ++ c ∷ rest;
       front = t;
-      tiles = Covers-append meaning print 0 i (length print) t (c ∷ rest.0) covers (lt, next, rest.1);
+      tiles = Covers-append meaning print 0 i (length print) t (c ∷ rest) covers (lt, next, choices_from-covers meaning print c.end (omega arith));
       is_front = record {
-        others = c ∷ rest.0;
+        others = c ∷ rest;
         parts = refl;
         fits = omega arith;
         longest = λ more less e h. elim (cases_order (length more) (length t)) [
           | inl same ↦ omega arith
           | inr other ↦ elim other [
             | inl less ↦ omega arith
-            | inr longer ↦ let has = longer_has_more (cells_of meaning print) t more less rest.0 c e longer in absurd (omega arith)
+            | inr longer ↦ let has = longer_has_more (cells_of meaning print) t more less rest c e longer in absurd (omega arith)
           ]
         ];
       };

@@ -1,9 +1,9 @@
 pub mod Runs
 pub mod Numbers
 pub mod PieceLists
+pub mod PiecePlaces
 pub mod Alike
 pub mod CellCounts
-pub mod ItemLists
 pub mod Best
 pub mod Trees
 pub mod Searches

@@ -12,12 +12,12 @@ use Rattle.louis_translate.proofs.Runs.{passes-get_or}
 
 -- ---- tests of neighbouring numbers
 
-all_in_range : (p : ℕ → Bool) (a n : ℕ) → ((k : ℕ) → a ≤ k → k < a + n → p k ≡ true) → list_all p (range_with_len a n) ≡ true
+pub all_in_range : (p : ℕ → Bool) (a n : ℕ) → ((k : ℕ) → a ≤ k → k < a + n → p k ≡ true) → list_all p (range_with_len a n) ≡ true
 all_in_range p a zero h = refl
 all_in_range p a (suc n) h =
     rw (h a (omega arith) (omega arith)) (all_in_range p (a + 1) n (λ k more less. h k (omega arith) (omega arith)))
 
-in_range_of_all : (p : ℕ → Bool) (a n : ℕ) → list_all p (range_with_len a n) ≡ true → (k : ℕ) → a ≤ k → k < a + n → p k ≡ true
+pub in_range_of_all : (p : ℕ → Bool) (a n : ℕ) → list_all p (range_with_len a n) ≡ true → (k : ℕ) → a ≤ k → k < a + n → p k ≡ true
 in_range_of_all p a zero h k more less = absurd (omega arith)
 in_range_of_all p a (suc n) h k more less =
     elim (cases_Bool (p a)) [

@@ -1,58 +1,141 @@
--- The pieces of a print, one after another.
-use Rattle.std.proofs.Common.{◌≡◌, ℕ, ◌+◌, ◌<◌, List, [], ◌∷◌, ◌++◌, length, sym, ap, subst, ◌∙◌}
+-- What is left of the pieces of a print, and of the choices that make them.
+use Rattle.std.proofs.Common.{◌≡◌, ℕ, ◌+◌, ◌<◌, List, [], ◌∷◌, ◌++◌, length, refl, sym, ap, subst, ◌∙◌, append_assoc}
 use Rattle.std.specs.Prelude.{map}
-use Rattle.std.proofs.lemmas.List.{length-append, map-append}
+use Rattle.std.specs.List.{flat_map}
+use Rattle.std.proofs.lemmas.List.{append-nil, length-append}
 use Rattle.louis_table.specs.Meaning.{Meaning}
 use Rattle.louis_translate.specs.declared.choices.Choice.{Choice}
 use Rattle.louis_translate.specs.declared.pieces.Piece.{Piece}
-use Rattle.louis_translate.specs.Piece.{IsPieceAt}
-use Rattle.louis_translate.specs.Sign.{sign_at}
-use Rattle.louis_translate.specs.Tiling.{Covers}
-use Rattle.louis_translate.specs.Braille.{cells_of, chosen_cells, braille}
+use Rattle.louis_translate.specs.Tiling.{Covers, IsChoiceAt, Tiles}
+use Rattle.louis_translate.specs.Braille.{cells_of, braille}
+use Rattle.louis_translate.specs.Items.{Made, shown, made_by, made_cells}
 use Rattle.louis_translate.proofs.PlaceLists.{flat_map-push}
-use Rattle.louis_translate.proofs.Tilings.{Covers-push}
+use Rattle.louis_translate.proofs.Tilings.{Covers-append, Covers-push, one_cover, one_tiling}
 
-abbrev pub choices_of : List Piece → List Choice
-choices_of pieces = map (λ piece. piece.choice) pieces
+module _ (meaning : Meaning) (print : List ℕ) where
+  -- these pieces are left of a print: what the choices from a place on make
+  pub record Left (left : List Made) : Type 0 where
+    pub before : List Choice
+    pub rest : List Choice
+    pub place : ℕ
+    pub front : Covers meaning print 0 before place
+    pub covers : Covers meaning print place rest (length print)
+    pub are : left ≡ map (made_by meaning print) rest
 
--- the cells of a piece are its choice's
-pub cells-piece : (meaning : Meaning) (print : List ℕ) (i : ℕ) (piece : Piece) → IsPieceAt meaning print i piece
-    → piece.sign.now ++ piece.own.now ≡ cells_of meaning print piece.choice
-cells-piece meaning print i piece at =
-    ap (λ (xs : List ℕ). xs ++ piece.own.now) (at.sign ∙ ap (sign_at meaning print) (sym at.choice.start))
-    ∙ ap (λ (xs : List ℕ). sign_at meaning print piece.choice.start ++ xs)
-    (at.own ∙ ap (λ (k : ℕ). chosen_cells meaning print k piece.choice.rule) (sym at.choice.start))
+  abbrev pub Left-start : (left : List Made) → ((choices : List Choice) → Tiles meaning print choices → left ≡ map (made_by meaning print) choices) → Left left
+  Left-start left made =
+      let tiling = one_tiling meaning print in
+      record { before = []; rest = tiling.0; place = 0; front = refl; covers = tiling.1; are = made tiling.0 tiling.1 }
 
--- how many cells a piece has
-pub count-piece : (meaning : Meaning) (print : List ℕ) (i : ℕ) (piece : Piece) → IsPieceAt meaning print i piece
-    → length (cells_of meaning print piece.choice) ≡ length piece.sign.now + length piece.own.now
-count-piece meaning print i piece at = ap length (sym (cells-piece meaning print i piece at)) ∙ length-append piece.sign.now piece.own.now
+  -- the choices so far and those left are the tiling
+  pub Left-tiles : (left : List Made) (l : Left left) → Tiles meaning print (l.before ++ l.rest)
+  Left-tiles left l = Covers-append meaning print 0 l.place (length print) l.before l.rest l.front l.covers
 
--- what an iterator over this print by this meaning gives
-pub given_at : (m meaning : Meaning) (p print : List ℕ) (i : ℕ) (piece : Piece) → m ≡ meaning → p ≡ print → i < length p → IsPieceAt m p i piece
-    → (i < length print) × IsPieceAt meaning print i piece
-given_at m meaning p print i piece e f lt at =
-    subst (λ (x : Meaning). (i < length print) × IsPieceAt x print i piece) e
-    (subst (λ (q : List ℕ). (i < length q) × IsPieceAt m q i piece) f (lt, at))
+  pub Left-one : (left : List Made) (l : Left left) (choices : List Choice) → Tiles meaning print choices → l.before ++ l.rest ≡ choices
+  Left-one left l choices tiles = one_cover meaning print 0 (l.before ++ l.rest) choices (Left-tiles left l) tiles
 
-choices-push : (pieces : List Piece) (piece : Piece) → choices_of (pieces ++ piece ∷ []) ≡ choices_of pieces ++ piece.choice ∷ []
-choices-push pieces piece = map-append (λ (p : Piece). p.choice) pieces (piece ∷ [])
+  -- the choice of the next piece is the first of those left
+  pub record Next (left : List Made) (l : Left left) (piece : Piece) (after : List Made) : Type 0 where
+    pub others : List Choice
+    pub within : l.place < length print
+    pub choice : IsChoiceAt meaning print l.place piece.choice
+    pub first : l.rest ≡ piece.choice ∷ others
+    pub covers : Covers meaning print piece.choice.end others (length print)
+    pub cells : piece.sign.now ++ piece.own.now ≡ cells_of meaning print piece.choice
+    pub are : after ≡ map (made_by meaning print) others
 
--- one more piece covers what its choice does
-pub covers-piece : (meaning : Meaning) (print : List ℕ) (i : ℕ) (pieces : List Piece) (piece : Piece) → Covers meaning print 0 (choices_of pieces) i
-    → i < length print → IsPieceAt meaning print i piece → Covers meaning print 0 (choices_of (pieces ++ piece ∷ [])) piece.choice.end
-covers-piece meaning print i pieces piece covers lt at =
-    subst (λ (t : List Choice). Covers meaning print 0 t piece.choice.end) (sym (choices-push pieces piece))
-    (Covers-push meaning print 0 i (choices_of pieces) piece.choice covers lt at.choice)
+  pub Left-next : (left : List Made) (l : Left left) (piece : Piece) (after : List Made) → left ≡ shown piece ∷ after → Next left l piece after
+  Left-next left l piece after e = next l.rest refl
+    where
+      next : (rest : List Choice) → l.rest ≡ rest → Next left l piece after
+      next [] none =
+          let ends : shown piece ∷ after ≡ [] = sym e ∙ (l.are ∙ ap (map (made_by meaning print)) none) in
+          cc
+      next (c ∷ others) some =
+          let both : shown piece ∷ after ≡ made_by meaning print c ∷ map (made_by meaning print) others =
+          sym e ∙ (l.are ∙ ap (map (made_by meaning print)) some) in
+          let made : shown piece ≡ made_by meaning print c = cc in
+          let others_are : after ≡ map (made_by meaning print) others = cc in
+          let same : piece.choice ≡ c = ap (λ (m : Made). m.choice) made in
+          let from = subst (λ (t : List Choice). Covers meaning print l.place t (length print)) some l.covers in
+          record {
+            others = others;
+            within = from.0;
+            choice = subst (λ (x : Choice). IsChoiceAt meaning print l.place x) (sym same) from.1;
+            first = some ∙ ap (λ (x : Choice). x ∷ others) (sym same);
+            covers = subst (λ (x : Choice). Covers meaning print x.end others (length print)) (sym same) from.2;
+            cells = ap made_cells made ∙ ap (cells_of meaning print) (sym same);
+            are = others_are;
+          }
 
--- and adds its cells
-pub braille-piece : (meaning : Meaning) (print : List ℕ) (i : ℕ) (pieces : List Piece) (piece : Piece) → IsPieceAt meaning print i piece
-    → braille meaning print (choices_of (pieces ++ piece ∷ [])) ≡ braille meaning print (choices_of pieces) ++ (piece.sign.now ++ piece.own.now)
-braille-piece meaning print i pieces piece at =
-    ap (braille meaning print) (choices-push pieces piece)
-    ∙ (flat_map-push (cells_of meaning print) (choices_of pieces) piece.choice
-    ∙ ap (λ (xs : List ℕ). braille meaning print (choices_of pieces) ++ xs) (sym (cells-piece meaning print i piece at)))
+  module _ (left : List Made) (l : Left left) (piece : Piece) (after : List Made) (next : Next left l piece after) where
+    abbrev pub Left-step : Left after
+    Left-step = record {
+      before = l.before ++ piece.choice ∷ [];
+      rest = next.others;
+      place = piece.choice.end;
+      front = Covers-push meaning print 0 l.place l.before piece.choice l.front next.within next.choice;
+      covers = next.covers;
+      are = next.are;
+    }
 
--- a list that grows by the choices of pieces
-pub pushed : {A : Type 0} (f : List Choice → A) (pieces : List Piece) (piece : Piece) → f (choices_of (pieces ++ piece ∷ [])) ≡ f (choices_of pieces ++ piece.choice ∷ [])
-pushed f pieces piece = ap f (choices-push pieces piece)
+    -- its cells
+    pub braille-next : braille meaning print (l.before ++ piece.choice ∷ []) ≡ braille meaning print l.before ++ (piece.sign.now ++ piece.own.now)
+    braille-next =
+        flat_map-push (cells_of meaning print) l.before piece.choice
+        ∙ ap (λ (cells : List ℕ). braille meaning print l.before ++ cells) (sym next.cells)
+
+    -- how many they are
+    pub count-next : length (cells_of meaning print piece.choice) ≡ length piece.sign.now + length piece.own.now
+    count-next = ap length (sym next.cells) ∙ length-append piece.sign.now piece.own.now
+
+    -- the parts of the tiling around it
+    pub parts-next : l.before ++ l.rest ≡ l.before ++ piece.choice ∷ next.others
+    parts-next = ap (λ (t : List Choice). l.before ++ t) next.first
+
+  -- after the last piece the choices so far are all
+  pub Left-all : (left : List Made) (l : Left left) → left ≡ [] → Tiles meaning print l.before
+  Left-all left l e = subst (λ (t : List Choice). Tiles meaning print t) (ap (λ (t : List Choice). l.before ++ t) (none l.rest (sym l.are ∙ e)) ∙ append-nil l.before) (Left-tiles left l)
+    where
+      none : (rest : List Choice) → map (made_by meaning print) rest ≡ [] → rest ≡ []
+      none [] h = refl
+      none (c ∷ rest) h = cc
+
+  -- and they cover the whole print
+  pub Left-end : (left : List Made) (l : Left left) → left ≡ [] → l.place ≡ length print
+  Left-end left l e = ends l.rest l.covers (sym l.are ∙ e)
+    where
+      ends : (rest : List Choice) → Covers meaning print l.place rest (length print) → map (made_by meaning print) rest ≡ [] → l.place ≡ length print
+      ends [] h none = h
+      ends (c ∷ rest) h none = cc
+
+  -- ---- the cells of all
+
+  -- what choices make has their cells
+  pub braille-made : (choices : List Choice) → flat_map made_cells (map (made_by meaning print) choices) ≡ braille meaning print choices
+  braille-made [] = refl
+  braille-made (choice ∷ choices) = ap (λ (cells : List ℕ). cells_of meaning print choice ++ cells) (braille-made choices)
+
+  -- ---- the cells so far
+
+  -- these are the cells of the choices before what is left
+  pub record CellsSoFar (left : List Made) (cells : List ℕ) : Type 0 where
+    pub so_far : Left left
+    pub are : cells ≡ braille meaning print so_far.before
+
+  pub CellsSoFar-start : (left : List Made) → ((choices : List Choice) → Tiles meaning print choices → left ≡ map (made_by meaning print) choices) → CellsSoFar left []
+  CellsSoFar-start left made = record { so_far = Left-start left made; are = refl }
+
+  pub CellsSoFar-next : (left : List Made) (cells : List ℕ) (piece : Piece) (after : List Made) → CellsSoFar left cells → left ≡ shown piece ∷ after
+      → CellsSoFar after ((cells ++ piece.sign.now) ++ piece.own.now)
+  CellsSoFar-next left cells piece after done e =
+      let next = Left-next left done.so_far piece after e in
+      record {
+        so_far = Left-step left done.so_far piece after next;
+        are = append_assoc cells piece.sign.now piece.own.now
+            ∙ (ap (λ (t : List ℕ). t ++ (piece.sign.now ++ piece.own.now)) done.are
+            ∙ sym (braille-next left done.so_far piece after next));
+      }
+
+  pub CellsSoFar-all : (left : List Made) (cells : List ℕ) → CellsSoFar left cells → left ≡ [] → (choices : List Choice) × Tiles meaning print choices × (cells ≡ braille meaning print choices)
+  CellsSoFar-all left cells done e = (done.so_far.before, Left-all left done.so_far e, done.are)

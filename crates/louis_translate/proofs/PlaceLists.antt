@@ -123,12 +123,6 @@ inputs-at meaning print (c ∷ t) cell lt =
           )
     ]
 
--- ---- the cells of one more choice
-
-pub grown : (old mid new sign own s o : List ℕ) → mid ≡ old ++ sign → new ≡ mid ++ own → sign ≡ s → own ≡ o → new ≡ old ++ (s ++ o)
-grown old mid new sign own s o first second by_sign by_own =
-    second ∙ (ap (λ (xs : List ℕ). xs ++ own) first ∙ (append_assoc old sign own ∙ (ap (λ (xs : List ℕ). old ++ (xs ++ own)) by_sign ∙ ap (λ (xs : List ℕ). old ++ (s ++ xs)) by_own)))
-
 -- the lists that the choices of a tiling make are the translation
 pub IsTranslation-lists : (meaning : Meaning) (print : List ℕ) (t : List Choice) (cells outputs inputs : List ℕ) → AreDefined meaning print → Tiles meaning print t → cells ≡ braille meaning print t → outputs ≡ outputs_from meaning print 0 t → inputs ≡ inputs_of meaning print t → IsTranslation meaning print cells outputs inputs
 IsTranslation-lists meaning print t cells outputs inputs defined tiles made first second =

@@ -1,5 +1,5 @@
 -- Runs of elements that pass a test.
-use Rattle.std.proofs.Common.{◌≡◌, ℕ, zero, suc, ◌+◌, ◌-◌, ◌<◌, ◌≤◌, Bool, true, false, cond, List, [], ◌∷◌, length, take, drop, get_or, refl, ap, ◌∙◌, arith, inl, inr}
+use Rattle.std.proofs.Common.{◌≡◌, ℕ, zero, suc, ◌+◌, ◌-◌, ◌<◌, ◌≤◌, Bool, true, false, List, [], ◌∷◌, length, take, drop, get_or, refl, ap, ◌∙◌, arith, inl, inr}
 use Rattle.std.specs.Prelude.{slice_get, nat_lt, map, Some}
 use Rattle.std.specs.List.{prefix_len}
 use Rattle.std.specs.Option.{option_map_or}
@@ -8,8 +8,7 @@ use Rattle.std.proofs.lemmas.Bool.{cases_Bool}
 use Rattle.std.proofs.lemmas.Bool.Decides.{nat_tests}
 use Rattle.std.proofs.lemmas.List.{drop-drop}
 use Rattle.louis_table.specs.Meaning.{Meaning}
-use Rattle.louis_translate.specs.Position.{class_at, is_digit}
-use Rattle.louis_translate.specs.Sign.{is_capital, is_capital_at, is_digit_at, ends_number, follows_number, run_end, capital_sign, sign_at}
+use Rattle.louis_translate.specs.Sign.{is_capital, is_capital_at, run_end, sign_at}
 
 -- a test at a place of a list
 pub passes-below : {X : Type 0} (p : X → Bool) (xs : List X) (i : ℕ) → option_map_or p (slice_get xs i) false ≡ true → i < length xs
@@ -63,37 +62,6 @@ run_end-end meaning print i =
     let inside = prefix_len-drop_inside (is_capital meaning) (drop i print) n (omega arith) in
     let same : prefix_len (is_capital meaning) (drop n (drop i print)) ≡ prefix_len (is_capital meaning) (drop (i + n) print) = ap (prefix_len (is_capital meaning)) (drop-drop n i print) in
     omega arith
-
-second : {A : Type 0} (b c : Bool) (x y z : A) → b ≡ false → c ≡ true → cond b x (cond c y z) ≡ y
-second b c x y z p q = rw (p, q) refl
-
-third : {A : Type 0} (b c : Bool) (x y z : A) → b ≡ false → c ≡ false → cond b x (cond c y z) ≡ z
-third b c x y z p q = rw (p, q) refl
-
-pub sign_at-digit : (meaning : Meaning) (print : List ℕ) (i : ℕ) → is_digit_at meaning print i ≡ true
-    → sign_at meaning print i ≡ cond (follows_number meaning print i) [] meaning.numsign
-sign_at-digit meaning print i digit = first (is_digit_at meaning print i) _ _ digit
-  where
-    first : (b : Bool) (x y : List ℕ) → b ≡ true → cond b x y ≡ x
-    first b x y p = rw p refl
-
-pub sign_at-capital : (meaning : Meaning) (print : List ℕ) (i : ℕ) → is_digit (class_at meaning print i) ≡ false → i < run_end meaning print i → sign_at meaning print i ≡ capital_sign meaning print i
-sign_at-capital meaning print i digit lt =
-    second (is_digit (class_at meaning print i)) (is_capital_at meaning print i) _ _ _ digit (is_capital_at-run meaning print i ∙ grind (arith, nat_tests))
-
-sign_at-other : (meaning : Meaning) (print : List ℕ) (i : ℕ) → is_digit (class_at meaning print i) ≡ false → run_end meaning print i ≤ i → sign_at meaning print i ≡ cond (ends_number meaning print i) meaning.nocontractsign []
-sign_at-other meaning print i digit le =
-    third (is_digit (class_at meaning print i)) (is_capital_at meaning print i) _ _ _ digit (is_capital_at-run meaning print i ∙ grind (arith, nat_tests))
-
-pub sign_at-after_number : (meaning : Meaning) (print : List ℕ) (i : ℕ) → is_digit (class_at meaning print i) ≡ false → run_end meaning print i ≤ i
-    → ends_number meaning print i ≡ true → sign_at meaning print i ≡ meaning.nocontractsign
-sign_at-after_number meaning print i digit le ends =
-    sign_at-other meaning print i digit le ∙ ap (λ (b : Bool). cond b meaning.nocontractsign []) ends
-
-pub sign_at-none : (meaning : Meaning) (print : List ℕ) (i : ℕ) → is_digit (class_at meaning print i) ≡ false → run_end meaning print i ≤ i
-    → ends_number meaning print i ≡ false → sign_at meaning print i ≡ []
-sign_at-none meaning print i digit le ends =
-    sign_at-other meaning print i digit le ∙ ap (λ (b : Bool). cond b meaning.nocontractsign []) ends
 
 -- the sign of a print that is known under another name
 pub sign_at-same : (meaning table : Meaning) (print p : List ℕ) (i k : ℕ) → meaning ≡ table → print ≡ p → i ≡ k → sign_at table p k ≡ sign_at meaning print i

@@ -165,23 +165,6 @@ module _ (meaning : Meaning) (print : List ℕ) (i d : ℕ) (here : List ℕ) (s
         ];
       }
 
-  -- the first of the list that may be used is longer than all before
-  pub IsBestBelow-take : (k : ℕ) → IsFirstOf meaning print i here (Some k) → IsBestBelow meaning print i (d + 1) (Some k)
-  IsBestBelow-take k first =
-      let s = span_here k first.0 in
-      let lt = has_within meaning.rules k (take d (folded_from meaning print i)) (those.right k first.0) in
-      record {
-        candidate = first.1;
-        definition = elim (cases_order 1 d) [
-          | inl e ↦ inr (e ∙ sym s, omega arith)
-          | inr ne ↦ elim ne [ inl less ↦ inl (omega arith) | inr gt ↦ absurd (omega arith) ]
-        ];
-        best = λ j h below. elim (cases_order (span meaning (Some j)) d) [
-          | inl e ↦ inr (e ∙ sym s, first.2 j (those.all j h e) h)
-          | inr ne ↦ elim ne [ inl less ↦ inl (omega arith) | inr gt ↦ absurd (omega arith) ]
-        ];
-      }
-
 -- none of the first x of a list may be used
 abbrev pub NoneBefore : Meaning → List ℕ → ℕ → List ℕ → ℕ → Type 0
 NoneBefore meaning print i here x = (j y : ℕ) → y < x → slice_get here y ≡ Some j → IsCandidate meaning print i (Some j) → ⊥

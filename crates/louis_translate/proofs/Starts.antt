@@ -1,10 +1,9 @@
 -- Where walks begin.
-use Rattle.std.proofs.Common.{◌≡◌, ℕ, ◌+◌, ◌*◌, ◌/◌, ◌%◌, ◌-◌, ◌⊎◌, List, [], ◌∷◌, ◌++◌, length, Option, Some, None, refl, sym, ap, subst, ◌∙◌, arith, inl, inr}
+use Rattle.std.proofs.Common.{◌≡◌, ℕ, ◌+◌, ◌*◌, ◌/◌, ◌%◌, ◌-◌, ◌⊎◌, List, [], Option, Some, None, refl, sym, ap, subst, ◌∙◌, arith, inl, inr}
 use Rattle.std.specs.Prelude.{slice_get}
 use Rattle.std.specs.Option.{option_and_then}
 use Rattle.std.proofs.lemmas.Option.{slice_get_within}
-use Rattle.louis_table.specs.Meaning.{Meaning, folded}
-use Rattle.louis_translate.specs.declared.rule_tree.RuleTree.{RuleTree}
+use Rattle.louis_table.specs.Meaning.{folded}
 use Rattle.louis_translate.specs.declared.indexed_table.IndexedTable.{IndexedTable}
 use Rattle.louis_translate.specs.declared.start.Start.{Start}
 use Rattle.louis_translate.specs.declared.start.Start.TheVariants.{Nowhere, Group, Child}
@@ -12,22 +11,7 @@ use Rattle.louis_translate.specs.Choice.{IsChosen}
 use Rattle.louis_translate.specs.Tree.{leads, rules_at}
 use Rattle.louis_translate.specs.Search.{IsBestBelow, IsFirstOf, IsOnWay, IsWhole}
 use Rattle.louis_translate.specs.Start.{AreStarts, IsStart, MayStart, StandsAt}
-use Rattle.louis_translate.proofs.Trees.{get_either}
 use Rattle.louis_translate.proofs.Searches.{AreThose-on_way, IsBestBelow-first, IsBestBelow-keep, IsOnWay-first, IsOnWay-next, chosen_at_end, chosen_nowhere}
-
-pub AreStarts-none : (meaning : Meaning) (tree : RuleTree) (starts : List Start) → starts ≡ [] → AreStarts meaning tree starts
-AreStarts-none meaning tree starts none = record { each = λ i start h. let g = sym (ap (λ (xs : List Start). slice_get xs i) none) ∙ h in absurd cc }
-
-pub AreStarts-push : (meaning : Meaning) (tree : RuleTree) (starts more : List Start) (s : Start) → AreStarts meaning tree starts → more ≡ starts ++ s ∷ [] → IsStart tree (folded meaning (length starts / 128)) (folded meaning (length starts % 128)) s → AreStarts meaning tree more
-AreStarts-push meaning tree starts more s are is new =
-    record {
-      each = λ i start h. elim (get_either starts s i start (sym (ap (λ (xs : List Start). slice_get xs i) is) ∙ h)) [
-        | inl old ↦ are.each i start old
-        | inr p ↦
-            subst (λ (k : ℕ). IsStart tree (folded meaning (k / 128)) (folded meaning (k % 128)) start) (sym p.0)
-            (subst (λ (x : Start). IsStart tree (folded meaning (length starts / 128)) (folded meaning (length starts % 128)) x) (sym p.1) new)
-      ];
-    }
 
 module _ (index : IndexedTable) (starts : List Start) (t : IsWhole index) (are : AreStarts index.table index.tree starts) where
   stands : (a b : ℕ) (start : Start) → StandsAt starts a b start → (start ≡ Group) ⊎ IsStart index.tree (folded index.table a) (folded index.table b) start

@@ -1,16 +1,24 @@
 -- Tilings: one for each print.
 use Rattle.std.proofs.Common.{◌≡◌, ℕ, zero, suc, ◌+◌, ◌-◌, ◌<◌, ◌≤◌, ◌⊎◌, List, [], ◌∷◌, ◌++◌, length, take, drop, Option, Some, None, refl, sym, ap, subst, ◌∙◌, arith, inl, inr}
-use Rattle.std.specs.Prelude.{slice_get, map}
-use Rattle.std.proofs.lemmas.Bool.{cases_order, cases_Bool, both_ways}
+use Rattle.std.specs.Prelude.{slice_get, map, true, false, ◌&&◌, nat_lt, if◌then◌else◌}
+use Rattle.std.specs.Bool.{Decides}
+use Rattle.std.specs.List.{list_all, range_with_len}
+use Rattle.std.specs.Option.{option_map_or}
+use Rattle.std.specs.Str.{bytes_eq}
+use Rattle.std.proofs.lemmas.Bool.{cases_order, cases_Bool, both_ways, eqb-true, eq-eqb, ltb-true, lt-ltb}
+use Rattle.std.proofs.lemmas.Bool.Decides.{nat_tests}
+use Rattle.std.proofs.lemmas.Slice.Eq.{bytes_eq-Decides}
 use Rattle.std.proofs.Math.Numerals.{add-one}
 use Rattle.louis_table.specs.Meaning.{Meaning, folded}
 use Rattle.louis_table.specs.declared.rule.Rule.{Rule}
 use Rattle.louis_translate.specs.declared.choices.Choice.{Choice}
 use Rattle.louis_translate.specs.Position.{fits}
 use Rattle.louis_translate.specs.Sign.{sign_at}
-use Rattle.louis_translate.specs.Choice.{Matches, IsCandidate, span, rank, IsChosen}
-use Rattle.louis_translate.specs.Tiling.{IsChoiceAt, Covers, Tiles}
-use Rattle.louis_translate.proofs.Best.{BestBelow, BestBelow-none, BestBelow-longer, BestBelow-first, BestBelow-pass, BestBelow-all, YieldsTo-shorter, YieldsTo-later, candidate_below}
+use Rattle.louis_translate.specs.Choice.{Matches, IsCandidate, span, rank, YieldsTo, IsChosen}
+use Rattle.louis_translate.specs.Left.{has_no_sign, matches, to_beat, goes_before, chosen_of, choice_at, some_from, choices_from}
+use Rattle.louis_translate.specs.Tiling.{IsChoiceAt, Covers, AreLast, Tiles}
+use Rattle.louis_translate.proofs.Best.{BestBelow, BestBelow-none, BestBelow-longer, BestBelow-first, BestBelow-pass, BestBelow-all, YieldsTo-shorter, YieldsTo-later, YieldsTo-empty, candidate_below}
+use Rattle.louis_translate.proofs.Numbers.{all_in_range, in_range_of_all}
 use Rattle.louis_translate.proofs.Spans.{span-positive, span-fits}
 
 -- ---- one choice at a place
@@ -57,6 +65,17 @@ Covers-next meaning print i (x ∷ t) c h lt d =
     let same : x ≡ c = same_choice meaning print i x c h.1 d in
     (t, ap (λ (y : Choice). y ∷ t) same, subst (λ (y : Choice). Covers meaning print y.end t (length print)) same h.2)
 
+-- the first of the last choices of a tiling, and those after it
+pub AreLast-next : (meaning : Meaning) (print : List ℕ) (choices others : List Choice) (c : Choice) → AreLast meaning print choices → choices ≡ c ∷ others
+    → (c.start < length print) × IsChoiceAt meaning print c.start c × AreLast meaning print others
+AreLast-next meaning print choices others c (i, covers) e =
+    let here = subst (λ (t : List Choice). Covers meaning print i t (length print)) e covers in
+    let start = here.1.start in (
+      omega (arith, here.0),
+      subst (λ (k : ℕ). IsChoiceAt meaning print k c) (sym start) here.1,
+      (c.end, here.2),
+    )
+
 -- ---- what choices cover
 
 pub Covers-push : (meaning : Meaning) (print : List ℕ) (i j : ℕ) (t : List Choice) (c : Choice) → Covers meaning print i t j → j < length print → IsChoiceAt meaning print j c → Covers meaning print i (t ++ c ∷ []) c.end
@@ -67,117 +86,138 @@ pub Covers-append : (meaning : Meaning) (print : List ℕ) (i j k : ℕ) (t u : 
 Covers-append meaning print i j k [] u h l = subst (λ (x : ℕ). Covers meaning print x u k) (sym h) l
 Covers-append meaning print i j k (x ∷ t) u h l = (h.0, h.1, Covers-append meaning print x.end j k t u h.2 l)
 
--- a step of the iterator
-pub Covers-step : (meaning m : Meaning) (print p : List ℕ) (i j : ℕ) (t : List Choice) (c : Choice) → m ≡ meaning → p ≡ print → Covers meaning print 0 t i → (i < length p) × IsChoiceAt m p i c × (j ≡ c.end) → Covers meaning print 0 (t ++ c ∷ []) j
-Covers-step meaning m print p i j t c e f h s =
-    rw s.2 (Covers-push meaning print 0 i t c h (rw f at s.0) (rw (e, f) at s.1))
+-- ---- the tiling as a function
 
--- ---- a tiling exists
-
-same_list : (xs ys : List ℕ) → (xs ≡ ys) ⊎ (xs ≡ ys → ⊥)
-same_list [] [] = inl refl
-same_list [] (y ∷ ys) = inr (λ e. cc)
-same_list (x ∷ xs) [] = inr (λ e. cc)
-same_list (x ∷ xs) (y ∷ ys) =
-    elim (cases_order x y) [
-      | inl e ↦ elim (same_list xs ys) [
-        | inl es ↦ inl (cc)
-        | inr other ↦ inr (λ both. other (cc))
-      ]
-      | inr other ↦ inr (λ both. let same : x ≡ y = cc in elim other [ inl less ↦ absurd (omega arith) | inr more ↦ absurd (omega arith) ])
-    ]
-
-no_signs_inside : (meaning : Meaning) (print : List ℕ) (i n : ℕ)
-    → ((k : ℕ) → i < k → k < i + n → sign_at meaning print k ≡ []) ⊎ (((k : ℕ) → i < k → k < i + n → sign_at meaning print k ≡ []) → ⊥)
-no_signs_inside meaning print i zero = inl (λ k more less. absurd (omega arith))
-no_signs_inside meaning print i (suc n) =
-    elim (cases_order n 0) [
-      | inl none ↦ inl (λ k more less. absurd (omega arith))
-      | inr other ↦ elim (no_signs_inside meaning print i n) [
-        | inr signed ↦ inr (λ all. signed (λ k more less. all k more (omega arith)))
-        | inl below ↦ elim (same_list (sign_at meaning print (i + n)) []) [
-          | inr signed ↦ inr (λ all. signed (all (i + n) (elim other [ inl less ↦ absurd (omega arith) | inr more ↦ omega arith ]) (omega arith)))
-          | inl here ↦ inl (λ k more less. elim (cases_order k (i + n)) [
-            | inl e ↦ ap (sign_at meaning print) e ∙ here
-            | inr ne ↦ elim ne [ inl under ↦ below k more under | inr over ↦ absurd (omega arith) ]
-          ])
-        ]
-      ]
-    ]
-
-matches_or : (meaning : Meaning) (print : List ℕ) (i : ℕ) (rule : Rule) → Matches meaning print i rule ⊎ (Matches meaning print i rule → ⊥)
-matches_or meaning print i rule =
-    elim (same_list (map (folded meaning) (take (length rule.chars) (drop i print))) rule.chars) [
-      | inr other ↦ inr (λ m. other m.characters)
-      | inl same ↦ elim (cases_Bool (fits meaning print rule.kind i (i + length rule.chars))) [
-        | inr not ↦ inr (λ m. absurd (both_ways _ not m.position))
-        | inl holds ↦ elim (no_signs_inside meaning print i (length rule.chars)) [
-          | inr signed ↦ inr (λ m. signed m.no_sign_inside)
-          | inl none ↦ inl (record { characters = same; position = holds; no_sign_inside = none })
-        ]
-      ]
-    ]
-
-step_best : (meaning : Meaning) (print : List ℕ) (i k : ℕ) (found : Option ℕ) (most : ℕ) → k < length meaning.rules → BestBelow meaning print i k found most → (f : Option ℕ) × (n : ℕ) × BestBelow meaning print i (k + 1) f n
-step_best meaning print i k found most lt b =
-    elim (matches_or meaning print i rule) [
-      | inr fails ↦ (found, most, BestBelow-pass meaning print i k found most rule there lt b (λ m. absurd (fails m)))
-      | inl holds ↦ elim (cases_order most (length rule.chars)) [
-        | inl same ↦ elim (none_or found) [
-          | inl none ↦ (Some k, length rule.chars, BestBelow-first meaning print i k found most rule there lt b holds same none)
-          | inr some ↦ (found, most, BestBelow-pass meaning print i k found most rule there lt b (λ _. YieldsTo-later meaning print i k found most rule there lt b same some))
-        ]
-        | inr ne ↦ elim ne [
-          | inl less ↦ (Some k, length rule.chars, BestBelow-longer meaning print i k found most rule there lt b holds less)
-          | inr more ↦ (found, most, BestBelow-pass meaning print i k found most rule there lt b (λ _. YieldsTo-shorter meaning print i k found most rule there lt b more))
-        ]
-      ]
-    ]
+no_signs_decide : (meaning : Meaning) (print : List ℕ) (i n : ℕ)
+    → Decides (list_all (has_no_sign meaning print) (range_with_len (i + 1) (n - 1))) ((k : ℕ) → i < k → k < i + n → sign_at meaning print k ≡ [])
+no_signs_decide meaning print i n = (
+  (λ all k more less. none (sign_at meaning print k) (eqb-true _ _ (in_range_of_all (has_no_sign meaning print) (i + 1) (n - 1) all k (omega arith) (omega arith)))),
+  (λ each. all_in_range (has_no_sign meaning print) (i + 1) (n - 1) (λ k more less. eq-eqb _ _ (ap length (each k (omega arith) (omega arith))))),
+)
   where
-    at_place : (rs : List Rule) (k : ℕ) → k < length rs → (r : Rule) × (slice_get rs k ≡ Some r)
-    at_place [] k h = absurd (omega arith)
-    at_place (r ∷ rs) zero h = (r, refl)
-    at_place (r ∷ rs) (suc k) h = at_place rs k (omega arith)
+    none : (xs : List ℕ) → length xs ≡ 0 → xs ≡ []
+    none [] e = refl
+    none (x ∷ xs) e = absurd (omega arith)
 
-    rule : Rule
-    rule = (at_place meaning.rules k lt).0
-
-    there : slice_get meaning.rules k ≡ Some rule
-    there = (at_place meaning.rules k lt).1
-
-    none_or : (o : Option ℕ) → (o ≡ None) ⊎ (o ≡ None → ⊥)
-    none_or None = inl refl
-    none_or (Some x) = inr (λ e. cc)
-
-best_upto : (meaning : Meaning) (print : List ℕ) (i k : ℕ) → k ≤ length meaning.rules → (f : Option ℕ) × (n : ℕ) × BestBelow meaning print i k f n
-best_upto meaning print i zero h = (None, 1, BestBelow-none meaning print i)
-best_upto meaning print i (suc k) h =
-    let b = best_upto meaning print i k (omega arith) in
-    let s = step_best meaning print i k b.0 b.1 (omega arith) b.2 in
-    (s.0, s.1, rw (← add-one) s.2)
-
-pub some_chosen : (meaning : Meaning) (print : List ℕ) (i : ℕ) → (c : Option ℕ) × IsChosen meaning print i c
-some_chosen meaning print i =
-    let b = best_upto meaning print i (length meaning.rules) (omega arith) in
-    (b.0, BestBelow-all meaning print i (length meaning.rules) b.0 b.1 (omega arith) b.2)
-
--- from each place the rest of the print is covered; the second number bounds what is left
-pub some_cover : (meaning : Meaning) (print : List ℕ) (n i : ℕ) → i ≤ length print → length print - i ≤ n → (t : List Choice) × Covers meaning print i t (length print)
-some_cover meaning print zero i h m = ([], omega arith)
-some_cover meaning print (suc n) i h m =
-    elim (cases_order i (length print)) [
-      | inl e ↦ ([], e)
-      | inr ne ↦ elim ne [
-        | inl lt ↦
-            let c = some_chosen meaning print i in
-            let positive = span-positive meaning print i c.0 c.1 in
-            let rest = some_cover meaning print n (i + span meaning c.0) (span-fits meaning print i c.0 lt c.1.candidate) (omega arith) in
-            (record { rule = c.0; start = i; end = i + span meaning c.0 } ∷ rest.0, (lt, record { start = refl; end = refl; chosen = c.1 }, rest.1))
-        | inr gt ↦ absurd (omega arith)
+matches_tells : (meaning : Meaning) (print : List ℕ) (i : ℕ) (rule : Rule)
+    → ((matches meaning print i rule ≡ true) × Matches meaning print i rule) ⊎ ((matches meaning print i rule ≡ false) × (Matches meaning print i rule → ⊥))
+matches_tells meaning print i rule =
+    let chars = map (folded meaning) (take (length rule.chars) (drop i print)) in
+    let same = bytes_eq-Decides chars rule.chars in
+    let none = no_signs_decide meaning print i (length rule.chars) in
+    elim (cases_Bool (bytes_eq chars rule.chars)) [
+      | inr other ↦ inr (rw other refl, λ m. both_ways _ other (same.1 m.characters))
+      | inl is ↦ elim (cases_Bool (fits meaning print rule.kind i (i + length rule.chars))) [
+        | inr not ↦ inr (rw (is, not) refl, λ m. both_ways _ not m.position)
+        | inl holds ↦ elim (cases_Bool (list_all (has_no_sign meaning print) (range_with_len (i + 1) (length rule.chars - 1)))) [
+          | inr signed ↦ inr (rw (is, holds, signed) refl, λ m. both_ways _ signed (none.1 m.no_sign_inside))
+          | inl free ↦ inl (rw (is, holds, free) refl, record { characters = same.0 is; position = holds; no_sign_inside = none.0 free })
+        ]
       ]
     ]
+
+at_place : (rs : List Rule) (k : ℕ) → k < length rs → (r : Rule) × (slice_get rs k ≡ Some r)
+at_place [] k h = absurd (omega arith)
+at_place (r ∷ rs) zero h = (r, refl)
+at_place (r ∷ rs) (suc k) h = at_place rs k (omega arith)
+
+not_less : (a b : ℕ) → nat_lt a b ≡ false → b ≤ a
+not_less a b fails = elim (cases_order a b) [
+  | inl e ↦ omega arith
+  | inr ne ↦ elim ne [ inl less ↦ absurd (both_ways _ fails (lt-ltb a b less)) | inr gt ↦ omega arith ]
+]
+
+module _ (meaning : Meaning) (print : List ℕ) (i : ℕ) where
+  -- what was found, after one more rule
+  step_best : (k : ℕ) (found : Option ℕ) (most : ℕ) → k < length meaning.rules → BestBelow meaning print i k found most
+      → (n : ℕ) × BestBelow meaning print i (k + 1) (if goes_before meaning print i k found then Some k else found) n
+  step_best k found most lt b =
+      let at = at_place meaning.rules k lt in
+      let rule = at.0 in
+      let is : goes_before meaning print i k found ≡ (matches meaning print i rule && nat_lt (to_beat meaning found) (length rule.chars)) =
+      ap (λ (o : Option Rule). option_map_or (λ r. matches meaning print i r && nat_lt (to_beat meaning found) (length r.chars)) o false) at.1 in
+      elim (matches_tells meaning print i rule) [
+        | inr fails ↦
+            let passed : goes_before meaning print i k found ≡ false = is ∙ rw fails.0 refl in
+            (most, rw passed (BestBelow-pass meaning print i k found most rule at.1 lt b (λ m. absurd (fails.1 m))))
+        | inl holds ↦ elim (cases_Bool (nat_lt (to_beat meaning found) (length rule.chars))) [
+          | inl longer ↦
+              let taken : goes_before meaning print i k found ≡ true = is ∙ rw (holds.0, longer) refl in
+              (length rule.chars, rw taken (better found most rule at.1 lt b holds.1 (ltb-true _ _ longer)))
+          | inr not ↦
+              let passed : goes_before meaning print i k found ≡ false = is ∙ rw (holds.0, not) refl in
+              (most, rw passed (BestBelow-pass meaning print i k found most rule at.1 lt b (λ _. worse found most rule at.1 lt b not)))
+        ]
+      ]
+    where
+      better : (found : Option ℕ) (most : ℕ) (rule : Rule) → slice_get meaning.rules k ≡ Some rule → k < length meaning.rules → BestBelow meaning print i k found most
+          → Matches meaning print i rule → to_beat meaning found < length rule.chars → BestBelow meaning print i (k + 1) (Some k) (length rule.chars)
+      better None most rule there lt b m more =
+          let one = b.most_is in
+          elim (cases_order most (length rule.chars)) [
+            | inl same ↦ BestBelow-first meaning print i k None most rule there lt b m same refl
+            | inr ne ↦ elim ne [ inl less ↦ BestBelow-longer meaning print i k None most rule there lt b m less | inr gt ↦ absurd (omega arith) ]
+          ]
+      better (Some j) most rule there lt b m more = let was = b.most_is in BestBelow-longer meaning print i k (Some j) most rule there lt b m (omega arith)
+
+      worse : (found : Option ℕ) (most : ℕ) (rule : Rule) → slice_get meaning.rules k ≡ Some rule → k < length meaning.rules → BestBelow meaning print i k found most
+          → nat_lt (to_beat meaning found) (length rule.chars) ≡ false → YieldsTo meaning (Some k) found
+      worse None most rule there lt b not =
+          let le : length rule.chars ≤ 0 = not_less _ _ not in YieldsTo-empty meaning print i k None most rule there lt b (omega arith)
+      worse (Some j) most rule there lt b not =
+          let le : length rule.chars ≤ span meaning (Some j) = not_less _ _ not in
+          let was = b.most_is in
+          elim (cases_order most (length rule.chars)) [
+            | inl same ↦ YieldsTo-later meaning print i k (Some j) most rule there lt b same (λ e. cc)
+            | inr ne ↦ elim ne [ inl less ↦ absurd (omega arith) | inr gt ↦ YieldsTo-shorter meaning print i k (Some j) most rule there lt b gt ]
+          ]
+
+  best_of : (k : ℕ) → k ≤ length meaning.rules → (n : ℕ) × BestBelow meaning print i k (chosen_of meaning print i k) n
+  best_of zero h = (1, BestBelow-none meaning print i)
+  best_of (suc k) h =
+      let b = best_of k (omega arith) in
+      let s = step_best k (chosen_of meaning print i k) b.0 (omega arith) b.1 in
+      (s.0, rw (← add-one) s.1)
+
+  pub choice_at-chosen : IsChoiceAt meaning print i (choice_at meaning print i)
+  choice_at-chosen =
+      let b = best_of (length meaning.rules) (omega arith) in
+      record { start = refl; end = refl; chosen = BestBelow-all meaning print i (length meaning.rules) _ b.0 (omega arith) b.1 }
+
+module _ (meaning : Meaning) (print : List ℕ) where
+  some_from-covers : (n i : ℕ) → i ≤ length print → length print - i ≤ n → Covers meaning print i (some_from meaning print n i) (length print)
+  some_from-covers zero i h m = omega arith
+  some_from-covers (suc n) i h m =
+      elim (cases_order i (length print)) [
+        | inl e ↦ let after : nat_lt i (length print) ≡ false = grind (arith, nat_tests) in rw after e
+        | inr ne ↦ elim ne [
+          | inl lt ↦
+              let before : nat_lt i (length print) ≡ true = lt-ltb i (length print) lt in
+              let is = choice_at-chosen meaning print i in
+              let positive = span-positive meaning print i _ is.chosen in
+              let within = span-fits meaning print i _ lt is.chosen.candidate in
+              rw before (lt, is, some_from-covers n (choice_at meaning print i).end (omega arith) (omega arith))
+          | inr gt ↦ absurd (omega arith)
+        ]
+      ]
+
+  -- from each place on the print is covered
+  pub choices_from-covers : (i : ℕ) → i ≤ length print → Covers meaning print i (choices_from meaning print i) (length print)
+  choices_from-covers i h = some_from-covers (length print) i h (omega arith)
+
+  pub choices_from-end : choices_from meaning print (length print) ≡ []
+  choices_from-end = one_cover meaning print (length print) (choices_from meaning print (length print)) [] (choices_from-covers (length print) (omega arith)) refl
+
+  -- the chosen one is the first of what is left
+  pub choices_from-next : (i : ℕ) (c : Choice) → i < length print → IsChoiceAt meaning print i c
+      → choices_from meaning print i ≡ c ∷ choices_from meaning print c.end
+  choices_from-next i c lt is =
+      let next = Covers-next meaning print i (choices_from meaning print i) c (choices_from-covers i (omega arith)) lt is in
+      let end : c.end ≤ length print = let e = is.end in let within = span-fits meaning print i c.rule lt is.chosen.candidate in omega arith in
+      next.1 ∙ ap (λ (t : List Choice). c ∷ t) (one_cover meaning print c.end next.0 (choices_from meaning print c.end) next.2 (choices_from-covers c.end end))
 
 pub one_tiling : (meaning : Meaning) (print : List ℕ) → (t : List Choice) × Tiles meaning print t × ((u : List Choice) → Tiles meaning print u → u ≡ t)
 one_tiling meaning print =
-    let t = some_cover meaning print (length print) 0 (omega arith) (omega arith) in
-    (t.0, t.1, λ u h. one_cover meaning print 0 u t.0 h t.1)
+    let t = choices_from meaning print 0 in
+    let tiles = choices_from-covers meaning print 0 (omega arith) in
+    (t, tiles, λ u h. one_cover meaning print 0 u t h tiles)

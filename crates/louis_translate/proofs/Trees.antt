@@ -135,10 +135,6 @@ way_within rules k tree t (c ∷ d ∷ cs) from n some h = way_within rules k tr
 
 -- ---- one step
 
-pub LeadsFrom-known : (tree : RuleTree) (from : Option ℕ) (c n : ℕ) → leads tree from c ≡ Some n → LeadsFrom tree tree from c n
-LeadsFrom-known tree from c n h =
-    record { leads_to = h; node = inl h; len = omega arith; stays = λ f d m e. e; comes = λ f d m e. inl e; rules = λ m. refl }
-
 module _ (tree more : RuleTree) (c n : ℕ) (adds : AddsNode tree.nodes.items more.nodes.items) (place : n ≡ length tree.nodes.items) (absent : leads tree None c ≡ None) (is : more.groups ≡ tree.groups ++ (c, n) ∷ []) where
   group_stays : (f : Option ℕ) (d m : ℕ) → leads tree f d ≡ Some m → leads more f d ≡ Some m
   group_stays None d m h = ap (lookup (nat_eq d)) is ∙ lookup_old tree.groups (c, n) d m h

@@ -1,23 +1,10 @@
--- What comes next of the choices of a print, and of their cells.
-use Rattle.std.specs.Prelude.{◌≡◌, ℕ, ◌<◌, List, length, Option, MatchOption}
+-- What stands for a print, choice by choice.
+use Rattle.std.specs.Prelude.{ℕ, List, ◌++◌}
 use Rattle.louis_table.specs.Meaning.{Meaning}
 use Rattle.louis_translate.specs.declared.choices.Choice.{Choice}
 use Rattle.louis_translate.specs.declared.pieces.Piece.{Piece}
-use Rattle.louis_translate.specs.Remainder.{Remainder}
 use Rattle.louis_translate.specs.Sign.{sign_at}
-use Rattle.louis_translate.specs.Tiling.{IsChoiceAt}
 use Rattle.louis_translate.specs.Braille.{chosen_cells}
-use Rattle.louis_translate.specs.Piece.{IsPieceAt}
-
--- the next choice is the chosen one at the place that was reached; after the print's end there is none
-abbrev pub GivesChoice : Remainder → Option Choice → Remainder → Type 0
-GivesChoice s r t = MatchOption r ((s.at ≡ length s.print) × (t ≡ s))
-    (λ choice. (s.at < length s.print) × IsChoiceAt s.meaning s.print s.at choice × (t ≡ record s { at = choice.end }))
-
--- and the next piece has its cells
-abbrev pub GivesPiece : Remainder → Option Piece → Remainder → Type 0
-GivesPiece s r t = MatchOption r ((s.at ≡ length s.print) × (t ≡ s))
-    (λ piece. (s.at < length s.print) × IsPieceAt s.meaning s.print s.at piece × (t ≡ record s { at = piece.choice.end }))
 
 -- a choice, the sign before its start, and its cells
 pub record Made : Type 0 where
@@ -37,6 +24,6 @@ made_by meaning print choice = record {
   own = chosen_cells meaning print choice.start choice.rule;
 }
 
--- a whole print
-abbrev pub whole : Meaning → List ℕ → Remainder
-whole meaning print = record { meaning = meaning; print = print; at = 0 }
+-- its cells, the sign first
+abbrev pub made_cells : Made → List ℕ
+made_cells made = made.sign ++ made.own

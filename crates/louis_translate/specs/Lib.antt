@@ -6,10 +6,10 @@ pub mod Choice
 pub mod Tree
 pub mod Search
 pub mod Start
-pub mod Remainder
 pub mod Tiling
 pub mod Braille
 pub mod Piece
 pub mod Items
+pub mod Left
 pub mod Profiles
 pub mod Reading

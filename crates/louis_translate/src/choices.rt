@@ -18,7 +18,8 @@ pub struct Choice {
     pub end: usize,
 }
 
-/// The choices that cover a print from its front to its end, each chosen at its start. It takes no memory.
+/// The choices that cover a print from its front to its end, each chosen at its start. It takes no memory. Contracts see
+/// the list of those that are left.
 #[derive(Drop)]
 pub struct Choices<'a, B: RuleBook> {
     book: &'a B,
@@ -28,40 +29,38 @@ pub struct Choices<'a, B: RuleBook> {
 
 impl<'a, B: RuleBook> Model for Choices<'a, B> {
     ghost use Rattle.louis_translate.specs.Position.{AreDefined};
-    ghost use Rattle.louis_translate.specs.Remainder.{Remainder};
-    ghost use Rattle.std.specs.Prelude.{◌≤◌, length};
+    ghost use Rattle.louis_translate.specs.Left.{choices_from};
+    ghost use Rattle.louis_translate.specs.declared.choices.Choice.{Choice};
+    ghost use Rattle.std.specs.Prelude.{◌≤◌, List, length};
 
-    ghost Value = { Remainder };
+    ghost Value = { List Choice };
 
-    ghost view = { λ c. record { meaning = B.meaning c.book.now; print = c.print.now; at = c.at } };
+    ghost view = { λ c. choices_from (B.meaning c.book.now) c.print.now c.at };
 
     ghost invariant = { λ c. (c.at ≤ length c.print.now) × AreDefined (B.meaning c.book.now) c.print.now };
 }
 
 impl<'a, B: RuleBook> Choices<'a, B> {
-    ghost use Rattle.louis_translate.specs.Items.{whole};
     ghost use Rattle.louis_translate.specs.Position.{AreDefined};
-    ghost use Rattle.std.specs.Prelude.{◌≡◌};
+    ghost use Rattle.louis_translate.specs.Tiling.{Tiles};
 
-    /// The choices of a print whose characters the table defines.
+    /// The choices of a print whose characters the table defines: its tiling.
     pub fn new(book: &'a B, print: &'a [char]) -> Self
         requires { AreDefined (B.meaning book.now) print.now }
-        ensures { result ≡ whole (B.meaning book.now) print.now }
+        ensures { Tiles (B.meaning book.now) print.now result }
     {
         Choices { book, print, at: 0 }
     }
 }
 
 impl<'a, B: RuleBook> Iterator for Choices<'a, B> {
-    ghost use Rattle.louis_translate.specs.Items.{GivesChoice};
-    ghost use Rattle.std.specs.Iterator.{at_most};
-    ghost use Rattle.std.specs.Prelude.{◌-◌, length};
+    ghost use Rattle.std.specs.Iterator.{YieldsFirst, item_count};
 
     type Item = Choice;
 
-    ghost next_gives = { GivesChoice };
+    ghost next_gives = { YieldsFirst (λ left. left) };
 
-    ghost remaining = { λ s. at_most (length s.print - s.at) };
+    ghost remaining = { item_count (λ left. left) };
 
     fn next(&mut self) -> Option<Choice> {
         if self.at == self.print.len() {

@@ -3,14 +3,12 @@ ghost use Rattle.louis_table.specs.Meaning.{Meaning};
 ghost use Rattle.louis_table.specs.Profile.{WithoutNumericMode};
 ghost use Rattle.louis_table.specs.Table.{Means, MeansIn};
 ghost use Rattle.louis_translate.specs.Braille.{IsAmong, IsOutputPlace, braille, chosen_cells};
-ghost use Rattle.louis_translate.specs.Items.{GivesChoice, GivesPiece, made_by, shown, whole};
 ghost use Rattle.louis_translate.specs.Position.{AreDefined};
 ghost use Rattle.louis_translate.specs.Profiles.{AreAlike, HasNoNumericMode};
 ghost use Rattle.louis_translate.specs.Sign.{IsInNumericMode, IsRun, is_capital_at, is_in_numeric_mode, run_end, run_start};
 ghost use Rattle.louis_translate.specs.Tiling.{Tiles};
 ghost use Rattle.louis_translate.specs.declared.choices.Choice.{Choice};
-ghost use Rattle.std.specs.Iterator.{AlwaysYields};
-ghost use Rattle.std.specs.Prelude.{◌≡◌, ◌↔◌, ◌<◌, ℕ, List, length, map, true};
+ghost use Rattle.std.specs.Prelude.{◌≡◌, ◌↔◌, ◌<◌, ℕ, List, length, true};
 
 /// Each print has exactly one tiling.
 pub fn one_tiling()
@@ -30,14 +28,6 @@ pub fn cells()
         → Means bytes meaning → AreDefined meaning print → Tiles meaning print choices
         → (i place : ℕ) → IsOutputPlace meaning print choices i place
         → place < length (braille meaning print choices) }
-{}
-
-/// From a new one to its end, the choices of a print are its tiling, and the pieces are what these choices make.
-pub fn items_tile()
-    ensures choices { (meaning : Meaning) (print : List ℕ) (choices : List Choice) → Tiles meaning print choices
-        → AlwaysYields GivesChoice (λ choice. choice) (whole meaning print) choices }
-    ensures pieces { (meaning : Meaning) (print : List ℕ) (choices : List Choice) → Tiles meaning print choices
-        → AlwaysYields GivesPiece shown (whole meaning print) (map (made_by meaning print) choices) }
 {}
 
 /// Around each capital, its run is the longest interval of neighbouring capitals.

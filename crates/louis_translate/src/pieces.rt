@@ -23,7 +23,8 @@ pub struct Piece<'a> {
     pub own: &'a [Cell],
 }
 
-/// The pieces of a print's braille from its front to its end, one for each choice. It takes no memory.
+/// The pieces of a print's braille from its front to its end, one for each choice. It takes no memory. Contracts see the
+/// list of what those that are left show.
 #[derive(Drop)]
 pub struct Pieces<'a, B: RuleBook> {
     book: &'a B,
@@ -33,27 +34,29 @@ pub struct Pieces<'a, B: RuleBook> {
 }
 
 impl<'a, B: RuleBook> Model for Pieces<'a, B> {
-    ghost use Rattle.louis_translate.specs.Remainder.{Remainder};
-    ghost use Rattle.std.specs.Prelude.{◌≡◌};
+    ghost use Rattle.louis_translate.specs.Items.{Made, made_by};
+    ghost use Rattle.louis_translate.specs.Tiling.{AreLast};
+    ghost use Rattle.std.specs.Prelude.{◌≡◌, List, map};
 
-    ghost Value = { Remainder };
+    ghost Value = { List Made };
 
-    ghost view = { λ p. p.choices };
+    ghost view = { λ p. map (made_by (B.meaning p.book.now) p.print.now) p.choices };
 
-    ghost invariant = { λ p.
-        (p.choices.meaning ≡ B.meaning p.book.now) × (p.choices.print ≡ p.print.now)
+    ghost invariant = { λ p. AreLast (B.meaning p.book.now) p.print.now p.choices
         × (p.signs.table.now ≡ B.meaning p.book.now) × (p.signs.print.now ≡ p.print.now) };
 }
 
 impl<'a, B: RuleBook> Pieces<'a, B> {
-    ghost use Rattle.louis_translate.specs.Items.{whole};
+    ghost use Rattle.louis_translate.specs.Items.{made_by};
     ghost use Rattle.louis_translate.specs.Position.{AreDefined};
-    ghost use Rattle.std.specs.Prelude.{◌≡◌};
+    ghost use Rattle.louis_translate.specs.Tiling.{Tiles};
+    ghost use Rattle.std.specs.Prelude.{◌≡◌, List, map};
 
-    /// The pieces of a print whose characters the table defines.
+    /// The pieces of a print whose characters the table defines: what the choices of its tiling make.
     pub fn new(book: &'a B, print: &'a [char]) -> Self
         requires { AreDefined (B.meaning book.now) print.now }
-        ensures { result ≡ whole (B.meaning book.now) print.now }
+        ensures { (choices : List Choice) → Tiles (B.meaning book.now) print.now choices
+            → result ≡ map (made_by (B.meaning book.now) print.now) choices }
     {
         Pieces {
             book,
@@ -100,15 +103,14 @@ fn lone_cell<'a, B: RuleBook>(book: &'a B, print: &[char], choice: Choice) -> Op
 }
 
 impl<'a, B: RuleBook> Iterator for Pieces<'a, B> {
-    ghost use Rattle.louis_translate.specs.Items.{GivesPiece};
-    ghost use Rattle.std.specs.Iterator.{at_most};
-    ghost use Rattle.std.specs.Prelude.{◌-◌, length};
+    ghost use Rattle.louis_translate.specs.Items.{shown};
+    ghost use Rattle.std.specs.Iterator.{YieldsFirstBy, item_count};
 
     type Item = Piece<'a>;
 
-    ghost next_gives = { GivesPiece };
+    ghost next_gives = { YieldsFirstBy shown (λ left. left) };
 
-    ghost remaining = { λ s. at_most (length s.print - s.at) };
+    ghost remaining = { item_count (λ left. left) };
 
     fn next(&mut self) -> Option<Piece<'a>> {
         let choice = self.choices.next()?;

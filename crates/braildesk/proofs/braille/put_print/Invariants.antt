@@ -1,4 +1,4 @@
-use Rattle.std.proofs.Common.{◌≡◌, ◌++◌, List}
+use Rattle.std.proofs.Common.{◌++◌, List}
 use Rattle.louis_translate.specs.declared.choices.Choice.{Choice}
 use Rattle.louis_translate.specs.Braille.{braille}
 use Rattle.louis_translate.specs.Tiling.{Tiles}
@@ -9,9 +9,5 @@ use Rattle.braildesk.proofs.braille.put_print.Given as goal
 abbrev pub invariant-loop-piece : goal.invariant-loop-piece
 invariant-loop-piece g l =
     let meaning = g.B.RuleBook.meaning l.book in
-    record {
-      meaning_is : l.piece-iterator.meaning ≡ meaning;
-      print_is : l.piece-iterator.print ≡ l.print;
-      putting : (choices : List Choice) → Tiles meaning l.print choices
-          → Putting meaning l.print l.piece-iterator.at (g.K.Sink.contents l.initial.sink) (g.K.Sink.contents l.sink) l.block (l.initial.block ++ text_of (braille meaning l.print choices));
-    }
+    (choices : List Choice) → Tiles meaning l.print choices
+    → Putting l.piece-iterator (g.K.Sink.contents l.initial.sink) (g.K.Sink.contents l.sink) l.block (l.initial.block ++ text_of (braille meaning l.print choices))

@@ -1,13 +1,6 @@
-use Rattle.std.proofs.Common.{◌≡◌}
 use Rattle.louis_translate.proofs.Counterparts.{PrintLeft}
 use Rattle.louis_translate.proofs.counterpart.choice_of_cell.Given as goal
 
--- the choices from the iterator's place on are left
+-- so many cells are left up to the one that is sought
 abbrev pub invariant-loop-piece : goal.invariant-loop-piece
-invariant-loop-piece g l =
-    let meaning = g.B.RuleBook.meaning l.book in
-    record {
-      meaning_is : l.piece-iterator.meaning ≡ meaning;
-      print_is : l.piece-iterator.print ≡ l.print;
-      left : PrintLeft meaning l.print l.cell l.piece-iterator.at l.left;
-    }
+invariant-loop-piece g l = PrintLeft (g.B.RuleBook.meaning l.book) l.print l.cell l.piece-iterator l.left

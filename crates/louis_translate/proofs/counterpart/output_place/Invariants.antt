@@ -1,14 +1,6 @@
-use Rattle.std.proofs.Common.{◌≡◌, ◌≤◌}
 use Rattle.louis_translate.proofs.Counterparts.{OutputLeft}
 use Rattle.louis_translate.proofs.counterpart.output_place.Given as goal
 
--- the choices from the iterator's place on are left, which isn't behind the place that is sought
+-- so many cells come before the pieces that are left, before which the place that is sought isn't
 abbrev pub invariant-loop-piece : goal.invariant-loop-piece
-invariant-loop-piece g l =
-    let meaning = g.B.RuleBook.meaning l.book in
-    record {
-      meaning_is : l.piece-iterator.meaning ≡ meaning;
-      print_is : l.piece-iterator.print ≡ l.print;
-      from : l.piece-iterator.at ≤ l.place;
-      left : OutputLeft meaning l.print l.piece-iterator.at l.before;
-    }
+invariant-loop-piece g l = OutputLeft (g.B.RuleBook.meaning l.book) l.print l.place l.piece-iterator l.before

@@ -1,6 +1,4 @@
-use Rattle.std.proofs.Common.{List, ℕ, ◌++◌, ◌∷◌, [], sym, subst, ap, ◌∙◌}
-use Rattle.louis_translate.specs.declared.choices.Choice.{Choice}
-use Rattle.louis_translate.specs.Tiling.{Tiles}
+use Rattle.std.proofs.Common.{◌∙◌}
 use Rattle.braildesk.proofs.Answering.{refused_answer, shown_answer}
 use Rattle.braildesk.proofs.answer.Workspace.answer.Goals as goal
 

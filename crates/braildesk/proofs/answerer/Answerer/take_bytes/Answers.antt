@@ -1,7 +1,7 @@
-use Rattle.std.proofs.Common.{true, [], ◌∷◌, is_ok, refl, sym, ap, ◌∙◌}
+use Rattle.std.proofs.Common.{true, [], is_ok, refl, sym, ap, ◌∙◌}
 use Rattle.std.proofs.lemmas.List.{append-nil}
 use Rattle.std.proofs.lemmas.Result.{err_from_is_err_and}
-use Rattle.braildesk.specs.Machine.{after, extended, sent}
+use Rattle.braildesk.specs.Machine.{after, sent}
 use Rattle.desk_ends.proofs.Sending.{Sending-done, Sending-fails, Sending-more, Sending-same, at_ok}
 use Rattle.braildesk.proofs.Stepping.{after-extended, after-feed, sent-extended, sent-feed}
 use Rattle.braildesk.proofs.answerer.Answerer.take_bytes.Goals as goal

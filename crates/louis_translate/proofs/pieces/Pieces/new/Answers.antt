@@ -1,0 +1,11 @@
+use Rattle.std.proofs.Common.{ap}
+use Rattle.std.specs.Prelude.{map}
+use Rattle.louis_translate.specs.Items.{made_by}
+use Rattle.louis_translate.proofs.Tilings.{one_cover}
+use Rattle.louis_translate.proofs.pieces.Pieces.new.Goals as goal
+
+pub returns : goal.returns
+returns g c =
+    let meaning = g.B.RuleBook.meaning c.args.book.now in
+    let print = c.args.print.now in
+    λ choices tiles. ap (map (made_by meaning print)) (one_cover meaning print 0 c.new.result choices c.new.ensures tiles)
