@@ -1,20 +1,18 @@
 -- Each definition and each rule of a table that a text means has a cell.
-use Rattle.std.proofs.Common.{◌≡◌, ◌≢◌, ℕ, zero, suc, ◌+◌, ◌<◌, Bool, true, false, cond, List, [], ◌∷◌, ◌++◌, length, Option, Some, None, Contains, refl, sym, ap, subst, ◌∙◌, ◌⊎◌, inl, inr, arith}
+use Rattle.std.proofs.Common.{◌≡◌, ◌≢◌, ℕ, zero, suc, ◌+◌, List, [], ◌∷◌, ◌++◌, Option, Some, None, Contains, refl, sym, subst, ◌∙◌, inl, inr, arith}
 use Rattle.std.specs.Prelude.{map, nat_eq, slice_get}
 use Rattle.std.specs.List.{AllByRecursion, flat_map}
 use Rattle.std.proofs.lemmas.List.Elements.{Contains-append_right}
 use Rattle.std.specs.Map.{lookup}
 use Rattle.std.proofs.lemmas.Bool.{cases_Bool}
 use Rattle.cell_core.specs.Dots.{Dots}
-use Rattle.louis_table.specs.declared.definition.Class.TheVariants.{Letter}
 use Rattle.louis_table.specs.declared.definition.Definition.{Definition}
-use Rattle.louis_table.specs.declared.rule.RuleKind.{RuleKind}
 use Rattle.louis_table.specs.declared.rule.Rule.{Rule}
 use Rattle.louis_table.specs.Characters.{Spells}
 use Rattle.louis_table.specs.Fields.{HasFields}
 use Rattle.louis_table.specs.Meaning.{Meaning, HasCells, definition_of, folded}
 use Rattle.louis_table.specs.Profile.{Profile}
-use Rattle.louis_table.specs.Table.{Entry, Defines, Pairs, Replaces, Announces, Collects, PairDots, RuleDots, GivesIn, definition_line, pair_line, rule_line, sign_line, set_line, GiveFromIn, definitions_in, cells_in_definition, rule_cells, rules_in, IsMadeOf, IsLacking, MeansIn}
+use Rattle.louis_table.specs.Table.{Entry, Defines, Pairs, Replaces, Announces, Collects, PairDots, RuleDots, GivesIn, definition_line, pair_line, rule_line, sign_line, set_line, GiveFromIn, definitions_in, cells_in_definition, rule_cells, rules_in, IsLacking, MeansIn}
 
 -- ---- what a line gives
 

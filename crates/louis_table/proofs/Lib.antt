@@ -14,3 +14,4 @@ mod PlaceLaws
 pub mod ProfileLaws
 pub mod ProfileOutcome
 pub mod CellLaws
+mod SuppliedTable

@@ -8,3 +8,4 @@ pub mod Table
 pub mod Tells
 pub mod Reading
 pub mod Places
+pub mod SuppliedTable

@@ -1,7 +1,9 @@
 //! What holds of every table text.
 ghost use Rattle.louis_table.specs.Meaning.{HasCells, Meaning};
 ghost use Rattle.louis_table.specs.Profile.{Profile, WithoutNumericMode};
+ghost use Rattle.louis_table.specs.SuppliedTable.{english};
 ghost use Rattle.louis_table.specs.Table.{Bad, BadIn, Means, MeansIn};
+ghost use Rattle.louis_table.specs.declared.en.TheConstants.{EN};
 ghost use Rattle.std.specs.Prelude.{◌≡◌, ◌⊎◌, ℕ, List, []};
 
 /// Bytes are a table with one meaning, or have one fault that is told, and never both.
@@ -31,4 +33,9 @@ pub fn profiles()
 /// Each definition and each rule of a table that bytes mean has a cell.
 pub fn cells()
     ensures { (profile : Profile) (bytes : List ℕ) (t : Meaning) → MeansIn profile bytes t → HasCells t }
+{}
+
+/// The supplied table means uncontracted English, as it is written out in the definitions.
+pub fn supplied_table()
+    ensures { Means EN.now english }
 {}
