@@ -2,7 +2,7 @@
 # make demo     does that, and shows the main job on a sample
 # make test     the gate: proves from nothing, tries the must-fail edits, runs the tests and the stored run, and
 #               compares files with sqlite3, which has to be installed
-# make attacks  tries the wrong bodies that the gate leaves out
+# make attacks  tries the wrong bodies that the gate leaves out, and those that only a test sees
 # make bench    measures speed
 # make install  copies the program to $(DESTDIR)$(PREFIX)/bin
 

@@ -1,6 +1,7 @@
 #!/bin/bash
 # Tries the edits in crates/NAME/attacks, which the gate doesn't: wrong bodies that the prover has to refuse, beside those
-# of must-fail. It works on a copy, and takes some minutes for each crate that has some.
+# of must-fail. An edit with a line 'test: TEST' is one that no contract rules out: with it the crate's tests are run
+# unproved, and that test has to fail. It works on a copy, and takes some minutes for each crate that has some.
 #   tests/attacks.sh [NAME..]
 set -eu
 cd "$(dirname "$0")/.."
@@ -12,8 +13,52 @@ names=("$@")
 if [ ${#names[@]} -eq 0 ]; then
     for folder in crates/*/attacks; do names+=("$(basename "$(dirname "$folder")")"); done
 fi
+
+# Puts each 'new:' of an edit in the place of its 'old:', which stands once in the edit's file, in the crate of this folder.
+apply() {
+    local line file old text
+    while IFS= read -r line; do
+        case $line in
+            'file: '*) file=${line#file: } ;;
+            'old: '*) old=${line#old: } ;;
+            'new: '*)
+                text=$(<"$file")
+                if [[ $text != *"$old"* || ${text#*"$old"} == *"$old"* ]]; then return 1; fi
+                printf '%s\n' "${text/"$old"/"${line#new: }"}" > "$file" ;;
+        esac
+    done < "$1"
+}
+
+# Says whether the edit's test fails with it, and undoes it.
+test_sees() {
+    local edit=$1 test sources
+    test=$(sed -n 's/^test: //p' "$edit")
+    sources=$(mktemp -d "$scratch/sources.XXXXXX")
+    cp -r src/. "$sources"
+    if ! apply "$edit"; then
+        echo "$edit cannot be applied"
+        return 1
+    fi
+    "$rt" try --test > "$sources/log" 2>&1 || true
+    rm -r src && cp -r "$sources" src && rm src/log
+    if grep -qF "test $test ... FAILED" "$sources/log"; then
+        echo "$edit: $test fails"
+    else
+        cat "$sources/log"
+        echo "$edit: $test doesn't fail"
+        return 1
+    fi
+}
+
+missed=0
 for name in "${names[@]}"; do
+    for edit in $(cd "crates/$name/attacks" && grep -l '^test: ' ./*.edit || true); do
+        (cd "crates/$name" && test_sees "attacks/$edit") || missed=$((missed + 1))
+        rm "crates/$name/attacks/$edit"
+    done
     rm -rf "crates/$name/must-fail"
     mv "crates/$name/attacks" "crates/$name/must-fail"
 done
-exec "$rt" must-fail "${names[@]}"
+echo "edits that their test doesn't see: $missed"
+"$rt" must-fail "${names[@]}"
+[ "$missed" -eq 0 ]

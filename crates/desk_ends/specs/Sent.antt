@@ -4,8 +4,10 @@ use Rattle.std.specs.Io.KnownBytes.{Appends}
 use Rattle.desk_ends.specs.declared.ends.Sink.{Ghosts}
 use Rattle.desk_ends.specs.Ends.{IsFlushed}
 
--- a beginning of the text went out; at true all of it but what is held back, and only what can fail gives false
-pub record Sent (CanFail : Type 0) (old new : Option (List ℕ)) (text held : List ℕ) (whole : Bool) : Type 0 where
+-- a beginning of the text went out; at true all of it but what is held back, and only what can fail
+-- gives false
+pub record Sent (CanFail : Type 0) (old new : Option (List ℕ)) (text held : List ℕ) (whole : Bool)
+    : Type 0 where
   pub out : List ℕ
   pub rest : List ℕ
   pub appends : Appends old new out
@@ -17,7 +19,8 @@ pub record Sent (CanFail : Type 0) (old new : Option (List ℕ)) (text held : Li
 
 -- the text went to the sink so, and this part of it is held back
 abbrev pub Puts : {K : Type 0} → Ghosts K → K → K → List ℕ → List ℕ → Bool → Type 0
-Puts sink old new text held whole = Sent sink.can_fail (sink.contents old) (sink.contents new) text held whole
+Puts sink old new text held whole =
+    Sent sink.can_fail (sink.contents old) (sink.contents new) text held whole
 
 -- the text went to the sink so, with nothing held back
 abbrev pub Sends : {K : Type 0} → Ghosts K → K → K → List ℕ → Bool → Type 0

@@ -1,57 +1,106 @@
 //! A buffer in front of a writer.
-ghost use Rattle.std.specs.Io.KnownBytes.{Keeps};
-ghost use Rattle.std.specs.Prelude.{IfOk, ◌≡◌};
+//!
+//! std's buffer writes again where a write was interrupted, and once more when it is dropped. This one writes once.
+ghost use Rattle.std.specs.Io.KnownBytes.{Appends, Keeps, append_known};
+ghost use Rattle.std.specs.Prelude.{IfOk, OnOk, [], drop, length, take, vec_capacity, vec_len, ◌+◌, ◌++◌, ◌≡◌, ◌≤◌};
 
 use super::ends::{Failed, Sink};
 use std::alloc::{AllocError, Global};
-use std::io::{BufWriter, Write};
+use std::io::Write;
 
 /// A writer with a buffer in front of it: what stands in the buffer was written, and what the writer has is
-/// flushed. Dropped, it lets go what was not flushed.
-pub struct Buffered<W: Write + Drop>(BufWriter<W>);
+/// flushed. A failed write, also one that was interrupted, isn't tried again. Dropped, it lets go what was
+/// not flushed.
+#[derive(Drop)]
+pub struct Buffered<W: Write + Drop> {
+    writer: W,
+    held: Vec<u8>,
+}
 
 impl<W: Write + Drop> Buffered<W> {
     /// An empty buffer of so many bytes in front of the writer.
     pub fn new(alloc: Global, bytes: usize, writer: W) -> Result<Self, AllocError>
-        ensures contents { IfOk result (λ b. Keeps (W.contents writer) (⟦<Buffered<W> as Sink>⟧.contents b)) }
+        ensures contents { IfOk result
+            (λ b. Keeps (W.contents writer) (⟦<Buffered<W> as Sink>⟧.contents b)) }
         ensures flushed { IfOk result (λ b. ⟦<Buffered<W> as Sink>⟧.flushed b ≡ W.contents writer) }
     {
-        match BufWriter::with_capacity(alloc, bytes, writer) {
-            Ok(buffered) => Ok(Buffered(buffered)),
-            Err(_) => Err(AllocError),
+        let held = Vec::with_capacity(alloc, bytes)?;
+        Ok(Buffered { writer, held })
+    }
+
+    /// Writes what is held to the writer, until a write fails.
+    fn pass_on(&mut self) -> Result<(), Failed>
+        ensures empty { OnOk result (self.new.held.items ≡ []) }
+        ensures bytes { Keeps
+            (append_known (W.contents self.old.writer) self.old.held.items)
+            (append_known (W.contents self.new.writer) self.new.held.items) }
+    {
+        let count = write_front(&mut self.writer, self.held.as_slice());
+        remove_front(&mut self.held, count);
+        if self.held.is_empty() {
+            Ok(())
+        } else {
+            Err(Failed)
         }
     }
 }
 
 impl<W: Write + Drop> Sink for Buffered<W> {
-    ghost use Rattle.std.specs.Io.Buffered.{writer_contents, writer_inner};
     ghost use Rattle.std.specs.Prelude.{⊤};
 
-    ghost contents = { λ b. writer_contents W.contents b.0 };
+    ghost contents = { λ b. append_known (W.contents b.writer) b.held.items };
 
-    ghost flushed = { λ b. W.contents (writer_inner b.0) };
+    ghost flushed = { λ b. W.contents b.writer };
 
     ghost can_fail = { ⊤ };
 
     fn put(&mut self, bytes: &[u8]) -> Result<usize, Failed> {
-        match self.0.write(bytes) {
-            Ok(0) | Err(_) => Err(Failed),
-            Ok(count) => Ok(count),
+        if bytes.len() <= self.held.capacity() - self.held.len() {
+            append(&mut self.held, bytes);
+            return Ok(bytes.len());
         }
+        self.pass_on()?;
+        Sink::put(&mut self.writer, bytes)
     }
 
     fn flush(&mut self) -> Result<(), Failed> {
-        match Write::flush(&mut self.0) {
-            Ok(()) => Ok(()),
-            Err(_) => Err(Failed),
-        }
+        self.pass_on()?;
+        Sink::flush(&mut self.writer)
     }
 }
 
-// A buffer of std that is dropped writes what is in it, also what a failure has left there.
-impl<W: Write + Drop> Drop for Buffered<W> {
-    fn drop(self) {
-        let Buffered(writer) = self;
-        let _ = writer.into_parts();
+/// Writes the bytes until a write fails or takes none, and says how many were written.
+fn write_front<W: Write>(writer: &mut W, bytes: &[u8]) -> usize
+    ensures bound { result ≤ length bytes.now }
+    ensures bytes { Appends (W.contents writer.old) (W.contents writer.new) (take result bytes.now) }
+{
+    let mut written = 0;
+    while written < bytes.len() {
+        match writer.write(&bytes[written..]) {
+            Ok(0) | Err(_) => break,
+            Ok(count) => written += count,
+        }
     }
+    written
+}
+
+/// Removes so many bytes from the front.
+fn remove_front(held: &mut Vec<u8>, count: usize)
+    requires { count ≤ vec_len held.old }
+    ensures { held.new.items ≡ drop count held.old.items }
+{
+    let len = held.len();
+    held.as_mut_slice().copy_within(count..len, 0);
+    held.truncate(len - count);
+}
+
+/// Adds bytes for which there is room.
+#[inline(always)]
+fn append(held: &mut Vec<u8>, bytes: &[u8])
+    requires { vec_len held.old + length bytes.now ≤ vec_capacity held.old }
+    ensures { held.new.items ≡ held.old.items ++ bytes.now }
+{
+    let Ok(()) = held.extend_from_slice(bytes) else {
+        unreachable!()
+    };
 }

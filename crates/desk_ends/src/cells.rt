@@ -22,7 +22,8 @@ pub fn send_block<K: Sink>(sink: &mut K, block: &mut Block) -> Result<(), Failed
 /// has a way of its own, without a loop.
 #[inline(always)]
 pub fn put_cells<K: Sink>(sink: &mut K, block: &mut Block, cells: &[Cell]) -> Result<(), Failed>
-    ensures { Puts K.Sink sink.old sink.new (block.old ++ text_of cells.now) block.new (is_ok result) }
+    ensures { Puts K.Sink sink.old sink.new
+        (block.old ++ text_of cells.now) block.new (is_ok result) }
 {
     match cells {
         [] => Ok(()),
@@ -34,7 +35,8 @@ pub fn put_cells<K: Sink>(sink: &mut K, block: &mut Block, cells: &[Cell]) -> Re
 /// Puts cells, one after another.
 #[inline(never)]
 fn put_each<K: Sink>(sink: &mut K, block: &mut Block, cells: &[Cell]) -> Result<(), Failed>
-    ensures { Puts K.Sink sink.old sink.new (block.old ++ text_of cells.now) block.new (is_ok result) }
+    ensures { Puts K.Sink sink.old sink.new
+        (block.old ++ text_of cells.now) block.new (is_ok result) }
 {
     for cell in cells {
         put_cell(sink, block, *cell)?;

@@ -4,41 +4,77 @@ use super::{
 };
 use cell_core::Cell;
 use std::alloc::{AllocError, Global};
-use std::io::{self, Error, ErrorKind, Write};
+use std::io::{self, Error, ErrorKind, Read, Write};
 use std::process::Abort;
 use std::test::Fail;
 
-/// Takes two bytes at a time, holds them until it is flushed, and fails once after so many writes.
+/// What of three texts a writer has passed on, and what it holds, where so many of its calls don't fail. The last call is
+/// a flush.
+const CUTS: &[(usize, &str, &str)] = &[
+    (0, "", ""),
+    (1, "", "no"),
+    (2, "", "no 7"),
+    (3, "", "no 7 "),
+    (4, "", "no 7 12"),
+    (5, "", "no 7 12\n"),
+    (6, "no 7 12\n", ""),
+];
+
+/// Gives its bytes, but for the first read, which fails.
+#[derive(Drop)]
+struct Interrupted<'a> {
+    bytes: &'a [u8],
+    has_failed: bool,
+}
+
+impl<'a> Read for Interrupted<'a> {
+    fn read(&mut self, buf: &mut [u8]) -> io::Result<usize> {
+        if !self.has_failed {
+            self.has_failed = true;
+            return Err(Error::from(ErrorKind::Interrupted));
+        }
+        self.bytes.read(buf)
+    }
+}
+
+/// Takes two bytes at a time, and holds them until it is flushed. After so many calls it fails once, and then goes on.
 #[derive(Drop)]
 struct Held {
     passed: Vec<u8>,
     held: Vec<u8>,
-    writes_left: usize,
+    calls_left: usize,
 }
 
 impl Held {
-    /// No byte, and so many writes that don't fail.
-    fn new(alloc: Global, writes_left: usize) -> Self {
+    /// No byte, and so many calls that don't fail.
+    fn new(alloc: Global, calls_left: usize) -> Self {
         Held {
             passed: Vec::new(alloc),
             held: Vec::new(alloc),
-            writes_left,
+            calls_left,
         }
+    }
+
+    /// Counts a call, and fails where none is left.
+    fn count_call(&mut self) -> io::Result<()> {
+        if self.calls_left == 0 {
+            self.calls_left = usize::MAX;
+            return Err(Error::from(ErrorKind::Interrupted));
+        }
+        self.calls_left -= 1;
+        Ok(())
     }
 }
 
 impl Write for Held {
     fn write(&mut self, buf: &[u8]) -> io::Result<usize> {
-        if self.writes_left == 0 {
-            self.writes_left = usize::MAX;
-            return Err(Error::from(ErrorKind::Interrupted));
-        }
-        self.writes_left -= 1;
+        self.count_call()?;
         let few = buf.len().min(2);
         self.held.write(&buf[..few])
     }
 
     fn flush(&mut self) -> io::Result<()> {
+        self.count_call()?;
         self.passed.write_all(self.held.as_slice())?;
         self.held.clear();
         Ok(())
@@ -79,9 +115,10 @@ fn two_reads<S: Source>(source: &mut S) -> (Option<usize>, Option<usize>) {
     (first, source.pull(&mut chunk).ok())
 }
 
-/// Asserts what was passed on.
-fn assert_passed(rt: &impl Abort, writer: &Held, wanted: &str) {
-    assert_eq!(rt; writer.passed.as_slice(), wanted.as_bytes());
+/// Asserts what a writer has after a cut, and that just the last of the cuts is none.
+fn assert_cut(rt: &impl Abort, writer: &Held, cut: &(usize, &str, &str), is_sent: bool) {
+    let given = (is_sent, writer.passed.as_slice(), writer.held.as_slice());
+    assert_eq!(rt; given, (cut.0 == 6, cut.1.as_bytes(), cut.2.as_bytes()));
 }
 
 #[test]
@@ -90,17 +127,31 @@ fn reads_what_is_in_memory(rt: HostRuntime) {
 }
 
 #[test]
-fn sends_all_parts(rt: HostRuntime) {
-    let mut writer = Held::new(rt.alloc(), 9);
-    assert_eq!(&rt; send_three(&mut writer).is_ok(), true);
-    assert_passed(&rt, &writer, "no 7 12\n");
+fn tries_no_failed_read_again(rt: HostRuntime) {
+    let mut reader = Interrupted {
+        bytes: b"abc",
+        has_failed: false,
+    };
+    assert_eq!(&rt; two_reads(&mut reader), (None, Some(3)));
 }
 
 #[test]
-fn tries_no_failed_write_again(rt: HostRuntime) {
-    let mut writer = Held::new(rt.alloc(), 2);
-    assert_eq!(&rt; send_three(&mut writer).is_ok(), false);
-    assert_eq!(&rt; writer.held.as_slice(), b"no 7".as_slice());
+fn tries_no_failed_call_again(rt: HostRuntime) {
+    for cut in CUTS {
+        let mut writer = Held::new(rt.alloc(), cut.0);
+        let sent = send_three(&mut writer);
+        assert_cut(&rt, &writer, cut, sent.is_ok());
+    }
+}
+
+#[test]
+fn tries_no_failed_call_behind_a_buffer_again(rt: HostRuntime) -> Result<(), Fail> {
+    for cut in CUTS {
+        let mut writer = Held::new(rt.alloc(), cut.0);
+        let sent = send_buffered(rt.alloc(), &mut writer, true)?;
+        assert_cut(&rt, &writer, cut, sent.is_ok());
+    }
+    Ok(())
 }
 
 #[test]
@@ -108,16 +159,7 @@ fn sends_cells_as_text(rt: HostRuntime) {
     let mut writer = Held::new(rt.alloc(), 9);
     let sent = send_cells(&mut writer, &[Cell::new(1), Cell::new(255)]);
     assert_eq!(&rt; sent.is_ok(), true);
-    assert_passed(&rt, &writer, "⠁⣿\n");
-}
-
-#[test]
-fn flushes_what_is_buffered(rt: HostRuntime) -> Result<(), Fail> {
-    let mut writer = Held::new(rt.alloc(), 9);
-    let sent = send_buffered(rt.alloc(), &mut writer, true)?;
-    assert_eq!(&rt; sent.is_ok(), true);
-    assert_passed(&rt, &writer, "no 7 12\n");
-    Ok(())
+    assert_eq!(&rt; writer.passed.as_slice(), "⠁⣿\n".as_bytes());
 }
 
 #[test]

@@ -19,7 +19,8 @@ pub fn send<K: Sink>(sink: &mut K, text: &[u8]) -> Result<(), Failed>
 
 /// Writes the texts one after another, or a beginning of them.
 pub fn send_parts<K: Sink>(sink: &mut K, parts: &[&[u8]]) -> Result<(), Failed>
-    ensures { Sends K.Sink sink.old sink.new (flat_map (λ part. part.now) parts.now) (is_ok result) }
+    ensures { Sends K.Sink sink.old sink.new
+        (flat_map (λ part. part.now) parts.now) (is_ok result) }
 {
     for part in parts {
         send(sink, part)?;
