@@ -19,7 +19,8 @@ IsFaultOf text faults.File = ⊥
 
 -- ---- the fault of a file
 
--- a file can't be opened or read, or is too large, or there is no memory for it; one that is missing is no want of memory
+-- a file can't be opened or read, or is too large, or there is no memory for it; one that is missing
+-- is no want of memory
 abbrev pub IsOfFile : Type 0 → Shelved → Fault → Type 0
 IsOfFile CanFail shelved (faults.Table fault) = ⊥
 IsOfFile CanFail unknown faults.NoMemory = Unit {0}
@@ -31,7 +32,9 @@ IsOfFile CanFail (holds bytes) faults.File = CanFail ⊎ (most_file_bytes < leng
 
 -- an error of the system is want of memory where that is its kind, and else the file's
 abbrev pub IsIoFault : ErrorKind → Fault → Type 0
-IsIoFault kind fault = ((kind ≡ OutOfMemory) × (fault ≡ faults.NoMemory)) ⊎ ((kind ≢ OutOfMemory) × (fault ≡ faults.File))
+IsIoFault kind fault =
+    ((kind ≡ OutOfMemory) × (fault ≡ faults.NoMemory))
+    ⊎ ((kind ≢ OutOfMemory) × (fault ≡ faults.File))
 
 -- ---- the table that a word names
 
@@ -41,10 +44,14 @@ pub data TextAt (shelf : List ℕ → Shelved) (path text : List ℕ) : Type 0 w
   in_file : path ≢ codes "@en" → IsRead (shelf path) text → TextAt shelf path text
 
 -- the fault of the table that the word names; a word that isn't UTF-8 names no file
-pub data FaultAt (CanFail : Type 0) (shelf : List ℕ → Shelved) (path : List ℕ) (fault : Fault) : Type 0 where
-  of_text : (text : List ℕ) → TextAt shelf path text → IsFaultOf text fault → FaultAt CanFail shelf path fault
-  not_text : path ≢ codes "@en" → ¬ IsUtf8 path → fault ≡ faults.File → FaultAt CanFail shelf path fault
-  of_file : path ≢ codes "@en" → IsOfFile CanFail (shelf path) fault → FaultAt CanFail shelf path fault
+pub data FaultAt (CanFail : Type 0) (shelf : List ℕ → Shelved) (path : List ℕ) (fault : Fault)
+    : Type 0 where
+  of_text : (text : List ℕ) → TextAt shelf path text → IsFaultOf text fault
+      → FaultAt CanFail shelf path fault
+  not_text : path ≢ codes "@en" → ¬ IsUtf8 path → fault ≡ faults.File
+      → FaultAt CanFail shelf path fault
+  of_file : path ≢ codes "@en" → IsOfFile CanFail (shelf path) fault
+      → FaultAt CanFail shelf path fault
 
 -- ---- what is told
 

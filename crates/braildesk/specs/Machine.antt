@@ -1,4 +1,5 @@
--- For proofs step by step: the line that is being read, and what is sent while bytes come, by a function that answers each line.
+-- For proofs step by step: the line that is being read, and what is sent while bytes come, by a
+-- function that answers each line.
 -- A line that is too long is None.
 use Rattle.std.specs.Prelude.{◌≢◌, ℕ, List, [], ◌∷◌, ◌++◌, ◌==◌, if◌then◌else◌, length, nat_lt, slice_index, EachIndex, Option, Some, None}
 use Rattle.std.specs.Io.BufRead.{strip_last}
@@ -44,7 +45,8 @@ after line (b ∷ bytes) = after (if b == 10 then Some [] else pushed line b) by
 abbrev pub sent : (List ℕ → List ℕ) → Option (List ℕ) → List ℕ → List ℕ
 sent answers line [] = []
 sent answers line (b ∷ bytes) =
-    (if b == 10 then reply_to answers line else []) ++ sent answers (if b == 10 then Some [] else pushed line b) bytes
+    (if b == 10 then reply_to answers line else [])
+    ++ sent answers (if b == 10 then Some [] else pushed line b) bytes
 
 -- what is sent at the end of the input
 abbrev pub closing : (List ℕ → List ℕ) → Option (List ℕ) → List ℕ

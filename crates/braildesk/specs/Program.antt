@@ -36,7 +36,8 @@ Tells errors old new text = (whole : Bool) × Sends errors old new text whole
 -- ---- the statuses
 
 -- the table that the words name has a meaning
-pub record TableOf (shelf : List ℕ → Shelved) (words : List (List ℕ)) (meaning : Meaning) : Type 0 where
+pub record TableOf (shelf : List ℕ → Shelved) (words : List (List ℕ)) (meaning : Meaning)
+    : Type 0 where
   pub path : List ℕ
   pub named : NamesTable words path
   pub text : List ℕ
@@ -44,7 +45,9 @@ pub record TableOf (shelf : List ℕ → Shelved) (words : List (List ℕ)) (mea
   pub means : Means text meaning
 
 -- the table that the words name is refused for this fault
-pub record FaultOf (CanFail : Type 0) (shelf : List ℕ → Shelved) (words : List (List ℕ)) (fault : Fault) : Type 0 where
+pub record FaultOf
+    (CanFail : Type 0) (shelf : List ℕ → Shelved) (words : List (List ℕ)) (fault : Fault)
+    : Type 0 where
   pub path : List ℕ
   pub named : NamesTable words path
   pub holds : FaultAt CanFail shelf path fault

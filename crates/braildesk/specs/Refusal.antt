@@ -28,4 +28,5 @@ abbrev pub IsRefused : Meaning → List ℕ → Refusal → Type 0
 IsRefused meaning line NoText = ¬ IsText line
 IsRefused meaning line TooLong = IsText line × (most_characters < length (chars line))
 IsRefused meaning line (Undefined place) =
-    IsText line × (length (chars line) ≤ most_characters) × IsFirstUndefined meaning (chars line) place
+    IsText line × (length (chars line) ≤ most_characters)
+    × IsFirstUndefined meaning (chars line) place

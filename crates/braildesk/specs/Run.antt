@@ -29,7 +29,8 @@ IsBeginning out text = (rest : List ℕ) × (out ++ rest ≡ text)
 abbrev pub Answers : Meaning → Ended → List ℕ → List ℕ → Type 0
 Answers meaning Done taken out = IsOutput meaning taken out
 Answers meaning Input taken out = IsOutput meaning (whole_lines taken) out
-Answers meaning Output taken out = (output : List ℕ) × IsOutput meaning taken output × IsBeginning out output
+Answers meaning Output taken out =
+    (output : List ℕ) × IsOutput meaning taken output × IsBeginning out output
 
 -- a run that is done left nothing in the reader
 abbrev pub ReadsAll : Ended → Option (List ℕ) → Type 0
@@ -38,7 +39,9 @@ ReadsAll Input left = Unit {0}
 ReadsAll Output left = Unit {0}
 
 -- some bytes were taken from the reader, and what went to the writer answers them
-pub record Run (meaning : Meaning) (ended : Ended) (read_old read_new write_old write_new : Option (List ℕ)) : Type 0 where
+pub record Run
+    (meaning : Meaning) (ended : Ended) (read_old read_new write_old write_new : Option (List ℕ))
+    : Type 0 where
   pub taken : List ℕ
   pub out : List ℕ
   pub consumes : Consumes read_old read_new taken
@@ -49,7 +52,8 @@ pub record Run (meaning : Meaning) (ended : Ended) (read_old read_new write_old 
 -- where the input is known, what went out is a beginning of what is answered to it
 abbrev pub AnswersBeginning : Meaning → Option (List ℕ) → Option (List ℕ) → Option (List ℕ) → Type 0
 AnswersBeginning meaning read_old write_old write_new =
-    IfSome read_old (λ input. (output : List ℕ) × (out : List ℕ) × IsOutput meaning input output × IsBeginning out output × Appends write_old write_new out)
+    IfSome read_old (λ input. (output : List ℕ) × (out : List ℕ) × IsOutput meaning input output
+    × IsBeginning out output × Appends write_old write_new out)
 
 -- ---- how it ended
 
@@ -66,7 +70,11 @@ EndsFlushed Input written flushed = IsFlushed written flushed
 EndsFlushed Output written flushed = Unit {0}
 
 -- a run with an honest end
-pub record HonestRun (meaning : Meaning) (ended : Ended) (read_old read_new write_old write_new flushed_new : Option (List ℕ)) (ReadsFail WritesFail : Type 0) : Type 0 where
+pub record HonestRun
+    (meaning : Meaning) (ended : Ended)
+    (read_old read_new write_old write_new flushed_new : Option (List ℕ))
+    (ReadsFail WritesFail : Type 0)
+    : Type 0 where
   pub run : Run meaning ended read_old read_new write_old write_new
   pub honest : IsHonest ended (length run.taken) ReadsFail WritesFail
   pub flushed : EndsFlushed ended write_new flushed_new
@@ -77,9 +85,11 @@ pub record HonestRun (meaning : Meaning) (ended : Ended) (read_old read_new writ
 abbrev pub Ran : {S K : Type 0} → Source S → S → S → Sink K → K → K → Meaning → Ended → Type 0
 Ran source read_old read_new sink write_old write_new meaning ended =
     HonestRun meaning ended (source.remaining read_old) (source.remaining read_new)
-    (sink.contents write_old) (sink.contents write_new) (sink.flushed write_new) source.can_fail sink.can_fail
+    (sink.contents write_old) (sink.contents write_new) (sink.flushed write_new)
+    source.can_fail sink.can_fail
 
 -- it ended early
 abbrev pub RanShort : {S K : Type 0} → Source S → S → S → Sink K → K → K → Meaning → Type 0
 RanShort source read_old read_new sink write_old write_new meaning =
-    (ended : Ended) × (ended ≢ Done) × Ran source read_old read_new sink write_old write_new meaning ended
+    (ended : Ended) × (ended ≢ Done)
+    × Ran source read_old read_new sink write_old write_new meaning ended

@@ -12,6 +12,8 @@ SendsLine sink old new meaning line whole =
     (answer : List ℕ) → IsAnswer meaning line answer → Sends sink old new (answer ++ 10 ∷ []) whole
 
 -- a text made of answers to lines goes out, by each function that answers each line
-abbrev pub SendsAnswers : {K : Type 0} → Ghosts K → K → K → Meaning → ((List ℕ → List ℕ) → List ℕ) → Bool → Type 0
+abbrev pub SendsAnswers : {K : Type 0} → Ghosts K → K → K → Meaning
+    → ((List ℕ → List ℕ) → List ℕ) → Bool → Type 0
 SendsAnswers sink old new meaning text whole =
-    (answers : List ℕ → List ℕ) → AnswersLines meaning answers → Sends sink old new (text answers) whole
+    (answers : List ℕ → List ℕ) → AnswersLines meaning answers
+    → Sends sink old new (text answers) whole

@@ -89,7 +89,8 @@ pub fn refuse<K: Sink>(sink: &mut K, refusal: Refusal) -> Result<(), Failed>
 
 /// Sends the refusal of an undefined character and a line feed.
 fn refuse_place<K: Sink>(sink: &mut K, place: usize) -> Result<(), Failed>
-    ensures { Sends K.Sink sink.old sink.new (refusal_text (Refusal.Undefined place) ++ 10 ∷ []) (is_ok result) }
+    ensures { Sends K.Sink sink.old sink.new
+        (refusal_text (Refusal.Undefined place) ++ 10 ∷ []) (is_ok result) }
 {
     let mut digits = Buffer::new();
     send_parts(sink, &[b"no 7 ", digits.format(place).as_bytes(), b"\n"])

@@ -37,7 +37,8 @@ fn put_print<K: Sink, B: RuleBook>(
     requires { AreDefined (B.meaning book.now) print.now }
     ensures { (choices : List ChoiceTerm) → Tiles (B.meaning book.now) print.now choices
         → Puts K.Sink sink.old sink.new
-        (block.old ++ text_of (braille (B.meaning book.now) print.now choices)) block.new (is_ok result) }
+        (block.old ++ text_of (braille (B.meaning book.now) print.now choices))
+        block.new (is_ok result) }
 {
     for piece in Pieces::new(book, print) {
         put_cells(sink, block, piece.sign)?;

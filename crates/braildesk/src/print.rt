@@ -87,7 +87,8 @@ fn first_undefined<B: RuleBook>(
     character: char,
     place: usize,
 ) -> Option<usize>
-    ensures { (print : List ℕ) → length print ≡ place → FindsUndefined (B.meaning book.now) print found
+    ensures { (print : List ℕ) → length print ≡ place
+        → FindsUndefined (B.meaning book.now) print found
         → FindsUndefined (B.meaning book.now) (print ++ character ∷ []) result }
 {
     if is_defined(book, character) {

@@ -50,11 +50,13 @@ pub fn program<F: Shelf + AllocGlobal, S: Source, K: Sink, E: Sink>(
         → Tells E.Sink errors.old errors.new use_line }
 
     // Lines are answered by the table that the words name.
-    ensures done { result ≡ DONE → (meaning : Meaning) × TableOf (F.at rt.now) (texts_of words.now) meaning
+    ensures done { result ≡ DONE → (meaning : Meaning)
+        × TableOf (F.at rt.now) (texts_of words.now) meaning
         × Ran S.Source source.old source.new K.Sink sink.old sink.new meaning Ended.Done }
 
     // A failed end is told by the status alone.
-    ensures failed { result ≡ ENDS_FAILED → (meaning : Meaning) × TableOf (F.at rt.now) (texts_of words.now) meaning
+    ensures failed { result ≡ ENDS_FAILED → (meaning : Meaning)
+        × TableOf (F.at rt.now) (texts_of words.now) meaning
         × RanShort S.Source source.old source.new K.Sink sink.old sink.new meaning }
     ensures silent { (result ≡ DONE) ⊎ (result ≡ ENDS_FAILED) → errors.new ≡ errors.old }
 
@@ -62,7 +64,8 @@ pub fn program<F: Shelf + AllocGlobal, S: Source, K: Sink, E: Sink>(
     ensures refused { result ≡ REFUSED → (fault : Fault)
         × FaultOf (F.can_fail ⊎ F.File.can_fail) (F.at rt.now) (texts_of words.now) fault
         × Tells E.Sink errors.old errors.new (fault_line fault) }
-    ensures untouched { (result ≡ OTHER_WORDS) ⊎ (result ≡ REFUSED) → (source.new ≡ source.old) × (sink.new ≡ sink.old) }
+    ensures untouched { (result ≡ OTHER_WORDS) ⊎ (result ≡ REFUSED)
+        → (source.new ≡ source.old) × (sink.new ≡ sink.old) }
 {
     let Some(path) = table_path(words) else {
         return explain_use(errors);

@@ -93,3 +93,6 @@ fn read_all<S: Source>(alloc: Global, source: &mut S) -> Result<Vec<u8>, Fault>
     }
     Err(Fault::File)
 }
+
+#[cfg(test)]
+mod tests;

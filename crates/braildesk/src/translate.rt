@@ -37,7 +37,8 @@ pub fn translate_lines<S: Source, K: Sink, B: RuleBook>(
 ) -> Ended
     // Some bytes were taken, what went out answers them, and it is flushed. A run that isn't done met a
     // failure of the source or the sink, or took as many bytes as a run may.
-    ensures run { Ran S.Source source.old source.new K.Sink sink.old sink.new (B.meaning book.now) result }
+    ensures run { Ran S.Source source.old source.new
+        K.Sink sink.old sink.new (B.meaning book.now) result }
 
     // Where the source tells its bytes: at the end of all of them all lines are answered.
     ensures done { result ≡ Ended.Done → IfSome (S.remaining source.old) (λ input.
