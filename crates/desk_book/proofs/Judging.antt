@@ -18,14 +18,14 @@ use Rattle.desk_book.specs.Refusals.{Holds, turn, IsRefused, IsAccepted, HasNoth
 
 -- ---- limits
 
-limit_turn : (limit : Limit) → (110 < turn (Full limit)) × (turn (Full limit) < 170)
+pub limit_turn : (limit : Limit) → (110 < turn (Full limit)) × (turn (Full limit) < 170)
 limit_turn Tables = (omega arith, omega arith)
 limit_turn Paragraphs = (omega arith, omega arith)
 limit_turn Entries = (omega arith, omega arith)
 limit_turn Marks = (omega arith, omega arith)
 limit_turn Version = (omega arith, omega arith)
 
-same_limit : (limit other : Limit) → turn (Full limit) ≡ turn (Full other) → limit ≡ other
+pub same_limit : (limit other : Limit) → turn (Full limit) ≡ turn (Full other) → limit ≡ other
 same_limit Tables Tables e = refl
 same_limit Paragraphs Paragraphs e = refl
 same_limit Entries Entries e = refl

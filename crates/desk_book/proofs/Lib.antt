@@ -5,6 +5,7 @@ pub mod ByName
 pub mod CellPlaces
 pub mod CharacterLists
 pub mod CorrectPlanning
+pub mod Decisions
 pub mod EntryPlanned
 pub mod EntryPlanning
 pub mod Expecting
@@ -19,10 +20,12 @@ pub mod KeptLookups
 pub mod MarkLists
 pub mod MarkPlanning
 pub mod MarkSettled
+pub mod MarkedPlaces
 pub mod Members
 pub mod NewParagraphs
 pub mod Numbering
 pub mod OneBook
+pub mod OneRefusal
 pub mod OrderLists
 pub mod OrderPlaces
 pub mod ParagraphLists
@@ -30,6 +33,7 @@ pub mod ParagraphMarkLists
 pub mod Permutations
 pub mod Planning
 pub mod PrintCharacters
+pub mod RefusalTests
 pub mod Renewing
 pub mod Replacing
 pub mod RoomLists
@@ -41,6 +45,7 @@ pub mod SoundParagraphs
 pub mod SoundEntryRows
 pub mod SoundParaRows
 pub mod SoundRows
+pub mod SomeOutcome
 pub mod SoundSteps
 pub mod TableEntries
 pub mod TablePlanning

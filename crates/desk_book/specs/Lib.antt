@@ -29,3 +29,4 @@ pub mod FileRows
 pub mod Shows
 pub mod Damage
 pub mod Rebuilt
+pub mod Outcome

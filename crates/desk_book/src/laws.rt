@@ -5,19 +5,29 @@ ghost use Rattle.desk_book.specs.Damage.{IsDamaged, IsFirstDamage};
 ghost use Rattle.desk_book.specs.declared.command.Command.{Command};
 ghost use Rattle.desk_book.specs.declared.parts.FileTable.{FileTable};
 ghost use Rattle.desk_book.specs.FileRows.{FileRows, table_of};
+ghost use Rattle.desk_book.specs.Outcome.{HasOneOutcome};
 ghost use Rattle.desk_book.specs.Refusals.{IsAccepted};
 ghost use Rattle.desk_book.specs.Restored.{RestoresPrint};
 ghost use Rattle.desk_book.specs.Shows.{IsUnnamed, Shows};
 ghost use Rattle.desk_book.specs.Sound.{IsSound};
 ghost use Rattle.desk_book.specs.Step.{HasCharacters, Makes};
 ghost use Rattle.std.specs.List.{All};
-ghost use Rattle.std.specs.Prelude.{IsNone, IsSome, List, None, ℕ, ℤ, ◌++◌, ◌↔◌, ◌≡◌};
+ghost use Rattle.std.specs.Prelude.{IsNone, IsSome, List, None, Option, ℕ, ℤ, ◌++◌, ◌↔◌, ◌≡◌};
 
 /// A list of commands, cut anywhere: the whole of it makes of a book what its second part makes of the book that its
 /// first part makes, and is accepted exactly where both parts are.
 pub fn histories_in_parts()
     ensures { (book last : Book) (u v : List Command)
         → After book (u ++ v) last ↔ ((middle : Book) × After book u middle × After middle v last) }
+{}
+
+/// A command on a sound book, whatever version is expected, has one outcome: either just one refusal is told of it, or none
+/// holds and it makes just one book. Want of memory is none of these refusals. So commands make at most one book.
+pub fn one_outcome()
+    ensures command { (book : Book) (expect : Option ℕ) (command : Command) → IsSound book
+        → HasOneOutcome book expect command }
+    ensures commands { (book last other : Book) (commands : List Command)
+        → After book commands last → After book commands other → last ≡ other }
 {}
 
 /// Commands that are accepted one after the other, and whose texts are of characters, make a sound book of a sound one.
