@@ -7,7 +7,7 @@ use Rattle.desk_line.specs.declared.head.Head.{Head}
 use Rattle.desk_line.specs.Head.{Says}
 use Rattle.desk_line.specs.Reading.{head_line, head_of}
 use Rattle.desk_line.specs.Lines.{behind_first_line}
-use Rattle.desk_line.specs.Request.{IsLast, IsRequestBefore, IsWhole, Requests, Takes, WholeRequests, last, lines_behind, nothing, said, whole}
+use Rattle.desk_line.specs.Request.{IsLast, IsRequestBefore, IsWhole, Requests, Takes, WholeRequests, last, lines_behind, said, unsaid, whole}
 use Rattle.desk_line.proofs.HeadLaws.{head-found}
 use Rattle.desk_line.proofs.HeadLines.{some-is}
 use Rattle.desk_line.proofs.LineFeeds.{begins, fed, fed-some, feeds, feeds-append, lines-fed, lines-few, lines-then, no-lines, same-front}
@@ -20,9 +20,9 @@ says-one line this that s t = some-is this that (sym (head-found line this s) �
 
 takes-one : (line : List ℕ) (this that : ℕ) → Takes line this → Takes line that → this ≡ that
 takes-one line this that (said h s e) (said k t f) = e ∙ (ap lines_behind (says-one line h k s t) ∙ sym f)
-takes-one line this that (said h s e) (nothing n f) = absurd (n h s)
-takes-one line this that (nothing n e) (said k t f) = absurd (n k t)
-takes-one line this that (nothing n e) (nothing m f) = e ∙ sym f
+takes-one line this that (said h s e) (unsaid n f) = absurd (n h s)
+takes-one line this that (unsaid n e) (said k t f) = absurd (n k t)
+takes-one line this that (unsaid n e) (unsaid m f) = e ∙ sym f
 
 takes-by : (line : List ℕ) (found : Option Head) → head_of line ≡ found → (count : ℕ) × Takes line count
 takes-by line (Some head) e = (lines_behind head, takes-some line head e)

@@ -9,7 +9,7 @@ use Rattle.desk_line.specs.declared.order.Order.{Order}
 use Rattle.desk_line.specs.Fields.{fields_of}
 use Rattle.desk_line.specs.Head.{SaysOrder, table, supply, type_in, correct, correct_by, undo, mark, resolve, strike, restore, style, volume, retable, move, Expects, nothing, expected, Says, does, asks}
 use Rattle.desk_line.specs.Limits.{most_line_bytes}
-use Rattle.desk_line.specs.Lines.{IsText}
+use Rattle.desk_line.specs.Lines.{CanBeHead}
 use Rattle.desk_line.specs.Reading.{number_in, lone_query, paragraph_query, order_by, order_in, query_in, or_else, command_in, head_in, head_of}
 use Rattle.desk_line.proofs.FieldParts.{made-of-both}
 use Rattle.desk_line.proofs.HeadLines.{head-of-text}
@@ -53,7 +53,7 @@ unfolding head_in
 head-read line head e =
     let h = taken (leb (length line) most_line_bytes && is_utf8 line) (head_in (fields_of line)) head e in
     let tests = and_parts (leb (length line) most_line_bytes) (is_utf8 line) h.0 in
-    let text : IsText line = record { short = leb-true (length line) most_line_bytes tests.0; utf8 = IsUtf8-from_is_utf8 line tests.1 } in
+    let text : CanBeHead line = record { short = leb-true (length line) most_line_bytes tests.0; utf8 = IsUtf8-from_is_utf8 line tests.1 } in
     elim (else-read (option_map Ask (query_in (fields_of line))) (command_in (fields_of line)) head h.1) [
       | inl p ↦ let m = mapped Ask (query_in (fields_of line)) head p in asks m.0 text (query-read (fields_of line) m.0 m.1) (sym m.2)
       | inr p ↦ let c = command-read (fields_of line) head p.1 in does c.0 c.1 c.2 text c.3 c.4 c.5

@@ -1,5 +1,6 @@
 pub mod CutLaws
 mod DigitValues
+pub mod LackedBytes
 mod FieldLists
 pub mod HeadLines
 pub mod FieldParts
@@ -12,4 +13,6 @@ pub mod OperandLaws
 pub mod RequestLaws
 pub mod Putting
 pub mod Replying
+pub mod ReplyLines
+pub mod Writing
 mod WorkedRows

@@ -16,7 +16,7 @@ use Rattle.desk_line.specs.Head.{Says}
 use Rattle.desk_line.specs.Limits.{most_line_bytes}
 use Rattle.desk_line.specs.Lines.{IsShort, behind_first_line}
 use Rattle.desk_line.specs.Reading.{Gives, are_lines, head_line, head_in, head_of, query_in, order_in, request_in, with_text}
-use Rattle.desk_line.specs.Request.{Reads, Takes, said, nothing, Tells, lines_behind, request_of}
+use Rattle.desk_line.specs.Request.{Reads, Takes, said, unsaid, Tells, lines_behind, request_of}
 use Rattle.desk_line.proofs.HeadLines.{some-is, head-of-text}
 use Rattle.desk_line.proofs.HeadLaws.{head-read, head-found}
 use Rattle.desk_line.proofs.OperandLaws.{taken, followed}
@@ -98,10 +98,10 @@ some-none x o s n = cc
 pub is-told : (bytes : List ℕ) (result : Result Request Fault) → Gives result (request_in bytes) → MatchResult result (Reads bytes) (Tells bytes)
 is-told bytes (Ok request) e = request-read bytes request e
 is-told bytes (Err Syntax) e = λ request r. some-none request (request_in bytes) (request-found bytes request r) e
-is-told bytes (Err NoMemory) e = (e.0, e.1, request-read bytes (Do e.0 e.1) e.2)
+is-told bytes (Err NoMemory) e = (e.0, e.1, request-read bytes (Do e.0 e.1) e.2, e.3)
 
 pub takes-some : (line : List ℕ) (head : Head) → head_of line ≡ Some head → Takes line (lines_behind head)
 takes-some line head e = said head (head-read line head e) refl
 
 pub takes-none : (line : List ℕ) → head_of line ≡ None → Takes line 0
-takes-none line e = nothing (λ head s. some-none head (head_of line) (head-found line head s) e) refl
+takes-none line e = unsaid (λ head s. some-none head (head_of line) (head-found line head s) e) refl

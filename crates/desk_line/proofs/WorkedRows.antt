@@ -1,8 +1,8 @@
 -- Requests and replies, worked by the definitions alone: they say what these rows say, and not only what the code does.
-use Rattle.std.proofs.Common.{◌≡◌, ℕ, ◌≤◌, true, false, List, [], ◌∷◌, ◌++◌, length, refl, sym, ap, ◌∙◌, lit≤, arith}
+use Rattle.std.proofs.Common.{◌≡◌, ℕ, ◌<◌, ◌≤◌, true, false, List, [], ◌∷◌, ◌++◌, length, refl, sym, ap, subst, ◌∙◌, lit≤, arith}
 use Rattle.std.specs.Prelude.{Some, None, codes}
 use Rattle.std.specs.Char.{encode_utf8}
-use Rattle.std.specs.Str.{chars, all_scalars, encode_utf8_all}
+use Rattle.std.specs.Str.{chars, all_scalars, encode_utf8_all, is_utf8}
 use Rattle.std.specs.Fmt.{digits}
 use Rattle.louis_table.specs.Lines.{lines_of}
 use Rattle.desk_book.specs.declared.command.Anchor.TheVariants.{End}
@@ -16,17 +16,20 @@ use Rattle.desk_line.specs.declared.head.Head.{Head}
 use Rattle.desk_line.specs.declared.head.Head.TheVariants as heads
 use Rattle.desk_line.specs.declared.order.Order.TheVariants as orders
 use Rattle.desk_line.specs.declared.request.Query.TheVariants as queries
+use Rattle.desk_line.specs.declared.request.Request.{Request}
 use Rattle.desk_line.specs.declared.request.Request.TheVariants as requests
 use Rattle.desk_line.specs.Fields.{IsNumber, end, fields_of}
 use Rattle.desk_line.specs.Head.{Says, SaysOrder, asks, correct, correct_by, does, expected, nothing, strike, table, type_in, version}
-use Rattle.desk_line.specs.Lines.{IsText}
-use Rattle.desk_line.specs.Reading.{head_in, query_in, order_in, number_in, count_in, table_in, type_in as read_type_in, anchor_in}
-use Rattle.desk_line.specs.Reply.{IsReply, entry_line, mark_line, refusal_line, listed, shown_line}
-use Rattle.desk_line.specs.Request.{IsWhole, Reads, Requests, Takes, WholeRequests, last, said, whole}
-use Rattle.desk_line.specs.Request.{nothing as takes_nothing}
-use Rattle.desk_line.proofs.HeadLines.{head-of-text}
+use Rattle.desk_line.specs.Lines.{CanBeHead}
+use Rattle.desk_line.specs.Reading.{head_in, head_of, query_in, order_in, number_in, count_in, table_in, type_in as read_type_in, anchor_in}
+use Rattle.desk_line.specs.Answered.{Replies, asked, no_request}
+use Rattle.desk_line.specs.Reply.{IsReply, entry_line, mark_line, no_paragraph, refusal_line, listed, shown, shown_line, shown_text}
+use Rattle.desk_line.specs.Reply.{refused as refused_query, version as shows_version}
+use Rattle.desk_line.specs.Request.{IsWhole, Reads, Requests, Takes, WholeRequests, last, said, unsaid, whole}
+use Rattle.desk_line.proofs.HeadLines.{head-of-long, head-of-text}
 use Rattle.desk_line.proofs.HeadLaws.{head-found}
 use Rattle.desk_line.proofs.LineFeeds.{feeds, feeds-append}
+use Rattle.desk_line.proofs.RequestLaws.{heads-same}
 
 -- ---- lines
 
@@ -56,7 +59,7 @@ zero-is-a-number : IsNumber (codes "0") 0
 zero-is-a-number = record { numeral = (lit≤ tt, (lit≤ tt, tt)); short = lit≤ tt; value = refl; small = lit≤ tt }
 
 -- a short line of ASCII
-text-of-line : (line : List ℕ) → length line ≤ 65536 → all_scalars line ≡ true → encode_utf8_all line ≡ line → IsText line
+text-of-line : (line : List ℕ) → length line ≤ 65536 → all_scalars line ≡ true → encode_utf8_all line ≡ line → CanBeHead line
 text-of-line line short scalars same = record { short = short; utf8 = (line, (scalars, same)) }
 
 strike-a-paragraph : Says (codes "strike 1") (heads.Do (orders.Strike 1) None)
@@ -114,7 +117,7 @@ typed-blanks : SaysOrder (fields_of (codes "type end en  a b")) (orders.TypeIn E
 typed-blanks = type_in (codes "end") (codes "en") ([] ∷ codes "a" ∷ codes "b" ∷ []) End (end refl refl) (λ n. cc) refl refl
 
 -- what says nothing
-silent : (line : List ℕ) → IsText line → head_in (fields_of line) ≡ None → (head : Head) → ¬ Says line head
+silent : (line : List ℕ) → CanBeHead line → head_in (fields_of line) ≡ None → (head : Head) → ¬ Says line head
 silent line text none head says = let e = sym none ∙ (sym (head-of-text line text.short text.utf8) ∙ head-found line head says) in cc
 
 two-blanks : (head : Head) → ¬ Says (codes "print  1") head
@@ -171,7 +174,7 @@ asked-version = record {
 }
 
 line-of-nothing : IsWhole (codes "\n")
-line-of-nothing = record { line = []; block = []; lines = refl; takes = takes_nothing empty-line refl; front = []; ends = refl }
+line-of-nothing = record { line = []; block = []; lines = refl; takes = unsaid empty-line refl; front = []; ends = refl }
 
 cut-of-an-input : Requests (codes "version\n\n") (codes "version\n" ∷ codes "\n" ∷ [])
 cut-of-an-input = (codes "\n", refl, whole asked-version, ([], refl, whole line-of-nothing, refl))
@@ -182,7 +185,7 @@ cut-at-a-return = (
   codes "\r",
   refl,
   whole asked-version,
-  ([], refl, last refl (record { line = []; block = []; lines = refl; count = 0; takes = takes_nothing empty-line refl; most = lit≤ tt }), refl),
+  ([], refl, last refl (record { line = []; block = []; lines = refl; count = 0; takes = unsaid empty-line refl; most = lit≤ tt }), refl),
 )
 
 -- a table of two lines
@@ -232,9 +235,45 @@ cut-behind-too-many : Requests (codes "table x 20001\nversion\n") (codes "table 
 cut-behind-too-many = (
   codes "version\n",
   refl,
-  whole (record { line = codes "table x 20001"; block = []; lines = refl; takes = takes_nothing too-many-lines refl; front = codes "table x 20001"; ends = refl }),
+  whole (record { line = codes "table x 20001"; block = []; lines = refl; takes = unsaid too-many-lines refl; front = codes "table x 20001"; ends = refl }),
   ([], refl, whole asked-version, refl),
 )
+
+-- a `table` line that isn't UTF-8 takes none
+cut-behind-bytes : Requests (codes "table " ++ 255 ∷ codes " 1\nversion\n") ((codes "table " ++ 255 ∷ codes " 1\n") ∷ codes "version\n" ∷ [])
+unfolding is_utf8 chars encode_utf8
+cut-behind-bytes = (
+  codes "version\n",
+  refl,
+  whole (record {
+    line = codes "table " ++ 255 ∷ codes " 1";
+    block = [];
+    lines = refl;
+    takes = unsaid (λ head says. let none : head_of (codes "table " ++ 255 ∷ codes " 1") ≡ None = refl in let e = sym none ∙ head-found _ head says in cc) refl;
+    front = codes "table " ++ 255 ∷ codes " 1";
+    ends = refl;
+  }),
+  ([], refl, whole asked-version, refl),
+)
+
+-- a line that is too long takes none, whatever it says
+long-line : (line : List ℕ) → 65536 < length line → Takes line 0
+long-line line long = unsaid (λ head says. let e = sym (head-of-long line long) ∙ head-found line head says in cc) refl
+
+-- an expected version doesn't change what a `table` line takes, nor does a name that no table may have
+table-at-a-version : Takes (codes "@9 table x 1") 1
+unfolding encode_utf8
+table-at-a-version =
+    said (heads.Do (orders.Table (codes "x") 1) (Some 9))
+    (does (Some 9) (codes "table" ∷ codes "x" ∷ codes "1" ∷ []) (orders.Table (codes "x") 1) (text-of-line (codes "@9 table x 1") (lit≤ tt) refl refl)
+    (expected (codes "9") 9 nine-is-a-number refl refl) (table (codes "x") (codes "1") 1 (λ n. cc) one-is-a-number (lit≤ tt) refl refl) refl) refl
+
+table-of-a-bad-name : Takes (codes "table T 1") 1
+unfolding encode_utf8
+table-of-a-bad-name =
+    said (heads.Do (orders.Table (codes "T") 1) None)
+    (does None (fields_of (codes "table T 1")) (orders.Table (codes "T") 1) (text-of-line (codes "table T 1") (lit≤ tt) refl refl)
+    (nothing refl refl) (table (codes "T") (codes "1") 1 (λ n. cc) one-is-a-number (lit≤ tt) refl refl) refl) refl
 
 -- of bytes behind which a read failed, a line that is cut is no request
 none-within-a-line : (request later : List ℕ) → codes "strike" ≡ request ++ later → ¬ IsWhole request
@@ -295,6 +334,59 @@ touched-mark : shown_line (mark_line (record { id = 1; paragraph = 2; start = 0;
 unfolding digits encode_utf8
 touched-mark = refl
 
+-- print outside of ASCII: `a’s`, with U+2019
+shown-quote : shown_line (shown_text (97 ∷ 8217 ∷ 115 ∷ [])) ≡ codes "| a" ++ 226 ∷ 128 ∷ 153 ∷ codes "s\n"
+unfolding encode_utf8
+shown-quote = refl
+
 -- an empty print
 shown-nothing : shown_line [] ≡ codes "| \n"
 shown-nothing = refl
+
+-- the replies to a query of the version, to one of a paragraph that isn't there, to what is no request, and where a command could not be kept
+reply-of-the-version : IsReply empty_book (answers.Asked queries.Version) (codes "end 0\n")
+unfolding digits
+reply-of-the-version = shown [] (shows_version refl refl) refl
+
+reply-of-no-paragraph : IsReply empty_book (answers.Asked (queries.Print 1)) (codes "no 2\n")
+unfolding digits
+reply-of-no-paragraph = refused_query refusals.NoParagraph (no_paragraph 1 refl refl refl) refl
+
+reply-to-no-request : IsReply empty_book answers.Syntax (codes "no 1\n")
+unfolding digits
+reply-to-no-request = refl
+
+reply-where-nothing-was-kept : IsReply empty_book answers.Lost (codes "no 91\n")
+unfolding digits
+reply-where-nothing-was-kept = refl
+
+-- ---- what is replied to requests
+
+-- a query is answered on the book as it is, and what is no request by code 1
+asked-and-replied : Replies (codes "version\n") empty_book empty_book (codes "end 0\n")
+unfolding encode_utf8
+asked-and-replied = record {
+  answer = answers.Asked queries.Version;
+  answered = asked queries.Version (record {
+    line = codes "version";
+    block = [];
+    head = heads.Ask queries.Version;
+    lines = refl;
+    says = asks queries.Version (text-of-line (codes "version") (lit≤ tt) refl refl) (version refl refl) refl;
+    whole = refl;
+    short = tt;
+    is = refl;
+  }) refl refl;
+  reply = reply-of-the-version;
+}
+
+-- no request reads from an empty line
+empty-line-unread : (request : Request) → ¬ Reads (codes "\n") request
+empty-line-unread request r = empty-line r.head (subst (λ (l : List ℕ). Says l r.head) (sym (heads-same [] r.line [] r.block r.lines)) r.says)
+
+nothing-and-replied : Replies (codes "\n") empty_book empty_book (codes "no 1\n")
+nothing-and-replied = record {
+  answer = answers.Syntax;
+  answered = no_request empty-line-unread refl refl;
+  reply = reply-to-no-request;
+}

@@ -11,7 +11,7 @@ use Rattle.desk_line.specs.declared.order.SpanText.{SpanText}
 use Rattle.desk_line.specs.declared.request.Query.{Query}
 use Rattle.desk_line.specs.declared.request.Query.TheVariants as queries
 use Rattle.desk_line.specs.Fields.{fields_of, joined, IsName, IsNumber, IsAnchor, IsStyle, IsFlag}
-use Rattle.desk_line.specs.Lines.{IsText}
+use Rattle.desk_line.specs.Lines.{CanBeHead}
 
 -- the fields name a paragraph, the first of its places and how many places, and the rest of the line is a text, with its
 -- blanks; before an empty one the blank may be missing
@@ -83,6 +83,6 @@ pub data Expects (fields : List (List ℕ)) (expect : Option ℕ) (command : Lis
 
 -- what a head line, without its ending, says; before a query no version may stand
 pub data Says (line : List ℕ) (head : Head) : Type 0 where
-  does : (expect : Option ℕ) (command : List (List ℕ)) (order : Order) → IsText line → Expects (fields_of line) expect command
+  does : (expect : Option ℕ) (command : List (List ℕ)) (order : Order) → CanBeHead line → Expects (fields_of line) expect command
       → SaysOrder command order → head ≡ Do order expect → Says line head
-  asks : (query : Query) → IsText line → SaysQuery (fields_of line) query → head ≡ Ask query → Says line head
+  asks : (query : Query) → CanBeHead line → SaysQuery (fields_of line) query → head ≡ Ask query → Says line head

@@ -4,5 +4,7 @@ pub mod Fields
 pub mod Head
 pub mod Request
 pub mod Reply
+pub mod Answered
+pub mod Written
 pub mod Reading
 pub mod Waiting

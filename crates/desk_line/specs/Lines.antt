@@ -10,7 +10,7 @@ abbrev pub IsShort : List ℕ → Type 0
 IsShort line = length line ≤ most_line_bytes
 
 -- a line that can be a head line: UTF-8, and not too long
-pub record IsText (line : List ℕ) : Type 0 where
+pub record CanBeHead (line : List ℕ) : Type 0 where
   pub short : IsShort line
   pub utf8 : IsUtf8 line
 

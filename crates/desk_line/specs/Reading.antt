@@ -1,4 +1,5 @@
--- How a head line is read, step by step. Only proofs need these words: `Head` says what a head line says.
+-- How a head line is read, step by step. Only private functions and proofs need these words: `Head` says what a head line
+-- says, and `Request` what bytes are a request.
 use Rattle.std.specs.Prelude.{ℕ, Bool, true, false, ◌&&◌, ◌==◌, ◌≡◌, ◌-◌, Result, Ok, Err, nat_lt, nat_le, if◌then◌else◌, List, [], ◌∷◌, length, codes, Option, Some, None, option_map}
 use Rattle.std.specs.Option.{option_and_then}
 use Rattle.std.specs.List.{list_all, before_first}
@@ -26,7 +27,7 @@ use Rattle.desk_line.specs.declared.fault.Fault.TheVariants.{Syntax, NoMemory}
 use Rattle.desk_line.specs.declared.request.Request.{Request}
 use Rattle.desk_line.specs.declared.request.Request.TheVariants as requests
 use Rattle.desk_line.specs.Lines.{behind_first_line}
-use Rattle.desk_line.specs.Request.{lines_behind, request_of}
+use Rattle.desk_line.specs.Request.{HasText, lines_behind, request_of}
 use Rattle.desk_line.specs.Limits.{most_digits, most_line_bytes, most_number}
 
 -- ---- lists
@@ -250,8 +251,9 @@ with_text text head = if are_lines (lines_of text) (lines_behind head) then Some
 unfoldable pub request_in : List ℕ → Option Request
 request_in bytes = option_and_then (with_text (behind_first_line bytes)) (head_of (head_line bytes))
 
--- a result gives what was found; where it gives no memory, that is a command
+-- a result gives what was found; where it gives no memory, that is a command which has a text or a name
 abbrev pub Gives : Result Request Fault → Option Request → Type 0
 Gives (Ok request) found = found ≡ Some request
 Gives (Err Syntax) found = found ≡ None
-Gives (Err NoMemory) found = (command : Command) × (expect : Option ℕ) × (found ≡ Some (requests.Do command expect))
+Gives (Err NoMemory) found =
+    (command : Command) × (expect : Option ℕ) × (found ≡ Some (requests.Do command expect)) × HasText command

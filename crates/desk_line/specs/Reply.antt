@@ -1,7 +1,8 @@
 -- What is replied to a request.
-use Rattle.std.specs.Prelude.{◌≡◌, ℕ, Bool, true, false, List, [], ◌∷◌, ◌++◌, length, map, codes, decimal, option_to_list, Option, Some, None}
-use Rattle.std.specs.List.{flat_map, enumerate_from}
+use Rattle.std.specs.Prelude.{◌≡◌, ◌⊎◌, ℕ, Bool, true, false, List, [], ◌∷◌, ◌++◌, length, map, codes, decimal, option_to_list, Option, Some, None}
+use Rattle.std.specs.List.{All, flat_map, enumerate_from}
 use Rattle.std.specs.Str.{encode_utf8_all}
+use Rattle.louis_table.specs.Lines.{pieces_of}
 use Rattle.desk_ends.specs.Cells.{text_of}
 use Rattle.desk_ends.specs.Sent.{Sent}
 use Rattle.desk_book.specs.declared.refusal.Refusal.{Refusal}
@@ -163,6 +164,20 @@ IsReply book (Asked query) text = RepliesToQuery book query text
 IsReply book Syntax text = text ≡ word_and (codes "no") (1 ∷ [])
 IsReply book NoMemory text = text ≡ word_and (codes "no") (90 ∷ [])
 IsReply book Lost text = text ≡ word_and (codes "no") (91 ∷ [])
+
+-- ---- the lines of a reply
+
+-- the line begins with these bytes
+abbrev pub BeginsWith : List ℕ → List ℕ → Type 0
+BeginsWith front line = (rest : List ℕ) × (line ≡ front ++ rest)
+
+-- each line of the text but the last begins with a bar and a blank, and the last with one of these words
+pub record EndsBehindBars (text : List ℕ) : Type 0 where
+  pub others : List (List ℕ)
+  pub last : List ℕ
+  pub lines : pieces_of text ≡ others ++ last ∷ []
+  pub bars : All (BeginsWith (codes "| ")) others
+  pub word : BeginsWith (codes "end ") last ⊎ BeginsWith (codes "no ") last
 
 -- ---- what is sent
 

@@ -43,7 +43,7 @@ lines_behind (heads.Ask query) = 0
 -- how many lines a head line takes: those that it says, or none where it says nothing
 pub data Takes (line : List ℕ) (count : ℕ) : Type 0 where
   said : (head : Head) → Says line head → count ≡ lines_behind head → Takes line count
-  nothing : ((head : Head) → ¬ Says line head) → count ≡ 0 → Takes line count
+  unsaid : ((head : Head) → ¬ Says line head) → count ≡ 0 → Takes line count
 
 -- ---- the requests of an input
 
@@ -122,7 +122,22 @@ pub record Reads (bytes : List ℕ) (request : Request) : Type 0 where
   pub short : AllByRecursion IsShort block
   pub is : request ≡ request_of head (behind_first_line bytes)
 
--- the fault is told of the bytes: they are no request; want of memory is told of commands alone
+-- the command has a text or a name, for which memory is taken
+abbrev pub HasText : Command → Type 0
+HasText (commands.Table name text) = Unit {0}
+HasText (commands.TypeIn after table text) = Unit {0}
+HasText (commands.Correct id start count text who) = Unit {0}
+HasText (commands.Undo id) = ⊥
+HasText (commands.Mark id cell count note) = Unit {0}
+HasText (commands.Resolve id) = ⊥
+HasText (commands.Strike id) = ⊥
+HasText (commands.Restore id) = ⊥
+HasText (commands.Style id style) = ⊥
+HasText (commands.Volume id begins) = ⊥
+HasText (commands.Retable id table) = Unit {0}
+HasText (commands.Move id after) = ⊥
+
+-- the fault is told of the bytes: they are no request; want of memory is told of commands alone that have a text or a name
 abbrev pub Tells : List ℕ → Fault → Type 0
 Tells bytes Syntax = (request : Request) → ¬ Reads bytes request
-Tells bytes NoMemory = (command : Command) × (expect : Option ℕ) × Reads bytes (Do command expect)
+Tells bytes NoMemory = (command : Command) × (expect : Option ℕ) × Reads bytes (Do command expect) × HasText command

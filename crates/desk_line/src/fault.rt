@@ -8,7 +8,7 @@ pub enum Fault {
     /// They are no request.
     #[error("this is no request")]
     Syntax,
-    /// An allocation was refused. Only a command takes memory.
+    /// An allocation was refused. Only a command that has a text or a name takes memory.
     #[error("out of memory")]
     NoMemory,
 }

@@ -1,11 +1,22 @@
-//! Laws of requests.
+//! Laws of requests and replies.
+ghost use Rattle.desk_book.specs.Book.{Book};
+ghost use Rattle.desk_book.specs.Sound.{IsSound};
+ghost use Rattle.desk_line.specs.Reply.{EndsBehindBars, RepliesToQuery};
+ghost use Rattle.desk_line.specs.declared.request.Query.{Query};
 ghost use Rattle.desk_line.specs.Request.{Reads, Requests, WholeRequests};
+ghost use Rattle.desk_line.specs.Written.{CanBeWritten, written};
 ghost use Rattle.desk_line.specs.declared.request.Request.{Request};
 ghost use Rattle.std.specs.Prelude.{◌≡◌, ◌++◌, ℕ, List};
 
 /// Bytes are one request at most.
 pub fn one_request()
     ensures { (bytes : List ℕ) (this that : Request) → Reads bytes this → Reads bytes that → this ≡ that }
+{}
+
+/// Each request within the bounds of the language has a text that reads as it: its numbers are at most 2^53, its names have a
+/// character and no blank or line feed, its texts no line feed, and its lines are few and short enough.
+pub fn requests_are_written()
+    ensures { (request : Request) → CanBeWritten request → Reads (written request) request }
 {}
 
 /// An input is cut into requests in just one way.
@@ -20,4 +31,11 @@ pub fn one_cut_before_a_fault()
     ensures one { (bytes : List ℕ) (this that : List (List ℕ)) → WholeRequests bytes this → WholeRequests bytes that → this ≡ that }
     ensures first { (bytes later : List ℕ) (requests all : List (List ℕ)) → WholeRequests bytes requests → Requests (bytes ++ later) all
         → (others : List (List ℕ)) × (all ≡ requests ++ others) }
+{}
+
+/// Each line of a reply to a query but the last begins with a bar, so that none of them can be taken for an answer. Of a
+/// sound book this holds because none of its texts has a line feed.
+pub fn lines_behind_bars()
+    ensures { (book : Book) (query : Query) (text : List ℕ) → IsSound book → RepliesToQuery book query text
+        → EndsBehindBars text }
 {}

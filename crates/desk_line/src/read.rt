@@ -1,11 +1,11 @@
 //! Reads requests.
 ghost use Rattle.desk_line.specs.Lines.{behind_first_line};
 ghost use Rattle.desk_line.specs.Reading.{Gives, are_lines, head_line, request_in};
-ghost use Rattle.desk_line.specs.Request.{Reads, Takes, Tells, command_of, correction_of, mark_of, request_of};
+ghost use Rattle.desk_line.specs.Request.{HasText, Reads, Takes, Tells, command_of, correction_of, mark_of, request_of};
 ghost use Rattle.louis_table.specs.Lines.{lines_of};
 ghost use Rattle.std.specs.Io.BufRead.{strip_last};
 ghost use Rattle.std.specs.List.{after_first, before_first, position_or_len};
-ghost use Rattle.std.specs.Prelude.{◌==◌, ◌≡◌, ◌≤◌, IfOk, MatchResult, Some, length};
+ghost use Rattle.std.specs.Prelude.{◌==◌, ◌≡◌, ◌≤◌, IfOk, MatchResult, OnErr, Some, length};
 ghost use Rattle.std.specs.Str.{chars};
 
 use super::fault::Fault;
@@ -19,8 +19,9 @@ use louis_table::EN;
 use std::alloc::{AllocError, Global};
 
 /// How many lines follow a head line in its request. The head line is given without its ending, a line feed and one
-/// carriage return before it. It is 0 where the line takes none: a query, another command than `table`, a line that says
-/// nothing, and a line that still has its ending.
+/// carriage return before it, and no line feed stands in it. It is 0 where the line takes none: a query, another command than
+/// `table`, a `table` line with the number 0, and a line that says nothing, as one that is too long, one that isn't UTF-8 and
+/// one that still has its ending.
 pub fn lines_after(head: &[u8]) -> u64
     ensures { Takes head.now result }
 {
@@ -34,7 +35,8 @@ pub fn lines_after(head: &[u8]) -> u64
 ///
 /// # Errors
 ///
-/// `Syntax` exactly where the bytes are no request; `NoMemory` where an allocation for a command was refused.
+/// `Syntax` exactly where the bytes are no request; `NoMemory` where an allocation for the text or a name of a command was
+/// refused.
 pub fn read_request(alloc: Global, bytes: &[u8]) -> Result<Request, Fault>
     ensures { MatchResult result (Reads bytes.now) (Tells bytes.now) }
 {
@@ -126,7 +128,8 @@ fn make_request(alloc: Global, head: Head<'_>, text: &[u8]) -> Result<Request, F
 
 /// The command that a head line and the bytes of the lines behind it make.
 fn make_command(alloc: Global, order: Order<'_>, text: &[u8]) -> Result<Command, AllocError>
-    ensures { IfOk result (λ command. command ≡ command_of order.entry text.now) }
+    ensures made { IfOk result (λ command. command ≡ command_of order.entry text.now) }
+    ensures short { OnErr result (HasText (command_of order.entry text.now)) }
 {
     match order {
         Order::Table { name, .. } => make_table(alloc, &name, text),

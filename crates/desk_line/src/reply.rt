@@ -12,7 +12,7 @@ use super::waiting::Waiting;
 use desk_book::{Book, Refusal};
 use desk_ends::Sink;
 
-/// Writes the reply to a request, by what became of it, on the book as it is then. It takes no memory, and flushes nothing.
+/// Writes the reply to a request, by what became of it, on the book as it is then. It takes no memory.
 ///
 /// # Errors
 ///

@@ -146,7 +146,38 @@ style 1 heading¶ => ok 6¶
 list¶ => | 1 en heading volume live 5¶end 6¶
 print  1¶ => no 1¶
 @1 version¶ => no 1¶
-type end en Cafe\u{301}¶ => no 7 3¶",
+type end en Cafe\u{301}¶ => no 7 3¶
+supply b¶ => ok 7¶
+type front en c¶ => ok 8 2¶
+type 1 en d¶ => ok 9 3¶
+type end b a’s¶ => ok 10 4¶
+list¶ => | 2 en body - live 1¶| 1 en heading volume live 5¶| 3 en body - live 1¶| 4 b body - live 3¶end 10¶
+move 1 front¶ => ok 11¶
+move 2 end¶ => ok 12¶
+move 4 1¶ => ok 13¶
+move 4 4¶ => ok 14¶
+list¶ => | 1 en heading volume live 5¶| 4 b body - live 3¶| 3 en body - live 1¶| 2 en body - live 1¶end 14¶
+retable 1 b¶ => ok 15¶
+retable 1 zz¶ => no 3¶
+volume 1 off¶ => ok 16¶
+style 1 body¶ => ok 17¶
+volume 3 on¶ => ok 18¶
+style 2 heading¶ => ok 19¶
+list¶ => | 1 b body - live 5¶| 4 b body - live 3¶| 3 en body volume live 1¶| 2 en heading - live 1¶end 19¶
+print 4¶ => | a’s¶end 19¶
+braille 4¶ => | ⠁⠄⠎¶end 19¶
+where 4 2¶ => | 2¶end 19¶
+whence 4 2¶ => | 2¶end 19¶
+type end en é␀¶ => no 6 1¶
+type end en aé¶ => no 7 1¶
+type end en a’e\u{301}¶ => no 7 2¶
+correct 4 2 1 b’¶ => ok 20 1¶
+correct-by Zoë 4 0 1 ’¶ => ok 21 2¶
+history 4¶ => | 1 correct 2 1 b’¶| 2 correct-by Zoë 0 1 ’¶end 21¶
+print 4¶ => | ’’b’¶end 21¶
+mark 4 3 1 é 𝄞¶ => ok 22 1¶
+marks 4¶ => | 1 3 4 open kept é 𝄞¶end 22¶
+mark 4 0 1 é␀¶ => no 6 1¶",
     )
 }
 
@@ -250,11 +281,22 @@ table t 1¶{#×65536}¶ => no 8 1 8¶
 table t 1¶{#×65536}←¶ => no 8 1 8¶
 table t 1¶{#×65537}¶ => no 1¶
 table t 1¶{#×65536}←←¶ => no 1¶
+table t 1¶{#×65536}← => no 8 1 8¶
+table t 1¶{#×65536}←← => no 1¶
+table t 2¶{#×65537}¶letter a 1¶ => no 1¶
 type end t {a×65525}¶ => no 14¶
 type end t {a×65525}←¶ => no 14¶
 type end t {a×65526}¶ => no 1¶
 type end t {a×65525}←←¶ => no 1¶
-version¶ => end 9¶",
+type end t {a×65525}← => no 14¶
+type end t {a×65525}←← => no 1¶
+type end t {a×65526} => no 1¶
+type end t {a×4001}¶ => no 14¶
+table t 1¶letter a 1¶ => ok 10¶
+type end t {a×4000}¶ => ok 11 1¶
+print 1¶ => | {a×4000}¶end 11¶
+list¶ => | 1 t body - live 4000¶end 11¶
+version¶ => end 11¶",
     )
 }
 
@@ -285,6 +327,7 @@ correct-by Ann 1 4 4 dog¶ => ok 9 5¶
 correct-by {A×40} 1 0 3 A¶ => ok 10 6¶
 correct-by {A×41} 1 0 3 A¶ => no 18¶
 correct-by a␀ 1 0 3 A¶ => no 18¶
+correct-by a←b 1 0 3 A¶ => no 18¶
 correct-by \u{A0} 9 0 3 A¶ => no 2¶
 correct-by Ann 1 0 0¶ => ok 11 7¶
 correct-by Ann 1 0 0 ¶ => ok 12 8¶
@@ -417,12 +460,26 @@ fn judge_answer(rt: &impl Abort, alloc: Global, answer: &Answer, wanted: &str) -
     Ok(())
 }
 
+/// Compares what is replied to a refusal on a new book.
+fn judge_refusal(
+    rt: &impl Abort,
+    alloc: Global,
+    refusal: Refusal,
+    wanted: &str,
+) -> Result<(), Fail> {
+    judge_answer(rt, alloc, &Answer::Refused(refusal), wanted)
+}
+
 #[test]
 fn what_no_short_session_answers(rt: HostRuntime) -> Result<(), Fail> {
-    let full = Answer::Refused(Refusal::Full(Limit::Version));
-    judge_answer(&rt, rt.alloc(), &full, "no 15 5\n")?;
-    judge_answer(&rt, rt.alloc(), &Answer::NoMemory, "no 90\n")?;
-    judge_answer(&rt, rt.alloc(), &Answer::Lost, "no 91\n")
+    let alloc = rt.alloc();
+    judge_refusal(&rt, alloc, Refusal::Full(Limit::Paragraphs), "no 15 2\n")?;
+    judge_refusal(&rt, alloc, Refusal::Full(Limit::Entries), "no 15 3\n")?;
+    judge_refusal(&rt, alloc, Refusal::Full(Limit::Marks), "no 15 4\n")?;
+    judge_refusal(&rt, alloc, Refusal::Full(Limit::Version), "no 15 5\n")?;
+    judge_refusal(&rt, alloc, Refusal::NoMemory, "no 90\n")?;
+    judge_answer(&rt, alloc, &Answer::NoMemory, "no 90\n")?;
+    judge_answer(&rt, alloc, &Answer::Lost, "no 91\n")
 }
 
 /// Takes so many bytes, at most 1,000 at a time, and then fails.

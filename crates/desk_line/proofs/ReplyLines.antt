@@ -1,0 +1,213 @@
+-- Each line of a reply to a query but the last begins with a bar, since no text of a sound book has a line feed.
+use Rattle.std.proofs.Common.{◌≡◌, ℕ, ◌+◌, Bool, true, false, ◌||◌, eqb, List, [], ◌∷◌, ◌++◌, length, get_or, take, map, codes, refl, sym, ap, subst, ◌∙◌, append_assoc, inl, inr, arith, lit<}
+use Rattle.std.specs.Prelude.{decimal}
+use Rattle.std.specs.List.{All, AllByRecursion, enumerate_from, flat_map}
+use Rattle.std.proofs.lemmas.List.Elements.{All-cons, All-filter, All-head, All-map, All-nil, All-tail, All-weaker}
+use Rattle.std.proofs.lemmas.Option.{slice_get-get_or}
+use Rattle.cell_core.specs.Cell.{braille_character}
+use Rattle.louis_table.specs.Lines.{pieces_of}
+use Rattle.louis_table.proofs.LineLaws.{pieces_of-line}
+use Rattle.desk_book.specs.declared.style.Style.{Style}
+use Rattle.desk_book.specs.declared.style.Style.TheVariants.{Body, Heading}
+use Rattle.desk_book.specs.Book.{Book, Entry, Corrects, Undoes, Mark, Paragraph}
+use Rattle.desk_book.specs.Name.{is_name_character, is_reader_character}
+use Rattle.desk_book.specs.Print.{print_of}
+use Rattle.desk_book.specs.Refusals.{code_of}
+use Rattle.desk_book.specs.Sound.{IsSound, IsSoundEntry, IsSoundMark, IsSoundParagraph}
+use Rattle.desk_book.specs.Stored.{IsUnbarred, is_barred}
+use Rattle.desk_book.proofs.SoundBooks.{IsSoundParagraph-found, IsSoundTable-found}
+use Rattle.desk_book.proofs.SoundParaRows.{unbarred-print}
+use Rattle.desk_ends.specs.Cells.{text_of}
+use Rattle.desk_line.specs.declared.request.Query.{Query}
+use Rattle.desk_line.specs.Fields.{joined}
+use Rattle.desk_line.specs.Reply.{BeginsWith, EndsBehindBars, RepliesToQuery, ShowsLines, print, braille, history, marks, where_is, whence, list, version, shown, refused, details, entry_line, life_word, listed, mark_line, shown_line, shown_text, state_word, style_word, touch_word, volume_word, word_and}
+use Rattle.desk_line.proofs.LackedBytes.{Lacks, Lacks-decimal, Lacks-joined, Lacks-shown, lacks, one-line, other-byte}
+
+-- a line without a line feed
+abbrev Lone : List ℕ → Type 0
+Lone line = Lacks 10 line
+
+joined-lone : (fields : List (List ℕ)) → AllByRecursion Lone fields → Lone (joined fields)
+joined-lone = Lacks-joined 10 (λ e. omega arith)
+
+number-lone : (n : ℕ) → Lone (decimal n)
+number-lone = Lacks-decimal 10 (lit< tt)
+
+text-lone : (text : List ℕ) → All (λ c. eqb c 10 ≡ false) text → Lone (shown_text text)
+text-lone = Lacks-shown 10 (lit< tt)
+
+-- ---- characters
+
+first-false : (a b c : Bool) → (a || b || c) ≡ false → a ≡ false
+first-false true b c e = absurd cc
+first-false false b c e = refl
+
+unbarred-lone : (text : List ℕ) → IsUnbarred text → Lone (shown_text text)
+unbarred-lone text h =
+    text-lone text
+    (All-weaker (λ c. is_barred c ≡ false) (λ c. eqb c 10 ≡ false) (λ c e. first-false (eqb c 10) (eqb c 13) (eqb c 0) e) text h)
+
+reader-other : (c : ℕ) → is_reader_character c ≡ true → eqb c 10 ≡ false
+reader-other c e =
+    other-byte c 10 (λ at. let h : is_reader_character 10 ≡ true = ap is_reader_character (sym at) ∙ e in cc)
+
+name-other : (c : ℕ) → is_name_character c ≡ true → eqb c 10 ≡ false
+name-other c e = other-byte c 10 (λ at. let h : is_name_character 10 ≡ true = ap is_name_character (sym at) ∙ e in cc)
+
+braille-lone : (cells : List ℕ) → Lone (text_of cells)
+braille-lone cells =
+    text-lone (map braille_character cells)
+    (All-map (λ c. eqb c 10 ≡ false) braille_character cells (λ k d within. other-byte (braille_character (get_or cells k d)) 10 (λ e. omega arith)))
+
+-- ---- histories
+
+entry-lone : (original : List ℕ) (before : List Entry) (entry : Entry) → IsSoundEntry original before entry
+    → (n : ℕ) → Lone (entry_line (n, entry))
+entry-lone original before (Corrects r []) sound n =
+    joined-lone (decimal n ∷ codes "correct" ∷ decimal r.start ∷ decimal r.count ∷ shown_text r.text ∷ [])
+    (number-lone n, (lacks 10 (codes "correct") refl, (number-lone r.start, (number-lone r.count, (unbarred-lone r.text sound.1.unbarred, tt)))))
+entry-lone original before (Corrects r (c ∷ who)) sound n =
+    joined-lone (decimal n ∷ codes "correct-by" ∷ shown_text (c ∷ who) ∷ decimal r.start ∷ decimal r.count ∷ shown_text r.text ∷ []) (
+      number-lone n,
+      (
+        lacks 10 (codes "correct-by") refl,
+        (
+          text-lone (c ∷ who) (All-weaker (λ x. is_reader_character x ≡ true) (λ x. eqb x 10 ≡ false) reader-other (c ∷ who) sound.2.characters),
+          (number-lone r.start, (number-lone r.count, (unbarred-lone r.text sound.1.unbarred, tt))),
+        ),
+      ),
+    )
+entry-lone original before (Undoes undone) sound n =
+    joined-lone (decimal n ∷ codes "undo" ∷ decimal undone ∷ []) (number-lone n, (lacks 10 (codes "undo") refl, (number-lone undone, tt)))
+
+-- an entry's line, whatever number it has
+abbrev HasLoneLine : Entry → Type 0
+HasLoneLine entry = (n : ℕ) → Lone (entry_line (n, entry))
+
+entries-lone : (n : ℕ) (entries : List Entry) → All HasLoneLine entries → All (λ item. Lone (entry_line item)) (enumerate_from n entries)
+entries-lone n [] h = All-nil (λ (item : ℕ × Entry). Lone (entry_line item))
+entries-lone n (entry ∷ entries) h =
+    All-cons (λ (item : ℕ × Entry). Lone (entry_line item)) (n, entry) (enumerate_from (n + 1) entries) (All-head HasLoneLine entry entries h n)
+    (entries-lone (n + 1) entries (All-tail HasLoneLine entry entries h))
+
+-- ---- the lines that a sound book shows
+
+style-lone : (style : Style) → Lone (style_word style)
+style-lone Body = lacks 10 (codes "body") refl
+style-lone Heading = lacks 10 (codes "heading") refl
+
+volume-lone : (begins : Bool) → Lone (volume_word begins)
+volume-lone true = lacks 10 (codes "volume") refl
+volume-lone false = lacks 10 (codes "-") refl
+
+life-lone : (struck : Bool) → Lone (life_word struck)
+life-lone true = lacks 10 (codes "struck") refl
+life-lone false = lacks 10 (codes "live") refl
+
+state-lone : (resolved : Bool) → Lone (state_word resolved)
+state-lone true = lacks 10 (codes "resolved") refl
+state-lone false = lacks 10 (codes "open") refl
+
+touch-lone : (touched : Bool) → Lone (touch_word touched)
+touch-lone true = lacks 10 (codes "touched") refl
+touch-lone false = lacks 10 (codes "kept") refl
+
+module _ (book : Book) (sound : IsSound book) where
+  mark-lone : (mark : Mark) → IsSoundMark book mark → Lone (mark_line mark)
+  mark-lone mark s =
+      joined-lone (decimal mark.id ∷ decimal mark.start ∷ decimal mark.end ∷ state_word mark.resolved ∷ touch_word mark.touched ∷ shown_text mark.note ∷ []) (
+        number-lone mark.id,
+        (
+          number-lone mark.start,
+          (
+            number-lone mark.end,
+            (state-lone mark.resolved, (touch-lone mark.touched, (unbarred-lone mark.note s.clean.unbarred, tt))),
+          ),
+        ),
+      )
+
+  listed-lone : (p : Paragraph) → IsSoundParagraph book p → Lone (listed p)
+  listed-lone p s =
+      joined-lone (decimal p.id ∷ shown_text p.table ∷ style_word p.style ∷ volume_word p.begins_volume ∷ life_word p.struck ∷ decimal (length (print_of p)) ∷ []) (
+        number-lone p.id,
+        (
+          text-lone p.table (All-weaker (λ c. is_name_character c ≡ true) (λ c. eqb c 10 ≡ false) name-other p.table (IsSoundTable-found book sound p.table s.text s.found).named.characters),
+          (style-lone p.style, (volume-lone p.begins_volume, (life-lone p.struck, (number-lone (length (print_of p)), tt)))),
+        ),
+      )
+
+  history-lone : (p : Paragraph) → IsSoundParagraph book p → All HasLoneLine p.history
+  history-lone p s k d within n =
+      entry-lone p.original (take k p.history) (get_or p.history k d)
+      (s.history.entries k (get_or p.history k d) (slice_get-get_or p.history k d within)) n
+
+  one : (line : List ℕ) → Lone line → All Lone (line ∷ [])
+  one line h = All-cons Lone line [] h (All-nil Lone)
+
+  shown-lone : (query : Query) (lines : List (List ℕ)) → ShowsLines book query lines → All Lone lines
+  shown-lone query lines (print id p q found is) =
+      subst (All Lone) (sym is) (one (shown_text (print_of p)) (unbarred-lone (print_of p) (unbarred-print book p (IsSoundParagraph-found book sound id p found))))
+  shown-lone query lines (braille id p cells q found b is) = subst (All Lone) (sym is) (one (text_of cells) (braille-lone cells))
+  shown-lone query lines (history id p q found is) =
+      subst (All Lone) (sym is)
+      (All-map Lone entry_line (enumerate_from 1 p.history) (entries-lone 1 p.history (history-lone p (IsSoundParagraph-found book sound id p found))))
+  shown-lone query lines (marks id p q found is) =
+      subst (All Lone) (sym is)
+      (All-map Lone mark_line _ (All-filter _ (λ mark. Lone (mark_line mark)) book.marks (All-weaker (IsSoundMark book) (λ mark. Lone (mark_line mark)) mark-lone book.marks sound.marks)))
+  shown-lone query lines (where_is id place cell p q found o is) = subst (All Lone) (sym is) (one (decimal cell) (number-lone cell))
+  shown-lone query lines (whence id cell place p q found o is) = subst (All Lone) (sym is) (one (decimal place) (number-lone place))
+  shown-lone query lines (list q is) =
+      subst (All Lone) (sym is)
+      (All-map Lone listed book.paragraphs (All-weaker (IsSoundParagraph book) (λ p. Lone (listed p)) listed-lone book.paragraphs sound.paragraphs))
+  shown-lone query lines (version q is) = subst (All Lone) (sym is) (All-nil Lone)
+
+-- ---- the lines of a reply
+
+-- a line behind a bar and a blank
+abbrev behind_bar : List ℕ → List ℕ
+behind_bar line = joined (codes "|" ∷ line ∷ [])
+
+bar-lone : (line : List ℕ) → Lone line → Lone (behind_bar line)
+bar-lone line h = joined-lone (codes "|" ∷ line ∷ []) (lacks 10 (codes "|") refl, (h, tt))
+
+pieces-shown : (lines : List (List ℕ)) (rest : List ℕ) → All Lone lines
+    → pieces_of (flat_map shown_line lines ++ rest) ≡ map behind_bar lines ++ pieces_of rest
+pieces-shown [] rest h = refl
+pieces-shown (line ∷ lines) rest h =
+    let front = behind_bar line in
+    let later = flat_map shown_line lines in
+    ap pieces_of (ap (λ (t : List ℕ). t ++ rest) (append_assoc front (10 ∷ []) later) ∙ append_assoc front (10 ∷ later) rest)
+    ∙ (pieces_of-line front (later ++ rest) (one-line front (bar-lone line (All-head Lone line lines h)))
+    ∙ ap (λ (ls : List (List ℕ)). front ∷ ls) (pieces-shown lines rest (All-tail Lone line lines h)))
+
+bars-behind : (lines : List (List ℕ)) → All (BeginsWith (codes "| ")) (map behind_bar lines)
+bars-behind [] = All-nil (BeginsWith (codes "| "))
+bars-behind (line ∷ lines) = All-cons (BeginsWith (codes "| ")) (behind_bar line) (map behind_bar lines) (line, refl) (bars-behind lines)
+
+numbers-lone : (numbers : List ℕ) → AllByRecursion Lone (map decimal numbers)
+numbers-lone [] = tt
+numbers-lone (n ∷ numbers) = (number-lone n, numbers-lone numbers)
+
+-- a word and numbers behind it are one line
+pieces-word : (word : List ℕ) (numbers : List ℕ) → Lone word → pieces_of (word_and word numbers) ≡ joined (word ∷ map decimal numbers) ∷ []
+pieces-word word numbers h =
+    let line = joined (word ∷ map decimal numbers) in
+    pieces_of-line line [] (one-line line (joined-lone (word ∷ map decimal numbers) (h, numbers-lone numbers)))
+
+pub behind-bars : (book : Book) (query : Query) (text : List ℕ) → IsSound book → RepliesToQuery book query text → EndsBehindBars text
+behind-bars book query text sound (shown lines shows is) = record {
+  others = map behind_bar lines;
+  last = joined (codes "end" ∷ decimal book.version ∷ []);
+  lines = ap pieces_of is
+      ∙ (pieces-shown lines (word_and (codes "end") (book.version ∷ [])) (shown-lone book sound query lines shows)
+      ∙ ap (λ (ls : List (List ℕ)). map behind_bar lines ++ ls) (pieces-word (codes "end") (book.version ∷ []) (lacks 10 (codes "end") refl)));
+  bars = bars-behind lines;
+  word = inl (decimal book.version, refl);
+}
+behind-bars book query text sound (refused refusal refuses is) = record {
+  others = [];
+  last = joined (codes "no" ∷ decimal (code_of refusal) ∷ map decimal (details refusal));
+  lines = ap pieces_of is ∙ pieces-word (codes "no") (code_of refusal ∷ details refusal) (lacks 10 (codes "no") refl);
+  bars = All-nil (BeginsWith (codes "| "));
+  word = inr (joined (decimal (code_of refusal) ∷ map decimal (details refusal)), refl);
+}
