@@ -41,6 +41,7 @@ bench: $(PROGRAM)
 	bench/translate.sh
 	bench/tables.sh
 	bench/typing.sh
+	bench/requests.sh
 	bench/rows.sh
 
 install: $(PROGRAM)

@@ -1,7 +1,7 @@
 -- What is put behind a text that is being sent.
-use Rattle.std.proofs.Common.{◌≡◌, ℕ, Bor, ◌+◌, ◌<◌, length, take, get_or, Bool, true, false, not, List, [], ◌∷◌, ◌++◌, Option, refl, sym, ap, subst, ◌∙◌, append_assoc}
+use Rattle.std.proofs.Common.{◌≡◌, ℕ, Bor, ◌+◌, ◌/◌, ◌%◌, ◌<◌, ◌≤◌, ltb, length, take, get_or, Bool, true, false, not, List, [], ◌∷◌, ◌++◌, Option, refl, sym, ap, subst, ◌∙◌, append_assoc}
 use Rattle.std.proofs.KnownBytes.{Appends-trans}
-use Rattle.std.proofs.lemmas.Bool.{both_ways}
+use Rattle.std.proofs.lemmas.Bool.{both_ways, le-ltb, lt-ltb}
 use Rattle.std.proofs.lemmas.List.{append-nil, take_more, map-append}
 use Rattle.std.proofs.lemmas.Str.{encodes-append}
 use Rattle.std.specs.Char.{encode_utf8}
@@ -90,6 +90,14 @@ text_of-next xs i lt =
     ap (λ (t : List ℕ). text_of (take i xs) ++ t) (sym (append-nil (encode_utf8 (braille_character (get_or xs i 0)))))
     ∙ (sym (encodes-append (map braille_character (take i xs)) (braille_character (get_or xs i 0) ∷ []))
     ∙ ap encode_utf8_all (sym (map-append braille_character (take i xs) (get_or xs i 0 ∷ [])) ∙ ap (map braille_character) (take-next xs i lt)))
+
+-- a character of two bytes
+pub encode-two : (c : ℕ) → 128 ≤ c → c < 2048 → encode_utf8 c ≡ (192 + c / 64) ∷ (128 + c % 64) ∷ []
+unfolding encode_utf8
+encode-two c wide short =
+    let one : ltb c 128 ≡ false = le-ltb c 128 wide in
+    let two : ltb c 2048 ≡ true = lt-ltb c 2048 short in
+    rw (one, two)
 
 -- numbers behind a word, each behind a blank
 abbrev pub spaced : List ℕ → List ℕ

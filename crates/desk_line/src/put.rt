@@ -6,7 +6,7 @@ ghost use Rattle.desk_ends.specs.declared.block.TheConstants.{BLOCK_BYTES, CELL_
 ghost use Rattle.desk_line.specs.Reply.{line_of, shown_text, word_and};
 ghost use Rattle.desk_line.specs.Waiting.{Adds, IsSent};
 ghost use Rattle.std.specs.Char.{encode_utf8};
-ghost use Rattle.std.specs.Prelude.{[], codes, decimal, false, is_ok, length, map, List, Option, ℕ, ◌+◌, ◌≤◌, ◌≡◌, ◌∷◌};
+ghost use Rattle.std.specs.Prelude.{[], codes, decimal, false, is_ok, length, map, List, Option, ℕ, ◌+◌, ◌<◌, ◌≤◌, ◌≡◌, ◌∷◌};
 
 use super::fault::Broken;
 use super::waiting::Waiting;
@@ -75,6 +75,33 @@ fn put_number<K: Sink>(sink: &mut K, waiting: &mut Waiting, number: u64)
 /// Puts a character in UTF-8.
 #[inline(always)]
 fn put_character<K: Sink>(sink: &mut K, waiting: &mut Waiting, character: char)
+    ensures { Adds K.can_fail (K.contents sink.old) (K.contents sink.new)
+        waiting.old waiting.new (encode_utf8 character) }
+{
+    if character.is_ascii() {
+        put_byte(sink, waiting, character as u8)
+    } else if character < '\u{800}' {
+        put_pair(sink, waiting, character)
+    } else {
+        put_wide(sink, waiting, character)
+    }
+}
+
+/// Puts a character of two bytes in UTF-8: 0xC0 and its upper five bits, 0x80 and its lower six.
+#[inline(always)]
+fn put_pair<K: Sink>(sink: &mut K, waiting: &mut Waiting, character: char)
+    requires wide { 128 ≤ character }
+    requires short { character < 2048 }
+    ensures { Adds K.can_fail (K.contents sink.old) (K.contents sink.new)
+        waiting.old waiting.new (encode_utf8 character) }
+{
+    let code = character as u32;
+    put_byte(sink, waiting, 0xC0 + (code / 64) as u8);
+    put_byte(sink, waiting, 0x80 + (code % 64) as u8);
+}
+
+/// Puts a character in UTF-8, however many bytes it has.
+fn put_wide<K: Sink>(sink: &mut K, waiting: &mut Waiting, character: char)
     ensures { Adds K.can_fail (K.contents sink.old) (K.contents sink.new)
         waiting.old waiting.new (encode_utf8 character) }
 {
