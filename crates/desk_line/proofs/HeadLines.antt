@@ -5,10 +5,10 @@ use Rattle.std.specs.Str.{IsUtf8, is_utf8}
 use Rattle.std.proofs.lemmas.Bool.{le-leb, leb-true, eqb-true, cond-false, cases_Bool}
 use Rattle.std.proofs.lemmas.Str.{is_utf8-from_IsUtf8, IsUtf8-from_is_utf8}
 use Rattle.desk_line.specs.declared.head.Head.TheVariants.{Do}
-use Rattle.desk_line.specs.declared.order.Order.{Order}
+use Rattle.desk_line.specs.declared.directive.Directive.{Directive}
 use Rattle.desk_line.specs.Fields.{fields_of}
 use Rattle.desk_line.specs.Limits.{most_line_bytes}
-use Rattle.desk_line.specs.Reading.{head_in, head_of, command_behind, command_in, expecting, first_and_others, number_in, order_by, order_in}
+use Rattle.desk_line.specs.Reading.{head_in, head_of, command_behind, command_in, expecting, first_and_others, number_in, directive_by, directive_in}
 
 pub some-is : {A : Type 0} (x y : A) → Some x ≡ Some y → x ≡ y
 some-is x y e = cc
@@ -36,11 +36,11 @@ pub head-of-bytes : (line : List ℕ) → ¬ IsUtf8 line → head_of line ≡ No
 head-of-bytes line bytes =
     untested (leb (length line) most_line_bytes) (is_utf8 line) (head_in (fields_of line)) (λ e f. bytes (IsUtf8-from_is_utf8 line f))
 
-pub expecting-is : (number word : List ℕ) (fields others : List (List ℕ)) (version : ℕ) (order : Order) → number_in number ≡ Some version
-    → first_and_others fields ≡ Some (word, others) → order_by word others ≡ Some order → expecting number fields ≡ Some (Do order (Some version))
-unfolding order_in
-expecting-is number word [] others version order n f o = absurd cc
-expecting-is number word (x ∷ xs) others version order n f o =
+pub expecting-is : (number word : List ℕ) (fields others : List (List ℕ)) (version : ℕ) (directive : Directive) → number_in number ≡ Some version
+    → first_and_others fields ≡ Some (word, others) → directive_by word others ≡ Some directive → expecting number fields ≡ Some (Do directive (Some version))
+unfolding directive_in
+expecting-is number word [] others version directive n f o = absurd cc
+expecting-is number word (x ∷ xs) others version directive n f o =
     let both = some-is (x, xs) (word, others) f in
     let at_word : x ≡ word = ap (λ (p : List ℕ × List (List ℕ)). p.0) both in
     let at_others : xs ≡ others = ap (λ (p : List ℕ × List (List ℕ)). p.1) both in
@@ -48,7 +48,7 @@ expecting-is number word (x ∷ xs) others version order n f o =
 
 -- a command before whose word stands no at sign
 plain-behind : (word : List ℕ) (fields : List (List ℕ)) → ((version : List ℕ) → word ≢ 64 ∷ version)
-    → command_behind word fields ≡ option_map (λ order. Do order None) (order_by word fields)
+    → command_behind word fields ≡ option_map (λ directive. Do directive None) (directive_by word fields)
 plain-behind [] fields none = refl
 plain-behind (b ∷ word) fields none =
     elim (cases_Bool (eqb b 64)) [
@@ -63,9 +63,9 @@ command-first word (x ∷ xs) others f =
     let both = some-is (x, xs) (word, others) f in
     ap command_in (ap (λ (p : List ℕ × List (List ℕ)). p.0 ∷ p.1) both)
 
-pub plain-is : (word : List ℕ) (fields others : List (List ℕ)) (order : Option Order) → first_and_others fields ≡ Some (word, others) → order_by word others ≡ order
-    → ((version : List ℕ) → word ≢ 64 ∷ version) → command_in fields ≡ option_map (λ o. Do o None) order
-plain-is word fields others order f o none =
+pub plain-is : (word : List ℕ) (fields others : List (List ℕ)) (directive : Option Directive) → first_and_others fields ≡ Some (word, others) → directive_by word others ≡ directive
+    → ((version : List ℕ) → word ≢ 64 ∷ version) → command_in fields ≡ option_map (λ o. Do o None) directive
+plain-is word fields others directive f o none =
     command-first word fields others f ∙ (plain-behind word others none ∙ ap (option_map (λ o. Do o None)) o)
 
 pub expected-is : (word version : List ℕ) (fields others : List (List ℕ)) → first_and_others fields ≡ Some (word, others) → word ≡ 64 ∷ version

@@ -4,7 +4,7 @@ pub mod LackedBytes
 mod FieldLists
 pub mod HeadLines
 pub mod FieldParts
-pub mod OrderLaws
+pub mod DirectiveLaws
 pub mod QueryLaws
 pub mod HeadLaws
 pub mod LineFeeds

@@ -15,7 +15,7 @@ use Rattle.desk_line.specs.declared.request.Request.TheVariants.{Do}
 use Rattle.desk_line.specs.Head.{Says}
 use Rattle.desk_line.specs.Limits.{most_line_bytes}
 use Rattle.desk_line.specs.Lines.{IsShort, behind_first_line}
-use Rattle.desk_line.specs.Reading.{Gives, are_lines, head_line, head_in, head_of, query_in, order_in, request_in, with_text}
+use Rattle.desk_line.specs.Reading.{Gives, are_lines, head_line, head_in, head_of, query_in, directive_in, request_in, with_text}
 use Rattle.desk_line.specs.Request.{Reads, Takes, said, unsaid, Tells, lines_behind, request_of}
 use Rattle.desk_line.proofs.HeadLines.{some-is, head-of-text}
 use Rattle.desk_line.proofs.HeadLaws.{head-read, head-found}
@@ -42,7 +42,7 @@ lines-tested (line ∷ lines) count e h =
 
 -- no line says nothing
 nothing-said : head_of (head_line []) ≡ None
-unfolding head_in query_in order_in
+unfolding head_in query_in directive_in
 nothing-said = head-of-text [] (lit≤ tt) IsUtf8-nil
 
 -- ---- requests

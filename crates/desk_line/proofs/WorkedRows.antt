@@ -14,14 +14,14 @@ use Rattle.desk_book.specs.Book.{empty_book, Corrects, Undoes}
 use Rattle.desk_line.specs.declared.answer.Answer.TheVariants as answers
 use Rattle.desk_line.specs.declared.head.Head.{Head}
 use Rattle.desk_line.specs.declared.head.Head.TheVariants as heads
-use Rattle.desk_line.specs.declared.order.Order.TheVariants as orders
+use Rattle.desk_line.specs.declared.directive.Directive.TheVariants as directives
 use Rattle.desk_line.specs.declared.request.Query.TheVariants as queries
 use Rattle.desk_line.specs.declared.request.Request.{Request}
 use Rattle.desk_line.specs.declared.request.Request.TheVariants as requests
 use Rattle.desk_line.specs.Fields.{IsNumber, end, fields_of}
-use Rattle.desk_line.specs.Head.{Says, SaysOrder, asks, correct, correct_by, does, expected, nothing, strike, table, type_in, version}
+use Rattle.desk_line.specs.Head.{Says, SaysDirective, asks, correct, correct_by, does, expected, nothing, strike, table, type_in, version}
 use Rattle.desk_line.specs.Lines.{CanBeHead}
-use Rattle.desk_line.specs.Reading.{head_in, head_of, query_in, order_in, number_in, count_in, table_in, type_in as read_type_in, anchor_in}
+use Rattle.desk_line.specs.Reading.{head_in, head_of, query_in, directive_in, number_in, count_in, table_in, type_in as read_type_in, anchor_in}
 use Rattle.desk_line.specs.Answered.{Replies, asked, no_request}
 use Rattle.desk_line.specs.Reply.{IsReply, entry_line, mark_line, no_paragraph, refusal_line, listed, shown, shown_line, shown_text}
 use Rattle.desk_line.specs.Reply.{refused as refused_query, version as shows_version}
@@ -62,27 +62,27 @@ zero-is-a-number = record { numeral = (lit≤ tt, (lit≤ tt, tt)); short = lit�
 text-of-line : (line : List ℕ) → length line ≤ 65536 → all_scalars line ≡ true → encode_utf8_all line ≡ line → CanBeHead line
 text-of-line line short scalars same = record { short = short; utf8 = (line, (scalars, same)) }
 
-strike-a-paragraph : Says (codes "strike 1") (heads.Do (orders.Strike 1) None)
+strike-a-paragraph : Says (codes "strike 1") (heads.Do (directives.Strike 1) None)
 unfolding encode_utf8
 strike-a-paragraph =
-    does None (fields_of (codes "strike 1")) (orders.Strike 1) (text-of-line (codes "strike 1") (lit≤ tt) refl refl) (nothing refl refl)
+    does None (fields_of (codes "strike 1")) (directives.Strike 1) (text-of-line (codes "strike 1") (lit≤ tt) refl refl) (nothing refl refl)
     (strike (codes "1") 1 one-is-a-number refl refl) refl
 
-strike-at-a-version : Says (codes "@9 strike 1") (heads.Do (orders.Strike 1) (Some 9))
+strike-at-a-version : Says (codes "@9 strike 1") (heads.Do (directives.Strike 1) (Some 9))
 unfolding encode_utf8
 strike-at-a-version =
-    does (Some 9) (codes "strike" ∷ codes "1" ∷ []) (orders.Strike 1) (text-of-line (codes "@9 strike 1") (lit≤ tt) refl refl)
+    does (Some 9) (codes "strike" ∷ codes "1" ∷ []) (directives.Strike 1) (text-of-line (codes "@9 strike 1") (lit≤ tt) refl refl)
     (expected (codes "9") 9 nine-is-a-number refl refl) (strike (codes "1") 1 one-is-a-number refl refl) refl
 
 -- an empty text, with the blank before it or without
-typed-nothing : SaysOrder (fields_of (codes "type end en")) (orders.TypeIn End (codes "en") [])
+typed-nothing : SaysDirective (fields_of (codes "type end en")) (directives.TypeIn End (codes "en") [])
 typed-nothing = type_in (codes "end") (codes "en") [] End (end refl refl) (λ n. cc) refl refl
 
-typed-nothing-behind-a-blank : SaysOrder (fields_of (codes "type end en ")) (orders.TypeIn End (codes "en") [])
+typed-nothing-behind-a-blank : SaysDirective (fields_of (codes "type end en ")) (directives.TypeIn End (codes "en") [])
 typed-nothing-behind-a-blank = type_in (codes "end") (codes "en") ([] ∷ []) End (end refl refl) (λ n. cc) refl refl
 
 -- a correction by nothing, without the blank before it, and one by a reader, whose text keeps its blanks
-erased : SaysOrder (fields_of (codes "correct 1 0 9")) (orders.Correct (record { paragraph = 1; start = 0; count = 9; text = [] }) [])
+erased : SaysDirective (fields_of (codes "correct 1 0 9")) (directives.Correct (record { paragraph = 1; start = 0; count = 9; text = [] }) [])
 erased =
     correct (codes "1" ∷ codes "0" ∷ codes "9" ∷ []) (record { paragraph = 1; start = 0; count = 9; text = [] })
     (record {
@@ -97,7 +97,7 @@ erased =
       text = refl;
     }) refl refl
 
-corrected-by-ann : SaysOrder (fields_of (codes "correct-by Ann 1 0 9  a")) (orders.Correct (record { paragraph = 1; start = 0; count = 9; text = codes " a" }) (codes "Ann"))
+corrected-by-ann : SaysDirective (fields_of (codes "correct-by Ann 1 0 9  a")) (directives.Correct (record { paragraph = 1; start = 0; count = 9; text = codes " a" }) (codes "Ann"))
 corrected-by-ann =
     correct_by (codes "Ann") (codes "1" ∷ codes "0" ∷ codes "9" ∷ [] ∷ codes "a" ∷ []) (record { paragraph = 1; start = 0; count = 9; text = codes " a" })
     (λ n. cc) (record {
@@ -113,7 +113,7 @@ corrected-by-ann =
     }) refl refl
 
 -- a text keeps its blanks
-typed-blanks : SaysOrder (fields_of (codes "type end en  a b")) (orders.TypeIn End (codes "en") (codes " a b"))
+typed-blanks : SaysDirective (fields_of (codes "type end en  a b")) (directives.TypeIn End (codes "en") (codes " a b"))
 typed-blanks = type_in (codes "end") (codes "en") ([] ∷ codes "a" ∷ codes "b" ∷ []) End (end refl refl) (λ n. cc) refl refl
 
 -- what says nothing
@@ -121,27 +121,27 @@ silent : (line : List ℕ) → CanBeHead line → head_in (fields_of line) ≡ N
 silent line text none head says = let e = sym none ∙ (sym (head-of-text line text.short text.utf8) ∙ head-found line head says) in cc
 
 two-blanks : (head : Head) → ¬ Says (codes "print  1") head
-unfolding encode_utf8 head_in query_in order_in number_in
+unfolding encode_utf8 head_in query_in directive_in number_in
 two-blanks = silent (codes "print  1") (text-of-line (codes "print  1") (lit≤ tt) refl refl) refl
 
 blank-at-the-end : (head : Head) → ¬ Says (codes "version ") head
-unfolding encode_utf8 head_in query_in order_in number_in
+unfolding encode_utf8 head_in query_in directive_in number_in
 blank-at-the-end = silent (codes "version ") (text-of-line (codes "version ") (lit≤ tt) refl refl) refl
 
 query-at-a-version : (head : Head) → ¬ Says (codes "@1 version") head
-unfolding encode_utf8 head_in query_in order_in number_in
+unfolding encode_utf8 head_in query_in directive_in number_in
 query-at-a-version = silent (codes "@1 version") (text-of-line (codes "@1 version") (lit≤ tt) refl refl) refl
 
 empty-name : (head : Head) → ¬ Says (codes "type end  x") head
-unfolding encode_utf8 head_in query_in order_in read_type_in anchor_in
+unfolding encode_utf8 head_in query_in directive_in read_type_in anchor_in
 empty-name = silent (codes "type end  x") (text-of-line (codes "type end  x") (lit≤ tt) refl refl) refl
 
 empty-line : (head : Head) → ¬ Says [] head
-unfolding encode_utf8 head_in query_in order_in
+unfolding encode_utf8 head_in query_in directive_in
 empty-line = silent [] (text-of-line [] (lit≤ tt) refl refl) refl
 
 too-many-lines : (head : Head) → ¬ Says (codes "table x 20001") head
-unfolding encode_utf8 head_in query_in order_in table_in count_in number_in
+unfolding encode_utf8 head_in query_in directive_in table_in count_in number_in
 too-many-lines = silent (codes "table x 20001") (text-of-line (codes "table x 20001") (lit≤ tt) refl refl) refl
 
 -- ---- requests
@@ -152,9 +152,9 @@ unfolding encode_utf8
 table-of-nothing = record {
   line = codes "table t 0";
   block = [];
-  head = heads.Do (orders.Table (codes "t") 0) None;
+  head = heads.Do (directives.Table (codes "t") 0) None;
   lines = refl;
-  says = does None (fields_of (codes "table t 0")) (orders.Table (codes "t") 0) (text-of-line (codes "table t 0") (lit≤ tt) refl refl)
+  says = does None (fields_of (codes "table t 0")) (directives.Table (codes "t") 0) (text-of-line (codes "table t 0") (lit≤ tt) refl refl)
       (nothing refl refl) (table (codes "t") (codes "0") 0 (λ n. cc) zero-is-a-number (lit≤ tt) refl refl) refl;
   whole = refl;
   short = tt;
@@ -195,8 +195,8 @@ two-is-a-number = record { numeral = (lit≤ tt, (lit≤ tt, tt)); short = lit�
 table-of-two : Takes (codes "table x 2") 2
 unfolding encode_utf8
 table-of-two =
-    said (heads.Do (orders.Table (codes "x") 2) None)
-    (does None (fields_of (codes "table x 2")) (orders.Table (codes "x") 2) (text-of-line (codes "table x 2") (lit≤ tt) refl refl)
+    said (heads.Do (directives.Table (codes "x") 2) None)
+    (does None (fields_of (codes "table x 2")) (directives.Table (codes "x") 2) (text-of-line (codes "table x 2") (lit≤ tt) refl refl)
     (nothing refl refl) (table (codes "x") (codes "2") 2 (λ n. cc) two-is-a-number (lit≤ tt) refl refl) refl) refl
 
 -- it takes its lines whatever they say
@@ -264,15 +264,15 @@ long-line line long = unsaid (λ head says. let e = sym (head-of-long line long)
 table-at-a-version : Takes (codes "@9 table x 1") 1
 unfolding encode_utf8
 table-at-a-version =
-    said (heads.Do (orders.Table (codes "x") 1) (Some 9))
-    (does (Some 9) (codes "table" ∷ codes "x" ∷ codes "1" ∷ []) (orders.Table (codes "x") 1) (text-of-line (codes "@9 table x 1") (lit≤ tt) refl refl)
+    said (heads.Do (directives.Table (codes "x") 1) (Some 9))
+    (does (Some 9) (codes "table" ∷ codes "x" ∷ codes "1" ∷ []) (directives.Table (codes "x") 1) (text-of-line (codes "@9 table x 1") (lit≤ tt) refl refl)
     (expected (codes "9") 9 nine-is-a-number refl refl) (table (codes "x") (codes "1") 1 (λ n. cc) one-is-a-number (lit≤ tt) refl refl) refl) refl
 
 table-of-a-bad-name : Takes (codes "table T 1") 1
 unfolding encode_utf8
 table-of-a-bad-name =
-    said (heads.Do (orders.Table (codes "T") 1) None)
-    (does None (fields_of (codes "table T 1")) (orders.Table (codes "T") 1) (text-of-line (codes "table T 1") (lit≤ tt) refl refl)
+    said (heads.Do (directives.Table (codes "T") 1) None)
+    (does None (fields_of (codes "table T 1")) (directives.Table (codes "T") 1) (text-of-line (codes "table T 1") (lit≤ tt) refl refl)
     (nothing refl refl) (table (codes "T") (codes "1") 1 (λ n. cc) one-is-a-number (lit≤ tt) refl refl) refl) refl
 
 -- of bytes behind which a read failed, a line that is cut is no request

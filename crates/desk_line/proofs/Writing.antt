@@ -25,18 +25,18 @@ use Rattle.desk_book.specs.declared.style.Style.TheVariants.{Body, Heading}
 use Rattle.desk_book.specs.Stored.{AreCharacters}
 use Rattle.desk_line.specs.declared.head.Head.{Head}
 use Rattle.desk_line.specs.declared.head.Head.TheVariants as heads
-use Rattle.desk_line.specs.declared.order.Order.{Order}
-use Rattle.desk_line.specs.declared.order.Order.TheVariants as orders
-use Rattle.desk_line.specs.declared.order.SpanText.{SpanText}
+use Rattle.desk_line.specs.declared.directive.Directive.{Directive}
+use Rattle.desk_line.specs.declared.directive.Directive.TheVariants as directives
+use Rattle.desk_line.specs.declared.directive.SpanText.{SpanText}
 use Rattle.desk_line.specs.declared.request.Query.{Query}
 use Rattle.desk_line.specs.declared.request.Query.TheVariants as queries
 use Rattle.desk_line.specs.declared.request.Request.{Request}
 use Rattle.desk_line.specs.declared.request.Request.TheVariants as requests
 use Rattle.desk_line.specs.Fields.{IsAnchor, IsFlag, IsNumber, IsStyle, after, body, end, fields_of, front, heading, joined, off, on}
-use Rattle.desk_line.specs.Head.{Expects, IsSpanText, Says, SaysOrder, SaysQuery, asks, braille, correct, correct_by, does, expected, history, list, mark, marks, move, nothing, print, restore, resolve, retable, strike, style, table, type_in, undo, version, volume, whence, where_is}
+use Rattle.desk_line.specs.Head.{Expects, IsSpanText, Says, SaysDirective, SaysQuery, asks, braille, correct, correct_by, does, expected, history, list, mark, marks, move, nothing, print, restore, resolve, retable, strike, style, table, type_in, undo, version, volume, whence, where_is}
 use Rattle.desk_line.specs.Lines.{IsShort, behind_first_line}
 use Rattle.desk_line.specs.Reply.{shown_text}
-use Rattle.desk_line.specs.Request.{Reads, command_of, lines_behind, lines_behind_order, request_of}
+use Rattle.desk_line.specs.Request.{Reads, command_of, lines_behind, lines_behind_directive, request_of}
 use Rattle.desk_line.specs.Written.{CanBeWritten, FitsCommand, FitsQuery, IsOneLineText, IsSmall, IsSmallAnchor, IsSmallIfAny, IsWord, anchor_field, block_of, command_fields, expecting_line, flag_field, head_text, query_fields, style_field, written}
 use Rattle.desk_line.proofs.LackedBytes.{Lacks, Lacks-decimal, Lacks-joined, Lacks-shown, one-line, other-byte}
 
@@ -169,10 +169,10 @@ text-joined text = join_with_byte-slice_split 32 text
 -- a command's head line and block say it
 record IsSaid (command : Command) : Type 0 where
   plain : IsPlain (joined (command_fields command))
-  order : Order
-  says : SaysOrder (fields_of (joined (command_fields command))) order
-  counts : length (lines_of (block_of command)) ≡ lines_behind_order order
-  is : command_of order (block_of command) ≡ command
+  directive : Directive
+  says : SaysDirective (fields_of (joined (command_fields command))) directive
+  counts : length (lines_of (block_of command)) ≡ lines_behind_directive directive
+  is : command_of directive (block_of command) ≡ command
 
 module _ (word : List ℕ) (visible : list_all is_visible word ≡ true) where
   abbrev w : IsClosed word
@@ -258,7 +258,7 @@ module _ (id start count : ℕ) (text : List ℕ) (i : IsSmall id) (s : IsSmall 
   corrected-said : IsSaid (commands.Correct id start count text [])
   corrected-said = record {
     plain = span-plain (codes "correct") refl;
-    order = orders.Correct (span_of id start count text) [];
+    directive = directives.Correct (span_of id start count text) [];
     says = correct (span_fields id start count text) (span_of id start count text) span-written (span-line (codes "correct") refl) refl;
     counts = refl;
     is = ap (λ (x : List ℕ). commands.Correct id start count x (chars [])) span-spelled ∙ ap (commands.Correct id start count text) chars-nil;
@@ -267,7 +267,7 @@ module _ (id start count : ℕ) (text : List ℕ) (i : IsSmall id) (s : IsSmall 
   marked-said : IsSaid (commands.Mark id start count text)
   marked-said = record {
     plain = span-plain (codes "mark") refl;
-    order = orders.Mark (span_of id start count text);
+    directive = directives.Mark (span_of id start count text);
     says = mark (span_fields id start count text) (span_of id start count text) span-written (span-line (codes "mark") refl) refl;
     counts = refl;
     is = ap (commands.Mark id start count) span-spelled;
@@ -280,7 +280,7 @@ module _ (id start count : ℕ) (text : List ℕ) (i : IsSmall id) (s : IsSmall 
       record {
         plain = line-plain (command_fields (commands.Correct id start count text (c ∷ who)))
             (w.plain, (name.plain, ((number-closed id i).plain, ((number-closed start s).plain, ((number-closed count n).plain, (text-plain text t, tt))))));
-        order = orders.Correct (span_of id start count text) (shown_text (c ∷ who));
+        directive = directives.Correct (span_of id start count text) (shown_text (c ∷ who));
         says = correct_by (shown_text (c ∷ who)) (span_fields id start count text) (span_of id start count text) (name-some (c ∷ who) h) span-written
             (fields-joined (codes "correct-by" ∷ shown_text (c ∷ who) ∷ decimal id ∷ decimal start ∷ decimal count ∷ []) (shown_text text)
             (w.whole, (name.whole, ((number-closed id i).whole, ((number-closed start s).whole, ((number-closed count n).whole, tt)))))) refl;
@@ -292,7 +292,7 @@ module _ (id start count : ℕ) (text : List ℕ) (i : IsSmall id) (s : IsSmall 
 command-said : (command : Command) → FitsCommand command → IsSaid command
 command-said (commands.Table name text) (n, t) = record {
   plain = two-plain (codes "table") refl (shown_text name) (decimal (length (lines_of text))) (name-closed name n).plain (number-closed (length (lines_of text)) (few t.few)).plain;
-  order = orders.Table (shown_text name) (length (lines_of text));
+  directive = directives.Table (shown_text name) (length (lines_of text));
   says = table (shown_text name) (decimal (length (lines_of text))) (length (lines_of text)) (name-some name n) (number-written (length (lines_of text)) (few t.few)) t.few
       (two-fields (codes "table") refl (shown_text name) (decimal (length (lines_of text))) (name-closed name n) (number-closed (length (lines_of text)) (few t.few))) refl;
   counts = refl;
@@ -304,7 +304,7 @@ command-said (commands.Table name text) (n, t) = record {
 command-said (commands.TypeIn place name text) (a, n, t) = record {
   plain = line-plain (codes "type" ∷ anchor_field place ∷ shown_text name ∷ shown_text text ∷ [])
       ((word-closed (codes "type") refl).plain, ((anchor-closed place a).plain, ((name-closed name n).plain, (text-plain text t, tt))));
-  order = orders.TypeIn place (shown_text name) (joined (fields_of (shown_text text)));
+  directive = directives.TypeIn place (shown_text name) (joined (fields_of (shown_text text)));
   says = type_in (anchor_field place) (shown_text name) (fields_of (shown_text text)) place (anchor-written place a) (name-some name n)
       (fields-joined (codes "type" ∷ anchor_field place ∷ shown_text name ∷ []) (shown_text text)
       ((word-closed (codes "type") refl).whole, ((anchor-closed place a).whole, ((name-closed name n).whole, tt)))) refl;
@@ -316,7 +316,7 @@ command-said (commands.Correct id start count text []) (i, s, n, t, w) = correct
 command-said (commands.Correct id start count text (c ∷ who)) (i, s, n, t, w) = named-said id start count text i s n t c who w
 command-said (commands.Undo id) h = record {
   plain = one-plain (codes "undo") refl (decimal id) (number-closed id h).plain;
-  order = orders.Undo id;
+  directive = directives.Undo id;
   says = undo (decimal id) id (number-written id h) (one-fields (codes "undo") refl (decimal id) (number-closed id h)) refl;
   counts = refl;
   is = refl;
@@ -324,28 +324,28 @@ command-said (commands.Undo id) h = record {
 command-said (commands.Mark id cell count note) (i, s, n, t) = marked-said id cell count note i s n t
 command-said (commands.Resolve id) h = record {
   plain = one-plain (codes "resolve") refl (decimal id) (number-closed id h).plain;
-  order = orders.Resolve id;
+  directive = directives.Resolve id;
   says = resolve (decimal id) id (number-written id h) (one-fields (codes "resolve") refl (decimal id) (number-closed id h)) refl;
   counts = refl;
   is = refl;
 }
 command-said (commands.Strike id) h = record {
   plain = one-plain (codes "strike") refl (decimal id) (number-closed id h).plain;
-  order = orders.Strike id;
+  directive = directives.Strike id;
   says = strike (decimal id) id (number-written id h) (one-fields (codes "strike") refl (decimal id) (number-closed id h)) refl;
   counts = refl;
   is = refl;
 }
 command-said (commands.Restore id) h = record {
   plain = one-plain (codes "restore") refl (decimal id) (number-closed id h).plain;
-  order = orders.Restore id;
+  directive = directives.Restore id;
   says = restore (decimal id) id (number-written id h) (one-fields (codes "restore") refl (decimal id) (number-closed id h)) refl;
   counts = refl;
   is = refl;
 }
 command-said (commands.Style id look) h = record {
   plain = two-plain (codes "style") refl (decimal id) (style_field look) (number-closed id h).plain (style-closed look).plain;
-  order = orders.Style id look;
+  directive = directives.Style id look;
   says = style (decimal id) (style_field look) id look (number-written id h) (style-written look)
       (two-fields (codes "style") refl (decimal id) (style_field look) (number-closed id h) (style-closed look)) refl;
   counts = refl;
@@ -353,7 +353,7 @@ command-said (commands.Style id look) h = record {
 }
 command-said (commands.Volume id begins) h = record {
   plain = two-plain (codes "volume") refl (decimal id) (flag_field begins) (number-closed id h).plain (flag-closed begins).plain;
-  order = orders.Volume id begins;
+  directive = directives.Volume id begins;
   says = volume (decimal id) (flag_field begins) id begins (number-written id h) (flag-written begins)
       (two-fields (codes "volume") refl (decimal id) (flag_field begins) (number-closed id h) (flag-closed begins)) refl;
   counts = refl;
@@ -361,7 +361,7 @@ command-said (commands.Volume id begins) h = record {
 }
 command-said (commands.Retable id name) (h, n) = record {
   plain = two-plain (codes "retable") refl (decimal id) (shown_text name) (number-closed id h).plain (name-closed name n).plain;
-  order = orders.Retable id (shown_text name);
+  directive = directives.Retable id (shown_text name);
   says = retable (decimal id) (shown_text name) id (number-written id h) (name-some name n)
       (two-fields (codes "retable") refl (decimal id) (shown_text name) (number-closed id h) (name-closed name n)) refl;
   counts = refl;
@@ -369,7 +369,7 @@ command-said (commands.Retable id name) (h, n) = record {
 }
 command-said (commands.Move id place) (h, a) = record {
   plain = two-plain (codes "move") refl (decimal id) (anchor_field place) (number-closed id h).plain (anchor-closed place a).plain;
-  order = orders.Move id place;
+  directive = directives.Move id place;
   says = move (decimal id) (anchor_field place) id place (number-written id h) (anchor-written place a)
       (two-fields (codes "move") refl (decimal id) (anchor_field place) (number-closed id h) (anchor-closed place a)) refl;
   counts = refl;
@@ -506,8 +506,8 @@ written-reads (requests.Do command expect) can =
     let line = head_text (requests.Do command expect) in
     let plain = expecting-plain expect (joined (command_fields command)) can.fits.1 s.plain in
     subst (Reads (written (requests.Do command expect))) (ap (λ (c : Command). requests.Do c expect) s.is)
-    (reads-line line (block_of command) plain.lone (heads.Do s.order expect) plain.utf8 can.short
-    (does expect (fields_of (joined (command_fields command))) s.order (record { short = can.short; utf8 = plain.utf8 })
+    (reads-line line (block_of command) plain.lone (heads.Do s.directive expect) plain.utf8 can.short
+    (does expect (fields_of (joined (command_fields command))) s.directive (record { short = can.short; utf8 = plain.utf8 })
     (line-expects expect (joined (command_fields command)) can.fits.1) s.says refl)
     s.counts (block-short command can.fits.0))
 written-reads (requests.Ask query) can =

@@ -5,9 +5,9 @@ use Rattle.desk_book.specs.declared.command.Anchor.{Anchor}
 use Rattle.desk_book.specs.declared.style.Style.{Style as ParagraphStyle}
 use Rattle.desk_line.specs.declared.head.Head.{Head}
 use Rattle.desk_line.specs.declared.head.Head.TheVariants.{Do, Ask}
-use Rattle.desk_line.specs.declared.order.Order.{Order}
-use Rattle.desk_line.specs.declared.order.Order.TheVariants.{Table, Supply, TypeIn, Correct, Undo, Mark, Resolve, Strike, Restore, Style, Volume, Retable, Move}
-use Rattle.desk_line.specs.declared.order.SpanText.{SpanText}
+use Rattle.desk_line.specs.declared.directive.Directive.{Directive}
+use Rattle.desk_line.specs.declared.directive.Directive.TheVariants.{Table, Supply, TypeIn, Correct, Undo, Mark, Resolve, Strike, Restore, Style, Volume, Retable, Move}
+use Rattle.desk_line.specs.declared.directive.SpanText.{SpanText}
 use Rattle.desk_line.specs.declared.request.Query.{Query}
 use Rattle.desk_line.specs.declared.request.Query.TheVariants as queries
 use Rattle.desk_line.specs.Fields.{fields_of, joined, IsName, IsNumber, IsAnchor, IsStyle, IsFlag}
@@ -28,35 +28,35 @@ pub record IsSpanText (fields : List (List ℕ)) (span : SpanText) : Type 0 wher
 
 -- the fields give this command; of a table, its text is still to come in so many lines. A typed text is the rest of the
 -- line, with its blanks; before an empty one the blank may be missing
-pub data SaysOrder (fields : List (List ℕ)) (order : Order) : Type 0 where
+pub data SaysDirective (fields : List (List ℕ)) (directive : Directive) : Type 0 where
   table : (name number : List ℕ) (count : ℕ) → IsName name → IsNumber number count → count ≤ most_lines
-      → fields ≡ codes "table" ∷ name ∷ number ∷ [] → order ≡ Table name count → SaysOrder fields order
+      → fields ≡ codes "table" ∷ name ∷ number ∷ [] → directive ≡ Table name count → SaysDirective fields directive
   supply : (name : List ℕ) → IsName name
-      → fields ≡ codes "supply" ∷ name ∷ [] → order ≡ Supply name → SaysOrder fields order
+      → fields ≡ codes "supply" ∷ name ∷ [] → directive ≡ Supply name → SaysDirective fields directive
   type_in : (after name : List ℕ) (text : List (List ℕ)) (anchor : Anchor) → IsAnchor after anchor → IsName name
-      → fields ≡ codes "type" ∷ after ∷ name ∷ text → order ≡ TypeIn anchor name (joined text) → SaysOrder fields order
+      → fields ≡ codes "type" ∷ after ∷ name ∷ text → directive ≡ TypeIn anchor name (joined text) → SaysDirective fields directive
   correct : (others : List (List ℕ)) (span : SpanText) → IsSpanText others span
-      → fields ≡ codes "correct" ∷ others → order ≡ Correct span [] → SaysOrder fields order
+      → fields ≡ codes "correct" ∷ others → directive ≡ Correct span [] → SaysDirective fields directive
   correct_by : (who : List ℕ) (others : List (List ℕ)) (span : SpanText) → IsName who → IsSpanText others span
-      → fields ≡ codes "correct-by" ∷ who ∷ others → order ≡ Correct span who → SaysOrder fields order
+      → fields ≡ codes "correct-by" ∷ who ∷ others → directive ≡ Correct span who → SaysDirective fields directive
   undo : (number : List ℕ) (id : ℕ) → IsNumber number id
-      → fields ≡ codes "undo" ∷ number ∷ [] → order ≡ Undo id → SaysOrder fields order
+      → fields ≡ codes "undo" ∷ number ∷ [] → directive ≡ Undo id → SaysDirective fields directive
   mark : (others : List (List ℕ)) (span : SpanText) → IsSpanText others span
-      → fields ≡ codes "mark" ∷ others → order ≡ Mark span → SaysOrder fields order
+      → fields ≡ codes "mark" ∷ others → directive ≡ Mark span → SaysDirective fields directive
   resolve : (number : List ℕ) (id : ℕ) → IsNumber number id
-      → fields ≡ codes "resolve" ∷ number ∷ [] → order ≡ Resolve id → SaysOrder fields order
+      → fields ≡ codes "resolve" ∷ number ∷ [] → directive ≡ Resolve id → SaysDirective fields directive
   strike : (number : List ℕ) (id : ℕ) → IsNumber number id
-      → fields ≡ codes "strike" ∷ number ∷ [] → order ≡ Strike id → SaysOrder fields order
+      → fields ≡ codes "strike" ∷ number ∷ [] → directive ≡ Strike id → SaysDirective fields directive
   restore : (number : List ℕ) (id : ℕ) → IsNumber number id
-      → fields ≡ codes "restore" ∷ number ∷ [] → order ≡ Restore id → SaysOrder fields order
+      → fields ≡ codes "restore" ∷ number ∷ [] → directive ≡ Restore id → SaysDirective fields directive
   style : (number word : List ℕ) (id : ℕ) (look : ParagraphStyle) → IsNumber number id → IsStyle word look
-      → fields ≡ codes "style" ∷ number ∷ word ∷ [] → order ≡ Style id look → SaysOrder fields order
+      → fields ≡ codes "style" ∷ number ∷ word ∷ [] → directive ≡ Style id look → SaysDirective fields directive
   volume : (number word : List ℕ) (id : ℕ) (begins : Bool) → IsNumber number id → IsFlag word begins
-      → fields ≡ codes "volume" ∷ number ∷ word ∷ [] → order ≡ Volume id begins → SaysOrder fields order
+      → fields ≡ codes "volume" ∷ number ∷ word ∷ [] → directive ≡ Volume id begins → SaysDirective fields directive
   retable : (number name : List ℕ) (id : ℕ) → IsNumber number id → IsName name
-      → fields ≡ codes "retable" ∷ number ∷ name ∷ [] → order ≡ Retable id name → SaysOrder fields order
+      → fields ≡ codes "retable" ∷ number ∷ name ∷ [] → directive ≡ Retable id name → SaysDirective fields directive
   move : (number after : List ℕ) (id : ℕ) (anchor : Anchor) → IsNumber number id → IsAnchor after anchor
-      → fields ≡ codes "move" ∷ number ∷ after ∷ [] → order ≡ Move id anchor → SaysOrder fields order
+      → fields ≡ codes "move" ∷ number ∷ after ∷ [] → directive ≡ Move id anchor → SaysDirective fields directive
 
 -- the fields ask this
 pub data SaysQuery (fields : List (List ℕ)) (query : Query) : Type 0 where
@@ -83,6 +83,6 @@ pub data Expects (fields : List (List ℕ)) (expect : Option ℕ) (command : Lis
 
 -- what a head line, without its ending, says; before a query no version may stand
 pub data Says (line : List ℕ) (head : Head) : Type 0 where
-  does : (expect : Option ℕ) (command : List (List ℕ)) (order : Order) → CanBeHead line → Expects (fields_of line) expect command
-      → SaysOrder command order → head ≡ Do order expect → Says line head
+  does : (expect : Option ℕ) (command : List (List ℕ)) (directive : Directive) → CanBeHead line → Expects (fields_of line) expect command
+      → SaysDirective command directive → head ≡ Do directive expect → Says line head
   asks : (query : Query) → CanBeHead line → SaysQuery (fields_of line) query → head ≡ Ask query → Says line head

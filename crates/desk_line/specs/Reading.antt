@@ -14,9 +14,9 @@ use Rattle.desk_book.specs.declared.style.Style.{Style as ParagraphStyle}
 use Rattle.desk_book.specs.declared.style.Style.TheVariants.{Body, Heading}
 use Rattle.desk_line.specs.declared.head.Head.{Head}
 use Rattle.desk_line.specs.declared.head.Head.TheVariants.{Do, Ask}
-use Rattle.desk_line.specs.declared.order.Order.{Order}
-use Rattle.desk_line.specs.declared.order.Order.TheVariants.{Table, Supply, TypeIn, Correct, Undo, Mark, Resolve, Strike, Restore, Style, Volume, Retable, Move}
-use Rattle.desk_line.specs.declared.order.SpanText.{SpanText}
+use Rattle.desk_line.specs.declared.directive.Directive.{Directive}
+use Rattle.desk_line.specs.declared.directive.Directive.TheVariants.{Table, Supply, TypeIn, Correct, Undo, Mark, Resolve, Strike, Restore, Style, Volume, Retable, Move}
+use Rattle.desk_line.specs.declared.directive.SpanText.{SpanText}
 use Rattle.desk_line.specs.declared.request.Query.{Query}
 use Rattle.desk_line.specs.declared.request.Query.TheVariants as queries
 use Rattle.desk_line.specs.Fields.{fields_of, joined}
@@ -109,13 +109,13 @@ with_two first second make fields = option_and_then (λ two. of_both make (first
 abbrev pub numbers_in : List (List ℕ) → Option (ℕ × ℕ)
 numbers_in fields = with_two number_in number_in (λ first second. (first, second)) fields
 
-unfoldable pub table_in : List (List ℕ) → Option Order
+unfoldable pub table_in : List (List ℕ) → Option Directive
 table_in fields = with_two name_in count_in Table fields
 
-unfoldable pub supply_in : List (List ℕ) → Option Order
+unfoldable pub supply_in : List (List ℕ) → Option Directive
 supply_in fields = option_map Supply (option_and_then name_in (only_one fields))
 
-unfoldable pub type_in : List (List ℕ) → Option Order
+unfoldable pub type_in : List (List ℕ) → Option Directive
 type_in fields =
     option_and_then (λ first. option_and_then (λ second.
     of_both (λ anchor name. TypeIn anchor name (joined second.1)) (anchor_in first.0) (name_in second.0)) (first_and_others first.1)) (first_and_others fields)
@@ -129,54 +129,54 @@ span_text_in fields =
     of_three (λ id start count. span_text id start count third.1) (number_in first.0) (number_in second.0) (number_in third.0))
     (first_and_others second.1)) (first_and_others first.1)) (first_and_others fields)
 
-unfoldable pub correct_in : List (List ℕ) → Option Order
+unfoldable pub correct_in : List (List ℕ) → Option Directive
 correct_in fields = option_map (λ span. Correct span []) (span_text_in fields)
 
-unfoldable pub correct_by_in : List (List ℕ) → Option Order
+unfoldable pub correct_by_in : List (List ℕ) → Option Directive
 correct_by_in fields =
     option_and_then (λ first. of_both (λ who span. Correct span who) (name_in first.0) (span_text_in first.1)) (first_and_others fields)
 
-unfoldable pub mark_in : List (List ℕ) → Option Order
+unfoldable pub mark_in : List (List ℕ) → Option Directive
 mark_in fields = option_map Mark (span_text_in fields)
 
-unfoldable pub style_order_in : List (List ℕ) → Option Order
-style_order_in fields = with_two number_in style_in Style fields
+unfoldable pub style_directive_in : List (List ℕ) → Option Directive
+style_directive_in fields = with_two number_in style_in Style fields
 
-unfoldable pub volume_in : List (List ℕ) → Option Order
+unfoldable pub volume_in : List (List ℕ) → Option Directive
 volume_in fields = with_two number_in flag_in Volume fields
 
-unfoldable pub retable_in : List (List ℕ) → Option Order
+unfoldable pub retable_in : List (List ℕ) → Option Directive
 retable_in fields = with_two number_in name_in Retable fields
 
-unfoldable pub move_in : List (List ℕ) → Option Order
+unfoldable pub move_in : List (List ℕ) → Option Directive
 move_in fields = with_two number_in anchor_in Move fields
 
 -- a command that names one number
-abbrev pub numbered_order : List ℕ → ℕ → Option Order
-numbered_order word number =
+abbrev pub numbered_directive : List ℕ → ℕ → Option Directive
+numbered_directive word number =
     if bytes_eq word (codes "undo") then Some (Undo number)
     else if bytes_eq word (codes "resolve") then Some (Resolve number)
     else if bytes_eq word (codes "strike") then Some (Strike number)
     else if bytes_eq word (codes "restore") then Some (Restore number)
     else None
 
-abbrev pub order_by : List ℕ → List (List ℕ) → Option Order
-order_by word fields =
+abbrev pub directive_by : List ℕ → List (List ℕ) → Option Directive
+directive_by word fields =
     if bytes_eq word (codes "table") then table_in fields
     else if bytes_eq word (codes "supply") then supply_in fields
     else if bytes_eq word (codes "type") then type_in fields
     else if bytes_eq word (codes "correct") then correct_in fields
     else if bytes_eq word (codes "correct-by") then correct_by_in fields
     else if bytes_eq word (codes "mark") then mark_in fields
-    else if bytes_eq word (codes "style") then style_order_in fields
+    else if bytes_eq word (codes "style") then style_directive_in fields
     else if bytes_eq word (codes "volume") then volume_in fields
     else if bytes_eq word (codes "retable") then retable_in fields
     else if bytes_eq word (codes "move") then move_in fields
-    else option_and_then (numbered_order word) (paragraph_in fields)
+    else option_and_then (numbered_directive word) (paragraph_in fields)
 
-unfoldable pub order_in : List (List ℕ) → Option Order
-order_in [] = None
-order_in (word ∷ fields) = order_by word fields
+unfoldable pub directive_in : List (List ℕ) → Option Directive
+directive_in [] = None
+directive_in (word ∷ fields) = directive_by word fields
 
 -- a word that stands alone
 abbrev pub lone_query : List ℕ → Option Query
@@ -216,12 +216,12 @@ or_else (Some x) other = Some x
 
 -- a command behind an expected version
 abbrev pub expecting : List ℕ → List (List ℕ) → Option Head
-expecting number fields = of_both (λ version order. Do order (Some version)) (number_in number) (order_in fields)
+expecting number fields = of_both (λ version directive. Do directive (Some version)) (number_in number) (directive_in fields)
 
 abbrev pub command_behind : List ℕ → List (List ℕ) → Option Head
-command_behind [] fields = option_map (λ order. Do order None) (order_by [] fields)
+command_behind [] fields = option_map (λ directive. Do directive None) (directive_by [] fields)
 command_behind (b ∷ word) fields =
-    if b == 64 then expecting word fields else option_map (λ order. Do order None) (order_by (b ∷ word) fields)
+    if b == 64 then expecting word fields else option_map (λ directive. Do directive None) (directive_by (b ∷ word) fields)
 
 abbrev pub command_in : List (List ℕ) → Option Head
 command_in [] = None

@@ -10,9 +10,9 @@ use Rattle.desk_line.specs.declared.fault.Fault.{Fault}
 use Rattle.desk_line.specs.declared.fault.Fault.TheVariants.{Syntax, NoMemory}
 use Rattle.desk_line.specs.declared.head.Head.{Head}
 use Rattle.desk_line.specs.declared.head.Head.TheVariants as heads
-use Rattle.desk_line.specs.declared.order.Order.{Order}
-use Rattle.desk_line.specs.declared.order.Order.TheVariants.{Table, Supply, TypeIn, Correct, Undo, Mark, Resolve, Strike, Restore, Style, Volume, Retable, Move}
-use Rattle.desk_line.specs.declared.order.SpanText.{SpanText}
+use Rattle.desk_line.specs.declared.directive.Directive.{Directive}
+use Rattle.desk_line.specs.declared.directive.Directive.TheVariants.{Table, Supply, TypeIn, Correct, Undo, Mark, Resolve, Strike, Restore, Style, Volume, Retable, Move}
+use Rattle.desk_line.specs.declared.directive.SpanText.{SpanText}
 use Rattle.desk_line.specs.declared.request.Request.{Request}
 use Rattle.desk_line.specs.declared.request.Request.TheVariants.{Do, Ask}
 use Rattle.desk_line.specs.Head.{Says}
@@ -21,23 +21,23 @@ use Rattle.desk_line.specs.Lines.{IsShort, behind_first_line}
 -- ---- what follows a head line
 
 -- how many lines follow what a head line says
-abbrev pub lines_behind_order : Order → ℕ
-lines_behind_order (Table name count) = count
-lines_behind_order (Supply name) = 0
-lines_behind_order (TypeIn after name print) = 0
-lines_behind_order (Correct span who) = 0
-lines_behind_order (Undo id) = 0
-lines_behind_order (Mark span) = 0
-lines_behind_order (Resolve id) = 0
-lines_behind_order (Strike id) = 0
-lines_behind_order (Restore id) = 0
-lines_behind_order (Style id style) = 0
-lines_behind_order (Volume id begins) = 0
-lines_behind_order (Retable id name) = 0
-lines_behind_order (Move id after) = 0
+abbrev pub lines_behind_directive : Directive → ℕ
+lines_behind_directive (Table name count) = count
+lines_behind_directive (Supply name) = 0
+lines_behind_directive (TypeIn after name print) = 0
+lines_behind_directive (Correct span who) = 0
+lines_behind_directive (Undo id) = 0
+lines_behind_directive (Mark span) = 0
+lines_behind_directive (Resolve id) = 0
+lines_behind_directive (Strike id) = 0
+lines_behind_directive (Restore id) = 0
+lines_behind_directive (Style id style) = 0
+lines_behind_directive (Volume id begins) = 0
+lines_behind_directive (Retable id name) = 0
+lines_behind_directive (Move id after) = 0
 
 abbrev pub lines_behind : Head → ℕ
-lines_behind (heads.Do order expect) = lines_behind_order order
+lines_behind (heads.Do directive expect) = lines_behind_directive directive
 lines_behind (heads.Ask query) = 0
 
 -- how many lines a head line takes: those that it says, or none where it says nothing
@@ -92,7 +92,7 @@ abbrev pub mark_of : SpanText → Command
 mark_of span = commands.Mark span.paragraph span.start span.count (chars span.text)
 
 -- the command that a head line and the bytes of the lines behind it give
-abbrev pub command_of : Order → List ℕ → Command
+abbrev pub command_of : Directive → List ℕ → Command
 command_of (Table name count) text = commands.Table (chars name) text
 command_of (Supply name) text = commands.Table (chars name) EN.now
 command_of (TypeIn after name print) text = commands.TypeIn after (chars name) (chars print)
@@ -108,7 +108,7 @@ command_of (Retable id name) text = commands.Retable id (chars name)
 command_of (Move id after) text = commands.Move id after
 
 abbrev pub request_of : Head → List ℕ → Request
-request_of (heads.Do order expect) text = Do (command_of order text) expect
+request_of (heads.Do directive expect) text = Do (command_of directive text) expect
 request_of (heads.Ask query) text = Ask query
 
 -- the bytes are this request: a head line that says it, and just the lines that follow it, none of them too long

@@ -4,10 +4,10 @@ ghost use Rattle.desk_line.specs.Reading.{command_in, expecting, head_in, head_o
 ghost use Rattle.desk_line.specs.Request.{lines_behind};
 ghost use Rattle.std.specs.Prelude.{◌≡◌};
 
+use super::directive::{Directive, read_directive};
 use super::fields::Fields;
 use super::limits::MOST_LINE_BYTES;
 use super::operand::read_number;
-use super::order::{Order, read_order};
 use super::query::read_query;
 use super::request::Query;
 
@@ -17,7 +17,7 @@ pub(crate) enum Head<'a> {
     /// A command.
     Do {
         /// The command.
-        order: Order<'a>,
+        directive: Directive<'a>,
         /// The version that the book is expected to have, if one is.
         expect: Option<u64>,
     },
@@ -31,7 +31,7 @@ pub(crate) fn lines_behind(head: &Head<'_>) -> u64
 {
     match head {
         Head::Do {
-            order: Order::Table { count, .. },
+            directive: Directive::Table { count, .. },
             ..
         } => *count,
         _ => 0,
@@ -70,9 +70,9 @@ fn read_command(fields: Fields<'_>) -> Option<Head<'_>>
     match word.as_str().strip_prefix('@') {
         Some(version) => read_expecting(version.as_bytes(), others),
         None => {
-            let order = read_order(&word, others)?;
+            let directive = read_directive(&word, others)?;
             Some(Head::Do {
-                order,
+                directive,
                 expect: None,
             })
         }
@@ -80,15 +80,15 @@ fn read_command(fields: Fields<'_>) -> Option<Head<'_>>
 }
 
 /// The command behind an expected version.
-#[tactic(auto, unfolding(crate::specs::Reading::order_in))]
+#[tactic(auto, unfolding(crate::specs::Reading::directive_in))]
 fn read_expecting<'a>(version: &[u8], fields: Fields<'a>) -> Option<Head<'a>>
     ensures { result ≡ expecting version.now fields.entry }
 {
     let version = read_number(version)?;
     let (word, others) = fields.split()?;
-    let order = read_order(&word, others)?;
+    let directive = read_directive(&word, others)?;
     Some(Head::Do {
-        order,
+        directive,
         expect: Some(version),
     })
 }

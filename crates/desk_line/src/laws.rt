@@ -36,6 +36,6 @@ pub fn one_cut_before_a_fault()
 /// Each line of a reply to a query but the last begins with a bar, so that none of them can be taken for an answer. Of a
 /// sound book this holds because none of its texts has a line feed.
 pub fn lines_behind_bars()
-    ensures { (book : Book) (query : Query) (text : List ℕ) → IsSound book → RepliesToQuery book query text
-        → EndsBehindBars text }
+    ensures { (book : Book) (query : Query) (text : List ℕ)
+        → IsSound book → RepliesToQuery book query text → EndsBehindBars text }
 {}

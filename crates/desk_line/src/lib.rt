@@ -14,13 +14,13 @@
 #![tactic(auto)]
 
 mod answer;
+mod directive;
 mod fault;
 mod fields;
 mod head;
 pub mod laws;
 mod limits;
 mod operand;
-mod order;
 mod put;
 mod query;
 mod read;

@@ -2,9 +2,9 @@
 ghost use Rattle.desk_line.specs.Reading.{lone_query, numbers_in, paragraph_query, query_in};
 ghost use Rattle.std.specs.Prelude.{◌≡◌};
 
+use super::directive::read_paragraph;
 use super::fields::{Field, Fields};
 use super::operand::read_number;
-use super::order::read_paragraph;
 use super::request::Query;
 
 /// The query that the fields of a line ask.

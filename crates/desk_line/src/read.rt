@@ -8,11 +8,11 @@ ghost use Rattle.std.specs.List.{after_first, before_first, position_or_len};
 ghost use Rattle.std.specs.Prelude.{◌==◌, ◌≡◌, ◌≤◌, IfOk, MatchResult, OnErr, Some, length};
 ghost use Rattle.std.specs.Str.{chars};
 
+use super::directive::{Directive, SpanText};
 use super::fault::Fault;
 use super::fields::Field;
 use super::head::{Head, lines_behind, read_head};
 use super::limits::MOST_LINE_BYTES;
-use super::order::{Order, SpanText};
 use super::request::Request;
 use desk_book::{Anchor, Bytes, Command, Text};
 use louis_table::EN;
@@ -119,35 +119,35 @@ fn make_request(alloc: Global, head: Head<'_>, text: &[u8]) -> Result<Request, F
 {
     match head {
         Head::Ask(query) => Ok(Request::Ask(query)),
-        Head::Do { order, expect } => {
-            let command = make_command(alloc, order, text)?;
+        Head::Do { directive, expect } => {
+            let command = make_command(alloc, directive, text)?;
             Ok(Request::Do { command, expect })
         }
     }
 }
 
 /// The command that a head line and the bytes of the lines behind it make.
-fn make_command(alloc: Global, order: Order<'_>, text: &[u8]) -> Result<Command, AllocError>
-    ensures made { IfOk result (λ command. command ≡ command_of order.entry text.now) }
-    ensures short { OnErr result (HasText (command_of order.entry text.now)) }
+fn make_command(alloc: Global, directive: Directive<'_>, text: &[u8]) -> Result<Command, AllocError>
+    ensures made { IfOk result (λ command. command ≡ command_of directive.entry text.now) }
+    ensures short { OnErr result (HasText (command_of directive.entry text.now)) }
 {
-    match order {
-        Order::Table { name, .. } => make_table(alloc, &name, text),
-        Order::Supply { name } => make_table(alloc, &name, EN.as_bytes()),
-        Order::TypeIn { after, table, text } => make_typed(alloc, after, &table, &text),
-        Order::Correct { span, who } => make_correction(alloc, &span, &who),
-        Order::Undo { paragraph } => Ok(Command::Undo { paragraph }),
-        Order::Mark { span } => make_mark(alloc, &span),
-        Order::Resolve { mark } => Ok(Command::Resolve { mark }),
-        Order::Strike { paragraph } => Ok(Command::Strike { paragraph }),
-        Order::Restore { paragraph } => Ok(Command::Restore { paragraph }),
-        Order::Style { paragraph, style } => Ok(Command::Style { paragraph, style }),
-        Order::Volume { paragraph, begins } => Ok(Command::Volume { paragraph, begins }),
-        Order::Retable { paragraph, table } => {
+    match directive {
+        Directive::Table { name, .. } => make_table(alloc, &name, text),
+        Directive::Supply { name } => make_table(alloc, &name, EN.as_bytes()),
+        Directive::TypeIn { after, table, text } => make_typed(alloc, after, &table, &text),
+        Directive::Correct { span, who } => make_correction(alloc, &span, &who),
+        Directive::Undo { paragraph } => Ok(Command::Undo { paragraph }),
+        Directive::Mark { span } => make_mark(alloc, &span),
+        Directive::Resolve { mark } => Ok(Command::Resolve { mark }),
+        Directive::Strike { paragraph } => Ok(Command::Strike { paragraph }),
+        Directive::Restore { paragraph } => Ok(Command::Restore { paragraph }),
+        Directive::Style { paragraph, style } => Ok(Command::Style { paragraph, style }),
+        Directive::Volume { paragraph, begins } => Ok(Command::Volume { paragraph, begins }),
+        Directive::Retable { paragraph, table } => {
             let table = copy_text(alloc, &table)?;
             Ok(Command::Retable { paragraph, table })
         }
-        Order::Move { paragraph, after } => Ok(Command::Move { paragraph, after }),
+        Directive::Move { paragraph, after } => Ok(Command::Move { paragraph, after }),
     }
 }
 

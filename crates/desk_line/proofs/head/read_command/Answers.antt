@@ -12,13 +12,13 @@ returns-in-Some c =
     ∙ (ap (λ (version : List ℕ). expecting version c.in_ok-word.others) c.as_bytes.ensures.value
     ∙ sym (expected-is c.in_ok-word.word c.in-Some.version.now c.args.fields c.in_ok-word.others (sym c.in_ok-word.ensures) (sym c.as_str.ensures ∙ word)))
 
-pub returns-in_err-order-in-None : goal.returns-in_err-order-in-None
-returns-in_err-order-in-None c =
-    c.from_residual-in_err-order-in-None.ensures
-    ∙ sym (plain-is c.in_ok-word.word c.args.fields c.in_ok-word.others None (sym c.in_ok-word.ensures) (sym c.read_order.ensures ∙ c.in_err-order-in-None.was)
+pub returns-in_err-directive-in-None : goal.returns-in_err-directive-in-None
+returns-in_err-directive-in-None c =
+    c.from_residual-in_err-directive-in-None.ensures
+    ∙ sym (plain-is c.in_ok-word.word c.args.fields c.in_ok-word.others None (sym c.in_ok-word.ensures) (sym c.read_directive.ensures ∙ c.in_err-directive-in-None.was)
     (λ version e. strip_prefix_char 64 c.as_str.result.now None c.in-None.ensures.cases (omega arith) version (c.as_str.ensures ∙ e)))
 
-pub returns-in_ok-order-in-None : goal.returns-in_ok-order-in-None
-returns-in_ok-order-in-None c =
-    sym (plain-is c.in_ok-word.word c.args.fields c.in_ok-word.others (Some c.in_ok-order-in-None.order) (sym c.in_ok-word.ensures) (sym c.in_ok-order-in-None.ensures)
+pub returns-in_ok-directive-in-None : goal.returns-in_ok-directive-in-None
+returns-in_ok-directive-in-None c =
+    sym (plain-is c.in_ok-word.word c.args.fields c.in_ok-word.others (Some c.in_ok-directive-in-None.directive) (sym c.in_ok-word.ensures) (sym c.in_ok-directive-in-None.ensures)
     (λ version e. strip_prefix_char 64 c.as_str.result.now None c.in-None.ensures.cases (omega arith) version (c.as_str.ensures ∙ e)))

@@ -1,5 +1,5 @@
 //! What the head line of a command says.
-ghost use Rattle.desk_line.specs.Reading.{correct_by_in, correct_in, mark_in, move_in, numbered_order, order_by, paragraph_in, retable_in, span_text_in, style_order_in, supply_in, table_in, type_in, volume_in};
+ghost use Rattle.desk_line.specs.Reading.{correct_by_in, correct_in, mark_in, move_in, numbered_directive, directive_by, paragraph_in, retable_in, span_text_in, style_directive_in, supply_in, table_in, type_in, volume_in};
 ghost use Rattle.std.specs.Prelude.{◌≡◌};
 
 use super::fields::{Field, Fields};
@@ -21,7 +21,7 @@ pub(crate) struct SpanText<'a> {
 
 /// A command as its head line gives it: of a table, its text is still to come.
 #[derive(Debug, Drop)]
-pub(crate) enum Order<'a> {
+pub(crate) enum Directive<'a> {
     /// Adds or replaces a table, whose text are the next lines.
     Table {
         /// The table's name.
@@ -106,8 +106,8 @@ pub(crate) enum Order<'a> {
 }
 
 /// The command that a word and the fields behind it give.
-pub(crate) fn read_order<'a>(word: &Field<'_>, fields: Fields<'a>) -> Option<Order<'a>>
-    ensures { result ≡ order_by word.now fields.entry }
+pub(crate) fn read_directive<'a>(word: &Field<'_>, fields: Fields<'a>) -> Option<Directive<'a>>
+    ensures { result ≡ directive_by word.now fields.entry }
 {
     if word.is("table") {
         read_table(fields)
@@ -122,7 +122,7 @@ pub(crate) fn read_order<'a>(word: &Field<'_>, fields: Fields<'a>) -> Option<Ord
     } else if word.is("mark") {
         read_mark(fields)
     } else if word.is("style") {
-        read_style_order(fields)
+        read_style_directive(fields)
     } else if word.is("volume") {
         read_volume(fields)
     } else if word.is("retable") {
@@ -131,22 +131,22 @@ pub(crate) fn read_order<'a>(word: &Field<'_>, fields: Fields<'a>) -> Option<Ord
         read_move(fields)
     } else {
         let number = read_paragraph(fields)?;
-        numbered_order(word, number)
+        numbered_directive(word, number)
     }
 }
 
 /// The command that a word and one number give.
-fn numbered_order<'a>(word: &Field<'_>, number: u64) -> Option<Order<'a>>
-    ensures { result ≡ numbered_order word.now number }
+fn numbered_directive<'a>(word: &Field<'_>, number: u64) -> Option<Directive<'a>>
+    ensures { result ≡ numbered_directive word.now number }
 {
     if word.is("undo") {
-        Some(Order::Undo { paragraph: number })
+        Some(Directive::Undo { paragraph: number })
     } else if word.is("resolve") {
-        Some(Order::Resolve { mark: number })
+        Some(Directive::Resolve { mark: number })
     } else if word.is("strike") {
-        Some(Order::Strike { paragraph: number })
+        Some(Directive::Strike { paragraph: number })
     } else if word.is("restore") {
-        Some(Order::Restore { paragraph: number })
+        Some(Directive::Restore { paragraph: number })
     } else {
         None
     }
@@ -160,32 +160,32 @@ pub(crate) fn read_paragraph(fields: Fields<'_>) -> Option<u64>
 }
 
 #[tactic(auto, unfolding(crate::specs::Reading::table_in))]
-fn read_table(fields: Fields<'_>) -> Option<Order<'_>>
+fn read_table(fields: Fields<'_>) -> Option<Directive<'_>>
     ensures { result ≡ table_in fields.entry }
 {
     let (name, count) = fields.two()?;
     let name = read_name(name)?;
     let count = read_count(count.as_bytes())?;
-    Some(Order::Table { name, count })
+    Some(Directive::Table { name, count })
 }
 
 #[tactic(auto, unfolding(crate::specs::Reading::supply_in))]
-fn read_supply(fields: Fields<'_>) -> Option<Order<'_>>
+fn read_supply(fields: Fields<'_>) -> Option<Directive<'_>>
     ensures { result ≡ supply_in fields.entry }
 {
     let name = read_name(fields.one()?)?;
-    Some(Order::Supply { name })
+    Some(Directive::Supply { name })
 }
 
 #[tactic(auto, unfolding(crate::specs::Reading::type_in))]
-fn read_type(fields: Fields<'_>) -> Option<Order<'_>>
+fn read_type(fields: Fields<'_>) -> Option<Directive<'_>>
     ensures { result ≡ type_in fields.entry }
 {
     let (after, others) = fields.split()?;
     let (table, others) = others.split()?;
     let after = read_anchor(&after)?;
     let table = read_name(table)?;
-    Some(Order::TypeIn {
+    Some(Directive::TypeIn {
         after,
         table,
         text: others.text(),
@@ -209,68 +209,68 @@ fn read_span_text(fields: Fields<'_>) -> Option<SpanText<'_>>
 }
 
 #[tactic(auto, unfolding(crate::specs::Reading::correct_in))]
-fn read_correct(fields: Fields<'_>) -> Option<Order<'_>>
+fn read_correct(fields: Fields<'_>) -> Option<Directive<'_>>
     ensures { result ≡ correct_in fields.entry }
 {
     let span = read_span_text(fields)?;
     let who = Field::empty();
-    Some(Order::Correct { span, who })
+    Some(Directive::Correct { span, who })
 }
 
 #[tactic(auto, unfolding(crate::specs::Reading::correct_by_in))]
-fn read_correct_by(fields: Fields<'_>) -> Option<Order<'_>>
+fn read_correct_by(fields: Fields<'_>) -> Option<Directive<'_>>
     ensures { result ≡ correct_by_in fields.entry }
 {
     let (who, others) = fields.split()?;
     let who = read_name(who)?;
     let span = read_span_text(others)?;
-    Some(Order::Correct { span, who })
+    Some(Directive::Correct { span, who })
 }
 
 #[tactic(auto, unfolding(crate::specs::Reading::mark_in))]
-fn read_mark(fields: Fields<'_>) -> Option<Order<'_>>
+fn read_mark(fields: Fields<'_>) -> Option<Directive<'_>>
     ensures { result ≡ mark_in fields.entry }
 {
     let span = read_span_text(fields)?;
-    Some(Order::Mark { span })
+    Some(Directive::Mark { span })
 }
 
-#[tactic(auto, unfolding(crate::specs::Reading::style_order_in))]
-fn read_style_order(fields: Fields<'_>) -> Option<Order<'_>>
-    ensures { result ≡ style_order_in fields.entry }
+#[tactic(auto, unfolding(crate::specs::Reading::style_directive_in))]
+fn read_style_directive(fields: Fields<'_>) -> Option<Directive<'_>>
+    ensures { result ≡ style_directive_in fields.entry }
 {
     let (paragraph, style) = fields.two()?;
     let paragraph = read_number(paragraph.as_bytes())?;
     let style = read_style(&style)?;
-    Some(Order::Style { paragraph, style })
+    Some(Directive::Style { paragraph, style })
 }
 
 #[tactic(auto, unfolding(crate::specs::Reading::volume_in))]
-fn read_volume(fields: Fields<'_>) -> Option<Order<'_>>
+fn read_volume(fields: Fields<'_>) -> Option<Directive<'_>>
     ensures { result ≡ volume_in fields.entry }
 {
     let (paragraph, begins) = fields.two()?;
     let paragraph = read_number(paragraph.as_bytes())?;
     let begins = read_flag(&begins)?;
-    Some(Order::Volume { paragraph, begins })
+    Some(Directive::Volume { paragraph, begins })
 }
 
 #[tactic(auto, unfolding(crate::specs::Reading::retable_in))]
-fn read_retable(fields: Fields<'_>) -> Option<Order<'_>>
+fn read_retable(fields: Fields<'_>) -> Option<Directive<'_>>
     ensures { result ≡ retable_in fields.entry }
 {
     let (paragraph, table) = fields.two()?;
     let paragraph = read_number(paragraph.as_bytes())?;
     let table = read_name(table)?;
-    Some(Order::Retable { paragraph, table })
+    Some(Directive::Retable { paragraph, table })
 }
 
 #[tactic(auto, unfolding(crate::specs::Reading::move_in))]
-fn read_move(fields: Fields<'_>) -> Option<Order<'_>>
+fn read_move(fields: Fields<'_>) -> Option<Directive<'_>>
     ensures { result ≡ move_in fields.entry }
 {
     let (paragraph, after) = fields.two()?;
     let paragraph = read_number(paragraph.as_bytes())?;
     let after = read_anchor(&after)?;
-    Some(Order::Move { paragraph, after })
+    Some(Directive::Move { paragraph, after })
 }
