@@ -18,10 +18,11 @@ use Rattle.desk_book.specs.declared.tables.BookTable.{BookTable}
 use Rattle.desk_book.specs.declared.marks.KeptMark.{KeptMark}
 use Rattle.desk_book.specs.declared.paragraphs.Paragraph.{Paragraph as KeptParagraph}
 use Rattle.desk_book.specs.Book.{Book, Paragraph, paragraph_of, text_of}
-use Rattle.desk_book.specs.Kept.{KeptTables, KeptParagraphs, paragraph_kept, book_kept, IsKeptParagraph, IsKept}
+use Rattle.desk_book.specs.Kept.{HasMarks, KeptTables, KeptParagraphs, paragraph_kept, book_kept, IsKeptParagraph, IsKept}
 use Rattle.desk_book.specs.Print.{print_of}
 use Rattle.desk_book.specs.Sound.{IsSoundParagraph}
 use Rattle.desk_book.specs.Shown.{IsShown}
+use Rattle.desk_book.proofs.MarkIndexes.{count-indexes}
 use Rattle.desk_book.proofs.SoundSteps.{IsSound-empty}
 
 -- ---- entries
@@ -107,6 +108,7 @@ module _ (version : ℕ) (tables : KeptTables) (paragraphs : KeptParagraphs) (ma
         kept_is = refl;
         sound = sound;
         taken = own.taken;
+        marked = ap length (All-found (HasMarks marks) id kept paragraphs is.marked e) ∙ count-indexes id 0 1 marks;
       }
 
   -- the table of a paragraph that is there is there
@@ -119,6 +121,7 @@ IsKept-empty = record {
   sound = IsSound-empty;
   means = All-nil (λ (entry : List ℕ × BookTable). Means entry.1.text entry.1.rules);
   translated = All-nil (IsKeptParagraph []);
+  marked = All-nil (HasMarks []);
 }
 
 -- ---- paragraphs from a place on

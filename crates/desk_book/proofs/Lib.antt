@@ -17,7 +17,7 @@ pub mod Judging
 pub mod KeptBooks
 pub mod KeptHistories
 pub mod KeptLookups
-pub mod MarkLists
+pub mod MarkIndexes
 pub mod MarkPlanning
 pub mod MarkSettled
 pub mod MarkedPlaces
@@ -29,7 +29,6 @@ pub mod OneRefusal
 pub mod OrderLists
 pub mod OrderPlaces
 pub mod ParagraphLists
-pub mod ParagraphMarkLists
 pub mod Permutations
 pub mod Planning
 pub mod PrintCharacters

@@ -19,7 +19,7 @@ use Rattle.desk_book.specs.Sound.{IsSound, IsSoundMark}
 use Rattle.desk_book.specs.Step.{moved_on, with_marks_moved, with_resolved}
 use Rattle.desk_book.proofs.HistoryLists.{enumerate_from-append}
 use Rattle.desk_book.proofs.KeptBooks.{All-from_map}
-use Rattle.desk_book.proofs.SoundBooks.{IsSoundParagraph-found}
+use Rattle.desk_book.proofs.SoundBooks.{IsSoundParagraph-found, paragraph_of-within}
 
 -- ---- marks that move
 
@@ -132,6 +132,16 @@ AreWithin-from book n [] sound all = All-nil IsWithin
 AreWithin-from book n (m ∷ ms) sound all =
     All-cons IsWithin m ms (IsWithin-sound book (mark_kept (n, m)) sound (All-head (λ entry. IsSoundMark book (mark_kept entry)) (n, m) (enumerate_from (n + 1) ms) all))
     (AreWithin-from book (n + 1) ms sound (All-tail (λ entry. IsSoundMark book (mark_kept entry)) (n, m) (enumerate_from (n + 1) ms) all))
+
+-- no mark is on a paragraph that isn't there yet
+pub marks-elsewhere : (book : Book) (id n : ℕ) (ms : List KeptMark) → IsSound book → length book.paragraphs < id
+    → All (λ entry. IsSoundMark book (mark_kept entry)) (enumerate_from n ms) → All (λ m. nat_eq m.paragraph id ≡ false) ms
+marks-elsewhere book id n [] sound past all = All-nil (λ m. nat_eq m.paragraph id ≡ false)
+marks-elsewhere book id n (m ∷ ms) sound past all =
+    let mine = All-head (λ entry. IsSoundMark book (mark_kept entry)) (n, m) (enumerate_from (n + 1) ms) all in
+    let within = paragraph_of-within book sound m.paragraph mine.paragraph mine.found in
+    All-cons (λ k. nat_eq k.paragraph id ≡ false) m ms (ne_eqb m.paragraph id (λ same. omega arith))
+    (marks-elsewhere book id (n + 1) ms sound past (All-tail (λ entry. IsSoundMark book (mark_kept entry)) (n, m) (enumerate_from (n + 1) ms) all))
 
 pub AreWithin-sound : (book : Book) (ms : List KeptMark) → IsSound book → All (IsSoundMark book) (marks_kept ms) → AreWithin ms
 AreWithin-sound book ms sound all = AreWithin-from book 1 ms sound (All-from_map (IsSoundMark book) mark_kept (enumerate_from 1 ms) all)

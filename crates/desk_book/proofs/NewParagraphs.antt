@@ -18,4 +18,5 @@ IsKeptTyped-new book name text table kept found new = record {
   means = found.means;
   cells = subst (λ (t : List ℕ). AreCellsOf table.rules t kept.cells) (sym new.print_is) new.cells;
   taken = subst (HaveTaken kept.original) (sym new.history) (λ i entry e. absurd (cc));
+  unmarked = new.unmarked;
 }

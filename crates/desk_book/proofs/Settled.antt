@@ -6,13 +6,13 @@ use Rattle.std.specs.Cmp.{unsigned_ties, unsigned_Decides}
 use Rattle.std.specs.Cmp.Lexicographic.{pointwise, pointwise_decides, slice_cmp, lists_ties}
 use Rattle.std.specs.FinMap.{slice_cmp-IsAntisymmetric, nat_cmp-IsAntisymmetric}
 use Rattle.std.specs.FinMap.Entries.{put, by_order}
-use Rattle.std.specs.List.{All, insert, range_with_len}
+use Rattle.std.specs.List.{All, enumerate_from, insert, range_with_len}
 use Rattle.std.specs.List.Sorted.{IsPermutation}
 use Rattle.std.specs.Map.{lookup}
 use Rattle.std.specs.Ordering.{nat_cmp}
 use Rattle.std.specs.declared.cmp.Ordering.TheVariants.{Less, Equal, Greater}
 use Rattle.std.proofs.Math.Seq.{take-append_seam}
-use Rattle.std.proofs.lemmas.Bool.{cases_lt, cond-true, cond-false, cond_both, false_from_ne_true, eqb-true}
+use Rattle.std.proofs.lemmas.Bool.{cases_lt, cond-true, cond-false, cond_both, false_from_ne_true, eqb-false, eqb-true, ne_eqb}
 use Rattle.std.proofs.lemmas.Cmp.{nat_list_cmp_total}
 use Rattle.std.proofs.lemmas.List.{length-append, length-map, map-append, take-append-le}
 use Rattle.std.proofs.lemmas.List.Elements.{All-nil, All-cons, All-append, All-push, All-weaker, All-contains, All-map, All-contains_itself}
@@ -36,19 +36,21 @@ use Rattle.desk_book.specs.declared.tables.BookTable.{BookTable}
 use Rattle.desk_book.specs.Book.{Book, Entry, Mark, Paragraph, text_of}
 use Rattle.desk_book.specs.Changes.{ChangesPrint, AreCellsOf, AreRenewed, AreCellsByTable, Carries, Change, IsKeptTyped, Does, IsEffect}
 use Rattle.desk_book.specs.Histories.{HaveTaken, TookFrom, entries_kept, entry_kept}
-use Rattle.desk_book.specs.KeptMarks.{AreWithin, with_kept_moved}
-use Rattle.desk_book.specs.KeptPrints.{HasRoomFor, with_print_changed}
-use Rattle.desk_book.specs.Limits.{most_entries, most_paragraphs}
+use Rattle.desk_book.specs.KeptMarks.{AreWithin, indexes_on, with_kept_moved}
+use Rattle.desk_book.specs.KeptPrints.{HasRoomFor, HasRoomForMark, with_mark, with_print_changed}
+use Rattle.desk_book.specs.Limits.{most_entries, most_marks, most_paragraphs}
 use Rattle.desk_book.specs.Marks.{mark_moved_by}
 use Rattle.desk_book.specs.Room.{Suffices}
 use Rattle.desk_book.proofs.Arranging.{slice_get-append_left, slice_get-push}
 use Rattle.desk_book.proofs.HistoryLists.{slice_get-below}
-use Rattle.desk_book.proofs.MarkSettled.{AreWithin-sound, marks-moved}
-use Rattle.desk_book.specs.Kept.{KeptTables, KeptParagraphs, with_table, arranged, ids, in_order, new_cells, renewed, with_kept_change, marks_kept, paragraph_kept, book_kept, IsKeptParagraph, IsKept}
+use Rattle.desk_book.proofs.MarkIndexes.{count-indexes, few-on, indexes-moved, indexes-none, indexes-push_on, indexes-push_other}
+use Rattle.desk_book.proofs.MarkSettled.{AreWithin-sound, marks-elsewhere, marks-moved, marks-push}
+use Rattle.desk_book.specs.ParagraphMarks.{marks_on}
+use Rattle.desk_book.specs.Kept.{HasMarks, mark_kept, KeptTables, KeptParagraphs, with_table, arranged, ids, in_order, new_cells, renewed, with_kept_change, marks_kept, paragraph_kept, book_kept, IsKeptParagraph, IsKept}
 use Rattle.desk_book.specs.Print.{corrected, print_of, with_entry}
 use Rattle.desk_book.specs.Refusals.{IsAccepted, paragraph_before}
-use Rattle.desk_book.specs.Sound.{IsSound}
-use Rattle.desk_book.specs.Step.{Makes, typed, next_id, next_with_marks, next_with_paragraphs, with_marks_moved, with_paragraph, with_move, with_change}
+use Rattle.desk_book.specs.Sound.{IsSound, IsSoundMark}
+use Rattle.desk_book.specs.Step.{Makes, typed, next_id, next_mark, next_with_marks, next_with_paragraphs, with_marks_moved, with_paragraph, with_move, with_change}
 use Rattle.desk_book.proofs.KeptBooks.{lookup-map, found-kept, All-found, All-from_map, means-kept}
 use Rattle.desk_book.proofs.Accepted.{named_paragraph}
 use Rattle.desk_book.proofs.Members.{Contains-here, Contains-behind, Contains-map}
@@ -249,6 +251,7 @@ module _ (version : ℕ) (tables : KeptTables) (paragraphs : KeptParagraphs) (ma
           (λ entry kept. IsKeptParagraph-other name table tables entry
           (λ same. let both : Some kept.table ≡ None = sym kept.found ∙ (ap (λ (n : List ℕ). lookup (pointwise nat_eq n) tables) same ∙ new-added) in absurd (cc)) kept)
           paragraphs is.translated;
+      marked = is.marked;
     }
 
   -- ---- another text of a table
@@ -259,6 +262,13 @@ module _ (version : ℕ) (tables : KeptTables) (paragraphs : KeptParagraphs) (ma
     kept-renewed (id, kept) = by (new_cells cells id)
       where
         by : (o : Option (List ℕ)) → paragraph_kept (id, option_map_or (λ new. record kept { cells = new }) o kept) ≡ paragraph_kept (id, kept)
+        by None = refl
+        by (Some new) = refl
+
+    marks-renewed : (entry : ℕ × KeptParagraph) → (renewed cells entry).1.marks ≡ entry.1.marks
+    marks-renewed (id, kept) = by (new_cells cells id)
+      where
+        by : (o : Option (List ℕ)) → (option_map_or (λ new. record kept { cells = new }) o kept).marks ≡ kept.marks
         by None = refl
         by (Some new) = refl
 
@@ -298,6 +308,7 @@ module _ (version : ℕ) (tables : KeptTables) (paragraphs : KeptParagraphs) (ma
               (All-weaker (Contains paragraphs) (λ entry. IsKeptParagraph (with_table name table tables) (renewed cells entry))
               (λ entry c. IsKeptParagraph-renewed entry (All-contains (IsKeptParagraph tables) paragraphs entry is.translated c) (All-contains (λ e. Renews (paragraph_kept e)) paragraphs entry each c))
               paragraphs (All-contains_itself paragraphs));
+          marked = All-map (HasMarks marks) (renewed cells) paragraphs (All-weaker (HasMarks marks) (λ entry. HasMarks marks (renewed cells entry)) (λ entry has. marks-renewed entry ∙ has) paragraphs is.marked);
         }
 
   -- the table of a text is there
@@ -407,12 +418,16 @@ module _ (version : ℕ) (tables : KeptTables) (paragraphs : KeptParagraphs) (ma
     IsKept-typed =
         let entry : ℕ × KeptParagraph = (length paragraphs + 1, kept) in
         let print : kept.print ≡ print_of (paragraph_kept entry) = given.print ∙ sym (ap (λ (p : Paragraph). print_of p) given.kept_is) in
+        let count = count-before in
+        let none : indexes_on (length paragraphs + 1) marks ≡ [] =
+        indexes-none (length paragraphs + 1) 0 marks (marks-elsewhere book (length paragraphs + 1) 1 marks is.sound (omega arith) (All-from_map (IsSoundMark book) mark_kept (enumerate_from 1 marks) is.sound.marks)) in
         record {
           sound = subst IsSound (sym next-typed) sound;
           means = is.means;
           translated = All-arranged (IsKeptParagraph tables) order all
               (All-push (IsKeptParagraph tables) paragraphs entry is.translated
               (IsKeptParagraph-cells is entry given.source given.meaning print given.found given.means given.cells given.taken));
+          marked = All-arranged (HasMarks marks) order all (All-push (HasMarks marks) paragraphs entry is.marked (given.unmarked ∙ sym none));
         }
 
   -- ---- a change of one paragraph
@@ -456,6 +471,7 @@ module _ (version : ℕ) (tables : KeptTables) (paragraphs : KeptParagraphs) (ma
           let to : Paragraph → Paragraph = λ p. record p { style = style; begins_volume = begins; struck = struck } in
           All-changed id (flagged style begins struck) to (λ n k. refl) (IsKeptParagraph tables) paragraphs
           (λ n k c e kept. record { print = kept.print; table = kept.table; found = kept.found; choices = kept.choices; tiles = kept.tiles; cells = kept.cells; taken = kept.taken }) is.translated;
+      marked = All-changed id (flagged style begins struck) (λ p. record p { style = style; begins_volume = begins; struck = struck }) (λ n k. refl) (HasMarks marks) paragraphs (λ n k c e has. has) is.marked;
     }
 
   -- ---- another table of a paragraph
@@ -486,6 +502,7 @@ module _ (version : ℕ) (tables : KeptTables) (paragraphs : KeptParagraphs) (ma
           let print : print_of given.paragraph ≡ k.print = ap (λ (q : Paragraph). print_of q) one ∙ sym kept.print in
           IsKeptParagraph-cells is (n, retabled k) given.source given.meaning kept.print given.found given.means
           (subst (λ (q : List ℕ). AreCellsOf given.meaning q cells) print given.cells_are) kept.taken) is.translated;
+      marked = All-changed id retabled (λ p. record p { table = name }) (λ n k. refl) (HasMarks marks) paragraphs (λ n k c e has. has) is.marked;
     }
 
   -- ---- another order
@@ -522,6 +539,7 @@ module _ (version : ℕ) (tables : KeptTables) (paragraphs : KeptParagraphs) (ma
       sound = subst IsSound (sym next-reordered) sound;
       means = is.means;
       translated = All-arranged (IsKeptParagraph tables) order paragraphs is.translated;
+      marked = All-arranged (HasMarks marks) order paragraphs is.marked;
     }
 
   -- ---- another print of a paragraph
@@ -556,6 +574,10 @@ module _ (version : ℕ) (tables : KeptTables) (paragraphs : KeptParagraphs) (ma
           let print : change.print ≡ print_of (paragraph_kept (n, with_print_changed change k)) = given.print ∙ (ap (λ (q : Paragraph). print_of (more q)) one ∙ ap (λ (q : Paragraph). print_of q) (sym (one_more n k))) in
           IsKeptParagraph-cells is (n, with_print_changed change k) given.source given.meaning print (ap (λ (q : Paragraph). text_of book q.table) (sym one) ∙ given.found) given.means given.cells
           (HaveTaken-push k.original k.history change.entry kept.taken (subst (λ (q : Paragraph). TookFrom (print_of q) change.entry) one given.taken))) is.translated;
+      marked =
+          let moved : List KeptMark = with_kept_moved id change.start change.removed change.added marks in
+          All-changed id (with_print_changed change) more one_more (HasMarks moved) paragraphs (λ n k c e has. has)
+          (All-weaker (HasMarks marks) (HasMarks moved) (λ entry has. has ∙ sym (indexes-moved id change.start change.removed change.added entry.0 marks)) paragraphs is.marked);
     }
 
     pub HasRoomFor-print_changed : HasRoomFor paragraphs id change.room
@@ -574,20 +596,71 @@ module _ (version : ℕ) (tables : KeptTables) (paragraphs : KeptParagraphs) (ma
               room_is = subst (λ (n : ℕ). Suffices n change.room) count given.room;
             }
 
+    pub indexes-print_changed : IsKept version tables paragraphs marks → (indexes : List ℕ)
+        → ((k : KeptParagraph) → lookup (nat_eq id) paragraphs ≡ Some k → indexes ≡ k.marks) → indexes ≡ indexes_on id marks
+    indexes-print_changed is indexes given_indexes =
+        let here = HasRoomFor-print_changed in
+        given_indexes here.paragraph here.found ∙ All-found (HasMarks marks) id here.paragraph paragraphs is.marked here.found
+
   -- ---- marks
 
   pub AreWithin-marks : IsKept version tables paragraphs marks → AreWithin marks
   AreWithin-marks is = AreWithin-sound book marks is.sound is.sound.marks
 
-  -- a book with other marks
+  -- a book with other marks, of which each paragraph has the same
   module _ (next : Book) (w : ℕ) (ms : List Mark) (kept : List KeptMark) (at : w ≡ next.version) (makes : next ≡ next_with_marks book ms) (same : marks_kept kept ≡ ms) where
     pub next-marked : book_kept w tables paragraphs kept ≡ next
     next-marked =
         same_book w (version + 1) (texts tables) (texts tables) before before (marks_kept kept) ms (at ∙ ap (λ (b : Book). b.version) makes) refl refl same ∙ sym makes
 
-    pub IsKept-marked : IsKept version tables paragraphs marks → IsSound next → IsKept w tables paragraphs kept
-    IsKept-marked is sound = record {
+    pub IsKept-marked : IsKept version tables paragraphs marks → IsSound next → ((id : ℕ) → indexes_on id kept ≡ indexes_on id marks) → IsKept w tables paragraphs kept
+    IsKept-marked is sound stay = record {
       sound = subst IsSound (sym next-marked) sound;
       means = is.means;
       translated = is.translated;
+      marked = All-weaker (HasMarks marks) (HasMarks kept) (λ entry has. has ∙ sym (stay entry.0)) paragraphs is.marked;
     }
+
+  -- a book with a mark more, of which its paragraph has the index
+  module _ (next : Book) (w : ℕ) (m : KeptMark) (at : w ≡ next.version) (makes : next ≡ next_with_marks book (marks_kept marks ++ mark_kept (next_mark book, m) ∷ [])) where
+    abbrev noted : KeptParagraphs
+    noted = with_kept_change m.paragraph (with_mark (length marks)) paragraphs
+
+    kept-noted : (kept : KeptParagraphs) → map paragraph_kept (with_kept_change m.paragraph (with_mark (length marks)) kept) ≡ map paragraph_kept kept
+    kept-noted [] = refl
+    kept-noted ((n, k) ∷ kept) = λ i. by (n == m.paragraph) i ∷ kept-noted kept i
+      where
+        by : (b : Bool) → paragraph_kept (cond b (n, with_mark (length marks) k) (n, k)) ≡ paragraph_kept (n, k)
+        by true = refl
+        by false = refl
+
+    pub next-noted : book_kept w tables noted (marks ++ m ∷ []) ≡ next
+    next-noted =
+        same_book w (version + 1) (texts tables) (texts tables) (map paragraph_kept noted) before (marks_kept (marks ++ m ∷ [])) (marks_kept marks ++ mark_kept (next_mark book, m) ∷ [])
+        (at ∙ ap (λ (b : Book). b.version) makes) refl (kept-noted paragraphs) (marks-push marks m) ∙ sym makes
+
+    pub IsKept-noted : IsKept version tables paragraphs marks → IsSound next → IsKept w tables noted (marks ++ m ∷ [])
+    IsKept-noted is sound = record {
+      sound = subst IsSound (sym next-noted) sound;
+      means = is.means;
+      translated = All-changed m.paragraph (with_mark (length marks)) (λ p. p) (λ n k. refl) (IsKeptParagraph tables) paragraphs
+          (λ n k c e kept. record { print = kept.print; table = kept.table; found = kept.found; choices = kept.choices; tiles = kept.tiles; cells = kept.cells; taken = kept.taken }) is.translated;
+      marked =
+          All-map (HasMarks (marks ++ m ∷ [])) (λ entry. cond (entry.0 == m.paragraph) (entry.0, with_mark (length marks) entry.1) entry) paragraphs
+          (All-weaker (HasMarks marks) (λ entry. HasMarks (marks ++ m ∷ []) (cond (entry.0 == m.paragraph) (entry.0, with_mark (length marks) entry.1) entry))
+          (λ entry has. cond_both (entry.0 == m.paragraph) (entry.0, with_mark (length marks) entry.1) entry (HasMarks (marks ++ m ∷ []))
+          (λ e.
+          let same : entry.0 ≡ m.paragraph = eqb-true entry.0 m.paragraph e in
+          ap (λ (t : List ℕ). t ++ length marks ∷ []) (has ∙ ap (λ (n : ℕ). indexes_on n marks) same)
+          ∙ (sym (indexes-push_on marks m) ∙ ap (λ (n : ℕ). indexes_on n (marks ++ m ∷ [])) (sym same)))
+          (λ e. has ∙ sym (indexes-push_other entry.0 marks m (ne_eqb m.paragraph entry.0 (λ same. eqb-false entry.0 m.paragraph e (sym same))))))
+          paragraphs is.marked);
+    }
+
+    pub HasRoomForMark-noted : IsKept version tables paragraphs marks → (room : Option ℕ) → length book.marks < most_marks
+        → Suffices (length (marks_on m.paragraph book.marks)) room → HasRoomForMark paragraphs m.paragraph room
+    HasRoomForMark-noted is room few enough k found =
+        let has : k.marks ≡ indexes_on m.paragraph marks = All-found (HasMarks marks) m.paragraph k paragraphs is.marked found in
+        let count : length k.marks ≡ length (marks_on m.paragraph book.marks) = ap length has ∙ count-indexes m.paragraph 0 1 marks in
+        let fewer = few-on m.paragraph (marks_kept marks) in
+        (omega arith, subst (λ (n : ℕ). Suffices n room) (sym count) enough)

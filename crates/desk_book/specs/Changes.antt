@@ -18,6 +18,7 @@ use Rattle.desk_book.specs.Histories.{HaveTaken, TookFrom, entry_kept}
 use Rattle.desk_book.specs.Kept.{mark_kept, new_cells, paragraph_kept}
 use Rattle.desk_book.specs.Limits.{most_entries, most_marks, most_paragraphs, most_print}
 use Rattle.desk_book.specs.Marks.{mark_moved_by}
+use Rattle.desk_book.specs.ParagraphMarks.{marks_on}
 use Rattle.desk_book.specs.Print.{print_of, with_entry}
 use Rattle.desk_book.specs.Refusals.{IsAccepted}
 use Rattle.desk_book.specs.Room.{Suffices}
@@ -45,6 +46,7 @@ pub record IsKeptTyped (book : Book) (table text : List ℕ) (kept : KeptParagra
   pub means : Means source meaning
   pub cells : AreCellsOf meaning kept.print kept.cells
   pub taken : HaveTaken kept.original kept.history
+  pub unmarked : kept.marks ≡ []
 
 -- the cells are those of the paragraph's print by the table with this name
 pub record AreCellsByTable (book : Book) (id : ℕ) (table cells : List ℕ) : Type 0 where
@@ -97,9 +99,9 @@ Does book command next (ReplaceTable name table cells) =
 Does book command next (AddParagraph paragraph room order_room place) =
     AddsParagraph book next command paragraph room order_room place
 Does book command next (ChangePrint id change) = ChangesPrint book next id change
-Does book command next (AddMark mark room) =
+Does book command next (AddMark mark room index_room) =
     (next ≡ next_with_marks book (book.marks ++ mark_kept (next_mark book, mark) ∷ [])) × Suffices (length book.marks) room
-    × (length book.marks < most_marks)
+    × (length book.marks < most_marks) × Suffices (length (marks_on mark.paragraph book.marks)) index_room
 Does book command next (ResolveMark id) = next ≡ next_with_marks book (with_resolved id book.marks)
 Does book command next (SetFlags id style begins struck) =
     next ≡ next_with_paragraphs book

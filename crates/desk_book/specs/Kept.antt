@@ -19,6 +19,7 @@ use Rattle.desk_book.specs.declared.marks.KeptMark.{KeptMark}
 use Rattle.desk_book.specs.declared.paragraphs.Paragraph.{Paragraph as KeptParagraph}
 use Rattle.desk_book.specs.Book.{Book, Mark, Paragraph}
 use Rattle.desk_book.specs.Histories.{HaveTaken, entries_kept}
+use Rattle.desk_book.specs.KeptMarks.{indexes_on}
 use Rattle.desk_book.specs.Limits.{most_paragraphs}
 use Rattle.desk_book.specs.Print.{print_of}
 use Rattle.desk_book.specs.Sound.{IsSound}
@@ -144,9 +145,14 @@ pub record IsKeptParagraph (tables : KeptTables) (entry : ℕ × KeptParagraph) 
   pub cells : entry.1.cells ≡ braille table.rules entry.1.print choices
   pub taken : HaveTaken entry.1.original entry.1.history
 
+-- the kept paragraph has the indexes of its marks
+abbrev pub HasMarks : List KeptMark → ℕ × KeptParagraph → Type 0
+HasMarks marks entry = entry.1.marks ≡ indexes_on entry.0 marks
+
 -- what is true of a book as it is kept: it stands for a sound book, each table has the rules that its text means, and
--- each paragraph has its print and its braille
+-- each paragraph has its print, its braille and the indexes of its marks
 pub record IsKept (version : ℕ) (tables : KeptTables) (paragraphs : KeptParagraphs) (marks : List KeptMark) : Type 0 where
   pub sound : IsSound (book_kept version tables paragraphs marks)
   pub means : All (λ entry. Means entry.1.text entry.1.rules) tables
   pub translated : All (IsKeptParagraph tables) paragraphs
+  pub marked : All (HasMarks marks) paragraphs

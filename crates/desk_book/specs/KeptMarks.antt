@@ -1,5 +1,5 @@
 -- Marks as they are kept.
-use Rattle.std.specs.Prelude.{ℕ, ◌+◌, ◌-◌, ◌≤◌, ◌==◌, nat_le, true, if◌then◌else◌, min, max, zero, suc, List, map, Option, None, slice_get, slice_set}
+use Rattle.std.specs.Prelude.{ℕ, ◌+◌, ◌-◌, ◌≤◌, ◌==◌, nat_le, true, if◌then◌else◌, min, max, zero, suc, List, [], ◌∷◌, map, Option, None, slice_get, slice_set}
 use Rattle.std.specs.Option.{option_map_or}
 use Rattle.std.specs.List.{All}
 use Rattle.desk_book.specs.declared.marks.KeptMark.{KeptMark}
@@ -31,6 +31,16 @@ moved_kept_of id start removed added mark = if mark.paragraph == id then moved_k
 -- the kept marks, those of the paragraph with this id moved
 abbrev pub with_kept_moved : (id start removed added : ℕ) → List KeptMark → List KeptMark
 with_kept_moved id start removed added marks = map (moved_kept_of id start removed added) marks
+
+-- of kept marks that have the indexes from one on, the indexes of those on the paragraph with this id
+abbrev pub indexes_from : (id index : ℕ) → List KeptMark → List ℕ
+indexes_from id index [] = []
+indexes_from id index (mark ∷ marks) =
+    if mark.paragraph == id then index ∷ indexes_from id (index + 1) marks else indexes_from id (index + 1) marks
+
+-- the indexes of the marks on the paragraph with this id
+abbrev pub indexes_on : ℕ → List KeptMark → List ℕ
+indexes_on id marks = indexes_from id 0 marks
 
 -- the kept mark with an id, from 1, if there is one
 abbrev pub kept_mark : ℕ → List KeptMark → Option KeptMark

@@ -58,6 +58,7 @@ pub record IsNewParagraph (table print : List ℕ) (meaning : Meaning) (kept : K
   pub cells : AreCellsOf meaning print kept.cells
   pub characters : AreCharacters print
   pub history : kept.history ≡ []
+  pub unmarked : kept.marks ≡ []
 
 -- the table with this name, by this meaning, defines the paragraph's print, if the paragraph uses the table
 abbrev pub DefinesUser : Meaning → List ℕ → Paragraph → Type 0

@@ -1,5 +1,5 @@
 -- What a book shows of a paragraph as it is kept.
-use Rattle.std.specs.Prelude.{◌≡◌, ℕ, List, Some}
+use Rattle.std.specs.Prelude.{◌≡◌, ℕ, List, length, Some}
 use Rattle.louis_table.specs.Meaning.{Meaning}
 use Rattle.louis_translate.specs.declared.choices.Choice.{Choice}
 use Rattle.louis_translate.specs.Position.{AreDefined}
@@ -8,12 +8,13 @@ use Rattle.desk_book.specs.declared.paragraphs.Paragraph.{Paragraph as KeptParag
 use Rattle.desk_book.specs.Book.{Book, Paragraph, paragraph_of}
 use Rattle.desk_book.specs.Histories.{HaveTaken}
 use Rattle.desk_book.specs.Kept.{paragraph_kept}
+use Rattle.desk_book.specs.ParagraphMarks.{marks_on}
 use Rattle.desk_book.specs.Print.{print_of}
 use Rattle.desk_book.specs.Sound.{IsSoundParagraph}
 use Rattle.desk_book.specs.Translated.{IsTranslatedBy}
 
 -- the kept paragraph has the print and the braille of the book's, which it stands for, and whose table has this meaning
--- and defines the print; and it has what each of its corrections took away
+-- and defines the print; it has what each of its corrections took away, and as many marks as the book has on it
 pub record IsShown (book : Book) (id : ℕ) (kept : KeptParagraph) (meaning : Meaning) : Type 0 where
   pub paragraph : Paragraph
   pub found : paragraph_of book id ≡ Some paragraph
@@ -25,3 +26,4 @@ pub record IsShown (book : Book) (id : ℕ) (kept : KeptParagraph) (meaning : Me
   pub kept_is : paragraph ≡ paragraph_kept (id, kept)
   pub sound : IsSoundParagraph book paragraph
   pub taken : HaveTaken kept.original kept.history
+  pub marked : length kept.marks ≡ length (marks_on id book.marks)

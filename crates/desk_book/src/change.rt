@@ -76,6 +76,8 @@ pub(crate) enum Effect {
         mark: KeptMark,
         /// Room for it beside the others.
         room: Room<KeptMark>,
+        /// Room for its index among those of its paragraph.
+        index_room: Room<usize>,
     },
     /// A mark becomes resolved.
     ResolveMark {

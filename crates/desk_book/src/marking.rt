@@ -105,6 +105,7 @@ impl Book {
         Ok(Effect::AddMark {
             mark,
             room: self.marks.room(alloc)?,
+            index_room: paragraph.marks.room(alloc)?,
         })
     }
 

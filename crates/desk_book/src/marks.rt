@@ -1,9 +1,9 @@
 //! The marks of proofreaders.
-ghost use Rattle.desk_book.specs.KeptMarks.{AreWithin, IsWithin, moved_kept, moved_kept_of, kept_mark, with_kept_moved, with_kept_resolved};
+ghost use Rattle.desk_book.specs.KeptMarks.{AreWithin, IsWithin, indexes_on, moved_kept, kept_mark, with_kept_moved, with_kept_resolved};
 ghost use Rattle.desk_book.specs.Limits.{most_print};
 ghost use Rattle.desk_book.specs.Room.{Suffices};
 ghost use Rattle.std.specs.Option.{option_copied};
-ghost use Rattle.std.specs.Prelude.{◌≡◌, ◌+◌, ◌-◌, ◌<◌, ◌≤◌, ◌^◌, [], ◌∷◌, ◌++◌, IfOk, None, length};
+ghost use Rattle.std.specs.Prelude.{◌≡◌, ◌+◌, ◌-◌, ◌<◌, ◌≤◌, ◌^◌, [], ◌∷◌, ◌++◌, ℕ, IfOk, None, length};
 
 use super::items::{Items, Room};
 use super::text::Text;
@@ -61,29 +61,20 @@ impl KeptMark {
         self.end = self.end.max(start + removed) - removed + added;
         self.touched = true;
     }
-
-    /// Moves the mark, if it is on this paragraph.
-    fn give_way_in(&mut self, paragraph: u64, start: usize, removed: usize, added: usize)
-        requires mark { IsWithin self.old }
-        requires within { start + removed ≤ most_print }
-        requires short { added ≤ most_print }
-        ensures { self.new ≡ moved_kept_of paragraph start removed added self.old }
-    {
-        if self.paragraph == paragraph {
-            self.give_way(start, removed, added);
-        }
-    }
 }
 
-/// Moves the marks of a paragraph as so many characters of its print, from a place on, give way to others.
-fn give_way(marks: &mut [KeptMark], paragraph: u64, start: usize, removed: usize, added: usize)
+/// Moves the marks of a paragraph, which have these indexes, as so many characters of its print, from a place on, give way
+/// to others.
+fn give_way(marks: &mut [KeptMark], indexes: &[usize], start: usize, removed: usize, added: usize)
+    requires indexes { (id : ℕ) × (indexes.now ≡ indexes_on id marks.old) }
     requires marks { AreWithin marks.old }
     requires within { start + removed ≤ most_print }
     requires short { added ≤ most_print }
-    ensures { marks.new ≡ with_kept_moved paragraph start removed added marks.old }
+    ensures { (id : ℕ) → indexes.now ≡ indexes_on id marks.old
+        → marks.new ≡ with_kept_moved id start removed added marks.old }
 {
-    for mark in marks.iter_mut() {
-        mark.give_way_in(paragraph, start, removed, added);
+    for index in indexes {
+        marks[*index].give_way(start, removed, added);
     }
 }
 
@@ -166,13 +157,16 @@ impl Marks {
         }
     }
 
-    /// Moves the marks of a paragraph as so many characters of its print, from a place on, give way to others.
-    pub(crate) fn give_way(&mut self, paragraph: u64, start: usize, removed: usize, added: usize)
+    /// Moves the marks of a paragraph, which have these indexes, as so many characters of its print, from a place on, give
+    /// way to others.
+    pub(crate) fn give_way(&mut self, indexes: &[usize], start: usize, removed: usize, added: usize)
+        requires indexes { (id : ℕ) × (indexes.now ≡ indexes_on id self.old) }
         requires marks { AreWithin self.old }
         requires within { start + removed ≤ most_print }
         requires short { added ≤ most_print }
-        ensures { self.new ≡ with_kept_moved paragraph start removed added self.old }
+        ensures { (id : ℕ) → indexes.now ≡ indexes_on id self.old
+            → self.new ≡ with_kept_moved id start removed added self.old }
     {
-        give_way(&mut self.items.items, paragraph, start, removed, added);
+        give_way(&mut self.items.items, indexes, start, removed, added);
     }
 }

@@ -1,7 +1,6 @@
 //! What a book tells of a paragraph's marks.
-ghost use Rattle.desk_book.specs.Kept.{marks_kept};
-ghost use Rattle.desk_book.specs.ParagraphMarks.{IsFirstOn, marks_from, marks_on};
-ghost use Rattle.std.specs.Prelude.{◌≡◌, [], IfNone, IfSome};
+ghost use Rattle.desk_book.specs.ParagraphMarks.{AreMarks, marks_at};
+ghost use Rattle.std.specs.Prelude.{◌≡◌};
 
 use super::marks::KeptMark;
 use std::marker::Model;
@@ -26,44 +25,36 @@ pub struct MarkItem<'a> {
 /// The marks of a paragraph in the order of their ids. It takes no memory. Contracts see it as those that are left.
 #[derive(Drop)]
 pub struct ParagraphMarks<'a> {
+    // the marks of the book
     marks: &'a [KeptMark],
-    paragraph: u64,
+    // the indexes of those of the paragraph
+    indexes: &'a [usize],
     at: usize,
 }
 
 impl<'a> Model for ParagraphMarks<'a> {
     ghost use Rattle.desk_book.specs.Book.{MarkList};
-    ghost use Rattle.desk_book.specs.ParagraphMarks.{marks_from};
+    ghost use Rattle.desk_book.specs.ParagraphMarks.{AreMarks, marks_at};
 
     ghost Value = { MarkList };
 
-    ghost view = { λ m. marks_from m.paragraph m.at m.marks.now };
+    ghost view = { λ m. marks_at m.at m.indexes.now m.marks.now };
+
+    ghost invariant = { λ m. AreMarks m.marks.now m.indexes.now };
 }
 
 impl<'a> ParagraphMarks<'a> {
-    /// All marks of the paragraph with an id.
-    pub(crate) fn new(marks: &'a [KeptMark], paragraph: u64) -> Self
-        ensures { result ≡ marks_on paragraph (marks_kept marks.now) }
+    /// The marks with these indexes.
+    pub(crate) fn new(marks: &'a [KeptMark], indexes: &'a [usize]) -> Self
+        requires { AreMarks marks.now indexes.now }
+        ensures { result ≡ marks_at 0 indexes.now marks.now }
     {
         ParagraphMarks {
             marks,
-            paragraph,
+            indexes,
             at: 0,
         }
     }
-}
-
-/// The first mark of a paragraph from an index on, with its id.
-fn first_on(marks: &[KeptMark], paragraph: u64, from: usize) -> Option<(usize, &KeptMark)>
-    ensures found { IfSome result (λ found. IsFirstOn marks.now paragraph from found.0 found.1.now) }
-    ensures none { IfNone result (marks_from paragraph from marks.now ≡ []) }
-{
-    for index in from..marks.len() {
-        if marks[index].paragraph == paragraph {
-            return Some((index + 1, &marks[index]));
-        }
-    }
-    None
 }
 
 impl<'a> Iterator for ParagraphMarks<'a> {
@@ -77,12 +68,14 @@ impl<'a> Iterator for ParagraphMarks<'a> {
     ghost remaining = { item_count (λ s. s) };
 
     fn next(&mut self) -> Option<MarkItem<'a>> {
-        let Some((id, mark)) = first_on(self.marks, self.paragraph, self.at) else {
+        let Some(index) = self.indexes.get(self.at) else {
             return None;
         };
-        self.at = id;
+        let index = *index;
+        let mark = &self.marks[index];
+        self.at += 1;
         Some(MarkItem {
-            id: id as u64,
+            id: index as u64 + 1,
             start: mark.start,
             end: mark.end,
             resolved: mark.resolved,

@@ -1,6 +1,6 @@
 //! The paragraphs of a book.
 ghost use Rattle.desk_book.specs.Kept.{arranged, ids, renewed, renewed_items, with_id, with_id_moved, with_kept_change};
-ghost use Rattle.desk_book.specs.KeptPrints.{HasRoomFor, with_print_changed};
+ghost use Rattle.desk_book.specs.KeptPrints.{HasRoomFor, HasRoomForMark, with_mark, with_print_changed};
 ghost use Rattle.desk_book.specs.Refusals.{paragraph_before};
 ghost use Rattle.desk_book.specs.Room.{Suffices};
 ghost use Rattle.desk_book.specs.Step.{is_behind};
@@ -8,7 +8,7 @@ ghost use Rattle.std.specs.List.{Contains, filter, insert, position, range_with_
 ghost use Rattle.std.specs.List.Sorted.{IsPermutation};
 ghost use Rattle.std.specs.Map.{lookup};
 ghost use Rattle.std.specs.Option.{option_copied, option_map_or};
-ghost use Rattle.std.specs.Prelude.{◌≡◌, ◌+◌, ◌<◌, ◌≤◌, ◌^◌, [], ◌∷◌, ◌++◌, ℕ, IfNone, IfOk, IfSome, OnOk, ◌==◌, length, map, nat_eq, not, option_map, slice_get};
+ghost use Rattle.std.specs.Prelude.{◌≡◌, ◌+◌, ◌<◌, ◌≤◌, ◌^◌, [], ◌∷◌, ◌++◌, ℕ, IfNone, IfOk, IfSome, OnOk, Some, ◌==◌, length, map, nat_eq, not, option_map, slice_get};
 
 use super::change::PrintChange;
 use super::command::Anchor;
@@ -40,6 +40,8 @@ pub(crate) struct Paragraph {
     pub(crate) print: Characters,
     /// The braille of its print.
     pub(crate) cells: Cells,
+    /// The indexes of its marks among those of the book.
+    pub(crate) marks: Items<usize>,
 }
 
 // Written out: a derived drop stands part by part in each function that lets a paragraph go, which makes those long to
@@ -55,6 +57,7 @@ impl Drop for Paragraph {
             struck: _,
             print: _,
             cells: _,
+            marks: _,
         } = self;
     }
 }
@@ -219,6 +222,16 @@ impl Paragraphs {
         self.items.as_slice().get(index)
     }
 
+    /// The indexes of the marks of the paragraph with an id, if there is one.
+    pub(crate) fn marks_of(&self, id: u64) -> &[usize]
+        ensures { (kept : _) → lookup (nat_eq id) self.now ≡ Some kept → result.now ≡ kept.marks }
+    {
+        match self.get(id) {
+            Some(paragraph) => paragraph.marks.as_slice(),
+            None => &[],
+        }
+    }
+
     /// The paragraph at a place of the order, from 0, and its id.
     pub(crate) fn at(&self, place: usize) -> Option<(u64, &Paragraph)>
         ensures { option_map (λ found. (found.0, found.1.now)) result ≡ slice_get self.now place }
@@ -362,6 +375,18 @@ impl Paragraphs {
         paragraph.history.push(room, entry);
         paragraph.print = print;
         paragraph.cells = cells;
+    }
+
+    /// Gives the paragraph with an id, if there is one, the index of one more of its marks. It takes no memory.
+    pub(crate) fn add_mark(&mut self, id: u64, room: Room<usize>, index: usize)
+        requires { HasRoomForMark self.old id room }
+        ensures { self.new ≡ with_kept_change id (with_mark index) self.old }
+    {
+        let Some(place) = self.index_of(id) else {
+            return;
+        };
+        let paragraph = &mut self.items.items[place];
+        paragraph.marks.push(room, index);
     }
 
     /// Gives paragraphs new cells: those with id n the item n - 1, where that has any.

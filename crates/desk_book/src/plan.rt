@@ -79,6 +79,7 @@ fn new_paragraph(
         struck: false,
         print: Characters::from_vec(print),
         cells,
+        marks: Items::new(alloc),
     })
 }
 

@@ -122,8 +122,11 @@ impl Book {
             × (marks ≡ marks_on id self.now.marks)) }
         ensures missing { IfErr result (λ refusal. (refusal ≡ Refusal.NoParagraph) × (paragraph_of self.now id ≡ None)) }
     {
-        let _ = self.translated(id)?;
-        Ok(ParagraphMarks::new(self.marks.as_slice(), id))
+        let Some(paragraph) = self.paragraphs.get(id) else {
+            return Err(Refusal::NoParagraph);
+        };
+        let indexes = paragraph.marks.as_slice();
+        Ok(ParagraphMarks::new(self.marks.as_slice(), indexes))
     }
 
     /// The paragraphs in the order of the book.

@@ -162,7 +162,8 @@ impl Book {
             mut paragraphs,
             mut marks,
         } = self;
-        marks.give_way(id, change.start, change.removed, change.added);
+        let indexes = paragraphs.marks_of(id);
+        marks.give_way(indexes, change.start, change.removed, change.added);
         paragraphs.change_print(id, change);
         Book {
             version,
@@ -173,16 +174,23 @@ impl Book {
     }
 
     /// The book at a version, with a new mark.
-    fn with_new_mark(self, version: u64, mark: KeptMark, room: Room<KeptMark>) -> Self
-        requires { (next : _) × IsEffect self version (Effect.AddMark mark room) next }
-        ensures { (next : _) → IsEffect self version (Effect.AddMark mark room) next → result ≡ next }
+    fn with_new_mark(
+        self,
+        version: u64,
+        mark: KeptMark,
+        room: Room<KeptMark>,
+        index_room: Room<usize>,
+    ) -> Self
+        requires { (next : _) × IsEffect self version (Effect.AddMark mark room index_room) next }
+        ensures { (next : _) → IsEffect self version (Effect.AddMark mark room index_room) next → result ≡ next }
     {
         let Book {
             version: _,
             tables,
-            paragraphs,
+            mut paragraphs,
             mut marks,
         } = self;
+        paragraphs.add_mark(mark.paragraph, index_room, marks.len());
         marks.push(room, mark);
         Book {
             version,
@@ -236,7 +244,11 @@ impl Book {
                 place,
             } => self.with_new_paragraph(version, paragraph, room, order_room, place),
             Effect::ChangePrint { id, change } => self.with_print_changed(version, id, change),
-            Effect::AddMark { mark, room } => self.with_new_mark(version, mark, room),
+            Effect::AddMark {
+                mark,
+                room,
+                index_room,
+            } => self.with_new_mark(version, mark, room, index_room),
             Effect::ResolveMark { id } => self.with_mark_resolved(version, id),
             Effect::SetFlags {
                 id,

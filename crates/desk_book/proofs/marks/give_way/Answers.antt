@@ -1,20 +1,57 @@
-use Rattle.std.proofs.Common.{map, subst, ap, sym, ◌∙◌}
-use Rattle.std.proofs.lemmas.List.{length-map}
-use Rattle.desk_book.specs.KeptMarks.{IsWithin, moved_kept_of}
-use Rattle.desk_book.proofs.MarkLists.{All-reached, map-reached}
-use Rattle.desk_book.proofs.Renewing.{reached_all}
+use Rattle.std.proofs.Common.{◌≡◌, ℕ, ◌+◌, ◌<◌, List, ◌∷◌, length, set, get_or, drop, slice_get, Some, subst, sym, ap, ◌∙◌, All, rules}
+use Rattle.std.proofs.lemmas.List.{drop_all}
+use Rattle.std.proofs.lemmas.Option.{get_or_from_slice_get, slice_get-get_or, slice_get_within}
+use Rattle.desk_book.specs.declared.marks.KeptMark.{KeptMark}
+use Rattle.desk_book.specs.KeptMarks.{IsWithin, moved_kept}
+use Rattle.desk_book.proofs.Arranging.{All-slice_get}
+use Rattle.desk_book.proofs.KeptBooks.{drop-there}
+use Rattle.desk_book.proofs.MarkIndexes.{HaveMoved, HaveMoved-end, HaveMoved-next, item-moved}
 use Rattle.desk_book.proofs.marks.give_way.Goals as goal
 
-pub give_way_in-requires-clause-mark : goal.give_way_in-requires-clause-mark
-give_way_in-requires-clause-mark c =
-    subst IsWithin c.mark-item.is (All-reached (moved_kept_of c.args.paragraph c.args.start c.args.removed c.args.added) c.args.marks.now c.loop-mark.marks c.loop-mark.mark-index c.loop-mark.invariant c.loop-mark.auto.marks c.loop-mark-test.true IsWithin c.mark-item.result c.requires.marks c.mark-item.is)
+module _ (id start removed added i : ℕ) (indexes : List ℕ) (old marks : List KeptMark) (within : i < length indexes) (have : HaveMoved id start removed added old (drop i indexes) marks) where
+  left : drop i indexes ≡ get_or indexes i 0 ∷ drop (i + 1) indexes
+  left = (drop-there indexes i (get_or indexes i 0) (slice_get-get_or indexes i 0 within)).0
 
-pub loop-mark-preserved : goal.loop-mark-preserved
-loop-mark-preserved c =
-    let f = moved_kept_of c.args.paragraph c.args.start c.args.removed c.args.added in
-    map-reached f c.args.marks.now c.loop-mark.marks c.loop-mark.mark-index c.loop-mark.invariant c.loop-mark.auto.marks c.loop-mark-test.true c.mark-item.result c.give_way_in.new.self c.mark-item.is (c.give_way_in.ensures ∙ ap f (sym c.mark-item.is))
+  mark_there : (m : KeptMark) × (slice_get old (get_or indexes i 0) ≡ Some m) × (slice_get marks (get_or indexes i 0) ≡ Some m)
+  mark_there = item-moved id start removed added old (drop i indexes) marks have (get_or indexes i 0) (drop (i + 1) indexes) left
+
+  index-within : get_or indexes i 0 < length marks
+  index-within = slice_get_within marks (get_or indexes i 0) mark_there.0 mark_there.2
+
+  mark-within : (d : KeptMark) → All IsWithin old → IsWithin (get_or marks (get_or indexes i 0) d)
+  mark-within d all =
+      subst IsWithin (sym (get_or_from_slice_get marks (get_or indexes i 0) mark_there.0 d mark_there.2))
+      (All-slice_get IsWithin old (get_or indexes i 0) mark_there.0 all mark_there.1)
+
+  next-moved : (d new : KeptMark) → new ≡ moved_kept start removed added (get_or marks (get_or indexes i 0) d) → HaveMoved id start removed added old (drop (i + 1) indexes) (set marks (get_or indexes i 0) new)
+  next-moved d new is =
+      let one : get_or marks (get_or indexes i 0) d ≡ mark_there.0 = get_or_from_slice_get marks (get_or indexes i 0) mark_there.0 d mark_there.2 in
+      subst (λ (m : KeptMark). HaveMoved id start removed added old (drop (i + 1) indexes) (set marks (get_or indexes i 0) m)) (sym (is ∙ ap (moved_kept start removed added) one))
+      (HaveMoved-next id start removed added old (drop i indexes) marks have (get_or indexes i 0) (drop (i + 1) indexes) mark_there.0 left mark_there.2)
+
+pub bounds-marks-index : goal.bounds-marks-index
+bounds-marks-index c =
+    index-within c.requires.indexes.0 c.args.start c.args.removed c.args.added c.loop-index.index-index c.args.indexes.now c.args.marks.now c.loop-index.marks c.loop-index-test.true
+    (c.loop-index.invariant c.requires.indexes.0 c.requires.indexes.1)
+
+pub offset_bounds-marks-index : goal.offset_bounds-marks-index
+offset_bounds-marks-index c =
+    let within : get_or c.args.indexes.now c.loop-index.index-index 0 < length c.loop-index.marks =
+    index-within c.requires.indexes.0 c.args.start c.args.removed c.args.added c.loop-index.index-index c.args.indexes.now c.args.marks.now c.loop-index.marks c.loop-index-test.true
+    (c.loop-index.invariant c.requires.indexes.0 c.requires.indexes.1) in
+    search rules
+
+pub give_way-requires-clause-mark : goal.give_way-requires-clause-mark
+give_way-requires-clause-mark c =
+    mark-within c.requires.indexes.0 c.args.start c.args.removed c.args.added c.loop-index.index-index c.args.indexes.now c.args.marks.now c.loop-index.marks c.loop-index-test.true
+    (c.loop-index.invariant c.requires.indexes.0 c.requires.indexes.1) c.index-marks-index.result c.requires.marks
+
+pub loop-index-preserved : goal.loop-index-preserved
+loop-index-preserved c = λ id is.
+    next-moved id c.args.start c.args.removed c.args.added c.loop-index.index-index c.args.indexes.now c.args.marks.now c.loop-index.marks c.loop-index-test.true
+    (c.loop-index.invariant id is) c.index-marks-index.result c.give_way.new.self c.give_way.ensures
 
 pub returns : goal.returns
-returns c =
-    let f = moved_kept_of c.args.paragraph c.args.start c.args.removed c.args.added in
-    c.loop-mark.invariant ∙ reached_all c.loop-mark.mark-index (map f c.args.marks.now) c.args.marks.now (length-map c.args.marks.now f) c.loop-mark-test.false
+returns c = λ id is.
+    HaveMoved-end id c.args.start c.args.removed c.args.added c.args.marks.now (drop c.loop-index.index-index c.args.indexes.now) c.loop-index.marks (c.loop-index.invariant id is)
+    (drop_all c.loop-index.index-index c.args.indexes.now c.loop-index-test.false)

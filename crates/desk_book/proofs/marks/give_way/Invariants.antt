@@ -1,7 +1,8 @@
-use Rattle.std.proofs.Common.{◌≡◌, map}
-use Rattle.desk_book.specs.KeptMarks.{moved_kept_of}
-use Rattle.desk_book.proofs.Renewing.{reached}
+use Rattle.std.proofs.Common.{◌≡◌, ℕ, drop}
+use Rattle.desk_book.specs.KeptMarks.{indexes_on}
+use Rattle.desk_book.proofs.MarkIndexes.{HaveMoved}
 use Rattle.desk_book.proofs.marks.give_way.Given as goal
 
-abbrev pub invariant-loop-mark : goal.invariant-loop-mark
-invariant-loop-mark l = l.marks ≡ reached l.mark-index (map (moved_kept_of l.paragraph l.start l.removed l.added) l.initial.marks) l.initial.marks
+abbrev pub invariant-loop-index : goal.invariant-loop-index
+invariant-loop-index l =
+    (id : ℕ) → l.indexes ≡ indexes_on id l.fn.marks → HaveMoved id l.start l.removed l.added l.fn.marks (drop l.index-index l.indexes) l.marks

@@ -3,6 +3,7 @@ use Rattle.std.proofs.lemmas.Result.{err_from_is_err_and}
 use Rattle.desk_book.specs.Book.{Book}
 use Rattle.desk_book.specs.Room.{Suffices}
 use Rattle.desk_book.specs.Stored.{AreCharacters}
+use Rattle.desk_book.proofs.MarkIndexes.{few-on}
 use Rattle.desk_book.proofs.MarkPlanning.{accepted_mark, full_marks, full_of_versions, has_cells, long_note, marked_here}
 use Rattle.desk_book.proofs.MarkSettled.{count-marks}
 use Rattle.desk_book.proofs.book.Book.plan_mark.Goals as goal
@@ -32,6 +33,13 @@ room-requires c =
     let left = c.in_ok-check_marks.ensures.left in
     omega arith
 
+pub room-requires-2 : goal.room-requires-2
+room-requires-2 c =
+    let count = c.in_ok-paragraph.ensures.found.0.marked in
+    let few = few-on c.args.id c.args.self.now.marks in
+    let left = c.in_ok-check_marks.ensures.left in
+    omega arith
+
 pub returns-clause-planned : goal.returns-clause-planned
 returns-clause-planned c =
     let book = c.args.self.now in
@@ -41,6 +49,6 @@ returns-clause-planned c =
     let characters = subst AreCharacters noted c.in_ok-copy.ensures.characters in
     rw noted (
       accepted_mark c.args.self.now c.args.id c.args.cell c.args.count c.args.note.now c.in_ok-check_text.ensures.unbarred _ _ c.in_ok-paragraph.ensures.found.0 c.in_ok-paragraph.ensures.found.1 _ _ c.as_slice-print.result.now c.as_slice-print.ensures c.in_ok-start.ensures.there c.in_ok-check_note.ensures.short c.in_ok-check_marks.ensures.left c.in_ok-check_version.ensures.left,
-      (_, (_, _, marked, refl), (refl, subst (λ (n : ℕ). Suffices n c.in_ok-room.field-0) count c.in_ok-room.ensures, c.in_ok-check_marks.ensures.left)),
+      (_, (_, _, marked, refl), (refl, subst (λ (n : ℕ). Suffices n c.in_ok-room.field-0) count c.in_ok-room.ensures, c.in_ok-check_marks.ensures.left, subst (λ (n : ℕ). Suffices n c.in_ok-room-2.field-0) c.in_ok-paragraph.ensures.found.0.marked c.in_ok-room-2.ensures)),
       characters,
     )

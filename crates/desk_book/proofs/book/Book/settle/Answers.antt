@@ -24,7 +24,7 @@ pub returns-in-ChangePrint : goal.returns-in-ChangePrint
 returns-in-ChangePrint c = λ command next carries. c.with_print_changed.ensures next (IsEffect-carried c.args.self command next c.change.inside.version c.change.inside.number c.change.inside.effect (ChangePrint c.in-ChangePrint.id c.in-ChangePrint.change) c.args.change c.change.view_is c.in-ChangePrint.is carries)
 
 pub returns-in-AddMark : goal.returns-in-AddMark
-returns-in-AddMark c = λ command next carries. c.with_new_mark.ensures next (IsEffect-carried c.args.self command next c.change.inside.version c.change.inside.number c.change.inside.effect (AddMark c.in-AddMark.mark c.in-AddMark.room) c.args.change c.change.view_is c.in-AddMark.is carries)
+returns-in-AddMark c = λ command next carries. c.with_new_mark.ensures next (IsEffect-carried c.args.self command next c.change.inside.version c.change.inside.number c.change.inside.effect (AddMark c.in-AddMark.mark c.in-AddMark.room c.in-AddMark.index_room) c.args.change c.change.view_is c.in-AddMark.is carries)
 
 pub returns-in-ResolveMark : goal.returns-in-ResolveMark
 returns-in-ResolveMark c = λ command next carries. c.with_mark_resolved.ensures next (IsEffect-carried c.args.self command next c.change.inside.version c.change.inside.number c.change.inside.effect (ResolveMark c.in-ResolveMark.id) c.args.change c.change.view_is c.in-ResolveMark.is carries)

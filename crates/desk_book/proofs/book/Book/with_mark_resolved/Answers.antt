@@ -5,6 +5,7 @@ use Rattle.desk_book.specs.Book.{Book}
 use Rattle.desk_book.specs.Changes.{IsEffect}
 use Rattle.desk_book.specs.Kept.{IsKept, book_kept}
 use Rattle.desk_book.specs.KeptMarks.{with_kept_resolved}
+use Rattle.desk_book.proofs.MarkIndexes.{indexes-resolved}
 use Rattle.desk_book.proofs.MarkSettled.{marks-resolved}
 use Rattle.desk_book.proofs.Settled.{IsKept-marked, next-marked, sound-next}
 use Rattle.desk_book.proofs.book.Book.with_mark_resolved.Goals as goal
@@ -16,7 +17,7 @@ invariant_of-result c =
     subst (λ (b : Book). IsEffect b c.args.version (ResolveMark c.args.id) c.requires.0) (sym c.self.view_is) c.requires.1 in
     let sound = sound-next was.version was.tables was.paragraphs was.marks c.self.invariant c.requires.0 c.args.version (ResolveMark c.args.id) here in
     subst (λ (marks : List KeptMark). IsKept c.args.version was.tables was.paragraphs marks) (sym c.resolve.ensures)
-    (IsKept-marked was.version was.tables was.paragraphs was.marks c.requires.0 c.args.version _ (with_kept_resolved c.args.id was.marks) here.at here.does (marks-resolved c.args.id was.marks) c.self.invariant sound)
+    (IsKept-marked was.version was.tables was.paragraphs was.marks c.requires.0 c.args.version _ (with_kept_resolved c.args.id was.marks) here.at here.does (marks-resolved c.args.id was.marks) c.self.invariant sound (λ id. indexes-resolved c.args.id id was.marks))
 
 pub returns : goal.returns
 returns c = λ next given.

@@ -1,0 +1,41 @@
+use Rattle.std.proofs.Common.{◌≡◌, ℕ, List, Some, None, refl, sym, ap, subst, ◌∙◌}
+use Rattle.desk_book.specs.declared.marks.KeptMark.{KeptMark}
+use Rattle.std.specs.Map.{lookup}
+use Rattle.std.specs.Option.{option_copied}
+use Rattle.std.specs.Prelude.{nat_eq, option_map}
+use Rattle.desk_book.specs.declared.paragraphs.Paragraph.{Paragraph as KeptParagraph}
+use Rattle.desk_book.specs.Book.{Book, paragraph_of}
+use Rattle.desk_book.specs.Kept.{HasMarks, paragraph_kept}
+use Rattle.desk_book.specs.ParagraphMarks.{AreMarks, marks_at, marks_on}
+use Rattle.desk_book.proofs.KeptBooks.{All-found, found-kept, missing-kept}
+use Rattle.desk_book.proofs.MarkIndexes.{AreMarks-on, marks-at_all}
+use Rattle.desk_book.proofs.book.Book.marks.Goals as goal
+
+pub returns-in_default-clause-missing : goal.returns-in_default-clause-missing
+returns-in_default-clause-missing c =
+    let book = c.self.inside in
+    let none : lookup (nat_eq c.args.id) book.paragraphs ≡ None = sym c.get.ensures ∙ ap option_copied c.in_default.is in
+    (refl, subst (λ (b : Book). paragraph_of b c.args.id ≡ None) c.self.view_is (missing-kept book.version book.tables book.paragraphs book.marks c.self.invariant c.args.id none))
+
+pub new-requires : goal.new-requires
+new-requires c =
+    let book = c.self.inside in
+    let found : lookup (nat_eq c.args.id) book.paragraphs ≡ Some c.in-Some.paragraph.now = sym c.get.ensures ∙ ap option_copied c.in-Some.is in
+    let indexes = c.as_slice-indexes.ensures ∙ All-found (HasMarks book.marks) c.args.id c.in-Some.paragraph.now book.paragraphs c.self.invariant.marked found in
+    subst (λ (marks : List KeptMark). AreMarks marks c.as_slice-indexes.result.now) (sym c.as_slice.ensures)
+    (subst (AreMarks book.marks) (sym indexes) (AreMarks-on c.args.id book.marks))
+
+pub returns-clause-found : goal.returns-clause-found
+returns-clause-found c =
+    let book = c.self.inside in
+    let kept : KeptParagraph = c.in-Some.paragraph.now in
+    let found : lookup (nat_eq c.args.id) book.paragraphs ≡ Some kept = sym c.get.ensures ∙ ap option_copied c.in-Some.is in
+    let indexes = c.as_slice-indexes.ensures ∙ All-found (HasMarks book.marks) c.args.id kept book.paragraphs c.self.invariant.marked found in (
+      paragraph_kept (c.args.id, kept),
+      subst (λ (b : Book). paragraph_of b c.args.id ≡ Some (paragraph_kept (c.args.id, kept))) c.self.view_is
+          (found-kept c.args.id book.paragraphs ∙ ap (option_map (λ k. paragraph_kept (c.args.id, k))) found),
+      c.new.ensures
+          ∙ (ap (λ (marks : List KeptMark). marks_at 0 c.as_slice-indexes.result.now marks) c.as_slice.ensures
+          ∙ (ap (λ (list : List ℕ). marks_at 0 list book.marks) indexes
+          ∙ (marks-at_all c.args.id book.marks ∙ ap (λ (b : Book). marks_on c.args.id b.marks) c.self.view_is))),
+    )
