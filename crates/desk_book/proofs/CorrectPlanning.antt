@@ -9,7 +9,7 @@ use Rattle.desk_book.specs.declared.command.Command.{Command}
 use Rattle.desk_book.specs.declared.command.Command.TheVariants.{Correct}
 use Rattle.desk_book.specs.declared.paragraphs.Paragraph.{Paragraph as KeptParagraph}
 use Rattle.desk_book.specs.declared.refusal.Refusal.{Refusal}
-use Rattle.desk_book.specs.declared.refusal.Refusal.TheVariants.{BadReader, BadSpan, TooLong}
+use Rattle.desk_book.specs.declared.refusal.Refusal.TheVariants.{BadReader, BadSpan, NoMemory, TooLong}
 use Rattle.desk_book.specs.Book.{Book, Corrects, Paragraph, Replacement, paragraph_of}
 use Rattle.desk_book.specs.Changes.{Does}
 use Rattle.desk_book.specs.Corrected.{HaltsEntry, IsEntered, IsUnfit}
@@ -28,7 +28,7 @@ use Rattle.desk_book.proofs.EntryPlanned.{ChangesPrint-entered, short-sound}
 use Rattle.desk_book.proofs.EntryPlanning.{entered, halted, past_fit, unfit}
 use Rattle.desk_book.proofs.HistoryLists.{corrected-corrects}
 use Rattle.desk_book.proofs.Judging.{Passes-bad_reader, Passes-bad_span}
-use Rattle.desk_book.proofs.Planning.{passes_to, past_text, same_some, short_text, to_turn, turned_down}
+use Rattle.desk_book.proofs.Planning.{no_memory, passes_to, past_text, same_some, short_text, to_turn, turned_down}
 
 module _ (book : Book) (id start count : ℕ) (text who : List ℕ) where
   abbrev command : Command
@@ -74,6 +74,9 @@ module _ (book : Book) (id start count : ℕ) (text who : List ℕ) where
               let past = b.past in
               omega arith))
 
+          pub no_memory_here : (told : Refusal) → told ≡ NoMemory → IsTurnedDown book command told
+          no_memory_here told is = no_memory book command told 110 refl spanned is
+
           pub long_text : (told : Refusal) (put : List ℕ) → put ≡ stored text → (told ≡ TooLong) × (most_print < length put) → IsTurnedDown book command told
           long_text told put same (is, long) =
               turned_down book command 110 TooLong told spanned refl (inl (record { text = stored text; given = refl; long = subst (λ (t : List ℕ). most_print < length t) same long })) is
@@ -91,7 +94,7 @@ module _ (book : Book) (id start count : ℕ) (text who : List ℕ) where
             pub halted_here : (told : Refusal) → HaltsEntry book kept meaning print told → IsTurnedDown book command told
             halted_here told =
                 halted book command id p shown.found kept shown.kept_is print shown.translated.text meaning shown.translated.found shown.translated.means refl made to_show
-                (short_text book command (stored text) refl short) no_note spanned refl refl refl refl told
+                (short_text book command (stored text) refl short) no_note spanned refl refl refl refl refl told
 
             pub planned_here : (new : NewEntry) (effect : Effect) → new.print.items ≡ print → IsEntered book id kept meaning new effect → entry_kept new.entry ≡ Corrects r who → TookFrom (print_of p) new.entry
                 → new.start ≡ start → new.removed ≡ count → new.added ≡ length (stored text) → AreCharacters (stored text) × AreCharacters who → IsPlanned book command effect

@@ -15,13 +15,13 @@ use Rattle.desk_book.specs.declared.refusal.Refusal.TheVariants.{Full, Struck, U
 use Rattle.desk_book.specs.Book.{Book, Paragraph, paragraph_of, text_of}
 use Rattle.desk_book.specs.Corrected.{HaltsEntry, IsUnfit}
 use Rattle.desk_book.specs.Histories.{entry_kept}
-use Rattle.desk_book.specs.Judging.{Passes}
+use Rattle.desk_book.specs.Judging.{Passes, first_turn_after_asking}
 use Rattle.desk_book.specs.Kept.{paragraph_kept}
 use Rattle.desk_book.specs.Limits.{most_entries, most_print, most_version}
 use Rattle.desk_book.specs.Planned.{AreNotAllThere, AreThere, IsTurnedDown}
 use Rattle.desk_book.specs.Refusals.{HasLongNote, HasLongText, IsAccepted, history_grown, live_paragraph, new_print, paragraphs_named, print_to_translate}
 use Rattle.desk_book.proofs.Judging.{Passes-full, Passes-struck, skips}
-use Rattle.desk_book.proofs.Planning.{AreNotAllThere-first, accepted_after, full_version, no_paragraph, past_lengths, past_paragraphs, past_print, past_version, short_print, to_turn, too_long, turned_down}
+use Rattle.desk_book.proofs.Planning.{AreNotAllThere-first, accepted_after, full_version, no_memory, no_paragraph, past_lengths, past_paragraphs, past_print, past_version, short_print, to_turn, too_long, turned_down}
 
 AreThere-one : (book : Book) (id : ℕ) (p : Paragraph) → paragraph_of book id ≡ Some p → AreThere book (id ∷ [])
 AreThere-one book id p found other (zero, within, at) = subst (λ (n : ℕ). IsSome (paragraph_of book n)) at (ap is_some found)
@@ -71,15 +71,15 @@ module _ (book : Book) (command : Command) (id : ℕ) (p : Paragraph) (there : p
   left : length print ≤ most_print → length kept.history < most_entries → book.version < most_version → Passes book None command 180
   left h room version = to_turn book command 170 180 to_print (past_version book command 150 (few h room) to_version version)
 
-  pub halted : (told : Refusal) → HaltsEntry book kept meaning print told → IsTurnedDown book command told
-  halted told (inl (is, long)) = too_long book command told print passes made long is
-  halted told (inr (inl (is, h, full))) =
+  pub halted : first_turn_after_asking command ≡ Some 110 → (told : Refusal) → HaltsEntry book kept meaning print told → IsTurnedDown book command told
+  halted asks told (inl (is, long)) = too_long book command told print passes made long is
+  halted asks told (inr (inl (is, h, full))) =
       turned_down book command 140 (Full Entries) told (short h) refl (record { id = id; paragraph = p; grows = grows; found = there; full = omega (arith, count, full) }) is
-  halted told (inr (inr (inl (is, h, room, full)))) = full_version book command 150 told (few h room) to_version full is
-  halted told (inr (inr (inr (inl (place, is, h, room, version, first))))) =
+  halted asks told (inr (inr (inl (is, h, room, full)))) = full_version book command 150 told (few h room) to_version full is
+  halted asks told (inr (inr (inr (inl (place, is, h, room, version, first))))) =
       turned_down book command 180 (Undefined place) told (left h room version) refl
       (record { print = print; name = p.table; print_is = shown; text = source; meaning = meaning; found = found; means = means; first = first }) is
-  halted told (inr (inr (inr (inr is)))) = inr is
+  halted asks told (inr (inr (inr (inr is)))) = no_memory book command told 110 asks passes is
 
   pub entered : length print ≤ most_print → length kept.history < most_entries → book.version < most_version → AreDefined meaning print → IsAccepted book None command
   entered h room version defined =

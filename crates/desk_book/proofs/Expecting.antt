@@ -5,6 +5,7 @@ use Rattle.desk_book.specs.declared.command.Command.TheVariants.{Table, Undo, Ma
 use Rattle.desk_book.specs.declared.refusal.Refusal.{Refusal}
 use Rattle.desk_book.specs.declared.refusal.Refusal.TheVariants.{Moved}
 use Rattle.desk_book.specs.Book.{Book}
+use Rattle.desk_book.specs.Judging.{MayLackMemory}
 use Rattle.desk_book.specs.Refusals.{Holds, IsAccepted, IsMoved, IsRefused}
 use Rattle.desk_book.specs.Step.{Makes}
 
@@ -26,6 +27,9 @@ module _ (book : Book) (expect : Option ℕ) (command : Command) (same : (versio
 
   pub refused-expected : (refusal : Refusal) → IsRefused book None command refusal → IsRefused book expect command refusal
   refused-expected refusal r = record { holds = holds-expected refusal r.holds; first = λ other h. r.first other (holds-unexpected other h) }
+
+  pub lacking-expected : MayLackMemory book None command → MayLackMemory book expect command
+  lacking-expected lacks = record { from = lacks.from; asks = lacks.asks; passes = λ other h. lacks.passes other (holds-unexpected other h) }
 
 -- ---- what an accepted command makes
 

@@ -13,7 +13,7 @@ use Rattle.desk_book.specs.declared.marks.KeptMark.{KeptMark}
 use Rattle.desk_book.specs.declared.paragraphs.Paragraph.{Paragraph as KeptParagraph}
 use Rattle.desk_book.specs.declared.refusal.Limit.TheVariants.{Marks, Version}
 use Rattle.desk_book.specs.declared.refusal.Refusal.{Refusal}
-use Rattle.desk_book.specs.declared.refusal.Refusal.TheVariants.{BadSpan, Full, NoMark, Resolved, TooLong}
+use Rattle.desk_book.specs.declared.refusal.Refusal.TheVariants.{BadSpan, Full, NoMark, NoMemory, Resolved, TooLong}
 use Rattle.desk_book.specs.Book.{Book, Mark as BookMark, Paragraph, mark_of, text_of}
 use Rattle.desk_book.specs.Corrected.{IsUnfit}
 use Rattle.desk_book.specs.Judging.{Passes}
@@ -27,8 +27,8 @@ use Rattle.desk_book.specs.Shown.{IsShown}
 use Rattle.desk_book.specs.Stored.{IsUnbarred}
 use Rattle.desk_book.specs.Translated.{AreMarked, LacksCells}
 use Rattle.desk_book.proofs.EntryPlanning.{past_fit, unfit}
-use Rattle.desk_book.proofs.Judging.{Passes-bad_span, Passes-full, Passes-no_mark, Passes-resolved}
-use Rattle.desk_book.proofs.Planning.{accepted_after, full_version, passes_to, past_lengths, past_text, past_version, same_some, to_turn, turned_down}
+use Rattle.desk_book.proofs.Judging.{Passes-accepted, Passes-bad_span, Passes-full, Passes-no_mark, Passes-resolved}
+use Rattle.desk_book.proofs.Planning.{accepted_after, full_version, no_memory, passes_to, past_lengths, past_text, past_version, same_some, to_turn, turned_down}
 
 module _ (book : Book) (id cell count : ℕ) (note : List ℕ) where
   abbrev command : Command
@@ -111,6 +111,9 @@ module _ (book : Book) (id cell count : ℕ) (note : List ℕ) where
 
             pub accepted_mark : book.version < most_version → IsAccepted book None command
             accepted_mark left = accepted_after book command 170 (past_version book command 160 roomy refl left) refl
+
+            pub no_memory_here : book.version < most_version → (told : Refusal) → told ≡ NoMemory → IsTurnedDown book command told
+            no_memory_here left told is = no_memory book command told 200 refl (Passes-accepted book None command (accepted_mark left) 200) is
 
 -- ---- a mark that is resolved
 

@@ -13,9 +13,9 @@ use Rattle.desk_book.specs.declared.paragraphs.Paragraph.{Paragraph as KeptParag
 use Rattle.desk_book.specs.declared.tables.BookTable.{BookTable}
 use Rattle.desk_book.specs.declared.refusal.Limit.TheVariants.{Paragraphs, Version}
 use Rattle.desk_book.specs.declared.refusal.Refusal.{Refusal}
-use Rattle.desk_book.specs.declared.refusal.Refusal.TheVariants.{BadText, NoParagraph, NoTable, TooLong, Full, Undefined}
+use Rattle.desk_book.specs.declared.refusal.Refusal.TheVariants.{BadText, NoMemory, NoParagraph, NoTable, TooLong, Full, Undefined}
 use Rattle.desk_book.specs.Book.{Book, Paragraph, paragraph_of, text_of}
-use Rattle.desk_book.specs.Judging.{Passes}
+use Rattle.desk_book.specs.Judging.{Passes, first_turn_after_asking}
 use Rattle.desk_book.specs.Kept.{paragraph_kept}
 use Rattle.desk_book.specs.Limits.{most_paragraphs, most_print, most_version}
 use Rattle.desk_book.specs.Planned.{AreNotAllThere, AreThere, IsKeptFor, IsTableFor, IsTurnedDown}
@@ -60,6 +60,9 @@ module _ (book : Book) (command : Command) where
 
   pub turned_down : (n : ℕ) (refusal told : Refusal) → Passes book None command n → turn refusal ≡ n → Holds book None command refusal → told ≡ refusal → IsTurnedDown book command told
   turned_down n refusal told passes at holds same = subst (IsTurnedDown book command) (sym same) (inl (IsRefused-passes book None command n refusal passes at holds))
+
+  pub no_memory : (told : Refusal) (n : ℕ) → first_turn_after_asking command ≡ Some n → Passes book None command n → told ≡ NoMemory → IsTurnedDown book command told
+  no_memory told n asks passes is = inr (is, record { from = n; asks = asks; passes = passes })
 
   pub no_paragraph : (told : Refusal) → Passes book None command 30 → AreNotAllThere book (paragraphs_named command) → told ≡ NoParagraph → IsTurnedDown book command told
   no_paragraph told passes lacks = turned_down 30 NoParagraph told passes refl (record { id = lacks.0; named = lacks.1; missing = lacks.2 })

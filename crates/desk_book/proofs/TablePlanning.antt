@@ -21,7 +21,7 @@ use Rattle.desk_book.specs.Refusals.{IsAccepted, IsUntranslatable}
 use Rattle.desk_book.specs.Sound.{IsSound}
 use Rattle.desk_book.proofs.Judging.{Passes-bad_name, Passes-bad_table, Passes-full, Passes-untranslatable}
 use Rattle.desk_book.proofs.Members.{Contains-here}
-use Rattle.desk_book.proofs.Planning.{defined_not_first, passes_to, same_some, to_turn, turned_down}
+use Rattle.desk_book.proofs.Planning.{no_memory, defined_not_first, passes_to, same_some, to_turn, turned_down}
 
 -- a table that isn't there has no users
 pub unused : (book : Book) (name : List ℕ) (meaning : Meaning) → IsSound book → text_of book name ≡ None → All (DefinesUser meaning name) book.paragraphs
@@ -56,7 +56,7 @@ module _ (book : Book) (name text : List ℕ) where
   -- what reading the text may answer
   pub unread : (told : Refusal) → Passes book None (Table name text) 170 → ((fault : TableFault) × (told ≡ BadTable fault) × Bad text fault.line fault.cause) ⊎ (told ≡ NoMemory) → IsTurnedDown book (Table name text) told
   unread told passes (inl (fault, is, bad)) = bad_table told fault passes is bad
-  unread told passes (inr is) = inr is
+  unread told passes (inr is) = no_memory book (Table name text) told 170 refl passes is
 
   module _ (meaning : Meaning) (means : Means text meaning) where
     pub past_reading : Passes book None (Table name text) 170 → Passes book None (Table name text) 190

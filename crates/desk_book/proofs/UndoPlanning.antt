@@ -14,7 +14,7 @@ use Rattle.desk_book.specs.declared.history.Correction.{Correction}
 use Rattle.desk_book.specs.declared.history.KeptEntry.TheVariants.{Corrects as KeptCorrects, Undoes as KeptUndoes}
 use Rattle.desk_book.specs.declared.paragraphs.Paragraph.{Paragraph as KeptParagraph}
 use Rattle.desk_book.specs.declared.refusal.Refusal.{Refusal}
-use Rattle.desk_book.specs.declared.refusal.Refusal.TheVariants.{NothingToUndo}
+use Rattle.desk_book.specs.declared.refusal.Refusal.TheVariants.{NoMemory, NothingToUndo}
 use Rattle.desk_book.specs.Book.{Book, Corrects, Entry, Undoes, Paragraph, Replacement, paragraph_of}
 use Rattle.desk_book.specs.Changes.{Does}
 use Rattle.desk_book.specs.Corrected.{HaltsEntry, IsEntered, IsUnfit, replaced_by}
@@ -32,7 +32,7 @@ use Rattle.desk_book.proofs.EntryPlanned.{ChangesPrint-entered, short-sound}
 use Rattle.desk_book.proofs.EntryPlanning.{entered, halted, past_fit, unfit}
 use Rattle.desk_book.proofs.HistoryLists.{corrected-before, corrected-undone}
 use Rattle.desk_book.proofs.Judging.{Passes-nothing_to_undo}
-use Rattle.desk_book.proofs.Planning.{passes_to, to_turn, turned_down}
+use Rattle.desk_book.proofs.Planning.{no_memory, passes_to, to_turn, turned_down}
 use Rattle.desk_book.proofs.Replacing.{replaced-back}
 use Rattle.desk_book.proofs.SoundEntries.{length-replaced}
 
@@ -113,6 +113,9 @@ module _ (book : Book) (id : ℕ) where
           let none = sym newest_is ∙ (ap (λ (q : Paragraph). newest q.history) same ∙ n.none) in
           cc)
 
+      pub no_memory_here : (told : Refusal) → told ≡ NoMemory → IsTurnedDown book command told
+      no_memory_here told is = no_memory book command told 110 refl passed is
+
       no_text : ¬ HasLongText command
       no_text l = let given = l.given in cc
 
@@ -131,7 +134,7 @@ module _ (book : Book) (id : ℕ) where
 
         pub halted_here : (told : Refusal) → HaltsEntry book kept meaning print told → IsTurnedDown book command told
         halted_here told =
-            halted book command id p shown.found kept shown.kept_is print shown.translated.text meaning shown.translated.found shown.translated.means refl made to_show no_text no_note passed refl refl refl refl told
+            halted book command id p shown.found kept shown.kept_is print shown.translated.text meaning shown.translated.found shown.translated.means refl made to_show no_text no_note passed refl refl refl refl refl told
 
         pub planned_here : (new : NewEntry) (effect : Effect) → new.print.items ≡ print → IsEntered book id kept meaning new effect → new.entry ≡ KeptUndoes number
             → new.start ≡ c.start → new.removed ≡ length c.text → new.added ≡ length c.taken → IsPlanned book command effect

@@ -13,6 +13,7 @@ use Rattle.desk_book.specs.declared.style.Style.TheVariants.{Body}
 use Rattle.desk_book.specs.declared.tables.BookTable.{BookTable}
 use Rattle.desk_book.specs.Book.{Book, Paragraph, paragraph_of, text_of}
 use Rattle.desk_book.specs.Changes.{AreCellsOf, Does}
+use Rattle.desk_book.specs.Judging.{MayLackMemory}
 use Rattle.desk_book.specs.Kept.{paragraph_kept}
 use Rattle.desk_book.specs.Print.{print_of}
 use Rattle.desk_book.specs.Refusals.{IsAccepted, IsRefused}
@@ -26,7 +27,7 @@ IsPlanned book command effect =
 
 -- the command is refused with the first refusal that holds, or memory was
 abbrev pub IsTurnedDown : Book → Command → Refusal → Type 0
-IsTurnedDown book command refusal = IsRefused book None command refusal ⊎ (refusal ≡ NoMemory)
+IsTurnedDown book command refusal = IsRefused book None command refusal ⊎ ((refusal ≡ NoMemory) × MayLackMemory book None command)
 
 -- the book has paragraphs with these ids
 abbrev pub AreThere : Book → List ℕ → Type 0

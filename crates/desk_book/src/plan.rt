@@ -1,6 +1,7 @@
 //! Which change a command makes, or why it is refused.
 ghost use Rattle.desk_book.specs.Book.{paragraph_of, text_of};
 ghost use Rattle.desk_book.specs.Changes.{AreCellsOf, AreRenewed, Carries};
+ghost use Rattle.desk_book.specs.Judging.{MayLackMemory};
 ghost use Rattle.desk_book.specs.Limits.{most_paragraphs, most_print, most_tables, most_version};
 ghost use Rattle.desk_book.specs.Name.{IsTableName};
 ghost use Rattle.desk_book.specs.Planned.{AreNotAllThere, AreThere, DefinesUser, IsFirstUser, IsKeptFor, IsNewParagraph, IsPlanned, IsTableFor, IsTurnedDown};
@@ -163,7 +164,10 @@ impl Book {
     /// name of a reader; a barred character; no such paragraph; no such table; no such mark; a paragraph that is struck;
     /// one that isn't; a resolved mark; places that are not all there; nothing to undo; a text that is too long; a limit,
     /// the one with the smallest number; a bad table; an undefined character; a paragraph that a table no longer defines.
-    /// Where an allocation was refused, `NoMemory` may stand in its place.
+    ///
+    /// `NoMemory` where an allocation was refused, in place of a refusal that is judged after that alone. Resolve, Strike,
+    /// Restore, Style and Volume ask for no memory; Mark, Retable and Move only when nothing speaks against them any more;
+    /// Table when its text is read; TypeIn, Correct and Undo before a text that is too long is refused.
     pub fn plan(
         &self,
         alloc: Global,
@@ -172,8 +176,8 @@ impl Book {
     ) -> Result<Change, Refusal>
         ensures accepted { IfOk result (λ change. IsAccepted self.now expect command.now
             × ((next : _) × Carries self.now command.now next change)) }
-        ensures refused { IfErr result (λ refusal.
-            IsRefused self.now expect command.now refusal ⊎ (refusal ≡ Refusal.NoMemory)) }
+        ensures refused { IfErr result (λ refusal. IsRefused self.now expect command.now refusal
+            ⊎ ((refusal ≡ Refusal.NoMemory) × MayLackMemory self.now expect command.now)) }
     {
         self.check_expected(expect)?;
         let effect = self.effect(alloc, command)?;

@@ -182,7 +182,8 @@ impl Book {
         index_room: Room<usize>,
     ) -> Self
         requires { (next : _) × IsEffect self version (Effect.AddMark mark room index_room) next }
-        ensures { (next : _) → IsEffect self version (Effect.AddMark mark room index_room) next → result ≡ next }
+        ensures { (next : _) → IsEffect self version (Effect.AddMark mark room index_room) next
+            → result ≡ next }
     {
         let Book {
             version: _,

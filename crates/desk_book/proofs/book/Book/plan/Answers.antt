@@ -1,7 +1,7 @@
 use Rattle.std.proofs.Common.{◌≡◌, ◌+◌, ℕ, sym, ap, ◌∙◌, inl, inr}
 use Rattle.std.proofs.lemmas.Result.{err_from_is_err_and}
 use Rattle.desk_book.specs.Book.{Book}
-use Rattle.desk_book.proofs.Expecting.{accepted-expected, moved, refused-expected, version-made}
+use Rattle.desk_book.proofs.Expecting.{accepted-expected, lacking-expected, moved, refused-expected, version-made}
 use Rattle.desk_book.proofs.book.Book.plan.Goals as goal
 
 pub returns-in_err-check_expected : goal.returns-in_err-check_expected
@@ -17,7 +17,7 @@ returns-in_err-effect c =
       accepted = tt;
       refused = elim c.in_err-effect.ensures.refused [
         | inl r ↦ inl (refused-expected c.args.self.now c.args.expect c.args.command.now c.in_ok-check_expected.ensures.same _ r)
-        | inr none ↦ inr none
+        | inr lacks ↦ inr (lacks.0, lacking-expected c.args.self.now c.args.expect c.args.command.now c.in_ok-check_expected.ensures.same lacks.1)
       ];
     })
 

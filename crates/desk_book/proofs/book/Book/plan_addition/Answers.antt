@@ -6,7 +6,7 @@ use Rattle.desk_book.specs.Judging.{Passes}
 use Rattle.desk_book.specs.Limits.{most_tables, most_version}
 use Rattle.desk_book.specs.Name.{IsTableName}
 use Rattle.desk_book.proofs.KeptLookups.{count-tables, sound}
-use Rattle.desk_book.proofs.Planning.{full_version, past_version}
+use Rattle.desk_book.proofs.Planning.{full_version, no_memory, past_version}
 use Rattle.desk_book.proofs.TablePlanning.{full_tables, past_reading, past_tables, past_users, unread, unused}
 use Rattle.desk_book.proofs.book.Book.plan_addition.Goals as goal
 
@@ -38,12 +38,14 @@ returns-in_err-read_table c =
 pub returns-in_err-copy : goal.returns-in_err-copy
 returns-in_err-copy c =
     let p = err_from_is_err_and c.from_residual-in_err-copy.result c.from_residual-in_err-copy.ensures.1 in
-    rw p.1 (record { planned = tt; refused = inr p.2 })
+    let passes = left c.args.self.now c.args.name.now c.args.text.now c.requires.name c.in_ok-check_tables.ensures.left c.in_ok-check_version.ensures.left in
+    rw p.1 (record { planned = tt; refused = no_memory c.args.self.now (Table c.args.name.now c.args.text.now) _ 170 refl passes p.2 })
 
 pub returns-in_err-new : goal.returns-in_err-new
 returns-in_err-new c =
     let p = err_from_is_err_and c.from_residual-in_err-new.result c.from_residual-in_err-new.ensures.1 in
-    rw p.1 (record { planned = tt; refused = inr p.2 })
+    let passes = left c.args.self.now c.args.name.now c.args.text.now c.requires.name c.in_ok-check_tables.ensures.left c.in_ok-check_version.ensures.left in
+    rw p.1 (record { planned = tt; refused = no_memory c.args.self.now (Table c.args.name.now c.args.text.now) _ 170 refl passes p.2 })
 
 pub returns-clause-planned : goal.returns-clause-planned
 returns-clause-planned c =

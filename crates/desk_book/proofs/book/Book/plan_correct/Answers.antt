@@ -1,10 +1,11 @@
 use Rattle.std.proofs.Common.{◌≡◌, ◌+◌, ◌≤◌, List, ℕ, length, ap, subst, ◌∙◌, refl}
+use Rattle.std.proofs.lemmas.Result.{err_from_is_err_and}
 use Rattle.desk_book.specs.Corrected.{IsCorrection, replaced_by}
 use Rattle.desk_book.specs.Limits.{most_print}
 use Rattle.desk_book.specs.Print.{print_of, replaced}
 use Rattle.desk_book.specs.Step.{replacement_by}
 use Rattle.desk_book.specs.Stored.{stored}
-use Rattle.desk_book.proofs.CorrectPlanning.{halted_here, planned_here}
+use Rattle.desk_book.proofs.CorrectPlanning.{halted_here, no_memory_here, planned_here}
 use Rattle.desk_book.proofs.EntryPlanned.{TookFrom-correction, entry-correction}
 use Rattle.desk_book.proofs.KeptLookups.{IfErr-weaker, IfOk-weaker}
 use Rattle.desk_book.proofs.book.Book.plan_correct.Goals as goal
@@ -44,3 +45,27 @@ returns-clause-refused c =
     IfErr-weaker c.entered.result _ _
     (λ told halts. halted_here c.args.self.now c.args.id c.args.start c.args.count c.args.text.now c.args.who.now c.in_ok-check_reader.ensures.name c.in_ok-check_text.ensures.unbarred
     c.in_ok-paragraph.paragraph.now c.in_ok-paragraph.rules.now shown c.in_ok-paragraph.ensures.found.1 span c.in_ok-print.print.items printed short told halts) c.entered.ensures.refused
+
+pub returns-in_err-put-clause-refused : goal.returns-in_err-put-clause-refused
+returns-in_err-put-clause-refused c =
+    let p = err_from_is_err_and c.from_residual-in_err-put.result c.from_residual-in_err-put.ensures.1 in
+    let shown = c.in_ok-paragraph.ensures.found.0 in
+    let span = subst (λ (t : List ℕ). c.args.start + c.args.count ≤ length t) c.as_slice-old.ensures c.in_ok-check_span.ensures.there in
+    rw p.1 (no_memory_here c.args.self.now c.args.id c.args.start c.args.count c.args.text.now c.args.who.now c.in_ok-check_reader.ensures.name c.in_ok-check_text.ensures.unbarred
+    c.in_ok-paragraph.paragraph.now c.in_ok-paragraph.rules.now shown c.in_ok-paragraph.ensures.found.1 span _ p.2)
+
+pub returns-in_err-print-clause-refused : goal.returns-in_err-print-clause-refused
+returns-in_err-print-clause-refused c =
+    let p = err_from_is_err_and c.from_residual-in_err-print.result c.from_residual-in_err-print.ensures.1 in
+    let shown = c.in_ok-paragraph.ensures.found.0 in
+    let span = subst (λ (t : List ℕ). c.args.start + c.args.count ≤ length t) c.as_slice-old.ensures c.in_ok-check_span.ensures.there in
+    rw p.1 (no_memory_here c.args.self.now c.args.id c.args.start c.args.count c.args.text.now c.args.who.now c.in_ok-check_reader.ensures.name c.in_ok-check_text.ensures.unbarred
+    c.in_ok-paragraph.paragraph.now c.in_ok-paragraph.rules.now shown c.in_ok-paragraph.ensures.found.1 span _ p.2)
+
+pub returns-in_err-correction-clause-refused : goal.returns-in_err-correction-clause-refused
+returns-in_err-correction-clause-refused c =
+    let p = err_from_is_err_and c.from_residual-in_err-correction.result c.from_residual-in_err-correction.ensures.1 in
+    let shown = c.in_ok-paragraph.ensures.found.0 in
+    let span = subst (λ (t : List ℕ). c.args.start + c.args.count ≤ length t) c.as_slice-old.ensures c.in_ok-check_span.ensures.there in
+    rw p.1 (no_memory_here c.args.self.now c.args.id c.args.start c.args.count c.args.text.now c.args.who.now c.in_ok-check_reader.ensures.name c.in_ok-check_text.ensures.unbarred
+    c.in_ok-paragraph.paragraph.now c.in_ok-paragraph.rules.now shown c.in_ok-paragraph.ensures.found.1 span _ p.2)

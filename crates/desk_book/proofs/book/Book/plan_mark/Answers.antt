@@ -4,7 +4,7 @@ use Rattle.desk_book.specs.Book.{Book}
 use Rattle.desk_book.specs.Room.{Suffices}
 use Rattle.desk_book.specs.Stored.{AreCharacters}
 use Rattle.desk_book.proofs.MarkIndexes.{few-on}
-use Rattle.desk_book.proofs.MarkPlanning.{accepted_mark, full_marks, full_of_versions, has_cells, long_note, marked_here}
+use Rattle.desk_book.proofs.MarkPlanning.{accepted_mark, full_marks, full_of_versions, has_cells, long_note, marked_here, no_memory_here}
 use Rattle.desk_book.proofs.MarkSettled.{count-marks}
 use Rattle.desk_book.proofs.book.Book.plan_mark.Goals as goal
 
@@ -52,3 +52,18 @@ returns-clause-planned c =
       (_, (_, _, marked, refl), (refl, subst (λ (n : ℕ). Suffices n c.in_ok-room.field-0) count c.in_ok-room.ensures, c.in_ok-check_marks.ensures.left, subst (λ (n : ℕ). Suffices n c.in_ok-room-2.field-0) c.in_ok-paragraph.ensures.found.0.marked c.in_ok-room-2.ensures)),
       characters,
     )
+
+pub returns-in_err-copy-clause-refused : goal.returns-in_err-copy-clause-refused
+returns-in_err-copy-clause-refused c =
+    let p = err_from_is_err_and c.from_residual-in_err-copy.result c.from_residual-in_err-copy.ensures.1 in
+    rw p.1 (no_memory_here c.args.self.now c.args.id c.args.cell c.args.count c.args.note.now c.in_ok-check_text.ensures.unbarred _ _ c.in_ok-paragraph.ensures.found.0 c.in_ok-paragraph.ensures.found.1 _ _ c.as_slice-print.result.now c.as_slice-print.ensures c.in_ok-start.ensures.there c.in_ok-check_note.ensures.short c.in_ok-check_marks.ensures.left c.in_ok-check_version.ensures.left _ p.2)
+
+pub returns-in_err-room-clause-refused : goal.returns-in_err-room-clause-refused
+returns-in_err-room-clause-refused c =
+    let p = err_from_is_err_and c.from_residual-in_err-room.result c.from_residual-in_err-room.ensures.1 in
+    rw p.1 (no_memory_here c.args.self.now c.args.id c.args.cell c.args.count c.args.note.now c.in_ok-check_text.ensures.unbarred _ _ c.in_ok-paragraph.ensures.found.0 c.in_ok-paragraph.ensures.found.1 _ _ c.as_slice-print.result.now c.as_slice-print.ensures c.in_ok-start.ensures.there c.in_ok-check_note.ensures.short c.in_ok-check_marks.ensures.left c.in_ok-check_version.ensures.left _ p.2)
+
+pub returns-in_err-room-2-clause-refused : goal.returns-in_err-room-2-clause-refused
+returns-in_err-room-2-clause-refused c =
+    let p = err_from_is_err_and c.from_residual-in_err-room-2.result c.from_residual-in_err-room-2.ensures.1 in
+    rw p.1 (no_memory_here c.args.self.now c.args.id c.args.cell c.args.count c.args.note.now c.in_ok-check_text.ensures.unbarred _ _ c.in_ok-paragraph.ensures.found.0 c.in_ok-paragraph.ensures.found.1 _ _ c.as_slice-print.result.now c.as_slice-print.ensures c.in_ok-start.ensures.there c.in_ok-check_note.ensures.short c.in_ok-check_marks.ensures.left c.in_ok-check_version.ensures.left _ p.2)

@@ -1,4 +1,4 @@
-use Rattle.std.proofs.Common.{◌≡◌, ℕ, None, refl, sym, ap, ◌∙◌, inr}
+use Rattle.std.proofs.Common.{◌≡◌, ℕ, None, refl, sym, ap, ◌∙◌}
 use Rattle.std.proofs.lemmas.Result.{err_from_is_err_and}
 use Rattle.desk_book.specs.declared.command.Anchor.{Anchor}
 use Rattle.desk_book.specs.declared.command.Command.TheVariants.{Move}
@@ -12,7 +12,7 @@ use Rattle.desk_book.specs.Step.{with_move}
 use Rattle.desk_book.proofs.KeptLookups.{ids_of-book}
 use Rattle.desk_book.proofs.OrderLists.{ids_of-with_move}
 use Rattle.desk_book.proofs.ParagraphLists.{ids_of}
-use Rattle.desk_book.proofs.Planning.{AreNotAllThere-cons, AreThere-cons, accepted_after, full_version, no_paragraph, passes_to, past_paragraphs, past_version, unnamed}
+use Rattle.desk_book.proofs.Planning.{AreNotAllThere-cons, AreThere-cons, accepted_after, full_version, no_memory, no_paragraph, passes_to, past_paragraphs, past_version, to_turn, unnamed}
 use Rattle.desk_book.proofs.book.Book.plan_move.Goals as goal
 
 named : (book : Book) (id : ℕ) (anchor : Anchor) (kept : KeptParagraph) → IsKeptFor book id kept → AreThere book (paragraph_before anchor) → Passes book None (Move id anchor) 40
@@ -44,7 +44,9 @@ returns-in_err-check_version c =
 pub returns-in_err-order_with_move : goal.returns-in_err-order_with_move
 returns-in_err-order_with_move c =
     let p = err_from_is_err_and c.from_residual-in_err-order_with_move.result c.from_residual-in_err-order_with_move.ensures.1 in
-    rw p.1 (record { planned = tt; refused = inr p.2 })
+    let passes = named c.args.self.now c.args.id c.args.anchor _ c.in_ok-named.ensures.found c.in_ok-check_anchor.ensures.there in
+    let left = past_version c.args.self.now (Move c.args.id c.args.anchor) 40 passes refl c.in_ok-check_version.ensures.left in
+    rw p.1 (record { planned = tt; refused = no_memory c.args.self.now (Move c.args.id c.args.anchor) _ 200 refl (to_turn c.args.self.now (Move c.args.id c.args.anchor) 170 200 refl left) p.2 })
 
 pub returns-clause-planned : goal.returns-clause-planned
 returns-clause-planned c =

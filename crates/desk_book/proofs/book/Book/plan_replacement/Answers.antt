@@ -1,4 +1,4 @@
-use Rattle.std.proofs.Common.{ℕ, ◌<◌, List, None, refl, ◌∙◌, inl, inr}
+use Rattle.std.proofs.Common.{ℕ, ◌<◌, List, None, refl, ◌∙◌, inl}
 use Rattle.std.specs.Prelude.{IsSome}
 use Rattle.std.proofs.lemmas.Result.{err_from_is_err_and}
 use Rattle.louis_table.specs.Meaning.{Meaning}
@@ -8,7 +8,7 @@ use Rattle.desk_book.specs.Book.{Book, text_of}
 use Rattle.desk_book.specs.Judging.{Passes}
 use Rattle.desk_book.specs.Limits.{most_version}
 use Rattle.desk_book.specs.Name.{IsTableName}
-use Rattle.desk_book.proofs.Planning.{full_version, past_version}
+use Rattle.desk_book.proofs.Planning.{full_version, no_memory, past_version}
 use Rattle.desk_book.proofs.TablePlanning.{past_reading, past_tables, past_users, unread, untranslatable}
 use Rattle.desk_book.proofs.book.Book.plan_replacement.Goals as goal
 
@@ -47,12 +47,14 @@ returns-in_err-check_users c =
 pub returns-in_err-cells : goal.returns-in_err-cells
 returns-in_err-cells c =
     let p = err_from_is_err_and c.from_residual-in_err-cells.result c.from_residual-in_err-cells.ensures.1 in
-    rw p.1 (record { planned = tt; refused = inr p.2 })
+    let passes = left c.args.self.now c.args.name.now c.args.text.now c.requires.name c.requires.old c.in_ok-check_version.ensures.left in
+    rw p.1 (record { planned = tt; refused = no_memory c.args.self.now (Table c.args.name.now c.args.text.now) _ 170 refl passes p.2 })
 
 pub returns-in_err-copy : goal.returns-in_err-copy
 returns-in_err-copy c =
     let p = err_from_is_err_and c.from_residual-in_err-copy.result c.from_residual-in_err-copy.ensures.1 in
-    rw p.1 (record { planned = tt; refused = inr p.2 })
+    let passes = left c.args.self.now c.args.name.now c.args.text.now c.requires.name c.requires.old c.in_ok-check_version.ensures.left in
+    rw p.1 (record { planned = tt; refused = no_memory c.args.self.now (Table c.args.name.now c.args.text.now) _ 170 refl passes p.2 })
 
 pub returns-clause-planned : goal.returns-clause-planned
 returns-clause-planned c =

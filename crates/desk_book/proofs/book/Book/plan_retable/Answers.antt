@@ -1,4 +1,4 @@
-use Rattle.std.proofs.Common.{◌≡◌, ℕ, ◌<◌, false, List, [], Some, None, refl, ap, subst, ◌∙◌, inr}
+use Rattle.std.proofs.Common.{◌≡◌, ℕ, ◌<◌, false, List, [], Some, None, refl, ap, subst, ◌∙◌}
 use Rattle.std.specs.Prelude.{option_map}
 use Rattle.std.proofs.lemmas.Result.{err_from_is_err_and}
 use Rattle.louis_translate.specs.Position.{AreDefined, IsFirstUndefined}
@@ -14,7 +14,7 @@ use Rattle.desk_book.specs.Limits.{most_version}
 use Rattle.desk_book.specs.Planned.{IsKeptFor, IsTableFor}
 use Rattle.desk_book.specs.Print.{print_of}
 use Rattle.desk_book.specs.Refusals.{print_to_translate}
-use Rattle.desk_book.proofs.Planning.{accepted_after, full_version, no_table, past_named, past_print, past_struck, past_table, past_version, to_turn, turned_down, undefined, unnamed}
+use Rattle.desk_book.proofs.Planning.{accepted_after, full_version, no_memory, no_table, past_named, past_print, past_struck, past_table, past_version, to_turn, turned_down, undefined, unnamed}
 use Rattle.desk_book.proofs.book.Book.plan_retable.Goals as goal
 
 module _ (book : Book) (id : ℕ) (name : List ℕ) (kept : KeptParagraph) (found : IsKeptFor book id kept) where
@@ -41,6 +41,11 @@ module _ (book : Book) (id : ℕ) (name : List ℕ) (kept : KeptParagraph) (foun
 
     left : kept.struck ≡ false → book.version < most_version → Passes book None (Retable id name) 180
     left unstruck room = to_turn book (Retable id name) 170 180 refl (past_version book (Retable id name) 70 (live unstruck) refl room)
+
+    judged : kept.struck ≡ false → book.version < most_version → (shown : List ℕ) → shown ≡ kept.print → AreDefined table.rules shown → Passes book None (Retable id name) 200
+    judged unstruck room shown same defined =
+        to_turn book (Retable id name) 190 200 refl
+        (past_print book (Retable id name) name print table given there (left unstruck room) (subst (AreDefined table.rules) (print_is shown same) defined))
 
 pub returns-in_err-paragraph : goal.returns-in_err-paragraph
 returns-in_err-paragraph c =
@@ -88,12 +93,14 @@ returns-in_err-check_print c =
 pub returns-in_err-copy : goal.returns-in_err-copy
 returns-in_err-copy c =
     let p = err_from_is_err_and c.from_residual-in_err-copy.result c.from_residual-in_err-copy.ensures.1 in
-    rw p.1 (record { planned = tt; refused = inr p.2 })
+    let passes = judged c.args.self.now c.args.id c.args.table.now _ c.in_ok-paragraph.ensures.found _ c.in_ok-kept.ensures.found c.if-paragraph.false c.in_ok-check_version.ensures.left _ c.as_slice-print.ensures c.in_ok-check_print.ensures.defined in
+    rw p.1 (record { planned = tt; refused = no_memory c.args.self.now (Retable c.args.id c.args.table.now) _ 200 refl passes p.2 })
 
 pub returns-in_err-cells_of : goal.returns-in_err-cells_of
 returns-in_err-cells_of c =
     let p = err_from_is_err_and c.from_residual-in_err-cells_of.result c.from_residual-in_err-cells_of.ensures.1 in
-    rw p.1 (record { planned = tt; refused = inr p.2 })
+    let passes = judged c.args.self.now c.args.id c.args.table.now _ c.in_ok-paragraph.ensures.found _ c.in_ok-kept.ensures.found c.if-paragraph.false c.in_ok-check_version.ensures.left _ c.as_slice-print.ensures c.in_ok-check_print.ensures.defined in
+    rw p.1 (record { planned = tt; refused = no_memory c.args.self.now (Retable c.args.id c.args.table.now) _ 200 refl passes p.2 })
 
 pub returns-clause-planned : goal.returns-clause-planned
 returns-clause-planned c =

@@ -1,4 +1,4 @@
-use Rattle.std.proofs.Common.{◌≡◌, ℕ, ◌<◌, ◌≤◌, List, None, length, refl, sym, ap, subst, ◌∙◌, arith, inr}
+use Rattle.std.proofs.Common.{◌≡◌, ℕ, ◌<◌, ◌≤◌, List, None, length, refl, sym, ap, subst, ◌∙◌, arith}
 use Rattle.std.specs.List.{insert}
 use Rattle.std.proofs.lemmas.Result.{err_from_is_err_and}
 use Rattle.louis_translate.specs.Position.{AreDefined, IsFirstUndefined}
@@ -18,7 +18,7 @@ use Rattle.desk_book.proofs.KeptLookups.{Contains-there, count-paragraphs, ids_o
 use Rattle.desk_book.proofs.NewParagraphs.{IsKeptTyped-new}
 use Rattle.desk_book.proofs.OrderLists.{ids_of-with_paragraph}
 use Rattle.desk_book.proofs.ParagraphLists.{ids_of}
-use Rattle.desk_book.proofs.Planning.{accepted_after, bad_text, full_paragraphs, full_version, no_paragraph, no_table, passes_to, past_length, past_paragraphs, past_print, past_room, past_table, past_text, past_version, to_turn, too_long, undefined}
+use Rattle.desk_book.proofs.Planning.{accepted_after, bad_text, full_paragraphs, full_version, no_memory, no_paragraph, no_table, passes_to, past_length, past_paragraphs, past_print, past_room, past_table, past_text, past_version, to_turn, too_long, undefined}
 use Rattle.desk_book.proofs.book.Book.plan_type.Goals as goal
 
 module _ (book : Book) (anchor : Anchor) (name text : List ℕ) (unbarred : IsUnbarred text) where
@@ -68,7 +68,8 @@ returns-in_err-kept c =
 pub returns-in_err-print : goal.returns-in_err-print
 returns-in_err-print c =
     let p = err_from_is_err_and c.from_residual-in_err-print.result c.from_residual-in_err-print.ensures.1 in
-    rw p.1 (record { planned = tt; refused = inr p.2 })
+    let passes = tabled c.args.self.now c.args.anchor c.args.table.now c.args.text.now c.in_ok-check_text.ensures.unbarred c.in_ok-check_anchor.ensures.there _ c.in_ok-kept.ensures.found in
+    rw p.1 (record { planned = tt; refused = no_memory c.args.self.now (TypeIn c.args.anchor c.args.table.now c.args.text.now) _ 110 refl passes p.2 })
 
 pub returns-in_err-check_length : goal.returns-in_err-check_length
 returns-in_err-check_length c =
@@ -110,7 +111,8 @@ returns-in_err-check_print c =
 pub returns-in_err-new_paragraph : goal.returns-in_err-new_paragraph
 returns-in_err-new_paragraph c =
     let p = err_from_is_err_and c.from_residual-in_err-new_paragraph.result c.from_residual-in_err-new_paragraph.ensures.1 in
-    rw p.1 (record { planned = tt; refused = inr p.2 })
+    let passes = tabled c.args.self.now c.args.anchor c.args.table.now c.args.text.now c.in_ok-check_text.ensures.unbarred c.in_ok-check_anchor.ensures.there _ c.in_ok-kept.ensures.found in
+    rw p.1 (record { planned = tt; refused = no_memory c.args.self.now (TypeIn c.args.anchor c.args.table.now c.args.text.now) _ 110 refl passes p.2 })
 
 pub room-requires : goal.room-requires
 room-requires c =
@@ -121,7 +123,8 @@ room-requires c =
 pub returns-in_err-room : goal.returns-in_err-room
 returns-in_err-room c =
     let p = err_from_is_err_and c.from_residual-in_err-room.result c.from_residual-in_err-room.ensures.1 in
-    rw p.1 (record { planned = tt; refused = inr p.2 })
+    let passes = tabled c.args.self.now c.args.anchor c.args.table.now c.args.text.now c.in_ok-check_text.ensures.unbarred c.in_ok-check_anchor.ensures.there _ c.in_ok-kept.ensures.found in
+    rw p.1 (record { planned = tt; refused = no_memory c.args.self.now (TypeIn c.args.anchor c.args.table.now c.args.text.now) _ 110 refl passes p.2 })
 
 pub order_room-requires : goal.order_room-requires
 order_room-requires c =
@@ -132,7 +135,8 @@ order_room-requires c =
 pub returns-in_err-order_room : goal.returns-in_err-order_room
 returns-in_err-order_room c =
     let p = err_from_is_err_and c.from_residual-in_err-order_room.result c.from_residual-in_err-order_room.ensures.1 in
-    rw p.1 (record { planned = tt; refused = inr p.2 })
+    let passes = tabled c.args.self.now c.args.anchor c.args.table.now c.args.text.now c.in_ok-check_text.ensures.unbarred c.in_ok-check_anchor.ensures.there _ c.in_ok-kept.ensures.found in
+    rw p.1 (record { planned = tt; refused = no_memory c.args.self.now (TypeIn c.args.anchor c.args.table.now c.args.text.now) _ 110 refl passes p.2 })
 
 pub place_for-requires : goal.place_for-requires
 place_for-requires c = Contains-there _ _ _ _ c.args.self.now c.self.view_is (paragraph_before c.args.anchor) c.in_ok-check_anchor.ensures.there

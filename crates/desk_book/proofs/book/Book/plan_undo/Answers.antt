@@ -1,9 +1,10 @@
 use Rattle.std.proofs.Common.{◌≡◌, length, sym, ap, subst, ◌∙◌, refl, arith}
+use Rattle.std.proofs.lemmas.Result.{err_from_is_err_and}
 use Rattle.desk_book.specs.Corrected.{replaced_by}
 use Rattle.desk_book.specs.Histories.{IsNewestInForce, entries_kept}
 use Rattle.desk_book.specs.Sound.{AreSoundEntries}
 use Rattle.desk_book.proofs.KeptLookups.{IfErr-weaker, IfOk-weaker}
-use Rattle.desk_book.proofs.UndoPlanning.{back, halted_here, planned_here, sound_kept, span_here}
+use Rattle.desk_book.proofs.UndoPlanning.{back, halted_here, no_memory_here, planned_here, sound_kept, span_here}
 use Rattle.desk_book.proofs.book.Book.plan_undo.Goals as goal
 
 pub newest-requires : goal.newest-requires
@@ -42,3 +43,10 @@ returns-clause-refused c =
     let printed = c.in_ok-replaced.ensures ∙ ((λ i. replaced_by correction.start (count i) (c.as_slice-taken.ensures i) (old i)) ∙ back c.args.self.now c.args.id _ _ found.0 found.1 c.in-Some.number correction force) in
     IfErr-weaker c.entered.result _ _
     (λ told halts. halted_here c.args.self.now c.args.id _ _ found.0 found.1 c.in-Some.number correction force c.in_ok-replaced.field-0.items printed told halts) c.entered.ensures.refused
+
+pub returns-in_err-replaced-clause-refused : goal.returns-in_err-replaced-clause-refused
+returns-in_err-replaced-clause-refused c =
+    let p = err_from_is_err_and c.from_residual-in_err-replaced.result c.from_residual-in_err-replaced.ensures.1 in
+    let found = c.in_ok-paragraph.ensures.found in
+    let force = subst (λ h. IsNewestInForce h c.in-Some.number c.in-Some.correction.now) c.as_slice.ensures c.in-Some.ensures.found in
+    rw p.1 (no_memory_here c.args.self.now c.args.id _ _ found.0 found.1 c.in-Some.number c.in-Some.correction.now force _ p.2)
