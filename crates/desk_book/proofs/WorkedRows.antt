@@ -1,14 +1,21 @@
--- Histories, marks and the order of refusals worked by the definitions alone: they say what these rows say, and not only what the code does.
-use Rattle.std.proofs.Common.{◌≡◌, ℕ, Bool, true, false, List, [], ◌∷◌, ◌++◌, map, refl}
+-- Histories, marks, refusals and their order, worked by the definitions alone: they say what these rows say, and not only what the code does.
+use Rattle.std.proofs.Common.{◌≡◌, ℕ, Bool, true, false, List, [], ◌∷◌, ◌++◌, map, refl, arith, lit<}
 use Rattle.std.specs.Prelude.{Some, None}
 use Rattle.louis_table.specs.declared.fault.TableFault.{TableFault}
 use Rattle.desk_book.specs.declared.refusal.Limit.TheVariants.{Tables, Paragraphs, Entries, Marks, Version}
 use Rattle.desk_book.specs.declared.refusal.Refusal.{Refusal}
 use Rattle.desk_book.specs.declared.refusal.Refusal.TheVariants.{Moved, BadName, BadReader, BadText, NoParagraph, NoTable, NoMark, Struck, NotStruck, Resolved, BadSpan, NothingToUndo, TooLong, Full, BadTable, Undefined, Untranslatable, NoMemory}
-use Rattle.desk_book.specs.Book.{Replacement, Entry, Corrects, Undoes, Mark}
+use Rattle.desk_book.specs.declared.command.Command.TheVariants.{Correct, Undo, Strike, Restore}
+use Rattle.desk_book.specs.declared.style.Style.TheVariants.{Body}
+use Rattle.desk_book.specs.Book.{Book, Replacement, Entry, Corrects, Undoes, Mark}
 use Rattle.desk_book.specs.Print.{corrected, newest, stack}
 use Rattle.desk_book.specs.Marks.{mark_moved, mark_moved_back}
-use Rattle.desk_book.specs.Refusals.{code_of, turn}
+use Rattle.desk_book.specs.Refusals.{Holds, IsRefused, code_of, print_to_translate, turn}
+use Rattle.desk_book.specs.Step.{Makes, number_of}
+use Rattle.desk_book.proofs.EntryPlanning.{past_fit}
+use Rattle.desk_book.proofs.Expecting.{moved}
+use Rattle.desk_book.proofs.Judging.{IsRefused-passes}
+use Rattle.desk_book.proofs.Planning.{passes_to, to_turn}
 
 -- `The cat`
 abbrev the_cat : List ℕ
@@ -108,3 +115,60 @@ codes-in-turn = refl
 
 turns-rise : map turn refusals ≡ 0 ∷ 10 ∷ 15 ∷ 20 ∷ 30 ∷ 40 ∷ 50 ∷ 60 ∷ 70 ∷ 80 ∷ 90 ∷ 100 ∷ 110 ∷ 120 ∷ 130 ∷ 140 ∷ 150 ∷ 160 ∷ 170 ∷ 180 ∷ 190 ∷ 200 ∷ []
 turns-rise = refl
+
+-- ---- commands on a book
+
+-- a book with one paragraph, `The cat`
+abbrev cat_book : (version : ℕ) → List Entry → Bool → Book
+cat_book version history struck = record {
+  version = version;
+  tables = [];
+  paragraphs = record { id = 1; table = 101 ∷ 110 ∷ []; original = the_cat; history = history; style = Body; begins_volume = false; struck = struck } ∷ [];
+  marks = [];
+}
+
+-- after a correction and an undo
+abbrev taken_back_book : Book
+taken_back_book = cat_book 4 (Corrects dog [] ∷ Undoes 1 ∷ []) false
+
+-- each answers the number of the next entry of the history
+numbers-of-entries : map (λ command. number_of taken_back_book command) (Correct 1 0 0 [] [] ∷ Undo 1 ∷ Correct 2 0 0 [] [] ∷ Strike 1 ∷ []) ≡ Some 3 ∷ Some 3 ∷ None ∷ None ∷ []
+numbers-of-entries = refl
+
+-- a replacement of the ninth character of seven, an expected version 9 at version 4, and an undo where no correction is in
+-- force
+past-the-print : Holds taken_back_book None (Correct 1 8 1 (120 ∷ []) []) BadSpan
+past-the-print = record { paragraph = _; found = refl; past = lit< tt }
+
+another-version : IsRefused taken_back_book (Some 9) (Undo 1) (Moved 4)
+another-version = moved taken_back_book (Some 9) (Undo 1) 4 (record { expected = 9; given = refl; other = λ same. omega arith; told = refl })
+
+none-in-force : IsRefused taken_back_book None (Undo 1) NothingToUndo
+none-in-force =
+    let passes = past_fit taken_back_book (Undo 1) 1 refl refl refl (passes_to taken_back_book (Undo 1) 30 refl) _ refl refl in
+    IsRefused-passes taken_back_book None (Undo 1) 100 NothingToUndo (to_turn taken_back_book (Undo 1) 70 100 refl passes) refl (record { paragraph = _; found = refl; none = refl })
+
+-- what a strike and a restoring make, and that neither is accepted again, nor a correction while the paragraph is struck
+makes-struck : Makes (cat_book 2 [] false) (Strike 1) (cat_book 3 [] true)
+makes-struck = refl
+
+makes-restored : Makes (cat_book 3 [] true) (Restore 1) (cat_book 4 [] false)
+makes-restored = refl
+
+struck-already : Holds (cat_book 3 [] true) None (Strike 1) Struck × Holds (cat_book 3 [] true) None (Correct 1 0 0 (120 ∷ []) []) Struck
+struck-already = (record { id = 1; paragraph = _; named = refl; found = refl; struck = refl }, record { id = 1; paragraph = _; named = refl; found = refl; struck = refl })
+
+restored-already : Holds (cat_book 4 [] false) None (Restore 1) NotStruck
+restored-already = record { id = 1; paragraph = _; named = refl; found = refl; live = refl }
+
+-- `c`, corrected to `a` and given the table `ab`: an undo is judged by that table, for the print `c`
+abbrev retabled_book : Book
+retabled_book = record {
+  version = 5;
+  tables = [];
+  paragraphs = record { id = 1; table = 97 ∷ 98 ∷ []; original = 99 ∷ []; history = Corrects (put 0 1 (97 ∷ [])) [] ∷ []; style = Body; begins_volume = false; struck = false } ∷ [];
+  marks = [];
+}
+
+by-the-table-of-now : print_to_translate retabled_book (Undo 1) ≡ Some (99 ∷ [], 97 ∷ 98 ∷ [])
+by-the-table-of-now = refl
