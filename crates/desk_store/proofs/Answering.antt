@@ -1,5 +1,5 @@
 -- What a read of a table answers, from what its query showed.
-use Rattle.std.proofs.Common.{◌≡◌, ◌≢◌, true, ap₂, ℕ, List, [], ◌∷◌, map, drop, Err, Result, IfOk, IfErr, refl, sym, subst, ◌∙◌, subst₂, IsPermutation}
+use Rattle.std.proofs.Common.{◌≡◌, ◌≢◌, true, ap₂, ℕ, List, [], ◌∷◌, map, drop, Ok, Err, Result, IfOk, IfErr, refl, sym, subst, ◌∙◌, subst₂, IsPermutation}
 use Rattle.std.specs.List.{AllByRecursion}
 use Rattle.sqlite_value.proofs.OrderLemmas.{value_cmp-Int, value_cmp-Text, then-Equal}
 use Rattle.std.proofs.lemmas.List.Sorted.{IsPermutation-map}
@@ -15,12 +15,13 @@ use Rattle.sql_tables.specs.Kinds.{HasKinds}
 use Rattle.sql_tables.specs.Tables.{IsDeclared}
 use Rattle.sql_tables.specs.States.{HasTable}
 use Rattle.desk_store.specs.declared.fault.Fault.{Fault}
-use Rattle.desk_store.specs.declared.fault.Fault.TheVariants.{NoMemory, Lost}
+use Rattle.desk_store.specs.declared.fault.Fault.TheVariants.{NoMemory, Lost, Refused}
 use Rattle.desk_store.proofs.OneList.{one_list}
 use Rattle.desk_store.proofs.Asking.{fails_to_read, fails_to_ask, refused_as_it_was, never_refused, not_refused}
 use Rattle.sql_tables.proofs.Answered.{answered_fails}
 use Rattle.sql_tables.proofs.Quiet.{on_ok, on_err, shown_quietly}
-use Rattle.desk_store.specs.Asked.{AnswersRows, asked, given}
+use Rattle.desk_store.specs.Asked.{AnswersRows, AnyRows, FailsAs, asked, failed, given, no_memory, together, unreadable}
+use Rattle.desk_store.specs.Whole.{IsUtf8Row}
 use Rattle.desk_store.specs.Described.{Which, books, tabs, paras, corrs, marks, caches, named_corrs, described, table_of}
 use Rattle.sql_tables.specs.Rows.{picked}
 use Rattle.desk_store.specs.Layout.{Layout}
@@ -84,30 +85,104 @@ pub maps_shown : {X : Type 0} (w : Which) (view : X → ShownOf w) (xs : List X)
 maps_shown w view [] = refl
 maps_shown w view (x ∷ xs) = rw (owned w (view x), maps_shown w view xs)
 
+any_rows : {V X : Type 0} (items : V → List X) (r : Result V Fault) → IfOk r (λ xs. AnyRows (items xs))
+any_rows items (Ok xs) = tt
+any_rows items (Err fault) = tt
+
 module _ {V X : Type 0} (items : V → List X) (w : Which) (view : X → ShownOf w) (old new : State) where
   pub answers : (rows : List Row) → Shown (described w).read [] old new rows → (r : Result V Fault) → IfOk r (λ xs. map (given w) rows ≡ map (λ x. shown w (view x)) (items xs))
-      → (AllByRecursion (HasKinds (asked w).kinds) rows → IfErr r (λ fault. fault ≡ NoMemory)) → IfErr r (λ fault. fault ≢ Lost) → AnswersRows r items w view old new
-  answers rows seen r reads kinds not_lost =
+      → (AllByRecursion (HasKinds (asked w).kinds) rows → IfErr r (λ fault. fault ≡ NoMemory)) → IfErr r (λ fault. fault ≢ Lost)
+      → IfOk r (λ xs. AllByRecursion (λ x. IsUtf8Row w (own w (view x))) (items xs)) → AnswersRows r items w view AnyRows old new
+  answers rows seen r reads kinds not_lost utf8 =
       let read = λ (tree : ℕ) (has : HasTable (table_of w tree) old). IfOk-weaker r _ _ (λ xs made. table_read w old.now.schema tree has.declared old new refl has.sound (λ x. shown w (view x)) (λ a b. order w (view a) (view b)) (λ a b. ordered w (view a) (view b)) rows (items xs) seen made) reads in record {
         gives = IfOk-weaker r _ _ (λ xs made. (rows, seen, made)) reads;
+        apart = any_rows items r;
+        utf8 = utf8;
         rows = read;
         shows = λ l c there is. IfOk-weaker r _ _ (λ xs all. one_list w (picked (described w).own) (c.rows w) (map (λ x. own w (view x)) (items xs)) (old.now.trees (l.tree w)) (is.is.holds.tables w there)
             (subst₂ IsPermutation (maps_shown w view (items xs)) (maps_own w (old.now.trees (l.tree w))) (IsPermutation-map (own_of w) _ _ all.0))) (read (l.tree w) (has_table w l c old there is));
         unchanged = on_ok r _ (shown_quietly (described w).read (reads_only w) [] old new rows seen);
-        told = fails_to_read (asked w) old new rows seen r not_lost kinds;
+        told = fails_to_read (asked w) (λ x. shown w (view x)) old new rows seen r not_lost kinds;
         refused = on_err r _ (λ fault refused. shown_quietly (described w).read (reads_only w) [] old new rows seen);
-        answered = λ can unlimited readable. not_refused r (kinds (readable rows seen));
-        cause = λ tree has unlimited readable. not_refused r (kinds (table_kinds w old.now.schema tree has.declared old new refl has.sound rows seen readable));
+        answered = λ can unlimited readable apart. not_refused r (kinds (readable rows seen));
+        cause = λ tree has unlimited readable apart. not_refused r (kinds (table_kinds w old.now.schema tree has.declared old new refl has.sound rows seen readable));
       }
 
-  pub fails : (fault : Fault) → (e : Error) × FailsToQuery (described w).read [] old new e × IsToldAs e fault → AnswersRows (Err fault) items w view old new
+  pub fails : (fault : Fault) → (e : Error) × FailsToQuery (described w).read [] old new e × IsToldAs e fault → AnswersRows (Err fault) items w view AnyRows old new
   fails fault why = record {
     gives = tt;
+    apart = tt;
+    utf8 = tt;
     rows = λ tree has. tt;
     shows = λ l c there is. tt;
     unchanged = tt;
-    told = fails_to_ask (asked w) old new fault why;
+    told = fails_to_ask (asked w) (λ x. shown w (view x)) old new fault why;
     refused = refused_as_it_was (described w).read (reads_only w) [] old new fault why;
-    answered = λ can unlimited readable. never_refused (described w).read [] old new fault (answered_fails (described w).read (reads_only w) old new can unlimited) why;
-    cause = λ tree has unlimited readable. never_refused (described w).read [] old new fault (table_fails w old.now.schema tree has.declared old new refl has.sound unlimited) why;
+    answered = λ can unlimited readable apart. never_refused (described w).read [] old new fault (answered_fails (described w).read (reads_only w) old new can unlimited) why;
+    cause = λ tree has unlimited readable apart. never_refused (described w).read [] old new fault (table_fails w old.now.schema tree has.declared old new refl has.sound unlimited) why;
+  }
+
+-- ---- rows that have to be apart
+
+module _ {V X : Type 0} (items : V → List X) (w : Which) (view : X → ShownOf w) (Apart : List X → Type 0) (old new : State) where
+  still_fails : (fault : Fault) → FailsAs (asked w) (λ x. shown w (view x)) AnyRows old new fault → FailsAs (asked w) (λ x. shown w (view x)) Apart old new fault
+  still_fails fault (failed e fails told) = failed e fails told
+  still_fails fault (unreadable rows seen not is) = unreadable rows seen not is
+  still_fails fault (together xs gives not is) = absurd (not tt)
+  still_fails fault (no_memory rows seen is) = no_memory rows seen is
+
+  pub are_apart : (xs : V) → AnswersRows (Ok xs) items w view AnyRows old new → Apart (items xs) → AnswersRows (Ok xs) items w view Apart old new
+  are_apart xs a is = record {
+    gives = a.gives;
+    apart = is;
+    utf8 = a.utf8;
+    rows = a.rows;
+    shows = a.shows;
+    unchanged = a.unchanged;
+    told = tt;
+    refused = tt;
+    cause = λ tree has unlimited readable apart. tt;
+    answered = λ can unlimited readable apart. tt;
+  }
+
+  pub not_read : (fault : Fault) → AnswersRows (Err fault) items w view AnyRows old new → AnswersRows (Err fault) items w view Apart old new
+  not_read fault a = record {
+    gives = tt;
+    apart = tt;
+    utf8 = tt;
+    rows = λ tree has. tt;
+    shows = λ l c there is. tt;
+    unchanged = tt;
+    told = still_fails fault a.told;
+    refused = a.refused;
+    cause = λ tree has unlimited readable apart. a.cause tree has unlimited readable (λ xs all. tt);
+    answered = λ can unlimited readable apart. a.answered can unlimited readable (λ xs all. tt);
+  }
+
+  pub are_together : (xs : V) → AnswersRows (Ok xs) items w view AnyRows old new → ¬ Apart (items xs) → AnswersRows (Err Refused) items w view Apart old new
+  are_together xs a not = record {
+    gives = tt;
+    apart = tt;
+    utf8 = tt;
+    rows = λ tree has. tt;
+    shows = λ l c there is. tt;
+    unchanged = tt;
+    told = together (items xs) a.gives not refl;
+    refused = λ is. a.unchanged;
+    cause = λ tree has unlimited readable apart. absurd (not (apart (items xs) (a.rows tree has).0));
+    answered = λ can unlimited readable apart. absurd (not (apart (items xs) a.gives));
+  }
+
+  pub not_judged : (xs : V) → AnswersRows (Ok xs) items w view AnyRows old new → AnswersRows (Err NoMemory) items w view Apart old new
+  not_judged xs a = record {
+    gives = tt;
+    apart = tt;
+    utf8 = tt;
+    rows = λ tree has. tt;
+    shows = λ l c there is. tt;
+    unchanged = tt;
+    told = no_memory a.gives.0 a.gives.1 refl;
+    refused = λ is. a.unchanged;
+    cause = λ tree has unlimited readable apart is. absurd (cc);
+    answered = λ can unlimited readable apart is. absurd (cc);
   }

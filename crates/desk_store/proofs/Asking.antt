@@ -7,7 +7,7 @@ use Rattle.sqlite_trees.specs.declared.error.StoreError.TheVariants.{OutOfMemory
 use Rattle.sqlite.specs.declared.error.Error.{Error}
 use Rattle.sqlite.specs.Reading.{IsReadError}
 use Rattle.sqlite.specs.State.{State, Shown, FailsToQuery, store_error}
-use Rattle.desk_store.specs.Asked.{Asked, FailsAs, failed, unreadable, no_memory}
+use Rattle.desk_store.specs.Asked.{Asked, AnyRows, FailsAs, failed, unreadable, no_memory}
 use Rattle.desk_store.specs.Fault.{IsToldAs}
 use Rattle.sql_tables.specs.Kinds.{HasKinds}
 use Rattle.desk_store.specs.declared.fault.Fault.{Fault}
@@ -28,12 +28,12 @@ value_kind P at v e NoMemory read unless p told = refl
 value_kind P at v e Lost read unless p told = absurd (never_lost at v e read told)
 value_kind P at v e Refused read unless p told = absurd (unless (told OutOfMemory) p)
 
-module _ (asked : Asked) (before after : State) where
-  pub fails_to_ask : (fault : Fault) → (e : Error) × FailsToQuery asked.text [] before after e × IsToldAs e fault → FailsAs asked before after fault
+module _ {X : Type 0} (asked : Asked) (written : X → Row) (before after : State) where
+  pub fails_to_ask : (fault : Fault) → (e : Error) × FailsToQuery asked.text [] before after e × IsToldAs e fault → FailsAs asked written AnyRows before after fault
   fails_to_ask fault (e, fails, told) = failed e fails told
 
   pub fails_to_read : {A : Type 0} (rows : List Row) → Shown asked.text [] before after rows → (r : Result A Fault) → IfErr r (λ fault. fault ≢ Lost)
-      → (AllByRecursion (HasKinds asked.kinds) rows → IfErr r (λ fault. fault ≡ NoMemory)) → IfErr r (FailsAs asked before after)
+      → (AllByRecursion (HasKinds asked.kinds) rows → IfErr r (λ fault. fault ≡ NoMemory)) → IfErr r (FailsAs asked written AnyRows before after)
   fails_to_read rows shown (Ok a) not_lost kinds = tt
   fails_to_read rows shown (Err NoMemory) not_lost kinds = no_memory rows shown refl
   fails_to_read rows shown (Err Lost) not_lost kinds = absurd (not_lost refl)

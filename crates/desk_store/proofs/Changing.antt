@@ -17,7 +17,8 @@ use Rattle.sql_tables.proofs.Writing.{Spares}
 use Rattle.desk_store.specs.Described.{Which, books, tabs, paras, corrs, marks, caches, named_corrs, described, table_of}
 use Rattle.desk_store.specs.Layout.{Layout, AreDeclared, IsOther}
 use Rattle.desk_store.specs.Contents.{Contents, Holds, with_row, with_rows}
-use Rattle.desk_store.specs.Puts.{Changes, HasThem, PutsAll, PutsRow, RunsTo, row_put, Statement, table_put, with_put, with_puts}
+use Rattle.desk_store.specs.Puts.{Changes, HasThem, PutsAll, PutsRow, RunsTo, row_put, table_put, with_put, with_puts}
+use Rattle.desk_store.specs.Turns.{Ran, Statement}
 use Rattle.desk_store.specs.declared.rows.Put.{Put}
 use Rattle.desk_store.specs.Rows.{RowOf, written, set_at}
 use Rattle.desk_store.specs.States.{IsUnder}
@@ -100,6 +101,7 @@ module _ (w : Which) (f : List (RowOf w) → List (RowOf w)) (it : Statement) (o
         let file = was.shows.is in
         let did = does l.schema (l.tree w) (file.declared w there) old new count (c.rows w) was.shows.schema file.sound (file.holds.ids w there) (file.holds.tables w there) h.0 in
         goes_on old new l c (with_rows w f c) committed was did.wrote (holds l c file.declared old.now.trees new.now.trees file.holds w f there did.spares did.lists did.ids);
+    ran = (count, h);
     is_open = h.1.was_open;
     inside = h.1.mode;
     kept = inside_keeps old new 0 false it.text it.params (Ok count) h;
@@ -109,10 +111,10 @@ module _ (w : Which) (f : List (RowOf w) → List (RowOf w)) (it : Statement) (o
   -- a statement that ran changed the contents so
   pub changes : Does w f it.text it.params → (r : Result (Unit {0}) Error) → RunsTo r it.text it.params old new → Changes r it w (with_rows w f) old new
   changes does (Ok v) ran = put_ok does v ran.0 ran.1
-  changes does (Err e) ran = record { put = λ committed l c there was. tt; is_open = tt; inside = tt; kept = ran.0; told = ran.1 }
+  changes does (Err e) ran = record { put = λ committed l c there was. tt; ran = tt; is_open = tt; inside = tt; kept = ran.0; told = ran.1 }
 
-pub puts_row : (w : Which) (x : RowOf w) (old new : State) (r : Result (Unit {0}) Error) → Changes r (row_put w x) w (with_row w x) old new → OnOk r (PutsRow w x old new)
-puts_row w x old new (Ok v) changed = changed.put
+pub puts_row : (w : Which) (x : RowOf w) (old new : State) (r : Result (Unit {0}) Error) → Changes r (row_put w x) w (with_row w x) old new → OnOk r (PutsRow w x old new × Ran (row_put w x) old new)
+puts_row w x old new (Ok v) changed = (changed.put, changed.ran)
 puts_row w x old new (Err e) changed = tt
 
 -- ---- puts in turn

@@ -1,10 +1,12 @@
 -- What a transaction leaves once it is committed, or once that failed.
-use Rattle.std.proofs.Common.{IsTrue, List, ◌≡◌, true, refl, sym, ap, subst, ◌∙◌}
+use Rattle.std.proofs.Common.{IsTrue, List, ◌≡◌, inl, inr, true, refl, sym, ap, subst, ◌∙◌, true≢false}
 use Rattle.sqlite_trees.specs.Tree.{Trees}
 use Rattle.sqlite_trees.specs.declared.store.Store.{Ghosts}
 use Rattle.sqlite.specs.Effect.{Database}
 use Rattle.sqlite.specs.Held.{Held, state}
-use Rattle.sqlite.specs.State.{KeepsCommit, State, Survives}
+use Rattle.sqlite.specs.declared.error.Error.{Error}
+use Rattle.sqlite.specs.State.{Fails, KeepsCommit, State, Survives}
+use Rattle.sqlite.specs.Steps.{FailsToCommit}
 use Rattle.sqlite.proofs.StateLemmas.{survives_then}
 use Rattle.desk_store.specs.Contents.{Contents}
 use Rattle.desk_store.specs.Layout.{Layout}
@@ -38,3 +40,8 @@ survive_both old mid new first later = survives_then old mid new _ _ _ (λ _ db 
 -- trees that are the last commit's are those that the connection shows, where nothing is to be committed
 pub only_commit : (s : State) (l : Layout) (c : Contents) (db : Trees) → s.committed ≡ s.now → db ≡ s.committed.trees → Shows l c s → IsFile l c db
 only_commit s l c db same is shows = subst (IsFile l c) (sym (is ∙ ap (λ (d : Database). d.trees) same)) shows.is
+
+-- a commit of a transaction that goes on fails only with the store
+pub commit_fails : (last new : State) (e : Error) → FailsToCommit last new e → last.in_transaction ≡ true → Fails last new ⊥ e
+commit_fails last new e (inl failed) was = failed
+commit_fails last new e (inr late) was = absurd (true≢false (sym was ∙ late.1))

@@ -59,6 +59,10 @@ module _ (text : List ℕ) (params : Row) (old new : State) where
   runs_inside (Ok v) ran = ran.1.1.mode
   runs_inside (Err e) ran = tt
 
+  pub runs_ran : (r : Result (Unit {0}) Error) → RunsTo r text params old new → OnOk r ((count : ℕ) × ExecutesInside 0 text params old new (Ok count))
+  runs_ran (Ok v) ran = ran
+  runs_ran (Err e) ran = tt
+
   pub runs_told : (r : Result (Unit {0}) Error) → RunsTo r text params old new → old.in_transaction ≡ true → IfErr r (λ e. ExecutesInside 0 text params old new (Err e))
   runs_told (Ok v) ran was = tt
   runs_told (Err e) ran was = ran.1 was

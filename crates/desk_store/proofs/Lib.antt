@@ -4,6 +4,8 @@ pub mod ByName
 pub mod Changing
 pub mod Committing
 pub mod Creates
+pub mod Distinct
+pub mod Exact
 pub mod FileTexts
 pub mod Kept
 pub mod MadeTables
@@ -14,6 +16,7 @@ pub mod PlainReads
 pub mod PutTables
 pub mod Schemas
 pub mod TabNames
+pub mod Turns
 pub mod Utf8Puts
 pub mod WholeFile
 pub mod WholeReads

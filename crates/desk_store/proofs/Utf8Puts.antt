@@ -1,10 +1,10 @@
 -- What is put in UTF-8 leaves the texts of the contents in UTF-8.
-use Rattle.std.proofs.Common.{◌≡◌, Bool, true, false, List, [], ◌∷◌, map, filter, pos, cond, if◌then◌else◌, inl, inr, sym, subst, IsUtf8}
+use Rattle.std.proofs.Common.{Bool, true, false, List, [], ◌∷◌, filter, pos, cond, if◌then◌else◌, inl, inr, sym, subst}
 use Rattle.std.specs.List.{AllByRecursion}
 use Rattle.std.specs.Ordering.{int_eq}
 use Rattle.sql_tables.specs.Rows.{set_where}
 use Rattle.desk_store.specs.Contents.{Contents, with_row, with_rows}
-use Rattle.desk_store.specs.Described.{Which, books, tabs, paras, corrs, marks, caches, named_corrs, described}
+use Rattle.desk_store.specs.Described.{Which, books, tabs, paras, corrs, marks, caches, named_corrs}
 use Rattle.desk_store.specs.Puts.{at_version, flagged, moved, placed, printed, retabled, settled, with_put, with_puts}
 use Rattle.desk_store.specs.Rows.{RowOf, put_to, set_at}
 use Rattle.desk_store.specs.Whole.{AreUtf8, IsUtf8Put, IsUtf8Row}

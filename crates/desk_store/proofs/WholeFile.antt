@@ -1,6 +1,6 @@
 -- A file has one contents, which are the rows that were read of it.
 use Rattle.std.proofs.Common.{◌≡◌, ◌≤◌, List, [], ◌∷◌, map, true, refl, sym, subst, subst₂, ◌∙◌, ◌↔◌, IsPermutation}
-use Rattle.std.specs.List.{AllByRecursion, IsDistinct}
+use Rattle.std.specs.List.{AllByRecursion}
 use Rattle.std.specs.Ordering.{int_eq}
 use Rattle.std.proofs.lemmas.Bool.Decides.{Decides-int_eq}
 use Rattle.std.proofs.lemmas.List.Sorted.{IsPermutation-map}
@@ -8,7 +8,6 @@ use Rattle.sqlite_schema.specs.declared.schema.Table.{Table}
 use Rattle.sqlite_value.specs.Order.{Row}
 use Rattle.sqlite_trees.specs.Tree.{Trees}
 use Rattle.sqlite_catalog.specs.Listing.{IsSound}
-use Rattle.sqlite.specs.State.{State}
 use Rattle.desk_book.specs.Rows.{StoredTab}
 use Rattle.sql_tables.specs.Rows.{HaveRowids, Lists, picked}
 use Rattle.sql_tables.proofs.Apart.{apart, as_many, have_rowids}
@@ -17,8 +16,8 @@ use Rattle.desk_store.specs.Contents.{Contents, Holds}
 use Rattle.desk_store.specs.Described.{Which, books, tabs, paras, corrs, marks, caches, named_corrs, described}
 use Rattle.desk_store.specs.Layout.{Layout, AreDeclared, IsOther}
 use Rattle.desk_store.specs.Rows.{ShownOf, own, shown, written}
-use Rattle.desk_store.specs.States.{IsFile, Shows}
-use Rattle.desk_store.specs.Whole.{HaveSameRows, Rows, AreRows, AreApart, DifferIn, contents_of}
+use Rattle.desk_store.specs.States.{IsFile}
+use Rattle.desk_store.specs.Whole.{HaveSameRows, Rows, AreRows, AreApart, DifferIn, HaveOwnRowids, contents_of}
 use Rattle.desk_store.proofs.Answering.{maps_own, maps_shown, own_of}
 use Rattle.desk_store.proofs.OneList.{one_list}
 
@@ -84,8 +83,8 @@ is_file l rows db declared sound are apart = record {
   };
 }
 
--- the rowids of the braille tables that a connection shows differ
-pub tabs_apart : (l : Layout) (c : Contents) (s : State) → l.has tabs ≡ true → Shows l c s → (xs : List StoredTab) → Lists (shown tabs) (picked (described tabs).shown) xs (s.now.trees (l.tree tabs)) → IsDistinct int_eq (map (λ t. t.rowid) xs)
-tabs_apart l c s there shows xs lists =
+-- the rowids of the braille tables of a file differ
+pub tabs_apart : (l : Layout) (c : Contents) (db : Trees) → IsFile l c db → l.has tabs ≡ true → (xs : List StoredTab) → Lists (shown tabs) (picked (described tabs).shown) xs (db (l.tree tabs)) → HaveOwnRowids xs
+tabs_apart l c db is there xs lists =
     apart int_eq Decides-int_eq (λ (t : StoredTab). t.rowid) xs (λ id.
-    subst (λ n. n ≤ 1) (as_many (shown tabs) (picked (described tabs).shown) (λ (t : StoredTab). t.rowid) (λ t. refl) (λ r. refl) id xs _ lists) ((shows.is.holds.ids tabs there refl).once id))
+    subst (λ n. n ≤ 1) (as_many (shown tabs) (picked (described tabs).shown) (λ (t : StoredTab). t.rowid) (λ t. refl) (λ r. refl) id xs _ lists) ((is.holds.ids tabs there refl).once id))

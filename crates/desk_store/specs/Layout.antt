@@ -4,7 +4,8 @@ use Rattle.sqlite_schema.specs.declared.schema.Schema.{Schema}
 use Rattle.sql_tables.specs.Tables.{IsDeclared}
 use Rattle.desk_store.specs.Described.{Which, table_of}
 
--- A schema, which tables a file has, and a tree for each. What else there is, under whatever name, is beside them.
+-- A schema, some tables that a file has, and a tree for each. What else there is, under whatever name, is beside them: a table of ours too,
+-- unless the layout is exact.
 pub record Layout : Type 0 where
   pub schema : Schema
   pub has : Which → Bool

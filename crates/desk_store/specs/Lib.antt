@@ -2,8 +2,10 @@ pub mod Described
 pub mod Tables
 pub mod Rows
 pub mod Layout
+pub mod Formats
 pub mod Contents
 pub mod States
+pub mod Turns
 pub mod Puts
 pub mod Fault
 pub mod Asked

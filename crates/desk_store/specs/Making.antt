@@ -1,19 +1,22 @@
 -- What making tables makes of a file, and what making all of them makes of one that has none.
-use Rattle.std.specs.Prelude.{◌≡◌, ℕ, Bool, pos, true, false, if◌then◌else◌, List, [], ◌∷◌, map, bytes_eq, ⊤}
+use Rattle.std.specs.Prelude.{◌≡◌, ℕ, Bool, pos, true, false, if◌then◌else◌, List, [], ◌∷◌, ◌++◌, map, bytes_eq, ⊤}
 use Rattle.std.specs.List.{AllByRecursion, list_any}
+use Rattle.sqlite_trees.specs.declared.store.Store.{Ghosts}
 use Rattle.sqlite_trees.specs.Tree.{Trees}
 use Rattle.sqlite_schema.specs.declared.schema.Schema.{Schema}
 use Rattle.sqlite_catalog.specs.Change.{KeepsRows, created, next_tree, is_used}
 use Rattle.sqlite.specs.Does.{lacks_sequence}
 use Rattle.sqlite.specs.Effect.{Database}
+use Rattle.sqlite.specs.Held.{Held, state}
 use Rattle.sqlite.specs.State.{State, IsLive}
 use Rattle.desk_book.specs.declared.rows.BookRow.{BookRow}
 use Rattle.sql_tables.specs.Making.{AreFree, FreesNone, IsMaking, KeepsAside, first_created}
 use Rattle.desk_store.specs.Contents.{Contents, with_row}
 use Rattle.desk_store.specs.Described.{Which, books, tabs, paras, marks, caches, named_corrs, described, table_of}
 use Rattle.desk_store.specs.Layout.{Layout}
-use Rattle.desk_store.specs.Puts.{HasThem, with_puts}
+use Rattle.desk_store.specs.Puts.{HasThem, row_put, with_puts}
 use Rattle.desk_store.specs.States.{IsFile, Shows}
+use Rattle.desk_store.specs.Turns.{RunInTurn, Statement}
 use Rattle.desk_store.specs.declared.rows.Put.{Put}
 
 -- the tables of a new file, in the order in which they are made
@@ -77,6 +80,18 @@ pub record MakesTables (ws : List Which) (old new : State) : Type 0 where
   pub made : (committed : Database) (first : Schema) (rows : Trees) (before : Schema)
       → Differ ws → IsMaking committed first rows before old → AreFreeIn before ws
       → IsMaking committed first rows (after ws before) new
+
+-- the statement that makes a table
+abbrev pub creation : Which → Statement
+creation w = record { text = (described w).create; params = [] }
+
+-- All of these were made so by their statements.
+abbrev pub AreMade : {S : Type 0} → Ghosts S → List Which → Held S → Held S → Type 0
+AreMade g ws old new = MakesTables ws (state g old) (state g new) × RunInTurn g (map creation ws) old new
+
+-- the statements that make a new file
+abbrev pub making : List Statement
+making = map creation new_tables ++ row_put books first_row ∷ []
 
 -- What making adds to what a crash may leave: only where the names were free, and then the file with the tables.
 abbrev pub IsMade : State → Trees → Type 0

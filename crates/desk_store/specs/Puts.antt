@@ -1,5 +1,5 @@
 -- What rows that are put in turn make of the contents.
-use Rattle.std.specs.Prelude.{◌≡◌, ℕ, ℤ, pos, true, List, [], ◌∷◌, fold, Option, Some, Result, Ok, Err, IfErr, IsTrue, OnOk}
+use Rattle.std.specs.Prelude.{◌≡◌, ℕ, ℤ, pos, true, List, [], ◌∷◌, map, fold, Option, Some, Result, Ok, Err, IfErr, IsTrue, OnOk}
 use Rattle.std.specs.Iterator.{Drains, YieldsThen}
 use Rattle.std.specs.List.{AllByRecursion}
 use Rattle.std.specs.Ordering.{int_eq}
@@ -19,6 +19,7 @@ use Rattle.desk_store.specs.Described.{Which, books, tabs, paras, marks, caches,
 use Rattle.desk_store.specs.Layout.{Layout}
 use Rattle.desk_store.specs.Rows.{RowOf, written}
 use Rattle.desk_store.specs.States.{IsFile, IsUnder, Shows}
+use Rattle.desk_store.specs.Turns.{Failed, Ran, RunInTurn, Statement, Stops}
 use Rattle.desk_store.specs.declared.texts.TheConstants.{SET_FLAGS, SET_PLACE, SET_PRINT, SET_RESOLVED, SET_SPAN, SET_TABLE, SET_VERSION}
 use Rattle.desk_store.specs.declared.rows.Put.{Put}
 use Rattle.desk_store.specs.declared.rows.Put.TheVariants as put
@@ -102,10 +103,6 @@ Writes puts old new = (l : Layout) (c : Contents) → HasThem l puts → Shows l
 
 -- ---- the statement of a put
 
-pub record Statement : Type 0 where
-  pub text : List ℕ
-  pub params : Row
-
 -- a row of a table
 abbrev pub row_put : (w : Which) → RowOf w → Statement
 row_put w x = record { text = (described w).put; params = written w x }
@@ -140,10 +137,11 @@ PutsRow w x old new = (committed : Database) (l : Layout) (c : Contents) → l.h
 -- database answered to it.
 pub record Changes {V : Type 0} (result : Result V Error) (it : Statement) (w : Which) (change : Contents → Contents) (old new : State) : Type 0 where
   pub put : (committed : Database) (l : Layout) (c : Contents) → l.has w ≡ true → IsUnder committed l c old → OnOk result (IsUnder committed l (change c) new)
+  pub ran : OnOk result (Ran it old new)
   pub is_open : OnOk result (IsTrue old.is_open)
   pub inside : OnOk result (new.in_transaction ≡ true)
   pub kept : KeepsCommit old new
-  pub told : old.in_transaction ≡ true → IfErr result (λ e. ExecutesInside 0 it.text it.params old new (Err e))
+  pub told : old.in_transaction ≡ true → IfErr result (Failed it old new)
 
 -- this is put
 abbrev pub IsPut : {V : Type 0} → Result V Error → Put → State → State → Type 0
@@ -155,11 +153,14 @@ IsPut result it = Changes result (statement it) (table_put it) (λ c. with_put c
 abbrev pub PutsAll : List Put → State → State → Type 0
 PutsAll puts old new = (committed : Database) (l : Layout) (c : Contents) → HasThem l puts → IsUnder committed l c old → IsUnder committed l (with_puts puts c) new
 
+-- All of these were put so by their statements.
+abbrev pub ArePut : {S : Type 0} → Ghosts S → List Put → Held S → Held S → Type 0
+ArePut g puts old new = PutsAll puts (state g old) (state g new) × RunInTurn g (map statement puts) old new
+
 -- Those so far were put, and this is what the database answered to the statement of the next.
-pub record StopsAt {S : Type 0} (g : Ghosts S) (done : List Put) (next : Put) (old new : State) (e : Error) : Type 0 where
-  pub before : Held S
-  pub put : PutsAll done old (state g before)
-  pub answered : ExecutesInside 0 (statement next).text (statement next).params (state g before) new (Err e)
+pub record StopsAt {S : Type 0} (g : Ghosts S) (done : List Put) (next : Put) (old : Held S) (new : State) (e : Error) : Type 0 where
+  pub stops : Stops g (map statement done) (statement next) old new e
+  pub put : PutsAll done (state g old) (state g stops.before)
 
 -- what an iterator gives until it ends, with this
 abbrev pub OfItems : {I A : Type 0} → (I → Option A → I → Type 0) → I → (List A → Type 0) → Type 0

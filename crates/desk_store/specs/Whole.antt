@@ -5,6 +5,7 @@ use Rattle.std.specs.Ordering.{int_eq}
 use Rattle.sqlite_trees.specs.Tree.{Trees}
 use Rattle.sqlite_rules.specs.Edit.{IsNoIndex}
 use Rattle.sql_tables.specs.Rows.{Lists, picked}
+use Rattle.desk_book.specs.Rows.{StoredTab}
 use Rattle.desk_store.specs.Contents.{Contents}
 use Rattle.desk_store.specs.Described.{Which, books, tabs, paras, corrs, marks, caches, named_corrs, described}
 use Rattle.desk_store.specs.Layout.{Layout, IsOther}
@@ -30,10 +31,14 @@ AreRows l rows db = (w : Which) → l.has w ≡ true → Lists (shown w) (picked
 abbrev pub DifferBy : {X : Type 0} → (X → ℤ) → List X → Type 0
 DifferBy key xs = IsDistinct int_eq (map key xs)
 
+-- no two braille tables have the same rowid
+abbrev pub HaveOwnRowids : List StoredTab → Type 0
+HaveOwnRowids = DifferBy (λ t. t.rowid)
+
 -- The rows that may be changed differ by their keys, those of `tab` by their rowids.
 abbrev pub DifferIn : (w : Which) → List (ShownOf w) → Type 0
 DifferIn books = DifferBy (λ b. b.id)
-DifferIn tabs = DifferBy (λ t. t.rowid)
+DifferIn tabs = HaveOwnRowids
 DifferIn paras = DifferBy (λ p. p.id)
 DifferIn corrs = λ es. ⊤
 DifferIn marks = DifferBy (λ m. m.id)

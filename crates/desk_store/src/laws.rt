@@ -1,14 +1,18 @@
 //! Laws of files, and of the connections that show them.
 ghost use Rattle.desk_store.specs.Asked.{AreReadable};
 ghost use Rattle.desk_store.specs.Contents.{Contents};
-ghost use Rattle.desk_store.specs.Described.{Which, described, shows_rowid};
+ghost use Rattle.desk_book.specs.Rows.{StoredTab};
+ghost use Rattle.desk_store.specs.Described.{Which, described, shows_rowid, tabs};
 ghost use Rattle.sql_tables.specs.Kinds.{HaveIntegerRowids};
 ghost use Rattle.desk_store.specs.Layout.{AreDeclared, Layout};
-ghost use Rattle.desk_store.specs.Making.{Differ, IsNew, MakesTables, made, with_none, with_tables};
+ghost use Rattle.desk_store.specs.Formats.{IsExact};
+ghost use Rattle.desk_store.specs.Making.{Differ, IsNew, MakesTables, after, is_among, made, with_none, with_tables};
 ghost use Rattle.sql_tables.specs.Making.{KeepsAside};
 ghost use Rattle.desk_store.specs.States.{IsFile, IsUnder, Shows};
 ghost use Rattle.sql_tables.specs.States.{Leaves};
-ghost use Rattle.desk_store.specs.Whole.{AreApart, AreRows, AreUtf8, HaveSameRows, IsUtf8Put, Rows, contents_of};
+ghost use Rattle.desk_store.specs.Rows.{shown};
+ghost use Rattle.sql_tables.specs.Rows.{Lists, picked};
+ghost use Rattle.desk_store.specs.Whole.{AreApart, AreRows, AreUtf8, HaveOwnRowids, HaveSameRows, IsUtf8Put, Rows, contents_of};
 ghost use Rattle.sqlite.specs.Effect.{Database};
 ghost use Rattle.sqlite.specs.Held.{state};
 ghost use Rattle.sqlite.specs.State.{IsLive, Opens};
@@ -16,7 +20,7 @@ ghost use Rattle.sqlite_catalog.specs.Change.{KeepsRows};
 ghost use Rattle.sqlite_catalog.specs.Listing.{IsSound};
 ghost use Rattle.sqlite_schema.specs.declared.schema.Schema.{Schema};
 ghost use Rattle.sqlite_trees.specs.Tree.{Trees};
-ghost use Rattle.std.specs.Prelude.{IsTrue, List, false, true, ◌≡◌, ◌↔◌, ◌⊎◌};
+ghost use Rattle.std.specs.Prelude.{IsTrue, List, false, true, ◌≡◌, ◌||◌, ◌↔◌, ◌⊎◌};
 ghost use Rattle.std.specs.List.{AllByRecursion};
 ghost use Rattle.desk_store.specs.Puts.{with_puts};
 ghost use Rattle.desk_store.specs.Tables.{is_there};
@@ -55,12 +59,15 @@ pub fn read_whole()
         → AreRows l rows db → AreApart rows → IsFile l (contents_of rows db) db }
 {}
 
-/// The rows of a file can be read: the rowids that are read are integers, and the texts are UTF-8 where those of the file are.
+/// The rows of a file can be read: the rowids that are read are integers, and the texts are UTF-8 where those of the file are; the rowids of
+/// the braille tables differ.
 pub fn texts_as_written()
     ensures readable { (l : Layout) (c : Contents) (db : Trees) → IsFile l c db → AreUtf8 c
         → (w : Which) → l.has w ≡ true → AreReadable w (db (l.tree w)) }
     ensures rowids { (l : Layout) (c : Contents) (db : Trees) → IsFile l c db → (w : Which)
         → l.has w ≡ true → shows_rowid w ≡ true → HaveIntegerRowids (db (l.tree w)) }
+    ensures apart { (l : Layout) (c : Contents) (db : Trees) → IsFile l c db → l.has tabs ≡ true → (xs : List StoredTab)
+        → Lists (shown tabs) (picked (described tabs).shown) xs (db (l.tree tabs)) → HaveOwnRowids xs }
 {}
 
 /// A file where the tables were made keeps what the database keeps aside.
@@ -89,4 +96,11 @@ pub fn tables_there()
         → l.has w ≡ true → is_there l.schema w ≡ true }
     ensures free { (s : Schema) (w : Which) → is_used s (described w).name ≡ false
         → is_there s w ≡ false }
+{}
+
+/// Making tables adds just these to the tables that are there, and an exact layout stays exact.
+pub fn tables_made()
+    ensures there { (ws : List Which) (s : Schema) (v : Which)
+        → is_there (after ws s) v ≡ (is_among ws v || is_there s v) }
+    ensures exact { (ws : List Which) (l : Layout) → IsExact l → IsExact (with_tables ws l) }
 {}

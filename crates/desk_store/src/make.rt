@@ -1,20 +1,16 @@
 //! The making of tables.
 
 ghost use Rattle.std.specs.Prelude.{◌≡◌, false, true, [], ◌∷◌, IfErr, IsTrue, OnErr, OnOk, map};
-ghost use Rattle.sqlite_trees.specs.Tree.{Trees};
-ghost use Rattle.sqlite_schema.specs.declared.schema.Schema.{Schema};
-ghost use Rattle.sqlite.specs.Effect.{Database};
 ghost use Rattle.sqlite.specs.Held.{state};
-ghost use Rattle.sqlite.specs.State.{ExecutesInside, HasCleanDisk, IsLive, KeepsCommit, Survives};
-ghost use Rattle.sql_tables.specs.Making.{IndexesLow, IsMaking};
+ghost use Rattle.sqlite.specs.State.{HasCleanDisk, IsLive, KeepsCommit, Survives};
 ghost use Rattle.sql_tables.specs.States.{IsCommitted, IsSettled, IsUndone, seen};
 ghost use Rattle.desk_store.specs.Described.{described};
-ghost use Rattle.desk_store.specs.Failing.{FailsToChange, StopsMaking, begun, of_first_row};
+ghost use Rattle.desk_store.specs.Failing.{FailsToChange, StopsMaking, of_first_row};
 ghost use Rattle.desk_store.specs.Fault.{IsToldAs};
-ghost use Rattle.desk_store.specs.Making.{AreAbsent, IsMade, IsNew, MakesTables, first_row, made, new_tables};
-ghost use Rattle.desk_store.specs.Puts.{PutsRow};
-ghost use Rattle.desk_store.specs.States.{IsUnder, Shows};
+ghost use Rattle.desk_store.specs.Making.{AreAbsent, AreMade, IsMade, IsNew, MakesTables, creation, made, making, new_tables};
+ghost use Rattle.desk_store.specs.States.{Shows};
 ghost use Rattle.desk_store.specs.Tables.{AreWritten, which};
+ghost use Rattle.desk_store.specs.Turns.{AreRun, Failed, IsLeftBy, Ran, begun};
 
 use crate::fault::Fault;
 use crate::put::{put_row, run};
@@ -38,10 +34,12 @@ fn create<S: Alter>(tx: &mut Transaction<'_, S>, table: Table) -> Result<(), Err
     ensures same_reference { tx.new.conn.ghost_name ≡ tx.old.conn.ghost_name }
     ensures makes { HasCleanDisk (seen S.Store tx.new)
         → OnOk result (MakesTables (which table ∷ []) (seen S.Store tx.old) (seen S.Store tx.new)) }
+    ensures ran { HasCleanDisk (seen S.Store tx.new)
+        → OnOk result (Ran (creation (which table)) (seen S.Store tx.old) (seen S.Store tx.new)) }
     ensures inside { HasCleanDisk (seen S.Store tx.new)
         → OnOk result ((seen S.Store tx.new).in_transaction ≡ true) }
     ensures told { HasCleanDisk (seen S.Store tx.new) → (seen S.Store tx.old).in_transaction ≡ true
-        → IfErr result (λ e. ExecutesInside 0 (described (which table)).create [] (seen S.Store tx.old) (seen S.Store tx.new) (Err e)) }
+        → IfErr result (Failed (creation (which table)) (seen S.Store tx.old) (seen S.Store tx.new)) }
     ensures kept { HasCleanDisk (seen S.Store tx.new)
         → KeepsCommit (seen S.Store tx.old) (seen S.Store tx.new) }
     ensures survives { Survives (seen S.Store tx.old) (seen S.Store tx.new) (λ _. ⊥) }
@@ -57,12 +55,12 @@ pub(crate) fn create_all<S: Alter>(
     requires { AreWritten tables.now }
     ensures same_reference { tx.new.conn.ghost_name ≡ tx.old.conn.ghost_name }
     ensures makes { HasCleanDisk (seen S.Store tx.new)
-        → OnOk result (MakesTables (map which tables.now) (seen S.Store tx.old) (seen S.Store tx.new)) }
+        → OnOk result (AreMade S.Store (map which tables.now) tx.old.conn.now tx.new.conn.now) }
     ensures inside { HasCleanDisk (seen S.Store tx.new)
         → (seen S.Store tx.old).in_transaction ≡ true
         → OnOk result ((seen S.Store tx.new).in_transaction ≡ true) }
     ensures told { HasCleanDisk (seen S.Store tx.new) → (seen S.Store tx.old).in_transaction ≡ true
-        → IfErr result (StopsMaking S.Store (map which tables.now) (seen S.Store tx.old) (seen S.Store tx.new)) }
+        → IfErr result (StopsMaking S.Store (map which tables.now) tx.old.conn.now (seen S.Store tx.new)) }
     ensures kept { HasCleanDisk (seen S.Store tx.new)
         → KeepsCommit (seen S.Store tx.old) (seen S.Store tx.new) }
     ensures survives { Survives (seen S.Store tx.old) (seen S.Store tx.new) (λ _. ⊥) }
@@ -77,13 +75,13 @@ pub(crate) fn create_all<S: Alter>(
 fn put_first_row<S: Alter>(tx: &mut Transaction<'_, S>) -> Result<(), Error>
     ensures same_reference { tx.new.conn.ghost_name ≡ tx.old.conn.ghost_name }
     ensures put { HasCleanDisk (seen S.Store tx.new)
-        → OnOk result (of_first_row.puts (seen S.Store tx.old) (seen S.Store tx.new)) }
+        → OnOk result ((of_first_row S.Store).puts tx.old.conn.now tx.new.conn.now) }
     ensures is_open { HasCleanDisk (seen S.Store tx.new)
         → OnOk result (IsTrue (seen S.Store tx.old).is_open) }
     ensures inside { HasCleanDisk (seen S.Store tx.new)
         → OnOk result ((seen S.Store tx.new).in_transaction ≡ true) }
     ensures told { HasCleanDisk (seen S.Store tx.new) → (seen S.Store tx.old).in_transaction ≡ true
-        → IfErr result (of_first_row.stops (seen S.Store tx.old) (seen S.Store tx.new)) }
+        → IfErr result ((of_first_row S.Store).stops tx.old.conn.now (seen S.Store tx.new)) }
     ensures kept { HasCleanDisk (seen S.Store tx.new)
         → KeepsCommit (seen S.Store tx.old) (seen S.Store tx.new) }
     ensures survives { Survives (seen S.Store tx.old) (seen S.Store tx.new) (λ _. ⊥) }
@@ -109,14 +107,18 @@ pub fn make_tables<S: Alter>(conn: &mut Connection<S>) -> Result<(), Error>
         → OnOk result (IsNew (state S.Store conn.old).now.schema (state S.Store conn.old).now.trees (λ c. Shows (made (state S.Store conn.old).now.schema) c (state S.Store conn.new))) }
     ensures open { HasCleanDisk (state S.Store conn.new)
         → OnOk result (IsCommitted (state S.Store conn.new)) }
+    // In any file, at `Ok` the connection shows what the statements made of it in turn.
+    ensures ran { HasCleanDisk (state S.Store conn.new)
+        → OnOk result (AreRun S.Store making conn.old (state S.Store conn.new)) }
     // Of a crash at any exit: nothing new is left but all of it, and that only where no name was taken.
-    ensures crash { Survives (state S.Store conn.old) (state S.Store conn.new) (IsMade (state S.Store conn.old)) }
+    ensures crash { Survives (state S.Store conn.old) (state S.Store conn.new)
+        (λ db. IsMade (state S.Store conn.old) db × IsLeftBy S.Store making conn.old db) }
     // At `Ok` it leaves the trees that the connection shows.
     ensures settled { HasCleanDisk (state S.Store conn.new)
         → OnOk result (IsSettled (state S.Store conn.new)) }
     // The error is what the database answered to one of the statements or to the commit.
     ensures told { HasCleanDisk (state S.Store conn.new)
-        → IfErr result (FailsToChange S.Store new_tables of_first_row (begun conn.old) (state S.Store conn.new)) }
+        → IfErr result (FailsToChange S.Store new_tables (of_first_row S.Store) (begun conn.old) (state S.Store conn.new)) }
     ensures undone { HasCleanDisk (state S.Store conn.new)
         → OnErr result (IsUndone (state S.Store conn.old) (state S.Store conn.new)) }
     // After a refusal a crash leaves nothing new.

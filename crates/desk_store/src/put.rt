@@ -11,7 +11,8 @@ ghost use Rattle.sqlite.specs.State.{HasCleanDisk, KeepsCommit, Survives};
 ghost use Rattle.sqlite.specs.Values.{bound};
 ghost use Rattle.sql_tables.specs.States.{seen};
 ghost use Rattle.desk_store.specs.Contents.{with_row};
-ghost use Rattle.desk_store.specs.Puts.{Changes, IsPut, OfItems, OfItemsBefore, PutsAll, RunsTo, StopsAt, row_put};
+ghost use Rattle.desk_store.specs.Failing.{of_items};
+ghost use Rattle.desk_store.specs.Puts.{ArePut, Changes, IsPut, OfItems, RunsTo, row_put};
 
 use crate::row::PutRow;
 use crate::rows::Put;
@@ -207,12 +208,12 @@ pub(crate) fn put_all<'a, S: Alter, I: Iterator<Item = Put<'a>> + Drop>(
     requires ends { IsFinite (I.remaining puts) }
     ensures same_reference { tx.new.conn.ghost_name ≡ tx.old.conn.ghost_name }
     ensures put { HasCleanDisk (seen S.Store tx.new)
-        → OnOk result (OfItems I.next_gives puts (λ xs. PutsAll xs (seen S.Store tx.old) (seen S.Store tx.new))) }
+        → OnOk result (OfItems I.next_gives puts (λ xs. ArePut S.Store xs tx.old.conn.now tx.new.conn.now)) }
     ensures inside { HasCleanDisk (seen S.Store tx.new)
         → (seen S.Store tx.old).in_transaction ≡ true
         → OnOk result ((seen S.Store tx.new).in_transaction ≡ true) }
     ensures told { HasCleanDisk (seen S.Store tx.new) → (seen S.Store tx.old).in_transaction ≡ true
-        → IfErr result (λ e. OfItemsBefore I.next_gives puts (λ xs next. StopsAt S.Store xs next (seen S.Store tx.old) (seen S.Store tx.new) e)) }
+        → IfErr result ((of_items S.Store I.next_gives puts).stops tx.old.conn.now (seen S.Store tx.new)) }
     ensures kept { HasCleanDisk (seen S.Store tx.new)
         → KeepsCommit (seen S.Store tx.old) (seen S.Store tx.new) }
     ensures survives { Survives (seen S.Store tx.old) (seen S.Store tx.new) (λ _. ⊥) }

@@ -7,27 +7,25 @@
 //!
 //! A statement that a limit on steps stops is told as refused.
 
-ghost use Rattle.std.specs.Prelude.{◌≡◌, ◌≢◌, true, false, [], IfOk, IfErr, map};
-ghost use Rattle.std.specs.List.{AllByRecursion, IsDistinct};
-ghost use Rattle.std.specs.Ordering.{int_eq};
+ghost use Rattle.std.specs.Prelude.{◌≡◌, ◌≢◌, false, [], IfOk, IfErr, MatchBool, map};
+ghost use Rattle.std.specs.List.{AllByRecursion};
 ghost use Rattle.sqlite.specs.declared.error.Error.{Error as Failure};
 ghost use Rattle.sqlite.specs.Held.{state};
 ghost use Rattle.sqlite.specs.State.{HasCleanDisk, CommitsShowing, FailsToQuery, Shown, Survives};
 ghost use Rattle.sql_tables.specs.Kinds.{HasKinds};
-ghost use Rattle.desk_store.specs.Asked.{AnswersRows, asked, given};
-ghost use Rattle.desk_store.specs.Contents.{Contents};
+ghost use Rattle.desk_store.specs.Asked.{AnswersRows, AnyRows, asked, given};
 ghost use Rattle.desk_store.specs.Described.{books, caches, corrs, marks, named_corrs, paras, tabs};
 ghost use Rattle.desk_store.specs.Fault.{IsToldAs};
-ghost use Rattle.desk_store.specs.Layout.{Layout};
-ghost use Rattle.desk_store.specs.Rows.{shown};
-ghost use Rattle.desk_store.specs.States.{Shows};
+ghost use Rattle.desk_store.specs.Rows.{own, shown};
+ghost use Rattle.desk_store.specs.Whole.{HaveOwnRowids, IsUtf8Row};
 
 use crate::fault::Fault;
 use crate::row::TableRow;
 use crate::rows::{CacheRow, NamedCorrRow};
 use desk_book::rows::{BookRow, CorrRow, MarkRow, ParaRow, StoredTab};
 use sqlite::{Alter, Connection, Row};
-use std::alloc::Global;
+use std::alloc::{AllocError, Global};
+use std::collections::BTreeSet;
 
 /// The rows that a query shows.
 fn ask<S: Alter>(conn: &mut Connection<S>, sql: &str) -> Result<Vec<Row>, Fault>
@@ -50,6 +48,7 @@ fn all_of<T: TableRow>(alloc: Global, rows: &[Row]) -> Result<Vec<T>, Fault>
     ensures kinds { AllByRecursion (HasKinds (asked T.which).kinds) rows.now
         → IfErr result (λ fault. fault ≡ Fault.NoMemory) }
     ensures not_lost { IfErr result (λ fault. fault ≢ Fault.Lost) }
+    ensures utf8 { IfOk result (λ xs. AllByRecursion (λ x. IsUtf8Row T.which (own T.which (T.view x))) xs.items) }
 {
     let mut all = Vec::new(alloc);
     for row in rows {
@@ -64,7 +63,7 @@ fn all_of<T: TableRow>(alloc: Global, rows: &[Row]) -> Result<Vec<T>, Fault>
 /// The rows of a table, in order.
 fn read_all<T: TableRow, S: Alter>(alloc: Global, conn: &mut Connection<S>) -> Result<Vec<T>, Fault>
     ensures answers { HasCleanDisk (state S.Store conn.new)
-        → AnswersRows result (λ xs. xs.items) T.which T.view (state S.Store conn.old) (state S.Store conn.new) }
+        → AnswersRows result (λ xs. xs.items) T.which T.view AnyRows (state S.Store conn.old) (state S.Store conn.new) }
     ensures mode { conn.old.in_transaction ≡ false → conn.new.in_transaction ≡ false }
     ensures survives { Survives (state S.Store conn.old) (state S.Store conn.new) (λ _. ⊥) }
 {
@@ -75,30 +74,46 @@ fn read_all<T: TableRow, S: Alter>(alloc: Global, conn: &mut Connection<S>) -> R
 /// The rows of `book`, in order of their ids.
 pub fn read_books<S: Alter>(alloc: Global, conn: &mut Connection<S>) -> Result<Vec<BookRow>, Fault>
     ensures answers { HasCleanDisk (state S.Store conn.new)
-        → AnswersRows result (λ xs. xs.items) books (λ x. x) (state S.Store conn.old) (state S.Store conn.new) }
+        → AnswersRows result (λ xs. xs.items) books (λ x. x) AnyRows (state S.Store conn.old) (state S.Store conn.new) }
     ensures mode { conn.old.in_transaction ≡ false → conn.new.in_transaction ≡ false }
     ensures survives { Survives (state S.Store conn.old) (state S.Store conn.new) (λ _. ⊥) }
 {
     read_all(alloc, conn)
 }
 
-/// The braille tables, in order of the bytes of their names, which is that of the names' code points.
+/// Whether no two braille tables have the same rowid.
+fn have_own_rowids(alloc: Global, tabs: &[StoredTab]) -> Result<bool, AllocError>
+    ensures { IfOk result (λ apart. MatchBool apart (HaveOwnRowids tabs.now) (¬ HaveOwnRowids tabs.now)) }
+{
+    let mut seen = BTreeSet::new(alloc);
+    for tab in tabs {
+        if !seen.insert(tab.rowid)? {
+            return Ok(false);
+        }
+    }
+    Ok(true)
+}
+
+/// The braille tables, in order of the bytes of their names, which is that of the names' code points. Where two have one rowid, as only a
+/// view shows them, they are refused.
 pub fn read_tabs<S: Alter>(alloc: Global, conn: &mut Connection<S>) -> Result<Vec<StoredTab>, Fault>
     ensures answers { HasCleanDisk (state S.Store conn.new)
-        → AnswersRows result (λ xs. xs.items) tabs (λ x. x) (state S.Store conn.old) (state S.Store conn.new) }
-    ensures apart { HasCleanDisk (state S.Store conn.new) → (l : Layout) (c : Contents)
-        → l.has tabs ≡ true → Shows l c (state S.Store conn.old)
-        → IfOk result (λ xs. IsDistinct int_eq (map (λ t. t.rowid) xs.items)) }
+        → AnswersRows result (λ xs. xs.items) tabs (λ x. x) HaveOwnRowids (state S.Store conn.old) (state S.Store conn.new) }
     ensures mode { conn.old.in_transaction ≡ false → conn.new.in_transaction ≡ false }
     ensures survives { Survives (state S.Store conn.old) (state S.Store conn.new) (λ _. ⊥) }
 {
-    read_all(alloc, conn)
+    let tabs = read_all(alloc, conn)?;
+    match have_own_rowids(alloc, &tabs) {
+        Ok(true) => Ok(tabs),
+        Ok(false) => Err(Fault::Refused),
+        Err(_) => Err(Fault::NoMemory),
+    }
 }
 
 /// The paragraphs, in order of their ids.
 pub fn read_paras<S: Alter>(alloc: Global, conn: &mut Connection<S>) -> Result<Vec<ParaRow>, Fault>
     ensures answers { HasCleanDisk (state S.Store conn.new)
-        → AnswersRows result (λ xs. xs.items) paras (λ x. x) (state S.Store conn.old) (state S.Store conn.new) }
+        → AnswersRows result (λ xs. xs.items) paras (λ x. x) AnyRows (state S.Store conn.old) (state S.Store conn.new) }
     ensures mode { conn.old.in_transaction ≡ false → conn.new.in_transaction ≡ false }
     ensures survives { Survives (state S.Store conn.old) (state S.Store conn.new) (λ _. ⊥) }
 {
@@ -108,7 +123,7 @@ pub fn read_paras<S: Alter>(alloc: Global, conn: &mut Connection<S>) -> Result<V
 /// The entries of the histories, in order of their paragraphs and numbers.
 pub fn read_corrs<S: Alter>(alloc: Global, conn: &mut Connection<S>) -> Result<Vec<CorrRow>, Fault>
     ensures answers { HasCleanDisk (state S.Store conn.new)
-        → AnswersRows result (λ xs. xs.items) corrs (λ x. x) (state S.Store conn.old) (state S.Store conn.new) }
+        → AnswersRows result (λ xs. xs.items) corrs (λ x. x) AnyRows (state S.Store conn.old) (state S.Store conn.new) }
     ensures mode { conn.old.in_transaction ≡ false → conn.new.in_transaction ≡ false }
     ensures survives { Survives (state S.Store conn.old) (state S.Store conn.new) (λ _. ⊥) }
 {
@@ -118,7 +133,7 @@ pub fn read_corrs<S: Alter>(alloc: Global, conn: &mut Connection<S>) -> Result<V
 /// The marks, in order of their ids.
 pub fn read_marks<S: Alter>(alloc: Global, conn: &mut Connection<S>) -> Result<Vec<MarkRow>, Fault>
     ensures answers { HasCleanDisk (state S.Store conn.new)
-        → AnswersRows result (λ xs. xs.items) marks (λ x. x) (state S.Store conn.old) (state S.Store conn.new) }
+        → AnswersRows result (λ xs. xs.items) marks (λ x. x) AnyRows (state S.Store conn.old) (state S.Store conn.new) }
     ensures mode { conn.old.in_transaction ≡ false → conn.new.in_transaction ≡ false }
     ensures survives { Survives (state S.Store conn.old) (state S.Store conn.new) (λ _. ⊥) }
 {
@@ -131,7 +146,7 @@ pub fn read_caches<S: Alter>(
     conn: &mut Connection<S>,
 ) -> Result<Vec<CacheRow>, Fault>
     ensures answers { HasCleanDisk (state S.Store conn.new)
-        → AnswersRows result (λ xs. xs.items) caches (λ x. x) (state S.Store conn.old) (state S.Store conn.new) }
+        → AnswersRows result (λ xs. xs.items) caches (λ x. x) AnyRows (state S.Store conn.old) (state S.Store conn.new) }
     ensures mode { conn.old.in_transaction ≡ false → conn.new.in_transaction ≡ false }
     ensures survives { Survives (state S.Store conn.old) (state S.Store conn.new) (λ _. ⊥) }
 {
@@ -144,7 +159,7 @@ pub fn read_named_corrs<S: Alter>(
     conn: &mut Connection<S>,
 ) -> Result<Vec<NamedCorrRow>, Fault>
     ensures answers { HasCleanDisk (state S.Store conn.new)
-        → AnswersRows result (λ xs. xs.items) named_corrs (λ x. x) (state S.Store conn.old) (state S.Store conn.new) }
+        → AnswersRows result (λ xs. xs.items) named_corrs (λ x. x) AnyRows (state S.Store conn.old) (state S.Store conn.new) }
     ensures mode { conn.old.in_transaction ≡ false → conn.new.in_transaction ≡ false }
     ensures survives { Survives (state S.Store conn.old) (state S.Store conn.new) (λ _. ⊥) }
 {

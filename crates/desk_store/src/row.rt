@@ -9,7 +9,8 @@ ghost use Rattle.sql_tables.specs.States.{seen};
 ghost use Rattle.desk_store.specs.Asked.{asked, given};
 ghost use Rattle.desk_store.specs.Described.{Which, books, caches, corrs, described, marks, named_corrs, paras, tabs};
 ghost use Rattle.desk_store.specs.Puts.{RunsTo};
-ghost use Rattle.desk_store.specs.Rows.{RowOf, ShownOf, shown, written};
+ghost use Rattle.desk_store.specs.Rows.{RowOf, ShownOf, own, shown, written};
+ghost use Rattle.desk_store.specs.Whole.{IsUtf8Row};
 
 use crate::fault::Fault;
 use crate::put::run;
@@ -51,7 +52,8 @@ pub(crate) trait TableRow: Drop {
         ensures reads { IfOk result (λ x. given which row.now ≡ shown which (view x)) }
         ensures kinds { HasKinds (asked which).kinds row.now
             → IfErr result (λ fault. fault ≡ Fault.NoMemory) }
-        ensures not_lost { IfErr result (λ fault. fault ≢ Fault.Lost) };
+        ensures not_lost { IfErr result (λ fault. fault ≢ Fault.Lost) }
+        ensures utf8 { IfOk result (λ x. IsUtf8Row which (own which (view x))) };
 }
 
 /// A row that is put into one of the tables.

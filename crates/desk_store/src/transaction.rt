@@ -1,14 +1,15 @@
 //! A change of the file, as one transaction.
 
-ghost use Rattle.std.specs.Prelude.{◌≡◌, false, IfErr, IsTrue, OnErr, OnOk, map};
+ghost use Rattle.std.specs.Prelude.{◌≡◌, ◌++◌, false, IfErr, OnErr, OnOk, map};
 ghost use Rattle.std.specs.Iterator.{IsFinite};
 ghost use Rattle.sqlite.specs.Held.{state};
 ghost use Rattle.sqlite.specs.State.{HasCleanDisk, Survives};
-ghost use Rattle.desk_store.specs.Failing.{FailsToChange, FailsToPut, begun, of_items};
+ghost use Rattle.desk_store.specs.Failing.{FailsToChange, FailsToPut, of_items};
 ghost use Rattle.desk_store.specs.Fault.{IsToldAs};
-ghost use Rattle.desk_store.specs.Puts.{IsFileWith, OfItems, Writes};
-ghost use Rattle.desk_store.specs.Making.{IsFileWithTables, WritesWithTables};
+ghost use Rattle.desk_store.specs.Puts.{IsFileWith, OfItems, Writes, statement};
+ghost use Rattle.desk_store.specs.Making.{IsFileWithTables, WritesWithTables, creation};
 ghost use Rattle.desk_store.specs.Tables.{AreWritten, which};
+ghost use Rattle.desk_store.specs.Turns.{AreRun, IsLeftBy, begun};
 ghost use Rattle.sql_tables.specs.States.{IsCommitted, IsSettled, IsUndone};
 
 use crate::fault::Fault;
@@ -33,8 +34,12 @@ pub fn write<'a, S: Alter, I: Iterator<Item = Put<'a>> + Drop>(
         → OnOk result (OfItems I.next_gives puts (λ xs. Writes xs (state S.Store conn.old) (state S.Store conn.new))) }
     ensures open { HasCleanDisk (state S.Store conn.new)
         → OnOk result (IsCommitted (state S.Store conn.new)) }
+    // In any file, at `Ok` the connection shows what the statements made of it in turn.
+    ensures ran { HasCleanDisk (state S.Store conn.new)
+        → OnOk result (OfItems I.next_gives puts (λ xs. AreRun S.Store (map statement xs) conn.old (state S.Store conn.new))) }
     // Of a crash at any exit: nothing new is left but all of it.
-    ensures crash { Survives (state S.Store conn.old) (state S.Store conn.new) (λ db. OfItems I.next_gives puts (λ xs. IsFileWith xs (state S.Store conn.old) db)) }
+    ensures crash { Survives (state S.Store conn.old) (state S.Store conn.new) (λ db. OfItems I.next_gives puts (λ xs.
+        IsFileWith xs (state S.Store conn.old) db × IsLeftBy S.Store (map statement xs) conn.old db)) }
     // At `Ok` it leaves the trees that the connection shows.
     ensures settled { HasCleanDisk (state S.Store conn.new)
         → OnOk result (IsSettled (state S.Store conn.new)) }
@@ -71,9 +76,13 @@ pub fn write_with_tables<'a, S: Alter, I: Iterator<Item = Put<'a>> + Drop>(
         → OnOk result (OfItems I.next_gives puts (λ xs. WritesWithTables (map which tables.now) xs (state S.Store conn.old) (state S.Store conn.new))) }
     ensures open { HasCleanDisk (state S.Store conn.new)
         → OnOk result (IsCommitted (state S.Store conn.new)) }
+    // In any file, at `Ok` the connection shows what the statements made of it in turn.
+    ensures ran { HasCleanDisk (state S.Store conn.new) → OnOk result (OfItems I.next_gives puts (λ xs.
+        AreRun S.Store (map creation (map which tables.now) ++ map statement xs) conn.old (state S.Store conn.new))) }
     // Of a crash at any exit: nothing new is left but all of it.
-    ensures crash { Survives (state S.Store conn.old) (state S.Store conn.new)
-        (λ db. OfItems I.next_gives puts (λ xs. IsFileWithTables (map which tables.now) xs (state S.Store conn.old) db)) }
+    ensures crash { Survives (state S.Store conn.old) (state S.Store conn.new) (λ db. OfItems I.next_gives puts (λ xs.
+        IsFileWithTables (map which tables.now) xs (state S.Store conn.old) db
+        × IsLeftBy S.Store (map creation (map which tables.now) ++ map statement xs) conn.old db)) }
     // At `Ok` it leaves the trees that the connection shows.
     ensures settled { HasCleanDisk (state S.Store conn.new)
         → OnOk result (IsSettled (state S.Store conn.new)) }

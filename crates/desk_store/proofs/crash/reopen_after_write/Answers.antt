@@ -13,7 +13,7 @@ returns-clause-crash g c clean l contents was leaves =
     let found = c.in_ok-after.ensures.found clean in
     elim (c.write-answer.ensures.crash.crash early after.now.trees found) [
       | inl before ↦ inl (shows_own after l contents opened.1 opened.0.is_open (leaves after.now.trees before))
-      | inr all ↦ inr (all.0, all.1, λ there. shows_own after l (with_puts all.0 contents) opened.1 opened.0.is_open (all.2 l contents there was))
+      | inr all ↦ inr (all.0, all.1, λ there. shows_own after l (with_puts all.0 contents) opened.1 opened.0.is_open (all.2.0 l contents there was))
     ]
 
 on_both : {A E : Type 0} (r : Result A E) (P Q R : Type 0) → (P → Q → R) → OnOk r P → OnOk r Q → OnOk r R

@@ -1,4 +1,5 @@
 use Rattle.desk_store.proofs.FileTexts.{readable, rowids}
+use Rattle.desk_store.proofs.WholeFile.{tabs_apart}
 use Rattle.desk_store.proofs.laws.texts_as_written.Goals as goal
 
 pub returns-clause-readable : goal.returns-clause-readable
@@ -6,3 +7,6 @@ returns-clause-readable c = readable
 
 pub returns-clause-rowids : goal.returns-clause-rowids
 returns-clause-rowids c = rowids
+
+pub returns-clause-apart : goal.returns-clause-apart
+returns-clause-apart c = tabs_apart

@@ -2,12 +2,16 @@ use Rattle.std.proofs.Common.{[]}
 use Rattle.sql_tables.specs.States.{seen}
 use Rattle.desk_store.specs.Described.{described}
 use Rattle.desk_store.specs.Tables.{which}
-use Rattle.desk_store.proofs.Creates.{creates, runs_inside, runs_keeps, runs_told}
+use Rattle.desk_store.proofs.Creates.{creates, runs_inside, runs_keeps, runs_ran, runs_told}
 use Rattle.desk_store.proofs.make.create.Goals as goal
 
 pub returns-clause-makes : goal.returns-clause-makes
 returns-clause-makes g c clean =
     creates (which c.args.table) c.requires (seen g.S.Store c.args.tx.now) (seen g.S.Store c.run.new.tx) c.run.result (rw c.creation.ensures at (c.run.ensures.runs clean))
+
+pub returns-clause-ran : goal.returns-clause-ran
+returns-clause-ran g c clean =
+    runs_ran (described (which c.args.table)).create [] (seen g.S.Store c.args.tx.now) (seen g.S.Store c.run.new.tx) c.run.result (rw c.creation.ensures at (c.run.ensures.runs clean))
 
 pub returns-clause-inside : goal.returns-clause-inside
 returns-clause-inside g c clean = runs_inside _ _ (seen g.S.Store c.args.tx.now) (seen g.S.Store c.run.new.tx) c.run.result (c.run.ensures.runs clean)

@@ -1,18 +1,25 @@
-use Rattle.std.proofs.Common.{◌≡◌, ◌+◌, arith, sym, subst, take, drop, map, true, ◌∙◌, take_all, get_or, suc, ◌∷◌, []}
+use Rattle.std.proofs.Common.{◌≡◌, ◌+◌, ◌<◌, ◌++◌, ℕ, List, length, arith, sym, subst, take, drop, map, true, ◌∙◌, take_all, get_or, suc, ◌∷◌, []}
 use Rattle.std.proofs.lemmas.Result.{err_from_is_err_and}
 use Rattle.sqlite.specs.State.{HasCleanDisk}
 use Rattle.sqlite.proofs.InsideLemmas.{keeps_then}
 use Rattle.sqlite.proofs.StateLemmas.{survives_then}
 use Rattle.sql_tables.specs.States.{seen}
 use Rattle.desk_store.specs.Described.{described}
-use Rattle.desk_store.specs.Making.{MakesTables}
+use Rattle.desk_store.specs.Making.{AreMade, MakesTables, creation}
 use Rattle.desk_store.specs.Tables.{which}
+use Rattle.desk_store.specs.Turns.{RunInTurn}
+use Rattle.desk_store.specs.declared.table.Table.{Table}
 use Rattle.desk_store.specs.declared.table.Table.TheVariants.{Book}
 use Rattle.desk_store.proofs.MadeTables.{all_at, makes_then, map_split, map_more}
+use Rattle.desk_store.proofs.Turns.{one_more_ran}
 use Rattle.desk_store.proofs.make.create_all.Goals as goal
 
 pub create-requires : goal.create-requires
 create-requires g c = all_at (λ t. (described (which t)).is_written ≡ true) c.args.tables.now c.loop-table.table-index Book c.loop-table-test.true c.requires
+
+-- with the next of the tables
+one_more : (tables : List Table) (at : ℕ) → at < length tables → map which (take (at + 1) tables) ≡ map which (take at tables) ++ which (get_or tables at Book) ∷ []
+one_more tables at within = let next : at + 1 ≡ suc at = omega arith in rw next (map_more which tables at Book within)
 
 pub loop-table-preserved : goal.loop-table-preserved
 loop-table-preserved g c =
@@ -29,14 +36,17 @@ loop-table-preserved g c =
       made = λ clean.
           let early : HasCleanDisk now = omega (arith, c.create.ensures.survives.clean) in
           let both = makes_then (map which (take at tables)) (which (get_or tables at Book) ∷ []) old now new (c.loop-table.invariant.made early) (c.in_ok-create.ensures.makes clean) in
-          let next : at + 1 ≡ suc at = omega arith in
-          subst (λ n. MakesTables (map which (take n tables)) old new) (sym next) (subst (λ ws. MakesTables ws old new) (sym (map_more which tables at Book c.loop-table-test.true)) both);
+          subst (λ ws. MakesTables ws old new) (sym (one_more tables at c.loop-table-test.true)) both;
+      ran = λ clean.
+          let early : HasCleanDisk now = omega (arith, c.create.ensures.survives.clean) in
+          let both = one_more_ran g.S.Store creation (map which (take at tables)) (which (get_or tables at Book)) c.args.tx.now.conn.now c.loop-table.tx.conn.now c.create.new.tx.conn.now (c.loop-table.invariant.ran early) (c.in_ok-create.ensures.ran clean) c.create.ensures.survives in
+          subst (λ ws. RunInTurn g.S.Store (map creation ws) c.args.tx.now.conn.now c.create.new.tx.conn.now) (sym (one_more tables at c.loop-table-test.true)) both;
     }
 
 pub returns-clause-makes : goal.returns-clause-makes
 returns-clause-makes g c clean =
     let whole : take c.loop-table.table-index c.args.tables.now ≡ c.args.tables.now = take_all c.loop-table.table-index c.args.tables.now c.loop-table-test.false in
-    subst (λ ts. MakesTables (map which ts) (seen g.S.Store c.args.tx.now) (seen g.S.Store c.loop-table.tx)) whole (c.loop-table.invariant.made clean)
+    subst (λ ts. AreMade g.S.Store (map which ts) c.args.tx.now.conn.now c.loop-table.tx.conn.now) whole (c.loop-table.invariant.made clean, c.loop-table.invariant.ran clean)
 
 pub returns-in_err-create-clause-told : goal.returns-in_err-create-clause-told
 returns-in_err-create-clause-told g c clean was =
@@ -50,7 +60,11 @@ returns-in_err-create-clause-told g c clean was =
       next = which (get_or tables at Book);
       later = map which (drop (suc at) tables);
       all = map_split which tables at Book c.loop-table-test.true;
-      before = c.loop-table.tx.conn.now;
+      stops = record {
+        before = c.loop-table.tx.conn.now;
+        ran = c.loop-table.invariant.ran early;
+        answered = c.in_err-create.ensures.told clean (c.loop-table.invariant.inside early was);
+        left = c.create.ensures.survives;
+      };
       made = c.loop-table.invariant.made early;
-      answered = c.in_err-create.ensures.told clean (c.loop-table.invariant.inside early was);
     })

@@ -1,7 +1,8 @@
 use Rattle.std.proofs.Common.{◌≡◌, true, map, take}
 use Rattle.sqlite.specs.State.{HasCleanDisk, KeepsCommit, Survives}
-use Rattle.desk_store.specs.Making.{MakesTables}
+use Rattle.desk_store.specs.Making.{MakesTables, creation}
 use Rattle.desk_store.specs.Tables.{which}
+use Rattle.desk_store.specs.Turns.{RunInTurn}
 use Rattle.sql_tables.specs.States.{seen}
 use Rattle.desk_store.proofs.make.create_all.Given as goal
 
@@ -16,4 +17,5 @@ invariant-loop-table g l =
       kept : HasCleanDisk now → KeepsCommit old now;
       inside : HasCleanDisk now → old.in_transaction ≡ true → now.in_transaction ≡ true;
       made : HasCleanDisk now → MakesTables (map which (take l.table-index l.tables)) old now;
+      ran : HasCleanDisk now → RunInTurn g.S.Store (map creation (map which (take l.table-index l.tables))) l.fn.tx.conn.now l.tx.conn.now;
     }

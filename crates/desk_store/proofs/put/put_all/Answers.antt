@@ -5,7 +5,9 @@ use Rattle.sqlite.specs.State.{HasCleanDisk}
 use Rattle.sqlite.proofs.InsideLemmas.{keeps_then}
 use Rattle.sqlite.proofs.StateLemmas.{survives_then}
 use Rattle.sql_tables.specs.States.{seen}
+use Rattle.desk_store.specs.Puts.{statement}
 use Rattle.desk_store.proofs.Changing.{puts_more}
+use Rattle.desk_store.proofs.Turns.{one_more_ran}
 use Rattle.desk_store.proofs.put.put_all.Goals as goal
 
 pub loop-one-preserved : goal.loop-one-preserved
@@ -21,12 +23,15 @@ loop-one-preserved g c =
       put = λ clean.
           let early : HasCleanDisk now = omega (arith, c.put.ensures.survives.clean) in
           puts_more c.loop-one.yielded c.in-Some.one old now new (c.loop-one.invariant.put early) (λ committed l contents there was. (c.in_ok-put.ensures.changes clean).put committed l contents there was);
+      ran = λ clean.
+          let early : HasCleanDisk now = omega (arith, c.put.ensures.survives.clean) in
+          one_more_ran g.S.Store statement c.loop-one.yielded c.in-Some.one c.args.tx.now.conn.now c.loop-one.tx.conn.now c.put.new.tx.conn.now (c.loop-one.invariant.ran early) (c.in_ok-put.ensures.changes clean).ran c.put.ensures.survives;
     }
 
 pub returns-clause-put : goal.returns-clause-put
 returns-clause-put g c clean =
     let given = subst (λ it. Yields g.I.Iterator.next_gives it c.loop-one.yielded c.loop-one.one-iterator) c.into_iter-one-iterator.ensures.into_iter_gives c.loop-one.yielded_by in
-    (c.loop-one.yielded, (c.next.new.self, (c.loop-one.one-iterator, given, c.in-None.ensures.steps)), c.loop-one.invariant.put clean)
+    (c.loop-one.yielded, (c.next.new.self, (c.loop-one.one-iterator, given, c.in-None.ensures.steps)), (c.loop-one.invariant.put clean, c.loop-one.invariant.ran clean))
 
 pub returns-in_err-put-clause-told : goal.returns-in_err-put-clause-told
 returns-in_err-put-clause-told g c clean was =
@@ -39,5 +44,13 @@ returns-in_err-put-clause-told g c clean was =
       c.in-Some.one,
       c.next.new.self,
       (c.loop-one.one-iterator, given, c.in-Some.ensures.steps),
-      record { before = c.loop-one.tx.conn.now; put = c.loop-one.invariant.put early; answered = (c.in_err-put.ensures.changes clean).told (c.loop-one.invariant.inside early was) },
+      record {
+        stops = record {
+          before = c.loop-one.tx.conn.now;
+          ran = c.loop-one.invariant.ran early;
+          answered = (c.in_err-put.ensures.changes clean).told (c.loop-one.invariant.inside early was);
+          left = c.put.ensures.survives;
+        };
+        put = c.loop-one.invariant.put early;
+      },
     )

@@ -1,6 +1,7 @@
-use Rattle.std.proofs.Common.{◌≡◌, true}
+use Rattle.std.proofs.Common.{◌≡◌, map, true}
 use Rattle.sqlite.specs.State.{HasCleanDisk, KeepsCommit, Survives}
-use Rattle.desk_store.specs.Puts.{PutsAll}
+use Rattle.desk_store.specs.Puts.{PutsAll, statement}
+use Rattle.desk_store.specs.Turns.{RunInTurn}
 use Rattle.sql_tables.specs.States.{seen}
 use Rattle.desk_store.proofs.put.put_all.Given as goal
 
@@ -15,4 +16,5 @@ invariant-loop-one g l =
       kept : HasCleanDisk now → KeepsCommit old now;
       inside : HasCleanDisk now → old.in_transaction ≡ true → now.in_transaction ≡ true;
       put : HasCleanDisk now → PutsAll l.yielded old now;
+      ran : HasCleanDisk now → RunInTurn g.S.Store (map statement l.yielded) l.fn.tx.conn.now l.tx.conn.now;
     }

@@ -16,7 +16,7 @@ returns-clause-answers g c clean =
     answers (λ xs. xs.items) g.T.TableRow.which g.T.TableRow.view (state g.S.Store c.args.conn.now) (state g.S.Store c.ask.new.conn) c.in_ok-rows.rows.items
     (rw c.query.ensures at (c.in_ok-rows.ensures.shown clean)) c.all_of.result
     (IfOk-weaker c.all_of.result _ _ (λ xs made. ap (map (given g.T.TableRow.which)) rows ∙ made) c.all_of.ensures.reads)
-    (λ all. c.all_of.ensures.kinds (subst (AllByRecursion (HasKinds (asked g.T.TableRow.which).kinds)) rows all)) c.all_of.ensures.not_lost
+    (λ all. c.all_of.ensures.kinds (subst (AllByRecursion (HasKinds (asked g.T.TableRow.which).kinds)) rows all)) c.all_of.ensures.not_lost c.all_of.ensures.utf8
 
 pub returns-in_err-rows-clause-answers : goal.returns-in_err-rows-clause-answers
 returns-in_err-rows-clause-answers g c clean =

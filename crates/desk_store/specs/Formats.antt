@@ -1,0 +1,46 @@
+-- The formats of a file, and which tables each has.
+use Rattle.std.specs.Prelude.{◌≡◌, Bool, true, false, ⊤}
+use Rattle.desk_store.specs.Described.{Which, books, tabs, paras, corrs, marks, caches, named_corrs}
+use Rattle.desk_store.specs.Layout.{Layout}
+use Rattle.desk_store.specs.Tables.{is_there}
+
+-- the layout has just those of our tables that the schema has by their names
+abbrev pub IsExact : Layout → Type 0
+IsExact l = (w : Which) → l.has w ≡ is_there l.schema w
+
+-- Entries of histories without names, and with them.
+pub data Format : Type 0 where
+  unnamed : Format
+  named : Format
+
+pub data Presence : Type 0 where
+  needed : Presence
+  optional : Presence
+  foreign : Presence
+
+-- A file without `cache` gets it when it is opened. `corr` may be left in a file that got names, where it isn't read.
+abbrev pub presence : Format → Which → Presence
+presence unnamed books = needed
+presence unnamed tabs = needed
+presence unnamed paras = needed
+presence unnamed corrs = needed
+presence unnamed marks = needed
+presence unnamed caches = optional
+presence unnamed named_corrs = foreign
+presence named books = needed
+presence named tabs = needed
+presence named paras = needed
+presence named corrs = optional
+presence named marks = needed
+presence named caches = optional
+presence named named_corrs = needed
+
+abbrev pub IsPresent : Presence → Bool → Type 0
+IsPresent needed there = there ≡ true
+IsPresent optional there = ⊤
+IsPresent foreign there = there ≡ false
+
+-- it has the tables of a file of this format, and those that it has it has as they are
+pub record IsOfFormat (format : Format) (l : Layout) : Type 0 where
+  pub exact : IsExact l
+  pub present : (w : Which) → IsPresent (presence format w) (l.has w)
