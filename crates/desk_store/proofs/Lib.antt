@@ -14,6 +14,7 @@ pub mod Named
 pub mod OneList
 pub mod PlainReads
 pub mod PutTables
+pub mod Reopening
 pub mod Schemas
 pub mod TabNames
 pub mod Turns

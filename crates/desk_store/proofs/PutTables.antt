@@ -18,7 +18,7 @@ use Rattle.sqlite_catalog.specs.Listing.{IsSound}
 use Rattle.sqlite.specs.State.{State, Executes}
 use Rattle.sqlite_tied.specs.Compute.{everything}
 use Rattle.desk_book.specs.declared.rows.BookRow.{BookRow}
-use Rattle.desk_book.specs.Rows.{Mark, Para}
+use Rattle.desk_book.specs.Rows.{Mark, Para, NamedCorr, Cached}
 use Rattle.sql_tables.specs.Rows.{HaveRowids, Lists, picked, set_where}
 use Rattle.sql_tables.specs.Tables.{IsDeclared, needed}
 use Rattle.sql_tables.proofs.ByRowid.{PutsByRowid, numbered_puts}
@@ -29,7 +29,7 @@ use Rattle.sql_tables.proofs.SetByRowid.{SetsByRowid, sets_by_rowid}
 use Rattle.sql_tables.proofs.Updating.{left_of, right_of, sets_in, test_in}
 use Rattle.sql_tables.proofs.Writing.{IsAdded, IsPut, Spares}
 use Rattle.desk_store.specs.Described.{Which, books, tabs, paras, corrs, marks, caches, named_corrs, described, table_of}
-use Rattle.desk_store.specs.Rows.{Cached, NamedCorr, RowOf, put_to, written}
+use Rattle.desk_store.specs.Rows.{RowOf, put_to, written}
 use Rattle.desk_store.specs.Puts.{at_version, flagged, moved, placed, printed, retabled, settled}
 use Rattle.desk_store.specs.declared.texts.TheConstants.{SET_FLAGS, SET_PLACE, SET_PRINT, SET_RESOLVED, SET_SPAN, SET_TABLE, SET_VERSION}
 use Rattle.desk_store.proofs.ByName.{tab_puts}

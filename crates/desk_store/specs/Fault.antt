@@ -1,5 +1,6 @@
 -- How an error of the database is told.
-use Rattle.std.specs.Prelude.{◌≡◌, ◌≢◌}
+use Rattle.std.specs.Prelude.{◌≡◌, ◌≢◌, ℕ, ⊤}
+use Rattle.sqlite_disk.specs.Disk.{MoreFaults}
 use Rattle.sqlite_trees.specs.declared.error.StoreError.{StoreError}
 use Rattle.sqlite_trees.specs.declared.error.StoreError.TheVariants.{OutOfMemory}
 use Rattle.sqlite.specs.declared.error.Error.{Error}
@@ -12,3 +13,9 @@ abbrev pub IsToldAs : Error → Fault → Type 0
 IsToldAs e NoMemory = e ≡ store_error OutOfMemory
 IsToldAs e Lost = (cause : StoreError) × (cause ≢ OutOfMemory) × (e ≡ store_error cause)
 IsToldAs e Refused = (cause : StoreError) → e ≢ store_error cause
+
+-- What a crash left is always a database, so a store that crashed isn't opened again only for want of memory, or where it counts a failure.
+abbrev pub FailsToReopen : ℕ → ℕ → Fault → Type 0
+FailsToReopen before after NoMemory = ⊤
+FailsToReopen before after Lost = MoreFaults before after
+FailsToReopen before after Refused = ⊥

@@ -1,24 +1,14 @@
 -- The rows of the tables, each as its columns.
-use Rattle.std.specs.Prelude.{List, [], ◌∷◌, bytes_eq, ℕ, ℤ}
+use Rattle.std.specs.Prelude.{List, [], ◌∷◌, bytes_eq}
 use Rattle.std.specs.Cmp.Lexicographic.{slice_cmp}
 use Rattle.std.specs.Ordering.{int_cmp, int_eq, nat_cmp, ordering_then}
 use Rattle.std.specs.declared.cmp.Ordering.{Ordering}
 use Rattle.sqlite_value.specs.declared.value.Value.TheVariants.{Int, Text, Blob}
 use Rattle.sqlite_value.specs.Order.{Row}
 use Rattle.desk_book.specs.declared.rows.BookRow.{BookRow}
-use Rattle.desk_book.specs.Rows.{Tab, StoredTab, Para, Corr, Mark}
+use Rattle.desk_book.specs.Rows.{Tab, StoredTab, Para, Corr, NamedCorr, Mark, Cached}
 use Rattle.sql_tables.specs.Rows.{put_in}
 use Rattle.desk_store.specs.Described.{Which, books, tabs, paras, corrs, marks, caches, named_corrs}
-
--- the cells of a paragraph, one mask a cell
-pub record Cached : Type 0 where
-  pub para : ℤ
-  pub cells : List ℕ
-
--- an entry of a history, and who made it
-pub record NamedCorr : Type 0 where
-  pub entry : Corr
-  pub who : List ℕ
 
 -- a row of a table
 abbrev pub RowOf : Which → Type 0

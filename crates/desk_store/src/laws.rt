@@ -9,7 +9,6 @@ ghost use Rattle.desk_store.specs.Formats.{IsExact};
 ghost use Rattle.desk_store.specs.Making.{Differ, IsNew, MakesTables, after, is_among, made, with_none, with_tables};
 ghost use Rattle.sql_tables.specs.Making.{KeepsAside};
 ghost use Rattle.desk_store.specs.States.{IsFile, IsUnder, Shows};
-ghost use Rattle.sql_tables.specs.States.{Leaves};
 ghost use Rattle.desk_store.specs.Rows.{shown};
 ghost use Rattle.sql_tables.specs.Rows.{Lists, picked};
 ghost use Rattle.desk_store.specs.Whole.{AreApart, AreRows, AreUtf8, HaveOwnRowids, HaveSameRows, IsUtf8Put, Rows, contents_of};
@@ -20,7 +19,7 @@ ghost use Rattle.sqlite_catalog.specs.Change.{KeepsRows};
 ghost use Rattle.sqlite_catalog.specs.Listing.{IsSound};
 ghost use Rattle.sqlite_schema.specs.declared.schema.Schema.{Schema};
 ghost use Rattle.sqlite_trees.specs.Tree.{Trees};
-ghost use Rattle.std.specs.Prelude.{IsTrue, List, false, true, ◌≡◌, ◌||◌, ◌↔◌, ◌⊎◌};
+ghost use Rattle.std.specs.Prelude.{IsTrue, List, false, true, ◌≡◌, ◌||◌, ◌↔◌};
 ghost use Rattle.std.specs.List.{AllByRecursion};
 ghost use Rattle.desk_store.specs.Puts.{with_puts};
 ghost use Rattle.desk_store.specs.Tables.{is_there};
@@ -41,10 +40,15 @@ pub fn one_file<S: Alter>(conn: &Connection<S>)
         → Shows l c (state S.Store conn.now) }
 {}
 
-/// A connection that opened at what a crash may leave of another one shows what that is, whatever stores they are over.
+/// A connection that opened at what a crash may leave of another one shows just that, so it has whatever property each outcome of the crash
+/// had, and it shows what these trees are, whatever stores they are over.
 pub fn found_again<S: Alter, T: Alter>(last: &Connection<S>, next: &Connection<T>)
-    ensures { (state S.Store last.now).may_leave (state T.Store next.now).committed.trees → Opens (state T.Store next.now) → IsLive (state T.Store next.now)
-        → (l : Layout) (c d : Contents) → Leaves (λ db. IsFile l c db ⊎ IsFile l d db) (state S.Store last.now) → Shows l c (state T.Store next.now) ⊎ Shows l d (state T.Store next.now) }
+    ensures left { (state S.Store last.now).may_leave (state T.Store next.now).committed.trees
+        → Opens (state T.Store next.now)
+        → (state S.Store last.now).may_leave (state T.Store next.now).now.trees }
+    ensures shows { Opens (state T.Store next.now) → IsLive (state T.Store next.now)
+        → (l : Layout) (c : Contents) → IsFile l c (state T.Store next.now).committed.trees
+        → Shows l c (state T.Store next.now) }
 {}
 
 /// A file has one contents, but for the order of the rows.
@@ -66,8 +70,10 @@ pub fn texts_as_written()
         → (w : Which) → l.has w ≡ true → AreReadable w (db (l.tree w)) }
     ensures rowids { (l : Layout) (c : Contents) (db : Trees) → IsFile l c db → (w : Which)
         → l.has w ≡ true → shows_rowid w ≡ true → HaveIntegerRowids (db (l.tree w)) }
-    ensures apart { (l : Layout) (c : Contents) (db : Trees) → IsFile l c db → l.has tabs ≡ true → (xs : List StoredTab)
-        → Lists (shown tabs) (picked (described tabs).shown) xs (db (l.tree tabs)) → HaveOwnRowids xs }
+    ensures apart { (l : Layout) (c : Contents) (db : Trees) → IsFile l c db → l.has tabs ≡ true
+        → (xs : List StoredTab)
+        → Lists (shown tabs) (picked (described tabs).shown) xs (db (l.tree tabs))
+        → HaveOwnRowids xs }
 {}
 
 /// A file where the tables were made keeps what the database keeps aside.
@@ -79,9 +85,14 @@ pub fn made_keeps()
 /// A connection in a transaction that shows a file, and that made tables there which the file lacks, shows the file with these, which have
 /// no rows; all other tables keep theirs, and so does what the database keeps aside.
 pub fn more_tables<S: Alter>(old: &Connection<S>, new: &Connection<S>)
-    ensures { (l : Layout) (c : Contents) (ws : List Which) (committed : Database) → Differ ws → IsUnder committed l c (state S.Store old.now) → MakesTables ws (state S.Store old.now) (state S.Store new.now)
-        → IsUnder committed (with_tables ws l) (with_none ws (state S.Store new.now).now.trees c) (state S.Store new.now)
-        × KeepsRows l.schema.tables (state S.Store old.now).now.trees (state S.Store new.now).now.trees × KeepsAside l.schema (state S.Store old.now).now.trees (state S.Store new.now).now.trees }
+    ensures { (l : Layout) (c : Contents) (ws : List Which) (committed : Database) → Differ ws
+        → IsUnder committed l c (state S.Store old.now)
+        → MakesTables ws (state S.Store old.now) (state S.Store new.now)
+        → IsUnder committed (with_tables ws l) (with_none ws (state S.Store new.now).now.trees c)
+        (state S.Store new.now)
+        × KeepsRows l.schema.tables (state S.Store old.now).now.trees
+        (state S.Store new.now).now.trees
+        × KeepsAside l.schema (state S.Store old.now).now.trees (state S.Store new.now).now.trees }
 {}
 
 /// Texts in UTF-8 that are put leave the texts of a file in UTF-8.

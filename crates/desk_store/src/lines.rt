@@ -4,12 +4,14 @@
 //! number and the values stand behind it: `place 1 20` moves a paragraph. `version 8` sets the book's version. Words stand apart by one
 //! space, and `_` is a text with no character. `corr` is a row of the table `corr2`, and `older` one of `corr`.
 
-use crate::rows::{CacheRow, NamedCorrRow, Put};
+use crate::rows::Put;
 use crate::{
     Table, has_table, read_books, read_caches, read_corrs, read_marks, read_named_corrs,
     read_paras, read_tabs,
 };
-use desk_book::rows::{BookRow, CorrRow, MarkRow, ParaRow, StoredTab, TabRow};
+use desk_book::rows::{
+    BookRow, CacheRow, CorrRow, MarkRow, NamedCorrRow, ParaRow, StoredTab, TabRow,
+};
 use sqlite::{Alter, Connection};
 use std::alloc::Global;
 use std::fmt::{self, Write};

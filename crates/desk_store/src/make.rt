@@ -39,7 +39,8 @@ fn create<S: Alter>(tx: &mut Transaction<'_, S>, table: Table) -> Result<(), Err
     ensures inside { HasCleanDisk (seen S.Store tx.new)
         → OnOk result ((seen S.Store tx.new).in_transaction ≡ true) }
     ensures told { HasCleanDisk (seen S.Store tx.new) → (seen S.Store tx.old).in_transaction ≡ true
-        → IfErr result (Failed (creation (which table)) (seen S.Store tx.old) (seen S.Store tx.new)) }
+        → IfErr result (Failed (creation (which table)) (seen S.Store tx.old)
+        (seen S.Store tx.new)) }
     ensures kept { HasCleanDisk (seen S.Store tx.new)
         → KeepsCommit (seen S.Store tx.old) (seen S.Store tx.new) }
     ensures survives { Survives (seen S.Store tx.old) (seen S.Store tx.new) (λ _. ⊥) }
@@ -60,7 +61,8 @@ pub(crate) fn create_all<S: Alter>(
         → (seen S.Store tx.old).in_transaction ≡ true
         → OnOk result ((seen S.Store tx.new).in_transaction ≡ true) }
     ensures told { HasCleanDisk (seen S.Store tx.new) → (seen S.Store tx.old).in_transaction ≡ true
-        → IfErr result (StopsMaking S.Store (map which tables.now) tx.old.conn.now (seen S.Store tx.new)) }
+        → IfErr result (StopsMaking S.Store (map which tables.now) tx.old.conn.now
+        (seen S.Store tx.new)) }
     ensures kept { HasCleanDisk (seen S.Store tx.new)
         → KeepsCommit (seen S.Store tx.old) (seen S.Store tx.new) }
     ensures survives { Survives (seen S.Store tx.old) (seen S.Store tx.new) (λ _. ⊥) }
@@ -104,7 +106,8 @@ pub fn make_tables<S: Alter>(conn: &mut Connection<S>) -> Result<(), Error>
     ensures free { HasCleanDisk (state S.Store conn.new)
         → OnOk result (AreAbsent (state S.Store conn.old).now.schema) }
     ensures made { HasCleanDisk (state S.Store conn.new) → IsLive (state S.Store conn.old)
-        → OnOk result (IsNew (state S.Store conn.old).now.schema (state S.Store conn.old).now.trees (λ c. Shows (made (state S.Store conn.old).now.schema) c (state S.Store conn.new))) }
+        → OnOk result (IsNew (state S.Store conn.old).now.schema (state S.Store conn.old).now.trees
+        (λ c. Shows (made (state S.Store conn.old).now.schema) c (state S.Store conn.new))) }
     ensures open { HasCleanDisk (state S.Store conn.new)
         → OnOk result (IsCommitted (state S.Store conn.new)) }
     // In any file, at `Ok` the connection shows what the statements made of it in turn.
@@ -118,12 +121,14 @@ pub fn make_tables<S: Alter>(conn: &mut Connection<S>) -> Result<(), Error>
         → OnOk result (IsSettled (state S.Store conn.new)) }
     // The error is what the database answered to one of the statements or to the commit.
     ensures told { HasCleanDisk (state S.Store conn.new)
-        → IfErr result (FailsToChange S.Store new_tables (of_first_row S.Store) (begun conn.old) (state S.Store conn.new)) }
+        → IfErr result (FailsToChange S.Store new_tables (of_first_row S.Store) (begun conn.old)
+        (state S.Store conn.new)) }
     ensures undone { HasCleanDisk (state S.Store conn.new)
         → OnErr result (IsUndone (state S.Store conn.old) (state S.Store conn.new)) }
     // After a refusal a crash leaves nothing new.
     ensures refused { HasCleanDisk (state S.Store conn.new)
-        → IfErr result (λ e. IsToldAs e Fault.Refused → Survives (state S.Store conn.old) (state S.Store conn.new) (λ _. ⊥)) }
+        → IfErr result (λ e. IsToldAs e Fault.Refused
+        → Survives (state S.Store conn.old) (state S.Store conn.new) (λ _. ⊥)) }
 {
     let mut tx = conn.transaction();
     create_all(&mut tx, &NEW_TABLES)?;

@@ -70,7 +70,8 @@ pub(crate) fn put_row<T: PutRow, S: Alter>(
 ) -> Result<(), Error>
     ensures same_reference { tx.new.conn.ghost_name ≡ tx.old.conn.ghost_name }
     ensures changes { HasCleanDisk (seen S.Store tx.new)
-        → Changes result (row_put T.which (T.own row.now)) T.which (with_row T.which (T.own row.now)) (seen S.Store tx.old) (seen S.Store tx.new) }
+        → Changes result (row_put T.which (T.own row.now)) T.which (with_row T.which
+        (T.own row.now)) (seen S.Store tx.old) (seen S.Store tx.new) }
     ensures survives { Survives (seen S.Store tx.old) (seen S.Store tx.new) (λ _. ⊥) }
 {
     row.execute(tx)
@@ -97,7 +98,8 @@ fn set_flags<S: Alter>(
 ) -> Result<(), Error>
     ensures same_reference { tx.new.conn.ghost_name ≡ tx.old.conn.ghost_name }
     ensures changes { HasCleanDisk (seen S.Store tx.new)
-        → IsPut result (Put.Flags id style volume struck) (seen S.Store tx.old) (seen S.Store tx.new) }
+        → IsPut result (Put.Flags id style volume struck) (seen S.Store tx.old)
+        (seen S.Store tx.new) }
     ensures survives { Survives (seen S.Store tx.old) (seen S.Store tx.new) (λ _. ⊥) }
 {
     let columns = four_numbers(id, style, volume, struck);
@@ -136,7 +138,8 @@ fn set_span<S: Alter>(
 ) -> Result<(), Error>
     ensures same_reference { tx.new.conn.ghost_name ≡ tx.old.conn.ghost_name }
     ensures changes { HasCleanDisk (seen S.Store tx.new)
-        → IsPut result (Put.Span id start stop touched) (seen S.Store tx.old) (seen S.Store tx.new) }
+        → IsPut result (Put.Span id start stop touched) (seen S.Store tx.old)
+        (seen S.Store tx.new) }
     ensures survives { Survives (seen S.Store tx.old) (seen S.Store tx.new) (λ _. ⊥) }
 {
     let columns = four_numbers(id, start, stop, touched);
@@ -208,12 +211,14 @@ pub(crate) fn put_all<'a, S: Alter, I: Iterator<Item = Put<'a>> + Drop>(
     requires ends { IsFinite (I.remaining puts) }
     ensures same_reference { tx.new.conn.ghost_name ≡ tx.old.conn.ghost_name }
     ensures put { HasCleanDisk (seen S.Store tx.new)
-        → OnOk result (OfItems I.next_gives puts (λ xs. ArePut S.Store xs tx.old.conn.now tx.new.conn.now)) }
+        → OnOk result (OfItems I.next_gives puts
+        (λ xs. ArePut S.Store xs tx.old.conn.now tx.new.conn.now)) }
     ensures inside { HasCleanDisk (seen S.Store tx.new)
         → (seen S.Store tx.old).in_transaction ≡ true
         → OnOk result ((seen S.Store tx.new).in_transaction ≡ true) }
     ensures told { HasCleanDisk (seen S.Store tx.new) → (seen S.Store tx.old).in_transaction ≡ true
-        → IfErr result ((of_items S.Store I.next_gives puts).stops tx.old.conn.now (seen S.Store tx.new)) }
+        → IfErr result ((of_items S.Store I.next_gives puts).stops tx.old.conn.now
+        (seen S.Store tx.new)) }
     ensures kept { HasCleanDisk (seen S.Store tx.new)
         → KeepsCommit (seen S.Store tx.old) (seen S.Store tx.new) }
     ensures survives { Survives (seen S.Store tx.old) (seen S.Store tx.new) (λ _. ⊥) }

@@ -21,8 +21,7 @@ ghost use Rattle.desk_store.specs.Whole.{HaveOwnRowids, IsUtf8Row};
 
 use crate::fault::Fault;
 use crate::row::TableRow;
-use crate::rows::{CacheRow, NamedCorrRow};
-use desk_book::rows::{BookRow, CorrRow, MarkRow, ParaRow, StoredTab};
+use desk_book::rows::{BookRow, CacheRow, CorrRow, MarkRow, NamedCorrRow, ParaRow, StoredTab};
 use sqlite::{Alter, Connection, Row};
 use std::alloc::{AllocError, Global};
 use std::collections::BTreeSet;
@@ -30,9 +29,12 @@ use std::collections::BTreeSet;
 /// The rows that a query shows.
 fn ask<S: Alter>(conn: &mut Connection<S>, sql: &str) -> Result<Vec<Row>, Fault>
     ensures shown { HasCleanDisk (state S.Store conn.new)
-        → IfOk result (λ rows. Shown sql.now [] (state S.Store conn.old) (state S.Store conn.new) rows.items) }
+        → IfOk result (λ rows. Shown sql.now [] (state S.Store conn.old)
+        (state S.Store conn.new) rows.items) }
     ensures failed { HasCleanDisk (state S.Store conn.new)
-        → IfErr result (λ fault. (e : Failure) × FailsToQuery sql.now [] (state S.Store conn.old) (state S.Store conn.new) e × IsToldAs e fault) }
+        → IfErr result (λ fault. (e : Failure)
+        × FailsToQuery sql.now [] (state S.Store conn.old) (state S.Store conn.new) e
+        × IsToldAs e fault) }
     ensures mode { conn.old.in_transaction ≡ false → conn.new.in_transaction ≡ false }
     ensures survives { Survives (state S.Store conn.old) (state S.Store conn.new) (CommitsShowing sql.now [] (state S.Store conn.old)) }
 {
@@ -44,11 +46,13 @@ fn ask<S: Alter>(conn: &mut Connection<S>, sql: &str) -> Result<Vec<Row>, Fault>
 
 /// Each of the rows, in turn.
 fn all_of<T: TableRow>(alloc: Global, rows: &[Row]) -> Result<Vec<T>, Fault>
-    ensures reads { IfOk result (λ xs. map (given T.which) rows.now ≡ map (λ x. shown T.which (T.view x)) xs.items) }
+    ensures reads { IfOk result (λ xs. map (given T.which) rows.now ≡ map (λ x. shown T.which
+        (T.view x)) xs.items) }
     ensures kinds { AllByRecursion (HasKinds (asked T.which).kinds) rows.now
         → IfErr result (λ fault. fault ≡ Fault.NoMemory) }
     ensures not_lost { IfErr result (λ fault. fault ≢ Fault.Lost) }
-    ensures utf8 { IfOk result (λ xs. AllByRecursion (λ x. IsUtf8Row T.which (own T.which (T.view x))) xs.items) }
+    ensures utf8 { IfOk result (λ xs. AllByRecursion (λ x. IsUtf8Row T.which (own T.which
+        (T.view x))) xs.items) }
 {
     let mut all = Vec::new(alloc);
     for row in rows {
@@ -63,7 +67,8 @@ fn all_of<T: TableRow>(alloc: Global, rows: &[Row]) -> Result<Vec<T>, Fault>
 /// The rows of a table, in order.
 fn read_all<T: TableRow, S: Alter>(alloc: Global, conn: &mut Connection<S>) -> Result<Vec<T>, Fault>
     ensures answers { HasCleanDisk (state S.Store conn.new)
-        → AnswersRows result (λ xs. xs.items) T.which T.view AnyRows (state S.Store conn.old) (state S.Store conn.new) }
+        → AnswersRows result (λ xs. xs.items) T.which T.view AnyRows (state S.Store conn.old)
+        (state S.Store conn.new) }
     ensures mode { conn.old.in_transaction ≡ false → conn.new.in_transaction ≡ false }
     ensures survives { Survives (state S.Store conn.old) (state S.Store conn.new) (λ _. ⊥) }
 {
@@ -74,7 +79,8 @@ fn read_all<T: TableRow, S: Alter>(alloc: Global, conn: &mut Connection<S>) -> R
 /// The rows of `book`, in order of their ids.
 pub fn read_books<S: Alter>(alloc: Global, conn: &mut Connection<S>) -> Result<Vec<BookRow>, Fault>
     ensures answers { HasCleanDisk (state S.Store conn.new)
-        → AnswersRows result (λ xs. xs.items) books (λ x. x) AnyRows (state S.Store conn.old) (state S.Store conn.new) }
+        → AnswersRows result (λ xs. xs.items) books (λ x. x) AnyRows (state S.Store conn.old)
+        (state S.Store conn.new) }
     ensures mode { conn.old.in_transaction ≡ false → conn.new.in_transaction ≡ false }
     ensures survives { Survives (state S.Store conn.old) (state S.Store conn.new) (λ _. ⊥) }
 {
@@ -83,7 +89,8 @@ pub fn read_books<S: Alter>(alloc: Global, conn: &mut Connection<S>) -> Result<V
 
 /// Whether no two braille tables have the same rowid.
 fn have_own_rowids(alloc: Global, tabs: &[StoredTab]) -> Result<bool, AllocError>
-    ensures { IfOk result (λ apart. MatchBool apart (HaveOwnRowids tabs.now) (¬ HaveOwnRowids tabs.now)) }
+    ensures { IfOk result (λ apart. MatchBool apart (HaveOwnRowids tabs.now)
+        (¬ HaveOwnRowids tabs.now)) }
 {
     let mut seen = BTreeSet::new(alloc);
     for tab in tabs {
@@ -98,7 +105,8 @@ fn have_own_rowids(alloc: Global, tabs: &[StoredTab]) -> Result<bool, AllocError
 /// view shows them, they are refused.
 pub fn read_tabs<S: Alter>(alloc: Global, conn: &mut Connection<S>) -> Result<Vec<StoredTab>, Fault>
     ensures answers { HasCleanDisk (state S.Store conn.new)
-        → AnswersRows result (λ xs. xs.items) tabs (λ x. x) HaveOwnRowids (state S.Store conn.old) (state S.Store conn.new) }
+        → AnswersRows result (λ xs. xs.items) tabs (λ x. x) HaveOwnRowids (state S.Store conn.old)
+        (state S.Store conn.new) }
     ensures mode { conn.old.in_transaction ≡ false → conn.new.in_transaction ≡ false }
     ensures survives { Survives (state S.Store conn.old) (state S.Store conn.new) (λ _. ⊥) }
 {
@@ -113,7 +121,8 @@ pub fn read_tabs<S: Alter>(alloc: Global, conn: &mut Connection<S>) -> Result<Ve
 /// The paragraphs, in order of their ids.
 pub fn read_paras<S: Alter>(alloc: Global, conn: &mut Connection<S>) -> Result<Vec<ParaRow>, Fault>
     ensures answers { HasCleanDisk (state S.Store conn.new)
-        → AnswersRows result (λ xs. xs.items) paras (λ x. x) AnyRows (state S.Store conn.old) (state S.Store conn.new) }
+        → AnswersRows result (λ xs. xs.items) paras (λ x. x) AnyRows (state S.Store conn.old)
+        (state S.Store conn.new) }
     ensures mode { conn.old.in_transaction ≡ false → conn.new.in_transaction ≡ false }
     ensures survives { Survives (state S.Store conn.old) (state S.Store conn.new) (λ _. ⊥) }
 {
@@ -123,7 +132,8 @@ pub fn read_paras<S: Alter>(alloc: Global, conn: &mut Connection<S>) -> Result<V
 /// The entries of the histories, in order of their paragraphs and numbers.
 pub fn read_corrs<S: Alter>(alloc: Global, conn: &mut Connection<S>) -> Result<Vec<CorrRow>, Fault>
     ensures answers { HasCleanDisk (state S.Store conn.new)
-        → AnswersRows result (λ xs. xs.items) corrs (λ x. x) AnyRows (state S.Store conn.old) (state S.Store conn.new) }
+        → AnswersRows result (λ xs. xs.items) corrs (λ x. x) AnyRows (state S.Store conn.old)
+        (state S.Store conn.new) }
     ensures mode { conn.old.in_transaction ≡ false → conn.new.in_transaction ≡ false }
     ensures survives { Survives (state S.Store conn.old) (state S.Store conn.new) (λ _. ⊥) }
 {
@@ -133,7 +143,8 @@ pub fn read_corrs<S: Alter>(alloc: Global, conn: &mut Connection<S>) -> Result<V
 /// The marks, in order of their ids.
 pub fn read_marks<S: Alter>(alloc: Global, conn: &mut Connection<S>) -> Result<Vec<MarkRow>, Fault>
     ensures answers { HasCleanDisk (state S.Store conn.new)
-        → AnswersRows result (λ xs. xs.items) marks (λ x. x) AnyRows (state S.Store conn.old) (state S.Store conn.new) }
+        → AnswersRows result (λ xs. xs.items) marks (λ x. x) AnyRows (state S.Store conn.old)
+        (state S.Store conn.new) }
     ensures mode { conn.old.in_transaction ≡ false → conn.new.in_transaction ≡ false }
     ensures survives { Survives (state S.Store conn.old) (state S.Store conn.new) (λ _. ⊥) }
 {
@@ -146,7 +157,8 @@ pub fn read_caches<S: Alter>(
     conn: &mut Connection<S>,
 ) -> Result<Vec<CacheRow>, Fault>
     ensures answers { HasCleanDisk (state S.Store conn.new)
-        → AnswersRows result (λ xs. xs.items) caches (λ x. x) AnyRows (state S.Store conn.old) (state S.Store conn.new) }
+        → AnswersRows result (λ xs. xs.items) caches (λ x. x) AnyRows (state S.Store conn.old)
+        (state S.Store conn.new) }
     ensures mode { conn.old.in_transaction ≡ false → conn.new.in_transaction ≡ false }
     ensures survives { Survives (state S.Store conn.old) (state S.Store conn.new) (λ _. ⊥) }
 {
@@ -159,7 +171,8 @@ pub fn read_named_corrs<S: Alter>(
     conn: &mut Connection<S>,
 ) -> Result<Vec<NamedCorrRow>, Fault>
     ensures answers { HasCleanDisk (state S.Store conn.new)
-        → AnswersRows result (λ xs. xs.items) named_corrs (λ x. x) AnyRows (state S.Store conn.old) (state S.Store conn.new) }
+        → AnswersRows result (λ xs. xs.items) named_corrs (λ x. x) AnyRows (state S.Store conn.old)
+        (state S.Store conn.new) }
     ensures mode { conn.old.in_transaction ≡ false → conn.new.in_transaction ≡ false }
     ensures survives { Survives (state S.Store conn.old) (state S.Store conn.new) (λ _. ⊥) }
 {

@@ -14,12 +14,13 @@ ghost use Rattle.desk_store.specs.Whole.{IsUtf8Row};
 
 use crate::fault::Fault;
 use crate::put::run;
-use crate::rows::{CacheRow, NamedCorrRow};
 use crate::texts::{
     PUT_BOOK, PUT_CACHE, PUT_MARK, PUT_NAMED_CORR, PUT_PARA, PUT_TAB, READ_BOOKS, READ_CACHES,
     READ_CORRS, READ_MARKS, READ_NAMED_CORRS, READ_PARAS, READ_TABS,
 };
-use desk_book::rows::{BookRow, CorrRow, MarkRow, ParaRow, StoredTab, TabRow};
+use desk_book::rows::{
+    BookRow, CacheRow, CorrRow, MarkRow, NamedCorrRow, ParaRow, StoredTab, TabRow,
+};
 use sqlite::types::{FromSql, ToSql, ValueRef};
 use sqlite::{Alter, Error, Row, Transaction};
 
@@ -68,7 +69,8 @@ pub(crate) trait PutRow {
         ensures same_reference { tx.new.conn.ghost_name ≡ tx.old.conn.ghost_name }
         ensures written { (described which).is_written ≡ true }
         ensures runs { HasCleanDisk (seen S.Store tx.new)
-            → RunsTo result (described which).put (written which (own self.now)) (seen S.Store tx.old) (seen S.Store tx.new) }
+            → RunsTo result (described which).put (written which (own self.now))
+            (seen S.Store tx.old) (seen S.Store tx.new) }
         ensures survives { Survives (seen S.Store tx.old) (seen S.Store tx.new) (λ _. ⊥) };
 }
 

@@ -1,40 +1,6 @@
-//! The rows of `cache` and `corr2`, and what is put into a file.
+//! What is put into a file.
 
-ghost use Rattle.std.specs.Prelude.{string_bytes};
-ghost use Rattle.desk_store.specs.Rows.{Cached, NamedCorr};
-
-use desk_book::rows::{BookRow, CorrRow, MarkRow, ParaRow, TabRow};
-use std::marker::Model;
-
-/// A row of `cache`: the braille of a paragraph.
-#[derive(Drop)]
-pub struct CacheRow {
-    /// The paragraph's id, which is the key.
-    pub para: i64,
-    /// Its cells, one mask a cell.
-    pub cells: Vec<u8>,
-}
-
-impl Model for CacheRow {
-    ghost Value = { Cached };
-
-    ghost view = { λ r. record { para = r.para; cells = r.cells.items } };
-}
-
-/// A row of `corr2`: an entry of a paragraph's history, and who made it.
-#[derive(Drop)]
-pub struct NamedCorrRow {
-    /// The entry. Its paragraph and its number are the key.
-    pub entry: CorrRow,
-    /// The proofreader's name, or nothing.
-    pub who: String,
-}
-
-impl Model for NamedCorrRow {
-    ghost Value = { NamedCorr };
-
-    ghost view = { λ r. record { entry = r.entry; who = string_bytes r.who } };
-}
+use desk_book::rows::{BookRow, CacheRow, MarkRow, NamedCorrRow, ParaRow, TabRow};
 
 /// A row that is added, or replaces the one with its key, or columns of a row that is there, which the row with that key gets.
 #[derive(Clone, Copy)]

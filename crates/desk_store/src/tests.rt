@@ -289,7 +289,10 @@ fn list_after_crash(
 ) -> Result<String, Fail>
     requires { conn.in_transaction ≡ false }
 {
-    let (answer, mut again) = reopen_after_write(alloc, conn, puts.iter().copied())?;
+    let (answer, mut again) = reopen_after_write(alloc, conn, puts.iter().copied()).map_err(|(
+        fault,
+        _,
+    )| fault)?;
     list_after(alloc, &mut again, answer)
 }
 

@@ -31,26 +31,32 @@ pub fn write<'a, S: Alter, I: Iterator<Item = Put<'a>> + Drop>(
     requires ends { IsFinite (I.remaining puts) }
     ensures idle { conn.new.in_transaction ≡ false }
     ensures written { HasCleanDisk (state S.Store conn.new)
-        → OnOk result (OfItems I.next_gives puts (λ xs. Writes xs (state S.Store conn.old) (state S.Store conn.new))) }
+        → OnOk result (OfItems I.next_gives puts (λ xs. Writes xs (state S.Store conn.old)
+        (state S.Store conn.new))) }
     ensures open { HasCleanDisk (state S.Store conn.new)
         → OnOk result (IsCommitted (state S.Store conn.new)) }
     // In any file, at `Ok` the connection shows what the statements made of it in turn.
     ensures ran { HasCleanDisk (state S.Store conn.new)
-        → OnOk result (OfItems I.next_gives puts (λ xs. AreRun S.Store (map statement xs) conn.old (state S.Store conn.new))) }
+        → OnOk result (OfItems I.next_gives puts (λ xs. AreRun S.Store (map statement xs) conn.old
+        (state S.Store conn.new))) }
     // Of a crash at any exit: nothing new is left but all of it.
-    ensures crash { Survives (state S.Store conn.old) (state S.Store conn.new) (λ db. OfItems I.next_gives puts (λ xs.
-        IsFileWith xs (state S.Store conn.old) db × IsLeftBy S.Store (map statement xs) conn.old db)) }
+    ensures crash { Survives (state S.Store conn.old) (state S.Store conn.new)
+        (λ db. OfItems I.next_gives puts (λ xs.
+        IsFileWith xs (state S.Store conn.old) db
+        × IsLeftBy S.Store (map statement xs) conn.old db)) }
     // At `Ok` it leaves the trees that the connection shows.
     ensures settled { HasCleanDisk (state S.Store conn.new)
         → OnOk result (IsSettled (state S.Store conn.new)) }
     // The error is what the database answered to one of the statements or to the commit.
     ensures told { HasCleanDisk (state S.Store conn.new)
-        → IfErr result (FailsToPut S.Store (of_items S.Store I.next_gives puts) (begun conn.old) (state S.Store conn.new)) }
+        → IfErr result (FailsToPut S.Store (of_items S.Store I.next_gives puts) (begun conn.old)
+        (state S.Store conn.new)) }
     ensures undone { HasCleanDisk (state S.Store conn.new)
         → OnErr result (IsUndone (state S.Store conn.old) (state S.Store conn.new)) }
     // After a refusal a crash leaves nothing new.
     ensures refused { HasCleanDisk (state S.Store conn.new)
-        → IfErr result (λ e. IsToldAs e Fault.Refused → Survives (state S.Store conn.old) (state S.Store conn.new) (λ _. ⊥)) }
+        → IfErr result (λ e. IsToldAs e Fault.Refused
+        → Survives (state S.Store conn.old) (state S.Store conn.new) (λ _. ⊥)) }
 {
     let mut tx = conn.transaction();
     put_all(&mut tx, puts)?;
@@ -73,14 +79,17 @@ pub fn write_with_tables<'a, S: Alter, I: Iterator<Item = Put<'a>> + Drop>(
     requires ends { IsFinite (I.remaining puts) }
     ensures idle { conn.new.in_transaction ≡ false }
     ensures written { HasCleanDisk (state S.Store conn.new)
-        → OnOk result (OfItems I.next_gives puts (λ xs. WritesWithTables (map which tables.now) xs (state S.Store conn.old) (state S.Store conn.new))) }
+        → OnOk result (OfItems I.next_gives puts (λ xs. WritesWithTables (map which tables.now) xs
+        (state S.Store conn.old) (state S.Store conn.new))) }
     ensures open { HasCleanDisk (state S.Store conn.new)
         → OnOk result (IsCommitted (state S.Store conn.new)) }
     // In any file, at `Ok` the connection shows what the statements made of it in turn.
-    ensures ran { HasCleanDisk (state S.Store conn.new) → OnOk result (OfItems I.next_gives puts (λ xs.
+    ensures ran { HasCleanDisk (state S.Store conn.new)
+        → OnOk result (OfItems I.next_gives puts (λ xs.
         AreRun S.Store (map creation (map which tables.now) ++ map statement xs) conn.old (state S.Store conn.new))) }
     // Of a crash at any exit: nothing new is left but all of it.
-    ensures crash { Survives (state S.Store conn.old) (state S.Store conn.new) (λ db. OfItems I.next_gives puts (λ xs.
+    ensures crash { Survives (state S.Store conn.old) (state S.Store conn.new)
+        (λ db. OfItems I.next_gives puts (λ xs.
         IsFileWithTables (map which tables.now) xs (state S.Store conn.old) db
         × IsLeftBy S.Store (map creation (map which tables.now) ++ map statement xs) conn.old db)) }
     // At `Ok` it leaves the trees that the connection shows.
@@ -88,12 +97,14 @@ pub fn write_with_tables<'a, S: Alter, I: Iterator<Item = Put<'a>> + Drop>(
         → OnOk result (IsSettled (state S.Store conn.new)) }
     // The error is what the database answered to one of the statements or to the commit.
     ensures told { HasCleanDisk (state S.Store conn.new)
-        → IfErr result (FailsToChange S.Store (map which tables.now) (of_items S.Store I.next_gives puts) (begun conn.old) (state S.Store conn.new)) }
+        → IfErr result (FailsToChange S.Store (map which tables.now)
+        (of_items S.Store I.next_gives puts) (begun conn.old) (state S.Store conn.new)) }
     ensures undone { HasCleanDisk (state S.Store conn.new)
         → OnErr result (IsUndone (state S.Store conn.old) (state S.Store conn.new)) }
     // After a refusal a crash leaves nothing new.
     ensures refused { HasCleanDisk (state S.Store conn.new)
-        → IfErr result (λ e. IsToldAs e Fault.Refused → Survives (state S.Store conn.old) (state S.Store conn.new) (λ _. ⊥)) }
+        → IfErr result (λ e. IsToldAs e Fault.Refused
+        → Survives (state S.Store conn.old) (state S.Store conn.new) (λ _. ⊥)) }
 {
     let mut both = conn.transaction();
     create_all(&mut both, tables)?;
