@@ -1,8 +1,9 @@
 -- Cells and their bytes.
-use Rattle.std.proofs.Common.{◌≡◌, ℕ, zero, suc, ◌≤◌, ◌⊎◌, inl, inr, List, [], ◌∷◌, ◌++◌, length, take, Option, Some, None, refl, sym, ap, ◌∙◌, arith}
-use Rattle.std.specs.Prelude.{map, replicate, All, slice_index}
+use Rattle.std.proofs.Common.{◌≡◌, ℕ, zero, suc, ◌-◌, ◌<◌, ◌≤◌, ◌⊎◌, Bool, true, false, ◌&&◌, inl, inr, List, [], ◌∷◌, ◌++◌, length, take, Option, Some, None, refl, sym, ap, ◌∙◌, arith}
+use Rattle.std.specs.Prelude.{map, replicate, All, IfSome, is_some, nat_lt, slice_get, slice_index}
+use Rattle.std.proofs.lemmas.Bool.{both_ways, cases_lt, cond-false, le-ltb, lt-ltb}
 use Rattle.std.proofs.lemmas.List.{map-append}
-use Rattle.cell_core.specs.Ascii.{ascii_cell}
+use Rattle.cell_core.specs.Ascii.{ascii_cell, ascii_masks}
 use Rattle.cell_core.specs.Cell.{HasDot}
 use Rattle.cell_core.proofs.AsciiLaws.{ascii_bytes, ascii_cell-bytes, same_byte}
 use Rattle.desk_brf.specs.Placing.{IsAscii}
@@ -66,6 +67,41 @@ ascii-text (cell ∷ cells) all =
 pub six_dots-none : (cell : ℕ) → IsSixDot cell → HasDot cell 7 ⊎ HasDot cell 8 → ⊥
 six_dots-none cell small (inl h) = omega (arith, small, h)
 six_dots-none cell small (inr h) = omega (arith, small, h)
+
+below : List ℕ → Bool
+below [] = true
+below (x ∷ xs) = nat_lt x 64 && below xs
+
+both : (a b : Bool) → (a && b) ≡ true → (a ≡ true) × (b ≡ true)
+both true b e = (refl, e)
+both false b e = absurd cc
+
+below-at : (xs : List ℕ) → below xs ≡ true → (k x : ℕ) → slice_get xs k ≡ Some x → x < 64
+unfolding below
+below-at [] all k x e = cc
+below-at (y ∷ xs) all zero x e =
+    let same : y ≡ x = cc in
+    elim (cases_lt x 64) [
+      | inl lt ↦ lt
+      | inr le ↦ absurd (both_ways (nat_lt x 64) (le-ltb x 64 le) (ap (λ n. nat_lt n 64) (sym same) ∙ (both _ _ all).0))
+    ]
+below-at (y ∷ xs) all (suc k) x e = below-at xs (both _ _ all).1 k x e
+
+masks-below : below ascii_masks ≡ true
+unfolding below
+masks-below = refl
+
+-- the cell of a byte is one of six dots
+six_dots-byte : (byte cell : ℕ) → ascii_cell byte ≡ Some cell → IsSixDot cell
+six_dots-byte byte cell e =
+    elim (cases_lt byte 32) [
+      | inl lt ↦ let h = rw (lt-ltb byte 32 lt) at e in absurd cc
+      | inr le ↦ below-at ascii_masks masks-below (byte - 32) cell (sym (cond-false _ _ _ (le-ltb byte 32 le)) ∙ e)
+    ]
+
+pub six_dots-some : (cell : ℕ) (byte : Option ℕ) → is_some byte ≡ true → IfSome byte (λ b. ascii_cell b ≡ Some cell) → IsSixDot cell
+six_dots-some cell None there h = cc
+six_dots-some cell (Some byte) there h = six_dots-byte byte cell h
 
 pub length_take : (n : ℕ) (cells : List ℕ) → n ≤ length cells → length (take n cells) ≡ n
 length_take zero cells le = refl

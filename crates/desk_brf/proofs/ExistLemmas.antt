@@ -32,7 +32,7 @@ module _ (P : ℕ → Type 0) where
   all_nil : All P []
   all_nil k d lt = absurd (omega (arith, lt))
 
-  onto : (cell : ℕ) (parts : List (List ℕ)) → P cell → AllByRecursion (All P) parts → AllByRecursion (All P) (onto_first cell parts)
+  pub onto : (cell : ℕ) (parts : List (List ℕ)) → P cell → AllByRecursion (All P) parts → AllByRecursion (All P) (onto_first cell parts)
   onto cell [] h all = (all_cons cell [] h all_nil, tt)
   onto cell (part ∷ parts) h all = (all_cons cell part h all.0, all.1)
 
@@ -45,7 +45,7 @@ module _ (P : ℕ → Type 0) where
         | inr e ↦ rw e (onto cell (slice_split is_blank cells) (all 0 0 (omega arith)) rest)
       ]
 
-  words_of_parts : (parts : List (List ℕ)) → AllByRecursion (All P) parts → AreWords P (filter has_cells parts)
+  pub words_of_parts : (parts : List (List ℕ)) → AllByRecursion (All P) parts → AreWords P (filter has_cells parts)
   words_of_parts [] all = tt
   words_of_parts ([] ∷ parts) all = words_of_parts parts all.1
   words_of_parts ((c ∷ cs) ∷ parts) all = ((omega arith, all.0), words_of_parts parts all.1)

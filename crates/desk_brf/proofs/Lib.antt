@@ -6,3 +6,11 @@ pub mod PlacingLemmas
 pub mod ExistLemmas
 pub mod PutLemmas
 pub mod ParagraphLemmas
+pub mod VolumeLemmas
+pub mod PageLemmas
+pub mod CellBounds
+pub mod PuttingLemmas
+pub mod CheckLemmas
+pub mod OneVolume
+pub mod WholeWords
+pub mod EachLine

@@ -99,7 +99,7 @@ line-one room words p l q m (IsLine.whole f filled fits full) (IsLine.whole f' f
         let over = full' next (more ++ l) h in let k = joined-more q next more filled' in
         let e = ap (λ (ps : List (List ℕ)). length (joined ps)) g in absurd (omega (arith, over, k, e, fits))
 
-text-one : (indent : ℕ) (p q : List (List ℕ)) (x y : List ℕ) → p ≡ q → IsText indent p x → IsText indent q y → x ≡ y
+pub text-one : (indent : ℕ) (p q : List (List ℕ)) (x y : List ℕ) → p ≡ q → IsText indent p x → IsText indent q y → x ≡ y
 text-one indent p q x y e h k = ascii-same (replicate indent 0 ++ joined q) x y (subst (λ (ps : List (List ℕ)). IsText indent ps x) e h) k
 
 -- no line takes from no words

@@ -1,12 +1,13 @@
 -- What the functions that lay lines do to them.
-use Rattle.std.specs.Prelude.{◌≡◌, ℕ, ◌+◌, ◌-◌, ◌/◌, ◌%◌, ◌<◌, ◌≤◌, ◌==◌, if◌then◌else◌, Bool, true, List, [], ◌∷◌, ◌++◌, length, replicate, Option}
+use Rattle.std.specs.Prelude.{◌≡◌, ℕ, ◌+◌, ◌-◌, ◌/◌, ◌%◌, ◌<◌, ◌≤◌, ◌==◌, if◌then◌else◌, Bool, true, List, [], ◌∷◌, ◌++◌, length, replicate, Option, Result, is_ok, IfOk}
 use Rattle.std.specs.List.{flat_map}
+use Rattle.desk_book.specs.Book.{Book, Paragraph}
 use Rattle.desk_book.specs.declared.style.Style.{Style}
 use Rattle.desk_ends.specs.Sent.{Sent}
 use Rattle.desk_brf.specs.Layout.{Layout, text_lines}
-use Rattle.desk_brf.specs.Pages.{ended, number_line}
+use Rattle.desk_brf.specs.Pages.{ArePages, ended, number_line}
 use Rattle.desk_brf.specs.Placing.{IsAscii, IsText, IsLine, joined, first_indent, other_indent}
-use Rattle.desk_brf.specs.Volume.{gap_before}
+use Rattle.desk_brf.specs.Volume.{AreLines, gap_before}
 
 -- what stands behind the line with a number, counted from 1: the end of its page, where it is the last one there
 abbrev pub page_end : Layout → ℕ → List ℕ
@@ -77,3 +78,20 @@ pub record FillsPage (F : Type 0) (old new : Option (List ℕ)) (layout : Layout
   pub full : (before + blank) % text_lines layout ≡ 0
   pub sent : Sent F old new (written layout before (replicate blank [])) [] whole
   pub count : whole ≡ true → after ≡ before + blank
+
+-- the lines of a volume's paragraphs are sent, or a beginning of them
+pub record PutsParagraphs (F : Type 0) (old new : Option (List ℕ)) (book : Book) (layout : Layout) (paragraphs : List Paragraph) (after : ℕ) (whole : Bool) : Type 0 where
+  pub lines : List (List ℕ)
+  pub placed : AreLines book layout 0 paragraphs lines
+  pub sent : Sent F old new (written layout 0 lines) [] whole
+  pub count : whole ≡ true → after ≡ length lines
+
+-- the pages of a volume's paragraphs are sent, and their number is told, or a beginning of them is sent
+pub record PutsPages (F : Type 0) (old new : Option (List ℕ)) (book : Book) (layout : Layout) (paragraphs : List Paragraph) {E : Type 0} (answer : Result ℕ E) : Type 0 where
+  pub lines : List (List ℕ)
+  pub placed : AreLines book layout 0 paragraphs lines
+  pub bytes : List ℕ
+  pub pages : ℕ
+  pub paged : ArePages layout lines bytes pages
+  pub sent : Sent F old new bytes [] (is_ok answer)
+  pub count : IfOk answer (λ number. number ≡ pages)

@@ -5,3 +5,6 @@ pub mod Placing
 pub mod Pages
 pub mod Volume
 pub mod Laying
+pub mod Counting
+pub mod Exported
+pub mod Embossed

@@ -1,11 +1,38 @@
 //! Laws of pages.
+ghost use Rattle.desk_book.specs.Book.{Book};
+ghost use Rattle.desk_brf.specs.Embossed.{IsTextLine};
+ghost use Rattle.desk_brf.specs.Layout.{IsLayout, Layout};
 ghost use Rattle.desk_brf.specs.Placing.{IsPlacing};
-ghost use Rattle.desk_brf.specs.Words.{words};
-ghost use Rattle.std.specs.Prelude.{◌≡◌, ◌<◌, ℕ, List};
+ghost use Rattle.desk_brf.specs.Volume.{IsVolume};
+ghost use Rattle.desk_brf.specs.Words.{is_blank, words};
+ghost use Rattle.std.specs.List.{flat_map};
+ghost use Rattle.std.specs.Prelude.{◌≡◌, ◌<◌, ℕ, All, List, filter, not};
 
 /// The words of cells have exactly one placing on lines that have room for a cell at least, as all lines of a layout do.
 pub fn one_placing()
     ensures { (first other : ℕ) (cells : List ℕ) → 0 < first → 0 < other
         → (placing : List (List (List ℕ))) × IsPlacing first other (words cells) placing
         × ((others : List (List (List ℕ))) → IsPlacing first other (words cells) others → others ≡ placing) }
+{}
+
+/// A placing has the cells with dots of the paragraph in order, and no others: nothing is lost, and nothing is there twice.
+pub fn whole_placing()
+    ensures { (first other : ℕ) (cells : List ℕ) (placing : List (List (List ℕ)))
+        → IsPlacing first other (words cells) placing
+        → flat_map (λ piece. piece) (flat_map (λ line. line) placing)
+        ≡ filter (λ cell. not (is_blank cell)) cells }
+{}
+
+/// A volume has one text and one number of pages.
+pub fn one_volume()
+    ensures { (book : Book) (layout : Layout) (number : ℕ) (bytes others : List ℕ) (pages count : ℕ)
+        → IsVolume book layout number bytes pages → IsVolume book layout number others count
+        → (others ≡ bytes) × (count ≡ pages) }
+{}
+
+/// Each line of text of a volume has at most as many cells as the width, and no blank at its end.
+pub fn narrow_lines()
+    ensures { (book : Book) (layout : Layout) (number : ℕ) (bytes : List ℕ) (pages : ℕ)
+        → IsLayout layout.width layout.lines → (volume : IsVolume book layout number bytes pages)
+        → All (IsTextLine layout.width) volume.lines }
 {}

@@ -2,9 +2,10 @@
 //! lines, each ended by CR LF, and a form feed after each page.
 //!
 //! ```rust
-//! use desk_brf::Layout;
+//! use desk_brf::{Layout, export};
 //!
 //! let layout = Layout::new(40, 25)?;
+//! let pages = export(&book, &layout, 1, sink)?;
 //! ```
 //!
 //! Nothing here takes memory: a line is laid in an array and written before the next. What the cells are is left to
@@ -16,9 +17,12 @@ mod layout;
 mod line;
 mod page;
 mod placing;
+mod volume;
+mod volumes;
 mod word;
 
 pub use layout::{BadLayout, Layout};
+pub use volume::{ExportFault, export};
 
 #[cfg(test)]
 mod tests;

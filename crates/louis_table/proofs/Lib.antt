@@ -15,3 +15,4 @@ pub mod ProfileLaws
 pub mod ProfileOutcome
 pub mod CellLaws
 mod SuppliedTable
+pub mod CellLimits
