@@ -23,6 +23,14 @@ use Rattle.desk_brf.proofs.ExistLemmas.{AreWords, onto, words_of_parts}
 use Rattle.desk_brf.proofs.LineLemmas.{joined-led}
 use Rattle.desk_brf.proofs.PutLemmas.{first_indent-small, other_indent-small}
 
+-- what is true of all of two lists is true of each
+
+pub all-front : {X : Type 0} (P : X → Type 0) (xs ys : List X) → All P (xs ++ ys) → All P xs
+all-front P xs ys all = All-same P xs (take (length xs) (xs ++ ys)) (sym (take-append_seam xs ys)) (All-take P (length xs) (xs ++ ys) all)
+
+pub all-behind : {X : Type 0} (P : X → Type 0) (xs ys : List X) → All P (xs ++ ys) → All P ys
+all-behind P xs ys all = All-same P ys (drop (length xs) (xs ++ ys)) (sym (drop-append_seam xs ys)) (All-drop P (length xs) (xs ++ ys) all)
+
 -- ---- cells that are not blank
 
 abbrev HasDots : ℕ → Type 0
@@ -46,8 +54,8 @@ split-words (x ∷ xs) ys all = let r = split-words xs ys all.1 in ((all.0, r.0)
 line-words : (room : ℕ) (ws pieces left : List (List ℕ)) → 0 < room → IsLine room ws pieces left → AreWords HasDots ws → AreWords HasDots pieces × AreWords HasDots left
 line-words room ws pieces left some (IsLine.cut front back others e at more pe le) all =
     let h : AreWords HasDots ((front ++ back) ∷ others) = subst (AreWords HasDots) e all in
-    let before : All HasDots front = All-same HasDots front (take (length front) (front ++ back)) (sym (take-append_seam front back)) (All-take HasDots (length front) (front ++ back) h.0.1) in
-    let after : All HasDots back = All-same HasDots back (drop (length front) (front ++ back)) (sym (drop-append_seam front back)) (All-drop HasDots (length front) (front ++ back) h.0.1) in
+    let before = all-front HasDots front back h.0.1 in
+    let after = all-behind HasDots front back h.0.1 in
     (subst (AreWords HasDots) (sym pe) ((omega (arith, at, some), before), tt), subst (AreWords HasDots) (sym le) ((more, after), h.1))
 line-words room ws pieces left some (IsLine.whole e filled fits full) all = split-words pieces left (subst (AreWords HasDots) e all)
 

@@ -14,3 +14,4 @@ pub mod CheckLemmas
 pub mod OneVolume
 pub mod WholeWords
 pub mod EachLine
+pub mod EachByte

@@ -162,7 +162,7 @@ entries-count profile n (line ∷ lines) entries (inr (entry, rest, gives, e, h)
 joined-few : {X : Type 0} (f : X → List ℕ) (most : ℕ) (xs : List X) → All (λ x. length (f x) ≤ most) xs → length (flat_map f xs) ≤ length xs * most
 joined-few f most xs all = subst (λ (n : ℕ). n ≤ length xs * most) (sym (length-flat_map f xs)) (sum_by-le (λ x. length (f x)) most xs all)
 
-all_joined : {X Y : Type 0} (P : Y → Type 0) (f : X → List Y) (xs : List X) → All (λ x. All P (f x)) xs → All P (flat_map f xs)
+pub all_joined : {X Y : Type 0} (P : Y → Type 0) (f : X → List Y) (xs : List X) → All (λ x. All P (f x)) xs → All P (flat_map f xs)
 all_joined P f [] all = All-nil P
 all_joined {X} P f (x ∷ xs) all =
     All-append P (f x) (flat_map f xs) (All-head (λ (y : X). All P (f y)) x xs all) (all_joined P f xs (All-tail (λ (y : X). All P (f y)) x xs all))

@@ -1,0 +1,78 @@
+-- Each byte of a volume stands for a cell, or ends a line or a page.
+use Rattle.std.proofs.Common.{ℕ, ◌+◌, ◌-◌, ◌%◌, ◌^◌, ◌<◌, ◌≤◌, Bool, true, false, cond, eqb, List, [], ◌∷◌, ◌++◌, length, map, refl, sym, subst, inl, inr, arith}
+use Rattle.std.specs.Prelude.{All, replicate}
+use Rattle.std.specs.Fmt.{decimal}
+use Rattle.std.specs.List.{flat_map, enumerate_from}
+use Rattle.std.proofs.lemmas.Fmt.{decimal_by_steps}
+use Rattle.std.proofs.lemmas.List.Elements.{All-nil, All-cons, All-append, All-map, All-push, All-replicate, All-weaker}
+use Rattle.louis_table.proofs.CellLimits.{all_joined}
+use Rattle.desk_book.specs.Book.{Book}
+use Rattle.desk_brf.specs.Embossed.{IsCellByte, IsEmbossedByte, IsTextLine}
+use Rattle.desk_brf.specs.Layout.{Layout, IsLayout}
+use Rattle.desk_brf.specs.Pages.{digit_letter, ended, number_line, number_text, page_text}
+use Rattle.desk_brf.specs.Volume.{IsVolume}
+use Rattle.desk_brf.proofs.EachLine.{all-front, all-behind, each_line}
+
+-- ---- the line of a number
+
+abbrev IsDigit : ℕ → Type 0
+IsDigit byte = (48 ≤ byte) × (byte ≤ 57)
+
+decimal-digits : (n : ℕ) → n < 2 ^ 64 → All IsDigit (decimal n)
+decimal-digits =
+    decimal_by_steps (λ n digits. All IsDigit digits)
+    (λ n few. All-cons IsDigit (48 + n) [] (omega (arith, few), omega (arith, few)) (All-nil IsDigit))
+    (λ n digits more all. All-push IsDigit digits (48 + n % 10) all (omega arith, omega arith))
+
+letter-byte : (digit : ℕ) → IsDigit digit → IsCellByte (digit_letter digit)
+letter-byte digit is = by (eqb digit 48)
+  where
+    by : (b : Bool) → IsCellByte (cond b 74 (digit + 16))
+    by true = (omega arith, omega arith)
+    by false = let low = is.0 in let high = is.1 in (omega (arith, low), omega (arith, high))
+
+number-bytes : (width number : ℕ) → number < 2 ^ 64 → All IsCellByte (number_line width number)
+number-bytes width number fits =
+    All-append IsCellByte (replicate (width - length (number_text number)) 32) (number_text number)
+    (All-replicate IsCellByte (width - length (number_text number)) 32 (omega arith, omega arith))
+    (All-cons IsCellByte 35 (map digit_letter (decimal number)) (omega arith, omega arith)
+    (All-map IsCellByte digit_letter (decimal number) (All-weaker IsDigit (λ d. IsCellByte (digit_letter d)) letter-byte (decimal number) (decimal-digits number fits))))
+
+-- ---- lines and pages
+
+abbrev AreCellBytes : List ℕ → Type 0
+AreCellBytes line = All IsCellByte line
+
+ended-bytes : (line : List ℕ) → AreCellBytes line → All IsEmbossedByte (ended line)
+ended-bytes line all =
+    All-append IsEmbossedByte line (13 ∷ 10 ∷ []) (All-weaker IsCellByte IsEmbossedByte (λ b h. inl h) line all)
+    (All-cons IsEmbossedByte 13 (10 ∷ []) (inr (inl refl)) (All-cons IsEmbossedByte 10 [] (inr (inr (inl refl))) (All-nil IsEmbossedByte)))
+
+page-bytes : (width number : ℕ) (page : List (List ℕ)) → number < 2 ^ 64 → All AreCellBytes page → All IsEmbossedByte (page_text width number page)
+page-bytes width number page fits all =
+    let lines = page ++ number_line width number ∷ [] in
+    All-append IsEmbossedByte (flat_map ended lines) (12 ∷ [])
+    (all_joined IsEmbossedByte ended lines
+    (All-weaker AreCellBytes (λ line. All IsEmbossedByte (ended line)) ended-bytes lines (All-push AreCellBytes page (number_line width number) all (number-bytes width number fits))))
+    (All-cons IsEmbossedByte 12 [] (inr (inr (inr refl))) (All-nil IsEmbossedByte))
+
+pages-bytes : (width number : ℕ) (pages : List (List (List ℕ))) → number + length pages ≤ 2 ^ 64 → All AreCellBytes (flat_map (λ page. page) pages)
+    → All IsEmbossedByte (flat_map (λ e. page_text width e.0 e.1) (enumerate_from number pages))
+pages-bytes width number [] fits all = All-nil IsEmbossedByte
+pages-bytes width number (page ∷ pages) fits all =
+    let others = flat_map (λ (p : List (List ℕ)). p) pages in
+    All-append IsEmbossedByte (page_text width number page) (flat_map (λ (e : ℕ × List (List ℕ)). page_text width e.0 e.1) (enumerate_from (number + 1) pages))
+    (page-bytes width number page (omega (arith, fits)) (all-front AreCellBytes page others all))
+    (pages-bytes width (number + 1) pages (omega (arith, fits)) (all-behind AreCellBytes page others all))
+
+pub each_byte : (book : Book) (layout : Layout) (number : ℕ) (bytes : List ℕ) (pages : ℕ) → IsLayout layout.width layout.lines → pages < 2 ^ 64
+    → IsVolume book layout number bytes pages → All IsEmbossedByte bytes
+each_byte book layout number bytes pages limits fits volume =
+    let paged = volume.paged in
+    let lines : All AreCellBytes volume.lines =
+    All-weaker (IsTextLine layout.width) AreCellBytes (λ line is. is.cells) volume.lines (each_line book layout number bytes pages limits volume) in
+    let all : All AreCellBytes (volume.lines ++ replicate paged.blank []) =
+    All-append AreCellBytes volume.lines (replicate paged.blank []) lines (All-replicate AreCellBytes paged.blank [] (All-nil IsCellByte)) in
+    let count = paged.count_is in
+    subst (All IsEmbossedByte) (sym paged.bytes_are)
+    (pages-bytes layout.width 1 paged.pages (omega (arith, count, fits)) (subst (All AreCellBytes) (sym paged.holds) all))
