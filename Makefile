@@ -42,6 +42,7 @@ bench: $(PROGRAM)
 	bench/tables.sh
 	bench/typing.sh
 	bench/requests.sh
+	bench/pages.sh
 	bench/rows.sh
 
 install: $(PROGRAM)
