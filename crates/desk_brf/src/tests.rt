@@ -188,6 +188,7 @@ fn exports_volumes(rt: HostRuntime) -> Result<(), Fail> {
         10 5 1 b a / bv b => 1:   A||||        #A|^\n\
         10 5 2 b a / bv b => 1:   B||||        #A|^\n\
         10 5 3 b a / bv b => no 96\n\
+        10 5 2 b a / bv => 0\n\
         10 5 1 bx a / bv b => 1:   B||||        #A|^\n\
         10 5 2 bx a / bv b => no 96\n\
         10 5 1 bx a / bx b => no 96\n\
