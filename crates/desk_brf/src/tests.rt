@@ -133,10 +133,10 @@ fn book_of(alloc: Global, written: &str) -> Result<Book, Fail> {
     let mut book = Book::new(alloc)?;
     carry_out(alloc, &mut book, &table(alloc, "en", EN)?)?;
     carry_out(alloc, &mut book, &table(alloc, "seven", SEVEN)?)?;
-    let mut id = 1;
+    let mut id: u64 = 1;
     for paragraph in written.split(" / ") {
         add(alloc, &mut book, id, paragraph)?;
-        id += 1;
+        id = id.saturating_add(1);
     }
     Ok(book)
 }
@@ -216,12 +216,12 @@ fn numbers_pages(rt: HostRuntime) -> Result<(), Fail> {
     let mut sink = Limited::new(rt.alloc(), usize::MAX);
     assert_eq!(&rt; export(&book, &layout, 1, &mut sink).ok(), Some(100));
     for (page, number) in [
-        (9, "       #I\r\n"),
-        (10, "       #AJ\r\n"),
-        (99, "       #II\r\n"),
-        (100, "      #AJJ\r\n"),
+        (8, "       #I\r\n"),
+        (9, "       #AJ\r\n"),
+        (98, "       #II\r\n"),
+        (99, "      #AJJ\r\n"),
     ] {
-        let text = sink.bytes.split(|byte| *byte == 0x0C).nth(page - 1);
+        let text = sink.bytes.split(|byte| *byte == 0x0C).nth(page);
         assert!(&rt;
             text.is_some_and(|page| page.ends_with(number.as_bytes())),
             "{page}"
