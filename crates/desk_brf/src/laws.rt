@@ -6,7 +6,7 @@ ghost use Rattle.desk_brf.specs.Placing.{IsPlacing};
 ghost use Rattle.desk_brf.specs.Volume.{IsVolume};
 ghost use Rattle.desk_brf.specs.Words.{is_blank, words};
 ghost use Rattle.std.specs.List.{flat_map};
-ghost use Rattle.std.specs.Prelude.{◌≡◌, ◌<◌, ◌^◌, ℕ, All, List, filter, not};
+ghost use Rattle.std.specs.Prelude.{◌≡◌, ◌<◌, ℕ, All, List, filter, not};
 
 /// The words of cells have exactly one placing on lines that have room for a cell at least, as all lines of a layout do.
 pub fn one_placing()
@@ -40,6 +40,6 @@ pub fn narrow_lines()
 /// Each byte of a volume stands for a cell, or is one of the CR, LF and form feed that end lines and pages.
 pub fn embossed_bytes()
     ensures { (book : Book) (layout : Layout) (number : ℕ) (bytes : List ℕ) (pages : ℕ)
-        → IsLayout layout.width layout.lines → pages < 2 ^ 64
+        → IsLayout layout.width layout.lines
         → IsVolume book layout number bytes pages → All IsEmbossedByte bytes }
 {}
