@@ -32,7 +32,7 @@ abbrev pub table_of : EntryRows → FileTable
 table_of (Unnamed corrs) = CorrTable
 table_of (Named corrs) = NamedCorrTable
 
--- an entry of the first format is that of a reader without a name
+-- an entry of the first format is that of a proofreader without a name
 abbrev pub unnamed : Corr → NamedCorr
 unnamed entry = record { entry = entry; who = [] }
 

@@ -30,3 +30,4 @@ pub mod Shows
 pub mod Damage
 pub mod Rebuilt
 pub mod Outcome
+pub mod Puts

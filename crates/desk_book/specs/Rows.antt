@@ -28,7 +28,7 @@ pub record Corr : Type 0 where
   pub len : ℤ
   pub body : List ℕ
 
--- an entry of a history, and the name of its reader
+-- an entry of a history, and the name of the proofreader who corrected
 pub record NamedCorr : Type 0 where
   pub entry : Corr
   pub who : List ℕ

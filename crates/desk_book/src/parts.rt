@@ -19,7 +19,7 @@ pub enum FileTable {
     Mark,
     /// `cache`: the braille of the paragraphs.
     Cache,
-    /// `corr2`: the histories of the paragraphs, with the names of readers, in the second format.
+    /// `corr2`: the histories of the paragraphs, with the names of the proofreaders, in the second format.
     NamedCorr,
 }
 
@@ -43,7 +43,7 @@ impl FileTable {
 /// The entries of all histories, as the format of their file keeps them.
 #[derive(Drop)]
 pub enum EntryRows {
-    /// The rows of `corr`, in the first format: no entry has the name of a reader.
+    /// The rows of `corr`, in the first format: no entry has the name of a proofreader.
     Unnamed(Vec<CorrRow>),
     /// The rows of `corr2`, in the second format.
     Named(Vec<NamedCorrRow>),

@@ -5,6 +5,7 @@
 ghost use Rattle.std.specs.Prelude.{string_bytes};
 ghost use Rattle.desk_book.specs.Rows.{Tab, StoredTab as StoredTabRow, Para, Corr, NamedCorr, Mark, Cached};
 
+use cell_core::Cell;
 use std::marker::Model;
 
 /// The row of the table `book`.
@@ -96,12 +97,12 @@ impl Model for CorrRow {
     ghost view = { λ r. record { para = r.para; seq = r.seq; kind = r.kind; start = r.start; len = r.len; body = string_bytes r.body } };
 }
 
-/// A row of `corr2`: an entry of a paragraph's history, and the name of its reader.
+/// A row of `corr2`: an entry of a paragraph's history, and the name of the proofreader who corrected.
 #[derive(Drop)]
 pub struct NamedCorrRow {
     /// The entry. Its paragraph and its number are the key.
     pub entry: CorrRow,
-    /// The reader's name, which may be empty.
+    /// The proofreader's name, which may be empty.
     pub who: String,
 }
 
@@ -120,7 +121,7 @@ pub struct MarkRow {
     pub para: i64,
     /// The place of the first character that is marked, counted from 0.
     pub start: i64,
-    /// The place behind the last character that is marked.
+    /// The place after the last character that is marked.
     pub stop: i64,
     /// The proofreader's note.
     pub note: String,
@@ -151,48 +152,127 @@ impl Model for CacheRow {
     ghost view = { λ r. record { para = r.para; cells = r.cells.items } };
 }
 
-/// A row that is added, or replaces the one with its key, or columns that a row that is there gets.
-#[derive(Clone, Copy)]
+/// A row that is added, or replaces the one with its key, or columns of a row that is there, which the row with that key
+/// gets. Texts, cells and bytes are lent from where a book or a change keeps them.
+#[derive(Clone, Copy, Debug)]
 pub enum Put<'a> {
-    Book(&'a BookRow),
-    Tab(&'a TabRow),
-    Para(&'a ParaRow),
-    Mark(&'a MarkRow),
-    Cache(&'a CacheRow),
-    /// An entry that its history lacks.
-    Corr(&'a NamedCorrRow),
+    /// The row of `book`.
+    Book(BookRow),
+    /// The row of `tab` with this name.
+    Tab {
+        /// The name, which is the key.
+        name: &'a str,
+        /// The text, as it was given.
+        body: &'a [u8],
+    },
+    /// The row of `para` with this id.
+    Para {
+        /// The number by order of typing, counted from 1, which is the key.
+        id: i64,
+        /// The place in the book, counted from 1.
+        place: i64,
+        /// The name of the table that it is translated by.
+        tab: &'a str,
+        /// The print as it was typed.
+        original: &'a str,
+        /// The print with its corrections.
+        print: &'a [char],
+        /// 0 for body, 1 for a heading.
+        style: i64,
+        /// 1 where a volume begins.
+        volume: i64,
+        /// 1 where the paragraph is struck.
+        struck: i64,
+    },
+    /// The row of `mark` with this id.
+    Mark {
+        /// The number by order of marking, counted from 1 over the whole book, which is the key.
+        id: i64,
+        /// The paragraph's id.
+        para: i64,
+        /// The place of the first character that is marked, counted from 0.
+        start: i64,
+        /// The place after the last character that is marked.
+        stop: i64,
+        /// The proofreader's note.
+        note: &'a str,
+        /// 1 where a correction has touched the span.
+        touched: i64,
+        /// 1 where the mark is resolved.
+        resolved: i64,
+    },
+    /// The row of `cache` of a paragraph.
+    Cache {
+        /// The paragraph's id, which is the key.
+        para: i64,
+        /// Its cells.
+        cells: &'a [Cell],
+    },
+    /// An entry of `corr2`, which its history lacks.
+    NamedCorr {
+        /// The paragraph's id.
+        para: i64,
+        /// The number of the entry in the paragraph's history, counted from 1.
+        seq: i64,
+        /// 0 for a correction, 1 for an undo.
+        kind: i64,
+        /// The place at which the correction begins, counted from 0, or the number of the entry that is undone.
+        start: i64,
+        /// How many characters the correction takes away.
+        len: i64,
+        /// The text that the correction puts in.
+        body: &'a str,
+        /// The name of the proofreader who corrected, which may be empty.
+        who: &'a str,
+    },
     /// The place of a paragraph.
     Place {
+        /// The paragraph's id.
         id: i64,
+        /// Its place in the book, counted from 1.
         place: i64,
     },
     /// The style of a paragraph, whether a volume begins with it, and whether it is struck.
     Flags {
+        /// The paragraph's id.
         id: i64,
+        /// 0 for body, 1 for a heading.
         style: i64,
+        /// 1 where a volume begins.
         volume: i64,
+        /// 1 where the paragraph is struck.
         struck: i64,
     },
     /// The braille table of a paragraph.
     Table {
+        /// The paragraph's id.
         id: i64,
+        /// The name of the table.
         tab: &'a str,
     },
     /// The print of a paragraph, with its corrections.
     Print {
+        /// The paragraph's id.
         id: i64,
-        print: &'a str,
+        /// Its print.
+        print: &'a [char],
     },
     /// The span of a mark, and whether a correction has touched it.
     Span {
+        /// The mark's id.
         id: i64,
+        /// The place of the first character that is marked, counted from 0.
         start: i64,
+        /// The place after the last character that is marked.
         stop: i64,
+        /// 1 where a correction has touched the span.
         touched: i64,
     },
     /// Whether a mark is resolved.
     Resolved {
+        /// The mark's id.
         id: i64,
+        /// 1 where the mark is resolved.
         resolved: i64,
     },
     /// The version of the book.

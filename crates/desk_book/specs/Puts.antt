@@ -1,0 +1,155 @@
+-- What is put into the rows of a book's file, and what becomes of them.
+use Rattle.std.specs.Prelude.{◌≡◌, ℕ, ℤ, pos, Bool, not, if◌then◌else◌, List, [], ◌∷◌, map, filter, fold, Option, option_map, option_to_list, MatchOption, IsSome, IsUtf8, bytes_eq, encode_utf8_all}
+use Rattle.std.specs.List.{All}
+use Rattle.std.specs.Ordering.{int_eq}
+use Rattle.desk_book.specs.declared.parts.FileTable.TheVariants.{NamedCorr as NamedCorrTable}
+use Rattle.desk_book.specs.declared.rows.BookRow.{BookRow}
+use Rattle.desk_book.specs.declared.rows.Put.{Put}
+use Rattle.desk_book.specs.declared.rows.Put.TheVariants as lent
+use Rattle.desk_book.specs.FileRows.{EntryRows, FileRows, HasEntryTexts, HasMarkText, HasParaTexts, HasTabText, Named, Unnamed, table_of}
+use Rattle.desk_book.specs.Rows.{Tab, Para, NamedCorr, Mark, Cached}
+
+-- A row that is added, or replaces the one with its key, or columns that the row with a key gets. A text is its bytes.
+pub data RowPut : Type 0 where
+  PutBook : BookRow → RowPut
+  PutTab : Tab → RowPut
+  PutPara : Para → RowPut
+  PutMark : Mark → RowPut
+  PutCache : Cached → RowPut
+  PutEntry : NamedCorr → RowPut
+  SetPlace : (id place : ℤ) → RowPut
+  SetFlags : (id style volume struck : ℤ) → RowPut
+  SetTable : ℤ → List ℕ → RowPut
+  SetPrint : ℤ → List ℕ → RowPut
+  SetSpan : (id start stop touched : ℤ) → RowPut
+  SetResolved : (id resolved : ℤ) → RowPut
+  SetVersion : ℤ → RowPut
+
+abbrev pub RowPuts : Type 0
+RowPuts = List RowPut
+
+-- what a lent one puts
+abbrev pub put_of : Put → RowPut
+put_of (lent.Book row) = PutBook row
+put_of (lent.Tab name body) = PutTab (record { name = name.now; body = body.now })
+put_of (lent.Para id place tab original print style volume struck) = PutPara (record {
+  id = id;
+  place = place;
+  tab = tab.now;
+  original = original.now;
+  print = encode_utf8_all print.now;
+  style = style;
+  volume = volume;
+  struck = struck;
+})
+put_of (lent.Mark id para start stop note touched resolved) = PutMark (record {
+  id = id;
+  para = para;
+  start = start;
+  stop = stop;
+  note = note.now;
+  touched = touched;
+  resolved = resolved;
+})
+put_of (lent.Cache para cells) = PutCache (record { para = para; cells = cells.now })
+put_of (lent.NamedCorr para seq kind start len body who) = PutEntry (record {
+  entry = record { para = para; seq = seq; kind = kind; start = start; len = len; body = body.now };
+  who = who.now;
+})
+put_of (lent.Place id place) = SetPlace id place
+put_of (lent.Flags id style volume struck) = SetFlags id style volume struck
+put_of (lent.Table id tab) = SetTable id tab.now
+put_of (lent.Print id print) = SetPrint id (encode_utf8_all print.now)
+put_of (lent.Span id start stop touched) = SetSpan id start stop touched
+put_of (lent.Resolved id resolved) = SetResolved id resolved
+put_of (lent.Version version) = SetVersion version
+
+-- what is lent, if anything is
+abbrev pub puts_in : Option Put → List RowPut
+puts_in put = option_to_list (option_map put_of put)
+
+-- the first of what is put is lent, and the others are left; or there is none, and nothing is lent
+abbrev pub LendsFirst : List RowPut → Option Put → List RowPut → Type 0
+LendsFirst puts item left = MatchOption item ((puts ≡ []) × (left ≡ [])) (λ put. puts ≡ put_of put ∷ left)
+
+-- ---- the rows once something is put
+
+-- the rows with this one in place of those with its key
+abbrev pub put_in : {X : Type 0} → (X → Bool) → X → List X → List X
+put_in has_key x xs = x ∷ filter (λ y. not (has_key y)) xs
+
+-- the rows, with this done to those that have the key
+abbrev pub set_where : {X : Type 0} → (X → Bool) → (X → X) → List X → List X
+set_where has_key set xs = map (λ x. if has_key x then set x else x) xs
+
+-- with this done to the paragraph with this id, to the mark with this id
+abbrev pub with_para_set : ℤ → (Para → Para) → FileRows → FileRows
+with_para_set id set rows = record rows { paras = set_where (λ p. int_eq p.id id) set rows.paras }
+
+abbrev pub with_mark_set : ℤ → (Mark → Mark) → FileRows → FileRows
+with_mark_set id set rows = record rows { marks = set_where (λ m. int_eq m.id id) set rows.marks }
+
+-- one entry more, where the table has names
+abbrev pub with_entry_row : NamedCorr → EntryRows → EntryRows
+with_entry_row row (Unnamed corrs) = Unnamed corrs
+with_entry_row row (Named corrs) = Named (row ∷ corrs)
+
+abbrev pub with_put : RowPut → FileRows → FileRows
+with_put (PutBook row) rows = record rows { books = put_in (λ b. int_eq b.id row.id) row rows.books }
+with_put (PutTab row) rows = record rows { tabs = put_in (λ t. bytes_eq t.name row.name) row rows.tabs }
+with_put (PutPara row) rows = record rows { paras = put_in (λ p. int_eq p.id row.id) row rows.paras }
+with_put (PutMark row) rows = record rows { marks = put_in (λ m. int_eq m.id row.id) row rows.marks }
+with_put (PutCache row) rows =
+    record rows { caches = option_map (λ caches. put_in (λ c. int_eq c.para row.para) row caches) rows.caches }
+with_put (PutEntry row) rows = record rows { entries = with_entry_row row rows.entries }
+with_put (SetPlace id place) rows = with_para_set id (λ p. record p { place = place }) rows
+with_put (SetFlags id style volume struck) rows =
+    with_para_set id (λ p. record p { style = style; volume = volume; struck = struck }) rows
+with_put (SetTable id tab) rows = with_para_set id (λ p. record p { tab = tab }) rows
+with_put (SetPrint id print) rows = with_para_set id (λ p. record p { print = print }) rows
+with_put (SetSpan id start stop touched) rows =
+    with_mark_set id (λ m. record m { start = start; stop = stop; touched = touched }) rows
+with_put (SetResolved id resolved) rows = with_mark_set id (λ m. record m { resolved = resolved }) rows
+with_put (SetVersion version) rows =
+    record rows { books = set_where (λ b. int_eq b.id (pos 1)) (λ b. record b { version = version }) rows.books }
+
+-- the rows once these are put in turn
+abbrev pub with_puts : List RowPut → FileRows → FileRows
+with_puts puts rows = fold (λ made put. with_put put made) rows puts
+
+-- ---- what they need
+
+-- the table that a row is put into is there
+abbrev pub HasItsTable : FileRows → RowPut → Type 0
+HasItsTable rows (PutBook row) = Unit {0}
+HasItsTable rows (PutTab row) = Unit {0}
+HasItsTable rows (PutPara row) = Unit {0}
+HasItsTable rows (PutMark row) = Unit {0}
+HasItsTable rows (PutCache row) = IsSome rows.caches
+HasItsTable rows (PutEntry row) = table_of rows.entries ≡ NamedCorrTable
+HasItsTable rows (SetPlace id place) = Unit {0}
+HasItsTable rows (SetFlags id style volume struck) = Unit {0}
+HasItsTable rows (SetTable id tab) = Unit {0}
+HasItsTable rows (SetPrint id print) = Unit {0}
+HasItsTable rows (SetSpan id start stop touched) = Unit {0}
+HasItsTable rows (SetResolved id resolved) = Unit {0}
+HasItsTable rows (SetVersion version) = Unit {0}
+
+abbrev pub HasTheirTables : List RowPut → FileRows → Type 0
+HasTheirTables puts rows = All (HasItsTable rows) puts
+
+-- its texts are UTF-8
+abbrev pub HasTexts : RowPut → Type 0
+HasTexts (PutBook row) = Unit {0}
+HasTexts (PutTab row) = HasTabText row
+HasTexts (PutPara row) = HasParaTexts row
+HasTexts (PutMark row) = HasMarkText row
+HasTexts (PutCache row) = Unit {0}
+HasTexts (PutEntry row) = HasEntryTexts row
+HasTexts (SetPlace id place) = Unit {0}
+HasTexts (SetFlags id style volume struck) = Unit {0}
+HasTexts (SetTable id tab) = IsUtf8 tab
+HasTexts (SetPrint id print) = IsUtf8 print
+HasTexts (SetSpan id start stop touched) = Unit {0}
+HasTexts (SetResolved id resolved) = Unit {0}
+HasTexts (SetVersion version) = Unit {0}
