@@ -34,6 +34,8 @@ pub mod Planning
 pub mod PrintCharacters
 pub mod RefusalTests
 pub mod Renewing
+pub mod PutLists
+pub mod PutMarks
 pub mod Replacing
 pub mod RoomLists
 pub mod Settled

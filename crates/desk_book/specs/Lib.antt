@@ -1,6 +1,7 @@
 pub mod Book
 pub mod Print
 pub mod Marks
+pub mod Spans
 pub mod Limits
 pub mod Name
 pub mod Stored
@@ -31,3 +32,5 @@ pub mod Damage
 pub mod Rebuilt
 pub mod Outcome
 pub mod Puts
+pub mod ChangePuts
+pub mod PutsLeft

@@ -1,6 +1,7 @@
 //! The marks of proofreaders.
 ghost use Rattle.desk_book.specs.KeptMarks.{AreWithin, IsWithin, indexes_on, moved_kept, kept_mark, with_kept_moved, with_kept_resolved};
 ghost use Rattle.desk_book.specs.Limits.{most_print};
+ghost use Rattle.desk_book.specs.Spans.{moved_span, span_kept};
 ghost use Rattle.desk_book.specs.Room.{Suffices};
 ghost use Rattle.std.specs.Option.{option_copied};
 ghost use Rattle.std.specs.Prelude.{◌≡◌, ◌+◌, ◌-◌, ◌<◌, ◌≤◌, ◌^◌, [], ◌∷◌, ◌++◌, ℕ, IfOk, None, length};
@@ -41,7 +42,56 @@ impl Drop for KeptMark {
     }
 }
 
+/// The places that a mark covers, and whether a correction has touched them.
+#[derive(Clone, Copy, Debug)]
+pub(crate) struct Span {
+    /// The first place of the print that it covers, from 0.
+    pub(crate) start: usize,
+    /// The place after the last that it covers.
+    pub(crate) end: usize,
+    /// Whether a correction has touched what it covers.
+    pub(crate) touched: bool,
+}
+
+impl Span {
+    /// The span after so many characters of the print, from a place on, gave way to others.
+    pub(crate) fn moved(self, start: usize, removed: usize, added: usize) -> Span
+        requires ordered { self.start ≤ self.end }
+        requires print { self.end ≤ most_print }
+        requires within { start + removed ≤ most_print }
+        requires short { added ≤ most_print }
+        ensures { result ≡ moved_span start removed added self }
+    {
+        if self.end <= start {
+            return self;
+        }
+        if start + removed <= self.start {
+            return Span {
+                start: self.start - removed + added,
+                end: self.end - removed + added,
+                touched: self.touched,
+            };
+        }
+        Span {
+            start: self.start.min(start),
+            end: self.end.max(start + removed) - removed + added,
+            touched: true,
+        }
+    }
+}
+
 impl KeptMark {
+    /// The places that it covers.
+    fn span(&self) -> Span
+        ensures { result ≡ span_kept self.now }
+    {
+        Span {
+            start: self.start,
+            end: self.end,
+            touched: self.touched,
+        }
+    }
+
     /// Moves the mark as so many characters of the print, from a place on, give way to others.
     fn give_way(&mut self, start: usize, removed: usize, added: usize)
         requires mark { IsWithin self.old }
@@ -49,17 +99,10 @@ impl KeptMark {
         requires short { added ≤ most_print }
         ensures { self.new ≡ moved_kept start removed added self.old }
     {
-        if self.end <= start {
-            return;
-        }
-        if start + removed <= self.start {
-            self.start = self.start - removed + added;
-            self.end = self.end - removed + added;
-            return;
-        }
-        self.start = self.start.min(start);
-        self.end = self.end.max(start + removed) - removed + added;
-        self.touched = true;
+        let span = self.span().moved(start, removed, added);
+        self.start = span.start;
+        self.end = span.end;
+        self.touched = span.touched;
     }
 }
 

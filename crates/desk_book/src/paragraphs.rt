@@ -97,6 +97,15 @@ impl Model for Order {
     ghost view = { λ o. o.ids.items };
 }
 
+impl Order {
+    /// The ids in this order.
+    pub(crate) fn as_slice(&self) -> &[u64]
+        ensures { result.now ≡ self.now }
+    {
+        self.ids.as_slice()
+    }
+}
+
 /// Paragraphs with the ids 1, 2, .. in the order of their typing, and the order in which they stand.
 #[derive(Drop)]
 pub(crate) struct Paragraphs {
@@ -202,6 +211,13 @@ impl Paragraphs {
         ensures { result ≡ length self.now }
     {
         self.items.len()
+    }
+
+    /// The ids of the paragraphs as they stand.
+    pub(crate) fn ids(&self) -> &[u64]
+        ensures { result.now ≡ ids self.now }
+    {
+        self.order.as_slice()
     }
 
     /// The index of the paragraph with an id, if there is one.

@@ -224,14 +224,14 @@ impl Book {
     }
 
     /// The id of the next mark.
-    fn next_mark(&self) -> u64
+    pub(crate) fn next_mark(&self) -> u64
         ensures { result ≡ next_mark self.now }
     {
         self.marks.len() as u64 + 1
     }
 
     /// The number of the next entry of a paragraph's history.
-    fn next_entry(&self, id: u64) -> Option<u64>
+    pub(crate) fn next_entry(&self, id: u64) -> Option<u64>
         ensures { result ≡ option_map (λ paragraph. length paragraph.history + 1) (paragraph_of self.now id) }
     {
         match self.paragraphs.get(id) {

@@ -2,11 +2,12 @@
 //!
 //! The sessions stand in texts, one request to a row, since the proof of a test with long arrays takes minutes: the
 //! answer, ` | `, and the request. A request that begins with `@V` expects version V, and `again N` makes a request N times,
-//! whose last answer counts. In a text a pilcrow is a line feed, an open box a blank, and `{a×3}` is `aaa`.
+//! whose last answer counts; `puts` before a command asks what it would put into the rows of a file. In a text a pilcrow is a line feed, an open box a blank, and `{a×3}` is `aaa`.
 use super::limits::MOST_VERSION;
+use super::rows::Put;
 use super::{
     Anchor, Book, Bytes, Command, Done, History, HistoryItem, Listed, MarkItem, ParagraphMarks,
-    Refusal, Style, Text,
+    Puts, Refusal, Style, Text,
 };
 use cell_core::Cell;
 use louis_table::EN;
@@ -363,6 +364,88 @@ fn marks_shown(alloc: Global, book: &Book, id: u64) -> Result<String, AllocError
     }
 }
 
+/// What is put, as rows have it.
+fn put_shown(alloc: Global, put: &Put) -> Result<String, AllocError> {
+    match *put {
+        Put::Book(row) => format!(in alloc; "book {} {} {}, ", row.id, row.format, row.version),
+        Put::Tab { name, body } => format!(in alloc; "tab {name} {}, ", body.len()),
+        Put::Para {
+            id,
+            place,
+            tab,
+            original,
+            print,
+            style,
+            volume,
+            struck,
+        } => {
+            let print: String = print.iter().copied().collect(alloc)?;
+            format!(in alloc;
+                "para {id} {place} {tab} {original} {print} {style} {volume} {struck}, "
+            )
+        }
+        Put::Mark {
+            id,
+            para,
+            start,
+            stop,
+            note,
+            touched,
+            resolved,
+        } => format!(in alloc; "mark {id} {para} {start} {stop} {note} {touched} {resolved}, "),
+        Put::Cache { para, cells } => {
+            let cells = braille(alloc, cells)?;
+            format!(in alloc; "cache {para} {cells}, ")
+        }
+        Put::NamedCorr {
+            para,
+            seq,
+            kind,
+            start,
+            len,
+            body,
+            who,
+        } => format!(in alloc; "entry {para} {seq} {kind} {start} {len} {body} {who}, "),
+        Put::Place { id, place } => format!(in alloc; "place {id} {place}, "),
+        Put::Flags {
+            id,
+            style,
+            volume,
+            struck,
+        } => format!(in alloc; "flags {id} {style} {volume} {struck}, "),
+        Put::Table { id, tab } => format!(in alloc; "table {id} {tab}, "),
+        Put::Print { id, print } => {
+            let print: String = print.iter().copied().collect(alloc)?;
+            format!(in alloc; "print {id} {print}, ")
+        }
+        Put::Span {
+            id,
+            start,
+            stop,
+            touched,
+        } => format!(in alloc; "span {id} {start} {stop} {touched}, "),
+        Put::Resolved { id, resolved } => format!(in alloc; "resolved {id} {resolved}, "),
+        Put::Version(version) => format!(in alloc; "version {version}, "),
+    }
+}
+
+/// What is put, in order.
+fn each_put_shown(alloc: Global, items: Puts) -> Result<String, AllocError> {
+    let mut puts = String::new(alloc);
+    for item in items {
+        puts.push_str(put_shown(alloc, &item)?.as_str())?;
+    }
+    Ok(puts)
+}
+
+/// What a command would put.
+fn puts_shown(alloc: Global, book: &Book, command: &Command) -> Result<String, AllocError> {
+    match book.plan(alloc, command, None) {
+        Ok(change) => each_put_shown(alloc, change.puts(book)),
+        Err(refusal) => refused(alloc, refusal),
+    }
+}
+
 /// What a book shows.
 fn shown(alloc: Global, book: &Book, request: &str) -> Result<String, AllocError> {
     let (verb, rest) = cut(request);
@@ -395,6 +478,12 @@ fn expected(request: &str) -> (Option<u64>, &str) {
 /// What is answered to a request.
 fn answer(alloc: Global, book: &mut Book, request: &str) -> Result<String, Fail> {
     let (expect, request) = expected(request);
+    if let Some(rest) = request.strip_prefix("puts ") {
+        return match command(alloc, rest)? {
+            Some(command) => Ok(puts_shown(alloc, book, &command)?),
+            None => Ok(String::from_str(alloc, "what?")?),
+        };
+    }
     match command(alloc, request)? {
         Some(command) => Ok(carry_out(alloc, book, &command, expect)?),
         None => Ok(shown(alloc, book, request)?),
@@ -1204,5 +1293,39 @@ ok 20001 20000 | again 20000 type end en a
 no 15 2 | type end en z
 no 14 | type end en {a×4001}
 ok 20002 | strike 20000",
+    )
+}
+
+#[test]
+fn a_command_puts_what_it_changes(rt: HostRuntime) -> Result<(), Fail> {
+    judge_session(
+        &rt,
+        rt.alloc(),
+        "\
+version 1, tab en 67,  | puts table en SMALL
+ok 1 | table en SMALL
+version 2, para 1 1 en ab ab 0 0 0, cache 1 ⠁⠃,  | puts type end en ab
+ok 2 1 | type end en ab
+version 3, para 2 1 en c c 0 0 0, cache 2 ⠉, place 1 2,  | puts type front en c
+ok 3 2 | type front en c
+version 4, mark 1 1 0 1 look 0 0,  | puts mark 1 0 1 look
+ok 4 1 | mark 1 0 1 look
+ok 5 2 | mark 1 1 1 end
+ok 6 3 | mark 2 0 1 other
+version 7, entry 1 1 0 1 1 c Ann, print 1 ac, cache 1 ⠁⠉, span 1 0 1 0, span 2 1 2 1,  | puts correct-by Ann 1 1 1 c
+ok 7 1 | correct-by Ann 1 1 1 c
+version 8, entry 1 2 1 1 0  , print 1 ab, cache 1 ⠁⠃, span 1 0 1 0, span 2 1 2 1,  | puts undo 1
+version 8, resolved 1 1,  | puts resolve 1
+version 8, flags 1 0 0 1,  | puts strike 1
+version 8, flags 1 1 0 0,  | puts style 1 heading
+version 8, flags 1 0 1 0,  | puts volume 1 on
+ok 8 | table t SMALL
+version 9, table 1 t, cache 1 ⠁⠉,  | puts retable 1 t
+ok 9 3 | type end t a
+version 10, tab en 34, cache 1 ⠃⠉, cache 2 ⠉,  | puts table en letter a 12¶letter b 1¶letter c 14
+version 10, place 3 1, place 2 2, place 1 3,  | puts move 3 front
+version 10, place 1 1, place 2 2,  | puts move 1 front
+version 10,  | puts move 2 2
+no 12 | puts restore 1",
     )
 }

@@ -1,0 +1,147 @@
+-- What a change puts into the rows of its book's file.
+use Rattle.std.specs.Prelude.{ℕ, ◌+◌, ◌-◌, ◌≤◌, ◌==◌, ℤ, pos, Bool, false, if◌then◌else◌, min, List, [], ◌∷◌, length, map, drop, slice_get, Option, Some, None, option_map, unwrap_or, encode_utf8_all}
+use Rattle.std.specs.List.{All, enumerate_from, flat_map}
+use Rattle.std.specs.Option.{option_map_or}
+use Rattle.desk_book.specs.declared.change.Effect.{Effect}
+use Rattle.desk_book.specs.declared.change.Effect.TheVariants as effect
+use Rattle.desk_book.specs.declared.history.KeptEntry.{KeptEntry}
+use Rattle.desk_book.specs.declared.history.KeptEntry.TheVariants.{Corrects, Undoes}
+use Rattle.desk_book.specs.declared.marks.KeptMark.{KeptMark}
+use Rattle.desk_book.specs.declared.paragraphs.Paragraph.{Paragraph as KeptParagraph}
+use Rattle.desk_book.specs.declared.tables.BookTable.{BookTable}
+use Rattle.desk_book.specs.Book.{Book, Mark, paragraph_of}
+use Rattle.desk_book.specs.Changes.{Change}
+use Rattle.desk_book.specs.FileRows.{FileRows}
+use Rattle.desk_book.specs.Limits.{most_print}
+use Rattle.desk_book.specs.Marks.{mark_moved_by}
+use Rattle.desk_book.specs.ParagraphMarks.{marks_on}
+use Rattle.desk_book.specs.Puts.{HasTheirTables, PutCache, PutEntry, PutMark, PutPara, PutTab, RowPut, SetFlags, SetPlace, SetPrint, SetResolved, SetSpan, SetTable, SetVersion, with_puts}
+use Rattle.desk_book.specs.Rows.{Mark as MarkRow, NamedCorr, Para}
+use Rattle.desk_book.specs.Shows.{Shows, flag_number, style_number}
+use Rattle.desk_book.specs.Step.{next_id, next_mark}
+
+-- the number, or the greatest of 64 bits with a sign in place of one above it
+abbrev pub row_number : ℕ → ℤ
+row_number n = pos (min n 9223372036854775807)
+
+-- the entry with this number in the history of the paragraph with this id
+abbrev pub entry_row : (id seq : ℕ) → KeptEntry → NamedCorr
+entry_row id seq (Corrects c) = record {
+  entry = record {
+    para = row_number id;
+    seq = row_number seq;
+    kind = pos 0;
+    start = row_number c.start;
+    len = row_number (length c.taken);
+    body = encode_utf8_all c.text;
+  };
+  who = encode_utf8_all c.who;
+}
+entry_row id seq (Undoes undone) = record {
+  entry = record { para = row_number id; seq = row_number seq; kind = pos 1; start = row_number undone; len = pos 0; body = [] };
+  who = [];
+}
+
+-- the new cells of the paragraph with this id, where it has any
+abbrev pub cells_put : ℕ × Option (List ℕ) → List RowPut
+cells_put (id, None) = []
+cells_put (id, Some new) = PutCache (record { para = row_number id; cells = new }) ∷ []
+
+-- the new cells of the paragraphs from an index on
+abbrev pub cells_from : ℕ → List (Option (List ℕ)) → List RowPut
+cells_from index cells = flat_map cells_put (drop index (enumerate_from 1 cells))
+
+-- the paragraph with this id at the place after this one
+abbrev pub further_put : ℕ × ℕ → RowPut
+further_put (place, id) = SetPlace (row_number id) (row_number (place + 1))
+
+-- the paragraphs from an index of the order on, each a place further
+abbrev pub further_from : ℕ → List ℕ → List RowPut
+further_from index order = map further_put (drop index (enumerate_from 1 order))
+
+-- whether the paragraph at this place stood there in the old order, too
+abbrev pub stays_in : List ℕ → ℕ × ℕ → Bool
+stays_in old (place, id) = option_map_or (λ other. other == id) (slice_get old (place - 1)) false
+
+abbrev pub elsewhere_put : List ℕ → ℕ × ℕ → List RowPut
+elsewhere_put old (place, id) =
+    if stays_in old (place, id) then [] else SetPlace (row_number id) (row_number place) ∷ []
+
+-- the paragraphs from an index of the new order on that stand elsewhere than in the old one
+abbrev pub elsewhere_from : ℕ → (old new : List ℕ) → List RowPut
+elsewhere_from index old new = flat_map (elsewhere_put old) (drop index (enumerate_from 1 new))
+
+-- the span of the mark after so many characters from a place on gave way to others
+abbrev pub span_put : (start removed added : ℕ) → Mark → RowPut
+span_put start removed added mark =
+    let moved = mark_moved_by start removed added mark in
+    SetSpan (row_number mark.id) (row_number moved.start) (row_number moved.end) (flag_number moved.touched)
+
+-- a mark stands within a print
+abbrev pub AreSpans : List Mark → Type 0
+AreSpans marks = All (λ mark. (mark.start ≤ mark.end) × (mark.end ≤ most_print)) marks
+
+-- ---- a change's, effect by effect
+
+-- the row of a paragraph as it is kept
+abbrev pub kept_row : (id place : ℕ) → KeptParagraph → Para
+kept_row id place kept = record {
+  id = row_number id;
+  place = row_number place;
+  tab = encode_utf8_all kept.table;
+  original = encode_utf8_all kept.original;
+  print = encode_utf8_all kept.print;
+  style = style_number kept.style;
+  volume = flag_number kept.begins_volume;
+  struck = flag_number kept.struck;
+}
+
+-- the row of a mark as it is kept
+abbrev pub kept_mark_row : ℕ → KeptMark → MarkRow
+kept_mark_row id kept = record {
+  id = row_number id;
+  para = row_number kept.paragraph;
+  start = row_number kept.start;
+  stop = row_number kept.end;
+  note = encode_utf8_all kept.note;
+  touched = flag_number kept.touched;
+  resolved = flag_number kept.resolved;
+}
+
+abbrev pub tab_put : List ℕ → BookTable → RowPut
+tab_put name table = PutTab (record { name = encode_utf8_all name; body = table.text })
+
+abbrev pub cache_put : ℕ → List ℕ → RowPut
+cache_put id cells = PutCache (record { para = row_number id; cells = cells })
+
+-- the number of the next entry in the history of the paragraph with this id
+abbrev pub next_entry_number : Book → ℕ → ℕ
+next_entry_number book id = unwrap_or (option_map (λ paragraph. length paragraph.history + 1) (paragraph_of book id)) 1
+
+-- what the effect puts beside the version
+abbrev pub effect_puts : Book → Effect → List RowPut
+effect_puts book (effect.AddTable name table room) = tab_put name table ∷ []
+effect_puts book (effect.ReplaceTable name table cells) = tab_put name table ∷ cells_from 0 cells.items
+effect_puts book (effect.AddParagraph paragraph room order_room place) =
+    PutPara (kept_row (next_id book) (place + 1) paragraph) ∷ cache_put (next_id book) paragraph.cells
+    ∷ further_from place (map (λ other. other.id) book.paragraphs)
+effect_puts book (effect.ChangePrint id change) =
+    PutEntry (entry_row id (next_entry_number book id) change.entry) ∷ SetPrint (row_number id) (encode_utf8_all change.print)
+    ∷ cache_put id change.cells
+    ∷ map (span_put change.start change.removed change.added) (marks_on id book.marks)
+effect_puts book (effect.AddMark mark room index_room) = PutMark (kept_mark_row (next_mark book) mark) ∷ []
+effect_puts book (effect.ResolveMark id) = SetResolved (row_number id) (pos 1) ∷ []
+effect_puts book (effect.SetFlags id style begins struck) =
+    SetFlags (row_number id) (style_number style) (flag_number begins) (flag_number struck) ∷ []
+effect_puts book (effect.ChangeTable id table cells) =
+    SetTable (row_number id) (encode_utf8_all table) ∷ cache_put id cells ∷ []
+effect_puts book (effect.Reorder order) = elsewhere_from 0 (map (λ other. other.id) book.paragraphs) order
+
+-- what the change puts: the version first
+abbrev pub change_puts : Book → Change → List RowPut
+change_puts book change = SetVersion (row_number change.version) ∷ effect_puts book change.effect
+
+-- put into any rows that show the book, and that have the tables of the rows among them, they make rows that show the next
+abbrev pub LeadTo : Book → List RowPut → Book → Type 0
+LeadTo book puts next =
+    (rows : FileRows) → Shows rows book → HasTheirTables puts rows → Shows (with_puts puts rows) next

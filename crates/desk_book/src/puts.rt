@@ -1,0 +1,565 @@
+//! What a change puts into the rows of its book's file.
+ghost use Rattle.desk_book.specs.ChangePuts.{cache_put, cells_from, change_puts, effect_puts, elsewhere_from, entry_row, further_from, kept_mark_row, kept_row, row_number, span_put, stays_in, tab_put};
+ghost use Rattle.desk_book.specs.Changes.{Carries};
+ghost use Rattle.desk_book.specs.Limits.{most_paragraphs, most_print};
+ghost use Rattle.desk_book.specs.ParagraphMarks.{marks_on};
+ghost use Rattle.desk_book.specs.Puts.{LendsFirst, PutCache, PutEntry, PutMark, PutPara, SetPlace, SetVersion, put_of};
+ghost use Rattle.desk_book.specs.Shows.{flag_number, style_number};
+ghost use Rattle.desk_book.specs.Step.{next_id};
+ghost use Rattle.std.specs.Prelude.{◌≡◌, ◌+◌, ◌-◌, ◌<◌, ◌≤◌, [], ◌∷◌, ◌++◌, IfNone, IfSome, length, map, slice_index};
+
+use super::book::Book;
+use super::change::{Change, Effect, PrintChange};
+use super::history::KeptEntry;
+use super::marks::{KeptMark, Span};
+use super::paragraph_marks::ParagraphMarks;
+use super::paragraphs::Paragraph;
+use super::rows::Put;
+use super::style::Style;
+use super::tables::BookTable;
+use super::text::Text;
+use cell_core::Cells;
+use std::marker::Model;
+
+/// A number of a book as one of a row. Each is far below the greatest of a row, which stands for any that is not.
+fn number(n: u64) -> i64
+    ensures { result ≡ row_number n }
+{
+    n.min(i64::MAX as u64) as i64
+}
+
+/// A flag as a number of a row.
+fn flag(set: bool) -> i64
+    ensures { result ≡ flag_number set }
+{
+    if set { 1 } else { 0 }
+}
+
+/// A style as a number of a row.
+fn style_row(style: Style) -> i64
+    ensures { result ≡ style_number style }
+{
+    match style {
+        Style::Body => 0,
+        Style::Heading => 1,
+    }
+}
+
+/// The entry with a number of the history of a paragraph.
+fn entry(id: u64, seq: u64, entry: &KeptEntry) -> Put<'_>
+    ensures { put_of result ≡ PutEntry (entry_row id seq entry.now) }
+{
+    match entry {
+        KeptEntry::Corrects(correction) => Put::NamedCorr {
+            para: number(id),
+            seq: number(seq),
+            kind: 0,
+            start: number(correction.start as u64),
+            len: number(correction.taken.as_slice().len() as u64),
+            body: correction.text.as_str(),
+            who: correction.who.as_str(),
+        },
+        KeptEntry::Undoes(undone) => Put::NamedCorr {
+            para: number(id),
+            seq: number(seq),
+            kind: 1,
+            start: number(*undone),
+            len: 0,
+            body: "",
+            who: "",
+        },
+    }
+}
+
+/// The new cells of paragraphs, those of the paragraph with id n at the index n - 1, where it has any. Contracts see those
+/// that are left.
+#[derive(Drop)]
+struct CellPuts<'a> {
+    cells: &'a [Option<Cells>],
+    at: usize,
+}
+
+impl<'a> Model for CellPuts<'a> {
+    ghost use Rattle.desk_book.specs.ChangePuts.{cells_from};
+    ghost use Rattle.desk_book.specs.Puts.{RowPuts};
+
+    ghost Value = { RowPuts };
+
+    ghost view = { λ p. cells_from p.at p.cells.now };
+}
+
+/// The first new cells from an index on, with the id of their paragraph.
+fn first_cells(cells: &[Option<Cells>], from: usize) -> Option<(usize, &Cells)>
+    ensures found { IfSome result (λ found. cells_from from cells.now
+        ≡ PutCache (record { para = row_number found.0; cells = found.1.now }) ∷ cells_from found.0 cells.now) }
+    ensures none { IfNone result (cells_from from cells.now ≡ []) }
+{
+    for index in from..cells.len() {
+        if let Some(new) = &cells[index] {
+            return Some((index + 1, new));
+        }
+    }
+    None
+}
+
+impl<'a> CellPuts<'a> {
+    fn next(&mut self) -> Option<Put<'a>>
+        ensures { LendsFirst self.old result self.new }
+    {
+        let Some((id, cells)) = first_cells(self.cells, self.at) else {
+            return None;
+        };
+        self.at = id;
+        Some(Put::Cache {
+            para: number(id as u64),
+            cells: cells.as_slice(),
+        })
+    }
+}
+
+/// The places of paragraphs that move on by one, those from an index of the order on. Contracts see those that are left.
+#[derive(Drop)]
+struct FurtherPuts<'a> {
+    order: &'a [u64],
+    at: usize,
+}
+
+impl<'a> Model for FurtherPuts<'a> {
+    ghost use Rattle.desk_book.specs.ChangePuts.{further_from};
+    ghost use Rattle.desk_book.specs.Limits.{most_paragraphs};
+    ghost use Rattle.desk_book.specs.Puts.{RowPuts};
+    ghost use Rattle.std.specs.Prelude.{◌≤◌, length};
+
+    ghost Value = { RowPuts };
+
+    ghost view = { λ p. further_from p.at p.order.now };
+
+    ghost invariant = { λ p. length p.order.now ≤ most_paragraphs };
+}
+
+impl<'a> FurtherPuts<'a> {
+    fn next(&mut self) -> Option<Put<'a>>
+        ensures { LendsFirst self.old result self.new }
+    {
+        let Some(id) = self.order.get(self.at) else {
+            return None;
+        };
+        self.at += 1;
+        Some(Put::Place {
+            id: number(*id),
+            place: number(self.at as u64 + 1),
+        })
+    }
+}
+
+/// The places of paragraphs that stand elsewhere in a new order than in the old one. Contracts see those that are left.
+#[derive(Drop)]
+struct ElsewherePuts<'a> {
+    was: &'a [u64],
+    order: &'a [u64],
+    at: usize,
+}
+
+impl<'a> Model for ElsewherePuts<'a> {
+    ghost use Rattle.desk_book.specs.ChangePuts.{elsewhere_from};
+    ghost use Rattle.desk_book.specs.Puts.{RowPuts};
+
+    ghost Value = { RowPuts };
+
+    ghost view = { λ p. elsewhere_from p.at p.was.now p.order.now };
+}
+
+/// Whether the paragraph at an index of a new order stood there in the old one, too.
+fn stays(was: &[u64], order: &[u64], index: usize) -> bool
+    requires { index < length order.now }
+    ensures { result ≡ stays_in was.now (index + 1, slice_index order.now index) }
+{
+    match was.get(index) {
+        Some(id) => *id == order[index],
+        None => false,
+    }
+}
+
+/// The first place, from 1, after an index of a new order at which another paragraph stands than in the old one.
+fn first_elsewhere(was: &[u64], order: &[u64], from: usize) -> Option<usize>
+    ensures within { IfSome result (λ place. (0 < place) × (place ≤ length order.now)) }
+    ensures found { IfSome result (λ place. elsewhere_from from was.now order.now
+        ≡ SetPlace (row_number (slice_index order.now (place - 1))) (row_number place)
+        ∷ elsewhere_from place was.now order.now) }
+    ensures none { IfNone result (elsewhere_from from was.now order.now ≡ []) }
+{
+    for index in from..order.len() {
+        if !stays(was, order, index) {
+            return Some(index + 1);
+        }
+    }
+    None
+}
+
+impl<'a> ElsewherePuts<'a> {
+    fn next(&mut self) -> Option<Put<'a>>
+        ensures { LendsFirst self.old result self.new }
+    {
+        let Some(place) = first_elsewhere(self.was, self.order, self.at) else {
+            return None;
+        };
+        self.at = place;
+        Some(Put::Place {
+            id: number(self.order[place - 1]),
+            place: number(place as u64),
+        })
+    }
+}
+
+/// The spans of a paragraph's marks after a change of its print. Contracts see those that are left.
+#[derive(Drop)]
+struct SpanPuts<'a> {
+    marks: ParagraphMarks<'a>,
+    start: usize,
+    removed: usize,
+    added: usize,
+}
+
+impl<'a> Model for SpanPuts<'a> {
+    ghost use Rattle.desk_book.specs.ChangePuts.{AreSpans, span_put};
+    ghost use Rattle.desk_book.specs.Limits.{most_print};
+    ghost use Rattle.desk_book.specs.Puts.{RowPuts};
+    ghost use Rattle.std.specs.Prelude.{◌+◌, ◌≤◌, map};
+
+    ghost Value = { RowPuts };
+
+    ghost view = { λ p. map (span_put p.start p.removed p.added) p.marks };
+
+    ghost invariant = { λ p. AreSpans p.marks × (p.start + p.removed ≤ most_print) × (p.added ≤ most_print) };
+}
+
+impl<'a> SpanPuts<'a> {
+    fn next(&mut self) -> Option<Put<'a>>
+        ensures { LendsFirst self.old result self.new }
+    {
+        let Some(mark) = self.marks.next() else {
+            return None;
+        };
+        let span = Span {
+            start: mark.start,
+            end: mark.end,
+            touched: mark.touched,
+        };
+        let moved = span.moved(self.start, self.removed, self.added);
+        Some(Put::Span {
+            id: number(mark.id),
+            start: number(moved.start as u64),
+            stop: number(moved.end as u64),
+            touched: flag(moved.touched),
+        })
+    }
+}
+
+/// What follows from a list of the book or of the change, one put for each of its items that changes.
+#[derive(Drop)]
+enum Walk<'a> {
+    Nothing,
+    Cells(CellPuts<'a>),
+    Further(FurtherPuts<'a>),
+    Elsewhere(ElsewherePuts<'a>),
+    Spans(SpanPuts<'a>),
+}
+
+impl<'a> Walk<'a> {
+    ghost use Rattle.desk_book.specs.PutsLeft.{walk_puts};
+
+    fn next(&mut self) -> Option<Put<'a>>
+        ensures { LendsFirst (walk_puts self.old) result (walk_puts self.new) }
+    {
+        match self {
+            Walk::Nothing => None,
+            Walk::Cells(puts) => puts.next(),
+            Walk::Further(puts) => puts.next(),
+            Walk::Elsewhere(puts) => puts.next(),
+            Walk::Spans(puts) => puts.next(),
+        }
+    }
+}
+
+/// What a change puts into the rows of its book's file, in order. It takes no memory. Contracts see what is left.
+#[derive(Drop)]
+pub struct Puts<'a> {
+    version: Option<Put<'a>>,
+    row: Option<Put<'a>>,
+    print: Option<Put<'a>>,
+    cells: Option<Put<'a>>,
+    walk: Walk<'a>,
+}
+
+impl<'a> Model for Puts<'a> {
+    ghost use Rattle.desk_book.specs.PutsLeft.{walk_puts};
+    ghost use Rattle.desk_book.specs.Puts.{RowPuts, puts_in};
+    ghost use Rattle.std.specs.Prelude.{◌++◌};
+
+    ghost Value = { RowPuts };
+
+    ghost view = { λ p.
+        puts_in p.version ++ (puts_in p.row ++ (puts_in p.print ++ (puts_in p.cells ++ walk_puts p.walk))) };
+}
+
+impl<'a> Iterator for Puts<'a> {
+    ghost use Rattle.std.specs.Iterator.{item_count};
+
+    type Item = Put<'a>;
+
+    ghost next_gives = { LendsFirst };
+
+    ghost remaining = { item_count (λ s. s) };
+
+    fn next(&mut self) -> Option<Put<'a>> {
+        if let Some(put) = self.version.take() {
+            return Some(put);
+        }
+        if let Some(put) = self.row.take() {
+            return Some(put);
+        }
+        if let Some(put) = self.print.take() {
+            return Some(put);
+        }
+        if let Some(put) = self.cells.take() {
+            return Some(put);
+        }
+        self.walk.next()
+    }
+}
+
+impl<'a> Puts<'a> {
+    ghost use Rattle.desk_book.specs.Puts.{SetVersion, puts_in};
+    ghost use Rattle.desk_book.specs.PutsLeft.{walk_puts};
+
+    /// The version, up to three rows or columns of rows, and what follows from a list.
+    fn new(
+        version: u64,
+        row: Option<Put<'a>>,
+        print: Option<Put<'a>>,
+        cells: Option<Put<'a>>,
+        walk: Walk<'a>,
+    ) -> Self
+        ensures { result ≡ SetVersion (row_number version)
+            ∷ (puts_in row.entry ++ (puts_in print.entry ++ (puts_in cells.entry ++ walk_puts walk.entry))) }
+    {
+        Puts {
+            version: Some(Put::Version(number(version))),
+            row,
+            print,
+            cells,
+            walk,
+        }
+    }
+
+    /// The version, and a row or columns of one.
+    fn of_row(version: u64, row: Put<'a>) -> Self
+        ensures { result ≡ SetVersion (row_number version) ∷ put_of row.entry ∷ [] }
+    {
+        Puts::new(version, Some(row), None, None, Walk::Nothing)
+    }
+}
+
+/// The row of a braille table.
+fn tab<'a>(name: &'a Text, table: &'a BookTable) -> Put<'a>
+    ensures { put_of result ≡ tab_put name.now table.now }
+{
+    Put::Tab {
+        name: name.as_str(),
+        body: table.text.as_slice(),
+    }
+}
+
+/// The row of a paragraph's cells.
+fn cache(id: u64, cells: &Cells) -> Put<'_>
+    ensures { put_of result ≡ cache_put id cells.now }
+{
+    Put::Cache {
+        para: number(id),
+        cells: cells.as_slice(),
+    }
+}
+
+/// The row of a paragraph.
+fn para(id: u64, place: usize, paragraph: &Paragraph) -> Put<'_>
+    ensures { put_of result ≡ PutPara (kept_row id place paragraph.now) }
+{
+    Put::Para {
+        id: number(id),
+        place: number(place as u64),
+        tab: paragraph.table.as_str(),
+        original: paragraph.original.as_str(),
+        print: paragraph.print.as_slice(),
+        style: style_row(paragraph.style),
+        volume: flag(paragraph.begins_volume),
+        struck: flag(paragraph.struck),
+    }
+}
+
+/// The row of a mark.
+fn mark(id: u64, mark: &KeptMark) -> Put<'_>
+    ensures { put_of result ≡ PutMark (kept_mark_row id mark.now) }
+{
+    Put::Mark {
+        id: number(id),
+        para: number(mark.paragraph),
+        start: number(mark.start as u64),
+        stop: number(mark.end as u64),
+        note: mark.note.as_str(),
+        touched: flag(mark.touched),
+        resolved: flag(mark.resolved),
+    }
+}
+
+impl Book {
+    ghost use Rattle.desk_book.specs.PutsLeft.{walk_puts};
+
+    /// The ids of the paragraphs as they stand.
+    fn order(&self) -> &[u64]
+        ensures order { result.now ≡ map (λ paragraph. paragraph.id) self.now.paragraphs }
+        ensures few { length result.now ≤ most_paragraphs }
+    {
+        self.paragraphs.ids()
+    }
+
+    /// What a new paragraph puts.
+    fn new_paragraph_puts<'a>(
+        &'a self,
+        version: u64,
+        paragraph: &'a Paragraph,
+        place: usize,
+    ) -> Puts<'a>
+        requires { place ≤ length self.now.paragraphs }
+        ensures { result ≡ SetVersion (row_number version) ∷ PutPara (kept_row (next_id self.now) (place + 1) paragraph.now)
+            ∷ cache_put (next_id self.now) paragraph.now.cells
+            ∷ further_from place (map (λ other. other.id) self.now.paragraphs) }
+    {
+        let order = self.order();
+        let id = order.len() as u64 + 1;
+        Puts::new(
+            version,
+            Some(para(id, place + 1, paragraph)),
+            None,
+            Some(cache(id, &paragraph.cells)),
+            Walk::Further(FurtherPuts { order, at: place }),
+        )
+    }
+
+    /// The spans of the marks of a paragraph after a change of its print.
+    fn span_puts<'a>(&'a self, id: u64, change: &'a PrintChange) -> Walk<'a>
+        requires within { change.now.start + change.now.removed ≤ most_print }
+        requires short { change.now.added ≤ most_print }
+        ensures { walk_puts result
+            ≡ map (span_put change.now.start change.now.removed change.now.added) (marks_on id self.now.marks) }
+    {
+        // it is sound
+        let _ = &self.version;
+        match self.marks(id) {
+            Ok(marks) => Walk::Spans(SpanPuts {
+                marks,
+                start: change.start,
+                removed: change.removed,
+                added: change.added,
+            }),
+            Err(_) => Walk::Nothing,
+        }
+    }
+
+    /// What another print of a paragraph puts.
+    fn print_puts<'a>(&'a self, version: u64, id: u64, change: &'a PrintChange) -> Puts<'a>
+        requires within { change.now.start + change.now.removed ≤ most_print }
+        requires short { change.now.added ≤ most_print }
+        ensures { result ≡ SetVersion (row_number version) ∷ effect_puts self.now (Effect.ChangePrint id change.now) }
+    {
+        let seq = self.next_entry(id).unwrap_or(1);
+        Puts::new(
+            version,
+            Some(entry(id, seq, &change.entry)),
+            Some(Put::Print {
+                id: number(id),
+                print: change.print.as_slice(),
+            }),
+            Some(cache(id, &change.cells)),
+            self.span_puts(id, change),
+        )
+    }
+}
+
+impl Change {
+    /// What the change puts into the rows of the file of the book on which it was planned: the version, and each row and column
+    /// of a row that changes, to be put by its key. It takes no memory.
+    pub fn puts<'a>(&'a self, book: &'a Book) -> Puts<'a>
+        requires { (command : _) × (next : _) × Carries book.now command next self.now }
+        ensures { result ≡ change_puts book.now self.now }
+    {
+        let version = self.version;
+        match &self.effect {
+            Effect::AddTable {
+                name,
+                table,
+                room: _,
+            } => Puts::of_row(version, tab(name, table)),
+            Effect::ReplaceTable { name, table, cells } => {
+                let walk = Walk::Cells(CellPuts {
+                    cells: cells.as_slice(),
+                    at: 0,
+                });
+                Puts::new(version, Some(tab(name, table)), None, None, walk)
+            }
+            Effect::AddParagraph {
+                paragraph,
+                room: _,
+                order_room: _,
+                place,
+            } => book.new_paragraph_puts(version, paragraph, *place),
+            Effect::ChangePrint { id, change } => book.print_puts(version, *id, change),
+            Effect::AddMark {
+                mark: kept,
+                room: _,
+                index_room: _,
+            } => { Puts::of_row(version, mark(book.next_mark(), kept)) }
+            Effect::ResolveMark { id } => {
+                let row = Put::Resolved {
+                    id: number(*id),
+                    resolved: 1,
+                };
+                Puts::of_row(version, row)
+            }
+            Effect::SetFlags {
+                id,
+                style,
+                begins_volume,
+                struck,
+            } => {
+                let row = Put::Flags {
+                    id: number(*id),
+                    style: style_row(*style),
+                    volume: flag(*begins_volume),
+                    struck: flag(*struck),
+                };
+                Puts::of_row(version, row)
+            }
+            Effect::ChangeTable { id, table, cells } => {
+                let row = Put::Table {
+                    id: number(*id),
+                    tab: table.as_str(),
+                };
+                Puts::new(
+                    version,
+                    Some(row),
+                    None,
+                    Some(cache(*id, cells)),
+                    Walk::Nothing,
+                )
+            }
+            Effect::Reorder { order } => {
+                let walk = Walk::Elsewhere(ElsewherePuts {
+                    was: book.order(),
+                    order: order.as_slice(),
+                    at: 0,
+                });
+                Puts::new(version, None, None, None, walk)
+            }
+        }
+    }
+}
