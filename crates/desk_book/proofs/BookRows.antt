@@ -30,10 +30,10 @@ scalars-all : (cs : List ℕ) → AreCharacters cs → scalars cs ≡ true
 scalars-all [] all = refl
 scalars-all (c ∷ cs) all = ap₂ (λ a b. a && b) (All-head IsScalar c cs all) (scalars-all cs (All-tail IsScalar c cs all))
 
-encoded-text : (cs : List ℕ) → AreCharacters cs → IsUtf8 (encodes cs)
+pub encoded-text : (cs : List ℕ) → AreCharacters cs → IsUtf8 (encodes cs)
 encoded-text cs all = (cs, (scalars-all cs all, refl))
 
-spelled-encoded : (cs : List ℕ) → AreCharacters cs → chars (encodes cs) ≡ cs
+pub spelled-encoded : (cs : List ℕ) → AreCharacters cs → chars (encodes cs) ≡ cs
 spelled-encoded cs all = chars-encodes cs (scalars-all cs all)
 
 -- each character of a name is ASCII
@@ -53,7 +53,7 @@ name-characters name named = All-weaker (λ c. is_name_character c ≡ true) IsS
 -- ---- entries
 
 -- the texts of an entry are of characters
-abbrev HasCharacters : Entry → Type 0
+abbrev pub HasCharacters : Entry → Type 0
 HasCharacters (Corrects r who) = AreCharacters r.text × AreCharacters who
 HasCharacters (Undoes undone) = Unit {0}
 
@@ -61,11 +61,11 @@ entry-characters : (original : List ℕ) (before : List Entry) (entry : Entry) �
 entry-characters original before (Corrects r who) sound = (sound.1.characters, sound.3)
 entry-characters original before (Undoes undone) sound = tt
 
-history-characters : (book : Book) (p : Paragraph) → IsSoundParagraph book p → All HasCharacters p.history
+pub history-characters : (book : Book) (p : Paragraph) → IsSoundParagraph book p → All HasCharacters p.history
 history-characters book p sound = λ k d within.
     entry-characters p.original (take k p.history) (get_or p.history k d) (sound.history.entries k (get_or p.history k d) (slice_get-get_or p.history k d within))
 
-entry-text : (entry : Entry) → HasCharacters entry → HasText IsScalar entry
+pub entry-text : (entry : Entry) → HasCharacters entry → HasText IsScalar entry
 entry-text (Corrects r who) texts = texts.0
 entry-text (Undoes undone) texts = tt
 

@@ -93,7 +93,7 @@ names_tie = lists_ties nat_cmp unsigned_ties
 pub Decides-name : (x y : List ℕ) → Decides (pointwise nat_eq x y) (x ≡ y)
 Decides-name = pointwise_decides unsigned_Decides
 
-same_name : (x y : List ℕ) → slice_cmp nat_cmp x y ≡ Equal → x ≡ y
+pub same_name : (x y : List ℕ) → slice_cmp nat_cmp x y ≡ Equal → x ≡ y
 same_name = slice_cmp-IsAntisymmetric nat_cmp-IsAntisymmetric
 
 -- the text of the table with this name

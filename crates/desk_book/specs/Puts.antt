@@ -1,12 +1,12 @@
 -- What is put into the rows of a book's file, and what becomes of them.
-use Rattle.std.specs.Prelude.{◌≡◌, ℕ, ℤ, pos, Bool, not, if◌then◌else◌, List, [], ◌∷◌, map, filter, fold, Option, option_map, option_to_list, MatchOption, IsSome, IsUtf8, bytes_eq, encode_utf8_all}
+use Rattle.std.specs.Prelude.{◌≡◌, ℕ, ℤ, pos, Bool, not, if◌then◌else◌, List, [], ◌∷◌, map, filter, fold, Option, option_map, option_to_list, MatchOption, IsSome, bytes_eq, encode_utf8_all}
 use Rattle.std.specs.List.{All}
 use Rattle.std.specs.Ordering.{int_eq}
 use Rattle.desk_book.specs.declared.parts.FileTable.TheVariants.{NamedCorr as NamedCorrTable}
 use Rattle.desk_book.specs.declared.rows.BookRow.{BookRow}
 use Rattle.desk_book.specs.declared.rows.Put.{Put}
 use Rattle.desk_book.specs.declared.rows.Put.TheVariants as lent
-use Rattle.desk_book.specs.FileRows.{EntryRows, FileRows, HasEntryTexts, HasMarkText, HasParaTexts, HasTabText, Named, Unnamed, table_of}
+use Rattle.desk_book.specs.FileRows.{EntryRows, FileRows, Named, Unnamed, table_of}
 use Rattle.desk_book.specs.Rows.{Tab, Para, NamedCorr, Mark, Cached}
 
 -- A row that is added, or replaces the one with its key, or columns that the row with a key gets. A text is its bytes.
@@ -137,19 +137,3 @@ HasItsTable rows (SetVersion version) = Unit {0}
 
 abbrev pub HasTheirTables : List RowPut → FileRows → Type 0
 HasTheirTables puts rows = All (HasItsTable rows) puts
-
--- its texts are UTF-8
-abbrev pub HasTexts : RowPut → Type 0
-HasTexts (PutBook row) = Unit {0}
-HasTexts (PutTab row) = HasTabText row
-HasTexts (PutPara row) = HasParaTexts row
-HasTexts (PutMark row) = HasMarkText row
-HasTexts (PutCache row) = Unit {0}
-HasTexts (PutEntry row) = HasEntryTexts row
-HasTexts (SetPlace id place) = Unit {0}
-HasTexts (SetFlags id style volume struck) = Unit {0}
-HasTexts (SetTable id tab) = IsUtf8 tab
-HasTexts (SetPrint id print) = IsUtf8 print
-HasTexts (SetSpan id start stop touched) = Unit {0}
-HasTexts (SetResolved id resolved) = Unit {0}
-HasTexts (SetVersion version) = Unit {0}

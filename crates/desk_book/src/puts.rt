@@ -3,7 +3,7 @@ ghost use Rattle.desk_book.specs.ChangePuts.{cache_put, cells_from, change_puts,
 ghost use Rattle.desk_book.specs.Changes.{Carries};
 ghost use Rattle.desk_book.specs.Limits.{most_paragraphs, most_print};
 ghost use Rattle.desk_book.specs.ParagraphMarks.{marks_on};
-ghost use Rattle.desk_book.specs.Puts.{LendsFirst, PutCache, PutEntry, PutMark, PutPara, SetPlace, SetVersion, put_of};
+ghost use Rattle.desk_book.specs.Puts.{LendsFirst, PutEntry, PutMark, PutPara, SetPlace, SetVersion, put_of};
 ghost use Rattle.desk_book.specs.Shows.{flag_number, style_number};
 ghost use Rattle.desk_book.specs.Step.{next_id};
 ghost use Rattle.std.specs.Prelude.{◌≡◌, ◌+◌, ◌-◌, ◌<◌, ◌≤◌, [], ◌∷◌, ◌++◌, IfNone, IfSome, length, map, slice_index};
@@ -91,7 +91,7 @@ impl<'a> Model for CellPuts<'a> {
 /// The first new cells from an index on, with the id of their paragraph.
 fn first_cells(cells: &[Option<Cells>], from: usize) -> Option<(usize, &Cells)>
     ensures found { IfSome result (λ found. cells_from from cells.now
-        ≡ PutCache (record { para = row_number found.0; cells = found.1.now }) ∷ cells_from found.0 cells.now) }
+        ≡ cache_put found.0 found.1.now ∷ cells_from found.0 cells.now) }
     ensures none { IfNone result (cells_from from cells.now ≡ []) }
 {
     for index in from..cells.len() {
@@ -230,7 +230,8 @@ impl<'a> Model for SpanPuts<'a> {
 
     ghost view = { λ p. map (span_put p.start p.removed p.added) p.marks };
 
-    ghost invariant = { λ p. AreSpans p.marks × (p.start + p.removed ≤ most_print) × (p.added ≤ most_print) };
+    ghost invariant = { λ p.
+        AreSpans p.marks × (p.start + p.removed ≤ most_print) × (p.added ≤ most_print) };
 }
 
 impl<'a> SpanPuts<'a> {
@@ -299,7 +300,8 @@ impl<'a> Model for Puts<'a> {
     ghost Value = { RowPuts };
 
     ghost view = { λ p.
-        puts_in p.version ++ (puts_in p.row ++ (puts_in p.print ++ (puts_in p.cells ++ walk_puts p.walk))) };
+        puts_in p.version
+        ++ (puts_in p.row ++ (puts_in p.print ++ (puts_in p.cells ++ walk_puts p.walk))) };
 }
 
 impl<'a> Iterator for Puts<'a> {
@@ -341,7 +343,8 @@ impl<'a> Puts<'a> {
         walk: Walk<'a>,
     ) -> Self
         ensures { result ≡ SetVersion (row_number version)
-            ∷ (puts_in row.entry ++ (puts_in print.entry ++ (puts_in cells.entry ++ walk_puts walk.entry))) }
+            ∷ (puts_in row.entry ++ (puts_in print.entry
+            ++ (puts_in cells.entry ++ walk_puts walk.entry))) }
     {
         Puts {
             version: Some(Put::Version(number(version))),
@@ -430,7 +433,8 @@ impl Book {
         place: usize,
     ) -> Puts<'a>
         requires { place ≤ length self.now.paragraphs }
-        ensures { result ≡ SetVersion (row_number version) ∷ PutPara (kept_row (next_id self.now) (place + 1) paragraph.now)
+        ensures { result ≡ SetVersion (row_number version)
+            ∷ PutPara (kept_row (next_id self.now) (place + 1) paragraph.now)
             ∷ cache_put (next_id self.now) paragraph.now.cells
             ∷ further_from place (map (λ other. other.id) self.now.paragraphs) }
     {
@@ -450,7 +454,8 @@ impl Book {
         requires within { change.now.start + change.now.removed ≤ most_print }
         requires short { change.now.added ≤ most_print }
         ensures { walk_puts result
-            ≡ map (span_put change.now.start change.now.removed change.now.added) (marks_on id self.now.marks) }
+            ≡ map (span_put change.now.start change.now.removed change.now.added)
+            (marks_on id self.now.marks) }
     {
         // it is sound
         let _ = &self.version;
@@ -469,7 +474,8 @@ impl Book {
     fn print_puts<'a>(&'a self, version: u64, id: u64, change: &'a PrintChange) -> Puts<'a>
         requires within { change.now.start + change.now.removed ≤ most_print }
         requires short { change.now.added ≤ most_print }
-        ensures { result ≡ SetVersion (row_number version) ∷ effect_puts self.now (Effect.ChangePrint id change.now) }
+        ensures { result ≡ SetVersion (row_number version)
+            ∷ effect_puts self.now (Effect.ChangePrint id change.now) }
     {
         let seq = self.next_entry(id).unwrap_or(1);
         Puts::new(

@@ -1,4 +1,4 @@
-use Rattle.std.proofs.Common.{◌≡◌, [], map, refl, sym, ap, subst, ◌∙◌}
+use Rattle.std.proofs.Common.{map, sym, ap, subst}
 use Rattle.desk_book.specs.ChangePuts.{AreSpans, span_put}
 use Rattle.desk_book.proofs.KeptLookups.{sound}
 use Rattle.desk_book.proofs.PutMarks.{AreSpans-on, none-on}

@@ -1,4 +1,4 @@
-use Rattle.std.proofs.Common.{◌≤◌, List, subst, sym}
+use Rattle.std.proofs.Common.{◌≤◌, subst}
 use Rattle.std.proofs.lemmas.List.Elements.{All-tail}
 use Rattle.desk_book.specs.Book.{Mark}
 use Rattle.desk_book.specs.ChangePuts.{AreSpans}
