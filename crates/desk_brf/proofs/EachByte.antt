@@ -43,7 +43,7 @@ letter-byte digit is = by (eqb digit 48)
     by true = (omega arith, omega arith)
     by false = let low = is.0 in let high = is.1 in (omega (arith, low), omega (arith, high))
 
-number-bytes : (width number : ℕ) → All IsCellByte (number_line width number)
+pub number-bytes : (width number : ℕ) → All IsCellByte (number_line width number)
 number-bytes width number =
     All-append IsCellByte (replicate (width - length (number_text number)) 32) (number_text number)
     (All-replicate IsCellByte (width - length (number_text number)) 32 (omega arith, omega arith))
@@ -52,7 +52,7 @@ number-bytes width number =
 
 -- ---- lines and pages
 
-abbrev AreCellBytes : List ℕ → Type 0
+abbrev pub AreCellBytes : List ℕ → Type 0
 AreCellBytes line = All IsCellByte line
 
 ended-bytes : (line : List ℕ) → AreCellBytes line → All IsEmbossedByte (ended line)
@@ -77,13 +77,20 @@ pages-bytes width number (page ∷ pages) all =
     (page-bytes width number page (all-front AreCellBytes page others all))
     (pages-bytes width (number + 1) pages (all-behind AreCellBytes page others all))
 
-pub each_byte : (book : Book) (layout : Layout) (number : ℕ) (bytes : List ℕ) (pages : ℕ) → IsLayout layout.width layout.lines
-    → IsVolume book layout number bytes pages → All IsEmbossedByte bytes
-each_byte book layout number bytes pages limits volume =
+-- the lines that the pages of a volume hold
+pub pages_lines-bytes : (book : Book) (layout : Layout) (number : ℕ) (bytes : List ℕ) (pages : ℕ) → IsLayout layout.width layout.lines
+    → (volume : IsVolume book layout number bytes pages) → All AreCellBytes (flat_map (λ page. page) volume.paged.pages)
+pages_lines-bytes book layout number bytes pages limits volume =
     let paged = volume.paged in
     let lines : All AreCellBytes volume.lines =
     All-weaker (IsTextLine layout.width) AreCellBytes (λ line is. is.cells) volume.lines (each_line book layout number bytes pages limits volume) in
     let all : All AreCellBytes (volume.lines ++ replicate paged.blank []) =
     All-append AreCellBytes volume.lines (replicate paged.blank []) lines (All-replicate AreCellBytes paged.blank [] (All-nil IsCellByte)) in
+    subst (All AreCellBytes) (sym paged.holds) all
+
+pub each_byte : (book : Book) (layout : Layout) (number : ℕ) (bytes : List ℕ) (pages : ℕ) → IsLayout layout.width layout.lines
+    → IsVolume book layout number bytes pages → All IsEmbossedByte bytes
+each_byte book layout number bytes pages limits volume =
+    let paged = volume.paged in
     subst (All IsEmbossedByte) (sym paged.bytes_are)
-    (pages-bytes layout.width 1 paged.pages (subst (All AreCellBytes) (sym paged.holds) all))
+    (pages-bytes layout.width 1 paged.pages (pages_lines-bytes book layout number bytes pages limits volume))

@@ -15,3 +15,4 @@ pub mod OneVolume
 pub mod WholeWords
 pub mod EachLine
 pub mod EachByte
+pub mod WholePages

@@ -1,6 +1,6 @@
 //! Laws of pages.
 ghost use Rattle.desk_book.specs.Book.{Book};
-ghost use Rattle.desk_brf.specs.Embossed.{IsEmbossedByte, IsTextLine};
+ghost use Rattle.desk_brf.specs.Embossed.{ArePageTexts, IsEmbossedByte, IsTextLine};
 ghost use Rattle.desk_brf.specs.Layout.{IsLayout, Layout};
 ghost use Rattle.desk_brf.specs.Placing.{IsPlacing};
 ghost use Rattle.desk_brf.specs.Volume.{IsVolume};
@@ -30,16 +30,26 @@ pub fn one_volume()
         → (others ≡ bytes) × (count ≡ pages) }
 {}
 
-/// Each line of text of a volume has at most as many cells as the width, and no blank at its end.
+/// Each line of text of a volume has at most as many cells as the width, and no blank at its end, if the layout keeps its
+/// limits.
 pub fn narrow_lines()
     ensures { (book : Book) (layout : Layout) (number : ℕ) (bytes : List ℕ) (pages : ℕ)
         → IsLayout layout.width layout.lines → (volume : IsVolume book layout number bytes pages)
         → All (IsTextLine layout.width) volume.lines }
 {}
 
-/// Each byte of a volume stands for a cell, or is one of the CR, LF and form feed that end lines and pages.
+/// Each byte of a volume stands for a cell, or is one of the CR, LF and form feed that end lines and pages, if the layout
+/// keeps its limits.
 pub fn embossed_bytes()
     ensures { (book : Book) (layout : Layout) (number : ℕ) (bytes : List ℕ) (pages : ℕ)
         → IsLayout layout.width layout.lines
         → IsVolume book layout number bytes pages → All IsEmbossedByte bytes }
+{}
+
+/// A volume's bytes are its pages, each ended by a form feed, the only one in it, and with just as many lines as the layout
+/// has in a page, if the layout keeps its limits.
+pub fn whole_pages()
+    ensures { (book : Book) (layout : Layout) (number : ℕ) (bytes : List ℕ) (pages : ℕ)
+        → IsLayout layout.width layout.lines
+        → IsVolume book layout number bytes pages → ArePageTexts layout.lines pages bytes }
 {}

@@ -216,10 +216,10 @@ fn numbers_pages(rt: HostRuntime) -> Result<(), Fail> {
     let mut sink = Limited::new(rt.alloc(), usize::MAX);
     assert_eq!(&rt; export(&book, &layout, 1, &mut sink).ok(), Some(100));
     for (page, number) in [
-        (8, "       #I\r\n"),
-        (9, "       #AJ\r\n"),
-        (98, "       #II\r\n"),
-        (99, "      #AJJ\r\n"),
+        (8, "\r\n        #I\r\n"),
+        (9, "\r\n       #AJ\r\n"),
+        (98, "\r\n       #II\r\n"),
+        (99, "\r\n      #AJJ\r\n"),
     ] {
         let text = sink.bytes.split(|byte| *byte == 0x0C).nth(page);
         assert!(&rt;
