@@ -30,7 +30,7 @@ pub mod FileRows
 pub mod Shows
 pub mod Damage
 pub mod Rebuilt
-pub mod Outcome
 pub mod Puts
 pub mod ChangePuts
 pub mod PutsLeft
+pub mod Outcome

@@ -50,8 +50,8 @@ pub fn one_book()
     ensures { (rows : FileRows) (book other : Book) → Shows rows book → Shows rows other → book ≡ other }
 {}
 
-/// What a change puts makes rows that show its book show the next one, where they have the table of each row that is put. Of a
-/// change that gives a table another text it is not proved yet.
+/// What a change puts makes rows that show its book show the next one, where they have the table of each row that is put. A
+/// change that gives a table another text isn't covered: it may have cells for more paragraphs than the book has.
 pub fn puts_lead_to_the_next_book()
     ensures { (book next : Book) (command : Command) (change : Change) → IsSound book → Carries book command next change
         → KeepsTexts change.effect → LeadTo book (change_puts book change) next }

@@ -19,7 +19,7 @@ use Rattle.desk_line.specs.declared.request.Query.TheVariants as queries
 use Rattle.desk_line.specs.declared.request.Request.{Request}
 use Rattle.desk_line.specs.declared.request.Request.TheVariants as requests
 use Rattle.desk_line.specs.Fields.{IsNumber, end, fields_of}
-use Rattle.desk_line.specs.Head.{Says, SaysDirective, asks, correct, correct_by, does, expected, nothing, strike, table, type_in, version}
+use Rattle.desk_line.specs.Head.{Says, SaysDirective, asks, correct, correct_by, does, expected, nothing, strike, supply, table, type_in, version}
 use Rattle.desk_line.specs.Lines.{CanBeHead}
 use Rattle.desk_line.specs.Reading.{head_in, head_of, query_in, directive_in, number_in, count_in, table_in, type_in as read_type_in, anchor_in}
 use Rattle.desk_line.specs.Answered.{Replies, asked, no_request}
@@ -73,6 +73,9 @@ unfolding encode_utf8
 strike-at-a-version =
     does (Some 9) (codes "strike" ∷ codes "1" ∷ []) (directives.Strike 1) (text-of-line (codes "@9 strike 1") (lit≤ tt) refl refl)
     (expected (codes "9") 9 nine-is-a-number refl refl) (strike (codes "1") 1 one-is-a-number refl refl) refl
+
+supplied-table : SaysDirective (fields_of (codes "supply en")) (directives.Supply (codes "en"))
+supplied-table = supply (codes "en") (λ n. cc) refl refl
 
 -- an empty text, with the blank before it or without
 typed-nothing : SaysDirective (fields_of (codes "type end en")) (directives.TypeIn End (codes "en") [])
