@@ -60,6 +60,12 @@ static void put_volume(const char *cells, const char *end) {
     while (lines % TEXT_LINES != 0) put_line();
 }
 
+static double seconds(void) {
+    struct timespec now;
+    timespec_get(&now, TIME_UTC);
+    return now.tv_sec + now.tv_nsec / 1e9;
+}
+
 int main(int argc, char **argv) {
     FILE *in = fopen(argv[1], "rb");
     static char cells[64 << 20];
@@ -67,8 +73,8 @@ int main(int argc, char **argv) {
     int times = argc > 2 ? atoi(argv[2]) : 0;
     out = times ? fopen("/dev/null", "wb") : stdout;
     setvbuf(out, NULL, _IOFBF, 1 << 16);
-    clock_t start = clock();
+    double start = seconds();
     for (int i = 0; i < (times ? times : 1); i++) put_volume(cells, cells + size);
-    if (times) printf("%.0f\n", (double)times * (lines / TEXT_LINES) * CLOCKS_PER_SEC / (clock() - start));
+    if (times) printf("%.0f\n", (double)times * (lines / TEXT_LINES) / (seconds() - start));
     return 0;
 }
