@@ -16,3 +16,4 @@ pub mod WholeWords
 pub mod EachLine
 pub mod EachByte
 pub mod WholePages
+pub mod WholeVolume

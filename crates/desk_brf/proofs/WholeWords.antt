@@ -8,13 +8,13 @@ use Rattle.std.proofs.lemmas.List.Concat.{flat_map-append}
 use Rattle.desk_brf.specs.Placing.{IsLine, IsPlacing}
 use Rattle.desk_brf.specs.Words.{has_cells, is_blank, words}
 
-abbrev Word : Type 0
+abbrev pub Word : Type 0
 Word = List ℕ
 
-abbrev all : List Word → List ℕ
+abbrev pub all : List Word → List ℕ
 all ws = flat_map (λ w. w) ws
 
-abbrev kept : List ℕ → List ℕ
+abbrev pub kept : List ℕ → List ℕ
 kept cells = filter (λ cell. not (is_blank cell)) cells
 
 onto_all : (cell : ℕ) (parts : List Word) → all (filter has_cells (onto_first cell parts)) ≡ cell ∷ all (filter has_cells parts)

@@ -1,6 +1,10 @@
--- What lines of text and pages are like for an embosser.
-use Rattle.std.specs.Prelude.{◌≡◌, ◌≢◌, ◌⊎◌, ℕ, ◌≤◌, ◌==◌, List, [], ◌∷◌, ◌++◌, length, All}
-use Rattle.std.specs.List.{count_by, flat_map}
+-- What lines of text and pages are like for an embosser, and which cells they have.
+use Rattle.std.specs.Prelude.{◌≡◌, ◌≢◌, ◌⊎◌, ℕ, ◌≤◌, ◌==◌, List, [], ◌∷◌, ◌++◌, length, All, filter, not}
+use Rattle.std.specs.List.{count_by, filter_map, flat_map}
+use Rattle.cell_core.specs.Ascii.{ascii_cell}
+use Rattle.desk_book.specs.Book.{Book, Paragraph}
+use Rattle.desk_book.specs.Translated.{IsBraille}
+use Rattle.desk_brf.specs.Words.{is_blank}
 
 -- a byte that stands for a cell
 abbrev pub IsCellByte : ℕ → Type 0
@@ -27,3 +31,16 @@ pub record ArePageTexts (lines pages : ℕ) (bytes : List ℕ) : Type 0 where
   pub bytes_are : bytes ≡ flat_map (λ text. text ++ 0x0C ∷ []) texts
   pub count_is : pages ≡ length texts
   pub whole : All (IsPageText lines) texts
+
+-- ---- cells
+
+-- the cells with dots that the bytes of lines stand for, in order
+abbrev pub dots_in : List (List ℕ) → List ℕ
+dots_in lines = flat_map (λ line. filter (λ cell. not (is_blank cell)) (filter_map ascii_cell line)) lines
+
+-- the braille of each of the paragraphs, in order
+abbrev pub AreBrailles : Book → List Paragraph → List (List ℕ) → Type 0
+AreBrailles book [] brailles = brailles ≡ []
+AreBrailles book (paragraph ∷ paragraphs) brailles =
+    (cells : List ℕ) × (rest : List (List ℕ)) × (brailles ≡ cells ∷ rest) × IsBraille book paragraph cells
+    × AreBrailles book paragraphs rest

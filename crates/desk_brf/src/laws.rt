@@ -1,9 +1,10 @@
 //! Laws of pages.
 ghost use Rattle.desk_book.specs.Book.{Book};
-ghost use Rattle.desk_brf.specs.Embossed.{ArePageTexts, IsEmbossedByte, IsTextLine};
+ghost use Rattle.desk_brf.specs.Embossed.{AreBrailles, ArePageTexts, IsEmbossedByte, IsTextLine, dots_in};
 ghost use Rattle.desk_brf.specs.Layout.{IsLayout, Layout};
 ghost use Rattle.desk_brf.specs.Placing.{IsPlacing};
 ghost use Rattle.desk_brf.specs.Volume.{IsVolume};
+ghost use Rattle.desk_brf.specs.Volumes.{volume_of};
 ghost use Rattle.desk_brf.specs.Words.{is_blank, words};
 ghost use Rattle.std.specs.List.{flat_map};
 ghost use Rattle.std.specs.Prelude.{◌≡◌, ◌<◌, ℕ, All, List, filter, not};
@@ -52,4 +53,13 @@ pub fn whole_pages()
     ensures { (book : Book) (layout : Layout) (number : ℕ) (bytes : List ℕ) (pages : ℕ)
         → IsLayout layout.width layout.lines
         → IsVolume book layout number bytes pages → ArePageTexts layout.lines pages bytes }
+{}
+
+/// The cells with dots of a volume's lines are, in order, those of its paragraphs' braille: nothing is lost, and nothing is
+/// there twice.
+pub fn whole_volume()
+    ensures { (book : Book) (layout : Layout) (number : ℕ) (bytes : List ℕ) (pages : ℕ)
+        → (volume : IsVolume book layout number bytes pages)
+        → (brailles : List (List ℕ)) × AreBrailles book (volume_of book number) brailles
+        × (dots_in volume.lines ≡ flat_map (λ cells. filter (λ cell. not (is_blank cell)) cells) brailles) }
 {}
