@@ -45,6 +45,8 @@ pub mod PutPlaces
 pub mod PutPrintLead
 pub mod PutPrints
 pub mod PutRows
+pub mod PutReplacement
+pub mod PutTables
 pub mod PutsLead
 pub mod Replacing
 pub mod RoomLists

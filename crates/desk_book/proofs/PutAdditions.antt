@@ -1,38 +1,29 @@
--- What an addition of a mark or of a table puts makes rows that show the book show the next.
-use Rattle.std.proofs.Common.{◌≡◌, ℕ, ◌≤◌, pos, Bool, true, false, List, [], ◌∷◌, ◌++◌, length, map, Some, None, bytes_eq, encode_utf8_all, refl, sym, ap, subst, ◌∙◌, arith, inl, inr}
-use Rattle.std.specs.Bool.{one_answer}
-use Rattle.std.specs.Cmp.Lexicographic.{pointwise, slice_cmp}
-use Rattle.std.specs.FinMap.Entries.{by_order}
+-- What a new mark puts makes rows that show the book show the next.
+use Rattle.std.proofs.Common.{◌≡◌, ℕ, ◌≤◌, pos, Bool, true, List, [], ◌∷◌, ◌++◌, length, map, refl, sym, ap, subst, ◌∙◌, arith, inl, inr}
 use Rattle.std.specs.List.{All, filter}
 use Rattle.std.specs.List.Sorted.{IsPermutation}
-use Rattle.std.specs.Ordering.{int_eq, nat_cmp}
-use Rattle.std.specs.Prelude.{IsUtf8, nat_eq, not, ◌≢◌}
-use Rattle.std.specs.Str.{chars}
-use Rattle.std.specs.declared.cmp.Ordering.TheVariants.{Less, Equal, Greater}
-use Rattle.std.proofs.lemmas.Bool.{cases_Bool, cond-true, cond-false, false_from_ne_true, ne_eqb}
+use Rattle.std.specs.Ordering.{int_eq}
+use Rattle.std.specs.Prelude.{not}
+use Rattle.std.proofs.lemmas.Bool.{cases_Bool, cond-true, cond-false, ne_eqb}
 use Rattle.std.proofs.lemmas.List.{length-append, map-append}
-use Rattle.std.proofs.lemmas.List.Elements.{All-cons, All-contains, All-filter, All-head, All-map, All-nil, All-tail, All-weaker, Contains-push}
-use Rattle.std.proofs.lemmas.List.Sorted.{IsPermutation-cons, IsPermutation-map, IsPermutation-middle, IsPermutation-refl, IsPermutation-sym, IsPermutation-to_front, IsPermutation-trans}
-use Rattle.std.proofs.lemmas.Slice.Eq.{bytes_eq-Decides}
+use Rattle.std.proofs.lemmas.List.Elements.{All-cons, All-contains, All-filter, All-head, All-map, All-tail, All-weaker, Contains-push}
+use Rattle.std.proofs.lemmas.List.Sorted.{IsPermutation-cons, IsPermutation-refl, IsPermutation-sym, IsPermutation-to_front, IsPermutation-trans}
 use Rattle.desk_book.specs.declared.marks.KeptMark.{KeptMark}
-use Rattle.desk_book.specs.Book.{Book, Mark, text_of}
+use Rattle.desk_book.specs.Book.{Book, Mark}
 use Rattle.desk_book.specs.ChangePuts.{LeadTo, kept_mark_row, row_number}
-use Rattle.desk_book.specs.FileRows.{HasMarkText, HasTabText, format_of, spelled_mark, spelled_tab}
+use Rattle.desk_book.specs.FileRows.{HasMarkText, format_of, spelled_mark}
 use Rattle.desk_book.specs.Kept.{mark_kept}
-use Rattle.desk_book.specs.Puts.{PutMark, PutTab, SetVersion, put_in}
-use Rattle.desk_book.specs.Rows.{Cached, Mark as MarkRow, Tab}
-use Rattle.desk_book.specs.Shows.{IsCached, flag_number, mark_row_of, tab_of}
+use Rattle.desk_book.specs.Puts.{PutMark, SetVersion, put_in}
+use Rattle.desk_book.specs.Rows.{Mark as MarkRow}
+use Rattle.desk_book.specs.Shows.{flag_number, mark_row_of}
 use Rattle.desk_book.specs.Sound.{IsSound, IsSoundMark}
-use Rattle.desk_book.specs.Stored.{AreCharacters}
-use Rattle.desk_book.specs.Step.{next_mark, next_with_marks, next_with_tables}
-use Rattle.desk_book.proofs.BookRows.{encoded-text, name-characters, spelled-encoded}
+use Rattle.desk_book.specs.Step.{next_mark, next_with_marks}
+use Rattle.desk_book.proofs.BookRows.{encoded-text, spelled-encoded}
 use Rattle.desk_book.proofs.MarkSettled.{IsWithin-sound}
 use Rattle.desk_book.proofs.Permutations.{IsPermutation-filter}
 use Rattle.desk_book.proofs.PutChanges.{IsCached-marks, same_key, small_mark}
-use Rattle.desk_book.proofs.PutLists.{text-bytes}
-use Rattle.desk_book.proofs.PutRows.{AreCached-same, IsBraille-same, filter-all, id_number, number-small, versioned}
-use Rattle.desk_book.proofs.SoundBooks.{IsSoundTable-found, paragraph_of-within}
-use Rattle.desk_book.proofs.TableEntries.{Decides-name, text_among, text-put_other, text-put_same, same_name, with_text}
+use Rattle.desk_book.proofs.PutRows.{AreCached-same, filter-all, id_number, number-small, versioned}
+use Rattle.desk_book.proofs.SoundBooks.{paragraph_of-within}
 
 -- ---- a row put in place of those with its key
 
@@ -143,91 +134,3 @@ module _ (book : Book) (kept : KeptMark) (sound : IsSound book) where
           (IsPermutation-sym (old ++ mark_row_of mark ∷ []) (mark_row_of mark ∷ old) (IsPermutation-to_front old (mark_row_of mark))));
       caches = λ caches same. AreCached-same book marked caches (IsPermutation-refl (map id_number book.paragraphs)) (IsCached-marks book marked refl refl) (shows.caches caches same);
     }
-
--- ---- a table more
-
--- an entry with a new key is put beside the others
-put-new : (name text : List ℕ) (tables : List (List ℕ × List ℕ)) → text_among name tables ≡ None → IsPermutation ((name, text) ∷ tables) (with_text name text tables)
-put-new name text [] new = IsPermutation-refl ((name, text) ∷ [])
-put-new name text (e ∷ es) new =
-    elim (slice_cmp nat_cmp name e.0) as (λ r. slice_cmp nat_cmp name e.0 ≡ r → IsPermutation ((name, text) ∷ e ∷ es) (by_order r ((name, text) ∷ e ∷ es) ((e.0, text) ∷ es) (e ∷ with_text name text es))) [
-      | Less ↦ λ h. IsPermutation-refl ((name, text) ∷ e ∷ es)
-      | Equal ↦ λ h. absurd (apart (same_name name e.0 h))
-      | Greater ↦ λ h.
-          IsPermutation-trans ((name, text) ∷ e ∷ es) (e ∷ (name, text) ∷ es) (e ∷ with_text name text es)
-          (IsPermutation-middle ((name, text) ∷ []) e es)
-          (IsPermutation-cons e ((name, text) ∷ es) (with_text name text es)
-          (put-new name text es (sym (cond-false (pointwise nat_eq name e.0) (Some e.1) (text_among name es) (false_from_ne_true (pointwise nat_eq name e.0) (λ t. apart ((Decides-name name e.0).0 t)))) ∙ new)))
-    ] refl
-  where
-    apart : name ≢ e.0
-    apart same = let both : Some e.1 ≡ None = sym (cond-true (pointwise nat_eq name e.0) (Some e.1) (text_among name es) ((Decides-name name e.0).1 same)) ∙ new in cc
-
-none-named : (name : List ℕ) (tables : List (List ℕ × List ℕ)) → text_among name tables ≡ None → All (λ (e : List ℕ × List ℕ). e.0 ≢ name) tables
-none-named name [] new = All-nil (λ (e : List ℕ × List ℕ). e.0 ≢ name)
-none-named name (e ∷ es) new =
-    elim (cases_Bool (pointwise nat_eq name e.0)) [
-      | inl t ↦ absurd (let both : Some e.1 ≡ None = sym (cond-true (pointwise nat_eq name e.0) (Some e.1) (text_among name es) t) ∙ new in cc)
-      | inr f ↦ All-cons (λ (x : List ℕ × List ℕ). x.0 ≢ name) e es
-          (λ same. let t : pointwise nat_eq name e.0 ≡ true = (Decides-name name e.0).1 (sym same) in let both : true ≡ false = sym t ∙ f in cc)
-          (none-named name es (sym (cond-false (pointwise nat_eq name e.0) (Some e.1) (text_among name es) f) ∙ new))
-    ]
-
-module _ (book : Book) (name text : List ℕ) (new : text_of book name ≡ None) where
-  abbrev tabled : Book
-  tabled = next_with_tables book (with_text name text book.tables)
-
-  module _ (after : IsSound tabled) where
-    abbrev tab : Tab
-    tab = record { name = encode_utf8_all name; body = text }
-
-    characters : AreCharacters name
-    characters = name-characters name (IsSoundTable-found tabled after name text (text-put_same name name text book.tables refl)).named
-
-    -- bytes are those of the name where they spell it
-    same_named : (bytes : List ℕ) → IsUtf8 bytes → bytes_eq bytes (encode_utf8_all name) ≡ bytes_eq (chars bytes) name
-    same_named bytes utf8 =
-        one_answer {P = bytes ≡ encode_utf8_all name} (bytes_eq bytes (encode_utf8_all name)) (bytes_eq (chars bytes) name) (bytes_eq-Decides bytes (encode_utf8_all name))
-        (λ e. text-bytes bytes name utf8 ((bytes_eq-Decides (chars bytes) name).0 e), λ same. (bytes_eq-Decides (chars bytes) name).1 (ap chars same ∙ spelled-encoded name characters))
-
-    pub table-lead : LeadTo book (SetVersion (row_number tabled.version) ∷ PutTab tab ∷ []) tabled
-    table-lead rows shows has = record {
-      sound = after;
-      texts = record {
-        tabs = All-put_in HasTabText (λ (t : Tab). bytes_eq t.name tab.name) tab rows.tabs (encoded-text name characters) shows.texts.tabs;
-        paras = shows.texts.paras;
-        entries = shows.texts.entries;
-        marks = shows.texts.marks;
-      };
-      row = versioned (format_of rows.entries) book.version tabled.version rows.books after.version shows.row;
-      tables =
-          let has_key : Tab → Bool = λ t. bytes_eq t.name tab.name in
-          let key : Tab → Bool = λ t. bytes_eq t.name name in
-          let old : List Tab = map tab_of book.tables in
-          let moved = IsPermutation-put_in spelled_tab has_key key tab rows.tabs old
-          (All-weaker HasTabText (λ (t : Tab). has_key t ≡ key (spelled_tab t)) (λ t utf8. same_named t.name utf8) rows.tabs shows.texts.tabs) shows.tables in
-          let all : filter (λ t. not (key t)) old ≡ old = filter-all (λ t. not (key t)) old
-          (All-map (λ (t : Tab). not (key t) ≡ true) tab_of book.tables
-          (All-weaker (λ (e : List ℕ × List ℕ). e.0 ≢ name) (λ e. not (bytes_eq e.0 name) ≡ true)
-          (λ e apart. ap not (false_from_ne_true (bytes_eq e.0 name) (λ t. apart ((bytes_eq-Decides e.0 name).0 t)))) book.tables (none-named name book.tables new))) in
-          let spelled : spelled_tab tab ≡ tab_of (name, text) = λ i. record { name = spelled-encoded name characters i; body = text } in
-          IsPermutation-trans (map spelled_tab (put_in has_key tab rows.tabs)) (tab_of (name, text) ∷ old) (map tab_of tabled.tables)
-          (subst (IsPermutation (map spelled_tab (put_in has_key tab rows.tabs))) (λ i. spelled i ∷ all i) moved)
-          (IsPermutation-map tab_of ((name, text) ∷ book.tables) tabled.tables (put-new name text book.tables new));
-      paragraphs = shows.paragraphs;
-      entries = shows.entries;
-      marks = shows.marks;
-      caches = λ caches same. AreCached-same book tabled caches (IsPermutation-refl (map id_number book.paragraphs)) cached-on (shows.caches caches same);
-    }
-      where
-        cached-on : (row : Cached) → IsCached book row → IsCached tabled row
-        cached-on row is =
-            let by = is.cells.2 in
-            record {
-              paragraph = is.paragraph;
-              there = is.there;
-              named = is.named;
-              cells = IsBraille-same book tabled is.paragraph is.paragraph refl
-                  (text-put_other is.paragraph.table name text book.tables
-                  (λ same. let both : Some by.text ≡ None = sym by.found ∙ (ap (text_of book) same ∙ new) in cc)) row.cells is.cells;
-            }

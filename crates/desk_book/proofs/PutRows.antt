@@ -61,6 +61,35 @@ filter-all p (x ∷ xs) all =
     cond-true (p x) (x ∷ filter p xs) (filter p xs) (All-head (λ y. p y ≡ true) x xs all)
     ∙ ap (λ (rest : List _). x ∷ rest) (filter-all p xs (All-tail (λ y. p y ≡ true) x xs all))
 
+-- what holds of a row that is put, and of the others by what held of them, holds of all
+pub All-put_apart : {X : Type 0} (P Q : X → Type 0) (has_key : X → Bool) (x : X) (xs : List X) → Q x → ((y : X) → has_key y ≡ false → P y → Q y) → All P xs → All Q (put_in has_key x xs)
+All-put_apart {X} P Q has_key x xs here others all = All-cons Q x (apart xs) here (left xs all)
+  where
+    apart : List X → List X
+    apart ys = filter (λ y. not (has_key y)) ys
+
+    left : (ys : List X) → All P ys → All Q (apart ys)
+    left [] all = All-nil Q
+    left (y ∷ ys) all =
+        let rest = left ys (All-tail P y ys all) in
+        elim (cases_Bool (has_key y)) [
+          | inl e ↦ subst (All Q) (sym (cond-false (not (has_key y)) (y ∷ apart ys) (apart ys) (ap not e))) rest
+          | inr e ↦ subst (All Q) (sym (cond-true (not (has_key y)) (y ∷ apart ys) (apart ys) (ap not e)))
+              (All-cons Q y (apart ys) (others y e (All-head P y ys all)) rest)
+        ]
+
+-- the numbers of rows of braille once one is put
+pub IsPermutation-put_number : (rows : List Cached) (row : Cached) (old new : List ℤ) → IsPermutation (row.para ∷ filter (λ n. not (int_eq n row.para)) old) new
+    → IsPermutation (map (λ c. c.para) rows) old → IsPermutation (map (λ c. c.para) (put_in (λ c. int_eq c.para row.para) row rows)) new
+IsPermutation-put_number rows row old new ids was =
+    let key : Cached → ℤ = λ c. c.para in
+    let apart : ℤ → Bool = λ n. not (int_eq n row.para) in
+    let left : List Cached = filter (λ c. apart (key c)) rows in
+    let keys : map key left ≡ filter apart (map key rows) = sym (filter-map apart key rows) in
+    subst (λ (ns : List ℤ). IsPermutation (row.para ∷ ns) new) (sym keys)
+    (IsPermutation-trans (row.para ∷ filter apart (map key rows)) (row.para ∷ filter apart old) new
+    (IsPermutation-cons row.para (filter apart (map key rows)) (filter apart old) (IsPermutation-filter apart (map key rows) old was)) ids)
+
 -- ---- the braille of paragraphs
 
 -- a paragraph with the same print and table has the same braille where the table's text is the same
@@ -103,25 +132,7 @@ module _ (book next : Book) where
       → IsPermutation (row.para ∷ filter (λ n. not (int_eq n row.para)) (map id_number book.paragraphs)) (map id_number next.paragraphs)
       → IsCached next row → ((other : Cached) → int_eq other.para row.para ≡ false → IsCached book other → IsCached next other)
       → AreCached book rows → AreCached next (put_in (λ c. int_eq c.para row.para) row rows)
-  AreCached-put rows row ids here others is =
-      let key : Cached → ℤ = λ c. c.para in
-      let apart : ℤ → Bool = λ n. not (int_eq n row.para) in
-      let left : List Cached = filter (λ c. apart (key c)) rows in
-      let keys : map key left ≡ filter apart (map key rows) = sym (filter-map apart key rows) in
-      record {
-        one_each = subst (λ (ns : List ℤ). IsPermutation (row.para ∷ ns) (map id_number next.paragraphs)) (sym keys)
-            (IsPermutation-trans (row.para ∷ filter apart (map key rows)) (row.para ∷ filter apart (map id_number book.paragraphs)) (map id_number next.paragraphs)
-            (IsPermutation-cons row.para (filter apart (map key rows)) (filter apart (map id_number book.paragraphs))
-            (IsPermutation-filter apart (map key rows) (map id_number book.paragraphs) is.one_each)) ids);
-        cells = All-cons (IsCached next) row left here (left-cached rows is.cells);
-      }
-    where
-      left-cached : (cs : List Cached) → All (IsCached book) cs → All (IsCached next) (filter (λ c. not (int_eq c.para row.para)) cs)
-      left-cached [] all = All-nil (IsCached next)
-      left-cached (c ∷ cs) all =
-          let rest = left-cached cs (All-tail (IsCached book) c cs all) in
-          elim (cases_Bool (int_eq c.para row.para)) [
-            | inl e ↦ subst (All (IsCached next)) (sym (cond-false (not (int_eq c.para row.para)) (c ∷ filter (λ d. not (int_eq d.para row.para)) cs) (filter (λ d. not (int_eq d.para row.para)) cs) (ap not e))) rest
-            | inr e ↦ subst (All (IsCached next)) (sym (cond-true (not (int_eq c.para row.para)) (c ∷ filter (λ d. not (int_eq d.para row.para)) cs) (filter (λ d. not (int_eq d.para row.para)) cs) (ap not e)))
-                (All-cons (IsCached next) c (filter (λ d. not (int_eq d.para row.para)) cs) (others c e (All-head (IsCached book) c cs all)) rest)
-          ]
+  AreCached-put rows row ids here others is = record {
+    one_each = IsPermutation-put_number rows row (map id_number book.paragraphs) (map id_number next.paragraphs) ids is.one_each;
+    cells = All-put_apart (IsCached book) (IsCached next) (λ c. int_eq c.para row.para) row rows here others is.cells;
+  }

@@ -1,10 +1,7 @@
 -- What a change puts makes rows that show its book show the next.
 use Rattle.std.proofs.Common.{◌≡◌, ℕ, ◌+◌, List, [], ◌∷◌, length, map, Option, None, Contains, encode_utf8_all, refl, sym, ap, subst, ◌∙◌}
-use Rattle.std.specs.Cmp.Lexicographic.{slice_cmp}
-use Rattle.std.specs.FinMap.Entries.{put}
 use Rattle.std.specs.List.{insert}
 use Rattle.std.specs.List.Sorted.{IsPermutation}
-use Rattle.std.specs.Ordering.{nat_cmp}
 use Rattle.std.specs.Prelude.{option_map, unwrap_or}
 use Rattle.desk_book.specs.declared.change.Effect.{Effect}
 use Rattle.desk_book.specs.declared.change.Effect.TheVariants as effect
@@ -12,7 +9,7 @@ use Rattle.desk_book.specs.declared.command.Command.{Command}
 use Rattle.desk_book.specs.declared.command.Command.TheVariants.{TypeIn, Move}
 use Rattle.desk_book.specs.declared.history.KeptEntry.{KeptEntry}
 use Rattle.desk_book.specs.Book.{Book, Paragraph, paragraph_of}
-use Rattle.desk_book.specs.ChangePuts.{KeepsTexts, LeadTo, cache_put, effect_puts, entry_row, row_number, span_put}
+use Rattle.desk_book.specs.ChangePuts.{LeadTo, cache_put, effect_puts, entry_row, row_number, span_put}
 use Rattle.desk_book.specs.Changes.{Carries, Change, ChangesPrint, Does}
 use Rattle.desk_book.specs.Histories.{entries_kept, entry_kept}
 use Rattle.desk_book.specs.Kept.{paragraph_kept}
@@ -26,14 +23,17 @@ use Rattle.desk_book.specs.Stored.{stored}
 use Rattle.desk_book.proofs.Accepted.{named_paragraph}
 use Rattle.desk_book.proofs.Members.{Contains-behind, Contains-here, Contains-map}
 use Rattle.desk_book.proofs.ParagraphLists.{Contains-found, IsPermutation-with_move, IsPermutation-with_paragraph, id-found, ids_of}
-use Rattle.desk_book.proofs.PutAdditions.{mark-lead, table-lead}
+use Rattle.desk_book.proofs.PutAdditions.{mark-lead}
 use Rattle.desk_book.proofs.PutCells.{retabled-lead}
 use Rattle.desk_book.proofs.PutChanges.{flags-lead, resolved-lead}
 use Rattle.desk_book.proofs.PutOrder.{order-lead}
 use Rattle.desk_book.proofs.PutParagraph.{paragraph-lead}
 use Rattle.desk_book.proofs.PutPrintLead.{print-lead}
+use Rattle.desk_book.proofs.PutReplacement.{replaced-lead}
+use Rattle.desk_book.proofs.PutTables.{table-lead}
 use Rattle.desk_book.proofs.SoundBooks.{paragraphs-apart}
 use Rattle.desk_book.proofs.SoundSteps.{IsSound-makes}
+use Rattle.desk_book.proofs.TableEntries.{with_text}
 
 no-entries : (history : List KeptEntry) → entries_kept history ≡ [] → history ≡ []
 no-entries [] e = refl
@@ -44,12 +44,15 @@ module _ (book next : Book) (command : Command) (sound : IsSound book) (accepted
   abbrev Leads : Effect → Book → Type 0
   Leads e b = LeadTo book (SetVersion (row_number b.version) ∷ effect_puts book e) b
 
-  pub leads : (e : Effect) → Does book command next e → KeepsTexts e → Leads e next
-  leads (effect.AddTable name table room) does keeps =
-      let is : next ≡ next_with_tables book (put (slice_cmp nat_cmp) name table.text book.tables) = subst (λ (c : Command). Makes book c next) does.0 makes in
-      subst (Leads (effect.AddTable name table room)) (sym is) (table-lead book name table.text does.1 (subst IsSound is after))
-  leads (effect.ReplaceTable name table cells) does keeps = absurd keeps
-  leads (effect.AddParagraph kept room order_room place) does keeps =
+  pub leads : (e : Effect) → Does book command next e → Leads e next
+  leads (effect.AddTable name table room) does =
+      let is : next ≡ next_with_tables book (with_text name table.text book.tables) = subst (λ (c : Command). Makes book c next) does.0 makes in
+      subst (Leads (effect.AddTable name table room)) (sym is) (table-lead book name table.text sound does.1 (subst IsSound is after))
+  leads (effect.ReplaceTable name table cells) does =
+      let is : next ≡ next_with_tables book (with_text name table.text book.tables) = subst (λ (c : Command). Makes book c next) does.0 makes in
+      subst (Leads (effect.ReplaceTable name table cells)) (sym is)
+      (replaced-lead book name table.text table.rules sound does.2 cells.items does.3 does.4 (subst IsSound is after))
+  leads (effect.AddParagraph kept room order_room place) does =
       let given = does in
       let new : Paragraph = typed (next_id book) kept.table given.text in
       let ps : List Paragraph = with_paragraph given.anchor new book.paragraphs in
@@ -66,7 +69,7 @@ module _ (book next : Book) (command : Command) (sound : IsSound book) (accepted
       let order : insert (ids_of book.paragraphs) place (next_id book) ≡ ids_of ps = given.order ∙ ap (λ (b : Book). ids_of b.paragraphs) is in
       subst (Leads (effect.AddParagraph kept room order_room place)) (sym is)
       (paragraph-lead book ps kept place given.typed_is.source given.typed_is.meaning sound given.within fresh (given.typed_is.print ∙ sym original) given.typed_is.found given.typed_is.means given.typed_is.cells moved order (subst IsSound is after))
-  leads (effect.ChangePrint id change) does keeps =
+  leads (effect.ChangePrint id change) does =
       let is = does.next_is in
       let given : ChangesPrint book (next_with_entry book id (entry_kept change.entry) (mark_moved_by change.start change.removed change.added)) id change =
       subst (λ (b : Book). ChangesPrint book b id change) is does in
@@ -76,16 +79,16 @@ module _ (book next : Book) (command : Command) (sound : IsSound book) (accepted
       (subst (λ (n : ℕ). LeadTo book (SetVersion (row_number (book.version + 1)) ∷ PutEntry (entry_row id n change.entry) ∷ SetPrint (row_number id) (encode_utf8_all change.print) ∷ cache_put id change.cells
       ∷ map (span_put change.start change.removed change.added) (marks_on id book.marks)) (next_with_entry book id (entry_kept change.entry) (mark_moved_by change.start change.removed change.added))) number
       (print-lead book id change sound given (subst IsSound is after)))
-  leads (effect.AddMark mark room index_room) does keeps =
+  leads (effect.AddMark mark room index_room) does =
       subst (Leads (effect.AddMark mark room index_room)) (sym does.0) (mark-lead book mark sound (subst IsSound does.0 after))
-  leads (effect.ResolveMark id) does keeps =
+  leads (effect.ResolveMark id) does =
       subst (Leads (effect.ResolveMark id)) (sym does) (resolved-lead book id sound (subst IsSound does after))
-  leads (effect.SetFlags id style begins struck) does keeps =
+  leads (effect.SetFlags id style begins struck) does =
       subst (Leads (effect.SetFlags id style begins struck)) (sym does) (flags-lead book id style begins struck sound (subst IsSound does after))
-  leads (effect.ChangeTable id table cells) does keeps =
+  leads (effect.ChangeTable id table cells) does =
       let is : next ≡ next_with_paragraphs book (with_change id (λ p. record p { table = table }) book.paragraphs) = subst (λ (c : Command). Makes book c next) does.0 makes in
       subst (Leads (effect.ChangeTable id table cells)) (sym is) (retabled-lead book id table cells sound does.1 (subst IsSound is after))
-  leads (effect.Reorder order) does keeps =
+  leads (effect.Reorder order) does =
       let id : ℕ = does.0 in
       let anchor = does.1 in
       let ps : List Paragraph = with_move id anchor book in
@@ -97,8 +100,8 @@ module _ (book next : Book) (command : Command) (sound : IsSound book) (accepted
       subst (λ (o : List ℕ). Leads (effect.Reorder o) next) (sym ids)
       (subst (Leads (effect.Reorder (ids_of ps))) (sym is) (order-lead book ps sound moved (subst IsSound is after)))
 
-pub puts-lead : (book next : Book) (command : Command) (change : Change) → IsSound book → Carries book command next change → KeepsTexts change.effect
+pub puts-lead : (book next : Book) (command : Command) (change : Change) → IsSound book → Carries book command next change
     → LeadTo book (SetVersion (row_number change.version) ∷ effect_puts book change.effect) next
-puts-lead book next command change sound carries keeps =
+puts-lead book next command change sound carries =
     subst (λ (n : ℕ). LeadTo book (SetVersion (row_number n) ∷ effect_puts book change.effect) next) (sym carries.version)
-    (leads book next command sound carries.accepted carries.makes (IsSound-makes book next None command sound carries.accepted carries.written carries.makes) change.effect carries.does keeps)
+    (leads book next command sound carries.accepted carries.makes (IsSound-makes book next None command sound carries.accepted carries.written carries.makes) change.effect carries.does)

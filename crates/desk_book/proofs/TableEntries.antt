@@ -2,7 +2,7 @@
 use Rattle.std.proofs.Common.{◌≡◌, ℕ, ◌+◌, Bool, true, false, cond, List, [], ◌∷◌, length, Option, Some, None, Ordering, Contains, refl, sym, ap, subst, ◌∙◌}
 use Rattle.std.specs.Prelude.{T, ◌&&◌, ◌≢◌, nat_eq, is_some}
 use Rattle.std.specs.Bool.{Decides}
-use Rattle.std.specs.Cmp.{IsTotalOrder, unsigned_ties, unsigned_Decides}
+use Rattle.std.specs.Cmp.{Equal-is, IsTotalOrder, unsigned_ties, unsigned_Decides}
 use Rattle.std.specs.Cmp.Lexicographic.{pointwise, pointwise_decides, slice_cmp, lists_ties}
 use Rattle.std.specs.FinMap.{slice_cmp-IsAntisymmetric, nat_cmp-IsAntisymmetric}
 use Rattle.std.specs.FinMap.Entries.{by_order, put, find, below_all, is_sorted, is_sorted-put, find-put, length-put}
@@ -92,6 +92,10 @@ names_tie = lists_ties nat_cmp unsigned_ties
 -- the test tells whether two names are equal
 pub Decides-name : (x y : List ℕ) → Decides (pointwise nat_eq x y) (x ≡ y)
 Decides-name = pointwise_decides unsigned_Decides
+
+-- names that the order tells apart differ
+pub apart-name : (x y : List ℕ) → slice_cmp nat_cmp x y ≢ Equal → x ≢ y
+apart-name x y apart same = apart ((Equal-is (slice_cmp nat_cmp x y)).0 (sym (names_tie x y) ∙ (Decides-name x y).1 same))
 
 pub same_name : (x y : List ℕ) → slice_cmp nat_cmp x y ≡ Equal → x ≡ y
 same_name = slice_cmp-IsAntisymmetric nat_cmp-IsAntisymmetric

@@ -145,15 +145,3 @@ change_puts book change = SetVersion (row_number change.version) ∷ effect_puts
 abbrev pub LeadTo : Book → List RowPut → Book → Type 0
 LeadTo book puts next =
     (rows : FileRows) → Shows rows book → HasTheirTables puts rows → Shows (with_puts puts rows) next
-
--- the effect gives no table another text
-abbrev pub KeepsTexts : Effect → Type 0
-KeepsTexts (effect.AddTable name table room) = Unit {0}
-KeepsTexts (effect.ReplaceTable name table cells) = ⊥
-KeepsTexts (effect.AddParagraph paragraph room order_room place) = Unit {0}
-KeepsTexts (effect.ChangePrint id change) = Unit {0}
-KeepsTexts (effect.AddMark mark room index_room) = Unit {0}
-KeepsTexts (effect.ResolveMark id) = Unit {0}
-KeepsTexts (effect.SetFlags id style begins struck) = Unit {0}
-KeepsTexts (effect.ChangeTable id table cells) = Unit {0}
-KeepsTexts (effect.Reorder order) = Unit {0}

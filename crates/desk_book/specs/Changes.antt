@@ -95,7 +95,7 @@ Does book command next (AddTable name table room) =
     (command ≡ Table name table.text) × (text_of book name ≡ None) × (length book.tables < room) × Means table.text table.rules
 Does book command next (ReplaceTable name table cells) =
     (command ≡ Table name table.text) × IsSome (text_of book name) × Means table.text table.rules
-    × AreRenewed book name table.rules cells.items
+    × AreRenewed book name table.rules cells.items × (length cells.items ≤ length book.paragraphs)
 Does book command next (AddParagraph paragraph room order_room place) =
     AddsParagraph book next command paragraph room order_room place
 Does book command next (ChangePrint id change) = ChangesPrint book next id change

@@ -1,8 +1,6 @@
 //! What holds of every book.
 ghost use Rattle.desk_book.specs.After.{After};
 ghost use Rattle.desk_book.specs.Book.{Book};
-ghost use Rattle.desk_book.specs.ChangePuts.{KeepsTexts, LeadTo, change_puts};
-ghost use Rattle.desk_book.specs.Changes.{Carries, Change};
 ghost use Rattle.desk_book.specs.Damage.{IsDamaged, IsFirstDamage};
 ghost use Rattle.desk_book.specs.declared.command.Command.{Command};
 ghost use Rattle.desk_book.specs.declared.parts.FileTable.{FileTable};
@@ -48,13 +46,6 @@ pub fn undo_restores_the_print()
 /// Rows show at most one book.
 pub fn one_book()
     ensures { (rows : FileRows) (book other : Book) → Shows rows book → Shows rows other → book ≡ other }
-{}
-
-/// What a change puts makes rows that show its book show the next one, where they have the table of each row that is put. A
-/// change that gives a table another text isn't covered: it may have cells for more paragraphs than the book has.
-pub fn puts_lead_to_the_next_book()
-    ensures { (book next : Book) (command : Command) (change : Change) → IsSound book → Carries book command next change
-        → KeepsTexts change.effect → LeadTo book (change_puts book change) next }
 {}
 
 /// Each sound book has rows of the second format that show it, with the braille of its paragraphs; and one in which no

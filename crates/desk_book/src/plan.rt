@@ -503,7 +503,8 @@ impl Book {
         rules: &RuleIndex,
     ) -> Result<Vec<Option<Cells>>, AllocError>
         requires { All (DefinesUser rules.now name.now) self.now.paragraphs }
-        ensures { IfOk result (λ cells. AreRenewed self.now name.now rules.now cells.items) }
+        ensures renewed { IfOk result (λ cells. AreRenewed self.now name.now rules.now cells.items) }
+        ensures few { IfOk result (λ cells. length cells.items ≤ length self.now.paragraphs) }
     {
         let mut all = Vec::with_capacity(alloc, self.paragraphs.len())?;
         for index in 0..self.paragraphs.len() {

@@ -1,6 +1,6 @@
 //! What a change puts into the rows of its book's file.
-ghost use Rattle.desk_book.specs.ChangePuts.{cache_put, cells_from, change_puts, effect_puts, elsewhere_from, entry_row, further_from, kept_mark_row, kept_row, row_number, span_put, stays_in, tab_put};
-ghost use Rattle.desk_book.specs.Changes.{Carries};
+ghost use Rattle.desk_book.specs.ChangePuts.{LeadTo, cache_put, cells_from, change_puts, effect_puts, elsewhere_from, entry_row, further_from, kept_mark_row, kept_row, row_number, span_put, stays_in, tab_put};
+ghost use Rattle.desk_book.specs.Changes.{Carries, Does};
 ghost use Rattle.desk_book.specs.Limits.{most_paragraphs, most_print};
 ghost use Rattle.desk_book.specs.ParagraphMarks.{marks_on};
 ghost use Rattle.desk_book.specs.Puts.{LendsFirst, PutEntry, PutMark, PutPara, SetPlace, SetVersion, put_of};
@@ -491,15 +491,13 @@ impl Book {
     }
 }
 
-impl Change {
-    /// What the change puts into the rows of the file of the book on which it was planned: the version, and each row and column
-    /// of a row that changes, to be put by its key. It takes no memory.
-    pub fn puts<'a>(&'a self, book: &'a Book) -> Puts<'a>
-        requires { (command : _) × (next : _) × Carries book.now command next self.now }
-        ensures { result ≡ change_puts book.now self.now }
+impl Effect {
+    /// What the effect puts beside a version, which is put first.
+    fn puts<'a>(&'a self, version: u64, book: &'a Book) -> Puts<'a>
+        requires { (command : _) × (next : _) × Does book.now command next self.now }
+        ensures { result ≡ SetVersion (row_number version) ∷ effect_puts book.now self.now }
     {
-        let version = self.version;
-        match &self.effect {
+        match self {
             Effect::AddTable {
                 name,
                 table,
@@ -567,5 +565,21 @@ impl Change {
                 Puts::new(version, None, None, None, walk)
             }
         }
+    }
+}
+
+impl Change {
+    /// What the change puts into the rows of the file of the book on which it was planned: the version, and each row and column
+    /// of a row that changes, to be put by its key. Put into any rows that show the book, and that have the table of each row
+    /// among them, it makes rows that show the next book. It takes no memory.
+    pub fn puts<'a>(&'a self, book: &'a Book) -> Puts<'a>
+        requires { (command : _) × (next : _) × Carries book.now command next self.now }
+        ensures list { result ≡ change_puts book.now self.now }
+        ensures leads { (command : _) (next : _) → Carries book.now command next self.now
+            → LeadTo book.now result next }
+    {
+        // it is sound
+        let _ = &book.version;
+        self.effect.puts(self.version, book)
     }
 }

@@ -36,10 +36,17 @@ loop-index-preserved c =
       renewed = subst (RenewsEach book rules name) (sym pushed) (RenewsEach-push book rules name c.loop-index.all.items c.match-get.new c.loop-index.index inv.count inv.renewed here);
     }
 
-pub returns : goal.returns
-returns c =
+pub returns-clause-renewed : goal.returns-clause-renewed
+returns-clause-renewed c =
     let book = c.args.self.now in
     let count = count-paragraphs _ _ _ _ book c.self.view_is in
     let many = c.len-index-end.ensures in
     let inv = c.loop-index.invariant in
     AreRenewed-each book c.args.rules.now c.args.name.now (sound _ _ _ _ book c.self.view_is c.self.invariant) c.loop-index.all.items (omega (arith, inv.count)) inv.renewed
+
+pub returns-clause-few : goal.returns-clause-few
+returns-clause-few c =
+    let count = count-paragraphs _ _ _ _ c.args.self.now c.self.view_is in
+    let many = c.len-index-end.ensures in
+    let inv = c.loop-index.invariant in
+    omega (arith, inv.count)
