@@ -569,9 +569,9 @@ impl Effect {
 }
 
 impl Change {
-    /// What the change puts into the rows of the file of the book on which it was planned: the version, and each row and column
-    /// of a row that changes, to be put by its key. Put into any rows that show the book, and that have the table of each row
-    /// among them, it makes rows that show the next book. It takes no memory.
+    /// What the change puts into the rows of the file of the book on which it was planned: the version, and the rows and the
+    /// columns of rows that it gives, to be put by their keys. Put into any rows that show the book, and that have the table of
+    /// each row among them, it makes rows that show the next book. It takes no memory.
     pub fn puts<'a>(&'a self, book: &'a Book) -> Puts<'a>
         requires { (command : _) × (next : _) × Carries book.now command next self.now }
         ensures list { result ≡ change_puts book.now self.now }
