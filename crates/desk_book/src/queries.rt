@@ -4,6 +4,7 @@ ghost use Rattle.desk_book.specs.ParagraphMarks.{marks_on};
 ghost use Rattle.desk_book.specs.Print.{print_of};
 ghost use Rattle.desk_book.specs.Shown.{IsShown};
 ghost use Rattle.desk_book.specs.Translated.{IsBraille, IsOutputPlace, IsPrintPlace, LacksCell, LacksPlace};
+ghost use Rattle.louis_table.specs.Meaning.{Meaning};
 ghost use Rattle.std.specs.List.{enumerate_from};
 ghost use Rattle.std.specs.Prelude.{◌≡◌, ◌⊎◌, IfErr, IfOk, None, Some};
 
@@ -17,6 +18,14 @@ use cell_core::Cell;
 use louis_translate::{RuleIndex, output_place, print_place};
 
 impl Book {
+    /// A paragraph as it is kept.
+    fn kept(&self, id: u64) -> Result<&Paragraph, Refusal>
+        ensures found { IfOk result (λ kept. (meaning : Meaning) × IsShown self.now id kept.now meaning) }
+        ensures missing { IfErr result (λ refusal. (refusal ≡ Refusal.NoParagraph) × (paragraph_of self.now id ≡ None)) }
+    {
+        self.paragraphs.get(id).ok_or(Refusal::NoParagraph)
+    }
+
     /// A paragraph as it is kept, and the rules of its table.
     pub(crate) fn translated(&self, id: u64) -> Result<(&Paragraph, &RuleIndex), Refusal>
         ensures found { IfOk result (λ shown. IsShown self.now id shown.0.now shown.1.now) }
@@ -41,7 +50,7 @@ impl Book {
             × (print.now ≡ print_of paragraph)) }
         ensures missing { IfErr result (λ refusal. (refusal ≡ Refusal.NoParagraph) × (paragraph_of self.now id ≡ None)) }
     {
-        let (paragraph, _) = self.translated(id)?;
+        let paragraph = self.kept(id)?;
         Ok(paragraph.print.as_slice())
     }
 
@@ -55,7 +64,7 @@ impl Book {
             × IsBraille self.now paragraph cells.now) }
         ensures missing { IfErr result (λ refusal. (refusal ≡ Refusal.NoParagraph) × (paragraph_of self.now id ≡ None)) }
     {
-        let (paragraph, _) = self.translated(id)?;
+        let paragraph = self.kept(id)?;
         Ok(paragraph.cells.as_slice())
     }
 
@@ -108,7 +117,7 @@ impl Book {
             × (history ≡ enumerate_from 1 paragraph.history)) }
         ensures missing { IfErr result (λ refusal. (refusal ≡ Refusal.NoParagraph) × (paragraph_of self.now id ≡ None)) }
     {
-        let (paragraph, _) = self.translated(id)?;
+        let paragraph = self.kept(id)?;
         Ok(History::new(paragraph.history.as_slice()))
     }
 
