@@ -2,7 +2,6 @@ use Rattle.std.proofs.Common.{◌≡◌, Some, None, refl, sym, ap, subst, ◌�
 use Rattle.std.specs.Map.{lookup}
 use Rattle.std.specs.Option.{option_copied}
 use Rattle.std.specs.Prelude.{nat_eq}
-use Rattle.desk_book.specs.declared.paragraphs.Paragraph.{Paragraph as KeptParagraph}
 use Rattle.desk_book.specs.Book.{Book, paragraph_of}
 use Rattle.desk_book.specs.Shown.{IsShown}
 use Rattle.desk_book.proofs.KeptBooks.{missing-kept, table-kept, IsShown-found}
