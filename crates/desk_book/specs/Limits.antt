@@ -1,36 +1,36 @@
--- How much a book may hold.
+-- How much a book may hold: the numbers are the code's.
 use Rattle.std.specs.Prelude.{ℕ}
+use Rattle.desk_book.specs.declared.limits.TheConstants.{MOST_ENTRIES, MOST_MARKS, MOST_NAME, MOST_NOTE, MOST_PARAGRAPHS, MOST_PRINT, MOST_READER, MOST_TABLES, MOST_VERSION}
 
--- 2^53
 abbrev pub most_version : ℕ
-most_version = 9007199254740992
+most_version = MOST_VERSION
 
 abbrev pub most_tables : ℕ
-most_tables = 16
+most_tables = MOST_TABLES
 
 -- characters of a table's name
 abbrev pub most_name : ℕ
-most_name = 32
+most_name = MOST_NAME
 
 -- struck ones counted
 abbrev pub most_paragraphs : ℕ
-most_paragraphs = 20000
+most_paragraphs = MOST_PARAGRAPHS
 
 -- characters of a print
 abbrev pub most_print : ℕ
-most_print = 4000
+most_print = MOST_PRINT
 
 -- entries of a paragraph's history
 abbrev pub most_entries : ℕ
-most_entries = 10000
+most_entries = MOST_ENTRIES
 
 abbrev pub most_marks : ℕ
-most_marks = 100000
+most_marks = MOST_MARKS
 
 -- characters of a note
 abbrev pub most_note : ℕ
-most_note = 500
+most_note = MOST_NOTE
 
 -- characters of a reader's name
 abbrev pub most_reader : ℕ
-most_reader = 40
+most_reader = MOST_READER

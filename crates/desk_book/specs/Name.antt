@@ -10,7 +10,7 @@ is_name_character character =
     (nat_le 97 character && nat_le character 122) || (nat_le 48 character && nat_le character 57)
     || character == 95 || character == 45
 
--- one to 32 such characters
+-- one such character or more, and no more than a name may have
 pub record IsTableName (name : List ℕ) : Type 0 where
   pub nonempty : 0 < length name
   pub short : length name ≤ most_name
@@ -20,7 +20,7 @@ pub record IsTableName (name : List ℕ) : Type 0 where
 abbrev pub is_reader_character : ℕ → Bool
 is_reader_character character = not (character == 32) && not (is_barred character)
 
--- at most 40 such characters; none where the reader isn't named
+-- such characters, no more than a reader's name may have; none where the reader isn't named
 pub record IsReaderName (name : List ℕ) : Type 0 where
   pub short : length name ≤ most_reader
   pub characters : All (λ character. is_reader_character character ≡ true) name
