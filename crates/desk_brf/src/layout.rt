@@ -1,6 +1,6 @@
 //! How large pages are.
-ghost use Rattle.desk_brf.specs.Layout.{IsLayout, Layout, text_lines};
-ghost use Rattle.std.specs.Prelude.{◌≡◌, ◌≤◌, ◌↔◌, IfOk, IsOk};
+ghost use Rattle.desk_brf.specs.Layout.{IsLayout, Layout, least_lines, least_width, most_lines, most_width, text_lines};
+ghost use Rattle.std.specs.Prelude.{◌≡◌, ◌+◌, ◌<◌, ◌≤◌, ◌↔◌, IfOk, IsOk};
 
 use std::marker::Model;
 use thiserror::Error;
@@ -8,7 +8,7 @@ use thiserror::Error;
 /// The fewest and the most cells of a line.
 const LEAST_WIDTH: u64 = 10;
 
-const MOST_WIDTH: u64 = 60;
+pub(crate) const MOST_WIDTH: u64 = 60;
 
 /// The fewest and the most lines of a page.
 const LEAST_LINES: u64 = 5;
@@ -17,7 +17,7 @@ const MOST_LINES: u64 = 40;
 
 /// The width is not one from 10 to 60 cells, or the lines are not 5 to 40.
 #[derive(Clone, Copy, Debug, PartialEq, Eq, Error)]
-#[error("a page has 10 to 60 cells in a line and 5 to 40 lines")]
+#[error("a page has {LEAST_WIDTH} to {MOST_WIDTH} cells in a line and {LEAST_LINES} to {MOST_LINES} lines")]
 pub struct BadLayout;
 
 /// How many cells a line has, and how many lines a page has; the last of these is for the page's number.
@@ -62,8 +62,8 @@ impl Layout {
     /// The cells of a line.
     pub(crate) fn width(&self) -> usize
         ensures width { result ≡ self.now.width }
-        ensures least { 10 ≤ result }
-        ensures most { result ≤ 60 }
+        ensures least { least_width ≤ result }
+        ensures most { result ≤ most_width }
     {
         self.width
     }
@@ -71,8 +71,8 @@ impl Layout {
     /// The lines of a page that are for text.
     pub(crate) fn text_lines(&self) -> u64
         ensures lines { result ≡ text_lines self.now }
-        ensures least { 4 ≤ result }
-        ensures most { result ≤ 39 }
+        ensures least { least_lines ≤ result + 1 }
+        ensures most { result < most_lines }
     {
         self.lines - 1
     }

@@ -4,11 +4,12 @@ ghost use Rattle.desk_brf.specs.Placing.{IsAscii};
 ghost use Rattle.desk_brf.specs.Volume.{IsSixDot};
 ghost use Rattle.std.specs.Prelude.{◌≡◌, ◌+◌, ◌<◌, ◌≤◌, ℕ, List, [], ◌∷◌, ◌++◌, All, length, replicate};
 
+use super::layout::MOST_WIDTH;
 use cell_core::Cell;
 use std::marker::Model;
 
-/// The most bytes of a line: 60 cells, CR and LF.
-pub(crate) const LINE_BYTES: usize = 62;
+/// The most bytes of a line: those of its cells, CR and LF.
+pub(crate) const LINE_BYTES: usize = MOST_WIDTH as usize + 2;
 
 /// The bytes of a line, at most `LINE_BYTES` of them. Contracts see their list.
 #[derive(Drop)]

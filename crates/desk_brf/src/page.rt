@@ -1,5 +1,5 @@
 //! Lines as they are sent, and the ends of their pages.
-ghost use Rattle.desk_brf.specs.Layout.{text_lines};
+ghost use Rattle.desk_brf.specs.Layout.{most_lines, most_width, text_lines};
 ghost use Rattle.desk_brf.specs.Laying.{FillsPage, page_end};
 ghost use Rattle.desk_brf.specs.Pages.{digit_letter, ended, number_line};
 ghost use Rattle.desk_ends.specs.Sent.{Sent};
@@ -24,7 +24,7 @@ fn letter(digit: u8) -> u8
 /// Lays the line of a page's number.
 fn lay_number(line: &mut Line, width: usize, number: u64)
     requires empty { line.old ≡ [] }
-    requires width { width ≤ 60 }
+    requires width { width ≤ most_width }
     ensures { line.new ≡ number_line width number }
 {
     let mut buffer = Buffer::new();
@@ -38,7 +38,7 @@ fn lay_number(line: &mut Line, width: usize, number: u64)
 
 /// Sends a line with its ending, and takes its bytes out.
 fn end_line<K: Sink>(sink: &mut K, line: &mut Line) -> Result<(), Failed>
-    requires { length line.old ≤ 60 }
+    requires { length line.old ≤ most_width }
     ensures sent { Sent K.can_fail (K.contents sink.old) (K.contents sink.new) (ended line.old) [] (is_ok result) }
     ensures empty { OnOk result (line.new ≡ []) }
 {
@@ -52,7 +52,7 @@ fn end_line<K: Sink>(sink: &mut K, line: &mut Line) -> Result<(), Failed>
 /// Sends the last line of a page and its end.
 fn end_page<K: Sink>(sink: &mut K, line: &mut Line, width: usize, number: u64) -> Result<(), Failed>
     requires empty { line.old ≡ [] }
-    requires width { width ≤ 60 }
+    requires width { width ≤ most_width }
     ensures sent { Sent K.can_fail (K.contents sink.old) (K.contents sink.new) (ended (number_line width number) ++ 12 ∷ []) [] (is_ok result) }
     ensures empty { OnOk result (line.new ≡ []) }
 {
@@ -68,7 +68,7 @@ pub(crate) fn put_line<K: Sink>(
     lines: &mut u64,
     line: &mut Line,
 ) -> Result<(), Failed>
-    requires room { length line.old ≤ 60 }
+    requires room { length line.old ≤ most_width }
     requires count { lines.old + 1 < 2 ^ 64 }
     ensures sent { Sent K.can_fail (K.contents sink.old) (K.contents sink.new)
         (ended line.old ++ page_end layout.now (lines.old + 1)) [] (is_ok result) }
@@ -92,7 +92,7 @@ pub(crate) fn fill_page<K: Sink>(
     line: &mut Line,
 ) -> Result<(), Failed>
     requires empty { line.old ≡ [] }
-    requires count { lines.old + 40 < 2 ^ 64 }
+    requires count { lines.old + most_lines < 2 ^ 64 }
     ensures { FillsPage K.can_fail (K.contents sink.old) (K.contents sink.new) layout.now lines.old lines.new (is_ok result) }
 {
     let text_lines = layout.text_lines();

@@ -1,5 +1,6 @@
 //! The words of a paragraph on lines.
 ghost use Rattle.desk_brf.specs.Laying.{FillsLine, LaysLine, PutsLines, PutsParagraph, written};
+ghost use Rattle.desk_brf.specs.Layout.{most_width};
 ghost use Rattle.desk_brf.specs.Placing.{first_indent as first_indent_lem, other_indent as other_indent_lem};
 ghost use Rattle.desk_brf.specs.Volume.{IsSixDot, gap_before};
 ghost use Rattle.desk_brf.specs.Words.{IsAtWord, words};
@@ -38,7 +39,7 @@ fn other_indent(style: Style) -> usize
 /// that are left.
 fn add_words<'a>(cells: &'a [Cell], room: usize, used: usize, line: &mut Line) -> &'a [Cell]
     requires used { used ≤ room }
-    requires room { length line.old + room ≤ 60 + used }
+    requires room { length line.old + room ≤ most_width + used }
     requires dots { All IsSixDot cells.now }
     ensures line { FillsLine room used (words cells.now) (words result.now) line.old line.new }
     ensures at_word { IsAtWord result.now }
@@ -66,7 +67,7 @@ fn lay_line<'a>(cells: &'a [Cell], room: usize, line: &mut Line) -> &'a [Cell]
     requires at_word { IsAtWord cells.now }
     requires some { 0 < length cells.now }
     requires positive { 0 < room }
-    requires room { length line.old + room ≤ 60 }
+    requires room { length line.old + room ≤ most_width }
     requires dots { All IsSixDot cells.now }
     ensures line { LaysLine room (words cells.now) (words result.now) line.old line.new }
     ensures at_word { IsAtWord result.now }

@@ -2,6 +2,7 @@
 ghost use Rattle.cell_core.specs.Cell.{HasDot};
 ghost use Rattle.desk_brf.specs.Exported.{IsExported, IsJudged};
 ghost use Rattle.desk_brf.specs.Laying.{PutsPages, PutsParagraphs};
+ghost use Rattle.desk_brf.specs.Layout.{most_lines};
 ghost use Rattle.desk_brf.specs.Volume.{HasSixDotCells, IsSixDot};
 ghost use Rattle.desk_brf.specs.Volumes.{volume_of};
 ghost use Rattle.std.specs.Prelude.{◌≡◌, ◌⊎◌, ◌+◌, ◌<◌, ◌^◌, All, IfNone, IfSome, OnOk, is_ok, length, slice_index, take};
@@ -88,7 +89,7 @@ fn put_paragraphs<K: Sink>(
     requires none { lines.old ≡ 0 }
     ensures lines { PutsParagraphs K.can_fail (K.contents sink.old) (K.contents sink.new)
         book.now layout.now (volume_of book.now volume) lines.new (is_ok result) }
-    ensures few { OnOk result (lines.new + 40 < 2 ^ 64) }
+    ensures few { OnOk result (lines.new + most_lines < 2 ^ 64) }
 {
     // a book has few paragraphs, each with few cells, and a line is wider than each indent
     let _ = book.version();
