@@ -10,7 +10,7 @@ use Rattle.desk_book.specs.declared.command.Command.TheVariants.{TypeIn, Move}
 use Rattle.desk_book.specs.declared.history.KeptEntry.{KeptEntry}
 use Rattle.desk_book.specs.Book.{Book, Paragraph, paragraph_of}
 use Rattle.desk_book.specs.ChangePuts.{LeadTo, cache_put, effect_puts, entry_row, row_number, span_put}
-use Rattle.desk_book.specs.Changes.{Carries, Change, ChangesPrint, Does}
+use Rattle.desk_book.specs.Changes.{ChangesPrint, Does, IsEffect}
 use Rattle.desk_book.specs.Histories.{entries_kept, entry_kept}
 use Rattle.desk_book.specs.Kept.{paragraph_kept}
 use Rattle.desk_book.specs.Marks.{mark_moved_by}
@@ -100,8 +100,8 @@ module _ (book next : Book) (command : Command) (sound : IsSound book) (accepted
       subst (λ (o : List ℕ). Leads (effect.Reorder o) next) (sym ids)
       (subst (Leads (effect.Reorder (ids_of ps))) (sym is) (order-lead book ps sound moved (subst IsSound is after)))
 
-pub puts-lead : (book next : Book) (command : Command) (change : Change) → IsSound book → Carries book command next change
-    → LeadTo book (SetVersion (row_number change.version) ∷ effect_puts book change.effect) next
-puts-lead book next command change sound carries =
-    subst (λ (n : ℕ). LeadTo book (SetVersion (row_number n) ∷ effect_puts book change.effect) next) (sym carries.version)
-    (leads book next command sound carries.accepted carries.makes (IsSound-makes book next None command sound carries.accepted carries.written carries.makes) change.effect carries.does)
+pub puts-lead : (book next : Book) (version : ℕ) (effect : Effect) → IsSound book → IsEffect book version effect next
+    → LeadTo book (SetVersion (row_number version) ∷ effect_puts book effect) next
+puts-lead book next version effect sound is =
+    subst (λ (n : ℕ). LeadTo book (SetVersion (row_number n) ∷ effect_puts book effect) next) (sym is.at)
+    (leads book next is.command sound is.accepted is.makes (IsSound-makes book next None is.command sound is.accepted is.written is.makes) effect is.does)

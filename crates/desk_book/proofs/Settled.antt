@@ -34,7 +34,7 @@ use Rattle.desk_book.specs.declared.paragraphs.Paragraph.{Paragraph as KeptParag
 use Rattle.desk_book.specs.declared.style.Style.{Style}
 use Rattle.desk_book.specs.declared.tables.BookTable.{BookTable}
 use Rattle.desk_book.specs.Book.{Book, Entry, Mark, Paragraph, text_of}
-use Rattle.desk_book.specs.Changes.{ChangesPrint, AreCellsOf, AreRenewed, AreCellsByTable, Carries, Change, IsKeptTyped, Does, IsEffect}
+use Rattle.desk_book.specs.Changes.{ChangesPrint, AreCellsOf, AreRenewed, AreCellsByTable, Carries, Change, IsKeptTyped, IsEffect, IsEffect-change_by, change_by}
 use Rattle.desk_book.specs.Histories.{HaveTaken, TookFrom, entries_kept, entry_kept}
 use Rattle.desk_book.specs.KeptMarks.{AreWithin, indexes_on, with_kept_moved}
 use Rattle.desk_book.specs.KeptPrints.{HasRoomFor, HasRoomForMark, with_mark, with_print_changed}
@@ -180,17 +180,16 @@ HaveTaken-push original entries entry taken last i e at =
 
 -- what a change carries is put by its effect
 pub IsEffect-carried : (book : Book) (command : Command) (next : Book) (version : ℕ) (number : Option ℕ) (kept effect : Effect) (change : Change)
-    → ◌≡◌ {A = Change} (record { version = version; number = number; effect = kept }) change → kept ≡ effect → Carries book command next change → IsEffect book version effect next
+    → change_by version number kept ≡ change → kept ≡ effect → Carries book command next change → IsEffect book version effect next
 IsEffect-carried book command next version number kept effect change shown is carries =
-    let here : Carries book command next (record { version = version; number = number; effect = kept }) = subst (Carries book command next) (sym shown) carries in
-    record {
-      command = command;
-      accepted = here.accepted;
-      written = here.written;
-      makes = here.makes;
-      at = here.version;
-      does = subst (Does book command next) is here.does;
-    }
+    subst (λ (e : Effect). IsEffect book version e next) is
+    (IsEffect-change_by book command next version number kept (subst (Carries book command next) (sym shown) carries))
+
+pub some_effect : (book : Book) (version : ℕ) (number : Option ℕ) (kept effect : Effect) (change : Change)
+    → change_by version number kept ≡ change → kept ≡ effect → (command : Command) × (next : Book) × Carries book command next change
+    → (next : Book) × IsEffect book version effect next
+some_effect book version number kept effect change shown is given =
+    (given.1, IsEffect-carried book given.0 given.1 version number kept effect change shown is given.2)
 
 abbrev plain : ℕ → List (List ℕ × List ℕ) → List Paragraph → List Mark → Book
 plain version tables paragraphs marks = record { version = version; tables = tables; paragraphs = paragraphs; marks = marks }

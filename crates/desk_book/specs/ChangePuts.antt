@@ -10,12 +10,11 @@ use Rattle.desk_book.specs.declared.marks.KeptMark.{KeptMark}
 use Rattle.desk_book.specs.declared.paragraphs.Paragraph.{Paragraph as KeptParagraph}
 use Rattle.desk_book.specs.declared.tables.BookTable.{BookTable}
 use Rattle.desk_book.specs.Book.{Book, Mark, paragraph_of}
-use Rattle.desk_book.specs.Changes.{Change}
 use Rattle.desk_book.specs.FileRows.{FileRows}
 use Rattle.desk_book.specs.Limits.{most_print}
 use Rattle.desk_book.specs.Marks.{mark_moved_by}
 use Rattle.desk_book.specs.ParagraphMarks.{marks_on}
-use Rattle.desk_book.specs.Puts.{HasTheirTables, PutCache, PutEntry, PutMark, PutPara, PutTab, RowPut, SetFlags, SetPlace, SetPrint, SetResolved, SetSpan, SetTable, SetVersion, with_puts}
+use Rattle.desk_book.specs.Puts.{HasTheirTables, PutCache, PutEntry, PutMark, PutPara, PutTab, RowPut, SetFlags, SetPlace, SetPrint, SetResolved, SetSpan, SetTable, with_puts}
 use Rattle.desk_book.specs.Rows.{Mark as MarkRow, NamedCorr, Para}
 use Rattle.desk_book.specs.Shows.{Shows, flag_number, style_number}
 use Rattle.desk_book.specs.Step.{next_id, next_mark}
@@ -136,10 +135,6 @@ effect_puts book (effect.SetFlags id style begins struck) =
 effect_puts book (effect.ChangeTable id table cells) =
     SetTable (row_number id) (encode_utf8_all table) ∷ cache_put id cells ∷ []
 effect_puts book (effect.Reorder order) = elsewhere_from 0 (map (λ other. other.id) book.paragraphs) order
-
--- what the change puts: the version first
-abbrev pub change_puts : Book → Change → List RowPut
-change_puts book change = SetVersion (row_number change.version) ∷ effect_puts book change.effect
 
 -- put into any rows that show the book, and that have the tables of the rows among them, they make rows that show the next
 abbrev pub LeadTo : Book → List RowPut → Book → Type 0

@@ -1,5 +1,6 @@
 -- What a change does, and what it has in it, so that nothing is left to be asked for when it is put into its book.
-use Rattle.std.specs.Prelude.{◌≡◌, ◌≢◌, ℕ, ◌+◌, ◌<◌, ◌≤◌, List, [], ◌∷◌, ◌++◌, length, map, Option, Some, None, IsSome, MatchOption}
+use Rattle.std.specs.Coded.{Coded, code_by, coded×, coded_option, coded_ℕ}
+use Rattle.std.specs.Prelude.{refl, ◌≡◌, ◌≢◌, ℕ, ◌+◌, ◌<◌, ◌≤◌, List, [], ◌∷◌, ◌++◌, length, map, Option, Some, None, IsSome, MatchOption}
 use Rattle.std.specs.List.{All, insert}
 use Rattle.louis_table.specs.Meaning.{Meaning}
 use Rattle.louis_table.specs.Table.{Means}
@@ -110,21 +111,6 @@ Does book command next (ChangeTable id table cells) = (command ≡ Retable id ta
 Does book command next (Reorder order) =
     (id : ℕ) × (anchor : Anchor) × (command ≡ Move id anchor) × (order ≡ map (λ other. other.id) next.paragraphs)
 
--- a change as its callers see it: the version that it gives its book, the number that the command answers, and what it does
-pub record Change : Type 0 where
-  pub version : ℕ
-  pub number : Option ℕ
-  pub effect : Effect
-
--- the change makes the next book of this one by the command, which is accepted
-pub record Carries (book : Book) (command : Command) (next : Book) (change : Change) : Type 0 where
-  pub accepted : IsAccepted book None command
-  pub written : HasCharacters command
-  pub makes : Makes book command next
-  pub version : change.version ≡ next.version
-  pub number : change.number ≡ number_of book command
-  pub does : Does book command next change.effect
-
 -- some accepted command makes the next book of this one, at the version given, by the effect
 pub record IsEffect (book : Book) (version : ℕ) (effect : Effect) (next : Book) : Type 0 where
   pub command : Command
@@ -133,3 +119,62 @@ pub record IsEffect (book : Book) (version : ℕ) (effect : Effect) (next : Book
   pub makes : Makes book command next
   pub at : version ≡ next.version
   pub does : Does book command next effect
+
+-- a change as its callers see it: the version that it gives its book, and the number that the command answers. What it does
+-- is named here alone, so that nothing that is said of a change depends on it
+pub record Change : Type 0 where
+  pub version : ℕ
+  pub number : Option ℕ
+  effect : Effect
+
+-- a change is stored as the tuple of its parts
+abbrev pub change_code : Coded Effect → Coded Change
+change_code effects =
+    code_by (ℕ × (Option ℕ × Effect)) (coded× coded_ℕ (coded× (coded_option coded_ℕ) effects))
+    (λ c. (c.version, (c.number, c.effect)))
+    (λ p. record { version = p.0; number = p.1.0; effect = p.1.1 })
+    (λ _. refl)
+
+-- the change that does this
+pub change_by : (version : ℕ) (number : Option ℕ) → Effect → Change
+change_by version number effect = record { version = version; number = number; effect = effect }
+
+pub number-change_by : (version : ℕ) (number : Option ℕ) (effect : Effect) → (change_by version number effect).number ≡ number
+unfolding change_by
+number-change_by version number effect = refl
+
+-- the change makes the next book of this one by the command, which is accepted
+pub record Carries (book : Book) (command : Command) (next : Book) (change : Change) : Type 0 where
+  pub accepted : IsAccepted book None command
+  pub written : HasCharacters command
+  pub makes : Makes book command next
+  pub version : change.version ≡ next.version
+  pub number : change.number ≡ number_of book command
+  does : Does book command next change.effect
+
+pub Carries-change_by : (book : Book) (command : Command) (next : Book) (version : ℕ) (number : Option ℕ) (effect : Effect)
+    → IsAccepted book None command → HasCharacters command → Makes book command next
+    → version ≡ next.version → number ≡ number_of book command → Does book command next effect
+    → Carries book command next (change_by version number effect)
+unfolding change_by
+Carries-change_by book command next version number effect accepted written makes at answers does = record {
+  accepted = accepted;
+  written = written;
+  makes = makes;
+  version = at;
+  number = answers;
+  does = does;
+}
+
+-- what a change carries is made by its effect
+pub IsEffect-change_by : (book : Book) (command : Command) (next : Book) (version : ℕ) (number : Option ℕ) (effect : Effect)
+    → Carries book command next (change_by version number effect) → IsEffect book version effect next
+unfolding change_by
+IsEffect-change_by book command next version number effect carries = record {
+  command = command;
+  accepted = carries.accepted;
+  written = carries.written;
+  makes = carries.makes;
+  at = carries.version;
+  does = carries.does;
+}

@@ -111,8 +111,8 @@ pub(crate) enum Effect {
     },
 }
 
-/// What an accepted command changes in the book on which it was planned. Contracts see the version that it gives the book,
-/// the number that the command answers, and what it does, by which it carries the command out.
+/// What an accepted command changes in the book on which it was planned. Contracts see the version that it gives the book and
+/// the number that the command answers, and that it carries the command out.
 #[derive(Drop)]
 pub struct Change {
     /// The book's new version.
@@ -124,11 +124,14 @@ pub struct Change {
 }
 
 impl Model for Change {
-    ghost use Rattle.desk_book.specs.Changes.{Change};
+    ghost use Rattle.desk_book.specs.Changes.{Change, change_by, change_code};
+    ghost use Rattle.desk_book.specs.contracts.change.Effect as effects;
 
     ghost Value = { Change };
 
-    ghost view = { λ c. record { version = c.version; number = c.number; effect = c.effect } };
+    ghost coded = { change_code effects.the_row.coded };
+
+    ghost view = { λ c. change_by c.version c.number c.effect };
 }
 
 impl Change {

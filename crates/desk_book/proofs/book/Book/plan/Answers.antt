@@ -1,6 +1,7 @@
 use Rattle.std.proofs.Common.{◌≡◌, ◌+◌, ℕ, sym, ap, ◌∙◌, inl, inr}
 use Rattle.std.proofs.lemmas.Result.{err_from_is_err_and}
 use Rattle.desk_book.specs.Book.{Book}
+use Rattle.desk_book.specs.Changes.{Carries-change_by}
 use Rattle.desk_book.proofs.Expecting.{accepted-expected, lacking-expected, moved, refused-expected, version-made}
 use Rattle.desk_book.proofs.book.Book.plan.Goals as goal
 
@@ -29,13 +30,7 @@ returns-clause-accepted c =
       accepted-expected book c.args.expect c.args.command.now c.in_ok-check_expected.ensures.same planned.0,
       (
         planned.1.0,
-        record {
-          accepted = planned.0;
-          written = planned.2;
-          makes = planned.1.1;
-          version = ap (λ (n : ℕ). n + 1) is ∙ sym (version-made book c.args.command.now planned.1.0 planned.1.1);
-          number = c.number.ensures;
-          does = planned.1.2;
-        },
+        Carries-change_by book c.args.command.now planned.1.0 _ _ _ planned.0 planned.2 planned.1.1
+        (ap (λ (n : ℕ). n + 1) is ∙ sym (version-made book c.args.command.now planned.1.0 planned.1.1)) c.number.ensures planned.1.2,
       ),
     )

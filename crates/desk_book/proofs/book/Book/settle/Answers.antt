@@ -1,5 +1,5 @@
 use Rattle.desk_book.specs.declared.change.Effect.TheVariants.{AddTable, ReplaceTable, AddParagraph, ChangePrint, AddMark, ResolveMark, SetFlags, ChangeTable, Reorder}
-use Rattle.desk_book.proofs.Settled.{IsEffect-carried}
+use Rattle.desk_book.proofs.Settled.{IsEffect-carried, some_effect}
 use Rattle.desk_book.proofs.book.Book.settle.Goals as goal
 
 pub returns-in-AddTable : goal.returns-in-AddTable
@@ -28,3 +28,30 @@ returns-in-AddMark c = λ command next carries. c.with_new_mark.ensures next (Is
 
 pub returns-in-ResolveMark : goal.returns-in-ResolveMark
 returns-in-ResolveMark c = λ command next carries. c.with_mark_resolved.ensures next (IsEffect-carried c.args.self command next c.change.inside.version c.change.inside.number c.change.inside.effect (ResolveMark c.in-ResolveMark.id) c.args.change c.change.view_is c.in-ResolveMark.is carries)
+
+pub with_new_table-requires : goal.with_new_table-requires
+with_new_table-requires c = some_effect c.args.self c.change.inside.version c.change.inside.number c.change.inside.effect (AddTable c.in-AddTable.name c.in-AddTable.table c.in-AddTable.room) c.args.change c.change.view_is c.in-AddTable.is c.requires
+
+pub with_table_replaced-requires : goal.with_table_replaced-requires
+with_table_replaced-requires c = some_effect c.args.self c.change.inside.version c.change.inside.number c.change.inside.effect (ReplaceTable c.in-ReplaceTable.name c.in-ReplaceTable.table c.in-ReplaceTable.cells) c.args.change c.change.view_is c.in-ReplaceTable.is c.requires
+
+pub with_new_paragraph-requires : goal.with_new_paragraph-requires
+with_new_paragraph-requires c = some_effect c.args.self c.change.inside.version c.change.inside.number c.change.inside.effect (AddParagraph c.in-AddParagraph.paragraph c.in-AddParagraph.room c.in-AddParagraph.order_room c.in-AddParagraph.place) c.args.change c.change.view_is c.in-AddParagraph.is c.requires
+
+pub with_flags-requires : goal.with_flags-requires
+with_flags-requires c = some_effect c.args.self c.change.inside.version c.change.inside.number c.change.inside.effect (SetFlags c.in-SetFlags.id c.in-SetFlags.style c.in-SetFlags.begins_volume c.in-SetFlags.struck) c.args.change c.change.view_is c.in-SetFlags.is c.requires
+
+pub with_table_changed-requires : goal.with_table_changed-requires
+with_table_changed-requires c = some_effect c.args.self c.change.inside.version c.change.inside.number c.change.inside.effect (ChangeTable c.in-ChangeTable.id c.in-ChangeTable.table c.in-ChangeTable.cells) c.args.change c.change.view_is c.in-ChangeTable.is c.requires
+
+pub in_order-requires : goal.in_order-requires
+in_order-requires c = some_effect c.args.self c.change.inside.version c.change.inside.number c.change.inside.effect (Reorder c.in-Reorder.order) c.args.change c.change.view_is c.in-Reorder.is c.requires
+
+pub with_print_changed-requires : goal.with_print_changed-requires
+with_print_changed-requires c = some_effect c.args.self c.change.inside.version c.change.inside.number c.change.inside.effect (ChangePrint c.in-ChangePrint.id c.in-ChangePrint.change) c.args.change c.change.view_is c.in-ChangePrint.is c.requires
+
+pub with_new_mark-requires : goal.with_new_mark-requires
+with_new_mark-requires c = some_effect c.args.self c.change.inside.version c.change.inside.number c.change.inside.effect (AddMark c.in-AddMark.mark c.in-AddMark.room c.in-AddMark.index_room) c.args.change c.change.view_is c.in-AddMark.is c.requires
+
+pub with_mark_resolved-requires : goal.with_mark_resolved-requires
+with_mark_resolved-requires c = some_effect c.args.self c.change.inside.version c.change.inside.number c.change.inside.effect (ResolveMark c.in-ResolveMark.id) c.args.change c.change.view_is c.in-ResolveMark.is c.requires

@@ -1,12 +1,19 @@
-use Rattle.std.proofs.Common.{ap, subst, sym, ◌∙◌}
-use Rattle.desk_book.specs.ChangePuts.{LeadTo, change_puts}
+use Rattle.std.proofs.Common.{refl, subst, sym}
+use Rattle.desk_book.specs.ChangePuts.{LeadTo}
 use Rattle.desk_book.proofs.KeptLookups.{sound}
 use Rattle.desk_book.proofs.PutsLead.{puts-lead}
+use Rattle.desk_book.proofs.Settled.{IsEffect-carried}
 use Rattle.desk_book.proofs.change.Change.puts.Goals as goal
 
-pub returns-clause-leads : goal.returns-clause-leads
-returns-clause-leads c command next carries =
+pub returns : goal.returns
+returns c command next carries =
     let book = c.args.book.now in
     let is = sound _ _ _ _ book c.book.view_is c.book.invariant in
-    subst (λ puts. LeadTo book puts next) (sym (c.puts.ensures ∙ ap (change_puts book) c.self.view_is))
-    (puts-lead book next command c.args.self.now is carries)
+    let made = IsEffect-carried book command next c.self.inside.version c.self.inside.number c.self.inside.effect c.self.inside.effect c.args.self.now c.self.view_is refl carries in
+    subst (λ puts. LeadTo book puts next) (sym c.puts.ensures)
+    (puts-lead book next c.self.inside.version c.self.inside.effect is made)
+
+pub puts-requires : goal.puts-requires
+puts-requires c =
+    let made = IsEffect-carried c.args.book.now c.requires.0 c.requires.1 c.self.inside.version c.self.inside.number c.self.inside.effect c.self.inside.effect c.args.self.now c.self.view_is refl c.requires.2 in
+    (made.command, c.requires.1, made.does)
