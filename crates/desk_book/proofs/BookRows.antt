@@ -187,6 +187,9 @@ module _ (book : Book) (sound : IsSound book) where
     cells = cached-cells book.paragraphs all-in;
   }
 
+  pub book_caches : (caches : List Cached) × AreCached book caches
+  book_caches = (cached book.paragraphs all-in, are-cached)
+
   -- ---- the characters of its texts
 
   tab_characters : All TabCharacters (map tab_of book.tables)

@@ -9,6 +9,7 @@ pub mod Decisions
 pub mod EntryPlanned
 pub mod EntryPlanning
 pub mod Expecting
+pub mod FilledRows
 pub mod FirstDamage
 pub mod FirstUndefined
 pub mod Histories

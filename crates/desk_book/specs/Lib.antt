@@ -31,6 +31,7 @@ pub mod Shows
 pub mod Damage
 pub mod Rebuilt
 pub mod Puts
+pub mod FilledRows
 pub mod ChangePuts
 pub mod PutsLeft
 pub mod Outcome

@@ -1,18 +1,22 @@
 //! What holds of every book.
 ghost use Rattle.desk_book.specs.After.{After};
-ghost use Rattle.desk_book.specs.Book.{Book};
+ghost use Rattle.desk_book.specs.Book.{Book, empty_book};
 ghost use Rattle.desk_book.specs.Damage.{IsDamaged, IsFirstDamage};
 ghost use Rattle.desk_book.specs.declared.command.Command.{Command};
 ghost use Rattle.desk_book.specs.declared.parts.FileTable.{FileTable};
 ghost use Rattle.desk_book.specs.FileRows.{FileRows, table_of};
+ghost use Rattle.desk_book.specs.FilledRows.{AreEntriesOf, in_second_format, new_rows, second_format_puts};
+ghost use Rattle.desk_book.specs.FilledRows.{with_caches, with_new_entries, with_new_tables};
 ghost use Rattle.desk_book.specs.Outcome.{HasOneOutcome};
+ghost use Rattle.desk_book.specs.Puts.{PutBook, PutCache, PutEntry, with_puts};
 ghost use Rattle.desk_book.specs.Refusals.{IsAccepted};
 ghost use Rattle.desk_book.specs.Restored.{RestoresPrint};
-ghost use Rattle.desk_book.specs.Shows.{IsUnnamed, Shows};
+ghost use Rattle.desk_book.specs.Rows.{Cached, NamedCorr};
+ghost use Rattle.desk_book.specs.Shows.{AreCached, IsUnnamed, Shows, book_row_of};
 ghost use Rattle.desk_book.specs.Sound.{IsSound};
 ghost use Rattle.desk_book.specs.Step.{HasCharacters, Makes};
 ghost use Rattle.std.specs.List.{All};
-ghost use Rattle.std.specs.Prelude.{IsNone, IsSome, List, None, Option, ℕ, ℤ, ◌++◌, ◌↔◌, ◌≡◌};
+ghost use Rattle.std.specs.Prelude.{IsNone, IsSome, List, None, Option, [], ◌∷◌, map, ℕ, ℤ, ◌++◌, ◌↔◌, ◌≡◌};
 
 /// A list of commands, cut anywhere: the whole of it makes of a book what its second part makes of the book that its
 /// first part makes, and is accepted exactly where both parts are.
@@ -48,13 +52,37 @@ pub fn one_book()
     ensures { (rows : FileRows) (book other : Book) → Shows rows book → Shows rows other → book ≡ other }
 {}
 
-/// Each sound book has rows of the second format that show it, with the braille of its paragraphs; and one in which no
-/// correction has a name has rows of the first format, without the braille.
+/// Each sound book has rows of the second format that show it, and one in which no correction has a name has rows of the
+/// first format, each with the braille of its paragraphs and without it.
 pub fn some_rows()
     ensures second { (book : Book) → IsSound book
         → (rows : FileRows) × (table_of rows.entries ≡ FileTable.NamedCorr) × IsSome rows.caches × Shows rows book }
+    ensures second_without_cache { (book : Book) → IsSound book
+        → (rows : FileRows) × (table_of rows.entries ≡ FileTable.NamedCorr) × IsNone rows.caches × Shows rows book }
+    ensures first_with_cache { (book : Book) → IsSound book → IsUnnamed book
+        → (rows : FileRows) × (table_of rows.entries ≡ FileTable.Corr) × IsSome rows.caches × Shows rows book }
     ensures first { (book : Book) → IsSound book → IsUnnamed book
         → (rows : FileRows) × (table_of rows.entries ≡ FileTable.Corr) × IsNone rows.caches × Shows rows book }
+{}
+
+/// The rows of a new file show the empty book.
+pub fn new_rows_show_the_empty_book()
+    ensures { Shows new_rows empty_book }
+{}
+
+/// Rows that show a book show it still once they are brought to the second format, or get the braille of its paragraphs,
+/// all at once or by what is put, one after the other, into tables that are empty.
+pub fn filled_rows_show_their_book()
+    ensures format { (rows : FileRows) (book : Book) → Shows rows book → Shows (in_second_format rows) book }
+    ensures braille { (rows : FileRows) (book : Book) (caches : List Cached) → Shows rows book
+        → AreCached book caches → Shows (with_caches caches rows) book }
+    ensures caches { (rows : FileRows) (book : Book) (caches : List Cached) → Shows rows book
+        → AreCached book caches → Shows (with_puts (map PutCache caches) (with_caches [] rows)) book }
+    ensures names { (rows : FileRows) (book : Book) (entries : List NamedCorr) → Shows rows book
+        → AreEntriesOf book entries
+        → Shows (with_puts (PutBook (book_row_of 2 book.version) ∷ map PutEntry entries) (with_new_entries rows)) book }
+    ensures all { (rows : FileRows) (book : Book) (caches : List Cached) → Shows rows book → AreCached book caches
+        → Shows (with_puts (second_format_puts book.version rows caches) (with_new_tables rows)) book }
 {}
 
 /// Rows that show a book have no damage.

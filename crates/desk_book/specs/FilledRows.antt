@@ -1,0 +1,44 @@
+-- Rows of a new file, and those of one that is brought to the second format or gets the braille of its paragraphs.
+use Rattle.std.specs.Prelude.{ℕ, pos, List, [], ◌∷◌, ◌++◌, map, Some}
+use Rattle.std.specs.List.{All, flat_map}
+use Rattle.std.specs.List.Sorted.{IsPermutation}
+use Rattle.desk_book.specs.declared.rows.BookRow.{BookRow}
+use Rattle.desk_book.specs.Book.{Book}
+use Rattle.desk_book.specs.FileRows.{FileRows, HasEntryTexts, Named, entries_in, spelled_entry}
+use Rattle.desk_book.specs.Puts.{PutBook, PutCache, PutEntry, RowPuts}
+use Rattle.desk_book.specs.Rows.{Cached, NamedCorr}
+use Rattle.desk_book.specs.Shows.{book_row_of, entry_rows_of}
+
+-- a row of version 0 in the second format, and nothing else
+abbrev pub new_rows : FileRows
+new_rows = record { books = book_row_of 2 0 ∷ []; tabs = []; paras = []; entries = Named []; marks = []; caches = Some [] }
+
+-- with these rows of braille
+abbrev pub with_caches : List Cached → FileRows → FileRows
+with_caches caches rows = record rows { caches = Some caches }
+
+-- in the second format, each entry with a name, empty where it had none
+abbrev pub in_second_format : FileRows → FileRows
+in_second_format rows = record rows {
+  books = map (λ (row : BookRow). record row { format = pos 2 }) rows.books;
+  entries = Named (entries_in rows.entries);
+}
+
+-- with the tables that the second format adds, both empty
+abbrev pub with_new_tables : FileRows → FileRows
+with_new_tables rows = record rows { entries = Named []; caches = Some [] }
+
+-- with a table for the entries of the second format alone, empty
+abbrev pub with_new_entries : FileRows → FileRows
+with_new_entries rows = record rows { entries = Named [] }
+
+-- these are the entries of the book's histories, in any order
+abbrev pub AreEntriesOf : Book → List NamedCorr → Type 0
+AreEntriesOf book entries =
+    All HasEntryTexts entries × IsPermutation (map spelled_entry entries) (flat_map entry_rows_of book.paragraphs)
+
+-- what brings rows of this version to the second format, once they have its tables: the row of `book`, each entry, and the
+-- braille of each paragraph
+abbrev pub second_format_puts : ℕ → FileRows → List Cached → RowPuts
+second_format_puts version rows caches =
+    PutBook (book_row_of 2 version) ∷ (map PutEntry (entries_in rows.entries) ++ map PutCache caches)
