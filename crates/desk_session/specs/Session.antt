@@ -1,0 +1,93 @@
+-- Sessions: what was asked of a book, what became of it, and which of the commands a file has to keep.
+use Rattle.std.specs.Prelude.{◌≡◌, ◌≢◌, ◌⊎◌, ◌≤◌, ℕ, Bool, true, false, List, [], ◌∷◌, ◌++◌, length, map, Option}
+use Rattle.std.specs.List.{All, flat_map}
+use Rattle.desk_book.specs.declared.command.Command.{Command}
+use Rattle.desk_book.specs.After.{After}
+use Rattle.desk_book.specs.Book.{Book}
+use Rattle.desk_line.specs.declared.answer.Answer.{Answer}
+use Rattle.desk_line.specs.declared.answer.Answer.TheVariants.{Done, Refused, Asked, Syntax, NoMemory, Lost}
+use Rattle.desk_line.specs.declared.request.Request.TheVariants.{Do}
+use Rattle.desk_line.specs.Answered.{IsAnswered}
+use Rattle.desk_line.specs.Request.{Reads}
+
+-- a request that was read, what was answered to it, and whether the writer has taken the whole reply
+pub record Turn : Type 0 where
+  pub request : List ℕ
+  pub answer : Answer
+  pub taken : Bool
+
+-- a command that a session gave to its book, and whether it was acknowledged
+pub record Given : Type 0 where
+  pub command : Command
+  pub acknowledged : Bool
+
+-- the request is this command
+abbrev pub IsCommand : List ℕ → Command → Type 0
+IsCommand request command = (expect : Option ℕ) × Reads request (Do command expect)
+
+-- What a request gives by its answer: an accepted command is acknowledged once its whole `ok` line is taken; one that the
+-- store lost is given too, but never acknowledged. Refused commands, those that memory refused, queries and what is no
+-- request give nothing.
+abbrev pub Gives : Turn → Answer → List Given → Type 0
+Gives turn (Done number) given =
+    (command : Command) × IsCommand turn.request command
+    × (given ≡ record { command = command; acknowledged = turn.taken } ∷ [])
+Gives turn Lost given =
+    (command : Command) × IsCommand turn.request command
+    × (given ≡ record { command = command; acknowledged = false } ∷ [])
+Gives turn (Refused refusal) given = given ≡ []
+Gives turn (Asked query) given = given ≡ []
+Gives turn Syntax given = given ≡ []
+Gives turn NoMemory given = given ≡ []
+
+-- a reply that isn't taken whole, and a store that is lost, end the session
+pub record MayGoOn (turn : Turn) : Type 0 where
+  pub taken : turn.taken ≡ true
+  pub held : turn.answer ≢ Lost
+
+-- The turns of a session that began with this book: each request is answered on the book that the turns before it made.
+-- These commands were given, and this book is held at the end, without a command that was lost.
+abbrev pub IsSession : Book → List Turn → List Given → Book → Type 0
+IsSession book [] given last = (given ≡ []) × (last ≡ book)
+IsSession book (turn ∷ turns) given last =
+    (next : Book) × IsAnswered turn.request book next turn.answer
+    × ((turns ≡ []) ⊎ MayGoOn turn)
+    × ((first others : List Given) × Gives turn turn.answer first × (given ≡ first ++ others) × IsSession next turns others last)
+
+-- the commands of what was given
+abbrev pub commands_of : List Given → List Command
+commands_of given = map (λ one. one.command) given
+
+-- a session, the commands that it gave, and the first of these, which its file kept
+pub record Lived : Type 0 where
+  pub turns : List Turn
+  pub given : List Given
+  pub kept : List Given
+
+-- what was kept is a front of what was given that holds all that was acknowledged
+pub record HoldsAcknowledged (lived : Lived) : Type 0 where
+  pub lost : List Given
+  pub front : lived.given ≡ lived.kept ++ lost
+  pub unacknowledged : All (λ one. one.acknowledged ≡ false) lost
+
+-- Sessions one after another, the first of which begins with this book. After each the book is found that its kept commands
+-- make of the one it began with, and the next session begins with that. The last book is found after all of them.
+abbrev pub IsLife : Book → List Lived → Book → Type 0
+IsLife book [] found = found ≡ book
+IsLife book (lived ∷ later) found =
+    ((last : Book) × IsSession book lived.turns lived.given last) × HoldsAcknowledged lived
+    × ((next : Book) × After book (commands_of lived.kept) next × IsLife next later found)
+
+-- the commands that all these sessions kept, in order
+abbrev pub kept_commands : List Lived → List Command
+kept_commands sessions = flat_map (λ lived. commands_of lived.kept) sessions
+
+-- the book held at the end of a session: it has all that was given, but for one command at most, the last one, which was
+-- never acknowledged
+pub record IsHeld (book : Book) (given : List Given) (last : Book) : Type 0 where
+  pub held : List Given
+  pub lost : List Given
+  pub front : given ≡ held ++ lost
+  pub one : length lost ≤ 1
+  pub unacknowledged : All (λ one. one.acknowledged ≡ false) lost
+  pub after : After book (commands_of held) last
