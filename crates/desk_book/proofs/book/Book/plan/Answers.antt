@@ -31,6 +31,6 @@ returns-clause-accepted c =
       (
         planned.1.0,
         Carries-change_by book c.args.command.now planned.1.0 _ _ _ planned.0 planned.2 planned.1.1
-        (ap (λ (n : ℕ). n + 1) is ∙ sym (version-made book c.args.command.now planned.1.0 planned.1.1)) c.number.ensures planned.1.2,
+            (ap (λ (n : ℕ). n + 1) is ∙ sym (version-made book c.args.command.now planned.1.0 planned.1.1)) c.number.ensures planned.1.2,
       ),
     )
