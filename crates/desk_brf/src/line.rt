@@ -2,7 +2,7 @@
 ghost use Rattle.cell_core.specs.Ascii.{ascii_cell};
 ghost use Rattle.desk_brf.specs.Placing.{IsAscii};
 ghost use Rattle.desk_brf.specs.Volume.{IsSixDot};
-ghost use Rattle.std.specs.Prelude.{◌≡◌, ◌+◌, ◌<◌, ◌≤◌, ℕ, List, [], ◌∷◌, ◌++◌, All, length, replicate};
+ghost use Rattle.std.specs.Prelude.{◌≡◌, ◌+◌, ◌<◌, ◌≤◌, ℕ, List, [], ◌∷◌, ◌++◌, All, length, replicate, take};
 
 use super::layout::MOST_WIDTH;
 use cell_core::Cell;
@@ -27,6 +27,21 @@ impl Model for Line {
     ghost view = { λ l. take l.len l.bytes };
 
     ghost invariant = { λ l. l.len ≤ LINE_BYTES };
+}
+
+/// Puts the bytes of cells at a place of the bytes of a line, over those that stand there.
+fn put_ascii(bytes: &mut [u8; LINE_BYTES], place: usize, cells: &[Cell])
+    requires room { place + length cells.now ≤ LINE_BYTES }
+    requires dots { All IsSixDot cells.now }
+    ensures { (put : List ℕ) × (take (place + length cells.now) bytes.new ≡ take place bytes.old ++ put)
+        × IsAscii cells.now put }
+{
+    for (i, cell) in cells.iter().enumerate() {
+        let Some(byte) = cell.to_ascii() else {
+            unreachable!()
+        };
+        bytes[place + i] = byte;
+    }
 }
 
 impl Line {
@@ -79,11 +94,7 @@ impl Line {
         requires dots { All IsSixDot cells.now }
         ensures { (bytes : List ℕ) × (self.new ≡ self.old ++ bytes) × IsAscii cells.now bytes }
     {
-        for cell in cells {
-            let Some(byte) = cell.to_ascii() else {
-                unreachable!()
-            };
-            self.push(byte);
-        }
+        put_ascii(&mut self.bytes, self.len, cells);
+        self.len += cells.len();
     }
 }

@@ -5,7 +5,7 @@ ghost use Rattle.desk_brf.specs.Laying.{PutsPages, PutsParagraphs};
 ghost use Rattle.desk_brf.specs.Layout.{most_lines};
 ghost use Rattle.desk_brf.specs.Volume.{HasSixDotCells, IsSixDot};
 ghost use Rattle.desk_brf.specs.Volumes.{volume_of};
-ghost use Rattle.std.specs.Prelude.{◌≡◌, ◌⊎◌, ◌+◌, ◌<◌, ◌^◌, All, IfNone, IfSome, OnOk, is_ok, length, slice_index, take};
+ghost use Rattle.std.specs.Prelude.{◌≡◌, ◌⊎◌, ◌+◌, ◌<◌, ◌^◌, All, IfNone, IfSome, IsTrue, OnOk, is_ok, length, slice_index, take};
 
 use super::layout::Layout;
 use super::line::Line;
@@ -16,6 +16,9 @@ use cell_core::Cell;
 use desk_book::Book;
 use desk_ends::{Failed, Sink};
 use thiserror::Error;
+
+/// How many cells have none of the dots 7 and 8.
+const SIX_DOT_CELLS: u8 = 64;
 
 /// Why a volume was not exported, or not whole.
 #[derive(Clone, Copy, Debug, PartialEq, Eq, Error)]
@@ -36,12 +39,27 @@ pub enum ExportFault {
     Write,
 }
 
+/// Whether all cells have the dots 1 to 6 alone. It doesn't stop at one that has more, so that many cells are looked at
+/// together.
+fn are_six_dot(cells: &[Cell]) -> bool
+    ensures { IsTrue result → All IsSixDot cells.now }
+{
+    let mut six_dot = true;
+    for cell in cells {
+        six_dot &= cell.mask() < SIX_DOT_CELLS;
+    }
+    six_dot
+}
+
 /// The place of the first cell that has dot 7 or 8, if there is one.
 fn first_eight_dot(cells: &[Cell]) -> Option<usize>
     ensures none { IfNone result (All IsSixDot cells.now) }
     ensures some { IfSome result (λ place. (place < length cells.now) × All IsSixDot (take place cells.now)
         × (HasDot (slice_index cells.now place) 7 ⊎ HasDot (slice_index cells.now place) 8)) }
 {
+    if are_six_dot(cells) {
+        return None;
+    }
     for (i, cell) in cells.iter().enumerate() {
         if cell.to_ascii().is_none() {
             return Some(i);
