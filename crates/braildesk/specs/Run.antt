@@ -1,10 +1,11 @@
 -- What a run did to the bytes that a reader has left and a writer holds.
-use Rattle.std.specs.Prelude.{◌≡◌, ◌≢◌, ℕ, ◌^◌, ◌≤◌, ◌⊎◌, ◌==◌, if◌then◌else◌, List, [], ◌∷◌, ◌++◌, Option, IfSome, length}
+use Rattle.std.specs.Prelude.{◌≡◌, ◌≢◌, ℕ, ◌≤◌, ◌⊎◌, ◌==◌, if◌then◌else◌, List, [], ◌∷◌, ◌++◌, Option, IfSome, length}
 use Rattle.std.specs.Io.KnownBytes.{Appends, Consumes, IsAtEnd}
 use Rattle.desk_ends.specs.declared.ends.Sink.{Ghosts as Sink}
 use Rattle.desk_ends.specs.declared.ends.Source.{Ghosts as Source}
 use Rattle.desk_ends.specs.Ends.{IsFlushed}
 use Rattle.louis_table.specs.Meaning.{Meaning}
+use Rattle.braildesk.specs.declared.translate.TheConstants.{MOST_INPUT}
 use Rattle.braildesk.specs.declared.translate.Ended.{Ended}
 use Rattle.braildesk.specs.declared.translate.Ended.TheVariants.{Done, Input, Output}
 use Rattle.braildesk.specs.Reply.{IsOutput}
@@ -60,7 +61,7 @@ AnswersBeginning meaning read_old write_old write_new =
 -- a run ends early only where so many bytes were taken, or an end can fail
 abbrev pub IsHonest : Ended → ℕ → Type 0 → Type 0 → Type 0
 IsHonest Done taken ReadsFail WritesFail = Unit {0}
-IsHonest Input taken ReadsFail WritesFail = (2 ^ 62 ≤ taken) ⊎ ReadsFail
+IsHonest Input taken ReadsFail WritesFail = (MOST_INPUT ≤ taken) ⊎ ReadsFail
 IsHonest Output taken ReadsFail WritesFail = WritesFail
 
 -- all that was written is flushed, but where a write or a flush failed

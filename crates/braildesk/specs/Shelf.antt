@@ -1,9 +1,10 @@
 -- What stands at a path, as far as that is known.
 use Rattle.std.specs.Prelude.{◌≡◌, ℕ, ◌≤◌, List, length, Option, Some, None}
+use Rattle.braildesk.specs.declared.table_file.TheConstants.{MOST_FILE_BYTES}
 
 -- the bytes that a table file may have
 abbrev pub most_file_bytes : ℕ
-most_file_bytes = 134217728
+most_file_bytes = MOST_FILE_BYTES
 
 -- nothing is known, no file, or a file with these bytes
 pub data Shelved : Type 0 where

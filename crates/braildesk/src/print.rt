@@ -13,7 +13,7 @@ pub const MOST_CHARACTERS: usize = 4_000;
 
 /// A text has more than `MOST_CHARACTERS` characters.
 #[derive(Debug, Drop, Error)]
-#[error("more than 4000 characters")]
+#[error("more than {MOST_CHARACTERS} characters")]
 pub struct TooManyCharacters;
 
 /// The characters of a line, at most `MOST_CHARACTERS` of them. Contracts see their list.

@@ -14,6 +14,9 @@ use std::alloc::Global;
 /// The most bytes that a table file may have. No table has as many.
 pub const MOST_FILE_BYTES: usize = 1 << 27;
 
+// No test reads as many.
+const _: () = prove!(MOST_FILE_BYTES == 134_217_728);
+
 /// How many bytes are read at a time.
 const CHUNK_BYTES: usize = 1 << 16;
 

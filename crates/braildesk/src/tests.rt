@@ -4,8 +4,6 @@
 //! the proof of a function that has both takes minutes.
 ghost use Rattle.std.specs.Prelude.{Some};
 
-use super::line::MOST_BYTES;
-use super::print::MOST_CHARACTERS;
 use super::translate::{Ended, translate_lines};
 use desk_ends::{Memory, Sink, Source};
 use louis_table::{EN, Table};
@@ -41,25 +39,13 @@ type LongRow = (&'static str, usize, &'static str, usize, &'static str);
 
 /// Lines at the limits, and one of more cells than a block has.
 const LONG: &[LongRow] = &[
-    (
-        LETTER,
-        MOST_CHARACTERS,
-        "\n",
-        3 * MOST_CHARACTERS + 1,
-        "⠁\n",
-    ),
-    (LETTER, MOST_CHARACTERS + 1, "\n", 6, "no 14\n"),
-    (LETTER, MOST_BYTES, "\r\n", 6, "no 14\n"),
-    (LETTER, MOST_BYTES, "\r", 6, "no 14\n"),
-    (LETTER, MOST_BYTES + 1, "\r\n", 5, "no 1\n"),
-    (LETTER, MOST_BYTES + 2, "\n", 5, "no 1\n"),
-    (
-        THREE_CELLS,
-        MOST_CHARACTERS,
-        "\n",
-        9 * MOST_CHARACTERS + 1,
-        "⠁⠂⠄\n",
-    ),
+    (LETTER, 4_000, "\n", 12_001, "⠁\n"),
+    (LETTER, 4_001, "\n", 6, "no 14\n"),
+    (LETTER, 65_536, "\r\n", 6, "no 14\n"),
+    (LETTER, 65_536, "\r", 6, "no 14\n"),
+    (LETTER, 65_537, "\r\n", 5, "no 1\n"),
+    (LETTER, 65_538, "\n", 5, "no 1\n"),
+    (THREE_CELLS, 4_000, "\n", 36_001, "⠁⠂⠄\n"),
 ];
 
 /// An input of three lines, for ends that fail.

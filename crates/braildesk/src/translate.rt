@@ -11,6 +11,9 @@ use louis_translate::RuleBook;
 /// After so many bytes the next read counts as failed.
 const MOST_INPUT: u64 = 1 << 62;
 
+// No test reads as many.
+const _: () = prove!(MOST_INPUT == 4_611_686_018_427_387_904);
+
 /// How many bytes are read at a time.
 const CHUNK_BYTES: usize = 1 << 16;
 
