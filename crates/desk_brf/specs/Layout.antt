@@ -33,4 +33,5 @@ text_lines layout = layout.lines - 1
 
 -- such pages are within the limits
 abbrev pub IsLayout : (width lines : ℕ) → Type 0
-IsLayout width lines = (least_width ≤ width) × (width ≤ most_width) × (least_lines ≤ lines) × (lines ≤ most_lines)
+IsLayout width lines =
+    (least_width ≤ width) × (width ≤ most_width) × (least_lines ≤ lines) × (lines ≤ most_lines)
