@@ -40,6 +40,7 @@ attacks:
 bench: $(PROGRAM)
 	bench/translate.sh
 	bench/tables.sh
+	bench/reading.sh
 	bench/typing.sh
 	bench/requests.sh
 	bench/pages.sh
