@@ -6,7 +6,7 @@ use super::items::Room;
 use super::marks::KeptMark;
 use super::paragraphs::{Order, Paragraph};
 use super::style::Style;
-use super::tables::{BookTable, TablesRoom};
+use super::tables::{BoxedTable, TablesRoom};
 use super::text::Text;
 use cell_core::Cells;
 use louis_table::Characters;
@@ -39,7 +39,7 @@ pub(crate) enum Effect {
         /// Its name.
         name: Text,
         /// The table.
-        table: BookTable,
+        table: BoxedTable,
         /// Room for it beside the others.
         room: TablesRoom,
     },
@@ -48,7 +48,7 @@ pub(crate) enum Effect {
         /// The table's name.
         name: Text,
         /// What comes in its place.
-        table: BookTable,
+        table: BoxedTable,
         /// For each paragraph in the order of ids its new cells, or nothing where it doesn't use the table.
         cells: Vec<Option<Cells>>,
     },

@@ -24,7 +24,7 @@ use super::paragraphs::Paragraph;
 use super::refusal::{Limit, Refusal};
 use super::stored::{first_barred, is_table_name, stored};
 use super::style::Style;
-use super::tables::{BookTable, TablesRoom};
+use super::tables::{BookTable, BoxedTable, TablesRoom};
 use super::text::{Bytes, Text};
 use cell_core::Cells;
 use louis_table::{Characters, ReadFault};
@@ -471,8 +471,9 @@ impl Book {
     {
         self.check_version()?;
         let table = read_table(alloc, text)?;
-        self.check_users(name, &table.rules)?;
-        let cells = self.cells_by(alloc, name, &table.rules)?;
+        let rules = table.rules();
+        self.check_users(name, rules)?;
+        let cells = self.cells_by(alloc, name, rules)?;
         Ok(Effect::ReplaceTable {
             name: copy(alloc, name.as_str())?,
             table,
@@ -574,15 +575,15 @@ fn check_name(name: &Text) -> Result<(), Refusal>
     Ok(())
 }
 
-/// A table of a text.
-fn read_table(alloc: Global, text: &Bytes) -> Result<BookTable, Refusal>
+/// A table of a text. The heap is asked for room for it once the text was judged.
+fn read_table(alloc: Global, text: &Bytes) -> Result<BoxedTable, Refusal>
     ensures text { IfOk result (λ table. table.text ≡ text.now) }
     ensures means { IfOk result (λ table. Means text.now table.rules) }
     ensures bad { IfErr result (λ refusal. ((fault : _) × (refusal ≡ Refusal.BadTable fault)
         × Bad text.now fault.line fault.cause) ⊎ (refusal ≡ Refusal.NoMemory)) }
 {
     match BookTable::read(alloc, text.as_slice()) {
-        Ok(table) => Ok(table),
+        Ok(table) => Ok(BoxedTable::new(alloc, table)?),
         Err(ReadFault::Table(fault)) => Err(Refusal::BadTable(fault)),
         Err(ReadFault::NoMemory) => Err(Refusal::NoMemory),
     }

@@ -16,7 +16,7 @@ use super::paragraph_marks::ParagraphMarks;
 use super::paragraphs::Paragraph;
 use super::rows::Put;
 use super::style::Style;
-use super::tables::BookTable;
+use super::tables::BoxedTable;
 use super::text::Text;
 use cell_core::Cells;
 use std::marker::Model;
@@ -364,12 +364,12 @@ impl<'a> Puts<'a> {
 }
 
 /// The row of a braille table.
-fn tab<'a>(name: &'a Text, table: &'a BookTable) -> Put<'a>
+fn tab<'a>(name: &'a Text, table: &'a BoxedTable) -> Put<'a>
     ensures { put_of result ≡ tab_put name.now table.now }
 {
     Put::Tab {
         name: name.as_str(),
-        body: table.text.as_slice(),
+        body: table.text(),
     }
 }
 

@@ -8,13 +8,13 @@ use super::items::Room;
 use super::marks::KeptMark;
 use super::paragraphs::{Order, Paragraph};
 use super::style::Style;
-use super::tables::{BookTable, TablesRoom};
+use super::tables::{BoxedTable, TablesRoom};
 use super::text::Text;
 use cell_core::Cells;
 
 impl Book {
     /// The book at a version, with a new table.
-    fn with_new_table(self, version: u64, name: Text, table: BookTable, room: TablesRoom) -> Self
+    fn with_new_table(self, version: u64, name: Text, table: BoxedTable, room: TablesRoom) -> Self
         requires { (next : _) × IsEffect self version (Effect.AddTable name table room) next }
         ensures { (next : _) → IsEffect self version (Effect.AddTable name table room) next → result ≡ next }
     {
@@ -37,7 +37,7 @@ impl Book {
         self,
         version: u64,
         name: Text,
-        table: BookTable,
+        table: BoxedTable,
         cells: Vec<Option<Cells>>,
     ) -> Self
         requires { (next : _) × IsEffect self version (Effect.ReplaceTable name table cells) next }

@@ -58,6 +58,59 @@ impl BookTable {
     }
 }
 
+/// A table of a book on the heap, so that what holds one stays small. Contracts see the table.
+pub(crate) struct BoxedTable {
+    table: Box<BookTable>,
+}
+
+// Written out, as the drop of a paragraph is.
+impl Drop for BoxedTable {
+    fn drop(self) {
+        let BoxedTable { table: _ } = self;
+    }
+}
+
+impl Model for BoxedTable {
+    ghost use Rattle.desk_book.specs.declared.tables.BookTable.{BookTable};
+
+    ghost Value = { BookTable };
+
+    ghost view = { λ b. b.table.value };
+}
+
+impl BoxedTable {
+    /// The table, put on the heap.
+    pub(crate) fn new(alloc: Global, table: BookTable) -> Result<Self, AllocError>
+        ensures { IfOk result (λ boxed. boxed ≡ table) }
+    {
+        Ok(BoxedTable {
+            table: Box::new(alloc, table)?,
+        })
+    }
+
+    /// Its text.
+    pub(crate) fn text(&self) -> &[u8]
+        ensures { result.now ≡ self.now.text }
+    {
+        self.table.text.as_slice()
+    }
+
+    /// Its rules.
+    pub(crate) fn rules(&self) -> &RuleIndex
+        ensures { result.now ≡ self.now.rules }
+    {
+        &self.table.rules
+    }
+
+    /// The table, taken off the heap.
+    pub(crate) fn into_inner(self) -> BookTable
+        ensures { result ≡ self }
+    {
+        let BoxedTable { table } = self;
+        Box::into_inner(table)
+    }
+}
+
 /// Room for so many tables.
 #[derive(Drop)]
 pub(crate) struct TablesRoom {
@@ -131,18 +184,18 @@ impl Tables {
     }
 
     /// Puts a table in the place of the one with the name, if there is one.
-    pub(crate) fn replace(&mut self, name: &str, table: BookTable)
+    pub(crate) fn replace(&mut self, name: &str, table: BoxedTable)
         requires { IsSome (lookup (pointwise nat_eq (chars name.now)) self.old) }
         ensures { self.new ≡ with_table (chars name.now) table self.old }
     {
         let Some(old) = self.entries.get_mut(name) else {
             unreachable!()
         };
-        *old = table;
+        *old = table.into_inner();
     }
 
     /// These tables and a new one. It takes no memory.
-    pub(crate) fn joined(self, name: Text, table: BookTable, room: TablesRoom) -> Self
+    pub(crate) fn joined(self, name: Text, table: BoxedTable, room: TablesRoom) -> Self
         requires room { length self < room }
         requires new { lookup (pointwise nat_eq name) self ≡ None }
         ensures { result ≡ with_table name table self }
@@ -151,7 +204,9 @@ impl Tables {
         let mut entries = room.entries;
         let mut old = self.entries;
         entries.append(&mut old).unwrap();
-        entries.insert(name.into_string(), table).unwrap();
+        entries
+            .insert(name.into_string(), table.into_inner())
+            .unwrap();
         Tables { entries }
     }
 }

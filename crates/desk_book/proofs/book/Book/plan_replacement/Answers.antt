@@ -1,10 +1,11 @@
-use Rattle.std.proofs.Common.{ℕ, ◌<◌, List, None, refl, ◌∙◌, inl}
+use Rattle.std.proofs.Common.{ℕ, ◌<◌, List, None, refl, sym, subst, ◌∙◌, inl}
 use Rattle.std.specs.Prelude.{IsSome}
 use Rattle.std.proofs.lemmas.Result.{err_from_is_err_and}
 use Rattle.louis_table.specs.Meaning.{Meaning}
 use Rattle.louis_table.specs.Table.{Means}
 use Rattle.desk_book.specs.declared.command.Command.TheVariants.{Table}
 use Rattle.desk_book.specs.Book.{Book, text_of}
+use Rattle.desk_book.specs.Changes.{AreRenewed}
 use Rattle.desk_book.specs.Judging.{Passes}
 use Rattle.desk_book.specs.Limits.{most_version}
 use Rattle.desk_book.specs.Name.{IsTableName}
@@ -39,7 +40,7 @@ returns-in_err-table c =
 pub returns-in_err-check_users : goal.returns-in_err-check_users
 returns-in_err-check_users c =
     let p = err_from_is_err_and c.from_residual-in_err-check_users.result c.from_residual-in_err-check_users.ensures.1 in
-    let means = c.in_ok-table.ensures.means in
+    let means = subst (Means c.args.text.now) (sym c.rules-rules.ensures) c.in_ok-table.ensures.means in
     let passes = judged c.args.self.now c.args.name.now c.args.text.now c.requires.name c.requires.old c.in_ok-check_version.ensures.left _ means in
     let told = c.in_err-check_users.ensures.undefined in
     rw (p.1, p.2) (record { planned = tt; refused = untranslatable c.args.self.now c.args.name.now c.args.text.now _ means _ told.0 told.1 passes told.2 told.3 })
@@ -59,8 +60,9 @@ returns-in_err-copy c =
 pub returns-clause-planned : goal.returns-clause-planned
 returns-clause-planned c =
     let book = c.args.self.now in
-    let means = c.in_ok-table.ensures.means in
+    let means = subst (Means c.args.text.now) (sym c.rules-rules.ensures) c.in_ok-table.ensures.means in
+    let renewed = subst (λ (meaning : Meaning). AreRenewed book c.args.name.now meaning c.in_ok-cells.cells.items) c.rules-rules.ensures c.in_ok-cells.ensures.renewed in
     let passes = judged book c.args.name.now c.args.text.now c.requires.name c.requires.old c.in_ok-check_version.ensures.left _ means in
     let accepted = past_users book c.args.name.now c.args.text.now _ means passes c.in_ok-check_users.ensures.defined in
     let name = c.in_ok-copy.ensures.text ∙ c.as_str.ensures in
-    (accepted, (_, refl, rw (name, c.in_ok-table.ensures.text) (refl, c.requires.old, means, c.in_ok-cells.ensures.renewed, c.in_ok-cells.ensures.few)), tt)
+    (accepted, (_, refl, rw (name, c.in_ok-table.ensures.text) (refl, c.requires.old, c.in_ok-table.ensures.means, renewed, c.in_ok-cells.ensures.few)), tt)
