@@ -23,7 +23,7 @@ use Rattle.desk_book.specs.Refusals.{HasLongNote, HasLongText, IsAccepted, histo
 use Rattle.desk_book.proofs.Judging.{Passes-full, Passes-struck, skips}
 use Rattle.desk_book.proofs.Planning.{AreNotAllThere-first, accepted_after, full_version, no_memory, no_paragraph, past_lengths, past_paragraphs, past_print, past_version, short_print, to_turn, too_long, turned_down}
 
-AreThere-one : (book : Book) (id : ℕ) (p : Paragraph) → paragraph_of book id ≡ Some p → AreThere book (id ∷ [])
+pub AreThere-one : (book : Book) (id : ℕ) (p : Paragraph) → paragraph_of book id ≡ Some p → AreThere book (id ∷ [])
 AreThere-one book id p found other (zero, within, at) = subst (λ (n : ℕ). IsSome (paragraph_of book n)) at (ap is_some found)
 AreThere-one book id p found other (suc i, within, at) = absurd (omega arith)
 

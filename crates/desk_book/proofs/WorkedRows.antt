@@ -1,7 +1,9 @@
 -- Histories, marks, refusals and their order, worked by the definitions alone: they say what these rows say, and not only what the code does.
-use Rattle.std.proofs.Common.{◌≡◌, ℕ, Bool, true, false, List, [], ◌∷◌, ◌++◌, map, refl, arith, lit<}
+use Rattle.std.proofs.Common.{◌≡◌, ℕ, Bool, true, false, List, [], ◌∷◌, ◌++◌, map, refl, arith, lit<, lit≤, inl, inr}
 use Rattle.std.specs.Prelude.{Some, None}
+use Rattle.std.proofs.lemmas.List.Elements.{All-cons, All-nil}
 use Rattle.louis_table.specs.declared.fault.TableFault.{TableFault}
+use Rattle.desk_book.specs.declared.command.Command.{Command}
 use Rattle.desk_book.specs.declared.refusal.Limit.TheVariants.{Tables, Paragraphs, Entries, Marks, Version}
 use Rattle.desk_book.specs.declared.refusal.Refusal.{Refusal}
 use Rattle.desk_book.specs.declared.refusal.Refusal.TheVariants.{Moved, BadName, BadReader, BadText, NoParagraph, NoTable, NoMark, Struck, NotStruck, Resolved, BadSpan, NothingToUndo, TooLong, Full, BadTable, Undefined, Untranslatable, NoMemory}
@@ -10,12 +12,17 @@ use Rattle.desk_book.specs.declared.style.Style.TheVariants.{Body}
 use Rattle.desk_book.specs.Book.{Book, Replacement, Entry, Corrects, Undoes, Mark}
 use Rattle.desk_book.specs.Print.{corrected, newest, stack}
 use Rattle.desk_book.specs.Marks.{mark_moved, mark_moved_back}
-use Rattle.desk_book.specs.Refusals.{Holds, IsRefused, code_of, print_to_translate, turn}
+use Rattle.desk_book.specs.Judging.{Passes}
+use Rattle.desk_book.specs.Name.{IsReaderName, is_reader_character}
+use Rattle.desk_book.specs.Planned.{IsTurnedDown}
+use Rattle.desk_book.specs.Refusals.{IsRefused, code_of, print_to_translate, turn}
 use Rattle.desk_book.specs.Step.{Makes, number_of}
-use Rattle.desk_book.proofs.EntryPlanning.{past_fit}
+use Rattle.desk_book.specs.Stored.{IsUnbarred, is_barred}
+use Rattle.desk_book.proofs.CorrectPlanning.{past_reader}
+use Rattle.desk_book.proofs.EntryPlanning.{AreThere-one, past_fit, unfit}
 use Rattle.desk_book.proofs.Expecting.{moved}
 use Rattle.desk_book.proofs.Judging.{IsRefused-passes}
-use Rattle.desk_book.proofs.Planning.{passes_to, to_turn}
+use Rattle.desk_book.proofs.Planning.{passes_to, past_paragraphs, past_text, to_turn}
 
 -- `The cat`
 abbrev the_cat : List ℕ
@@ -135,10 +142,23 @@ taken_back_book = cat_book 4 (Corrects dog [] ∷ Undoes 1 ∷ []) false
 numbers-of-entries : map (λ command. number_of taken_back_book command) (Correct 1 0 0 [] [] ∷ Undo 1 ∷ Correct 2 0 0 [] [] ∷ Strike 1 ∷ []) ≡ Some 3 ∷ Some 3 ∷ None ∷ None ∷ []
 numbers-of-entries = refl
 
+-- a replacement by `x`, without a name, is judged by what its paragraph is
+x-passes : (book : Book) (id start count : ℕ) → Passes book None (Correct id start count (120 ∷ []) []) 30
+x-passes book id start count =
+    let named : IsReaderName [] = record { short = lit≤ tt; characters = All-nil (λ character. is_reader_character character ≡ true) } in
+    let unbarred : IsUnbarred (120 ∷ []) = All-cons (λ character. is_barred character ≡ false) 120 [] refl (All-nil (λ character. is_barred character ≡ false)) in
+    past_text book (Correct id start count (120 ∷ []) []) (120 ∷ []) (past_reader book id start count (120 ∷ []) [] named) refl unbarred
+
 -- a replacement of the ninth character of seven, an expected version 9 at version 4, and an undo where no correction is in
 -- force
-past-the-print : Holds taken_back_book None (Correct 1 8 1 (120 ∷ []) []) BadSpan
-past-the-print = record { paragraph = _; found = refl; past = lit< tt }
+abbrev x_past_the_end : Command
+x_past_the_end = Correct 1 8 1 (120 ∷ []) []
+
+past-the-print : IsRefused taken_back_book None x_past_the_end BadSpan
+past-the-print =
+    let book = taken_back_book in
+    let fit = past_fit book x_past_the_end 1 refl refl refl (x-passes book 1 8 1) _ refl refl in
+    IsRefused-passes book None x_past_the_end 90 BadSpan (to_turn book x_past_the_end 70 90 refl fit) refl (record { paragraph = _; found = refl; past = lit< tt })
 
 another-version : IsRefused taken_back_book (Some 9) (Undo 1) (Moved 4)
 another-version = moved taken_back_book (Some 9) (Undo 1) 4 (record { expected = 9; given = refl; other = λ same. omega arith; told = refl })
@@ -155,11 +175,26 @@ makes-struck = refl
 makes-restored : Makes (cat_book 3 [] true) (Restore 1) (cat_book 4 [] false)
 makes-restored = refl
 
-struck-already : Holds (cat_book 3 [] true) None (Strike 1) Struck × Holds (cat_book 3 [] true) None (Correct 1 0 0 (120 ∷ []) []) Struck
-struck-already = (record { id = 1; paragraph = _; named = refl; found = refl; struck = refl }, record { id = 1; paragraph = _; named = refl; found = refl; struck = refl })
+first-told : (book : Book) (command : Command) (refusal : Refusal) → ¬ (refusal ≡ NoMemory) → IsTurnedDown book command refusal → IsRefused book None command refusal
+first-told book command refusal other (inl is) = is
+first-told book command refusal other (inr lacks) = absurd (other lacks.0)
 
-restored-already : Holds (cat_book 4 [] false) None (Restore 1) NotStruck
-restored-already = record { id = 1; paragraph = _; named = refl; found = refl; live = refl }
+struck-already : IsRefused (cat_book 3 [] true) None (Strike 1) Struck
+struck-already =
+    let book = cat_book 3 [] true in
+    first-told book (Strike 1) Struck (λ same. cc) (unfit book (Strike 1) 1 refl refl refl (passes_to book (Strike 1) 30 refl) Struck (inr (refl, (_, refl, refl))))
+
+corrected-while-struck : IsRefused (cat_book 3 [] true) None (Correct 1 0 0 (120 ∷ []) []) Struck
+corrected-while-struck =
+    let book = cat_book 3 [] true in
+    let command = Correct 1 0 0 (120 ∷ []) [] in
+    first-told book command Struck (λ same. cc) (unfit book command 1 refl refl refl (x-passes book 1 0 0) Struck (inr (refl, (_, refl, refl))))
+
+restored-already : IsRefused (cat_book 4 [] false) None (Restore 1) NotStruck
+restored-already =
+    let book = cat_book 4 [] false in
+    let there = past_paragraphs book (Restore 1) (passes_to book (Restore 1) 30 refl) (AreThere-one book 1 _ refl) in
+    IsRefused-passes book None (Restore 1) 70 NotStruck (to_turn book (Restore 1) 40 70 refl there) refl (record { id = 1; paragraph = _; named = refl; found = refl; live = refl })
 
 -- `c`, corrected to `a` and given the table `ab`: an undo is judged by that table, for the print `c`
 abbrev retabled_book : Book
