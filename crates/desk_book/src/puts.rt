@@ -3,17 +3,17 @@ ghost use Rattle.desk_book.specs.ChangePuts.{LeadTo, cache_put, cells_from, effe
 ghost use Rattle.desk_book.specs.Changes.{Carries, Does};
 ghost use Rattle.desk_book.specs.Limits.{most_paragraphs, most_print};
 ghost use Rattle.desk_book.specs.ParagraphMarks.{marks_on};
-ghost use Rattle.desk_book.specs.Puts.{LendsFirst, PutEntry, PutMark, PutPara, SetPlace, SetVersion, put_of};
+ghost use Rattle.desk_book.specs.Puts.{LendsFirst, PutEntry, PutMark, PutPara, SetFlags, SetPlace, SetResolved, SetTable, SetVersion, put_of};
 ghost use Rattle.desk_book.specs.Shows.{flag_number, style_number};
 ghost use Rattle.desk_book.specs.Step.{next_id};
-ghost use Rattle.std.specs.Prelude.{◌≡◌, ◌+◌, ◌-◌, ◌<◌, ◌≤◌, [], ◌∷◌, ◌++◌, IfNone, IfSome, length, map, slice_index};
+ghost use Rattle.std.specs.Prelude.{◌≡◌, ◌+◌, ◌-◌, ◌<◌, ◌≤◌, [], ◌∷◌, ◌++◌, IfNone, IfSome, encode_utf8_all, length, map, pos, slice_index};
 
 use super::book::Book;
 use super::change::{Change, Effect, PrintChange};
 use super::history::KeptEntry;
 use super::marks::{KeptMark, Span};
 use super::paragraph_marks::ParagraphMarks;
-use super::paragraphs::Paragraph;
+use super::paragraphs::{Order, Paragraph};
 use super::rows::Put;
 use super::style::Style;
 use super::tables::BoxedTable;
@@ -269,6 +269,13 @@ enum Walk<'a> {
 impl<'a> Walk<'a> {
     ghost use Rattle.desk_book.specs.PutsLeft.{walk_puts};
 
+    /// All new cells of paragraphs.
+    fn of_cells(cells: &'a [Option<Cells>]) -> Self
+        ensures { walk_puts result ≡ cells_from 0 cells.now }
+    {
+        Walk::Cells(CellPuts { cells, at: 0 })
+    }
+
     fn next(&mut self) -> Option<Put<'a>>
         ensures { LendsFirst (walk_puts self.old) result (walk_puts self.new) }
     {
@@ -414,6 +421,39 @@ fn mark(id: u64, mark: &KeptMark) -> Put<'_>
     }
 }
 
+/// That a mark is resolved.
+fn resolved<'a>(id: u64) -> Put<'a>
+    ensures { put_of result ≡ SetResolved (row_number id) (pos 1) }
+{
+    Put::Resolved {
+        id: number(id),
+        resolved: 1,
+    }
+}
+
+/// The style and flags of a paragraph.
+fn flags<'a>(id: u64, style: Style, begins_volume: bool, struck: bool) -> Put<'a>
+    ensures { put_of result
+        ≡ SetFlags (row_number id) (style_number style) (flag_number begins_volume) (flag_number struck) }
+{
+    Put::Flags {
+        id: number(id),
+        style: style_row(style),
+        volume: flag(begins_volume),
+        struck: flag(struck),
+    }
+}
+
+/// The table that a paragraph uses.
+fn used<'a>(id: u64, table: &'a Text) -> Put<'a>
+    ensures { put_of result ≡ SetTable (row_number id) (encode_utf8_all table.now) }
+{
+    Put::Table {
+        id: number(id),
+        tab: table.as_str(),
+    }
+}
+
 impl Book {
     ghost use Rattle.desk_book.specs.PutsLeft.{walk_puts};
 
@@ -447,6 +487,19 @@ impl Book {
             Some(cache(id, &paragraph.cells)),
             Walk::Further(FurtherPuts { order, at: place }),
         )
+    }
+
+    /// What another order of the paragraphs puts.
+    fn elsewhere_puts<'a>(&'a self, version: u64, order: &'a Order) -> Puts<'a>
+        ensures { result ≡ SetVersion (row_number version)
+            ∷ elsewhere_from 0 (map (λ other. other.id) self.now.paragraphs) order.now }
+    {
+        let walk = Walk::Elsewhere(ElsewherePuts {
+            was: self.order(),
+            order: order.as_slice(),
+            at: 0,
+        });
+        Puts::new(version, None, None, None, walk)
     }
 
     /// The spans of the marks of a paragraph after a change of its print.
@@ -498,72 +551,35 @@ impl Effect {
         ensures { result ≡ SetVersion (row_number version) ∷ effect_puts book.now self.now }
     {
         match self {
-            Effect::AddTable {
-                name,
-                table,
-                room: _,
-            } => Puts::of_row(version, tab(name, table)),
+            Effect::AddTable { name, table, .. } => Puts::of_row(version, tab(name, table)),
             Effect::ReplaceTable { name, table, cells } => {
-                let walk = Walk::Cells(CellPuts {
-                    cells: cells.as_slice(),
-                    at: 0,
-                });
+                let walk = Walk::of_cells(cells.as_slice());
                 Puts::new(version, Some(tab(name, table)), None, None, walk)
             }
             Effect::AddParagraph {
                 paragraph,
-                room: _,
-                order_room: _,
                 place,
+                ..
             } => book.new_paragraph_puts(version, paragraph, *place),
             Effect::ChangePrint { id, change } => book.print_puts(version, *id, change),
-            Effect::AddMark {
-                mark: kept,
-                room: _,
-                index_room: _,
-            } => { Puts::of_row(version, mark(book.next_mark(), kept)) }
-            Effect::ResolveMark { id } => {
-                let row = Put::Resolved {
-                    id: number(*id),
-                    resolved: 1,
-                };
-                Puts::of_row(version, row)
+            Effect::AddMark { mark: kept, .. } => {
+                Puts::of_row(version, mark(book.next_mark(), kept))
             }
+            Effect::ResolveMark { id } => Puts::of_row(version, resolved(*id)),
             Effect::SetFlags {
                 id,
                 style,
                 begins_volume,
                 struck,
-            } => {
-                let row = Put::Flags {
-                    id: number(*id),
-                    style: style_row(*style),
-                    volume: flag(*begins_volume),
-                    struck: flag(*struck),
-                };
-                Puts::of_row(version, row)
-            }
-            Effect::ChangeTable { id, table, cells } => {
-                let row = Put::Table {
-                    id: number(*id),
-                    tab: table.as_str(),
-                };
-                Puts::new(
-                    version,
-                    Some(row),
-                    None,
-                    Some(cache(*id, cells)),
-                    Walk::Nothing,
-                )
-            }
-            Effect::Reorder { order } => {
-                let walk = Walk::Elsewhere(ElsewherePuts {
-                    was: book.order(),
-                    order: order.as_slice(),
-                    at: 0,
-                });
-                Puts::new(version, None, None, None, walk)
-            }
+            } => Puts::of_row(version, flags(*id, *style, *begins_volume, *struck)),
+            Effect::ChangeTable { id, table, cells } => Puts::new(
+                version,
+                Some(used(*id, table)),
+                None,
+                Some(cache(*id, cells)),
+                Walk::Nothing,
+            ),
+            Effect::Reorder { order } => book.elsewhere_puts(version, order),
         }
     }
 }
