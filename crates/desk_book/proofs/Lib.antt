@@ -49,6 +49,7 @@ pub mod PutRows
 pub mod PutReplacement
 pub mod PutTables
 pub mod PutsLead
+pub mod ReadParagraphs
 pub mod Replacing
 pub mod RoomLists
 pub mod Settled
