@@ -7,6 +7,7 @@ pub mod Commits
 pub mod Counting
 pub mod Creating
 pub mod Declaring
+pub mod Failures
 pub mod Faults
 pub mod Frozen
 pub mod Makes
@@ -20,6 +21,7 @@ pub mod Parents
 pub mod Parsing
 pub mod PutLists
 pub mod Quiet
+pub mod Refusals
 pub mod ReadTest
 pub mod Reading
 pub mod RowKinds
