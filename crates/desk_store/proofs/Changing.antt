@@ -1,7 +1,8 @@
 -- What a statement that puts rows makes of the contents.
-use Rattle.std.proofs.Common.{◌≡◌, ◌++◌, ◌≢◌, ◌⊎◌, inl, inr, ℕ, true, false, List, [], ◌∷◌, Ok, Err, OnOk, refl, sym, subst, ◌∙◌, true≢false, bytes_eq, Result}
+use Rattle.std.proofs.Common.{◌≡◌, ◌++◌, ◌≢◌, ◌⊎◌, inl, inr, ℕ, true, false, List, [], ◌∷◌, Ok, Err, IfErr, OnOk, refl, sym, subst, ◌∙◌, true≢false, bytes_eq, Result}
 use Rattle.std.specs.List.{AllByRecursion}
 use Rattle.sqlite_trees.specs.Tree.{Trees}
+use Rattle.sqlite_value.specs.Order.{Row}
 use Rattle.sqlite_rules.proofs.ListLemmas.{all_has}
 use Rattle.sqlite_schema.specs.declared.schema.Table.{Table}
 use Rattle.sqlite_catalog.specs.Listing.{IsSound}
@@ -9,6 +10,8 @@ use Rattle.sqlite.specs.declared.error.Error.{Error}
 use Rattle.sqlite.specs.Effect.{Database}
 use Rattle.sqlite.specs.State.{State, ExecutesInside}
 use Rattle.sqlite.proofs.InsideLemmas.{inside_keeps}
+use Rattle.desk_book.specs.declared.rows.BookRow.{BookRow}
+use Rattle.desk_book.specs.Puts.{PutBook, RowPut}
 use Rattle.sql_tables.specs.Rows.{HaveRowids, Lists, picked}
 use Rattle.sql_tables.proofs.Declaring.{has_table}
 use Rattle.sql_tables.proofs.PutLists.{apart, differ}
@@ -16,13 +19,12 @@ use Rattle.sql_tables.proofs.Running.{Wrote}
 use Rattle.sql_tables.proofs.Writing.{Spares}
 use Rattle.desk_store.specs.Described.{Which, books, tabs, paras, corrs, marks, caches, named_corrs, described, table_of}
 use Rattle.desk_store.specs.Layout.{Layout, AreDeclared, IsOther}
-use Rattle.desk_store.specs.Contents.{Contents, Holds, with_row, with_rows}
-use Rattle.desk_store.specs.Puts.{Changes, HasThem, PutsAll, PutsRow, RunsTo, row_put, table_put, with_put, with_puts}
-use Rattle.desk_store.specs.Turns.{Ran, Statement}
-use Rattle.desk_store.specs.declared.rows.Put.{Put}
+use Rattle.desk_store.specs.Contents.{Contents, Holds, with_rows}
+use Rattle.desk_store.specs.Puts.{HasThem, IsPut, PutsAll, PutsRow, RunsTo, change_of, put_into, puts_into, row_put, statement, table_put}
+use Rattle.desk_store.specs.Turns.{Failed, Ran}
 use Rattle.desk_store.specs.Rows.{RowOf, written, set_at}
 use Rattle.desk_store.specs.States.{IsUnder}
-use Rattle.desk_store.proofs.PutTables.{Does}
+use Rattle.desk_store.proofs.PutTables.{does}
 
 -- ---- each table
 
@@ -94,42 +96,53 @@ goes_on old new l c next committed was wrote all = record {
   over = (rw was.inside at wrote.shown.committed_is) ∙ was.over;
 }
 
-module _ (w : Which) (f : List (RowOf w) → List (RowOf w)) (it : Statement) (old new : State) where
-  put_ok : Does w f it.text it.params → (v : Unit {0}) (count : ℕ) → ExecutesInside 0 it.text it.params old new (Ok count) → Changes {V = Unit {0}} (Ok v) it w (with_rows w f) old new
-  put_ok does v count h = record {
+module _ (it : RowPut) (old new : State) where
+  put_ok : (v : Unit {0}) (count : ℕ) → ExecutesInside 0 (statement it).text (statement it).params old new (Ok count) → IsPut {V = Unit {0}} (Ok v) it old new
+  put_ok v count h = record {
     put = λ committed l c there was.
+        let w = table_put it in
         let file = was.shows.is in
-        let did = does l.schema (l.tree w) (file.declared w there) old new count (c.rows w) was.shows.schema file.sound (file.holds.ids w there) (file.holds.tables w there) h.0 in
-        goes_on old new l c (with_rows w f c) committed was did.wrote (holds l c file.declared old.now.trees new.now.trees file.holds w f there did.spares did.lists did.ids);
+        let did = does it l.schema (l.tree w) (file.declared w there) old new count (c.rows w) was.shows.schema file.sound (file.holds.ids w there) (file.holds.tables w there) h.0 in
+        goes_on old new l c (put_into c it) committed was did.wrote (holds l c file.declared old.now.trees new.now.trees file.holds w (change_of it) there did.spares did.lists did.ids);
     ran = (count, h);
     is_open = h.1.was_open;
     inside = h.1.mode;
-    kept = inside_keeps old new 0 false it.text it.params (Ok count) h;
+    kept = inside_keeps old new 0 false (statement it).text (statement it).params (Ok count) h;
     told = λ was. tt;
   }
 
-  -- a statement that ran changed the contents so
-  pub changes : Does w f it.text it.params → (r : Result (Unit {0}) Error) → RunsTo r it.text it.params old new → Changes r it w (with_rows w f) old new
-  changes does (Ok v) ran = put_ok does v ran.0 ran.1
-  changes does (Err e) ran = record { put = λ committed l c there was. tt; ran = tt; is_open = tt; inside = tt; kept = ran.0; told = ran.1 }
+  -- its statement ran, or failed
+  pub put_ran : (r : Result (Unit {0}) Error) → RunsTo r (statement it).text (statement it).params old new → IsPut r it old new
+  put_ran (Ok v) ran = put_ok v ran.0 ran.1
+  put_ran (Err e) ran = record { put = λ committed l c there was. tt; ran = tt; is_open = tt; inside = tt; kept = ran.0; told = λ was. inl (ran.1 was) }
 
-pub puts_row : (w : Which) (x : RowOf w) (old new : State) (r : Result (Unit {0}) Error) → Changes r (row_put w x) w (with_row w x) old new → OnOk r (PutsRow w x old new × Ran (row_put w x) old new)
-puts_row w x old new (Ok v) changed = (changed.put, changed.ran)
-puts_row w x old new (Err e) changed = tt
+  -- it ran, or failed, with what are its parameters
+  pub put_as : (r : Result (Unit {0}) Error) (params : Row) → RunsTo r (statement it).text params old new → params ≡ (statement it).params → IsPut r it old new
+  put_as r params ran same = put_ran r (subst (λ p. RunsTo r (statement it).text p old new) same ran)
+
+module _ (x : BookRow) (old new : State) where
+  pub puts_row : (r : Result (Unit {0}) Error) → IsPut r (PutBook x) old new → OnOk r (PutsRow books x old new × Ran (row_put books x) old new)
+  puts_row (Ok v) it = (it.put, it.ran)
+  puts_row (Err e) it = tt
+
+  -- it takes no memory of its own
+  pub row_told : (r : Result (Unit {0}) Error) → IsPut r (PutBook x) old new → old.in_transaction ≡ true → IfErr r (Failed (row_put books x) old new)
+  row_told (Ok v) it was = tt
+  row_told (Err e) it was = elim (it.told was) [ inl failed ↦ failed | inr none ↦ absurd none.0 ]
 
 -- ---- puts in turn
 
-with_one_more : (xs : List Put) (x : Put) (c : Contents) → with_puts (xs ++ x ∷ []) c ≡ with_put (with_puts xs c) x
+with_one_more : (xs : List RowPut) (x : RowPut) (c : Contents) → puts_into (xs ++ x ∷ []) c ≡ put_into (puts_into xs c) x
 with_one_more [] x c = refl
-with_one_more (y ∷ ys) x c = with_one_more ys x (with_put c y)
+with_one_more (y ∷ ys) x c = with_one_more ys x (put_into c y)
 
-have_one_more : (l : Layout) (xs : List Put) (x : Put) → HasThem l (xs ++ x ∷ []) → HasThem l xs × (l.has (table_put x) ≡ true)
+have_one_more : (l : Layout) (xs : List RowPut) (x : RowPut) → HasThem l (xs ++ x ∷ []) → HasThem l xs × (l.has (table_put x) ≡ true)
 have_one_more l [] x all = (tt, all.0)
 have_one_more l (y ∷ ys) x all = let more = have_one_more l ys x all.1 in ((all.0, more.0), more.1)
 
 -- one is put after others
-pub puts_more : (xs : List Put) (x : Put) (old mid new : State) → PutsAll xs old mid
-    → ((committed : Database) (l : Layout) (c : Contents) → l.has (table_put x) ≡ true → IsUnder committed l c mid → IsUnder committed l (with_put c x) new) → PutsAll (xs ++ x ∷ []) old new
+pub puts_more : (xs : List RowPut) (x : RowPut) (old mid new : State) → PutsAll xs old mid
+    → ((committed : Database) (l : Layout) (c : Contents) → l.has (table_put x) ≡ true → IsUnder committed l c mid → IsUnder committed l (put_into c x) new) → PutsAll (xs ++ x ∷ []) old new
 puts_more xs x old mid new first last committed l c there was =
     let have = have_one_more l xs x there in
-    subst (λ d. IsUnder committed l d new) (sym (with_one_more xs x c)) (last committed l (with_puts xs c) have.1 (first committed l c have.0 was))
+    subst (λ d. IsUnder committed l d new) (sym (with_one_more xs x c)) (last committed l (puts_into xs c) have.1 (first committed l c have.0 was))

@@ -8,11 +8,11 @@ use Rattle.sqlite.specs.declared.error.Error.{Error}
 use Rattle.sqlite.specs.State.{Fails, KeepsCommit, State, Survives}
 use Rattle.sqlite.specs.Steps.{FailsToCommit}
 use Rattle.sqlite.proofs.StateLemmas.{survives_then}
+use Rattle.desk_book.specs.Puts.{RowPut}
 use Rattle.desk_store.specs.Contents.{Contents}
 use Rattle.desk_store.specs.Layout.{Layout}
-use Rattle.desk_store.specs.Puts.{IsFileWith, PutsAll, Writes, with_puts}
+use Rattle.desk_store.specs.Puts.{IsFileWith, PutsAll, Writes, puts_into}
 use Rattle.desk_store.specs.States.{IsFile, IsUnder, Shows}
-use Rattle.desk_store.specs.declared.rows.Put.{Put}
 
 -- a transaction begins at what is there
 pub begins : {S : Type 0} (g : Ghosts S) (old : Held S) (l : Layout) (c : Contents) → Shows l c (state g old) → IsUnder (state g old).committed l c (state g (record old { in_transaction = true }))
@@ -26,11 +26,11 @@ pub was_open : {S : Type 0} (g : Ghosts S) (old begun mid : Held S) → begun �
 was_open g old begun mid is kept is_open = (subst (λ h. KeepsCommit (state g h) (state g mid)) is kept).was_open is_open
 
 -- what was put within a transaction is there once it is committed
-pub writes_on : {S : Type 0} (g : Ghosts S) (old last : Held S) (new : State) (puts : List Put) → PutsAll puts (state g (record old { in_transaction = true })) (state g last) → new.now ≡ (state g last).now → Writes puts (state g old) new
-writes_on g old last new puts all same l c there was = shows_on (state g last) new l (with_puts puts c) same (all (state g old).committed l c there (begins g old l c was)).shows
+pub writes_on : {S : Type 0} (g : Ghosts S) (old last : Held S) (new : State) (puts : List RowPut) → PutsAll puts (state g (record old { in_transaction = true })) (state g last) → new.now ≡ (state g last).now → Writes puts (state g old) new
+writes_on g old last new puts all same l c there was = shows_on (state g last) new l (puts_into puts c) same (all (state g old).committed l c there (begins g old l c was)).shows
 
 -- a file that was shown is what the trees are
-pub file_with : (old new : State) (puts : List Put) → Writes puts old new → IsFileWith puts old new.now.trees
+pub file_with : (old new : State) (puts : List RowPut) → Writes puts old new → IsFileWith puts old new.now.trees
 file_with old new puts writes l c there was = (writes l c there was).is
 
 -- a transaction that goes on from another point keeps what a crash may leave

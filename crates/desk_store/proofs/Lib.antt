@@ -1,5 +1,7 @@
 pub mod Answering
 pub mod Asking
+pub mod BookNumbers
+pub mod BookPuts
 pub mod ByName
 pub mod Changing
 pub mod Committing

@@ -13,6 +13,7 @@ use Rattle.sqlite_trees.specs.declared.store.Store.{Ghosts}
 use Rattle.sqlite.specs.Effect.{Database}
 use Rattle.sqlite.specs.Held.{Held, state}
 use Rattle.sqlite.specs.State.{State}
+use Rattle.desk_book.specs.Puts.{RowPut}
 use Rattle.sql_tables.specs.Making.{IsMaking, KeepsAside}
 use Rattle.sql_tables.specs.Rows.{HaveRowids}
 use Rattle.sql_tables.specs.Tables.{IsDeclared}
@@ -23,8 +24,7 @@ use Rattle.desk_store.specs.Contents.{Contents}
 use Rattle.desk_store.specs.Described.{Which, described, table_of}
 use Rattle.desk_store.specs.Layout.{Layout}
 use Rattle.desk_store.specs.Making.{AreFreeIn, Differ, IsFileWithTables, MakesTables, WritesWithTables, after, is_among, tree_in, with_none, with_tables}
-use Rattle.desk_store.specs.Puts.{PutsAll, with_puts}
-use Rattle.desk_store.specs.declared.rows.Put.{Put}
+use Rattle.desk_store.specs.Puts.{PutsAll, puts_into}
 use Rattle.desk_store.specs.States.{IsUnder}
 use Rattle.desk_store.proofs.Changing.{same}
 use Rattle.desk_store.proofs.Committing.{begins, shows_on}
@@ -117,7 +117,7 @@ module _ (l : Layout) (c : Contents) (ws : List Which) (differ : Differ ws) (com
 
 -- ---- as one transaction
 
-module _ {S : Type 0} (g : Ghosts S) (old mid last : Held S) (ws : List Which) (puts : List Put) where
+module _ {S : Type 0} (g : Ghosts S) (old mid last : Held S) (ws : List Which) (puts : List RowPut) where
   -- tables that were made and rows that were put then are in the file
   pub grows : MakesTables ws (state g (record old { in_transaction = true })) (state g mid) → PutsAll puts (state g mid) (state g last) → (new : State) → new.now ≡ (state g last).now → WritesWithTables ws puts (state g old) new
   grows makes all new same l c differ there was =
@@ -126,7 +126,7 @@ module _ {S : Type 0} (g : Ghosts S) (old mid last : Held S) (ws : List Which) (
       let others = (state g mid).now.trees in
       let after = with_tables ws l in
       let next = with_none ws others c in
-      (others, more.1, more.2, shows_on (state g last) new after (with_puts puts next) same (all committed after next there more.0).shows)
+      (others, more.1, more.2, shows_on (state g last) new after (puts_into puts next) same (all committed after next there more.0).shows)
 
-pub file_with_tables : (ws : List Which) (puts : List Put) (old new : State) → WritesWithTables ws puts old new → IsFileWithTables ws puts old new.now.trees
+pub file_with_tables : (ws : List Which) (puts : List RowPut) (old new : State) → WritesWithTables ws puts old new → IsFileWithTables ws puts old new.now.trees
 file_with_tables ws puts old new writes l c differ there was = let it = writes l c differ there was in (it.0, it.1, it.2, it.3.is)

@@ -18,6 +18,7 @@ use Rattle.sqlite_catalog.specs.Listing.{IsSound}
 use Rattle.sqlite.specs.State.{State, Executes}
 use Rattle.sqlite_tied.specs.Compute.{everything}
 use Rattle.desk_book.specs.declared.rows.BookRow.{BookRow}
+use Rattle.desk_book.specs.Puts.{RowPut, PutBook, PutTab, PutPara, PutMark, PutCache, PutEntry, SetPlace, SetFlags, SetTable, SetPrint, SetSpan, SetResolved, SetVersion}
 use Rattle.desk_book.specs.Rows.{Mark, Para, NamedCorr, Cached}
 use Rattle.sql_tables.specs.Rows.{HaveRowids, Lists, picked, set_where}
 use Rattle.sql_tables.specs.Tables.{IsDeclared, needed}
@@ -30,7 +31,7 @@ use Rattle.sql_tables.proofs.Updating.{left_of, right_of, sets_in, test_in}
 use Rattle.sql_tables.proofs.Writing.{IsAdded, IsPut, Spares}
 use Rattle.desk_store.specs.Described.{Which, books, tabs, paras, corrs, marks, caches, named_corrs, described, table_of}
 use Rattle.desk_store.specs.Rows.{RowOf, put_to, written}
-use Rattle.desk_store.specs.Puts.{at_version, flagged, moved, placed, printed, retabled, settled}
+use Rattle.desk_store.specs.Puts.{at_version, change_of, flagged, moved, placed, printed, retabled, set_book, set_mark, set_para, settled, statement, table_put}
 use Rattle.desk_store.specs.declared.texts.TheConstants.{SET_FLAGS, SET_PLACE, SET_PRINT, SET_RESOLVED, SET_SPAN, SET_TABLE, SET_VERSION}
 use Rattle.desk_store.proofs.ByName.{tab_puts}
 
@@ -394,7 +395,7 @@ version_sets id version = record {
 
 -- ---- each statement
 
-pub puts : (w : Which) (x : RowOf w) → (described w).is_written ≡ true → Does w (put_to w x) (described w).put (written w x)
+puts : (w : Which) (x : RowOf w) → (described w).is_written ≡ true → Does w (put_to w x) (described w).put (written w x)
 puts books x is = λ schema tree d old new count xs has sound ids lists h.
     put_did books schema tree _ old new
     (numbered_puts (described books).name (described books).columns (described books).own (described books).put (written books) (λ (b : BookRow). b.id) book_puts schema tree d old new count x xs has sound (ids refl) lists h)
@@ -411,37 +412,53 @@ puts tabs x is = λ schema tree d old new count xs has sound ids lists h. put_di
 puts corrs x is = absurd (cc)
 puts named_corrs x is = entry_puts x
 
-pub sets_place : (id place : ℤ) → Does paras (set_where (λ (p : Para). int_eq p.id id) (placed place)) SET_PLACE.now (Int id ∷ Int place ∷ [])
+sets_place : (id place : ℤ) → Does paras (set_para id (placed place)) SET_PLACE.now (Int id ∷ Int place ∷ [])
 sets_place id place schema tree d old new count xs has sound ids lists h =
     set_did paras schema tree _ old new
     (sets_by_rowid (described paras).name (described paras).columns (described paras).own SET_PLACE.now (written paras) (λ (p : Para). p.id) (Int id ∷ Int place ∷ []) id (placed place) (place_sets id place) schema tree d old new count xs has sound (ids refl) lists h)
 
-pub sets_flags : (id style volume struck : ℤ) → Does paras (set_where (λ (p : Para). int_eq p.id id) (flagged style volume struck)) SET_FLAGS.now (Int id ∷ Int style ∷ Int volume ∷ Int struck ∷ [])
+sets_flags : (id style volume struck : ℤ) → Does paras (set_para id (flagged style volume struck)) SET_FLAGS.now (Int id ∷ Int style ∷ Int volume ∷ Int struck ∷ [])
 sets_flags id style volume struck schema tree d old new count xs has sound ids lists h =
     set_did paras schema tree _ old new
     (sets_by_rowid (described paras).name (described paras).columns (described paras).own SET_FLAGS.now (written paras) (λ (p : Para). p.id) (Int id ∷ Int style ∷ Int volume ∷ Int struck ∷ []) id (flagged style volume struck) (flags_sets id style volume struck) schema tree d old new count xs has sound (ids refl) lists h)
 
-pub sets_table : (id : ℤ) (tab : List ℕ) → Does paras (set_where (λ (p : Para). int_eq p.id id) (retabled tab)) SET_TABLE.now (Int id ∷ Text tab ∷ [])
+sets_table : (id : ℤ) (tab : List ℕ) → Does paras (set_para id (retabled tab)) SET_TABLE.now (Int id ∷ Text tab ∷ [])
 sets_table id tab schema tree d old new count xs has sound ids lists h =
     set_did paras schema tree _ old new
     (sets_by_rowid (described paras).name (described paras).columns (described paras).own SET_TABLE.now (written paras) (λ (p : Para). p.id) (Int id ∷ Text tab ∷ []) id (retabled tab) (table_sets id tab) schema tree d old new count xs has sound (ids refl) lists h)
 
-pub sets_print : (id : ℤ) (print : List ℕ) → Does paras (set_where (λ (p : Para). int_eq p.id id) (printed print)) SET_PRINT.now (Int id ∷ Text print ∷ [])
+sets_print : (id : ℤ) (print : List ℕ) → Does paras (set_para id (printed print)) SET_PRINT.now (Int id ∷ Text print ∷ [])
 sets_print id print schema tree d old new count xs has sound ids lists h =
     set_did paras schema tree _ old new
     (sets_by_rowid (described paras).name (described paras).columns (described paras).own SET_PRINT.now (written paras) (λ (p : Para). p.id) (Int id ∷ Text print ∷ []) id (printed print) (print_sets id print) schema tree d old new count xs has sound (ids refl) lists h)
 
-pub sets_span : (id start stop touched : ℤ) → Does marks (set_where (λ (m : Mark). int_eq m.id id) (moved start stop touched)) SET_SPAN.now (Int id ∷ Int start ∷ Int stop ∷ Int touched ∷ [])
+sets_span : (id start stop touched : ℤ) → Does marks (set_mark id (moved start stop touched)) SET_SPAN.now (Int id ∷ Int start ∷ Int stop ∷ Int touched ∷ [])
 sets_span id start stop touched schema tree d old new count xs has sound ids lists h =
     set_did marks schema tree _ old new
     (sets_by_rowid (described marks).name (described marks).columns (described marks).own SET_SPAN.now (written marks) (λ (m : Mark). m.id) (Int id ∷ Int start ∷ Int stop ∷ Int touched ∷ []) id (moved start stop touched) (span_sets id start stop touched) schema tree d old new count xs has sound (ids refl) lists h)
 
-pub sets_resolved : (id resolved : ℤ) → Does marks (set_where (λ (m : Mark). int_eq m.id id) (settled resolved)) SET_RESOLVED.now (Int id ∷ Int resolved ∷ [])
+sets_resolved : (id resolved : ℤ) → Does marks (set_mark id (settled resolved)) SET_RESOLVED.now (Int id ∷ Int resolved ∷ [])
 sets_resolved id resolved schema tree d old new count xs has sound ids lists h =
     set_did marks schema tree _ old new
     (sets_by_rowid (described marks).name (described marks).columns (described marks).own SET_RESOLVED.now (written marks) (λ (m : Mark). m.id) (Int id ∷ Int resolved ∷ []) id (settled resolved) (resolved_sets id resolved) schema tree d old new count xs has sound (ids refl) lists h)
 
-pub sets_version : (version : ℤ) → Does books (set_where (λ (b : BookRow). int_eq b.id (pos 1)) (at_version version)) SET_VERSION.now (Int (pos 1) ∷ Int version ∷ [])
+sets_version : (version : ℤ) → Does books (set_book (at_version version)) SET_VERSION.now (Int (pos 1) ∷ Int version ∷ [])
 sets_version version schema tree d old new count xs has sound ids lists h =
     set_did books schema tree _ old new
     (sets_by_rowid (described books).name (described books).columns (described books).own SET_VERSION.now (written books) (λ (b : BookRow). b.id) (Int (pos 1) ∷ Int version ∷ []) (pos 1) (at_version version) (version_sets (pos 1) version) schema tree d old new count xs has sound (ids refl) lists h)
+
+-- what is put does with its table what it says, by its statement
+pub does : (it : RowPut) → Does (table_put it) (change_of it) (statement it).text (statement it).params
+does (PutBook row) = puts books row refl
+does (PutTab row) = puts tabs row refl
+does (PutPara row) = puts paras row refl
+does (PutMark row) = puts marks row refl
+does (PutCache row) = puts caches row refl
+does (PutEntry row) = puts named_corrs row refl
+does (SetPlace id place) = sets_place id place
+does (SetFlags id style volume struck) = sets_flags id style volume struck
+does (SetTable id tab) = sets_table id tab
+does (SetPrint id print) = sets_print id print
+does (SetSpan id start stop touched) = sets_span id start stop touched
+does (SetResolved id resolved) = sets_resolved id resolved
+does (SetVersion version) = sets_version version

@@ -5,6 +5,11 @@ use Rattle.sqlite.specs.Held.{Held, state}
 use Rattle.sqlite.specs.State.{Survives}
 use Rattle.desk_store.specs.Turns.{Ran, RunInTurn, Statement}
 
+-- of one more
+pub map_then : {A B : Type 0} (f : A → B) (xs : List A) (x : A) → map f (xs ++ x ∷ []) ≡ map f xs ++ f x ∷ []
+map_then f [] x = refl
+map_then f (y ∷ ys) x = let h = map_then f ys x in cc
+
 module _ {S : Type 0} (g : Ghosts S) where
   -- some ran, and then others
   pub run_then : (first later : List Statement) (old mid new : Held S) → RunInTurn g first old mid → RunInTurn g later mid new → RunInTurn g (first ++ later) old new
@@ -14,10 +19,6 @@ module _ {S : Type 0} (g : Ghosts S) where
   -- one ran alone
   pub one_ran : (it : Statement) (old new : Held S) → Ran it (state g old) (state g new) → Survives (state g old) (state g new) (λ _. ⊥) → RunInTurn g (it ∷ []) old new
   one_ran it old new ran kept = (new, ran, kept, refl)
-
-  map_then : {A : Type 0} (said : A → Statement) (xs : List A) (x : A) → map said (xs ++ x ∷ []) ≡ map said xs ++ said x ∷ []
-  map_then said [] x = refl
-  map_then said (y ∷ ys) x = let h = map_then said ys x in cc
 
   -- one more ran, which stands for this
   pub one_more_ran : {A : Type 0} (said : A → Statement) (xs : List A) (x : A) (old mid new : Held S) → RunInTurn g (map said xs) old mid → Ran (said x) (state g mid) (state g new)

@@ -2,14 +2,13 @@
 use Rattle.std.proofs.Common.{Bool, true, false, List, [], ◌∷◌, filter, pos, cond, if◌then◌else◌, inl, inr, sym, subst}
 use Rattle.std.specs.List.{AllByRecursion}
 use Rattle.std.specs.Ordering.{int_eq}
+use Rattle.desk_book.specs.Puts.{RowPut, PutBook, PutTab, PutPara, PutMark, PutCache, PutEntry, SetPlace, SetFlags, SetTable, SetPrint, SetSpan, SetResolved, SetVersion}
 use Rattle.sql_tables.specs.Rows.{set_where}
 use Rattle.desk_store.specs.Contents.{Contents, with_row, with_rows}
 use Rattle.desk_store.specs.Described.{Which, books, tabs, paras, corrs, marks, caches, named_corrs}
-use Rattle.desk_store.specs.Puts.{at_version, flagged, moved, placed, printed, retabled, settled, with_put, with_puts}
+use Rattle.desk_store.specs.Puts.{at_version, flagged, moved, placed, printed, put_into, puts_into, retabled, settled}
 use Rattle.desk_store.specs.Rows.{RowOf, put_to, set_at}
 use Rattle.desk_store.specs.Whole.{AreUtf8, IsUtf8Put, IsUtf8Row}
-use Rattle.desk_store.specs.declared.rows.Put.{Put}
-use Rattle.desk_store.specs.declared.rows.Put.TheVariants as put
 use Rattle.desk_store.proofs.Changing.{same, set_other, set_own}
 
 kept_one : {X : Type 0} (P : X → Type 0) (b : Bool) (x : X) (xs : List X) → P x → AllByRecursion P xs → AllByRecursion P (cond b (x ∷ xs) xs)
@@ -54,21 +53,21 @@ row_put w x c is all = changed w (put_to w x) c (all_put w x (c.rows w) is) all
 columns_set : (w : Which) (has_key : RowOf w → Bool) (set : RowOf w → RowOf w) (c : Contents) → ((x : RowOf w) → IsUtf8Row w x → IsUtf8Row w (set x)) → AreUtf8 c → AreUtf8 (with_rows w (set_where has_key set) c)
 columns_set w has_key set c stays all = changed w (set_where has_key set) c (all_set (IsUtf8Row w) has_key set stays (c.rows w)) all
 
-one_put : (it : Put) (c : Contents) → IsUtf8Put it → AreUtf8 c → AreUtf8 (with_put c it)
-one_put (put.Book row) c is all = row_put books row.now c is all
-one_put (put.Tab row) c is all = row_put tabs row.now c is all
-one_put (put.Para row) c is all = row_put paras row.now c is all
-one_put (put.Mark row) c is all = row_put marks row.now c is all
-one_put (put.Cache row) c is all = row_put caches row.now c is all
-one_put (put.Corr row) c is all = row_put named_corrs row.now c is all
-one_put (put.Place id place) c is all = columns_set paras (λ p. int_eq p.id id) (placed place) c (λ p was. was) all
-one_put (put.Flags id style volume struck) c is all = columns_set paras (λ p. int_eq p.id id) (flagged style volume struck) c (λ p was. was) all
-one_put (put.Table id tab) c is all = columns_set paras (λ p. int_eq p.id id) (retabled tab.now) c (λ p was. (is, was.1, was.2)) all
-one_put (put.Print id print) c is all = columns_set paras (λ p. int_eq p.id id) (printed print.now) c (λ p was. (was.0, was.1, is)) all
-one_put (put.Span id start stop touched) c is all = columns_set marks (λ m. int_eq m.id id) (moved start stop touched) c (λ m was. was) all
-one_put (put.Resolved id resolved) c is all = columns_set marks (λ m. int_eq m.id id) (settled resolved) c (λ m was. was) all
-one_put (put.Version version) c is all = columns_set books (λ b. int_eq b.id (pos 1)) (at_version version) c (λ b was. was) all
+one_put : (it : RowPut) (c : Contents) → IsUtf8Put it → AreUtf8 c → AreUtf8 (put_into c it)
+one_put (PutBook row) c is all = row_put books row c is all
+one_put (PutTab row) c is all = row_put tabs row c is all
+one_put (PutPara row) c is all = row_put paras row c is all
+one_put (PutMark row) c is all = row_put marks row c is all
+one_put (PutCache row) c is all = row_put caches row c is all
+one_put (PutEntry row) c is all = row_put named_corrs row c is all
+one_put (SetPlace id place) c is all = columns_set paras (λ p. int_eq p.id id) (placed place) c (λ p was. was) all
+one_put (SetFlags id style volume struck) c is all = columns_set paras (λ p. int_eq p.id id) (flagged style volume struck) c (λ p was. was) all
+one_put (SetTable id tab) c is all = columns_set paras (λ p. int_eq p.id id) (retabled tab) c (λ p was. (is, was.1, was.2)) all
+one_put (SetPrint id print) c is all = columns_set paras (λ p. int_eq p.id id) (printed print) c (λ p was. (was.0, was.1, is)) all
+one_put (SetSpan id start stop touched) c is all = columns_set marks (λ m. int_eq m.id id) (moved start stop touched) c (λ m was. was) all
+one_put (SetResolved id resolved) c is all = columns_set marks (λ m. int_eq m.id id) (settled resolved) c (λ m was. was) all
+one_put (SetVersion version) c is all = columns_set books (λ b. int_eq b.id (pos 1)) (at_version version) c (λ b was. was) all
 
-pub texts_stay : (puts : List Put) (c : Contents) → AllByRecursion IsUtf8Put puts → AreUtf8 c → AreUtf8 (with_puts puts c)
+pub texts_stay : (puts : List RowPut) (c : Contents) → AllByRecursion IsUtf8Put puts → AreUtf8 c → AreUtf8 (puts_into puts c)
 texts_stay [] c are all = all
-texts_stay (it ∷ puts) c are all = texts_stay puts (with_put c it) are.1 (one_put it c are.0 all)
+texts_stay (it ∷ puts) c are all = texts_stay puts (put_into c it) are.1 (one_put it c are.0 all)

@@ -9,7 +9,7 @@ use Rattle.desk_store.specs.Described.{Which, books}
 use Rattle.desk_store.specs.Making.{AreMade, MakesTables, creation, first_row}
 use Rattle.desk_store.specs.Puts.{ArePut, OfItems, OfItemsBefore, PutsRow, StopsAt, row_put}
 use Rattle.desk_store.specs.Turns.{Failed, Ran, Stops}
-use Rattle.desk_store.specs.declared.rows.Put.{Put}
+use Rattle.desk_book.specs.declared.rows.Put.{Put}
 
 -- Of these tables those so far were made, and this is what the database answered to the statement that makes the next.
 pub record StopsMaking {S : Type 0} (g : Ghosts S) (ws : List Which) (old : Held S) (new : State) (e : Error) : Type 0 where
@@ -17,7 +17,7 @@ pub record StopsMaking {S : Type 0} (g : Ghosts S) (ws : List Which) (old : Held
   pub next : Which
   pub later : List Which
   pub all : ws ≡ done ++ next ∷ later
-  pub stops : Stops g (map creation done) (creation next) old new e
+  pub stops : Stops g (map creation done) (Failed (creation next)) old new e
   pub made : MakesTables done (state g old) (state g stops.before)
 
 -- How rows are put within a transaction: what stops it, and what it does if nothing does.

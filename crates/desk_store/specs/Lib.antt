@@ -12,3 +12,4 @@ pub mod Asked
 pub mod Making
 pub mod Failing
 pub mod Whole
+pub mod BookFile

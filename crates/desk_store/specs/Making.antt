@@ -10,14 +10,14 @@ use Rattle.sqlite.specs.Effect.{Database}
 use Rattle.sqlite.specs.Held.{Held, state}
 use Rattle.sqlite.specs.State.{State, IsLive}
 use Rattle.desk_book.specs.declared.rows.BookRow.{BookRow}
+use Rattle.desk_book.specs.Puts.{RowPut}
 use Rattle.sql_tables.specs.Making.{AreFree, FreesNone, IsMaking, KeepsAside, first_created}
 use Rattle.desk_store.specs.Contents.{Contents, with_row}
 use Rattle.desk_store.specs.Described.{Which, books, tabs, paras, marks, caches, named_corrs, described, table_of}
 use Rattle.desk_store.specs.Layout.{Layout}
-use Rattle.desk_store.specs.Puts.{HasThem, row_put, with_puts}
+use Rattle.desk_store.specs.Puts.{HasThem, puts_into, row_put}
 use Rattle.desk_store.specs.States.{IsFile, Shows}
 use Rattle.desk_store.specs.Turns.{RunInTurn, Statement}
-use Rattle.desk_store.specs.declared.rows.Put.{Put}
 
 -- the tables of a new file, in the order in which they are made
 abbrev pub new_tables : List Which
@@ -114,16 +114,16 @@ with_none ws others c = record { rows = λ v. if is_among ws v then [] else c.ro
 
 -- What a file is once these tables are made in it and these rows are put: the rows of all other tables that were there, and what the
 -- database keeps aside, are as they were.
-abbrev pub IsGrown : List Which → List Put → Layout → Contents → Trees → (Layout → Contents → Type 0) → Type 0
+abbrev pub IsGrown : List Which → List RowPut → Layout → Contents → Trees → (Layout → Contents → Type 0) → Type 0
 IsGrown ws puts l c rows P =
-    (others : Trees) × KeepsRows l.schema.tables rows others × KeepsAside l.schema rows others × P (with_tables ws l) (with_puts puts (with_none ws others c))
+    (others : Trees) × KeepsRows l.schema.tables rows others × KeepsAside l.schema rows others × P (with_tables ws l) (puts_into puts (with_none ws others c))
 
 -- The tables were made in whatever file the connection showed, and the rows put, which have their tables then.
-abbrev pub WritesWithTables : List Which → List Put → State → State → Type 0
+abbrev pub WritesWithTables : List Which → List RowPut → State → State → Type 0
 WritesWithTables ws puts old new =
     (l : Layout) (c : Contents) → Differ ws → HasThem (with_tables ws l) puts → Shows l c old → IsGrown ws puts l c old.now.trees (λ after d. Shows after d new)
 
 -- The trees are such a file.
-abbrev pub IsFileWithTables : List Which → List Put → State → Trees → Type 0
+abbrev pub IsFileWithTables : List Which → List RowPut → State → Trees → Type 0
 IsFileWithTables ws puts s db =
     (l : Layout) (c : Contents) → Differ ws → HasThem (with_tables ws l) puts → Shows l c s → IsGrown ws puts l c s.now.trees (λ after d. IsFile after d db)

@@ -5,10 +5,10 @@ use Rattle.sqlite_schema.specs.Names.{same_name, table_named}
 use Rattle.sqlite_schema.specs.declared.schema.Schema.{Schema}
 use Rattle.sqlite_schema.specs.declared.schema.View.{View as Stored}
 use Rattle.desk_store.specs.Described.{Which, books, tabs, paras, corrs, marks, caches, named_corrs, described}
-use Rattle.desk_store.specs.declared.table.Table.{Table}
-use Rattle.desk_store.specs.declared.table.Table.TheVariants.{Book, Tab, Para, Corr, Mark, Cache, NamedCorr}
+use Rattle.desk_book.specs.declared.parts.FileTable.{FileTable}
+use Rattle.desk_book.specs.declared.parts.FileTable.TheVariants.{Book, Tab, Para, Corr, Mark, Cache, NamedCorr}
 
-abbrev pub which : Table → Which
+abbrev pub which : FileTable → Which
 which Book = books
 which Tab = tabs
 which Para = paras
@@ -29,5 +29,5 @@ is_there s w =
     is_some (table_named s name) || list_any (λ v. same_name v.name name && is_table_or_view v) s.views
 
 -- none of these is `corr`
-abbrev pub AreWritten : List Table → Type 0
+abbrev pub AreWritten : List FileTable → Type 0
 AreWritten = AllByRecursion (λ t. (described (which t)).is_written ≡ true)

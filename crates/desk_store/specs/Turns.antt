@@ -24,11 +24,12 @@ RunInTurn g [] old new = new ≡ old
 RunInTurn {S} g (it ∷ more) old new = (mid : Held S) × Ran it (state g old) (state g mid)
     × Survives (state g old) (state g mid) (λ _. ⊥) × RunInTurn g more mid new
 
--- Those before a statement ran in turn, and the database answered this error to it.
-pub record Stops {S : Type 0} (g : Ghosts S) (done : List Statement) (next : Statement) (old : Held S) (new : State) (e : Error) : Type 0 where
+-- These ran in turn, and what came next failed so.
+pub record Stops {S : Type 0} (g : Ghosts S) (done : List Statement) (Fails : State → State → Error → Type 0) (old : Held S) (new : State)
+    (e : Error) : Type 0 where
   pub before : Held S
   pub ran : RunInTurn g done old before
-  pub answered : Failed next (state g before) new e
+  pub failed : Fails (state g before) new e
   pub left : Survives (state g before) new (λ _. ⊥)
 
 -- a connection on which a transaction begins

@@ -5,13 +5,12 @@ use Rattle.std.specs.Ordering.{int_eq}
 use Rattle.sqlite_trees.specs.Tree.{Trees}
 use Rattle.sqlite_rules.specs.Edit.{IsNoIndex}
 use Rattle.sql_tables.specs.Rows.{Lists, picked}
+use Rattle.desk_book.specs.Puts.{RowPut, PutBook, PutTab, PutPara, PutMark, PutCache, PutEntry, SetPlace, SetFlags, SetTable, SetPrint, SetSpan, SetResolved, SetVersion}
 use Rattle.desk_book.specs.Rows.{StoredTab}
 use Rattle.desk_store.specs.Contents.{Contents}
 use Rattle.desk_store.specs.Described.{Which, books, tabs, paras, corrs, marks, caches, named_corrs, described}
 use Rattle.desk_store.specs.Layout.{Layout, IsOther}
 use Rattle.desk_store.specs.Rows.{RowOf, ShownOf, own, shown}
-use Rattle.desk_store.specs.declared.rows.Put.{Put}
-use Rattle.desk_store.specs.declared.rows.Put.TheVariants as put
 
 -- the same rows in each of the tables, in any order, and in each other tree
 pub record HaveSameRows (l : Layout) (c d : Contents) : Type 0 where
@@ -67,17 +66,17 @@ abbrev pub AreUtf8 : Contents → Type 0
 AreUtf8 c = (w : Which) → AllByRecursion (IsUtf8Row w) (c.rows w)
 
 -- the texts of what is put are UTF-8
-abbrev pub IsUtf8Put : Put → Type 0
-IsUtf8Put (put.Book row) = ⊤
-IsUtf8Put (put.Tab row) = IsUtf8Row tabs row.now
-IsUtf8Put (put.Para row) = IsUtf8Row paras row.now
-IsUtf8Put (put.Mark row) = IsUtf8Row marks row.now
-IsUtf8Put (put.Cache row) = ⊤
-IsUtf8Put (put.Corr row) = IsUtf8Row named_corrs row.now
-IsUtf8Put (put.Place id place) = ⊤
-IsUtf8Put (put.Flags id style volume struck) = ⊤
-IsUtf8Put (put.Table id tab) = IsUtf8 tab.now
-IsUtf8Put (put.Print id print) = IsUtf8 print.now
-IsUtf8Put (put.Span id start stop touched) = ⊤
-IsUtf8Put (put.Resolved id resolved) = ⊤
-IsUtf8Put (put.Version version) = ⊤
+abbrev pub IsUtf8Put : RowPut → Type 0
+IsUtf8Put (PutBook row) = ⊤
+IsUtf8Put (PutTab row) = IsUtf8Row tabs row
+IsUtf8Put (PutPara row) = IsUtf8Row paras row
+IsUtf8Put (PutMark row) = IsUtf8Row marks row
+IsUtf8Put (PutCache row) = ⊤
+IsUtf8Put (PutEntry row) = IsUtf8Row named_corrs row
+IsUtf8Put (SetPlace id place) = ⊤
+IsUtf8Put (SetFlags id style volume struck) = ⊤
+IsUtf8Put (SetTable id tab) = IsUtf8 tab
+IsUtf8Put (SetPrint id print) = IsUtf8 print
+IsUtf8Put (SetSpan id start stop touched) = ⊤
+IsUtf8Put (SetResolved id resolved) = ⊤
+IsUtf8Put (SetVersion version) = ⊤

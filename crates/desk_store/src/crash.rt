@@ -9,14 +9,14 @@ ghost use Rattle.desk_store.specs.Contents.{Contents};
 ghost use Rattle.desk_store.specs.Fault.{FailsToReopen};
 ghost use Rattle.desk_store.specs.Layout.{Layout};
 ghost use Rattle.std.specs.Iterator.{IsFinite};
-ghost use Rattle.desk_store.specs.Puts.{HasThem, OfItems, Writes, with_puts};
+ghost use Rattle.desk_store.specs.Puts.{HasThem, OfItems, Writes, puts_into};
 ghost use Rattle.desk_store.specs.States.{IsFile, Shows};
 ghost use Rattle.sql_tables.specs.States.{Leaves};
 
 use crate::fault::Fault;
 use crate::open::open_file;
-use crate::rows::Put;
 use crate::transaction::write;
+use desk_book::rows::Put;
 use sqlite::{Alter, Connection, Error};
 use sqlite_trees::error::StoreError;
 use sqlite_trees::store::Reopen;
@@ -55,7 +55,7 @@ pub fn reopen<S: Alter + Reopen + Drop>(
     }
 }
 
-/// Puts in turn what an iterator gives, has the store crash whatever the answer, and opens what is left: it shows the rows from before, or
+/// Puts in turn what an iterator lends, has the store crash whatever the answer, and opens what is left: it shows the rows from before, or
 /// those with all of these, which at `Ok` are there. The store comes back with an error of the opening. The caller's condition: the iterator
 /// ends.
 pub fn reopen_after_write<'a, S: Alter + Reopen + Drop, I: Iterator<Item = Put<'a>> + Drop>(
@@ -76,14 +76,14 @@ pub fn reopen_after_write<'a, S: Alter + Reopen + Drop, I: Iterator<Item = Put<'
         → (l : Layout) (c : Contents) → Shows l c (state S.Store conn)
         → Leaves (IsFile l c) (state S.Store conn)
         → Shows l c (state S.Store it.1) ⊎ OfItems I.next_gives puts (λ xs. HasThem l xs
-        → Shows l (with_puts xs c) (state S.Store it.1))) }
+        → Shows l (puts_into xs c) (state S.Store it.1))) }
     ensures told { IfErr result (λ e. IsClean (S.Store.view e.1)
         → FailsToReopen (state S.Store conn).faults (S.Store.faults e.1) e.0) }
     ensures kept { IfOk result (λ it. HasCleanDisk (state S.Store it.1)
         → OnOk it.0 (OfItems I.next_gives puts (λ xs. Writes xs (state S.Store conn)
         (state S.Store it.1)))) }
 {
-    let answer = write(&mut conn, puts);
+    let answer = write(alloc, &mut conn, puts);
     let after = reopen(alloc, conn)?;
     Ok((answer, after))
 }

@@ -1,6 +1,11 @@
 //! Laws of files, and of the connections that show them.
 ghost use Rattle.desk_store.specs.Asked.{AreReadable};
+ghost use Rattle.desk_store.specs.BookFile.{HaveOwnNumbers, rows_of};
 ghost use Rattle.desk_store.specs.Contents.{Contents};
+ghost use Rattle.desk_book.specs.Book.{Book};
+ghost use Rattle.desk_book.specs.FileRows.{FileRows};
+ghost use Rattle.desk_book.specs.Shows.{Shows as RowsShow};
+ghost use Rattle.desk_book.specs.Puts.{LendsFirst, RowPut, with_puts};
 ghost use Rattle.desk_book.specs.Rows.{StoredTab};
 ghost use Rattle.desk_store.specs.Described.{Which, described, shows_rowid, tabs};
 ghost use Rattle.sql_tables.specs.Kinds.{HaveIntegerRowids};
@@ -21,11 +26,10 @@ ghost use Rattle.sqlite_schema.specs.declared.schema.Schema.{Schema};
 ghost use Rattle.sqlite_trees.specs.Tree.{Trees};
 ghost use Rattle.std.specs.Prelude.{IsTrue, List, false, true, ◌≡◌, ◌||◌, ◌↔◌};
 ghost use Rattle.std.specs.List.{AllByRecursion};
-ghost use Rattle.desk_store.specs.Puts.{with_puts};
+ghost use Rattle.desk_store.specs.Puts.{HasThem, Lends, puts_into};
 ghost use Rattle.desk_store.specs.Tables.{is_there};
 ghost use Rattle.sqlite_catalog.specs.Change.{is_used};
 
-use crate::rows::Put;
 use sqlite::{Alter, Connection};
 
 /// Trees are a database of one schema at most.
@@ -95,10 +99,26 @@ pub fn more_tables<S: Alter>(old: &Connection<S>, new: &Connection<S>)
         × KeepsAside l.schema (state S.Store old.now).now.trees (state S.Store new.now).now.trees }
 {}
 
+/// Of an iterator that lends the first of what is left, all is lent until it ends.
+pub fn all_is_lent()
+    ensures { (puts xs : List RowPut) → Lends LendsFirst puts xs → xs ≡ puts }
+{}
+
+/// What is put into the contents of a file is put into its rows.
+pub fn puts_of_the_book()
+    ensures { (l : Layout) (c : Contents) (puts : List RowPut) → HasThem l puts
+        → rows_of l (puts_into puts c) ≡ with_puts puts (rows_of l c) }
+{}
+
+/// Rows that show a book differ by their numbers, where a table's key is one.
+pub fn numbers_differ()
+    ensures { (rows : FileRows) (book : Book) → RowsShow rows book → HaveOwnNumbers rows }
+{}
+
 /// Texts in UTF-8 that are put leave the texts of a file in UTF-8.
 pub fn texts_stay()
-    ensures { (puts : List Put) (c : Contents) → AllByRecursion IsUtf8Put puts → AreUtf8 c
-        → AreUtf8 (with_puts puts c) }
+    ensures { (puts : List RowPut) (c : Contents) → AllByRecursion IsUtf8Put puts → AreUtf8 c
+        → AreUtf8 (puts_into puts c) }
 {}
 
 /// A table that a file has is there by its schema, and one whose name is free isn't.

@@ -9,7 +9,6 @@ mod open;
 mod put;
 mod read;
 mod row;
-pub mod rows;
 mod table;
 mod texts;
 mod transaction;
@@ -21,7 +20,7 @@ pub use open::open_file;
 pub use read::{
     read_books, read_caches, read_corrs, read_marks, read_named_corrs, read_paras, read_tabs,
 };
-pub use table::{Table, has_table};
+pub use table::{has_table, table_name};
 pub use transaction::{write, write_with_tables};
 
 #[cfg(test)]

@@ -4,13 +4,14 @@
 //! number and the values stand behind it: `place 1 20` moves a paragraph. `version 8` sets the book's version. Words stand apart by one
 //! space, and `_` is a text with no character. `corr` is a row of the table `corr2`, and `older` one of `corr`.
 
-use crate::rows::Put;
 use crate::{
-    Table, has_table, read_books, read_caches, read_corrs, read_marks, read_named_corrs,
-    read_paras, read_tabs,
+    has_table, read_books, read_caches, read_corrs, read_marks, read_named_corrs, read_paras,
+    read_tabs,
 };
+use cell_core::Cell;
+use desk_book::parts::FileTable;
 use desk_book::rows::{
-    BookRow, CacheRow, CorrRow, MarkRow, NamedCorrRow, ParaRow, StoredTab, TabRow,
+    BookRow, CacheRow, CorrRow, MarkRow, NamedCorrRow, ParaRow, Put, StoredTab, TabRow,
 };
 use sqlite::{Alter, Connection};
 use std::alloc::Global;
@@ -22,10 +23,17 @@ use std::test::Fail;
 pub(crate) enum Line {
     Book(BookRow),
     Tab(TabRow),
-    Para(ParaRow),
+    /// A paragraph, whose print stands apart.
+    Para {
+        row: ParaRow,
+        print: Vec<char>,
+    },
     Corr(NamedCorrRow),
     Mark(MarkRow),
-    Cache(CacheRow),
+    Cache {
+        para: i64,
+        cells: Vec<Cell>,
+    },
     Place {
         id: i64,
         place: i64,
@@ -42,7 +50,7 @@ pub(crate) enum Line {
     },
     Print {
         id: i64,
-        print: String,
+        print: Vec<char>,
     },
     Span {
         id: i64,
@@ -61,16 +69,22 @@ impl Line {
     /// What puts this.
     fn put(&self) -> Put<'_> {
         match self {
-            Line::Book(row) => Put::Book(row),
-            Line::Tab(row) => Put::Tab(row),
-            Line::Para(row) => Put::Para(row),
+            Line::Book(row) => Put::Book(*row),
+            Line::Tab(row) => Put::Tab {
+                name: row.name.as_str(),
+                body: row.body.as_slice(),
+            },
+            Line::Para { row, print } => put_para(row, print.as_slice()),
             Line::Place { id, place } => Put::Place {
                 id: *id,
                 place: *place,
             },
-            Line::Corr(row) => Put::Corr(row),
-            Line::Mark(row) => Put::Mark(row),
-            Line::Cache(row) => Put::Cache(row),
+            Line::Corr(row) => put_entry(row),
+            Line::Mark(row) => put_mark(row),
+            Line::Cache { para, cells } => Put::Cache {
+                para: *para,
+                cells: cells.as_slice(),
+            },
             Line::Flags {
                 id,
                 style,
@@ -88,7 +102,7 @@ impl Line {
             },
             Line::Print { id, print } => Put::Print {
                 id: *id,
-                print: print.as_str(),
+                print: print.as_slice(),
             },
             Line::Span {
                 id,
@@ -110,6 +124,43 @@ impl Line {
     }
 }
 
+fn put_para<'a>(row: &'a ParaRow, print: &'a [char]) -> Put<'a> {
+    Put::Para {
+        id: row.id,
+        place: row.place,
+        tab: row.tab.as_str(),
+        original: row.original.as_str(),
+        print,
+        style: row.style,
+        volume: row.volume,
+        struck: row.struck,
+    }
+}
+
+fn put_entry(row: &NamedCorrRow) -> Put<'_> {
+    Put::NamedCorr {
+        para: row.entry.para,
+        seq: row.entry.seq,
+        kind: row.entry.kind,
+        start: row.entry.start,
+        len: row.entry.len,
+        body: row.entry.body.as_str(),
+        who: row.who.as_str(),
+    }
+}
+
+fn put_mark(row: &MarkRow) -> Put<'_> {
+    Put::Mark {
+        id: row.id,
+        para: row.para,
+        start: row.start,
+        stop: row.stop,
+        note: row.note.as_str(),
+        touched: row.touched,
+        resolved: row.resolved,
+    }
+}
+
 /// The word at a place of a line, counted from 0, or nothing.
 fn word(line: &str, at: usize) -> &str {
     line.split(' ').nth(at).unwrap_or("")
@@ -123,6 +174,11 @@ fn number(line: &str, at: usize) -> i64 {
 /// The text that a word writes.
 fn text(alloc: Global, line: &str, at: usize) -> Result<String, Fail> {
     Ok(String::from_str(alloc, word(line, at).trim_matches('_'))?)
+}
+
+/// The characters that a word writes.
+fn characters(alloc: Global, line: &str, at: usize) -> Result<Vec<char>, Fail> {
+    Ok(word(line, at).trim_matches('_').chars().collect(alloc)?)
 }
 
 fn book(line: &str) -> BookRow {
@@ -146,7 +202,7 @@ fn para(alloc: Global, line: &str) -> Result<ParaRow, Fail> {
         place: number(line, 2),
         tab: text(alloc, line, 3)?,
         original: text(alloc, line, 4)?,
-        print: text(alloc, line, 5)?,
+        print: String::new(alloc),
         style: number(line, 6),
         volume: number(line, 7),
         struck: number(line, 8),
@@ -167,10 +223,11 @@ fn corr(alloc: Global, line: &str) -> Result<NamedCorrRow, Fail> {
     })
 }
 
-fn cache(alloc: Global, line: &str) -> Result<CacheRow, Fail> {
-    Ok(CacheRow {
+fn cache(alloc: Global, line: &str) -> Result<Line, Fail> {
+    let masks = word(line, 2).as_bytes();
+    Ok(Line::Cache {
         para: number(line, 1),
-        cells: Vec::from_slice(alloc, word(line, 2).as_bytes())?,
+        cells: masks.iter().map(|mask| Cell::new(*mask)).collect(alloc)?,
     })
 }
 
@@ -206,7 +263,7 @@ fn set(alloc: Global, line: &str) -> Result<Line, Fail> {
         }),
         "print" => Ok(Line::Print {
             id,
-            print: text(alloc, line, 2)?,
+            print: characters(alloc, line, 2)?,
         }),
         "span" => Ok(Line::Span {
             id,
@@ -227,10 +284,13 @@ fn read(alloc: Global, line: &str) -> Result<Line, Fail> {
     match word(line, 0) {
         "book" => Ok(Line::Book(book(line))),
         "tab" => Ok(Line::Tab(tab(alloc, line)?)),
-        "para" => Ok(Line::Para(para(alloc, line)?)),
+        "para" => Ok(Line::Para {
+            row: para(alloc, line)?,
+            print: characters(alloc, line, 5)?,
+        }),
         "corr" => Ok(Line::Corr(corr(alloc, line)?)),
         "mark" => Ok(Line::Mark(mark(alloc, line)?)),
-        "cache" => Ok(Line::Cache(cache(alloc, line)?)),
+        "cache" => cache(alloc, line),
         _ => set(alloc, line),
     }
 }
@@ -360,7 +420,7 @@ fn add_tables<S: Alter>(alloc: Global, conn: &mut Connection<S>, text: &mut Stri
     add_read(text, read_books(alloc, conn).ok())?;
     add_read(text, read_tabs(alloc, conn).ok())?;
     add_read(text, read_paras(alloc, conn).ok())?;
-    if has_table(conn, Table::NamedCorr) {
+    if has_table(conn, FileTable::NamedCorr) {
         add_read(text, read_named_corrs(alloc, conn).ok())?;
     }
     add_read(text, read_marks(alloc, conn).ok())
@@ -368,10 +428,10 @@ fn add_tables<S: Alter>(alloc: Global, conn: &mut Connection<S>, text: &mut Stri
 
 /// Adds the rows of the cells and of an older table of histories, where these are there.
 fn add_others<S: Alter>(alloc: Global, conn: &mut Connection<S>, text: &mut String) -> Option<()> {
-    if has_table(conn, Table::Cache) {
+    if has_table(conn, FileTable::Cache) {
         add_read(text, read_caches(alloc, conn).ok())?;
     }
-    if has_table(conn, Table::Corr) {
+    if has_table(conn, FileTable::Corr) {
         add_read(text, read_corrs(alloc, conn).ok())?;
     }
     Some(())

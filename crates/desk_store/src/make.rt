@@ -13,23 +13,24 @@ ghost use Rattle.desk_store.specs.Tables.{AreWritten, which};
 ghost use Rattle.desk_store.specs.Turns.{AreRun, Failed, IsLeftBy, Ran, begun};
 
 use crate::fault::Fault;
-use crate::put::{put_row, run};
-use crate::table::Table;
+use crate::put::{put_book, run};
+use crate::table::create_text;
+use desk_book::parts::FileTable;
 use desk_book::rows::BookRow;
 use sqlite::{Alter, Connection, Error, Transaction};
 
 /// The tables of a new file, in the order in which they are made.
-const NEW_TABLES: [Table; 6] = [
-    Table::Book,
-    Table::Tab,
-    Table::Para,
-    Table::Mark,
-    Table::Cache,
-    Table::NamedCorr,
+const NEW_TABLES: [FileTable; 6] = [
+    FileTable::Book,
+    FileTable::Tab,
+    FileTable::Para,
+    FileTable::Mark,
+    FileTable::Cache,
+    FileTable::NamedCorr,
 ];
 
 /// Makes a table, and with it the counter of rowids where a table counts them and it is missing. The error is the database's.
-fn create<S: Alter>(tx: &mut Transaction<'_, S>, table: Table) -> Result<(), Error>
+fn create<S: Alter>(tx: &mut Transaction<'_, S>, table: FileTable) -> Result<(), Error>
     requires { (described (which table)).is_written ≡ true }
     ensures same_reference { tx.new.conn.ghost_name ≡ tx.old.conn.ghost_name }
     ensures makes { HasCleanDisk (seen S.Store tx.new)
@@ -45,13 +46,13 @@ fn create<S: Alter>(tx: &mut Transaction<'_, S>, table: Table) -> Result<(), Err
         → KeepsCommit (seen S.Store tx.old) (seen S.Store tx.new) }
     ensures survives { Survives (seen S.Store tx.old) (seen S.Store tx.new) (λ _. ⊥) }
 {
-    run(tx, table.creation(), &[])
+    run(tx, create_text(table), &[])
 }
 
 /// Makes these tables in turn. The error is the database's.
 pub(crate) fn create_all<S: Alter>(
     tx: &mut Transaction<'_, S>,
-    tables: &[Table],
+    tables: &[FileTable],
 ) -> Result<(), Error>
     requires { AreWritten tables.now }
     ensures same_reference { tx.new.conn.ghost_name ≡ tx.old.conn.ghost_name }
@@ -93,7 +94,7 @@ fn put_first_row<S: Alter>(tx: &mut Transaction<'_, S>) -> Result<(), Error>
         format: 2,
         version: 0,
     };
-    put_row(tx, &row)
+    put_book(tx, &row)
 }
 
 /// Makes the six tables with the row of a new book, in format 2 and at version 0, as one. Where a table counts its rowids and the

@@ -1,28 +1,22 @@
-//! The types of the rows: how each is read and put.
+//! The types of the rows: how each is read.
 
 ghost use Rattle.std.specs.Prelude.{◌≡◌, ◌≢◌, ◌<◌, true, length, IfErr, IfOk};
 ghost use Rattle.sqlite_value.specs.Order.{column};
-ghost use Rattle.sqlite.specs.State.{HasCleanDisk, Survives};
-ghost use Rattle.sqlite.specs.Values.{bound};
 ghost use Rattle.sql_tables.specs.Kinds.{HasKinds};
-ghost use Rattle.sql_tables.specs.States.{seen};
 ghost use Rattle.desk_store.specs.Asked.{asked, given};
 ghost use Rattle.desk_store.specs.Described.{Which, books, caches, corrs, described, marks, named_corrs, paras, tabs};
-ghost use Rattle.desk_store.specs.Puts.{RunsTo};
-ghost use Rattle.desk_store.specs.Rows.{RowOf, ShownOf, own, shown, written};
+ghost use Rattle.desk_store.specs.Rows.{ShownOf, own, shown};
 ghost use Rattle.desk_store.specs.Whole.{IsUtf8Row};
 
 use crate::fault::Fault;
-use crate::put::run;
 use crate::texts::{
-    PUT_BOOK, PUT_CACHE, PUT_MARK, PUT_NAMED_CORR, PUT_PARA, PUT_TAB, READ_BOOKS, READ_CACHES,
-    READ_CORRS, READ_MARKS, READ_NAMED_CORRS, READ_PARAS, READ_TABS,
+    READ_BOOKS, READ_CACHES, READ_CORRS, READ_MARKS, READ_NAMED_CORRS, READ_PARAS, READ_TABS,
 };
 use desk_book::rows::{
     BookRow, CacheRow, CorrRow, MarkRow, NamedCorrRow, ParaRow, StoredTab, TabRow,
 };
-use sqlite::types::{FromSql, ToSql, ValueRef};
-use sqlite::{Alter, Error, Row, Transaction};
+use sqlite::Row;
+use sqlite::types::FromSql;
 
 /// The value in a column.
 fn value<T: FromSql>(row: &Row, at: usize) -> Result<T, Fault>
@@ -57,23 +51,6 @@ pub(crate) trait TableRow: Drop {
         ensures utf8 { IfOk result (λ x. IsUtf8Row which (own which (view x))) };
 }
 
-/// A row that is put into one of the tables.
-pub(crate) trait PutRow {
-    /// Its table.
-    ghost which: { Which };
-    /// The row of the table.
-    ghost own: { Self → RowOf which };
-
-    /// Runs the statement that puts it.
-    fn execute<S: Alter>(&self, tx: &mut Transaction<'_, S>) -> Result<(), Error>
-        ensures same_reference { tx.new.conn.ghost_name ≡ tx.old.conn.ghost_name }
-        ensures written { (described which).is_written ≡ true }
-        ensures runs { HasCleanDisk (seen S.Store tx.new)
-            → RunsTo result (described which).put (written which (own self.now))
-            (seen S.Store tx.old) (seen S.Store tx.new) }
-        ensures survives { Survives (seen S.Store tx.old) (seen S.Store tx.new) (λ _. ⊥) };
-}
-
 impl TableRow for BookRow {
     ghost which = { books };
 
@@ -89,24 +66,6 @@ impl TableRow for BookRow {
             format: value(row, 1)?,
             version: value(row, 2)?,
         })
-    }
-}
-
-/// The columns of the book's row, in order.
-fn book_columns(row: &BookRow) -> [ValueRef<'static>; 3]
-    ensures { bound result ≡ written books row.now }
-{
-    [row.id.to_sql(), row.format.to_sql(), row.version.to_sql()]
-}
-
-impl PutRow for BookRow {
-    ghost which = { books };
-
-    ghost own = { λ x. x };
-
-    fn execute<S: Alter>(&self, tx: &mut Transaction<'_, S>) -> Result<(), Error> {
-        let columns = book_columns(self);
-        run(tx, PUT_BOOK, &columns)
     }
 }
 
@@ -130,24 +89,6 @@ impl TableRow for StoredTab {
     }
 }
 
-/// The columns of a braille table, in order.
-fn tab_columns(row: &TabRow) -> [ValueRef<'_>; 2]
-    ensures { bound result ≡ written tabs row.now }
-{
-    [row.name.to_sql(), row.body.to_sql()]
-}
-
-impl PutRow for TabRow {
-    ghost which = { tabs };
-
-    ghost own = { λ x. x };
-
-    fn execute<S: Alter>(&self, tx: &mut Transaction<'_, S>) -> Result<(), Error> {
-        let columns = tab_columns(self);
-        run(tx, PUT_TAB, &columns)
-    }
-}
-
 impl TableRow for ParaRow {
     ghost which = { paras };
 
@@ -168,33 +109,6 @@ impl TableRow for ParaRow {
             volume: value(row, 6)?,
             struck: value(row, 7)?,
         })
-    }
-}
-
-/// The columns of a paragraph, in order.
-fn para_columns(row: &ParaRow) -> [ValueRef<'_>; 8]
-    ensures { bound result ≡ written paras row.now }
-{
-    [
-        row.id.to_sql(),
-        row.place.to_sql(),
-        row.tab.to_sql(),
-        row.original.to_sql(),
-        row.print.to_sql(),
-        row.style.to_sql(),
-        row.volume.to_sql(),
-        row.struck.to_sql(),
-    ]
-}
-
-impl PutRow for ParaRow {
-    ghost which = { paras };
-
-    ghost own = { λ x. x };
-
-    fn execute<S: Alter>(&self, tx: &mut Transaction<'_, S>) -> Result<(), Error> {
-        let columns = para_columns(self);
-        run(tx, PUT_PARA, &columns)
     }
 }
 
@@ -241,32 +155,6 @@ impl TableRow for MarkRow {
     }
 }
 
-/// The columns of a mark, in order.
-fn mark_columns(row: &MarkRow) -> [ValueRef<'_>; 7]
-    ensures { bound result ≡ written marks row.now }
-{
-    [
-        row.id.to_sql(),
-        row.para.to_sql(),
-        row.start.to_sql(),
-        row.stop.to_sql(),
-        row.note.to_sql(),
-        row.touched.to_sql(),
-        row.resolved.to_sql(),
-    ]
-}
-
-impl PutRow for MarkRow {
-    ghost which = { marks };
-
-    ghost own = { λ x. x };
-
-    fn execute<S: Alter>(&self, tx: &mut Transaction<'_, S>) -> Result<(), Error> {
-        let columns = mark_columns(self);
-        run(tx, PUT_MARK, &columns)
-    }
-}
-
 impl TableRow for CacheRow {
     ghost which = { caches };
 
@@ -281,24 +169,6 @@ impl TableRow for CacheRow {
             para: value(row, 0)?,
             cells: value(row, 1)?,
         })
-    }
-}
-
-/// The columns of the cells of a paragraph, in order.
-fn cache_columns(row: &CacheRow) -> [ValueRef<'_>; 2]
-    ensures { bound result ≡ written caches row.now }
-{
-    [row.para.to_sql(), row.cells.to_sql()]
-}
-
-impl PutRow for CacheRow {
-    ghost which = { caches };
-
-    ghost own = { λ x. x };
-
-    fn execute<S: Alter>(&self, tx: &mut Transaction<'_, S>) -> Result<(), Error> {
-        let columns = cache_columns(self);
-        run(tx, PUT_CACHE, &columns)
     }
 }
 
@@ -323,31 +193,5 @@ impl TableRow for NamedCorrRow {
             },
             who: value(row, 6)?,
         })
-    }
-}
-
-/// The columns of an entry of a history, with who made it, in order.
-fn named_corr_columns(row: &NamedCorrRow) -> [ValueRef<'_>; 7]
-    ensures { bound result ≡ written named_corrs row.now }
-{
-    [
-        row.entry.para.to_sql(),
-        row.entry.seq.to_sql(),
-        row.entry.kind.to_sql(),
-        row.entry.start.to_sql(),
-        row.entry.len.to_sql(),
-        row.entry.body.to_sql(),
-        row.who.to_sql(),
-    ]
-}
-
-impl PutRow for NamedCorrRow {
-    ghost which = { named_corrs };
-
-    ghost own = { λ x. x };
-
-    fn execute<S: Alter>(&self, tx: &mut Transaction<'_, S>) -> Result<(), Error> {
-        let columns = named_corr_columns(self);
-        run(tx, PUT_NAMED_CORR, &columns)
     }
 }

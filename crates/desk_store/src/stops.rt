@@ -7,8 +7,9 @@
 
 use super::lines::{list, puts, read_lines};
 use super::tests::{NOTES, judge};
-use crate::rows::Put;
-use crate::{Table, make_tables, write, write_with_tables};
+use crate::{make_tables, write, write_with_tables};
+use desk_book::parts::FileTable;
+use desk_book::rows::Put;
 use sqlite::{Alter, Connection, FileStore, Files, Options};
 use sqlite_disk::{Crash, Disk, Fuse, Memory};
 use std::alloc::Global;
@@ -164,7 +165,7 @@ older 1 2 1 1 0 _
 ";
 
 /// The tables that it lacks.
-const NEWER_TABLES: [Table; 2] = [Table::Cache, Table::NamedCorr];
+const NEWER_TABLES: [FileTable; 2] = [FileTable::Cache, FileTable::NamedCorr];
 
 /// What it gets with these.
 const NEWER_PUTS: &str = "\
@@ -287,8 +288,10 @@ fn carry_out<S: Alter>(alloc: Global, conn: &mut Connection<S>, task: Task<'_>) 
     match task {
         Task::Run(sql) => conn.execute_batch(sql).ok()?,
         Task::Make => make_tables(conn).ok()?,
-        Task::Write(puts) => write(conn, puts.iter().copied()).ok()?,
-        Task::Renew(puts) => write_with_tables(conn, &NEWER_TABLES, puts.iter().copied()).ok()?,
+        Task::Write(puts) => write(alloc, conn, puts.iter().copied()).ok()?,
+        Task::Renew(puts) => {
+            write_with_tables(alloc, conn, &NEWER_TABLES, puts.iter().copied()).ok()?
+        }
         Task::List => return list(alloc, conn),
     }
     Some(String::new(alloc))

@@ -10,58 +10,38 @@ ghost use Rattle.desk_store.specs.Tables.{is_table_or_view, is_there, which};
 use crate::texts::{
     CREATE_BOOK, CREATE_CACHE, CREATE_MARK, CREATE_NAMED_CORR, CREATE_PARA, CREATE_TAB,
 };
+use desk_book::parts::FileTable;
 use sqlite::{Alter, Connection};
 use sqlite_schema::names::same_name;
 use sqlite_schema::schema::View;
 
-/// A table of a book's file, in either of its formats.
-#[derive(Clone, Copy, Debug, PartialEq, Eq)]
-pub enum Table {
-    /// `book`: the format and the version.
-    Book,
-    /// `tab`: the braille tables.
-    Tab,
-    /// `para`: the paragraphs.
-    Para,
-    /// `corr`: the entries of the histories in format 1, which nothing makes or writes.
-    Corr,
-    /// `mark`: the proofreaders' marks.
-    Mark,
-    /// `cache`: the braille of the paragraphs.
-    Cache,
-    /// `corr2`: the entries of the histories in format 2, with who made them.
-    NamedCorr,
+/// The name of a table, in lower case.
+pub fn table_name(table: FileTable) -> &'static str
+    ensures { result.now ≡ (described (which table)).name }
+{
+    match table {
+        FileTable::Book => "book",
+        FileTable::Tab => "tab",
+        FileTable::Para => "para",
+        FileTable::Corr => "corr",
+        FileTable::Mark => "mark",
+        FileTable::Cache => "cache",
+        FileTable::NamedCorr => "corr2",
+    }
 }
 
-impl Table {
-    /// Its name, in lower case.
-    pub fn name(self) -> &'static str
-        ensures { result.now ≡ (described (which self)).name }
-    {
-        match self {
-            Table::Book => "book",
-            Table::Tab => "tab",
-            Table::Para => "para",
-            Table::Corr => "corr",
-            Table::Mark => "mark",
-            Table::Cache => "cache",
-            Table::NamedCorr => "corr2",
-        }
-    }
-
-    /// The statement that makes it; no text for `corr`, which nothing makes.
-    pub(crate) fn creation(self) -> &'static str
-        ensures { result.now ≡ (described (which self)).create }
-    {
-        match self {
-            Table::Book => CREATE_BOOK,
-            Table::Tab => CREATE_TAB,
-            Table::Para => CREATE_PARA,
-            Table::Corr => "",
-            Table::Mark => CREATE_MARK,
-            Table::Cache => CREATE_CACHE,
-            Table::NamedCorr => CREATE_NAMED_CORR,
-        }
+/// The statement that makes a table; no text for `corr`, which nothing makes.
+pub(crate) fn create_text(table: FileTable) -> &'static str
+    ensures { result.now ≡ (described (which table)).create }
+{
+    match table {
+        FileTable::Book => CREATE_BOOK,
+        FileTable::Tab => CREATE_TAB,
+        FileTable::Para => CREATE_PARA,
+        FileTable::Corr => "",
+        FileTable::Mark => CREATE_MARK,
+        FileTable::Cache => CREATE_CACHE,
+        FileTable::NamedCorr => CREATE_NAMED_CORR,
     }
 }
 
@@ -84,9 +64,9 @@ fn has_named(views: &[View], name: &[u8]) -> bool
 
 /// Whether a table or a view has the name of this one, in either case of its letters, as the schema stands that was last read or made. A
 /// table that the database doesn't understand counts too; an index or a trigger doesn't. It takes no memory and asks the store nothing.
-pub fn has_table<S: Alter>(conn: &Connection<S>, table: Table) -> bool
+pub fn has_table<S: Alter>(conn: &Connection<S>, table: FileTable) -> bool
     ensures { result ≡ is_there (state S.Store conn.now).now.schema (which table) }
 {
-    let (schema, name) = (conn.schema(), table.name().as_bytes());
+    let (schema, name) = (conn.schema(), table_name(table).as_bytes());
     schema.table_named(name).is_some() || has_named(schema.views.as_slice(), name)
 }

@@ -1,8 +1,8 @@
 ghost use Rattle.std.specs.Prelude.{◌≡◌, false, OnOk};
 
 use super::lines::{list, puts, read_lines};
-use crate::rows::Put;
 use crate::{Fault, make_tables, read_books, read_paras, reopen_after_write, write};
+use desk_book::rows::Put;
 use sqlite::{Connection, Error, MemStore};
 use std::alloc::Global;
 use std::process::Abort;
@@ -61,7 +61,7 @@ fn make_and_put(
     puts: &[Put<'_>],
 ) -> Result<String, Fail> {
     make(conn, further)?;
-    let answer = write(conn, puts.iter().copied());
+    let answer = write(alloc, conn, puts.iter().copied());
     list_after(alloc, conn, answer)
 }
 
@@ -216,8 +216,8 @@ fn put_twice(
     again: &[Put<'_>],
 ) -> Result<String, Fail> {
     make(conn, "")?;
-    write(conn, entry.iter().copied())?;
-    if write(conn, again.iter().copied()).is_ok() {
+    write(alloc, conn, entry.iter().copied())?;
+    if write(alloc, conn, again.iter().copied()).is_ok() {
         return Err("the entry was put again".into());
     }
     list_after(alloc, conn, Ok(()))

@@ -15,14 +15,17 @@ ghost use Rattle.sql_tables.specs.States.{IsCommitted, IsSettled, IsUndone};
 use crate::fault::Fault;
 use crate::make::create_all;
 use crate::put::put_all;
-use crate::rows::Put;
-use crate::table::Table;
+use desk_book::parts::FileTable;
+use desk_book::rows::Put;
 use sqlite::{Alter, Connection, Error};
+use std::alloc::Global;
 
-/// Puts in turn what an iterator gives and commits it, as one. The caller's condition: the iterator ends. The error is the database's. A
+/// Puts in turn what an iterator lends and commits it, as one. The caller's condition: the iterator ends. The error is the database's, or
+/// want of memory for what is put. A
 /// connection that is open then shows the last commit, which is that of before, and a crash leaves the rows from before or, where the store
 /// failed, all of these.
 pub fn write<'a, S: Alter, I: Iterator<Item = Put<'a>> + Drop>(
+    alloc: Global,
     conn: &mut Connection<S>,
     puts: I,
 ) -> Result<(), Error>
@@ -47,7 +50,7 @@ pub fn write<'a, S: Alter, I: Iterator<Item = Put<'a>> + Drop>(
     // At `Ok` it leaves the trees that the connection shows.
     ensures settled { HasCleanDisk (state S.Store conn.new)
         → OnOk result (IsSettled (state S.Store conn.new)) }
-    // The error is what the database answered to one of the statements or to the commit.
+    // The error is what the database answered to one of the statements or to the commit, or memory for what is put was refused.
     ensures told { HasCleanDisk (state S.Store conn.new)
         → IfErr result (FailsToPut S.Store (of_items S.Store I.next_gives puts) (begun conn.old)
         (state S.Store conn.new)) }
@@ -59,18 +62,19 @@ pub fn write<'a, S: Alter, I: Iterator<Item = Put<'a>> + Drop>(
         → Survives (state S.Store conn.old) (state S.Store conn.new) (λ _. ⊥)) }
 {
     let mut tx = conn.transaction();
-    put_all(&mut tx, puts)?;
+    put_all(alloc, &mut tx, puts)?;
     tx.commit()?;
     Ok(())
 }
 
-/// Makes these tables, puts in turn what an iterator gives and commits all of it, as one: so a file gets the tables that it lacks together
+/// Makes these tables, puts in turn what an iterator lends and commits all of it, as one: so a file gets the tables that it lacks together
 /// with their rows. The caller's conditions: `corr` isn't among the tables, and the iterator ends. The error is the database's, as where a
 /// name is taken. A connection that is open then shows the last commit, which is that of before, and a crash leaves the file from before
 /// or, where the store failed, the one with all of this.
 pub fn write_with_tables<'a, S: Alter, I: Iterator<Item = Put<'a>> + Drop>(
+    alloc: Global,
     conn: &mut Connection<S>,
-    tables: &[Table],
+    tables: &[FileTable],
     puts: I,
 ) -> Result<(), Error>
     requires idle { conn.old.in_transaction ≡ false }
@@ -95,7 +99,7 @@ pub fn write_with_tables<'a, S: Alter, I: Iterator<Item = Put<'a>> + Drop>(
     // At `Ok` it leaves the trees that the connection shows.
     ensures settled { HasCleanDisk (state S.Store conn.new)
         → OnOk result (IsSettled (state S.Store conn.new)) }
-    // The error is what the database answered to one of the statements or to the commit.
+    // The error is what the database answered to one of the statements or to the commit, or memory for what is put was refused.
     ensures told { HasCleanDisk (state S.Store conn.new)
         → IfErr result (FailsToChange S.Store (map which tables.now)
         (of_items S.Store I.next_gives puts) (begun conn.old) (state S.Store conn.new)) }
@@ -108,7 +112,7 @@ pub fn write_with_tables<'a, S: Alter, I: Iterator<Item = Put<'a>> + Drop>(
 {
     let mut both = conn.transaction();
     create_all(&mut both, tables)?;
-    put_all(&mut both, puts)?;
+    put_all(alloc, &mut both, puts)?;
     both.commit()?;
     Ok(())
 }

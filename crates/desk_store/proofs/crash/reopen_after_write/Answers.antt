@@ -1,6 +1,6 @@
 use Rattle.std.proofs.Common.{Err, Ok, OnOk, Result, arith, inl, inr, subst, sym}
 use Rattle.sqlite.specs.Held.{state}
-use Rattle.desk_store.specs.Puts.{with_puts}
+use Rattle.desk_store.specs.Puts.{puts_into}
 use Rattle.desk_store.specs.States.{IsFile}
 use Rattle.desk_store.proofs.Schemas.{shows_own}
 use Rattle.desk_store.proofs.crash.reopen_after_write.Goals as goal
@@ -13,7 +13,7 @@ returns-clause-crash g c clean l contents was leaves =
     let found = c.in_ok-after.ensures.found clean in
     elim (c.write-answer.ensures.crash.crash early after.now.trees found) [
       | inl before ↦ inl (shows_own after l contents opened.1 opened.0.is_open (leaves after.now.trees before))
-      | inr all ↦ inr (all.0, all.1, λ there. shows_own after l (with_puts all.0 contents) opened.1 opened.0.is_open (all.2.0 l contents there was))
+      | inr all ↦ inr (all.0, all.1, λ there. shows_own after l (puts_into all.0 contents) opened.1 opened.0.is_open (all.2.0 l contents there was))
     ]
 
 on_both : {A E : Type 0} (r : Result A E) (P Q R : Type 0) → (P → Q → R) → OnOk r P → OnOk r Q → OnOk r R
@@ -30,8 +30,8 @@ returns-clause-kept g c clean =
       written.0,
       written.1,
       λ l contents there was.
-          shows_own after l (with_puts written.0 contents) opened.1 opened.0.is_open
-          (subst (IsFile l (with_puts written.0 contents)) (sym (leaves after.now.trees found)) (written.2 l contents there was).is),
+          shows_own after l (puts_into written.0 contents) opened.1 opened.0.is_open
+          (subst (IsFile l (puts_into written.0 contents)) (sym (leaves after.now.trees found)) (written.2 l contents there was).is),
     )) (c.write-answer.ensures.written early) (c.write-answer.ensures.settled early)
 
 pub returns-clause-clean : goal.returns-clause-clean

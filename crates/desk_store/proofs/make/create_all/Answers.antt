@@ -8,8 +8,8 @@ use Rattle.desk_store.specs.Described.{described}
 use Rattle.desk_store.specs.Making.{AreMade, MakesTables, creation}
 use Rattle.desk_store.specs.Tables.{which}
 use Rattle.desk_store.specs.Turns.{RunInTurn}
-use Rattle.desk_store.specs.declared.table.Table.{Table}
-use Rattle.desk_store.specs.declared.table.Table.TheVariants.{Book}
+use Rattle.desk_book.specs.declared.parts.FileTable.{FileTable}
+use Rattle.desk_book.specs.declared.parts.FileTable.TheVariants.{Book}
 use Rattle.desk_store.proofs.MadeTables.{all_at, makes_then, map_split, map_more}
 use Rattle.desk_store.proofs.Turns.{one_more_ran}
 use Rattle.desk_store.proofs.make.create_all.Goals as goal
@@ -18,7 +18,7 @@ pub create-requires : goal.create-requires
 create-requires g c = all_at (λ t. (described (which t)).is_written ≡ true) c.args.tables.now c.loop-table.table-index Book c.loop-table-test.true c.requires
 
 -- with the next of the tables
-one_more : (tables : List Table) (at : ℕ) → at < length tables → map which (take (at + 1) tables) ≡ map which (take at tables) ++ which (get_or tables at Book) ∷ []
+one_more : (tables : List FileTable) (at : ℕ) → at < length tables → map which (take (at + 1) tables) ≡ map which (take at tables) ++ which (get_or tables at Book) ∷ []
 one_more tables at within = let next : at + 1 ≡ suc at = omega arith in rw next (map_more which tables at Book within)
 
 pub loop-table-preserved : goal.loop-table-preserved
@@ -63,7 +63,7 @@ returns-in_err-create-clause-told g c clean was =
       stops = record {
         before = c.loop-table.tx.conn.now;
         ran = c.loop-table.invariant.ran early;
-        answered = c.in_err-create.ensures.told clean (c.loop-table.invariant.inside early was);
+        failed = c.in_err-create.ensures.told clean (c.loop-table.invariant.inside early was);
         left = c.create.ensures.survives;
       };
       made = c.loop-table.invariant.made early;

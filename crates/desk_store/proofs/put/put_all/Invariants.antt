@@ -1,5 +1,6 @@
 use Rattle.std.proofs.Common.{◌≡◌, map, true}
 use Rattle.sqlite.specs.State.{HasCleanDisk, KeepsCommit, Survives}
+use Rattle.desk_book.specs.Puts.{put_of}
 use Rattle.desk_store.specs.Puts.{PutsAll, statement}
 use Rattle.desk_store.specs.Turns.{RunInTurn}
 use Rattle.sql_tables.specs.States.{seen}
@@ -15,6 +16,6 @@ invariant-loop-one g l =
       survives : Survives old now (λ _. ⊥);
       kept : HasCleanDisk now → KeepsCommit old now;
       inside : HasCleanDisk now → old.in_transaction ≡ true → now.in_transaction ≡ true;
-      put : HasCleanDisk now → PutsAll l.yielded old now;
-      ran : HasCleanDisk now → RunInTurn g.S.Store (map statement l.yielded) l.fn.tx.conn.now l.tx.conn.now;
+      put : HasCleanDisk now → PutsAll (map put_of l.yielded) old now;
+      ran : HasCleanDisk now → RunInTurn g.S.Store (map statement (map put_of l.yielded)) l.fn.tx.conn.now l.tx.conn.now;
     }

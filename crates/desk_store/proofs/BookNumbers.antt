@@ -1,0 +1,82 @@
+-- Rows that show a book differ by their numbers.
+use Rattle.std.proofs.Common.{◌≡◌, ℕ, ◌+◌, ℤ, pos, List, [], ◌∷◌, map, refl, sym, ap, subst, ◌∙◌, IsPermutation, nat_eq, inl, inr, false, true≢false}
+use Rattle.std.specs.List.{AllByRecursion, IsDistinct, enumerate_from, range_with_len}
+use Rattle.std.specs.Ordering.{int_eq}
+use Rattle.std.proofs.lemmas.Bool.{cases_Bool}
+use Rattle.std.proofs.lemmas.Bool.Decides.{Decides-eqb, Decides-int_eq}
+use Rattle.std.proofs.lemmas.Cmp.{int_eq_equiv}
+use Rattle.std.proofs.lemmas.List.Sorted.{IsPermutation-map, IsPermutation-sym}
+use Rattle.std.proofs.lemmas.Map.Keys.{IsDistinct-IsPermutation}
+use Rattle.desk_book.specs.Book.{Book, Mark, Paragraph}
+use Rattle.desk_book.specs.FileRows.{FileRows, spelled_mark, spelled_para}
+use Rattle.desk_book.specs.Rows.{Cached, Mark as MarkRow, Para}
+use Rattle.desk_book.specs.Shows.{Shows, mark_row_of, para_of, paras_of}
+use Rattle.desk_book.proofs.Numbering.{IsDistinct-numbers, IsDistinct-range}
+use Rattle.desk_store.specs.BookFile.{HaveOwnNumbers}
+use Rattle.desk_store.specs.Whole.{DifferBy}
+
+-- ---- numbers of a book as those of rows
+
+numbers_apart : (n m : ℕ) → nat_eq n m ≡ false → int_eq (pos n) (pos m) ≡ false
+numbers_apart n m other = elim (cases_Bool (int_eq (pos n) (pos m))) [
+  | inl same ↦ (
+      let one : pos n ≡ pos m = (Decides-int_eq (pos n) (pos m)).0 same in
+      let number : n ≡ m = (let one = one in cc) in
+      absurd (true≢false (sym ((Decides-eqb n m).1 number) ∙ other))
+      )
+  | inr other ↦ other
+]
+
+all_apart : (n : ℕ) (ns : List ℕ) → AllByRecursion (λ m. nat_eq n m ≡ false) ns → AllByRecursion (λ k. int_eq (pos n) k ≡ false) (map pos ns)
+all_apart n [] all = tt
+all_apart n (m ∷ ms) all = (numbers_apart n m all.0, all_apart n ms all.1)
+
+rows_apart : (ns : List ℕ) → IsDistinct nat_eq ns → IsDistinct int_eq (map pos ns)
+unfolding IsDistinct
+rows_apart [] apart = tt
+rows_apart (n ∷ ns) apart = (all_apart n ns apart.0, rows_apart ns apart.1)
+
+moved : (ns : List ℕ) (ks : List ℤ) → IsDistinct nat_eq ns → IsPermutation (map pos ns) ks → IsDistinct int_eq ks
+moved ns ks apart other = IsDistinct-IsPermutation int_eq (λ x y. int_eq_equiv.symm x y) (map pos ns) ks other (rows_apart ns apart)
+
+-- texts that are spelled leave the numbers
+kept : {X : Type 0} (key : X → ℤ) (spelled : X → X) → ((x : X) → key (spelled x) ≡ key x) → (xs : List X) → map key (map spelled xs) ≡ map key xs
+kept key spelled same [] = refl
+kept key spelled same (x ∷ xs) = let one = same x in let more = kept key spelled same xs in cc
+
+differ : {X : Type 0} (key : X → ℤ) (spelled : X → X) → ((x : X) → key (spelled x) ≡ key x) → (rows shown : List X) (ns : List ℕ)
+    → IsPermutation (map spelled rows) shown → map key shown ≡ map pos ns → IsDistinct nat_eq ns → DifferBy key rows
+differ key spelled same rows shown ns other is apart =
+    let there = IsPermutation-map key (map spelled rows) shown other in
+    let back = IsPermutation-sym (map key (map spelled rows)) (map key shown) there in
+    moved ns (map key rows) apart (subst (λ ks. IsPermutation ks (map key rows)) is (subst (IsPermutation (map key shown)) (kept key spelled same rows) back))
+
+-- ---- the parts of a book
+
+para_numbers : (place : ℕ) (ps : List Paragraph) → map (λ (p : Para). p.id) (map para_of (enumerate_from place ps)) ≡ map pos (map (λ (p : Paragraph). p.id) ps)
+para_numbers place [] = refl
+para_numbers place (p ∷ ps) = let more = para_numbers (place + 1) ps in cc
+
+mark_numbers : (ms : List Mark) → map (λ (m : MarkRow). m.id) (map mark_row_of ms) ≡ map pos (map (λ (m : Mark). m.id) ms)
+mark_numbers [] = refl
+mark_numbers (m ∷ ms) = let more = mark_numbers ms in cc
+
+cache_numbers : (ps : List Paragraph) → map (λ (p : Paragraph). pos p.id) ps ≡ map pos (map (λ (p : Paragraph). p.id) ps)
+cache_numbers [] = refl
+cache_numbers (p ∷ ps) = let more = cache_numbers ps in cc
+
+pub differ_by_numbers : (rows : FileRows) (book : Book) → Shows rows book → HaveOwnNumbers rows
+unfolding IsDistinct
+differ_by_numbers rows book shows =
+    let sound = shows.sound in
+    let ids = IsDistinct-numbers _ (map (λ (p : Paragraph). p.id) book.paragraphs) sound.ids in
+    record {
+      books = subst (DifferBy (λ b. b.id)) (sym shows.row) (tt, tt);
+      paras = differ (λ (p : Para). p.id) spelled_para (λ p. refl) rows.paras (paras_of book.paragraphs) _ shows.paragraphs (para_numbers 1 book.paragraphs) ids;
+      marks = differ (λ (m : MarkRow). m.id) spelled_mark (λ m. refl) rows.marks (map mark_row_of book.marks) _ shows.marks (mark_numbers book.marks)
+          (subst (IsDistinct nat_eq) (sym sound.numbers) (IsDistinct-range 1 _));
+      caches = λ caches there.
+          let cached = shows.caches caches there in
+          moved (map (λ (p : Paragraph). p.id) book.paragraphs) (map (λ (c : Cached). c.para) caches) ids
+          (subst (λ ks. IsPermutation ks (map (λ (c : Cached). c.para) caches)) (cache_numbers book.paragraphs) (IsPermutation-sym _ _ cached.one_each));
+    }

@@ -1,0 +1,26 @@
+-- The rows of a file, as those of the tables of a book.
+use Rattle.std.specs.Prelude.{if◌then◌else◌, Some, None}
+use Rattle.std.specs.Option.{ForSome}
+use Rattle.desk_book.specs.FileRows.{FileRows, Named, Unnamed}
+use Rattle.desk_store.specs.Contents.{Contents}
+use Rattle.desk_store.specs.Described.{books, tabs, paras, corrs, marks, caches, named_corrs}
+use Rattle.desk_store.specs.Layout.{Layout}
+use Rattle.desk_store.specs.Whole.{DifferBy}
+
+-- The entries are those of `corr2` where the layout has it, and else those of `corr`; there are rows of `cache` where it has that.
+abbrev pub rows_of : Layout → Contents → FileRows
+rows_of l c = record {
+  books = c.rows books;
+  tabs = c.rows tabs;
+  paras = c.rows paras;
+  entries = if l.has named_corrs then Named (c.rows named_corrs) else Unnamed (c.rows corrs);
+  marks = c.rows marks;
+  caches = if l.has caches then Some (c.rows caches) else None;
+}
+
+-- no two rows of a table whose key is a number have the same
+pub record HaveOwnNumbers (rows : FileRows) : Type 0 where
+  pub books : DifferBy (λ b. b.id) rows.books
+  pub paras : DifferBy (λ p. p.id) rows.paras
+  pub marks : DifferBy (λ m. m.id) rows.marks
+  pub caches : ForSome rows.caches (DifferBy (λ c. c.para))
