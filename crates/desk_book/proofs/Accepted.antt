@@ -18,7 +18,7 @@ use Rattle.desk_book.proofs.TextTests.{IsFirstBarred-position, IsUnbarred-positi
 use Rattle.desk_book.proofs.FirstUndefined.{DefinesUser, defined_or_first, all_or_first_user}
 
 -- a name that isn't none is one
-IsTableName-stable : (name : List ℕ) → ¬ (¬ IsTableName name) → IsTableName name
+pub IsTableName-stable : (name : List ℕ) → ¬ (¬ IsTableName name) → IsTableName name
 IsTableName-stable name twice = record {
   nonempty = elim (cases_lt 0 (length name)) [
     | inl h ↦ h
@@ -32,7 +32,7 @@ IsTableName-stable name twice = record {
 }
 
 -- nor is a name of a reader that isn't none
-IsReaderName-stable : (name : List ℕ) → ¬ (¬ IsReaderName name) → IsReaderName name
+pub IsReaderName-stable : (name : List ℕ) → ¬ (¬ IsReaderName name) → IsReaderName name
 IsReaderName-stable name twice = record {
   short = elim (cases_lt most_reader (length name)) [
     | inl h ↦ absurd (twice (λ named. let short = named.short in omega arith))

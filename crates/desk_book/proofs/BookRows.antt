@@ -1,5 +1,5 @@
 -- Rows that show a sound book.
-use Rattle.std.proofs.Common.{◌≡◌, ℕ, ◌+◌, ◌≤◌, ◌&&◌, pos, true, List, [], ◌∷◌, map, take, get_or, Some, Contains, refl, ap₂, subst, arith, inl, inr, None, sym, ◌∙◌}
+use Rattle.std.proofs.Common.{◌≡◌, ℕ, ◌+◌, ◌<◌, ◌≤◌, ◌&&◌, pos, true, List, [], ◌∷◌, map, take, get_or, Some, Contains, refl, ap₂, subst, arith, inl, inr, None, sym, ◌∙◌}
 use Rattle.std.specs.Char.{IsScalar}
 use Rattle.std.specs.List.{All, enumerate_from, flat_map}
 use Rattle.std.specs.Prelude.{IsNone, IsUtf8, IsSome}
@@ -37,15 +37,14 @@ pub spelled-encoded : (cs : List ℕ) → AreCharacters cs → chars (encodes cs
 spelled-encoded cs all = chars-encodes cs (scalars-all cs all)
 
 -- each character of a name is ASCII
-name_scalar : (c : ℕ) → is_name_character c ≡ true → IsScalar c
-name_scalar c is =
-    elim (cases_lt c 128) [
-      | inl low ↦ low_scalar c (omega arith)
-      | inr high ↦ absurd (not_name high)
-    ]
+pub name_low : (c : ℕ) → is_name_character c ≡ true → c < 128
+name_low c is = elim (cases_lt c 128) [ inl low ↦ low | inr high ↦ absurd (not_name high) ]
   where
     not_name : 128 ≤ c → ⊥
     not_name high = grind (arith, is)
+
+name_scalar : (c : ℕ) → is_name_character c ≡ true → IsScalar c
+name_scalar c is = let low = name_low c is in low_scalar c (omega (arith, low))
 
 pub name-characters : (name : List ℕ) → IsTableName name → AreCharacters name
 name-characters name named = All-weaker (λ c. is_name_character c ≡ true) IsScalar name_scalar name named.characters

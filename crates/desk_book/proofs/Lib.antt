@@ -24,6 +24,7 @@ pub mod MarkSettled
 pub mod MarkedPlaces
 pub mod Members
 pub mod NewParagraphs
+pub mod NumberedRows
 pub mod Numbering
 pub mod OneBook
 pub mod OneRefusal
@@ -53,7 +54,9 @@ pub mod ReadParagraphs
 pub mod Replacing
 pub mod RoomLists
 pub mod Settled
+pub mod RowGroups
 pub mod RowNumbers
+pub mod RowParts
 pub mod SoundBooks
 pub mod SoundEntries
 pub mod SoundParagraphs
@@ -62,11 +65,16 @@ pub mod SoundParaRows
 pub mod SoundRows
 pub mod SomeOutcome
 pub mod SoundSteps
+pub mod SortedTabs
+pub mod Stable
 pub mod TableEntries
 pub mod TablePlanning
 pub mod TextTests
 pub mod ToldEntries
 pub mod UndoPlanning
+pub mod UndamagedBook
+pub mod UndamagedEntries
+pub mod UndamagedRows
 pub mod Undone
 pub mod Users
 pub mod WorkedRows

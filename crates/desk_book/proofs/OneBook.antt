@@ -90,7 +90,7 @@ range_above : (m n count : ℕ) → m < n → AllByRecursion (λ other. nat_cmp 
 range_above m n zero less = tt
 range_above m n (suc count) less = (less_by m n less, range_above m (n + 1) count (omega arith))
 
-range_sorted : (n count : ℕ) → IsStrictlySortedBy nat_cmp (range_with_len n count)
+pub range_sorted : (n count : ℕ) → IsStrictlySortedBy nat_cmp (range_with_len n count)
 unfolding IsStrictlySortedBy
 range_sorted n zero = tt
 range_sorted n (suc count) = (range_above n (n + 1) count (omega arith), range_sorted (n + 1) count)
@@ -107,21 +107,21 @@ map-undone f back undone (x ∷ xs) = λ i. undone x i ∷ map-undone f back und
 same_from : {X Y : Type 0} (f : X → Y) (back : Y → X) → ((x : X) → back (f x) ≡ x) → (xs ys : List X) → map f xs ≡ map f ys → xs ≡ ys
 same_from f back undone xs ys same = sym (map-undone f back undone xs) ∙ (ap (map back) same ∙ map-undone f back undone ys)
 
-abbrev to_flag : ℤ → Bool
+abbrev pub to_flag : ℤ → Bool
 to_flag z = cond (int_eq z (pos 0)) false true
 
 flag_back : (b : Bool) → to_flag (flag_number b) ≡ b
 flag_back false = refl
 flag_back true = refl
 
-abbrev to_style : ℤ → Style
+abbrev pub to_style : ℤ → Style
 to_style z = cond (int_eq z (pos 0)) Body Heading
 
 style_back : (s : Style) → to_style (style_number s) ≡ s
 style_back Body = refl
 style_back Heading = refl
 
-abbrev to_mark : MarkRow → Mark
+abbrev pub to_mark : MarkRow → Mark
 to_mark m = record {
   id = number m.id;
   paragraph = number m.para;
@@ -146,7 +146,7 @@ history_back : (id n : ℕ) (entries : List Entry) → map to_entry (map (entry_
 history_back id n [] = refl
 history_back id n (entry ∷ entries) = λ i. entry_back id n entry i ∷ history_back id (n + 1) entries i
 
-abbrev to_paragraph : Para → List Entry → Paragraph
+abbrev pub to_paragraph : Para → List Entry → Paragraph
 to_paragraph p history = record {
   id = number p.id;
   table = p.tab;

@@ -82,7 +82,7 @@ enumerate-same {X} n (z ∷ xs) k x y c d =
 pub pos_le : (a b : ℕ) → a ≤ b → pos a ≤ℤ pos b
 pos_le a b h = record { le = subst T (sym (le-leb a b h)) tt }
 
-same_number : (a b : ℕ) → pos a ≡ pos b → a ≡ b
+pub same_number : (a b : ℕ) → pos a ≡ pos b → a ≡ b
 same_number a b e = cc
 
 pub int_eq-pos : (a b : ℕ) → int_eq (pos a) (pos b) ≡ nat_eq a b
@@ -95,7 +95,7 @@ int_eq-pos a b =
 abbrev those : ℕ → List ℤ → List ℤ
 those k zs = filter (λ z. int_eq z (pos k)) zs
 
-abbrev numbers : ℕ → ℕ → List ℤ
+abbrev pub numbers : ℕ → ℕ → List ℤ
 numbers a n = map pos (range_with_len a n)
 
 apart : (a k : ℕ) → ¬ (a ≡ k) → int_eq (pos a) (pos k) ≡ false

@@ -1,5 +1,5 @@
 -- Entries in the order of their keys: what is found among them, and what they are after one is put.
-use Rattle.std.proofs.Common.{◌≡◌, ℕ, ◌+◌, Bool, true, false, cond, List, [], ◌∷◌, length, Option, Some, None, Ordering, Contains, refl, sym, ap, subst, ◌∙◌}
+use Rattle.std.proofs.Common.{◌≡◌, ℕ, ◌+◌, Bool, true, false, cond, List, [], ◌∷◌, map, length, Option, Some, None, Ordering, Contains, refl, sym, ap, subst, ◌∙◌}
 use Rattle.std.specs.Prelude.{T, ◌&&◌, ◌≢◌, nat_eq, is_some}
 use Rattle.std.specs.Bool.{Decides}
 use Rattle.std.specs.Cmp.{Equal-is, IsTotalOrder, unsigned_ties, unsigned_Decides}
@@ -12,9 +12,10 @@ use Rattle.std.specs.Map.{lookup, keys_of}
 use Rattle.std.specs.Ordering.{nat_cmp, is_lt, eq_by_cmp}
 use Rattle.std.specs.declared.cmp.Ordering.TheVariants.{Less, Equal, Greater}
 use Rattle.std.proofs.lemmas.Bool.{cond-true, cond-false, false_from_ne_true}
-use Rattle.std.proofs.lemmas.Cmp.{nat_list_cmp_total}
+use Rattle.std.proofs.lemmas.Cmp.{eq_by_cmp_equiv, nat_list_cmp_total}
 use Rattle.std.proofs.lemmas.List.Elements.{All-cons, All-head, All-tail}
-use Rattle.std.proofs.lemmas.Map.Views.{Contains-from_lookup}
+use Rattle.std.proofs.lemmas.Map.Keys.{IsDistinct-from_sorted}
+use Rattle.std.proofs.lemmas.Map.Views.{Contains-from_lookup, lookup-from_Contains}
 
 -- ---- entries in order
 
@@ -135,3 +136,11 @@ count-put_old name text old tables = length-put_old (slice_cmp nat_cmp) (pointwi
 -- a text that is found is that of an entry
 pub Contains-text : (name text : List ℕ) (tables : List (List ℕ × List ℕ)) → text_among name tables ≡ Some text → Contains tables (name, text)
 Contains-text name text tables = Contains-from_lookup (λ x y. (Decides-name x y).0) name text tables
+
+-- the text of a name that is there
+pub text-there : (name text : List ℕ) (tables : List (List ℕ × List ℕ)) → IsStrictlySortedBy (slice_cmp nat_cmp) (map (λ entry. entry.0) tables)
+    → Contains tables (name, text) → text_among name tables ≡ Some text
+text-there name text tables sorted there =
+    (λ i. lookup (λ other. names_tie name other i) tables)
+    ∙ lookup-from_Contains (eq_by_cmp_equiv nat_list_cmp_total) name text tables
+    (IsDistinct-from_sorted (slice_cmp nat_cmp) (map (λ entry. entry.0) tables) sorted) there

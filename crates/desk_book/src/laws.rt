@@ -1,10 +1,10 @@
 //! What holds of every book.
 ghost use Rattle.desk_book.specs.After.{After};
 ghost use Rattle.desk_book.specs.Book.{Book, empty_book};
-ghost use Rattle.desk_book.specs.Damage.{IsDamaged, IsFirstDamage};
+ghost use Rattle.desk_book.specs.Damage.{HasItsTables, IsDamaged, IsFirstDamage};
 ghost use Rattle.desk_book.specs.declared.command.Command.{Command};
 ghost use Rattle.desk_book.specs.declared.parts.FileTable.{FileTable};
-ghost use Rattle.desk_book.specs.FileRows.{FileRows, table_of};
+ghost use Rattle.desk_book.specs.FileRows.{AreTexts, FileRows, table_of};
 ghost use Rattle.desk_book.specs.FilledRows.{AreEntriesOf, in_second_format, new_rows, second_format_puts};
 ghost use Rattle.desk_book.specs.FilledRows.{with_caches, with_new_entries, with_new_tables};
 ghost use Rattle.desk_book.specs.Outcome.{HasOneOutcome};
@@ -88,6 +88,12 @@ pub fn filled_rows_show_their_book()
 /// Rows that show a book have no damage.
 pub fn shown_rows_are_sound()
     ensures { (rows : FileRows) (book : Book) → Shows rows book → (table : FileTable) (id : ℤ) → ¬ IsDamaged rows table id }
+{}
+
+/// Rows show a book exactly where their texts are UTF-8, their tables are those of their format, and they have no damage.
+pub fn undamaged_rows_show_a_book()
+    ensures { (rows : FileRows) → ((book : Book) × Shows rows book)
+        ↔ (AreTexts rows × HasItsTables rows × ((table : FileTable) (id : ℤ) → ¬ IsDamaged rows table id)) }
 {}
 
 /// At most one damage of rows is the first.
