@@ -1,7 +1,7 @@
 -- Rows of a new file show the empty book, and rows that show a book show it still once they are brought to the second
 -- format, or get the braille of its paragraphs.
 use Rattle.std.proofs.Common.{◌≡◌, ℕ, ◌<◌, pos, true, false, List, [], ◌∷◌, ◌++◌, map, length, get_or, None, append-nil, refl, sym, ap, ap₂, subst, ◌∙◌, arith}
-use Rattle.std.specs.List.{All, IsDistinct, filter, flat_map}
+use Rattle.std.specs.List.{All, IsDistinct, flat_map}
 use Rattle.std.specs.List.Sorted.{IsPermutation}
 use Rattle.std.specs.Cmp.{int_eq_equiv}
 use Rattle.std.specs.Ordering.{int_eq}

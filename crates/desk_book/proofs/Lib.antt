@@ -77,4 +77,5 @@ pub mod UndamagedEntries
 pub mod UndamagedRows
 pub mod Undone
 pub mod Users
+pub mod WorkedDamage
 pub mod WorkedRows

@@ -1,18 +1,18 @@
 -- Rows whose keys are numbers from one on, each of them once: in their order they have the numbers in order.
-use Rattle.std.proofs.Common.{◌≡◌, ◌⊎◌, ℕ, zero, suc, ◌+◌, ◌-◌, ◌<◌, ◌≤◌, ℤ, pos, ◌+ℤ◌, List, [], ◌∷◌, ◌++◌, map, filter, length, Contains, refl, sym, ap, subst, ◌∙◌, arith, inl, inr}
+use Rattle.std.proofs.Common.{◌≡◌, ℕ, zero, suc, ◌+◌, ◌≤◌, ℤ, pos, ◌+ℤ◌, List, [], ◌∷◌, ◌++◌, map, filter, length, Contains, refl, sym, ap, subst, ◌∙◌, arith, inl, inr}
 use Rattle.std.specs.Cmp.{signed_Decides}
 use Rattle.std.specs.List.{range_with_len}
 use Rattle.std.specs.List.Sorted.{IsPermutation}
 use Rattle.std.specs.Ordering.{int_eq}
 use Rattle.std.proofs.lemmas.Bool.{cases_eq, cond-true}
 use Rattle.std.proofs.lemmas.List.{length-map, map-append}
-use Rattle.std.proofs.lemmas.List.Sorted.{Contains-permutation, IsPermutation-cons, IsPermutation-map, IsPermutation-refl, IsPermutation-remove, IsPermutation-sym, IsPermutation-to_front, IsPermutation-trans, length_permutation}
+use Rattle.std.proofs.lemmas.List.Sorted.{Contains-permutation, IsPermutation-cons, IsPermutation-refl, IsPermutation-sym, IsPermutation-to_front, IsPermutation-trans, length_permutation}
 use Rattle.desk_book.specs.Damage.{IsNumber, IsWithin, rows_with}
 use Rattle.desk_book.proofs.Decisions.{Decided}
 use Rattle.desk_book.proofs.Members.{Contains-behind, Contains-cases, Contains-here, Contains-map, Contains-none}
 use Rattle.desk_book.proofs.Numbering.{Contains-range, range-push}
 use Rattle.desk_book.proofs.Permutations.{IsPermutation-filter, IsPermutation-turn, pull_back}
-use Rattle.desk_book.proofs.RowNumbers.{Contains-from_map, filter-map, numbers, same_number}
+use Rattle.desk_book.proofs.RowNumbers.{Contains-from_map, numbers, same_number}
 use Rattle.desk_book.proofs.Stable.{at_least, le_from, same_int}
 
 -- ---- an element, and the others

@@ -1,5 +1,5 @@
 -- Rows in groups, by the parts that they belong to.
-use Rattle.std.proofs.Common.{◌≡◌, ℤ, List, [], ◌∷◌, ◌++◌, map, filter, Contains, refl, sym, ap, ap₂, subst, ◌∙◌, inl, inr}
+use Rattle.std.proofs.Common.{◌≡◌, ℤ, List, [], ◌∷◌, ◌++◌, map, filter, Contains, refl, sym, ap₂, subst, inl, inr}
 use Rattle.std.specs.Cmp.{signed_Decides}
 use Rattle.std.specs.List.{flat_map}
 use Rattle.std.specs.List.Sorted.{IsPermutation}

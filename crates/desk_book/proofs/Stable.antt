@@ -1,5 +1,5 @@
 -- What can't fail, holds: of numbers, texts and pairs.
-use Rattle.std.proofs.Common.{◌≡◌, ◌⊎◌, ℕ, ◌+◌, ◌<◌, ◌≤◌, ℤ, pos, negsuc, ◌≤ℤ◌, nat_abs, false, List, [], ◌∷◌, Contains, refl, sym, subst, arith, inl, inr, leb→le}
+use Rattle.std.proofs.Common.{◌≡◌, ℕ, ◌≤◌, ℤ, pos, negsuc, ◌≤ℤ◌, nat_abs, false, List, [], ◌∷◌, Contains, refl, sym, subst, inl, inr, leb→le}
 use Rattle.std.specs.Cmp.{signed_Decides}
 use Rattle.std.specs.Cmp.Lexicographic.{pointwise}
 use Rattle.std.specs.Ordering.{int_eq}
@@ -9,7 +9,7 @@ use Rattle.desk_book.specs.Damage.{IsFlag, IsWithin}
 use Rattle.desk_book.specs.Stored.{IsUnbarred}
 use Rattle.desk_book.proofs.Decisions.{Decided, all, at_most, both, either, isnt_so}
 use Rattle.desk_book.proofs.Members.{Contains-behind, Contains-cases, Contains-here, Contains-none}
-use Rattle.desk_book.proofs.RowNumbers.{pos_le, same_number}
+use Rattle.desk_book.proofs.RowNumbers.{pos_le}
 use Rattle.desk_book.proofs.TableEntries.{Decides-name}
 use Rattle.desk_book.specs.Stored.{is_barred}
 

@@ -1,5 +1,5 @@
 -- Rows of histories without damage are sound, in the order of their numbers.
-use Rattle.std.proofs.Common.{◌≡◌, ◌⊎◌, ℕ, suc, ◌+◌, ◌≤◌, ℤ, pos, ◌+ℤ◌, ◌≤ℤ◌, List, [], ◌∷◌, map, filter, length, take, Option, Some, Contains, refl, sym, ap, subst, ◌∙◌, arith, inl, inr}
+use Rattle.std.proofs.Common.{◌≡◌, ◌⊎◌, ℕ, suc, ◌+◌, ℤ, pos, ◌+ℤ◌, List, [], ◌∷◌, map, filter, length, take, Option, Some, Contains, refl, sym, ap, subst, ◌∙◌, arith, inl, inr}
 use Rattle.std.specs.List.{range_with_len}
 use Rattle.std.specs.List.Sorted.{IsPermutation, IsStrictlySortedBy}
 use Rattle.std.specs.Ordering.{int_eq, nat_cmp}
@@ -15,7 +15,7 @@ use Rattle.desk_book.specs.Limits.{most_entries, most_print}
 use Rattle.desk_book.specs.Print.{corrected, newest}
 use Rattle.desk_book.specs.Rows.{NamedCorr, Para}
 use Rattle.desk_book.proofs.Accepted.{IsReaderName-stable}
-use Rattle.desk_book.proofs.Decisions.{Decided, at_most, below, given}
+use Rattle.desk_book.proofs.Decisions.{at_most, below, given}
 use Rattle.desk_book.proofs.NumberedRows.{AreOnce, AreUpTo, in_order, once-keys, pigeonholes}
 use Rattle.desk_book.proofs.OneBook.{number, range_sorted, sorted_same}
 use Rattle.desk_book.proofs.RowNumbers.{Contains-from_map, key-number, key-once, numbers, pos_le}
