@@ -1,8 +1,9 @@
 -- Rows of a new file show the empty book, and rows that show a book show it still once they are brought to the second
 -- format, or get the braille of its paragraphs.
-use Rattle.std.proofs.Common.{◌≡◌, ℕ, ◌<◌, pos, true, false, List, [], ◌∷◌, ◌++◌, map, length, get_or, None, append-nil, refl, sym, ap, ap₂, subst, ◌∙◌, arith}
+use Rattle.std.proofs.Common.{◌≡◌, ℕ, ◌<◌, pos, true, false, List, [], ◌∷◌, ◌++◌, map, length, get_or, Option, None, Some, append-nil, refl, sym, ap, ap₂, subst, ◌∙◌, arith}
 use Rattle.std.specs.List.{All, IsDistinct, flat_map}
 use Rattle.std.specs.List.Sorted.{IsPermutation}
+use Rattle.std.specs.Option.{ForSome}
 use Rattle.std.specs.Cmp.{int_eq_equiv}
 use Rattle.std.specs.Ordering.{int_eq}
 use Rattle.std.specs.Prelude.{IsNone, IsSome, nat_eq, not}
@@ -14,7 +15,7 @@ use Rattle.std.proofs.lemmas.Map.Keys.{IsDistinct-from_apart, IsDistinct-head, I
 use Rattle.desk_book.specs.declared.parts.FileTable.TheVariants.{Corr as CorrTable, NamedCorr as NamedCorrTable}
 use Rattle.desk_book.specs.declared.rows.BookRow.{BookRow}
 use Rattle.desk_book.specs.Book.{Book, Paragraph, empty_book}
-use Rattle.desk_book.specs.FileRows.{FileRows, HasEntryTexts, HasMarkText, HasParaTexts, HasTabText, Named, entries_in, format_of, spelled_entry, table_of}
+use Rattle.desk_book.specs.FileRows.{EntryRows, FileRows, HasEntryTexts, HasMarkText, HasParaTexts, HasTabText, Named, entries_in, format_of, spelled_entry, table_of}
 use Rattle.desk_book.specs.FilledRows.{AreEntriesOf, in_second_format, new_rows, second_format_puts, with_caches, with_new_entries, with_new_tables}
 use Rattle.desk_book.specs.Puts.{PutBook, PutCache, PutEntry, RowPuts, put_in, with_put, with_puts}
 use Rattle.desk_book.specs.Rows.{Cached, NamedCorr}
@@ -23,6 +24,7 @@ use Rattle.desk_book.specs.Sound.{IsSound}
 use Rattle.desk_book.proofs.BookRows.{book_caches, some_rows, some_unnamed_rows}
 use Rattle.desk_book.proofs.PutRows.{filter-all}
 use Rattle.desk_book.proofs.ParagraphLists.{ids_of}
+use Rattle.desk_book.proofs.Planning.{same_some}
 use Rattle.desk_book.proofs.RowNumbers.{int_eq-pos}
 use Rattle.desk_book.proofs.SoundBooks.{paragraphs-apart}
 use Rattle.desk_book.proofs.SoundSteps.{IsSound-empty}
@@ -43,66 +45,47 @@ new-shown = record {
 
 -- ---- with other entries, and with other rows of braille
 
-pub second-shown : (rows : FileRows) (book : Book) → Shows rows book → Shows (in_second_format rows) book
-second-shown rows book shown = record {
-  sound = shown.sound;
-  texts = record { tabs = shown.texts.tabs; paras = shown.texts.paras; entries = shown.texts.entries; marks = shown.texts.marks };
-  row = ap (map (λ (row : BookRow). record row { format = pos 2 })) shown.row;
-  tables = shown.tables;
-  paragraphs = shown.paragraphs;
-  entries = shown.entries;
-  marks = shown.marks;
-  caches = shown.caches;
-}
-
-pub cached-shown : (rows : FileRows) (book : Book) → Shows rows book → (caches : List Cached) → AreCached book caches → Shows (with_caches caches rows) book
-cached-shown rows book shown caches are = record {
-  sound = shown.sound;
-  texts = record { tabs = shown.texts.tabs; paras = shown.texts.paras; entries = shown.texts.entries; marks = shown.texts.marks };
-  row = shown.row;
-  tables = shown.tables;
-  paragraphs = shown.paragraphs;
-  entries = shown.entries;
-  marks = shown.marks;
-  caches = λ others same. let own : caches ≡ others = cc in subst (AreCached book) own are;
-}
-
--- without rows of braille
-abbrev bare : FileRows → FileRows
-bare rows = record rows { caches = None }
-
-bare-shown : (rows : FileRows) (book : Book) → Shows rows book → Shows (bare rows) book
-bare-shown rows book shown = record {
-  sound = shown.sound;
-  texts = record { tabs = shown.texts.tabs; paras = shown.texts.paras; entries = shown.texts.entries; marks = shown.texts.marks };
-  row = shown.row;
-  tables = shown.tables;
-  paragraphs = shown.paragraphs;
-  entries = shown.entries;
-  marks = shown.marks;
-  caches = λ others same. absurd (cc);
-}
-
+-- rows that show a book, with these in place of the row of `book`, of the entries and of the braille
 module _ (rows : FileRows) (book : Book) (shown : Shows rows book) where
-  -- with the row of the second format, and these entries
-  entered : (entries : List NamedCorr) → AreEntriesOf book entries → Shows (record rows { books = book_row_of 2 book.version ∷ []; entries = Named entries }) book
-  entered entries are = record {
+  with-others : (books : List BookRow) (entries : EntryRows) (caches : Option (List Cached)) → books ≡ book_row_of (format_of entries) book.version ∷ []
+      → AreEntriesOf book (entries_in entries) → ForSome caches (AreCached book) → Shows (record rows { books = books; entries = entries; caches = caches }) book
+  with-others books entries caches row are cached = record {
     sound = shown.sound;
     texts = record { tabs = shown.texts.tabs; paras = shown.texts.paras; entries = are.0; marks = shown.texts.marks };
-    row = refl;
+    row = row;
     tables = shown.tables;
     paragraphs = shown.paragraphs;
     entries = are.1;
     marks = shown.marks;
-    caches = shown.caches;
+    caches = cached;
   }
 
-  moved-entries : (entries all : List NamedCorr) → IsPermutation entries all → AreEntriesOf book entries → AreEntriesOf book all
-  moved-entries entries all same are = (
-    All-permutation HasEntryTexts entries all same are.0,
-    IsPermutation-trans (map spelled_entry all) (map spelled_entry entries) (flat_map entry_rows_of book.paragraphs)
-        (IsPermutation-map spelled_entry all entries (IsPermutation-sym entries all same)) are.1,
-  )
+  its-entries : AreEntriesOf book (entries_in rows.entries)
+  its-entries = (shown.texts.entries, shown.entries)
+
+  pub second-shown : Shows (in_second_format rows) book
+  second-shown =
+      with-others (in_second_format rows).books (Named (entries_in rows.entries)) rows.caches
+      (ap (map (λ (row : BookRow). record row { format = pos 2 })) shown.row) its-entries shown.caches
+
+  pub cached-shown : (caches : List Cached) → AreCached book caches → Shows (with_caches caches rows) book
+  cached-shown caches are =
+      with-others rows.books rows.entries (Some caches) shown.row its-entries (λ others same. subst (AreCached book) (same_some caches others same) are)
+
+  -- without rows of braille
+  bare-shown : Shows (record rows { caches = None }) book
+  bare-shown = with-others rows.books rows.entries None shown.row its-entries (λ others same. absurd (cc))
+
+  -- with the row of the second format, and these entries
+  entered : (entries : List NamedCorr) → AreEntriesOf book entries → Shows (record rows { books = book_row_of 2 book.version ∷ []; entries = Named entries }) book
+  entered entries are = with-others (book_row_of 2 book.version ∷ []) (Named entries) rows.caches refl are shown.caches
+
+moved-entries : (book : Book) (entries all : List NamedCorr) → IsPermutation entries all → AreEntriesOf book entries → AreEntriesOf book all
+moved-entries book entries all same are = (
+  All-permutation HasEntryTexts entries all same are.0,
+  IsPermutation-trans (map spelled_entry all) (map spelled_entry entries) (flat_map entry_rows_of book.paragraphs)
+      (IsPermutation-map spelled_entry all entries (IsPermutation-sym entries all same)) are.1,
+)
 
 -- ---- entries put one by one
 
@@ -134,7 +117,7 @@ module _ (rows : FileRows) (book : Book) (shown : Shows rows book) (entries : Li
   pub names-put : Shows (with_puts (PutBook (book_row_of 2 book.version) ∷ map PutEntry entries) (with_new_entries rows)) book
   names-put =
       let made = put-second rows (format_of rows.entries) book.version shown.row entries in
-      subst (λ (shows : FileRows). Shows shows book) (sym made.2) (entered rows book shown made.0 (moved-entries rows book shown entries made.0 made.1 are))
+      subst (λ (shows : FileRows). Shows shows book) (sym made.2) (entered rows book shown made.0 (moved-entries book entries made.0 made.1 are))
 
 -- ---- rows of braille put one by one
 
@@ -222,14 +205,14 @@ module _ (rows : FileRows) (book : Book) (shown : Shows rows book) (caches : Lis
       let is : with_puts (second_format_puts book.version rows caches) (with_new_tables rows) ≡ with_caches full.0 left =
       with_puts-append (PutBook (book_row_of 2 book.version) ∷ map PutEntry entries) (map PutCache caches) (with_new_tables rows)
       ∙ (ap (with_puts (map PutCache caches)) named.2 ∙ full.2) in
-      let shows = entered rows book shown named.0 (moved-entries rows book shown entries named.0 named.1 (shown.texts.entries, shown.entries)) in
+      let shows = entered rows book shown named.0 (moved-entries book entries named.0 named.1 (its-entries rows book shown)) in
       subst (λ (all : FileRows). Shows all book) (sym is) (cached-shown left book shows full.0 full.1)
 
 -- ---- rows of both formats, with the braille and without it
 
 module _ (book : Book) (sound : IsSound book) where
   pub second_bare : (rows : FileRows) × (table_of rows.entries ≡ NamedCorrTable) × IsNone rows.caches × Shows rows book
-  second_bare = let some = some_rows book sound in (bare some.0, some.1, refl, bare-shown some.0 book some.3)
+  second_bare = let some = some_rows book sound in (record some.0 { caches = None }, some.1, refl, bare-shown some.0 book some.3)
 
   pub first_cached : IsUnnamed book → (rows : FileRows) × (table_of rows.entries ≡ CorrTable) × IsSome rows.caches × Shows rows book
   first_cached unnamed =

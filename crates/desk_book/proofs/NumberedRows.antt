@@ -45,9 +45,9 @@ AreOnce {X} xs = (x : X) (others : List X) → IsPermutation xs (x ∷ others) �
 pub once-rest : {X : Type 0} (xs others : List X) (x : X) → AreOnce xs → IsPermutation xs (x ∷ others) → AreOnce others
 once-rest xs others x once moved y left is =
     λ c. once y (x ∷ left)
-        (IsPermutation-trans xs (x ∷ others) (y ∷ x ∷ left) moved
-        (IsPermutation-trans (x ∷ others) (x ∷ y ∷ left) (y ∷ x ∷ left) (IsPermutation-cons x others (y ∷ left) is) (IsPermutation-turn x y left)))
-        (Contains-behind x y left c)
+    (IsPermutation-trans xs (x ∷ others) (y ∷ x ∷ left) moved
+    (IsPermutation-trans (x ∷ others) (x ∷ y ∷ left) (y ∷ x ∷ left) (IsPermutation-cons x others (y ∷ left) is) (IsPermutation-turn x y left)))
+    (Contains-behind x y left c)
 
 pub once-permutation : {X : Type 0} (xs ys : List X) → IsPermutation xs ys → AreOnce xs → AreOnce ys
 once-permutation xs ys moved once x others is = once x others (IsPermutation-trans xs ys (x ∷ others) moved is)
@@ -197,15 +197,18 @@ module _ {X : Type 0} (key : X → ℤ) where
     pub few-rows : length xs ≤ last
     few-rows = by xs refl
       where
+        under : (x : X) → Contains xs x → key x ≡ pos (length xs) → length xs ≤ last
+        under x c is =
+            let k = number-of x c in
+            let same = same_number (length xs) k.0 (sym is ∙ k.1) in
+            let high = k.3 in
+            omega (arith, same, high)
+
         by : (ys : List X) → xs ≡ ys → length xs ≤ last
         by [] is = let none = ap length is in omega (arith, none)
         by (y ∷ ys) is =
-            let long = length-map xs key in
             let some = ap length is in
             let top = Contains-permutation (numbers 1 (length xs)) (map key xs) (pos (length xs)) (IsPermutation-sym (map key xs) (numbers 1 (length xs)) keys-numbers)
             (Contains-map pos (range_with_len 1 (length xs)) (length xs) (Contains-range 1 (length xs) (length xs) (omega (arith, some)) (omega arith))) in
             let found = Contains-from_map key xs (pos (length xs)) top in
-            let k = number-of found.0 found.1 in
-            let same = same_number (length xs) k.0 (sym found.2 ∙ k.1) in
-            let high = k.3 in
-            omega (arith, same, high)
+            under found.0 found.1 found.2

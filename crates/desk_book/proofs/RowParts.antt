@@ -84,8 +84,7 @@ module _ (row : NamedCorr) where
   sound-entry : (original : List ℕ) (before : List Entry) → HasEntryTexts row → IsSoundCorrection (corrected original before) row ⊎ IsSoundUndo before row
       → IsSoundEntry original before (entry_of row)
   sound-entry original before texts (inl c) =
-      subst (IsSoundEntry original before) (sym (entry-corrects c.kind))
-      (
+      subst (IsSoundEntry original before) (sym (entry-corrects c.kind)) (
         le_from (nat_abs row.entry.start + nat_abs row.entry.len) (length (corrected original before))
             (subst (λ z. z ≤ℤ pos (length (corrected original before)))
             (ap₂ (λ (a b : ℤ). a +ℤ b) (natural row.entry.start c.start) (natural row.entry.len c.len)) c.span),

@@ -81,10 +81,13 @@ module _ (books : List BookRow) (none : (id : ℤ) → ¬ IsDamagedBook books id
       by [] is = absurd (none (pos 1) (refl, λ (row, one, sound). let apart = sym is ∙ one in cc))
       by (row ∷ other ∷ rest) is = absurd (none (pos 1) (refl, λ (only, one, sound). let apart = sym is ∙ one in cc))
       by (row ∷ []) is =
-          let twice : ¬ ¬ IsSoundBookRow row = λ unsound. none (pos 1) (refl, λ (only, one, sound).
-          let both_one = sym one ∙ is in
-          let same : only ≡ row = cc in
-          unsound (subst IsSoundBookRow same sound)) in (
+          let twice : ¬ ¬ IsSoundBookRow row = λ unsound. none (pos 1) (
+            refl,
+            λ (only, one, sound).
+                let both_one = sym one ∙ is in
+                let same : only ≡ row = cc in
+                unsound (subst IsSoundBookRow same sound),
+          ) in (
             row,
             is,
             record {

@@ -11,7 +11,14 @@ use Rattle.desk_book.specs.Shows.{book_row_of, entry_rows_of}
 
 -- a row of version 0 in the second format, and nothing else
 abbrev pub new_rows : FileRows
-new_rows = record { books = book_row_of 2 0 ∷ []; tabs = []; paras = []; entries = Named []; marks = []; caches = Some [] }
+new_rows = record {
+  books = book_row_of 2 0 ∷ [];
+  tabs = [];
+  paras = [];
+  entries = Named [];
+  marks = [];
+  caches = Some [];
+}
 
 -- with these rows of braille
 abbrev pub with_caches : List Cached → FileRows → FileRows

@@ -52,17 +52,17 @@ pub fn one_book()
     ensures { (rows : FileRows) (book other : Book) → Shows rows book → Shows rows other → book ≡ other }
 {}
 
-/// Each sound book has rows of the second format that show it, and one in which no correction has a name has rows of the
-/// first format, each with the braille of its paragraphs and without it.
+/// Each sound book has rows of the second format that show it, and one in which no correction has a name has rows of
+/// the first format, each with the braille of its paragraphs and without it.
 pub fn some_rows()
     ensures second { (book : Book) → IsSound book
         → (rows : FileRows) × (table_of rows.entries ≡ FileTable.NamedCorr) × IsSome rows.caches × Shows rows book }
     ensures second_without_cache { (book : Book) → IsSound book
         → (rows : FileRows) × (table_of rows.entries ≡ FileTable.NamedCorr) × IsNone rows.caches × Shows rows book }
-    ensures first_with_cache { (book : Book) → IsSound book → IsUnnamed book
-        → (rows : FileRows) × (table_of rows.entries ≡ FileTable.Corr) × IsSome rows.caches × Shows rows book }
     ensures first { (book : Book) → IsSound book → IsUnnamed book
         → (rows : FileRows) × (table_of rows.entries ≡ FileTable.Corr) × IsNone rows.caches × Shows rows book }
+    ensures first_with_cache { (book : Book) → IsSound book → IsUnnamed book
+        → (rows : FileRows) × (table_of rows.entries ≡ FileTable.Corr) × IsSome rows.caches × Shows rows book }
 {}
 
 /// The rows of a new file show the empty book.
@@ -70,8 +70,8 @@ pub fn new_rows_show_the_empty_book()
     ensures { Shows new_rows empty_book }
 {}
 
-/// Rows that show a book show it still once they are brought to the second format, or get the braille of its paragraphs,
-/// all at once or by what is put, one after the other, into tables that are empty.
+/// Rows that show a book show it still once they are brought to the second format, or get the braille of its
+/// paragraphs, all at once or by what is put, one after the other, into tables that are empty.
 pub fn filled_rows_show_their_book()
     ensures format { (rows : FileRows) (book : Book) → Shows rows book → Shows (in_second_format rows) book }
     ensures braille { (rows : FileRows) (book : Book) (caches : List Cached) → Shows rows book
@@ -80,8 +80,10 @@ pub fn filled_rows_show_their_book()
         → AreCached book caches → Shows (with_puts (map PutCache caches) (with_caches [] rows)) book }
     ensures names { (rows : FileRows) (book : Book) (entries : List NamedCorr) → Shows rows book
         → AreEntriesOf book entries
-        → Shows (with_puts (PutBook (book_row_of 2 book.version) ∷ map PutEntry entries) (with_new_entries rows)) book }
-    ensures all { (rows : FileRows) (book : Book) (caches : List Cached) → Shows rows book → AreCached book caches
+        → Shows (with_puts (PutBook (book_row_of 2 book.version) ∷ map PutEntry entries)
+        (with_new_entries rows)) book }
+    ensures all { (rows : FileRows) (book : Book) (caches : List Cached) → Shows rows book
+        → AreCached book caches
         → Shows (with_puts (second_format_puts book.version rows caches) (with_new_tables rows)) book }
 {}
 
@@ -90,10 +92,12 @@ pub fn shown_rows_are_sound()
     ensures { (rows : FileRows) (book : Book) → Shows rows book → (table : FileTable) (id : ℤ) → ¬ IsDamaged rows table id }
 {}
 
-/// Rows show a book exactly where their texts are UTF-8, their tables are those of their format, and they have no damage.
+/// Rows show a book exactly where their texts are UTF-8, their tables are those of their format, and they have no
+/// damage.
 pub fn undamaged_rows_show_a_book()
     ensures { (rows : FileRows) → ((book : Book) × Shows rows book)
-        ↔ (AreTexts rows × HasItsTables rows × ((table : FileTable) (id : ℤ) → ¬ IsDamaged rows table id)) }
+        ↔ (AreTexts rows × HasItsTables rows
+        × ((table : FileTable) (id : ℤ) → ¬ IsDamaged rows table id)) }
 {}
 
 /// At most one damage of rows is the first.
