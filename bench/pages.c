@@ -54,8 +54,9 @@ static void put_paragraph(const struct paragraph *paragraph) {
             if (count > room && !first) break;
             int taken = count > room ? room : count;
             if (!first) line[used++] = ' ';
-            for (int i = 0; i < taken; i++) line[used + i] = ASCII[cells[i]];
-            used += taken, cells += taken;
+            char *byte = line + used;
+            for (const unsigned char *last = cells + taken; cells < last; cells++) *byte++ = ASCII[*cells];
+            used += taken;
             if (taken < count) break;
             while (cells < end && *cells == 0) cells++;
         }
@@ -65,9 +66,9 @@ static void put_paragraph(const struct paragraph *paragraph) {
 }
 
 static int has_eight_dots(const struct paragraph *paragraph) {
-    for (const unsigned char *cell = paragraph->cells; cell < paragraph->end; cell++)
-        if (*cell >= 64) return 1;
-    return 0;
+    unsigned char dots = 0;
+    for (const unsigned char *cell = paragraph->cells; cell < paragraph->end; cell++) dots |= *cell;
+    return dots >= 64;
 }
 
 static void put_volume(const struct paragraph *paragraphs, const struct paragraph *end) {
