@@ -1,28 +1,42 @@
 -- Histories, marks, refusals and their order, worked by the definitions alone: they say what these rows say, and not only what the code does.
-use Rattle.std.proofs.Common.{◌≡◌, ℕ, Bool, true, false, List, [], ◌∷◌, ◌++◌, map, refl, arith, lit<, lit≤, inl, inr}
+use Rattle.std.proofs.Common.{◌≡◌, ℕ, Bool, true, false, List, [], ◌∷◌, ◌++◌, Ok, map, refl, sym, ap, subst, ◌∙◌, arith, lit<, lit≤, inl, inr}
 use Rattle.std.specs.Prelude.{Some, None}
+use Rattle.std.specs.Str.{IsUtf8, chars}
+use lib.Utf8.{encode}
 use Rattle.std.proofs.lemmas.List.Elements.{All-cons, All-nil}
+use Rattle.louis_table.specs.declared.definition.Class.TheVariants.{Letter}
+use Rattle.louis_table.specs.declared.definition.Definition.{Definition}
 use Rattle.louis_table.specs.declared.fault.TableFault.{TableFault}
+use Rattle.louis_table.specs.Lines.{lines_of}
+use Rattle.louis_table.specs.Meaning.{Meaning}
+use Rattle.louis_table.specs.Reading.{LinesMean, characters_in, entry_at, entry_verdict, judge, judge_line, line_gives, no_meaning, opcode_named, with_given}
+use Rattle.louis_table.specs.Table.{Defines, Means}
+use Rattle.louis_table.proofs.OneMeaning.{LinesMean-Means}
+use Rattle.louis_table.proofs.ReadingLaws.{Reached-all, Reached-more, Reached-none}
+use Rattle.louis_translate.specs.Position.{IsFirstUndefined}
 use Rattle.desk_book.specs.declared.command.Command.{Command}
+use Rattle.desk_book.specs.declared.history.KeptEntry.TheVariants as kept
+use Rattle.desk_book.specs.declared.paragraphs.Paragraph.{Paragraph as KeptParagraph}
 use Rattle.desk_book.specs.declared.refusal.Limit.TheVariants.{Tables, Paragraphs, Entries, Marks, Version}
 use Rattle.desk_book.specs.declared.refusal.Refusal.{Refusal}
 use Rattle.desk_book.specs.declared.refusal.Refusal.TheVariants.{Moved, BadName, BadReader, BadText, NoParagraph, NoTable, NoMark, Struck, NotStruck, Resolved, BadSpan, NothingToUndo, TooLong, Full, BadTable, Undefined, Untranslatable, NoMemory}
 use Rattle.desk_book.specs.declared.command.Command.TheVariants.{Correct, Undo, Strike, Restore}
 use Rattle.desk_book.specs.declared.style.Style.TheVariants.{Body}
-use Rattle.desk_book.specs.Book.{Book, Replacement, Entry, Corrects, Undoes, Mark}
+use Rattle.desk_book.specs.Book.{Book, Paragraph, Replacement, Entry, Corrects, Undoes, Mark}
 use Rattle.desk_book.specs.Print.{corrected, newest, stack}
 use Rattle.desk_book.specs.Marks.{mark_moved, mark_moved_back}
 use Rattle.desk_book.specs.Judging.{Passes}
+use Rattle.desk_book.specs.Kept.{paragraph_kept}
 use Rattle.desk_book.specs.Name.{IsReaderName, is_reader_character}
 use Rattle.desk_book.specs.Planned.{IsTurnedDown}
 use Rattle.desk_book.specs.Refusals.{IsRefused, code_of, print_to_translate, turn}
 use Rattle.desk_book.specs.Step.{Makes, number_of}
 use Rattle.desk_book.specs.Stored.{IsUnbarred, is_barred}
 use Rattle.desk_book.proofs.CorrectPlanning.{past_reader}
-use Rattle.desk_book.proofs.EntryPlanning.{AreThere-one, past_fit, unfit}
+use Rattle.desk_book.proofs.EntryPlanning.{AreThere-one, halted, past_fit, unfit}
 use Rattle.desk_book.proofs.Expecting.{moved}
-use Rattle.desk_book.proofs.Judging.{IsRefused-passes}
-use Rattle.desk_book.proofs.Planning.{passes_to, past_paragraphs, past_text, to_turn}
+use Rattle.desk_book.proofs.Judging.{IsRefused-passes, Passes-nothing_to_undo}
+use Rattle.desk_book.proofs.Planning.{passes_to, past_paragraphs, past_text, same_some, to_turn}
 
 -- `The cat`
 abbrev the_cat : List ℕ
@@ -196,14 +210,82 @@ restored-already =
     let there = past_paragraphs book (Restore 1) (passes_to book (Restore 1) 30 refl) (AreThere-one book 1 _ refl) in
     IsRefused-passes book None (Restore 1) 70 NotStruck (to_turn book (Restore 1) 40 70 refl there) refl (record { id = 1; paragraph = _; named = refl; found = refl; live = refl })
 
+-- `letter a 1` and `letter b 12`, a table that defines no `c`
+abbrev a_line : List ℕ
+a_line = 108 ∷ 101 ∷ 116 ∷ 116 ∷ 101 ∷ 114 ∷ 32 ∷ 97 ∷ 32 ∷ 49 ∷ []
+
+abbrev b_line : List ℕ
+b_line = 108 ∷ 101 ∷ 116 ∷ 116 ∷ 101 ∷ 114 ∷ 32 ∷ 98 ∷ 32 ∷ 49 ∷ 50 ∷ []
+
+abbrev ab_text : List ℕ
+ab_text = a_line ++ 10 ∷ b_line ++ 10 ∷ []
+
+-- the letter by one cell
+abbrev letter_by : ℕ → Definition
+letter_by mask = record { class = Letter; cells = mask ∷ [] }
+
+abbrev ab_meaning : Meaning
+ab_meaning = with_given (with_given no_meaning (Some (Defines 97 (letter_by 1)))) (Some (Defines 98 (letter_by 3)))
+
+a-read : judge no_meaning 0 a_line ≡ Ok (Some (Defines 97 (letter_by 1)))
+unfolding judge judge_line line_gives opcode_named entry_at characters_in entry_verdict
+a-read = refl
+
+b-read : judge (with_given no_meaning (Some (Defines 97 (letter_by 1)))) 1 b_line ≡ Ok (Some (Defines 98 (letter_by 3)))
+unfolding judge judge_line line_gives opcode_named entry_at characters_in entry_verdict
+b-read = refl
+
+ab-lines : map chars (lines_of ab_text) ≡ a_line ∷ b_line ∷ []
+unfolding chars
+ab-lines = refl
+
+ab-is-text : IsUtf8 ab_text
+unfolding encode
+ab-is-text = (ab_text, (refl, refl))
+
+ab-means : Means ab_text ab_meaning
+ab-means =
+    let lines : List (List ℕ) = a_line ∷ b_line ∷ [] in
+    let none = Reached-none lines no_meaning [] refl refl in
+    let one = Reached-more lines [] (b_line ∷ []) a_line no_meaning [] none (Some (Defines 97 (letter_by 1))) (with_given no_meaning (Some (Defines 97 (letter_by 1)))) [] a-read refl refl in
+    let both = Reached-more lines (a_line ∷ []) [] b_line _ [] one (Some (Defines 98 (letter_by 3))) ab_meaning [] b-read refl refl in
+    let mean : LinesMean lines ab_meaning = record { all = []; gives = Reached-all lines lines ab_meaning [] both; complete = refl; rules = refl } in
+    LinesMean-Means ab_text ab_text ab-is-text refl ab_meaning (subst (λ (ls : List (List ℕ)). LinesMean ls ab_meaning) (sym ab-lines) mean)
+
 -- `c`, corrected to `a` and given the table `ab`: an undo is judged by that table, for the print `c`
 abbrev retabled_book : Book
 retabled_book = record {
   version = 5;
-  tables = [];
+  tables = (97 ∷ 98 ∷ [], ab_text) ∷ [];
   paragraphs = record { id = 1; table = 97 ∷ 98 ∷ []; original = 99 ∷ []; history = Corrects (put 0 1 (97 ∷ [])) [] ∷ []; style = Body; begins_volume = false; struck = false } ∷ [];
   marks = [];
 }
 
 by-the-table-of-now : print_to_translate retabled_book (Undo 1) ≡ Some (99 ∷ [], 97 ∷ 98 ∷ [])
 by-the-table-of-now = refl
+
+-- so it is refused: the first character of that print has no definition there
+abbrev kept_c : KeptParagraph
+kept_c = record {
+  table = 97 ∷ 98 ∷ [];
+  original = 99 ∷ [];
+  history = kept.Corrects (record { start = 0; taken = 99 ∷ []; text = 97 ∷ []; who = [] }) ∷ [];
+  style = Body;
+  begins_volume = false;
+  struck = false;
+  print = 97 ∷ [];
+  cells = 1 ∷ [];
+  marks = [];
+}
+
+undo-not-defined : IsRefused retabled_book None (Undo 1) (Undefined 0)
+undo-not-defined =
+    let book = retabled_book in
+    let p : Paragraph = paragraph_kept (1, kept_c) in
+    let fit = to_turn book (Undo 1) 70 100 refl (past_fit book (Undo 1) 1 refl refl refl (passes_to book (Undo 1) 30 refl) p refl refl) in
+    let passes = Passes-nothing_to_undo book None (Undo 1) fit
+    (λ n. let same : p ≡ n.paragraph = same_some p n.paragraph n.found in let none : newest p.history ≡ None = ap (λ (q : Paragraph). newest q.history) same ∙ n.none in cc) in
+    let first : IsFirstUndefined ab_meaning (99 ∷ []) 0 = record { within = lit< tt; undefined = refl; before = λ i lt. absurd (omega arith) } in
+    first-told book (Undo 1) (Undefined 0) (λ same. cc)
+    (halted book (Undo 1) 1 p refl kept_c refl (99 ∷ []) ab_text ab_meaning refl ab-means refl refl refl (λ l. let given = l.given in cc) (λ l. let given = l.given in cc) passes refl refl refl refl refl (Undefined 0)
+    (inr (inr (inr (inl (0, refl, lit≤ tt, lit< tt, lit< tt, first))))))

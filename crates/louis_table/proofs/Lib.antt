@@ -5,7 +5,7 @@ mod CharacterLaws
 mod OperandLaws
 mod EntryLaws
 mod VerdictLaws
-mod ReadingLaws
+pub mod ReadingLaws
 mod RuleLaws
 pub mod OneMeaning
 mod StepLaws
