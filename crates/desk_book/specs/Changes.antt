@@ -120,8 +120,8 @@ pub record IsEffect (book : Book) (version : ℕ) (effect : Effect) (next : Book
   pub at : version ≡ next.version
   pub does : Does book command next effect
 
--- a change as its callers see it: the version that it gives its book, and the number that the command answers. What it does
--- is named here alone, so that nothing that is said of a change depends on it
+-- a change as its callers see it: the version that it gives its book, and the number that the command answers. What it
+-- does is named here alone, so that nothing that is said of a change depends on it
 pub record Change : Type 0 where
   pub version : ℕ
   pub number : Option ℕ
@@ -139,7 +139,8 @@ change_code effects =
 pub change_by : (version : ℕ) (number : Option ℕ) → Effect → Change
 change_by version number effect = record { version = version; number = number; effect = effect }
 
-pub number-change_by : (version : ℕ) (number : Option ℕ) (effect : Effect) → (change_by version number effect).number ≡ number
+pub number-change_by : (version : ℕ) (number : Option ℕ) (effect : Effect)
+    → (change_by version number effect).number ≡ number
 unfolding change_by
 number-change_by version number effect = refl
 
@@ -152,7 +153,8 @@ pub record Carries (book : Book) (command : Command) (next : Book) (change : Cha
   pub number : change.number ≡ number_of book command
   does : Does book command next change.effect
 
-pub Carries-change_by : (book : Book) (command : Command) (next : Book) (version : ℕ) (number : Option ℕ) (effect : Effect)
+pub Carries-change_by : (book : Book) (command : Command) (next : Book)
+    → (version : ℕ) (number : Option ℕ) (effect : Effect)
     → IsAccepted book None command → HasCharacters command → Makes book command next
     → version ≡ next.version → number ≡ number_of book command → Does book command next effect
     → Carries book command next (change_by version number effect)
@@ -167,7 +169,8 @@ Carries-change_by book command next version number effect accepted written makes
 }
 
 -- what a change carries is made by its effect
-pub IsEffect-change_by : (book : Book) (command : Command) (next : Book) (version : ℕ) (number : Option ℕ) (effect : Effect)
+pub IsEffect-change_by : (book : Book) (command : Command) (next : Book)
+    → (version : ℕ) (number : Option ℕ) (effect : Effect)
     → Carries book command next (change_by version number effect) → IsEffect book version effect next
 unfolding change_by
 IsEffect-change_by book command next version number effect carries = record {

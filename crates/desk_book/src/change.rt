@@ -111,8 +111,8 @@ pub(crate) enum Effect {
     },
 }
 
-/// What an accepted command changes in the book on which it was planned. Contracts see the version that it gives the book and
-/// the number that the command answers, and that it carries the command out.
+/// What an accepted command changes in the book on which it was planned. Contracts see the version that it gives the book
+/// and the number that the command answers, and that it carries the command out.
 #[derive(Drop)]
 pub struct Change {
     /// The book's new version.

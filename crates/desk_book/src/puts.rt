@@ -434,7 +434,8 @@ fn resolved<'a>(id: u64) -> Put<'a>
 /// The style and flags of a paragraph.
 fn flags<'a>(id: u64, style: Style, begins_volume: bool, struck: bool) -> Put<'a>
     ensures { put_of result
-        ≡ SetFlags (row_number id) (style_number style) (flag_number begins_volume) (flag_number struck) }
+        ≡ SetFlags (row_number id) (style_number style)
+        (flag_number begins_volume) (flag_number struck) }
 {
     Put::Flags {
         id: number(id),
