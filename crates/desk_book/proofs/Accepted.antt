@@ -10,10 +10,10 @@ use Rattle.desk_book.specs.declared.command.Command.{Command}
 use Rattle.desk_book.specs.declared.refusal.Limit.TheVariants.{Tables, Paragraphs, Entries, Marks, Version}
 use Rattle.desk_book.specs.declared.refusal.Refusal.TheVariants.{BadName, BadReader, BadText, NoParagraph, NoTable, TooLong, Full, BadTable, Undefined, Untranslatable}
 use Rattle.desk_book.specs.Book.{Book, Paragraph, text_of, paragraph_of}
-use Rattle.desk_book.specs.Limits.{most_entries, most_marks, most_note, most_reader, most_version, most_tables, most_name, most_paragraphs, most_print}
-use Rattle.desk_book.specs.Name.{IsReaderName, IsTableName, is_name_character, is_reader_character}
+use Rattle.desk_book.specs.Limits.{most_entries, most_marks, most_note, most_proofreader, most_version, most_tables, most_name, most_paragraphs, most_print}
+use Rattle.desk_book.specs.Name.{IsProofreaderName, IsTableName, is_name_character, is_proofreader_character}
 use Rattle.desk_book.specs.Stored.{IsUnbarred, is_barred}
-use Rattle.desk_book.specs.Refusals.{history_grown, note_given, reader_given, text_given, IsAccepted, table_given, adds_paragraph, paragraphs_named, table_named, new_print, print_to_translate}
+use Rattle.desk_book.specs.Refusals.{history_grown, note_given, proofreader_given, text_given, IsAccepted, table_given, adds_paragraph, paragraphs_named, table_named, new_print, print_to_translate}
 use Rattle.desk_book.proofs.TextTests.{IsFirstBarred-position, IsUnbarred-position}
 use Rattle.desk_book.proofs.FirstUndefined.{DefinesUser, defined_or_first, all_or_first_user}
 
@@ -31,14 +31,14 @@ IsTableName-stable name twice = record {
   characters = λ k d within. true_from_ne_false (is_name_character (get_or name k d)) (λ e. twice (λ named. both_ways (is_name_character (get_or name k d)) e (named.characters k d within)));
 }
 
--- nor is a name of a reader that isn't none
-pub IsReaderName-stable : (name : List ℕ) → ¬ (¬ IsReaderName name) → IsReaderName name
-IsReaderName-stable name twice = record {
-  short = elim (cases_lt most_reader (length name)) [
+-- nor is a name of a proofreader that isn't none
+pub IsProofreaderName-stable : (name : List ℕ) → ¬ (¬ IsProofreaderName name) → IsProofreaderName name
+IsProofreaderName-stable name twice = record {
+  short = elim (cases_lt most_proofreader (length name)) [
     | inl h ↦ absurd (twice (λ named. let short = named.short in omega arith))
     | inr h ↦ h
   ];
-  characters = λ k d within. true_from_ne_false (is_reader_character (get_or name k d)) (λ e. twice (λ named. both_ways (is_reader_character (get_or name k d)) e (named.characters k d within)));
+  characters = λ k d within. true_from_ne_false (is_proofreader_character (get_or name k d)) (λ e. twice (λ named. both_ways (is_proofreader_character (get_or name k d)) e (named.characters k d within)));
 }
 
 module _ (book : Book) (expect : Option ℕ) (command : Command) (accepted : IsAccepted book expect command) where
@@ -140,8 +140,8 @@ module _ (book : Book) (expect : Option ℕ) (command : Command) (accepted : IsA
       by None e = IsUnbarred-position text e
       by (Some place) e = absurd (accepted (BadText place) (record { text = text; given = given; first = IsFirstBarred-position text place e }))
 
-  pub given_reader : (name : List ℕ) → reader_given command ≡ Some name → IsReaderName name
-  given_reader name given = IsReaderName-stable name (λ bad. accepted BadReader (record { name = name; given = given; bad = bad }))
+  pub given_proofreader : (name : List ℕ) → proofreader_given command ≡ Some name → IsProofreaderName name
+  given_proofreader name given = IsProofreaderName-stable name (λ bad. accepted BadReader (record { name = name; given = given; bad = bad }))
 
   pub room_for_entry : (id : ℕ) (paragraph : Paragraph) → history_grown command ≡ Some id → paragraph_of book id ≡ Some paragraph → length paragraph.history < most_entries
   room_for_entry id paragraph grows found =

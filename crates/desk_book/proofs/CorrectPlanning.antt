@@ -17,7 +17,7 @@ use Rattle.desk_book.specs.Histories.{TookFrom, entry_kept}
 use Rattle.desk_book.specs.Judging.{Passes}
 use Rattle.desk_book.specs.Limits.{most_print}
 use Rattle.desk_book.specs.Marks.{mark_moved, mark_moved_by}
-use Rattle.desk_book.specs.Name.{IsReaderName}
+use Rattle.desk_book.specs.Name.{IsProofreaderName}
 use Rattle.desk_book.specs.Planned.{IsPlanned, IsTurnedDown}
 use Rattle.desk_book.specs.Print.{print_of, replaced, with_entry}
 use Rattle.desk_book.specs.Refusals.{HasLongNote}
@@ -37,16 +37,16 @@ module _ (book : Book) (id start count : ℕ) (text who : List ℕ) where
   abbrev r : Replacement
   r = replacement_by start count text
 
-  pub bad_reader : (told : Refusal) → (told ≡ BadReader) × (¬ IsReaderName who) → IsTurnedDown book command told
+  pub bad_reader : (told : Refusal) → (told ≡ BadReader) × (¬ IsProofreaderName who) → IsTurnedDown book command told
   bad_reader told (is, bad) = turned_down book command 15 BadReader told (passes_to book command 15 refl) refl (record { name = who; given = refl; bad = bad }) is
 
-  module _ (named : IsReaderName who) where
-    pub past_reader : Passes book None command 20
-    past_reader = Passes-bad_reader book None command (passes_to book command 15 refl) (λ b. b.bad (subst IsReaderName (same_some who b.name b.given) named))
+  module _ (named : IsProofreaderName who) where
+    pub past_proofreader : Passes book None command 20
+    past_proofreader = Passes-bad_reader book None command (passes_to book command 15 refl) (λ b. b.bad (subst IsProofreaderName (same_some who b.name b.given) named))
 
     module _ (unbarred : IsUnbarred text) where
       cleaned : Passes book None command 30
-      cleaned = past_text book command text past_reader refl unbarred
+      cleaned = past_text book command text past_proofreader refl unbarred
 
       pub unfit_here : (told : Refusal) → IsUnfit book id told → IsTurnedDown book command told
       unfit_here told = unfit book command id refl refl refl cleaned told

@@ -214,9 +214,9 @@ module _ (book : Book) (expect : Option ℕ) where
   long_turn command (inr (inl h)) = cc h.made
   long_turn command (inr (inr h)) = cc h.given
 
-  reader_turn : (command : Command) → IsBadReader command → is_turn command 15 ≡ true
-  reader_turn (Correct id start count text who) h = refl
-  reader_turn command h = cc h.given
+  proofreader_turn : (command : Command) → IsBadReader command → is_turn command 15 ≡ true
+  proofreader_turn (Correct id start count text who) h = refl
+  proofreader_turn command h = cc h.given
 
   mark_turn : (command : Command) → LacksMark book command → is_turn command 50 ≡ true
   mark_turn (Resolve id) h = refl
@@ -278,7 +278,7 @@ module _ (book : Book) (expect : Option ℕ) where
   holds_turn : (command : Command) (other : Refusal) → Holds book expect command other → is_turn command (turn other) ≡ true
   holds_turn command (Moved version) h = first_turn command
   holds_turn command BadName h = name_turn command h
-  holds_turn command BadReader h = reader_turn command h
+  holds_turn command BadReader h = proofreader_turn command h
   holds_turn command (BadText place) h = text_turn command place h
   holds_turn command NoParagraph h = paragraph_turn command h
   holds_turn command NoTable h = table_turn command h

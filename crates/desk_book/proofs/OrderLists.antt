@@ -9,7 +9,7 @@ use Rattle.desk_book.specs.declared.command.Anchor.TheVariants.{Front, End, Para
 use Rattle.desk_book.specs.Book.{Book, Paragraph, paragraph_of}
 use Rattle.desk_book.specs.Kept.{KeptParagraphs, ids, paragraph_kept, with_id, with_id_moved}
 use Rattle.desk_book.proofs.ParagraphLists.{ids_of}
-use Rattle.desk_book.specs.Step.{is_behind, with_move, with_paragraph, without_paragraph}
+use Rattle.desk_book.specs.Step.{is_after, with_move, with_paragraph, without_paragraph}
 
 pub ids_of-kept : (kept : KeptParagraphs) → ids_of (map paragraph_kept kept) ≡ ids kept
 ids_of-kept [] = refl
@@ -38,7 +38,7 @@ ids_of-without id (p ∷ ps) =
 
 pub ids_of-with_move : (book : Book) (id : ℕ) (anchor : Anchor) (p : Paragraph) → paragraph_of book id ≡ Some p → p.id ≡ id → ids_of (with_move id anchor book) ≡ with_id_moved anchor id (ids_of book.paragraphs)
 ids_of-with_move book id anchor p found same =
-    elim (cases_Bool (is_behind id anchor)) [
+    elim (cases_Bool (is_after id anchor)) [
       | inl e ↦ rw e refl
       | inr e ↦ rw (e, found)
           (ids_of-with_paragraph anchor p (without_paragraph id book.paragraphs)

@@ -13,7 +13,7 @@ use Rattle.desk_book.specs.declared.command.Anchor.{Anchor}
 use Rattle.desk_book.specs.declared.command.Anchor.TheVariants.{Front, End, Para}
 use Rattle.desk_book.specs.Book.{Book, Paragraph, paragraph_of}
 use Rattle.desk_book.specs.Refusals.{paragraph_before}
-use Rattle.desk_book.specs.Step.{with_paragraph, without_paragraph, with_change, is_behind, with_move}
+use Rattle.desk_book.specs.Step.{with_paragraph, without_paragraph, with_change, is_after, with_move}
 use Rattle.desk_book.proofs.Members.{Contains-here, Contains-behind, Contains-cases, Contains-none, Contains-map, find-passes, Contains-find, find-map}
 
 -- ---- the ids
@@ -214,7 +214,7 @@ module _ (anchor : Anchor) (new : Paragraph) (ps : List Paragraph) (apart : AreA
 -- ---- a paragraph moved
 
 -- what a paragraph is to stand behind is among the others
-behind_others : (id : ℕ) (anchor : Anchor) (p : Paragraph) (ps : List Paragraph) → AreApart ps → found id ps ≡ Some p → is_behind id anchor ≡ false
+behind_others : (id : ℕ) (anchor : Anchor) (p : Paragraph) (ps : List Paragraph) → AreApart ps → found id ps ≡ Some p → is_after id anchor ≡ false
     → ((other : ℕ) → Contains (paragraph_before anchor) other → (q : Paragraph) × (found other ps ≡ Some q))
     → (other : ℕ) → Contains (paragraph_before anchor) other → Contains (ids_of (without_paragraph id ps)) other
 behind_others id Front p ps apart e elsewhere there other c = absurd (Contains-none other c)
@@ -240,11 +240,11 @@ IsPermutation-with_move book id anchor p apart e there =
     let others : List Paragraph = without_paragraph id ps in
     let put : Paragraph → List Paragraph = λ q. with_paragraph anchor q others in
     let out = IsPermutation-without_paragraph id p ps apart e in
-    elim (cases_Bool (is_behind id anchor)) [
-      | inl same ↦ subst (IsPermutation ps) (sym (cond-true (is_behind id anchor) ps (option_map_or put (paragraph_of book id) ps) same)) (IsPermutation-refl ps)
+    elim (cases_Bool (is_after id anchor)) [
+      | inl same ↦ subst (IsPermutation ps) (sym (cond-true (is_after id anchor) ps (option_map_or put (paragraph_of book id) ps) same)) (IsPermutation-refl ps)
       | inr elsewhere ↦
           let at : with_move id anchor book ≡ put p =
-          cond-false (is_behind id anchor) ps (option_map_or put (paragraph_of book id) ps) elsewhere ∙ ap (λ (x : Option Paragraph). option_map_or put x ps) e in
+          cond-false (is_after id anchor) ps (option_map_or put (paragraph_of book id) ps) elsewhere ∙ ap (λ (x : Option Paragraph). option_map_or put x ps) e in
           subst (IsPermutation ps) (sym at)
           (IsPermutation-trans ps (p ∷ others) (put p) out
           (IsPermutation-with_paragraph anchor p others (AreApart-rest p others (AreApart-permutation ps (p ∷ others) out apart)) (behind_others id anchor p ps apart e elsewhere there)))

@@ -14,11 +14,11 @@ use Rattle.desk_book.specs.declared.command.Command.TheVariants.{Correct, Undo, 
 use Rattle.desk_book.specs.declared.refusal.Limit.{Limit}
 use Rattle.desk_book.specs.declared.refusal.Limit.TheVariants.{Tables, Paragraphs, Entries, Marks, Version}
 use Rattle.desk_book.specs.Book.{Book, Mark as BookMark, Paragraph, mark_of, paragraph_of, text_of}
-use Rattle.desk_book.specs.Limits.{most_entries, most_marks, most_name, most_note, most_paragraphs, most_print, most_reader, most_tables, most_version}
-use Rattle.desk_book.specs.Name.{IsReaderName, IsTableName, is_name_character, is_reader_character}
+use Rattle.desk_book.specs.Limits.{most_entries, most_marks, most_name, most_note, most_paragraphs, most_print, most_proofreader, most_tables, most_version}
+use Rattle.desk_book.specs.Name.{IsProofreaderName, IsTableName, is_name_character, is_proofreader_character}
 use Rattle.desk_book.specs.Planned.{DefinesUser}
 use Rattle.desk_book.specs.Print.{newest, print_of}
-use Rattle.desk_book.specs.Refusals.{HasLongNote, HasLongPrint, HasLongText, HasNothingToUndo, IsBadName, IsBadReader, IsBadSpan, IsBadTable, IsBadText, IsFull, IsMoved, IsNotStruck, IsPastPrint, IsResolved, IsStruck, IsUndefined, IsUntranslatable, LacksMark, LacksParagraph, LacksTable, adds_paragraph, history_grown, live_paragraph, mark_named, new_print, note_given, paragraphs_named, print_to_translate, reader_given, struck_paragraph, table_given, table_named, text_given, text_stored}
+use Rattle.desk_book.specs.Refusals.{HasLongNote, HasLongPrint, HasLongText, HasNothingToUndo, IsBadName, IsBadReader, IsBadSpan, IsBadTable, IsBadText, IsFull, IsMoved, IsNotStruck, IsPastPrint, IsResolved, IsStruck, IsUndefined, IsUntranslatable, LacksMark, LacksParagraph, LacksTable, adds_paragraph, history_grown, live_paragraph, mark_named, new_print, note_given, paragraphs_named, print_to_translate, proofreader_given, struck_paragraph, table_given, table_named, text_given, text_stored}
 use Rattle.desk_book.specs.Stored.{IsFirstBarred, is_barred}
 use Rattle.desk_book.specs.Translated.{LacksCells}
 use Rattle.desk_book.proofs.FirstUndefined.{all_or_first_user, defined_or_first}
@@ -35,10 +35,10 @@ table_name name =
     implied (λ h. record { nonempty = h.0.0; short = h.0.1; characters = h.1 }) (λ h. ((h.nonempty, h.short), h.characters))
     (both (both (below 0 (length name)) (at_most (length name) most_name)) (all (λ c. is_name_character c ≡ true) (λ c. is_so (is_name_character c)) name))
 
-reader_name : (name : List ℕ) → Decided (IsReaderName name)
-reader_name name =
+proofreader_name : (name : List ℕ) → Decided (IsProofreaderName name)
+proofreader_name name =
     implied (λ h. record { short = h.0; characters = h.1 }) (λ h. (h.short, h.characters))
-    (both (at_most (length name) most_reader) (all (λ c. is_reader_character c ≡ true) (λ c. is_so (is_reader_character c)) name))
+    (both (at_most (length name) most_proofreader) (all (λ c. is_proofreader_character c ≡ true) (λ c. is_so (is_proofreader_character c)) name))
 
 -- ---- by a paragraph of the book
 
@@ -111,7 +111,7 @@ module _ (book : Book) (command : Command) where
   pub bad_reader : Decided (IsBadReader command)
   bad_reader =
       implied (λ h. record { name = h.0; given = h.1; bad = h.2 }) (λ h. (h.name, h.given, h.bad))
-      (given (λ name. ¬ IsReaderName name) (λ name. not (reader_name name)) (reader_given command))
+      (given (λ name. ¬ IsProofreaderName name) (λ name. not (proofreader_name name)) (proofreader_given command))
 
   lacks_one : (ids : List ℕ) → Decided ((id : ℕ) × Contains ids id × (paragraph_of book id ≡ None))
   lacks_one [] = inr (λ h. Contains-none h.0 h.1)

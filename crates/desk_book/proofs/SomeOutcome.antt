@@ -55,8 +55,8 @@ module _ (book : Book) (expect : Option ℕ) (command : Command) where
   to_lookups =
       let moved : Judged 10 = turned_by 0 (Passes book expect command 10) Moved (λ v. refl) (moved_or book command expect) (λ p none. Passes-moved book expect command none) (inr (Passes-start book expect command)) in
       let named : Judged 15 = turned 10 15 BadName refl (bad_name book command) (Passes-bad_name book expect command) moved in
-      let reader : Judged 20 = turned 15 20 BadReader refl (bad_reader book command) (Passes-bad_reader book expect command) named in
-      let text : Judged 30 = turned_by 20 (Passes book expect command 30) BadText (λ place. refl) (bad_text book command) (Passes-bad_text book expect command) reader in
+      let proofreader : Judged 20 = turned 15 20 BadReader refl (bad_reader book command) (Passes-bad_reader book expect command) named in
+      let text : Judged 30 = turned_by 20 (Passes book expect command 30) BadText (λ place. refl) (bad_text book command) (Passes-bad_text book expect command) proofreader in
       let paragraph : Judged 40 = turned 30 40 NoParagraph refl (lacks_paragraph book command) (Passes-no_paragraph book expect command) text in
       let table : Judged 50 = turned 40 50 NoTable refl (lacks_table book command) (Passes-no_table book expect command) paragraph in
       turned 50 60 NoMark refl (lacks_mark book command) (Passes-no_mark book expect command) table

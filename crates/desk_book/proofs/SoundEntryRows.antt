@@ -23,7 +23,7 @@ use Rattle.desk_book.specs.Book.{Entry, Corrects, Undoes, Book, Paragraph}
 use Rattle.desk_book.specs.Damage.{HasPara, HasSoundEntries, IsDamaged, IsDamagedCache, IsDamagedEntries, IsSoundCacheRow, IsSoundCorrection, IsSoundEntryRow, IsSoundUndo, entry_of, history_of, rows_with}
 use Rattle.desk_book.specs.FileRows.{FileRows, HasEntryTexts, entries_in, spelled_entry, spelled_para}
 use Rattle.desk_book.specs.Limits.{most_print}
-use Rattle.desk_book.specs.Name.{IsReaderName}
+use Rattle.desk_book.specs.Name.{IsProofreaderName}
 use Rattle.desk_book.specs.Print.{corrected}
 use Rattle.desk_book.specs.Rows.{Cached, NamedCorr, Para}
 use Rattle.desk_book.specs.Shows.{AreCached, IsCached, Shows, entry_row_of, entry_rows_of, para_of}
@@ -137,7 +137,7 @@ fits original before id n (Corrects r who) row sound is texts =
       len = subst (λ z. pos 0 ≤ℤ z) len (pos_le 0 r.count (omega arith));
       span = subst (λ z. z ≤ℤ pos (length (corrected original before))) (ap₂ (λ (a b : ℤ). a +ℤ b) start len) (pos_le (r.start + r.count) (length (corrected original before)) sound.0);
       text = subst IsUnbarred (ap (λ (e : NamedCorr). e.entry.body) is) sound.1.unbarred;
-      who = subst IsReaderName (ap (λ (e : NamedCorr). e.who) is) sound.2;
+      who = subst IsProofreaderName (ap (λ (e : NamedCorr). e.who) is) sound.2;
     })
 fits original before id n (Undoes undone) row sound is texts =
     inr (record {

@@ -35,7 +35,7 @@ use Rattle.desk_book.specs.Limits.{most_tables, most_print}
 use Rattle.desk_book.specs.Sound.{IsSoundHistory, IsSoundTable, IsSoundParagraph, IsSoundMark, IsSound}
 use Rattle.desk_book.specs.Step.{typed, with_change, with_paragraph, with_move, next_id, IsNewest, new_mark, next_mark, next_with_entry, next_with_marks, next_with_paragraphs, next_with_tables, replacement_by, HasCharacters, Makes}
 use Rattle.desk_book.specs.Stored.{is_barred, AreCharacters, IsClean, IsUnbarred, stored}
-use Rattle.desk_book.proofs.Accepted.{given_reader, given_unbarred, room_for_entry, room_for_mark, short_note, room_for_version, named_paragraph, named_table, shown_defined, short_print, room_for_paragraph, given_name, given_meaning, room_for_table, users_defined}
+use Rattle.desk_book.proofs.Accepted.{given_proofreader, given_unbarred, room_for_entry, room_for_mark, short_note, room_for_version, named_paragraph, named_table, shown_defined, short_print, room_for_paragraph, given_name, given_meaning, room_for_table, users_defined}
 use Rattle.desk_book.proofs.FirstUndefined.{DefinesUser}
 use Rattle.desk_book.proofs.Members.{Contains-here, Contains-behind, Contains-map}
 use Rattle.desk_book.proofs.SoundParagraphs.{KeepsText, IsSoundMark-kept, IsSound-changed, IsSound-kept_text, IsSound-reordered, IsSound-with_paragraph}
@@ -185,7 +185,7 @@ sound_correct book expect id start count text who sound accepted written =
     let clean : IsClean (stored text) = record { characters = written.0; unbarred = IsUnbarred-stored text } in
     let long : length (print_of (with_entry (Corrects r who) p)) + count ≡ length (print_of p) + length (stored text) = ap (λ (t : List ℕ). length t + count) print ∙ length-replaced (print_of p) r span in
     IsSound-with_entry book id (Corrects r who) (mark_moved r) p sound (room_for_version book expect command accepted) named.1
-    (IsSoundParagraph-entry book p (Corrects r who) s (span, clean, given_reader book expect command accepted who refl, written.1) (room_for_entry book expect command accepted id p refl named.1)
+    (IsSoundParagraph-entry book p (Corrects r who) s (span, clean, given_proofreader book expect command accepted who refl, written.1) (room_for_entry book expect command accepted id p refl named.1)
     (subst (λ (t : List ℕ). length t ≤ most_print) (sym print) short) (subst (AreDefined s.meaning) (sym print) defined))
     (MovesTo-mark_moved_by start count (length (stored text)) (length (print_of p)) (length (print_of (with_entry (Corrects r who) p))) span (sym long))
 

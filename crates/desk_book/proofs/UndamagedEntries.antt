@@ -14,7 +14,7 @@ use Rattle.desk_book.specs.Damage.{HasPara, HasSoundEntries, IsDamagedEntries, I
 use Rattle.desk_book.specs.Limits.{most_entries, most_print}
 use Rattle.desk_book.specs.Print.{corrected, newest}
 use Rattle.desk_book.specs.Rows.{NamedCorr, Para}
-use Rattle.desk_book.proofs.Accepted.{IsReaderName-stable}
+use Rattle.desk_book.proofs.Accepted.{IsProofreaderName-stable}
 use Rattle.desk_book.proofs.Decisions.{at_most, below, given}
 use Rattle.desk_book.proofs.NumberedRows.{AreOnce, AreUpTo, in_order, once-keys, pigeonholes}
 use Rattle.desk_book.proofs.OneBook.{number, range_sorted, sorted_same}
@@ -30,7 +30,7 @@ correction-stable print row twice = record {
   len = stable_from (is_le (pos 0) row.entry.len) (λ (s : IsSoundCorrection print row). s.len) twice;
   span = stable_from (is_le (row.entry.start +ℤ row.entry.len) (pos (length print))) (λ (s : IsSoundCorrection print row). s.span) twice;
   text = stable_from (is_unbarred (chars row.entry.body)) (λ (s : IsSoundCorrection print row). s.text) twice;
-  who = IsReaderName-stable (chars row.who) (lifted (λ (s : IsSoundCorrection print row). s.who) twice);
+  who = IsProofreaderName-stable (chars row.who) (lifted (λ (s : IsSoundCorrection print row). s.who) twice);
 }
 
 undo-stable : (before : List Entry) (row : NamedCorr) → ¬ ¬ IsSoundUndo before row → IsSoundUndo before row

@@ -27,12 +27,12 @@ use Rattle.desk_book.specs.Print.{corrected, newest, stack}
 use Rattle.desk_book.specs.Marks.{mark_moved, mark_moved_back}
 use Rattle.desk_book.specs.Judging.{Passes}
 use Rattle.desk_book.specs.Kept.{paragraph_kept}
-use Rattle.desk_book.specs.Name.{IsReaderName, is_reader_character}
+use Rattle.desk_book.specs.Name.{IsProofreaderName, is_proofreader_character}
 use Rattle.desk_book.specs.Planned.{IsTurnedDown}
 use Rattle.desk_book.specs.Refusals.{IsRefused, code_of, print_to_translate, turn}
 use Rattle.desk_book.specs.Step.{Makes, number_of}
 use Rattle.desk_book.specs.Stored.{IsUnbarred, is_barred}
-use Rattle.desk_book.proofs.CorrectPlanning.{past_reader}
+use Rattle.desk_book.proofs.CorrectPlanning.{past_proofreader}
 use Rattle.desk_book.proofs.EntryPlanning.{AreThere-one, halted, past_fit, unfit}
 use Rattle.desk_book.proofs.Expecting.{moved}
 use Rattle.desk_book.proofs.Judging.{IsRefused-passes, Passes-nothing_to_undo}
@@ -159,9 +159,9 @@ numbers-of-entries = refl
 -- a replacement by `x`, without a name, is judged by what its paragraph is
 x-passes : (book : Book) (id start count : ℕ) → Passes book None (Correct id start count (120 ∷ []) []) 30
 x-passes book id start count =
-    let named : IsReaderName [] = record { short = lit≤ tt; characters = All-nil (λ character. is_reader_character character ≡ true) } in
+    let named : IsProofreaderName [] = record { short = lit≤ tt; characters = All-nil (λ character. is_proofreader_character character ≡ true) } in
     let unbarred : IsUnbarred (120 ∷ []) = All-cons (λ character. is_barred character ≡ false) 120 [] refl (All-nil (λ character. is_barred character ≡ false)) in
-    past_text book (Correct id start count (120 ∷ []) []) (120 ∷ []) (past_reader book id start count (120 ∷ []) [] named) refl unbarred
+    past_text book (Correct id start count (120 ∷ []) []) (120 ∷ []) (past_proofreader book id start count (120 ∷ []) [] named) refl unbarred
 
 -- a replacement of the ninth character of seven, an expected version 9 at version 4, and an undo where no correction is in
 -- force

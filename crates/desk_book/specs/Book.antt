@@ -11,8 +11,8 @@ pub record Replacement : Type 0 where
   pub count : ℕ
   pub text : List ℕ
 
--- an entry of a paragraph's history: a correction, with the name of its reader, which may be empty, or the undo of the
--- correction with this number
+-- an entry of a paragraph's history: a correction, with the name of its proofreader, which may be empty, or the undo of
+-- the correction with this number
 pub data Entry : Type 0 where
   Corrects : Replacement → List ℕ → Entry
   Undoes : ℕ → Entry

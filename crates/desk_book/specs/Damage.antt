@@ -19,7 +19,7 @@ use Rattle.desk_book.specs.declared.rows.BookRow.{BookRow}
 use Rattle.desk_book.specs.Book.{Entry, Corrects, Undoes}
 use Rattle.desk_book.specs.FileRows.{FileRows, entries_in, format_of, table_of}
 use Rattle.desk_book.specs.Limits.{most_entries, most_marks, most_note, most_paragraphs, most_print, most_tables, most_version}
-use Rattle.desk_book.specs.Name.{IsReaderName, IsTableName}
+use Rattle.desk_book.specs.Name.{IsProofreaderName, IsTableName}
 use Rattle.desk_book.specs.Print.{corrected, newest}
 use Rattle.desk_book.specs.Rows.{Tab as TabRow, Para as ParaRow, NamedCorr as EntryRow, Mark as MarkRow, Cached as CacheRow}
 use Rattle.desk_book.specs.Stored.{IsUnbarred}
@@ -127,7 +127,7 @@ pub record IsSoundCorrection (print : List ℕ) (row : EntryRow) : Type 0 where
   pub len : pos 0 ≤ℤ row.entry.len
   pub span : (row.entry.start +ℤ row.entry.len) ≤ℤ pos (length print)
   pub text : IsUnbarred (chars row.entry.body)
-  pub who : IsReaderName (chars row.who)
+  pub who : IsProofreaderName (chars row.who)
 
 -- an undo of the newest correction that these entries leave in force
 pub record IsSoundUndo (before : List Entry) (row : EntryRow) : Type 0 where

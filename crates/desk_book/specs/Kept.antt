@@ -23,7 +23,7 @@ use Rattle.desk_book.specs.KeptMarks.{indexes_on}
 use Rattle.desk_book.specs.Limits.{most_paragraphs}
 use Rattle.desk_book.specs.Print.{print_of}
 use Rattle.desk_book.specs.Sound.{IsSound}
-use Rattle.desk_book.specs.Step.{is_behind}
+use Rattle.desk_book.specs.Step.{is_after}
 
 -- tables by name, in the order of the names
 abbrev pub KeptTables : Type 0
@@ -59,9 +59,9 @@ with_id Front new order = new ∷ order
 with_id End new order = order ++ new ∷ []
 with_id (Para id) new order = flat_map (λ other. if other == id then other ∷ new ∷ [] else other ∷ []) order
 
--- the order with one id taken out and put elsewhere; behind itself it stays
+-- the order with one id taken out and put elsewhere; after itself it stays
 abbrev pub with_id_moved : Anchor → ℕ → List ℕ → List ℕ
-with_id_moved anchor id order = if is_behind id anchor then order else with_id anchor id (filter (λ other. not (other == id)) order)
+with_id_moved anchor id order = if is_after id anchor then order else with_id anchor id (filter (λ other. not (other == id)) order)
 
 -- the paragraph's new cells, where it has any: by its id, from 1
 abbrev pub new_cells : List (Option (List ℕ)) → ℕ → Option (List ℕ)

@@ -1,6 +1,6 @@
 -- How much a book may hold: the numbers are the code's.
 use Rattle.std.specs.Prelude.{ℕ}
-use Rattle.desk_book.specs.declared.limits.TheConstants.{MOST_ENTRIES, MOST_MARKS, MOST_NAME, MOST_NOTE, MOST_PARAGRAPHS, MOST_PRINT, MOST_READER, MOST_TABLES, MOST_VERSION}
+use Rattle.desk_book.specs.declared.limits.TheConstants.{MOST_ENTRIES, MOST_MARKS, MOST_NAME, MOST_NOTE, MOST_PARAGRAPHS, MOST_PRINT, MOST_PROOFREADER, MOST_TABLES, MOST_VERSION}
 
 abbrev pub most_version : ℕ
 most_version = MOST_VERSION
@@ -31,6 +31,6 @@ most_marks = MOST_MARKS
 abbrev pub most_note : ℕ
 most_note = MOST_NOTE
 
--- characters of a reader's name
-abbrev pub most_reader : ℕ
-most_reader = MOST_READER
+-- characters of a proofreader's name
+abbrev pub most_proofreader : ℕ
+most_proofreader = MOST_PROOFREADER

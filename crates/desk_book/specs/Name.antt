@@ -1,7 +1,7 @@
--- The names of tables, and of readers.
+-- The names of tables, and of proofreaders.
 use Rattle.std.specs.Prelude.{◌≡◌, ℕ, ◌<◌, ◌≤◌, Bool, true, not, ◌||◌, ◌&&◌, ◌==◌, nat_le, List, length}
 use Rattle.std.specs.List.{All}
-use Rattle.desk_book.specs.Limits.{most_name, most_reader}
+use Rattle.desk_book.specs.Limits.{most_name, most_proofreader}
 use Rattle.desk_book.specs.Stored.{is_barred}
 
 -- a to z, 0 to 9, the low line or the hyphen
@@ -17,10 +17,10 @@ pub record IsTableName (name : List ℕ) : Type 0 where
   pub characters : All (λ character. is_name_character character ≡ true) name
 
 -- neither a blank nor a character that no text of a book may hold
-abbrev pub is_reader_character : ℕ → Bool
-is_reader_character character = not (character == 32) && not (is_barred character)
+abbrev pub is_proofreader_character : ℕ → Bool
+is_proofreader_character character = not (character == 32) && not (is_barred character)
 
--- such characters, no more than a reader's name may have; none where the reader isn't named
-pub record IsReaderName (name : List ℕ) : Type 0 where
-  pub short : length name ≤ most_reader
-  pub characters : All (λ character. is_reader_character character ≡ true) name
+-- such characters, no more than a proofreader's name may have; none where the proofreader isn't named
+pub record IsProofreaderName (name : List ℕ) : Type 0 where
+  pub short : length name ≤ most_proofreader
+  pub characters : All (λ character. is_proofreader_character character ≡ true) name

@@ -17,7 +17,7 @@ use Rattle.desk_book.specs.declared.refusal.Refusal.TheVariants.{Moved, BadName,
 use Rattle.desk_book.specs.Book.{Book, Paragraph, Mark as BookMark, text_of, paragraph_of, mark_of}
 use Rattle.desk_book.specs.Print.{newest, print_of, print_undone, replaced}
 use Rattle.desk_book.specs.Limits.{most_entries, most_marks, most_note, most_version, most_tables, most_paragraphs, most_print}
-use Rattle.desk_book.specs.Name.{IsReaderName, IsTableName}
+use Rattle.desk_book.specs.Name.{IsProofreaderName, IsTableName}
 use Rattle.desk_book.specs.Step.{replacement_by}
 use Rattle.desk_book.specs.Stored.{IsFirstBarred, stored}
 use Rattle.desk_book.specs.Translated.{LacksCells}
@@ -54,20 +54,20 @@ text_given (Volume id begins) = None
 text_given (Retable id table) = None
 text_given (Move id anchor) = None
 
--- the name of a reader that is given
-abbrev pub reader_given : Command → Option (List ℕ)
-reader_given (Table name text) = None
-reader_given (TypeIn anchor table text) = None
-reader_given (Correct id start count text who) = Some who
-reader_given (Undo id) = None
-reader_given (Mark id cell count note) = None
-reader_given (Resolve id) = None
-reader_given (Strike id) = None
-reader_given (Restore id) = None
-reader_given (Style id style) = None
-reader_given (Volume id begins) = None
-reader_given (Retable id table) = None
-reader_given (Move id anchor) = None
+-- the name of a proofreader that is given
+abbrev pub proofreader_given : Command → Option (List ℕ)
+proofreader_given (Table name text) = None
+proofreader_given (TypeIn anchor table text) = None
+proofreader_given (Correct id start count text who) = Some who
+proofreader_given (Undo id) = None
+proofreader_given (Mark id cell count note) = None
+proofreader_given (Resolve id) = None
+proofreader_given (Strike id) = None
+proofreader_given (Restore id) = None
+proofreader_given (Style id style) = None
+proofreader_given (Volume id begins) = None
+proofreader_given (Retable id table) = None
+proofreader_given (Move id anchor) = None
 
 -- a text that is typed or put in place of another, as it is stored
 abbrev pub text_stored : Command → Option (List ℕ)
@@ -144,7 +144,7 @@ adds_paragraph (Volume id begins) = false
 adds_paragraph (Retable id table) = false
 adds_paragraph (Move id anchor) = false
 
--- the paragraph that something is put behind
+-- the paragraph that something is put after
 abbrev pub paragraph_before : Anchor → List ℕ
 paragraph_before Front = []
 paragraph_before End = []
@@ -232,11 +232,11 @@ pub record IsBadText (command : Command) (place : ℕ) : Type 0 where
   pub given : text_given command ≡ Some text
   pub first : IsFirstBarred text place
 
--- the reader's name isn't one
+-- the proofreader's name isn't one
 pub record IsBadReader (command : Command) : Type 0 where
   pub name : List ℕ
-  pub given : reader_given command ≡ Some name
-  pub bad : ¬ IsReaderName name
+  pub given : proofreader_given command ≡ Some name
+  pub bad : ¬ IsProofreaderName name
 
 -- a paragraph that it names isn't there
 pub record LacksParagraph (book : Book) (command : Command) : Type 0 where

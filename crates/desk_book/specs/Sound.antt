@@ -11,15 +11,15 @@ use Rattle.desk_book.specs.Book.{Entry, Corrects, Undoes, Paragraph, Mark, Book,
 use Rattle.desk_book.specs.Print.{corrected, newest, print_of}
 use Rattle.desk_book.specs.Limits.{most_entries, most_marks, most_note, most_paragraphs, most_print, most_tables, most_version}
 use Rattle.desk_book.specs.Stored.{AreCharacters, IsClean}
-use Rattle.desk_book.specs.Name.{IsReaderName, IsTableName}
+use Rattle.desk_book.specs.Name.{IsProofreaderName, IsTableName}
 
 -- ---- histories
 
--- after the entries before it, a correction replaces characters that are there by a clean text, for a reader whose
+-- after the entries before it, a correction replaces characters that are there by a clean text, for a proofreader whose
 -- name is one, and an undo names the newest correction then in force
 abbrev pub IsSoundEntry : List ℕ → List Entry → Entry → Type 0
 IsSoundEntry original before (Corrects r who) =
-    (r.start + r.count ≤ length (corrected original before)) × IsClean r.text × IsReaderName who × AreCharacters who
+    (r.start + r.count ≤ length (corrected original before)) × IsClean r.text × IsProofreaderName who × AreCharacters who
 IsSoundEntry original before (Undoes n) = option_map (λ correction. correction.0) (newest before) ≡ Some n
 
 -- each entry is sound after those before it

@@ -43,16 +43,16 @@ typed id table text = record {
   struck = false;
 }
 
--- whether something is put behind the paragraph with this id
-abbrev pub is_behind : ℕ → Anchor → Bool
-is_behind id Front = false
-is_behind id End = false
-is_behind id (Para other) = other == id
+-- whether something is put after the paragraph with this id
+abbrev pub is_after : ℕ → Anchor → Bool
+is_after id Front = false
+is_after id End = false
+is_after id (Para other) = other == id
 
--- the paragraphs with the one with this id taken out and put elsewhere; behind itself it stays
+-- the paragraphs with the one with this id taken out and put elsewhere; after itself it stays
 abbrev pub with_move : ℕ → Anchor → Book → List Paragraph
 with_move id anchor book =
-    if is_behind id anchor then book.paragraphs
+    if is_after id anchor then book.paragraphs
     else option_map_or (λ paragraph. with_paragraph anchor paragraph (without_paragraph id book.paragraphs)) (paragraph_of book id) book.paragraphs
 
 -- the id of the next paragraph

@@ -42,8 +42,8 @@ pub enum Command {
         count: usize,
         /// What is put in their place; its Unicode normal form C is kept.
         text: Text,
-        /// The name of the reader who corrects: 0 to 40 characters, none of them a blank, a line feed, a carriage return or
-        /// U+0000.
+        /// The name of the proofreader who corrects: 0 to 40 characters, none of them a blank, a line feed, a carriage return
+        /// or U+0000.
         who: Text,
     },
     /// Takes back the newest correction of a paragraph that is in force. It is one more entry of the history, moves marks as the

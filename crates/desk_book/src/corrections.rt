@@ -1,7 +1,7 @@
 //! Corrections of prints, and what takes them back.
 ghost use Rattle.desk_book.specs.Corrected.{HaltsEntry, IsCorrection, IsEntered, IsUnfit, replaced_by};
 ghost use Rattle.desk_book.specs.Limits.{most_entries};
-ghost use Rattle.desk_book.specs.Name.{IsReaderName};
+ghost use Rattle.desk_book.specs.Name.{IsProofreaderName};
 ghost use Rattle.desk_book.specs.Planned.{IsPlanned, IsTurnedDown};
 ghost use Rattle.desk_book.specs.Shown.{IsShown};
 ghost use Rattle.std.specs.Prelude.{◌≡◌, ◌+◌, ◌<◌, ◌≤◌, false, IfErr, IfOk, OnOk, length};
@@ -15,18 +15,19 @@ use super::limits::MOST_ENTRIES;
 use super::paragraphs::Paragraph;
 use super::plan::{check_length, check_print, check_text, copy, text_of_print};
 use super::refusal::{Limit, Refusal};
-use super::stored::{count_of, is_reader_name, stored};
+use super::stored::{count_of, is_proofreader_name, stored};
 use super::text::Text;
 use louis_table::Characters;
 use louis_translate::RuleIndex;
 use std::alloc::{AllocError, Global};
 
-/// The name of a reader is one.
-fn check_reader(who: &Text) -> Result<(), Refusal>
-    ensures name { OnOk result (IsReaderName who.now) }
-    ensures bad { IfErr result (λ refusal. (refusal ≡ Refusal.BadReader) × ¬ IsReaderName who.now) }
+/// The name of a proofreader is one.
+fn check_proofreader(who: &Text) -> Result<(), Refusal>
+    ensures name { OnOk result (IsProofreaderName who.now) }
+    ensures bad { IfErr result (λ refusal.
+        (refusal ≡ Refusal.BadReader) × ¬ IsProofreaderName who.now) }
 {
-    if !is_reader_name(who.as_str()) {
+    if !is_proofreader_name(who.as_str()) {
         return Err(Refusal::BadReader);
     }
     Ok(())
@@ -175,7 +176,7 @@ impl Book {
         ensures planned { IfOk result (IsPlanned self.now (Command.Correct id start count text.now who.now)) }
         ensures refused { IfErr result (IsTurnedDown self.now (Command.Correct id start count text.now who.now)) }
     {
-        check_reader(who)?;
+        check_proofreader(who)?;
         check_text(text)?;
         let (paragraph, rules) = self.live(id)?;
         let old = paragraph.print.as_slice();

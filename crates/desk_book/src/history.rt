@@ -14,7 +14,7 @@ pub(crate) struct Correction {
     pub(crate) start: usize,
     /// The text that it put in, as it is stored.
     pub(crate) text: Text,
-    /// The name of its reader, which may be empty.
+    /// The name of its proofreader, which may be empty.
     pub(crate) who: Text,
     /// The characters that gave way to the text.
     pub(crate) taken: Characters,

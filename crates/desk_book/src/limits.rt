@@ -24,5 +24,5 @@ pub(crate) const MOST_MARKS: usize = 100_000;
 /// Characters of a note.
 pub(crate) const MOST_NOTE: usize = 500;
 
-/// Characters of a reader's name.
-pub(crate) const MOST_READER: usize = 40;
+/// Characters of a proofreader's name.
+pub(crate) const MOST_PROOFREADER: usize = 40;

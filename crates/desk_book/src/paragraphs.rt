@@ -3,7 +3,7 @@ ghost use Rattle.desk_book.specs.Kept.{arranged, ids, renewed, renewed_items, wi
 ghost use Rattle.desk_book.specs.KeptPrints.{HasRoomFor, HasRoomForMark, with_mark, with_print_changed};
 ghost use Rattle.desk_book.specs.Refusals.{paragraph_before};
 ghost use Rattle.desk_book.specs.Room.{Suffices};
-ghost use Rattle.desk_book.specs.Step.{is_behind};
+ghost use Rattle.desk_book.specs.Step.{is_after};
 ghost use Rattle.std.specs.List.{Contains, filter, insert, position, range_with_len};
 ghost use Rattle.std.specs.List.Sorted.{IsPermutation};
 ghost use Rattle.std.specs.Map.{lookup};
@@ -187,7 +187,7 @@ fn put_over(ids: &mut Items<u64>, new: &[u64])
 
 /// Whether a paragraph with this id would be put behind itself.
 fn stays_behind(id: u64, after: Anchor) -> bool
-    ensures { result ≡ is_behind id after }
+    ensures { result ≡ is_after id after }
 {
     match after {
         Anchor::Front | Anchor::End => false,
@@ -290,7 +290,7 @@ impl Paragraphs {
         }
     }
 
-    /// The order with a paragraph taken out and put where a command says; behind itself it stays.
+    /// The order with a paragraph taken out and put where a command says; after itself it stays.
     pub(crate) fn order_with_move(
         &self,
         alloc: Global,

@@ -161,9 +161,10 @@ impl Book {
     /// # Errors
     ///
     /// The first refusal that holds, in this order: another version than the expected one; a bad name of a table; a bad
-    /// name of a reader; a barred character; no such paragraph; no such table; no such mark; a paragraph that is struck;
-    /// one that isn't; a resolved mark; places that are not all there; nothing to undo; a text that is too long; a limit,
-    /// the one with the smallest number; a bad table; an undefined character; a paragraph that a table no longer defines.
+    /// name of a proofreader; a barred character; no such paragraph; no such table; no such mark; a paragraph that is
+    /// struck; one that isn't; a resolved mark; places that are not all there; nothing to undo; a text that is too long;
+    /// a limit, the one with the smallest number; a bad table; an undefined character; a paragraph that a table no longer
+    /// defines.
     ///
     /// `NoMemory` where an allocation was refused, in place of a refusal that is judged after that alone. Resolve, Strike,
     /// Restore, Style and Volume ask for no memory; Mark, Retable and Move only when nothing speaks against them any more;

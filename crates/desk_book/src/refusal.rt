@@ -47,8 +47,8 @@ pub enum Refusal {
     /// The name of a table has other characters than `a` to `z`, `0` to `9`, `_` and `-`, or not 1 to 32 of them.
     #[error("this is no name of a table")]
     BadName,
-    /// The name of a reader has over 40 characters, or a blank, a line feed, a carriage return or U+0000.
-    #[error("this is no name of a reader")]
+    /// The name of a proofreader has over 40 characters, or a blank, a line feed, a carriage return or U+0000.
+    #[error("this is no name of a proofreader")]
     BadReader,
     /// A text has a line feed, a carriage return or U+0000.
     #[error("the text has a barred character at place {place}")]

@@ -1,11 +1,11 @@
 //! Texts as a book keeps them, and the names of its tables.
-ghost use Rattle.desk_book.specs.Name.{IsReaderName, IsTableName, is_name_character, is_reader_character};
+ghost use Rattle.desk_book.specs.Name.{IsProofreaderName, IsTableName, is_name_character, is_proofreader_character};
 ghost use Rattle.desk_book.specs.Stored.{is_barred, stored};
 ghost use Rattle.std.specs.List.{filter, list_all, position};
 ghost use Rattle.std.specs.Prelude.{◌≡◌, ◌↔◌, IfOk, IsTrue, length, not};
 ghost use Rattle.std.specs.Str.{chars};
 
-use super::limits::{MOST_NAME, MOST_READER};
+use super::limits::{MOST_NAME, MOST_PROOFREADER};
 use std::alloc::{AllocError, Global};
 use unicode_normalization::slice::extend_nfc;
 
@@ -70,24 +70,24 @@ pub(crate) fn is_table_name(name: &str) -> bool
     0 < count && count <= MOST_NAME && has_name_characters(name)
 }
 
-/// Whether the name of a reader may hold the character: neither a blank nor one that no text of a book may hold.
-fn is_reader_character(character: char) -> bool
-    ensures { result ≡ is_reader_character character }
+/// Whether the name of a proofreader may hold the character: neither a blank nor one that no text of a book may hold.
+fn is_proofreader_character(character: char) -> bool
+    ensures { result ≡ is_proofreader_character character }
 {
     character != ' ' && !is_barred(character)
 }
 
-/// Whether each character of a text may stand in the name of a reader.
-fn has_reader_characters(text: &str) -> bool
-    ensures { result ≡ list_all is_reader_character (chars text.now) }
+/// Whether each character of a text may stand in the name of a proofreader.
+fn has_proofreader_characters(text: &str) -> bool
+    ensures { result ≡ list_all is_proofreader_character (chars text.now) }
 {
-    text.chars().all(is_reader_character)
+    text.chars().all(is_proofreader_character)
 }
 
-/// Whether the text is the name of a reader: 0 to 40 characters, none of them a blank, a line feed, a carriage return or
-/// U+0000.
-pub(crate) fn is_reader_name(name: &str) -> bool
-    ensures { IsTrue result ↔ IsReaderName (chars name.now) }
+/// Whether the text is the name of a proofreader: 0 to 40 characters, none of them a blank, a line feed, a carriage return
+/// or U+0000.
+pub(crate) fn is_proofreader_name(name: &str) -> bool
+    ensures { IsTrue result ↔ IsProofreaderName (chars name.now) }
 {
-    count_of(name) <= MOST_READER && has_reader_characters(name)
+    count_of(name) <= MOST_PROOFREADER && has_proofreader_characters(name)
 }

@@ -19,7 +19,7 @@ pub enum Done<'a> {
         count: usize,
         /// The text that came in their place.
         text: &'a str,
-        /// The name of the reader, which may be empty.
+        /// The name of the proofreader, which may be empty.
         who: &'a str,
     },
     /// It took back the correction with this number.

@@ -11,7 +11,7 @@ use Rattle.desk_brf.specs.Embossed.{IsCellByte, IsEmbossedByte, IsTextLine}
 use Rattle.desk_brf.specs.Layout.{Layout, IsLayout}
 use Rattle.desk_brf.specs.Pages.{digit_letter, ended, number_line, number_text, page_text}
 use Rattle.desk_brf.specs.Volume.{IsVolume}
-use Rattle.desk_brf.proofs.EachLine.{all-front, all-behind, each_line}
+use Rattle.desk_brf.proofs.EachLine.{all-front, all-after, each_line}
 
 -- ---- the line of a number
 
@@ -25,12 +25,12 @@ either-digits : (b : Bool) (bytes others : List ℕ) → All IsDigit bytes → A
 either-digits true bytes others all more = all
 either-digits false bytes others all more = more
 
-digits-onto : (most n : ℕ) (behind : List ℕ) → All IsDigit behind → All IsDigit (digits_onto most 10 false n behind)
-digits-onto zero n behind all = all
-digits-onto (suc most) n behind all =
+digits-onto : (most n : ℕ) (after : List ℕ) → All IsDigit after → All IsDigit (digits_onto most 10 false n after)
+digits-onto zero n after all = all
+digits-onto (suc most) n after all =
     let digit = digit_glyph false (n % 10) in
-    let more : All IsDigit (digit ∷ behind) = All-cons IsDigit digit behind (glyph-digit (n % 10) (omega arith)) all in
-    either-digits (eqb (n / 10) 0) (digit ∷ behind) (digits_onto most 10 false (n / 10) (digit ∷ behind)) more (digits-onto most (n / 10) (digit ∷ behind) more)
+    let more : All IsDigit (digit ∷ after) = All-cons IsDigit digit after (glyph-digit (n % 10) (omega arith)) all in
+    either-digits (eqb (n / 10) 0) (digit ∷ after) (digits_onto most 10 false (n / 10) (digit ∷ after)) more (digits-onto most (n / 10) (digit ∷ after) more)
 
 decimal-digits : (n : ℕ) → All IsDigit (decimal n)
 unfolding digits
@@ -75,7 +75,7 @@ pages-bytes width number (page ∷ pages) all =
     let others = flat_map (λ (p : List (List ℕ)). p) pages in
     All-append IsEmbossedByte (page_text width number page) (flat_map (λ (e : ℕ × List (List ℕ)). page_text width e.0 e.1) (enumerate_from (number + 1) pages))
     (page-bytes width number page (all-front AreCellBytes page others all))
-    (pages-bytes width (number + 1) pages (all-behind AreCellBytes page others all))
+    (pages-bytes width (number + 1) pages (all-after AreCellBytes page others all))
 
 -- the lines that the pages of a volume hold
 pub pages_lines-bytes : (book : Book) (layout : Layout) (number : ℕ) (bytes : List ℕ) (pages : ℕ) → IsLayout layout.width layout.lines

@@ -28,8 +28,8 @@ use Rattle.desk_brf.proofs.PutLemmas.{first_indent-small, other_indent-small}
 pub all-front : {X : Type 0} (P : X → Type 0) (xs ys : List X) → All P (xs ++ ys) → All P xs
 all-front P xs ys all = All-same P xs (take (length xs) (xs ++ ys)) (sym (take-append_seam xs ys)) (All-take P (length xs) (xs ++ ys) all)
 
-pub all-behind : {X : Type 0} (P : X → Type 0) (xs ys : List X) → All P (xs ++ ys) → All P ys
-all-behind P xs ys all = All-same P ys (drop (length xs) (xs ++ ys)) (sym (drop-append_seam xs ys)) (All-drop P (length xs) (xs ++ ys) all)
+pub all-after : {X : Type 0} (P : X → Type 0) (xs ys : List X) → All P (xs ++ ys) → All P ys
+all-after P xs ys all = All-same P ys (drop (length xs) (xs ++ ys)) (sym (drop-append_seam xs ys)) (All-drop P (length xs) (xs ++ ys) all)
 
 -- ---- cells that are not blank
 
@@ -55,7 +55,7 @@ line-words : (room : ℕ) (ws pieces left : List (List ℕ)) → 0 < room → Is
 line-words room ws pieces left some (IsLine.cut front back others e at more pe le) all =
     let h : AreWords HasDots ((front ++ back) ∷ others) = subst (AreWords HasDots) e all in
     let before = all-front HasDots front back h.0.1 in
-    let after = all-behind HasDots front back h.0.1 in
+    let after = all-after HasDots front back h.0.1 in
     (subst (AreWords HasDots) (sym pe) ((omega (arith, at, some), before), tt), subst (AreWords HasDots) (sym le) ((more, after), h.1))
 line-words room ws pieces left some (IsLine.whole e filled fits full) all = split-words pieces left (subst (AreWords HasDots) e all)
 
@@ -74,13 +74,13 @@ line-fits room ws pieces left (IsLine.whole e filled fits full) = fits
 abbrev EndsInBlank : List ℕ → Type 0
 EndsInBlank cells = (front : List ℕ) × (cells ≡ front ++ 0 ∷ [])
 
-ends-behind : (xs ys front : List ℕ) → 0 < length ys → xs ++ ys ≡ front ++ 0 ∷ [] → EndsInBlank ys
-ends-behind [] ys front some e = (front, e)
-ends-behind (x ∷ xs) ys [] some e =
+ends-after : (xs ys front : List ℕ) → 0 < length ys → xs ++ ys ≡ front ++ 0 ∷ [] → EndsInBlank ys
+ends-after [] ys front some e = (front, e)
+ends-after (x ∷ xs) ys [] some e =
     let size = ap length e in
     let both = length-append xs ys in
     absurd (omega (arith, size, both, some))
-ends-behind (x ∷ xs) ys (f ∷ front) some e = ends-behind xs ys front some (let rest : xs ++ ys ≡ front ++ 0 ∷ [] = cc in rest)
+ends-after (x ∷ xs) ys (f ∷ front) some e = ends-after xs ys front some (let rest : xs ++ ys ≡ front ++ 0 ∷ [] = cc in rest)
 
 word-ends : (word : List ℕ) → All HasDots word → EndsInBlank word → ⊥
 word-ends word all (front, e) =
@@ -91,7 +91,7 @@ led-ends : (cells : List ℕ) (ps : List (List ℕ)) → AreWords HasDots ps →
 led-ends cells [] all never (front, e) = never (front, sym (append-nil cells) ∙ e)
 led-ends cells (p ∷ ps) all never (front, e) =
     led-ends (cells ++ 0 ∷ p) ps all.1
-    (λ ends. word-ends p all.0.1 (ends-behind (cells ++ 0 ∷ []) p ends.0 all.0.0 (append_assoc cells (0 ∷ []) p ∙ ends.1)))
+    (λ ends. word-ends p all.0.1 (ends-after (cells ++ 0 ∷ []) p ends.0 all.0.0 (append_assoc cells (0 ∷ []) p ∙ ends.1)))
     (front, append_assoc cells (0 ∷ p) (led ps) ∙ e)
 
 joined-ends : (ps : List (List ℕ)) → 0 < length ps → AreWords HasDots ps → EndsInBlank (joined ps) → ⊥
@@ -152,7 +152,7 @@ text-line width indent ws pieces left line narrow all is text =
       narrow = omega (arith, size, both, blanks, fits, narrow);
       no_blank_at_end = λ front e.
           let ends = blank-end cells front (subst (IsAscii cells) e text) in
-          joined-ends pieces some mine (ends-behind (replicate indent 0) (joined pieces) ends.0 (joined-some pieces some mine) ends.1);
+          joined-ends pieces some mine (ends-after (replicate indent 0) (joined pieces) ends.0 (joined-some pieces some mine) ends.1);
       cells = cell_bytes cells line text;
     }
 

@@ -39,7 +39,7 @@ pub joined-led : (first : List ℕ) (pieces : List (List ℕ)) → joined (first
 joined-led first [] = sym (append-nil first)
 joined-led first (next ∷ pieces) = ap (λ (cells : List ℕ). first ++ 0 ∷ cells) (joined-led next pieces)
 
--- a line of a word and of those put behind it
+-- a line of a word and of those put after it
 pub LaysLine-whole : (room : ℕ) (words rest left : List (List ℕ)) (first old mid new bytes : List ℕ) → words ≡ first ∷ rest
     → mid ≡ old ++ bytes → IsAscii first bytes → FillsLine room (length first) rest left mid new → LaysLine room words left old new
 LaysLine-whole room words rest left first old mid new bytes front adds ascii fill =

@@ -163,7 +163,7 @@ module _ (F : Type 0) (book : Book) (layout : Layout) (paragraphs : List Paragra
       (Sent-stop F a b b (written layout 0 p.lines) (written layout (length p.lines) (replicate blank [])) ok (is_ok answer) p.sent f f')
       (not_ok answer (λ pages. pages ≡ (length p.lines + blank) / room) f')
 
-  -- the last page is filled behind them, or fails
+  -- the last page is filled after them, or fails
   pub Pages-goes : (a b c : Option (List ℕ)) (lines after : ℕ) (ok told : Bool) → PutsParagraphs F a b book layout paragraphs lines ok → ok ≡ true
       → FillsPage F b c layout lines after told → is_ok answer ≡ told → IfOk answer (λ pages. pages ≡ after / room) → PutsPages F a c book layout paragraphs answer
   Pages-goes a b c lines after ok told p t f same number =

@@ -1,4 +1,4 @@
--- A paragraph behind its gap.
+-- A paragraph after its gap.
 use Rattle.std.proofs.Common.{◌≡◌, ℕ, suc, ◌+◌, ◌<◌, Bool, true, false, eqb, List, [], ◌∷◌, ◌++◌, length, Option, refl, sym, ap, ◌∙◌, append_assoc, length-append, arith}
 use Rattle.std.specs.Prelude.{filter}
 use Rattle.std.specs.List.{slice_split, onto_first}
@@ -77,7 +77,7 @@ module _ (F : Type 0) (a b : Option (List ℕ)) (layout : Layout) (style : Style
         count = λ whole. absurd (both_ways told f' whole);
       }
 
-  -- its lines behind the gap
+  -- its lines after the gap
   pub paragraph-goes : (c : Option (List ℕ)) (ok told : Bool) (mid after : ℕ) → ok ≡ true → mid ≡ n + length (gap_before layout n style ([] ∷ []))
       → Sent F a b (written layout n (gap_before layout n style ([] ∷ []))) [] ok
       → PutsLines F b c layout (first_indent style) (other_indent style) ws mid after told → PutsParagraph F a c layout style ws n after told

@@ -42,7 +42,7 @@ module _ (F : Type 0) (a b c : Option (List ℕ)) (x y : List ℕ) (first second
 pub Sent-same : (F : Type 0) (a b : Option (List ℕ)) (x y held : List ℕ) (ok : Bool) → x ≡ y → Sent F a b x held ok → Sent F a b y held ok
 Sent-same F a b x y held ok e s = subst (λ (t : List ℕ). Sent F a b t held ok) e s
 
--- the end of a page behind its last line of text
+-- the end of a page after its last line of text
 pub page_end-full : (layout : Layout) (n t w : ℕ) → t ≡ text_lines layout → w ≡ layout.width → n % t ≡ 0
     → ended (number_line w (n / t)) ++ 12 ∷ [] ≡ page_end layout n
 page_end-full layout n t w e f full =

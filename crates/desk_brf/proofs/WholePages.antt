@@ -12,7 +12,7 @@ use Rattle.desk_brf.specs.Layout.{Layout, IsLayout, text_lines}
 use Rattle.desk_brf.specs.Pages.{ended, number_line, page_text}
 use Rattle.desk_brf.specs.Volume.{IsVolume}
 use Rattle.desk_brf.proofs.EachByte.{AreCellBytes, number-bytes, pages_lines-bytes}
-use Rattle.desk_brf.proofs.EachLine.{all-front, all-behind}
+use Rattle.desk_brf.proofs.EachLine.{all-front, all-after}
 
 -- ---- line feeds
 
@@ -76,7 +76,7 @@ module _ (layout : Layout) (some : 1 ≤ layout.lines) where
       let others = flat_map (λ (p : List (List ℕ)). p) pages in
       let text = flat_map ended (page ++ number_line layout.width number ∷ []) in
       let here = page-whole number page (all-front AreCellBytes page others all) (All-head (λ (p : List (List ℕ)). length p ≡ text_lines layout) page pages full) in
-      let rest = pages-whole (number + 1) pages (all-behind AreCellBytes page others all) (All-tail (λ (p : List (List ℕ)). length p ≡ text_lines layout) page pages full) in
+      let rest = pages-whole (number + 1) pages (all-after AreCellBytes page others all) (All-tail (λ (p : List (List ℕ)). length p ≡ text_lines layout) page pages full) in
       record {
         texts = text ∷ rest.texts;
         bytes_are = ap (λ (t : List ℕ). (text ++ 12 ∷ []) ++ t) rest.bytes_are;

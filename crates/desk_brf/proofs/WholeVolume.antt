@@ -94,16 +94,16 @@ lines-dots book layout before (paragraph ∷ paragraphs) lines (cells, own, rest
     let first = first_indent paragraph.style in
     let other = other_indent paragraph.style in
     let gap = gap_before layout before paragraph.style own in
-    let behind = lines-dots book layout (before + length (gap ++ own)) paragraphs rest more in
+    let after = lines-dots book layout (before + length (gap ++ own)) paragraphs rest more in
     let mine : dots_in own ≡ kept cells =
     texts-dots first other placing own texts ∙ (ap kept (nothing_lost (layout.width - first) (layout.width - other) cells placing placed) ∙ kept-twice cells) in
     let here : dots_in (gap ++ own) ≡ kept cells =
     flat_map-append dots_of gap own ∙ (ap (λ (cs : List ℕ). cs ++ dots_in own) (gap-dots layout before paragraph.style own) ∙ mine) in (
-      cells ∷ behind.0,
-      (cells, behind.0, refl, is, behind.1),
+      cells ∷ after.0,
+      (cells, after.0, refl, is, after.1),
       ap dots_in parts
           ∙ (flat_map-append dots_of (gap ++ own) rest
-          ∙ (ap (λ (cs : List ℕ). cs ++ dots_in rest) here ∙ ap (λ (cs : List ℕ). kept cells ++ cs) behind.2)),
+          ∙ (ap (λ (cs : List ℕ). cs ++ dots_in rest) here ∙ ap (λ (cs : List ℕ). kept cells ++ cs) after.2)),
     )
 
 pub whole_volume : (book : Book) (layout : Layout) (number : ℕ) (bytes : List ℕ) (pages : ℕ) → (volume : IsVolume book layout number bytes pages)

@@ -5,7 +5,7 @@ use Rattle.std.proofs.Common.{take-add, drop-drop, get_or-drop}
 use Rattle.std.specs.List.{slice_split, onto_first}
 use Rattle.desk_brf.specs.Words.{is_blank, has_cells, words, IsAtWord, EndsWord, BeginsWithWord}
 
--- what a list is split into behind the first part
+-- what a list is split into after the first part
 abbrev parts_after : List ℕ → List (List ℕ)
 parts_after [] = []
 parts_after (cell ∷ cells) = slice_split is_blank cells

@@ -9,14 +9,14 @@ use Rattle.desk_brf.specs.Pages.{ArePages, ended, number_line}
 use Rattle.desk_brf.specs.Placing.{IsAscii, IsText, IsLine, joined, first_indent, other_indent}
 use Rattle.desk_brf.specs.Volume.{AreLines, gap_before}
 
--- what stands behind the line with a number, counted from 1: the end of its page, where it is the last one there
+-- what stands after the line with a number, counted from 1: the end of its page, where it is the last one there
 abbrev pub page_end : Layout → ℕ → List ℕ
 page_end layout line =
     if line % text_lines layout == 0
     then ended (number_line layout.width (line / text_lines layout)) ++ 12 ∷ []
     else []
 
--- the bytes of lines behind so many others
+-- the bytes of lines after so many others
 abbrev pub written : Layout → ℕ → List (List ℕ) → List ℕ
 written layout before [] = []
 written layout before (line ∷ lines) =
@@ -33,7 +33,7 @@ AreLaid width first other words (line ∷ lines) =
 abbrev pub led : List (List ℕ) → List ℕ
 led pieces = flat_map (λ piece. 0 ∷ piece) pieces
 
--- behind so many cells of a line, these words are put, each behind a blank; others are left
+-- after so many cells of a line, these words are put, each after a blank; others are left
 pub record AddsWords (used : ℕ) (words left : List (List ℕ)) (old new : List ℕ) (after : ℕ) : Type 0 where
   pub pieces : List (List ℕ)
   pub parts : words ≡ pieces ++ left
@@ -49,7 +49,7 @@ pub record FillsLine (room used : ℕ) (words left : List (List ℕ)) (old new :
   pub fits : after ≤ room
   pub full : (next : List ℕ) (others : List (List ℕ)) → left ≡ next ∷ others → room < after + 1 + length next
 
--- a line of the words is put behind what is there
+-- a line of the words is put after what is there
 pub record LaysLine (room : ℕ) (words left : List (List ℕ)) (old new : List ℕ) : Type 0 where
   pub pieces : List (List ℕ)
   pub is_line : IsLine room words pieces left
@@ -57,14 +57,14 @@ pub record LaysLine (room : ℕ) (words left : List (List ℕ)) (old new : List 
   pub ascii : IsAscii (joined pieces) bytes
   pub adds : new ≡ old ++ bytes
 
--- the lines of words, the first behind so many blanks and the others behind so many, are sent, or a beginning of them
+-- the lines of words, the first after so many blanks and the others after so many, are sent, or a beginning of them
 pub record PutsLines (F : Type 0) (old new : Option (List ℕ)) (layout : Layout) (first other : ℕ) (words : List (List ℕ)) (before after : ℕ) (whole : Bool) : Type 0 where
   pub lines : List (List ℕ)
   pub placed : AreLaid layout.width first other words lines
   pub sent : Sent F old new (written layout before lines) [] whole
   pub count : whole ≡ true → after ≡ before + length lines
 
--- the lines of a paragraph with these words, behind the empty line of a heading, are sent, or a beginning of them
+-- the lines of a paragraph with these words, after the empty line of a heading, are sent, or a beginning of them
 pub record PutsParagraph (F : Type 0) (old new : Option (List ℕ)) (layout : Layout) (style : Style) (words : List (List ℕ)) (before after : ℕ) (whole : Bool) : Type 0 where
   pub lines : List (List ℕ)
   pub placed : AreLaid layout.width (first_indent style) (other_indent style) words lines

@@ -31,11 +31,11 @@ IsPlacing first other words (pieces ∷ lines) =
 abbrev pub IsAscii : List ℕ → List ℕ → Type 0
 IsAscii cells bytes = map ascii_cell bytes ≡ map Some cells
 
--- the bytes are a line of these pieces, behind so many blanks
+-- the bytes are a line of these pieces, after so many blanks
 abbrev pub IsText : ℕ → List (List ℕ) → List ℕ → Type 0
 IsText indent pieces bytes = IsAscii (replicate indent 0 ++ joined pieces) bytes
 
--- the bytes of a placing's lines, of the first behind so many blanks and of each other one behind so many
+-- the bytes of a placing's lines, of the first after so many blanks and of each other one after so many
 abbrev pub AreTexts : (first other : ℕ) → List (List (List ℕ)) → List (List ℕ) → Type 0
 AreTexts first other [] lines = lines ≡ []
 AreTexts first other (pieces ∷ placing) lines =

@@ -17,7 +17,7 @@ gap_before layout before Body lines = []
 gap_before layout before Heading [] = []
 gap_before layout before Heading (line ∷ lines) = if before % text_lines layout == 0 then [] else [] ∷ []
 
--- the lines of paragraphs, behind so many lines of their volume
+-- the lines of paragraphs, after so many lines of their volume
 abbrev pub AreLines : Book → Layout → ℕ → List Paragraph → List (List ℕ) → Type 0
 AreLines book layout before [] lines = lines ≡ []
 AreLines book layout before (paragraph ∷ paragraphs) lines =

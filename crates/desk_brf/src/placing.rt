@@ -35,7 +35,7 @@ fn other_indent(style: Style) -> usize
     }
 }
 
-/// Adds as many of the words, with which the cells begin, as have room behind the `used` cells of a line. Gives the cells
+/// Adds as many of the words, with which the cells begin, as have room after the `used` cells of a line. Gives the cells
 /// that are left.
 fn add_words<'a>(cells: &'a [Cell], room: usize, used: usize, line: &mut Line) -> &'a [Cell]
     requires used { used ≤ room }

@@ -92,7 +92,7 @@ fn table(alloc: Global, name: &str, text: &str) -> Result<Command, Fail> {
     Ok(Command::Table { name, text })
 }
 
-/// The command that types a paragraph behind the others.
+/// The command that types a paragraph after the others.
 fn type_in(alloc: Global, flags: &str, written: &str) -> Result<Command, Fail> {
     let name = if flags.contains('7') { "seven" } else { "en" };
     let table = Text::from_string(String::from_str(alloc, name)?);

@@ -6,8 +6,8 @@ use Rattle.louis_table.proofs.LineLaws.{lines_of-split}
 use Rattle.desk_line.specs.declared.head.Head.{Head}
 use Rattle.desk_line.specs.Head.{Says}
 use Rattle.desk_line.specs.Reading.{head_line, head_of}
-use Rattle.desk_line.specs.Lines.{behind_first_line}
-use Rattle.desk_line.specs.Request.{IsLast, IsRequestBefore, IsWhole, Requests, Takes, WholeRequests, last, lines_behind, said, unsaid, whole}
+use Rattle.desk_line.specs.Lines.{after_first_line}
+use Rattle.desk_line.specs.Request.{IsLast, IsRequestBefore, IsWhole, Requests, Takes, WholeRequests, last, block_lines, said, unsaid, whole}
 use Rattle.desk_line.proofs.HeadLaws.{head-found}
 use Rattle.desk_line.proofs.HeadLines.{some-is}
 use Rattle.desk_line.proofs.LineFeeds.{begins, fed, fed-some, feeds, feeds-append, lines-fed, lines-few, lines-then, no-lines, same-front}
@@ -19,13 +19,13 @@ says-one : (line : List ℕ) (this that : Head) → Says line this → Says line
 says-one line this that s t = some-is this that (sym (head-found line this s) ∙ head-found line that t)
 
 takes-one : (line : List ℕ) (this that : ℕ) → Takes line this → Takes line that → this ≡ that
-takes-one line this that (said h s e) (said k t f) = e ∙ (ap lines_behind (says-one line h k s t) ∙ sym f)
+takes-one line this that (said h s e) (said k t f) = e ∙ (ap block_lines (says-one line h k s t) ∙ sym f)
 takes-one line this that (said h s e) (unsaid n f) = absurd (n h s)
 takes-one line this that (unsaid n e) (said k t f) = absurd (n k t)
 takes-one line this that (unsaid n e) (unsaid m f) = e ∙ sym f
 
 takes-by : (line : List ℕ) (found : Option Head) → head_of line ≡ found → (count : ℕ) × Takes line count
-takes-by line (Some head) e = (lines_behind head, takes-some line head e)
+takes-by line (Some head) e = (block_lines head, takes-some line head e)
 takes-by line None e = (0, takes-none line e)
 
 -- ---- whole requests
@@ -96,12 +96,12 @@ module _ (bytes : List ℕ) (some : bytes ≢ []) (count : ℕ) (takes : Takes (
   front-whole front later e n =
       let split = lines_of-split (fed front) (fed-some front) in
       let lines = sym (lines_of-split bytes some) ∙ (ap lines_of e ∙ (lines-then front later ∙ ap (λ (ls : List (List ℕ)). ls ++ lines_of later) split)) in
-      let line = heads-same (head_line bytes) (head_line (fed front)) (lines_of (behind_first_line bytes)) (lines_of (behind_first_line (fed front)) ++ lines_of later) lines in
+      let line = heads-same (head_line bytes) (head_line (fed front)) (lines_of (after_first_line bytes)) (lines_of (after_first_line (fed front)) ++ lines_of later) lines in
       let size = sym (ap length split) ∙ (lines-fed front ∙ n) in
-      let same : count ≡ length (lines_of (behind_first_line (fed front))) = omega arith in
+      let same : count ≡ length (lines_of (after_first_line (fed front))) = omega arith in
       is_whole (fed front) later e (record {
         line = head_line (fed front);
-        block = lines_of (behind_first_line (fed front));
+        block = lines_of (after_first_line (fed front));
         lines = split;
         takes = subst (λ (c : ℕ). Takes (head_line (fed front)) c) same (subst (λ (l : List ℕ). Takes l count) line takes);
         front = front;
@@ -120,14 +120,14 @@ short-last bytes some count takes few =
     let split = lines_of-split bytes some in
     let sizes = ap length split in
     let most = lines-few bytes in
-    record { line = head_line bytes; block = lines_of (behind_first_line bytes); lines = split; count = count; takes = takes; most = omega arith }
+    record { line = head_line bytes; block = lines_of (after_first_line bytes); lines = split; count = count; takes = takes; most = omega arith }
 
 -- and begin with no whole one
 short-none : (bytes : List ℕ) → bytes ≢ [] → (count : ℕ) → Takes (head_line bytes) count → feeds bytes ≤ count
     → (request later : List ℕ) → bytes ≡ request ++ later → ¬ IsWhole request
 short-none bytes some count takes few request later e w =
     let lines = sym (lines_of-split bytes some) ∙ (ap lines_of e ∙ whole-then request later w) in
-    let line = heads-same (head_line bytes) w.line (lines_of (behind_first_line bytes)) (w.block ++ lines_of later) lines in
+    let line = heads-same (head_line bytes) w.line (lines_of (after_first_line bytes)) (w.block ++ lines_of later) lines in
     let same = takes-one w.line count (length w.block) (subst (λ (l : List ℕ). Takes l count) line takes) w.takes in
     let more = whole-feeds request w in
     let all = ap feeds e ∙ (feeds-append request later ∙ ap (λ (t : List ℕ). feeds t + feeds later) w.ends) in

@@ -1,4 +1,4 @@
--- The fields behind the word of a head line, and what is made of them.
+-- The fields after the word of a head line, and what is made of them.
 use Rattle.std.proofs.Common.{◌≡◌, ℕ, List, [], ◌∷◌, Option, Some, None, refl, ap, ◌∙◌}
 use Rattle.std.specs.Option.{option_and_then}
 use Rattle.desk_line.specs.Fields.{IsNumber}

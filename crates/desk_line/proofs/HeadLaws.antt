@@ -89,7 +89,7 @@ command-like fields directive (volume number word id begins n f e is) = subst Is
 command-like fields directive (retable number name id n m e is) = subst IsCommandLike (sym e) (like (codes "retable") (number ∷ name ∷ []) refl refl refl (λ id. refl) refl)
 command-like fields directive (move number after id anchor n a e is) = subst IsCommandLike (sym e) (like (codes "move") (number ∷ after ∷ []) refl refl refl (λ id. refl) refl)
 
--- behind a version stands no query
+-- after a version stands no query
 no-query-expected : (number : List ℕ) (command : List (List ℕ)) → query_in ((64 ∷ number) ∷ command) ≡ None
 no-query-expected number command = query-none (64 ∷ number) command refl refl refl (λ id. refl)
 

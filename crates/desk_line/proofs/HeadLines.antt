@@ -1,4 +1,4 @@
--- What the bytes of a line have to be before anything is read of them, and the command behind an expected version.
+-- What the bytes of a line have to be before anything is read of them, and the command after an expected version.
 use Rattle.std.proofs.Common.{◌≡◌, ◌≢◌, ℕ, ◌<◌, ◌≤◌, Bool, true, false, ◌&&◌, List, [], ◌∷◌, length, cond, leb, eqb, arith, refl, ap, ◌∙◌, inl, inr, option_map}
 use Rattle.std.specs.Prelude.{Option, None, Some}
 use Rattle.std.specs.Str.{IsUtf8, is_utf8}
@@ -8,7 +8,7 @@ use Rattle.desk_line.specs.declared.head.Head.TheVariants.{Do}
 use Rattle.desk_line.specs.declared.directive.Directive.{Directive}
 use Rattle.desk_line.specs.Fields.{fields_of}
 use Rattle.desk_line.specs.Limits.{most_line_bytes}
-use Rattle.desk_line.specs.Reading.{head_in, head_of, command_behind, command_in, expecting, first_and_others, number_in, directive_by, directive_in}
+use Rattle.desk_line.specs.Reading.{head_in, head_of, command_after, command_in, expecting, first_and_others, number_in, directive_by, directive_in}
 
 pub some-is : {A : Type 0} (x y : A) → Some x ≡ Some y → x ≡ y
 some-is x y e = cc
@@ -47,17 +47,17 @@ expecting-is number word (x ∷ xs) others version directive n f o =
     rw (n, at_word, at_others, o)
 
 -- a command before whose word stands no at sign
-plain-behind : (word : List ℕ) (fields : List (List ℕ)) → ((version : List ℕ) → word ≢ 64 ∷ version)
-    → command_behind word fields ≡ option_map (λ directive. Do directive None) (directive_by word fields)
-plain-behind [] fields none = refl
-plain-behind (b ∷ word) fields none =
+plain-after : (word : List ℕ) (fields : List (List ℕ)) → ((version : List ℕ) → word ≢ 64 ∷ version)
+    → command_after word fields ≡ option_map (λ directive. Do directive None) (directive_by word fields)
+plain-after [] fields none = refl
+plain-after (b ∷ word) fields none =
     elim (cases_Bool (eqb b 64)) [
       | inl t ↦ absurd (none word (ap (λ (c : ℕ). c ∷ word) (eqb-true b 64 t)))
       | inr f ↦ cond-false (eqb b 64) _ _ f
     ]
 
 -- the first field and the others of a command
-command-first : (word : List ℕ) (fields others : List (List ℕ)) → first_and_others fields ≡ Some (word, others) → command_in fields ≡ command_behind word others
+command-first : (word : List ℕ) (fields others : List (List ℕ)) → first_and_others fields ≡ Some (word, others) → command_in fields ≡ command_after word others
 command-first word [] others f = absurd cc
 command-first word (x ∷ xs) others f =
     let both = some-is (x, xs) (word, others) f in
@@ -66,8 +66,8 @@ command-first word (x ∷ xs) others f =
 pub plain-is : (word : List ℕ) (fields others : List (List ℕ)) (directive : Option Directive) → first_and_others fields ≡ Some (word, others) → directive_by word others ≡ directive
     → ((version : List ℕ) → word ≢ 64 ∷ version) → command_in fields ≡ option_map (λ o. Do o None) directive
 plain-is word fields others directive f o none =
-    command-first word fields others f ∙ (plain-behind word others none ∙ ap (option_map (λ o. Do o None)) o)
+    command-first word fields others f ∙ (plain-after word others none ∙ ap (option_map (λ o. Do o None)) o)
 
 pub expected-is : (word version : List ℕ) (fields others : List (List ℕ)) → first_and_others fields ≡ Some (word, others) → word ≡ 64 ∷ version
     → command_in fields ≡ expecting version others
-expected-is word version fields others f e = command-first word fields others f ∙ ap (λ (w : List ℕ). command_behind w others) e
+expected-is word version fields others f e = command-first word fields others f ∙ ap (λ (w : List ℕ). command_after w others) e

@@ -1,4 +1,4 @@
--- What is put behind a text that is being sent.
+-- What is put after a text that is being sent.
 use Rattle.std.proofs.Common.{◌≡◌, ℕ, Bor, ◌+◌, ◌/◌, ◌%◌, ◌<◌, ◌≤◌, ltb, length, take, get_or, Bool, true, false, not, List, [], ◌∷◌, ◌++◌, Option, refl, sym, ap, subst, ◌∙◌, append_assoc}
 use Rattle.std.proofs.KnownBytes.{Appends-trans}
 use Rattle.std.proofs.lemmas.Bool.{both_ways, le-ltb, lt-ltb}
@@ -58,7 +58,7 @@ IsSent-end F before now waiting text true empty e (broken out rest appends begin
 IsSent-end F before now waiting text false empty e (broken out rest appends begins g f) =
     record { out = out; rest = rest; appends = appends; begins = begins; holds = λ t. absurd cc; fails = λ _. f }
 
--- one piece behind another
+-- one piece after another
 pub Adds-then : (F : Type 0) (a b c : Option (List ℕ)) (u v w : Waiting) (this that : List ℕ) → Adds F a b u v this → Adds F b c v w that → Adds F a c u w (this ++ that)
 Adds-then F a b c u v w this that f g before text h =
     IsSent-same F before c w ((text ++ this) ++ that) (text ++ (this ++ that)) (append_assoc text this that) (g before (text ++ this) (f before text h))
@@ -99,7 +99,7 @@ encode-two c wide short =
     let two : ltb c 2048 ≡ true = lt-ltb c 2048 short in
     rw (one, two)
 
--- numbers behind a word, each behind a blank
+-- numbers after a word, each after a blank
 abbrev pub spaced : List ℕ → List ℕ
 spaced numbers = flat_map (λ n. 32 ∷ decimal n) numbers
 
@@ -120,7 +120,7 @@ spaced-next word xs i lt =
     (ap (λ (t : List ℕ). spaced (take i xs) ++ t) (sym (append-nil (32 ∷ decimal (get_or xs i 0))))
     ∙ (sym (spaced-append (take i xs) (get_or xs i 0 ∷ [])) ∙ ap spaced (take-next xs i lt))))
 
--- fields behind a word, each behind a blank
+-- fields after a word, each after a blank
 abbrev pub apart : List (Bor (List ℕ)) → List ℕ
 apart fields = flat_map (λ (field : Bor (List ℕ)). 32 ∷ field.now) fields
 

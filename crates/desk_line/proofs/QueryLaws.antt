@@ -86,14 +86,14 @@ query-found fields query (version e is) = ap query_in e ∙ ap Some (sym is)
 
 -- ---- what asks nothing
 
-none-behind : (f : ℕ → Option Query) (id : Option ℕ) → ((x : ℕ) → f x ≡ None) → option_and_then f id ≡ None
-none-behind f None none = refl
-none-behind f (Some x) none = none x
+none-after : (f : ℕ → Option Query) (id : Option ℕ) → ((x : ℕ) → f x ≡ None) → option_and_then f id ≡ None
+none-after f None none = refl
+none-after f (Some x) none = none x
 
 none-by-count : (word : List ℕ) (fields : List (List ℕ)) → lone_query word ≡ None → ((id : ℕ) → paragraph_query word id ≡ None)
     → query_by_count word fields ≡ None
 none-by-count word [] lone none = lone
-none-by-count word (field ∷ fields) lone none = none-behind (paragraph_query word) (paragraph_in (field ∷ fields)) none
+none-by-count word (field ∷ fields) lone none = none-after (paragraph_query word) (paragraph_in (field ∷ fields)) none
 
 -- a word that no query has
 pub query-none : (word : List ℕ) (fields : List (List ℕ)) → bytes_eq word (codes "where") ≡ false → bytes_eq word (codes "whence") ≡ false

@@ -10,7 +10,7 @@ use Rattle.louis_table.proofs.LineLaws.{pieces_of-line}
 use Rattle.desk_book.specs.declared.style.Style.{Style}
 use Rattle.desk_book.specs.declared.style.Style.TheVariants.{Body, Heading}
 use Rattle.desk_book.specs.Book.{Book, Entry, Corrects, Undoes, Mark, Paragraph}
-use Rattle.desk_book.specs.Name.{is_name_character, is_reader_character}
+use Rattle.desk_book.specs.Name.{is_name_character, is_proofreader_character}
 use Rattle.desk_book.specs.Print.{print_of}
 use Rattle.desk_book.specs.Refusals.{code_of}
 use Rattle.desk_book.specs.Sound.{IsSound, IsSoundEntry, IsSoundMark, IsSoundParagraph}
@@ -20,7 +20,7 @@ use Rattle.desk_book.proofs.SoundParaRows.{unbarred-print}
 use Rattle.desk_ends.specs.Cells.{text_of}
 use Rattle.desk_line.specs.declared.request.Query.{Query}
 use Rattle.desk_line.specs.Fields.{joined}
-use Rattle.desk_line.specs.Reply.{BeginsWith, EndsBehindBars, RepliesToQuery, ShowsLines, print, braille, history, marks, where_is, whence, list, version, shown, refused, details, entry_line, life_word, listed, mark_line, shown_line, shown_text, state_word, style_word, touch_word, volume_word, word_and}
+use Rattle.desk_line.specs.Reply.{BeginsWith, EndsAfterBars, RepliesToQuery, ShowsLines, print, braille, history, marks, where_is, whence, list, version, shown, refused, details, entry_line, life_word, listed, mark_line, shown_line, shown_text, state_word, style_word, touch_word, volume_word, word_and}
 use Rattle.desk_line.proofs.LackedBytes.{Lacks, Lacks-decimal, Lacks-joined, Lacks-shown, lacks, one-line, other-byte}
 
 -- a line without a line feed
@@ -47,9 +47,9 @@ unbarred-lone text h =
     text-lone text
     (All-weaker (λ c. is_barred c ≡ false) (λ c. eqb c 10 ≡ false) (λ c e. first-false (eqb c 10) (eqb c 13) (eqb c 0) e) text h)
 
-reader-other : (c : ℕ) → is_reader_character c ≡ true → eqb c 10 ≡ false
-reader-other c e =
-    other-byte c 10 (λ at. let h : is_reader_character 10 ≡ true = ap is_reader_character (sym at) ∙ e in cc)
+proofreader-other : (c : ℕ) → is_proofreader_character c ≡ true → eqb c 10 ≡ false
+proofreader-other c e =
+    other-byte c 10 (λ at. let h : is_proofreader_character 10 ≡ true = ap is_proofreader_character (sym at) ∙ e in cc)
 
 name-other : (c : ℕ) → is_name_character c ≡ true → eqb c 10 ≡ false
 name-other c e = other-byte c 10 (λ at. let h : is_name_character 10 ≡ true = ap is_name_character (sym at) ∙ e in cc)
@@ -72,7 +72,7 @@ entry-lone original before (Corrects r (c ∷ who)) sound n =
       (
         lacks 10 (codes "correct-by") refl,
         (
-          text-lone (c ∷ who) (All-weaker (λ x. is_reader_character x ≡ true) (λ x. eqb x 10 ≡ false) reader-other (c ∷ who) sound.2.characters),
+          text-lone (c ∷ who) (All-weaker (λ x. is_proofreader_character x ≡ true) (λ x. eqb x 10 ≡ false) proofreader-other (c ∷ who) sound.2.characters),
           (number-lone r.start, (number-lone r.count, (unbarred-lone r.text sound.1.unbarred, tt))),
         ),
       ),
@@ -163,48 +163,48 @@ module _ (book : Book) (sound : IsSound book) where
 
 -- ---- the lines of a reply
 
--- a line behind a bar and a blank
-abbrev behind_bar : List ℕ → List ℕ
-behind_bar line = joined (codes "|" ∷ line ∷ [])
+-- a line after a bar and a blank
+abbrev after_bar : List ℕ → List ℕ
+after_bar line = joined (codes "|" ∷ line ∷ [])
 
-bar-lone : (line : List ℕ) → Lone line → Lone (behind_bar line)
+bar-lone : (line : List ℕ) → Lone line → Lone (after_bar line)
 bar-lone line h = joined-lone (codes "|" ∷ line ∷ []) (lacks 10 (codes "|") refl, (h, tt))
 
 pieces-shown : (lines : List (List ℕ)) (rest : List ℕ) → All Lone lines
-    → pieces_of (flat_map shown_line lines ++ rest) ≡ map behind_bar lines ++ pieces_of rest
+    → pieces_of (flat_map shown_line lines ++ rest) ≡ map after_bar lines ++ pieces_of rest
 pieces-shown [] rest h = refl
 pieces-shown (line ∷ lines) rest h =
-    let front = behind_bar line in
+    let front = after_bar line in
     let later = flat_map shown_line lines in
     ap pieces_of (ap (λ (t : List ℕ). t ++ rest) (append_assoc front (10 ∷ []) later) ∙ append_assoc front (10 ∷ later) rest)
     ∙ (pieces_of-line front (later ++ rest) (one-line front (bar-lone line (All-head Lone line lines h)))
     ∙ ap (λ (ls : List (List ℕ)). front ∷ ls) (pieces-shown lines rest (All-tail Lone line lines h)))
 
-bars-behind : (lines : List (List ℕ)) → All (BeginsWith (codes "| ")) (map behind_bar lines)
-bars-behind [] = All-nil (BeginsWith (codes "| "))
-bars-behind (line ∷ lines) = All-cons (BeginsWith (codes "| ")) (behind_bar line) (map behind_bar lines) (line, refl) (bars-behind lines)
+bars-after : (lines : List (List ℕ)) → All (BeginsWith (codes "| ")) (map after_bar lines)
+bars-after [] = All-nil (BeginsWith (codes "| "))
+bars-after (line ∷ lines) = All-cons (BeginsWith (codes "| ")) (after_bar line) (map after_bar lines) (line, refl) (bars-after lines)
 
 numbers-lone : (numbers : List ℕ) → AllByRecursion Lone (map decimal numbers)
 numbers-lone [] = tt
 numbers-lone (n ∷ numbers) = (number-lone n, numbers-lone numbers)
 
--- a word and numbers behind it are one line
+-- a word and numbers after it are one line
 pieces-word : (word : List ℕ) (numbers : List ℕ) → Lone word → pieces_of (word_and word numbers) ≡ joined (word ∷ map decimal numbers) ∷ []
 pieces-word word numbers h =
     let line = joined (word ∷ map decimal numbers) in
     pieces_of-line line [] (one-line line (joined-lone (word ∷ map decimal numbers) (h, numbers-lone numbers)))
 
-pub behind-bars : (book : Book) (query : Query) (text : List ℕ) → IsSound book → RepliesToQuery book query text → EndsBehindBars text
-behind-bars book query text sound (shown lines shows is) = record {
-  others = map behind_bar lines;
+pub after-bars : (book : Book) (query : Query) (text : List ℕ) → IsSound book → RepliesToQuery book query text → EndsAfterBars text
+after-bars book query text sound (shown lines shows is) = record {
+  others = map after_bar lines;
   last = joined (codes "end" ∷ decimal book.version ∷ []);
   lines = ap pieces_of is
       ∙ (pieces-shown lines (word_and (codes "end") (book.version ∷ [])) (shown-lone book sound query lines shows)
-      ∙ ap (λ (ls : List (List ℕ)). map behind_bar lines ++ ls) (pieces-word (codes "end") (book.version ∷ []) (lacks 10 (codes "end") refl)));
-  bars = bars-behind lines;
+      ∙ ap (λ (ls : List (List ℕ)). map after_bar lines ++ ls) (pieces-word (codes "end") (book.version ∷ []) (lacks 10 (codes "end") refl)));
+  bars = bars-after lines;
   word = inl (decimal book.version, refl);
 }
-behind-bars book query text sound (refused refusal refuses is) = record {
+after-bars book query text sound (refused refusal refuses is) = record {
   others = [];
   last = joined (codes "no" ∷ decimal (code_of refusal) ∷ map decimal (details refusal));
   lines = ap pieces_of is ∙ pieces-word (codes "no") (code_of refusal ∷ details refusal) (lacks 10 (codes "no") refl);

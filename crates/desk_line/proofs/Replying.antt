@@ -84,7 +84,7 @@ pub listed-fields : (told : Paragraph) (id table style volume life size : List �
     → line_of (codes "|" ∷ id ∷ table ∷ style ∷ volume ∷ life ∷ size ∷ []) ≡ shown_line (listed told)
 listed-fields told id table style volume life size a b c d e f = rw (a, b, c, d, e, f) refl
 
--- an entry with its parts as bytes: a correction by nobody, one by a reader, and an undo
+-- an entry with its parts as bytes: a correction by nobody, one by a proofreader, and an undo
 pub unnamed-fields : (entry : Entry) (number start count : ℕ) (text who : Bor (List ℕ)) → TellsOf entry (Corrected start count text who) → who.now ≡ []
     → (n first size body : List ℕ) → n ≡ decimal number → first ≡ decimal start → size ≡ decimal count → body ≡ shown_text (chars text.now)
     → line_of (codes "|" ∷ n ∷ codes "correct" ∷ first ∷ size ∷ body ∷ []) ≡ shown_line (entry_line (number, entry))
@@ -100,13 +100,13 @@ correction-named number r [] some = absurd (some refl)
 correction-named number r (c ∷ name) some = refl
 
 pub named-fields : (entry : Entry) (number start count : ℕ) (text who : Bor (List ℕ)) → TellsOf entry (Corrected start count text who) → who.now ≢ []
-    → (n reader first size body : List ℕ) → n ≡ decimal number → reader ≡ shown_text (chars who.now) → reader ≡ who.now → first ≡ decimal start → size ≡ decimal count
+    → (n proofreader first size body : List ℕ) → n ≡ decimal number → proofreader ≡ shown_text (chars who.now) → proofreader ≡ who.now → first ≡ decimal start → size ≡ decimal count
     → body ≡ shown_text (chars text.now)
-    → line_of (codes "|" ∷ n ∷ codes "correct-by" ∷ reader ∷ first ∷ size ∷ body ∷ []) ≡ shown_line (entry_line (number, entry))
-named-fields (Corrects r name) number start count text who tells some n reader first size body a w v b c d =
+    → line_of (codes "|" ∷ n ∷ codes "correct-by" ∷ proofreader ∷ first ∷ size ∷ body ∷ []) ≡ shown_line (entry_line (number, entry))
+named-fields (Corrects r name) number start count text who tells some n proofreader first size body a w v b c d =
     let named : name ≢ [] = λ e. some (sym v ∙ (w ∙ ap shown_text (tells.3 ∙ e))) in
     rw (correction-named number r name named, a, w, b, c, d, tells.0, tells.1, tells.2, tells.3) refl
-named-fields (Undoes m) number start count text who tells some n reader first size body a w v b c d = absurd tells
+named-fields (Undoes m) number start count text who tells some n proofreader first size body a w v b c d = absurd tells
 
 pub undo-fields : (entry : Entry) (number undone : ℕ) → TellsOf entry (TookBack undone) → (n took : List ℕ) → n ≡ decimal number → took ≡ decimal undone
     → line_of (codes "|" ∷ n ∷ codes "undo" ∷ took ∷ []) ≡ shown_line (entry_line (number, entry))

@@ -14,9 +14,9 @@ use Rattle.desk_line.specs.declared.request.Request.{Request}
 use Rattle.desk_line.specs.declared.request.Request.TheVariants.{Do}
 use Rattle.desk_line.specs.Head.{Says}
 use Rattle.desk_line.specs.Limits.{most_line_bytes}
-use Rattle.desk_line.specs.Lines.{IsShort, behind_first_line}
+use Rattle.desk_line.specs.Lines.{IsShort, after_first_line}
 use Rattle.desk_line.specs.Reading.{Gives, are_lines, head_line, head_in, head_of, query_in, directive_in, request_in, with_text}
-use Rattle.desk_line.specs.Request.{Reads, Takes, said, unsaid, Tells, lines_behind, request_of}
+use Rattle.desk_line.specs.Request.{Reads, Takes, said, unsaid, Tells, block_lines, request_of}
 use Rattle.desk_line.proofs.HeadLines.{some-is, head-of-text}
 use Rattle.desk_line.proofs.HeadLaws.{head-read, head-found}
 use Rattle.desk_line.proofs.OperandLaws.{taken, followed}
@@ -49,21 +49,21 @@ nothing-said = head-of-text [] (lit≤ tt) IsUtf8-nil
 
 pub request-read : (bytes : List ℕ) (request : Request) → request_in bytes ≡ Some request → Reads bytes request
 unfolding request_in
-request-read [] request e = let n = nothing-said in absurd (let h = followed (with_text (behind_first_line [])) (head_of (head_line [])) request e in cc)
+request-read [] request e = let n = nothing-said in absurd (let h = followed (with_text (after_first_line [])) (head_of (head_line [])) request e in cc)
 request-read (b ∷ bytes) request e =
     let all = b ∷ bytes in
-    let h = followed (with_text (behind_first_line (b ∷ bytes))) (head_of (head_line (b ∷ bytes))) request e in
-    let t = taken (are_lines (lines_of (behind_first_line (b ∷ bytes))) (lines_behind h.0)) (Some (request_of h.0 (behind_first_line (b ∷ bytes)))) request h.2 in
-    let counted = lines-counted (lines_of (behind_first_line (b ∷ bytes))) (lines_behind h.0) t.0 in
+    let h = followed (with_text (after_first_line (b ∷ bytes))) (head_of (head_line (b ∷ bytes))) request e in
+    let t = taken (are_lines (lines_of (after_first_line (b ∷ bytes))) (block_lines h.0)) (Some (request_of h.0 (after_first_line (b ∷ bytes)))) request h.2 in
+    let counted = lines-counted (lines_of (after_first_line (b ∷ bytes))) (block_lines h.0) t.0 in
     record {
       line = head_line (b ∷ bytes);
-      block = lines_of (behind_first_line (b ∷ bytes));
+      block = lines_of (after_first_line (b ∷ bytes));
       head = h.0;
       lines = lines_of-split (b ∷ bytes) (λ n. cc);
       says = head-read (head_line (b ∷ bytes)) h.0 h.1;
       whole = counted.0;
       short = counted.1;
-      is = sym (some-is (request_of h.0 (behind_first_line (b ∷ bytes))) request t.1);
+      is = sym (some-is (request_of h.0 (after_first_line (b ∷ bytes))) request t.1);
     }
 
 pub heads-same : {A : Type 0} (x y : A) (xs ys : List A) → x ∷ xs ≡ y ∷ ys → x ≡ y
@@ -79,11 +79,11 @@ pub request-found : (bytes : List ℕ) (request : Request) → Reads bytes reque
 unfolding request_in
 request-found bytes request r =
     let split = sym r.lines ∙ lines_of-split bytes (some-lines bytes r.line r.block r.lines) in
-    let line = heads-same r.line (head_line bytes) r.block (lines_of (behind_first_line bytes)) split in
-    let block = tails-same r.line (head_line bytes) r.block (lines_of (behind_first_line bytes)) split in
-    ap (option_and_then (with_text (behind_first_line bytes))) (head-found (head_line bytes) r.head (subst (λ (l : List ℕ). Says l r.head) line r.says))
-    ∙ (cond-true (are_lines (lines_of (behind_first_line bytes)) (lines_behind r.head)) (Some (request_of r.head (behind_first_line bytes))) None
-    (ap (λ (lines : List (List ℕ)). are_lines lines (lines_behind r.head)) (sym block) ∙ lines-tested r.block (lines_behind r.head) r.whole r.short)
+    let line = heads-same r.line (head_line bytes) r.block (lines_of (after_first_line bytes)) split in
+    let block = tails-same r.line (head_line bytes) r.block (lines_of (after_first_line bytes)) split in
+    ap (option_and_then (with_text (after_first_line bytes))) (head-found (head_line bytes) r.head (subst (λ (l : List ℕ). Says l r.head) line r.says))
+    ∙ (cond-true (are_lines (lines_of (after_first_line bytes)) (block_lines r.head)) (Some (request_of r.head (after_first_line bytes))) None
+    (ap (λ (lines : List (List ℕ)). are_lines lines (block_lines r.head)) (sym block) ∙ lines-tested r.block (block_lines r.head) r.whole r.short)
     ∙ ap Some (sym r.is))
 
 -- bytes are one request at most
@@ -100,7 +100,7 @@ is-told bytes (Ok request) e = request-read bytes request e
 is-told bytes (Err Syntax) e = λ request r. some-none request (request_in bytes) (request-found bytes request r) e
 is-told bytes (Err NoMemory) e = (e.0, e.1, request-read bytes (Do e.0 e.1) e.2, e.3)
 
-pub takes-some : (line : List ℕ) (head : Head) → head_of line ≡ Some head → Takes line (lines_behind head)
+pub takes-some : (line : List ℕ) (head : Head) → head_of line ≡ Some head → Takes line (block_lines head)
 takes-some line head e = said head (head-read line head e) refl
 
 pub takes-none : (line : List ℕ) → head_of line ≡ None → Takes line 0

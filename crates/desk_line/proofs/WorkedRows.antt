@@ -81,10 +81,10 @@ supplied-table = supply (codes "en") (λ n. cc) refl refl
 typed-nothing : SaysDirective (fields_of (codes "type end en")) (directives.TypeIn End (codes "en") [])
 typed-nothing = type_in (codes "end") (codes "en") [] End (end refl refl) (λ n. cc) refl refl
 
-typed-nothing-behind-a-blank : SaysDirective (fields_of (codes "type end en ")) (directives.TypeIn End (codes "en") [])
-typed-nothing-behind-a-blank = type_in (codes "end") (codes "en") ([] ∷ []) End (end refl refl) (λ n. cc) refl refl
+typed-nothing-after-a-blank : SaysDirective (fields_of (codes "type end en ")) (directives.TypeIn End (codes "en") [])
+typed-nothing-after-a-blank = type_in (codes "end") (codes "en") ([] ∷ []) End (end refl refl) (λ n. cc) refl refl
 
--- a correction by nothing, without the blank before it, and one by a reader, whose text keeps its blanks
+-- a correction by nothing, without the blank before it, and one by a proofreader, whose text keeps its blanks
 erased : SaysDirective (fields_of (codes "correct 1 0 9")) (directives.Correct (record { paragraph = 1; start = 0; count = 9; text = [] }) [])
 erased =
     correct (codes "1" ∷ codes "0" ∷ codes "9" ∷ []) (record { paragraph = 1; start = 0; count = 9; text = [] })
@@ -213,8 +213,8 @@ whole-table = record {
   ends = refl;
 }
 
-cut-behind-a-table : Requests (codes "table x 2\nversion\na\r\nversion\n") (codes "table x 2\nversion\na\r\n" ∷ codes "version\n" ∷ [])
-cut-behind-a-table = (codes "version\n", refl, whole whole-table, ([], refl, whole asked-version, refl))
+cut-after-a-table : Requests (codes "table x 2\nversion\na\r\nversion\n") (codes "table x 2\nversion\na\r\n" ∷ codes "version\n" ∷ [])
+cut-after-a-table = (codes "version\n", refl, whole whole-table, ([], refl, whole asked-version, refl))
 
 -- the input ends before its second line, or within it
 short-block : Requests (codes "table x 2\na\n") (codes "table x 2\na\n" ∷ [])
@@ -234,8 +234,8 @@ cut-block = (
 )
 
 -- a table of too many lines takes none
-cut-behind-too-many : Requests (codes "table x 20001\nversion\n") (codes "table x 20001\n" ∷ codes "version\n" ∷ [])
-cut-behind-too-many = (
+cut-after-too-many : Requests (codes "table x 20001\nversion\n") (codes "table x 20001\n" ∷ codes "version\n" ∷ [])
+cut-after-too-many = (
   codes "version\n",
   refl,
   whole (record { line = codes "table x 20001"; block = []; lines = refl; takes = unsaid too-many-lines refl; front = codes "table x 20001"; ends = refl }),
@@ -243,9 +243,9 @@ cut-behind-too-many = (
 )
 
 -- a `table` line that isn't UTF-8 takes none
-cut-behind-bytes : Requests (codes "table " ++ 255 ∷ codes " 1\nversion\n") ((codes "table " ++ 255 ∷ codes " 1\n") ∷ codes "version\n" ∷ [])
+cut-after-bytes : Requests (codes "table " ++ 255 ∷ codes " 1\nversion\n") ((codes "table " ++ 255 ∷ codes " 1\n") ∷ codes "version\n" ∷ [])
 unfolding is_utf8 chars encode_utf8
-cut-behind-bytes = (
+cut-after-bytes = (
   codes "version\n",
   refl,
   whole (record {
@@ -278,7 +278,7 @@ table-of-a-bad-name =
     (does None (fields_of (codes "table T 1")) (directives.Table (codes "T") 1) (text-of-line (codes "table T 1") (lit≤ tt) refl refl)
     (nothing refl refl) (table (codes "T") (codes "1") 1 (λ n. cc) one-is-a-number (lit≤ tt) refl refl) refl) refl
 
--- of bytes behind which a read failed, a line that is cut is no request
+-- of bytes after which a read failed, a line that is cut is no request
 none-within-a-line : (request later : List ℕ) → codes "strike" ≡ request ++ later → ¬ IsWhole request
 none-within-a-line request later e w =
     let feeds-of = feeds-append request later in

@@ -34,9 +34,9 @@ use Rattle.desk_line.specs.declared.request.Request.{Request}
 use Rattle.desk_line.specs.declared.request.Request.TheVariants as requests
 use Rattle.desk_line.specs.Fields.{IsAnchor, IsFlag, IsNumber, IsStyle, after, body, end, fields_of, front, heading, joined, off, on}
 use Rattle.desk_line.specs.Head.{Expects, IsSpanText, Says, SaysDirective, SaysQuery, asks, braille, correct, correct_by, does, expected, history, list, mark, marks, move, nothing, print, restore, resolve, retable, strike, style, table, type_in, undo, version, volume, whence, where_is}
-use Rattle.desk_line.specs.Lines.{IsShort, behind_first_line}
+use Rattle.desk_line.specs.Lines.{IsShort, after_first_line}
 use Rattle.desk_line.specs.Reply.{shown_text}
-use Rattle.desk_line.specs.Request.{Reads, command_of, lines_behind, lines_behind_directive, request_of}
+use Rattle.desk_line.specs.Request.{Reads, command_of, block_lines, directive_block_lines, request_of}
 use Rattle.desk_line.specs.Written.{CanBeWritten, FitsCommand, FitsQuery, IsOneLineText, IsSmall, IsSmallAnchor, IsSmallIfAny, IsWord, anchor_field, block_of, command_fields, expecting_line, flag_field, head_text, query_fields, style_field, written}
 use Rattle.desk_line.proofs.LackedBytes.{Lacks, Lacks-decimal, Lacks-joined, Lacks-shown, one-line, other-byte}
 
@@ -171,7 +171,7 @@ record IsSaid (command : Command) : Type 0 where
   plain : IsPlain (joined (command_fields command))
   directive : Directive
   says : SaysDirective (fields_of (joined (command_fields command))) directive
-  counts : length (lines_of (block_of command)) ≡ lines_behind_directive directive
+  counts : length (lines_of (block_of command)) ≡ directive_block_lines directive
   is : command_of directive (block_of command) ≡ command
 
 module _ (word : List ℕ) (visible : list_all is_visible word ≡ true) where
@@ -470,10 +470,10 @@ module _ (line text : List ℕ) (lone : Lacks 10 line) where
       (λ lt. ap (λ (b : ℕ). eqb b 10) (get_or-append_seam these 10 text 0)) in
       ap (λ (n : ℕ). drop (n + 1) (these ++ 10 ∷ text)) place ∙ drop-append-add these (10 ∷ text) 1
 
-  behind-ended : behind_first_line (line ++ 13 ∷ 10 ∷ text) ≡ text
-  behind-ended = ap behind_first_line (sym (append_assoc line (13 ∷ []) (10 ∷ text))) ∙ after-feed (line ++ 13 ∷ []) front-lone
+  after-ended : after_first_line (line ++ 13 ∷ 10 ∷ text) ≡ text
+  after-ended = ap after_first_line (sym (append_assoc line (13 ∷ []) (10 ∷ text))) ∙ after-feed (line ++ 13 ∷ []) front-lone
 
-  reads-line : (head : Head) → IsUtf8 line → IsShort line → Says line head → length (lines_of text) ≡ lines_behind head
+  reads-line : (head : Head) → IsUtf8 line → IsShort line → Says line head → length (lines_of text) ≡ block_lines head
       → AllByRecursion IsShort (lines_of text) → Reads (line ++ 13 ∷ 10 ∷ text) (request_of head text)
   reads-line head utf8 short says counts all = record {
     line = line;
@@ -483,7 +483,7 @@ module _ (line text : List ℕ) (lone : Lacks 10 line) where
     says = says;
     whole = counts;
     short = all;
-    is = ap (request_of head) (sym behind-ended);
+    is = ap (request_of head) (sym after-ended);
   }
 
 block-short : (command : Command) → FitsCommand command → AllByRecursion IsShort (lines_of (block_of command))

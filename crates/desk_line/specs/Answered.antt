@@ -21,7 +21,7 @@ use Rattle.desk_line.specs.Request.{HasText, Reads, Tells, command_of}
 
 -- a request of these bytes to a book is answered so, and this is the book after it: the next one with a command's own
 -- number where it is accepted, and else the same. Memory may be wanting while a command with a text or a name is read, whatever
--- the lines behind its head line are, or while it is planned
+-- the lines after its head line are, or while it is planned
 pub data IsAnswered (bytes : List ℕ) (book next : Book) (answer : Answer) : Type 0 where
   accepted : (command : Command) (expect : Option ℕ) → Reads bytes (Do command expect) → IsAccepted book expect command
       → Makes book command next → answer ≡ answers.Done (number_of book command) → IsAnswered bytes book next answer

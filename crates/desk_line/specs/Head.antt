@@ -75,7 +75,7 @@ pub data SaysQuery (fields : List (List ℕ)) (query : Query) : Type 0 where
   list : fields ≡ codes "list" ∷ [] → query ≡ queries.List → SaysQuery fields query
   version : fields ≡ codes "version" ∷ [] → query ≡ queries.Version → SaysQuery fields query
 
--- before the fields of a command may stand the version that the book is expected to have, behind an at sign
+-- before the fields of a command may stand the version that the book is expected to have, after an at sign
 pub data Expects (fields : List (List ℕ)) (expect : Option ℕ) (command : List (List ℕ)) : Type 0 where
   nothing : expect ≡ None → fields ≡ command → Expects fields expect command
   expected : (number : List ℕ) (version : ℕ) → IsNumber number version

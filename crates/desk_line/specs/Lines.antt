@@ -14,6 +14,6 @@ pub record CanBeHead (line : List ℕ) : Type 0 where
   pub short : IsShort line
   pub utf8 : IsUtf8 line
 
--- the bytes behind the first line, with the endings of their lines
-abbrev pub behind_first_line : List ℕ → List ℕ
-behind_first_line bytes = after_first (λ b. b == 10) bytes
+-- the bytes after the first line, with the endings of their lines
+abbrev pub after_first_line : List ℕ → List ℕ
+after_first_line bytes = after_first (λ b. b == 10) bytes

@@ -26,8 +26,8 @@ use Rattle.desk_line.specs.declared.fault.Fault.{Fault}
 use Rattle.desk_line.specs.declared.fault.Fault.TheVariants.{Syntax, NoMemory}
 use Rattle.desk_line.specs.declared.request.Request.{Request}
 use Rattle.desk_line.specs.declared.request.Request.TheVariants as requests
-use Rattle.desk_line.specs.Lines.{behind_first_line}
-use Rattle.desk_line.specs.Request.{HasText, lines_behind, request_of}
+use Rattle.desk_line.specs.Lines.{after_first_line}
+use Rattle.desk_line.specs.Request.{HasText, block_lines, request_of}
 use Rattle.desk_line.specs.Limits.{most_digits, most_line_bytes, most_number}
 
 -- ---- lists
@@ -96,7 +96,7 @@ flag_in field =
     else if bytes_eq field (codes "off") then Some false
     else None
 
--- ---- commands and queries, by the fields behind their words
+-- ---- commands and queries, by the fields after their words
 
 -- the number of a paragraph alone
 abbrev pub paragraph_in : List (List ℕ) → Option ℕ
@@ -214,18 +214,18 @@ abbrev pub or_else : {A : Type 0} → Option A → Option A → Option A
 or_else None other = other
 or_else (Some x) other = Some x
 
--- a command behind an expected version
+-- a command after an expected version
 abbrev pub expecting : List ℕ → List (List ℕ) → Option Head
 expecting number fields = of_both (λ version directive. Do directive (Some version)) (number_in number) (directive_in fields)
 
-abbrev pub command_behind : List ℕ → List (List ℕ) → Option Head
-command_behind [] fields = option_map (λ directive. Do directive None) (directive_by [] fields)
-command_behind (b ∷ word) fields =
+abbrev pub command_after : List ℕ → List (List ℕ) → Option Head
+command_after [] fields = option_map (λ directive. Do directive None) (directive_by [] fields)
+command_after (b ∷ word) fields =
     if b == 64 then expecting word fields else option_map (λ directive. Do directive None) (directive_by (b ∷ word) fields)
 
 abbrev pub command_in : List (List ℕ) → Option Head
 command_in [] = None
-command_in (field ∷ fields) = command_behind field fields
+command_in (field ∷ fields) = command_after field fields
 
 unfoldable pub head_in : List (List ℕ) → Option Head
 head_in fields = or_else (option_map Ask (query_in fields)) (command_in fields)
@@ -246,10 +246,10 @@ are_lines [] count = count == 0
 are_lines (line ∷ lines) count = nat_lt 0 count && nat_le (length line) most_line_bytes && are_lines lines (count - 1)
 
 abbrev pub with_text : List ℕ → Head → Option Request
-with_text text head = if are_lines (lines_of text) (lines_behind head) then Some (request_of head text) else None
+with_text text head = if are_lines (lines_of text) (block_lines head) then Some (request_of head text) else None
 
 unfoldable pub request_in : List ℕ → Option Request
-request_in bytes = option_and_then (with_text (behind_first_line bytes)) (head_of (head_line bytes))
+request_in bytes = option_and_then (with_text (after_first_line bytes)) (head_of (head_line bytes))
 
 -- a result gives what was found; where it gives no memory, that is a command which has a text or a name
 abbrev pub Gives : Result Request Fault → Option Request → Type 0

@@ -29,13 +29,13 @@ use Rattle.desk_line.specs.Waiting.{Adds}
 abbrev pub line_of : List (List ℕ) → List ℕ
 line_of fields = joined fields ++ 10 ∷ []
 
--- a word, and numbers behind it
+-- a word, and numbers after it
 abbrev pub word_and : List ℕ → List ℕ → List ℕ
 word_and word numbers = line_of (word ∷ map decimal numbers)
 
 -- ---- refusals
 
--- the numbers that a refusal tells behind its code
+-- the numbers that a refusal tells after its code
 abbrev pub details : Refusal → List ℕ
 details (refusals.Moved version) = version ∷ []
 details (refusals.BadText place) = place ∷ []
@@ -82,7 +82,7 @@ abbrev pub listed : Paragraph → List ℕ
 listed paragraph = joined (decimal paragraph.id ∷ shown_text paragraph.table ∷ style_word paragraph.style
     ∷ volume_word paragraph.begins_volume ∷ life_word paragraph.struck ∷ decimal (length (print_of paragraph)) ∷ [])
 
--- a correction, with the name of its reader where somebody is named
+-- a correction, with the name of its proofreader where somebody is named
 abbrev pub correction_line : ℕ → Replacement → List ℕ → List ℕ
 correction_line number r [] =
     joined (decimal number ∷ codes "correct" ∷ decimal r.start ∷ decimal r.count ∷ shown_text r.text ∷ [])
@@ -144,7 +144,7 @@ pub data Refuses (book : Book) (query : Query) (refusal : Refusal) : Type 0 wher
   no_cell : (id cell : ℕ) → query ≡ Whence id cell → LacksCell book id cell
       → refusal ≡ refusals.BadSpan → Refuses book query refusal
 
--- a line that a query shows, behind a bar and a blank
+-- a line that a query shows, after a bar and a blank
 abbrev pub shown_line : List ℕ → List ℕ
 shown_line line = line_of (codes "|" ∷ line ∷ [])
 
@@ -172,7 +172,7 @@ abbrev pub BeginsWith : List ℕ → List ℕ → Type 0
 BeginsWith front line = (rest : List ℕ) × (line ≡ front ++ rest)
 
 -- each line of the text but the last begins with a bar and a blank, and the last with one of these words
-pub record EndsBehindBars (text : List ℕ) : Type 0 where
+pub record EndsAfterBars (text : List ℕ) : Type 0 where
   pub others : List (List ℕ)
   pub last : List ℕ
   pub lines : pieces_of text ≡ others ++ last ∷ []
@@ -181,7 +181,7 @@ pub record EndsBehindBars (text : List ℕ) : Type 0 where
 
 -- ---- what is sent
 
--- the lines that a query shows come behind whatever text was sent
+-- the lines that a query shows come after whatever text was sent
 abbrev pub AddsShown : Type 0 → (now new : Option (List ℕ)) → (was waiting : Waiting) → Book → Query → Type 0
 AddsShown CanFail now new was waiting book query =
     (lines : List (List ℕ)) × ShowsLines book query lines × Adds CanFail now new was waiting (flat_map shown_line lines)

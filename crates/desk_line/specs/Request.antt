@@ -16,38 +16,38 @@ use Rattle.desk_line.specs.declared.directive.SpanText.{SpanText}
 use Rattle.desk_line.specs.declared.request.Request.{Request}
 use Rattle.desk_line.specs.declared.request.Request.TheVariants.{Do, Ask}
 use Rattle.desk_line.specs.Head.{Says}
-use Rattle.desk_line.specs.Lines.{IsShort, behind_first_line}
+use Rattle.desk_line.specs.Lines.{IsShort, after_first_line}
 
 -- ---- what follows a head line
 
 -- how many lines follow what a head line says
-abbrev pub lines_behind_directive : Directive → ℕ
-lines_behind_directive (Table name count) = count
-lines_behind_directive (Supply name) = 0
-lines_behind_directive (TypeIn after name print) = 0
-lines_behind_directive (Correct span who) = 0
-lines_behind_directive (Undo id) = 0
-lines_behind_directive (Mark span) = 0
-lines_behind_directive (Resolve id) = 0
-lines_behind_directive (Strike id) = 0
-lines_behind_directive (Restore id) = 0
-lines_behind_directive (Style id style) = 0
-lines_behind_directive (Volume id begins) = 0
-lines_behind_directive (Retable id name) = 0
-lines_behind_directive (Move id after) = 0
+abbrev pub directive_block_lines : Directive → ℕ
+directive_block_lines (Table name count) = count
+directive_block_lines (Supply name) = 0
+directive_block_lines (TypeIn after name print) = 0
+directive_block_lines (Correct span who) = 0
+directive_block_lines (Undo id) = 0
+directive_block_lines (Mark span) = 0
+directive_block_lines (Resolve id) = 0
+directive_block_lines (Strike id) = 0
+directive_block_lines (Restore id) = 0
+directive_block_lines (Style id style) = 0
+directive_block_lines (Volume id begins) = 0
+directive_block_lines (Retable id name) = 0
+directive_block_lines (Move id after) = 0
 
-abbrev pub lines_behind : Head → ℕ
-lines_behind (heads.Do directive expect) = lines_behind_directive directive
-lines_behind (heads.Ask query) = 0
+abbrev pub block_lines : Head → ℕ
+block_lines (heads.Do directive expect) = directive_block_lines directive
+block_lines (heads.Ask query) = 0
 
 -- how many lines a head line takes: those that it says, or none where it says nothing
 pub data Takes (line : List ℕ) (count : ℕ) : Type 0 where
-  said : (head : Head) → Says line head → count ≡ lines_behind head → Takes line count
+  said : (head : Head) → Says line head → count ≡ block_lines head → Takes line count
   unsaid : ((head : Head) → ¬ Says line head) → count ≡ 0 → Takes line count
 
 -- ---- the requests of an input
 
--- a whole request: a head line and just as many lines behind it as it takes, each ended by a line feed
+-- a whole request: a head line and just as many lines after it as it takes, each ended by a line feed
 pub record IsWhole (request : List ℕ) : Type 0 where
   pub line : List ℕ
   pub block : List (List ℕ)
@@ -76,7 +76,7 @@ Requests input [] = input ≡ []
 Requests input (request ∷ requests) =
     (later : List ℕ) × (input ≡ request ++ later) × IsRequestBefore later request × Requests later requests
 
--- these requests stand whole in bytes behind which a read failed; what follows the last of them begins with no whole request
+-- these requests stand whole in bytes after which a read failed; what follows the last of them begins with no whole request
 abbrev pub WholeRequests : List ℕ → List (List ℕ) → Type 0
 WholeRequests bytes [] = (request later : List ℕ) → bytes ≡ request ++ later → ¬ IsWhole request
 WholeRequests bytes (request ∷ requests) =
@@ -91,7 +91,7 @@ correction_of span who = commands.Correct span.paragraph span.start span.count (
 abbrev pub mark_of : SpanText → Command
 mark_of span = commands.Mark span.paragraph span.start span.count (chars span.text)
 
--- the command that a head line and the bytes of the lines behind it give
+-- the command that a head line and the bytes of the lines after it give
 abbrev pub command_of : Directive → List ℕ → Command
 command_of (Table name count) text = commands.Table (chars name) text
 command_of (Supply name) text = commands.Table (chars name) EN.now
@@ -118,9 +118,9 @@ pub record Reads (bytes : List ℕ) (request : Request) : Type 0 where
   pub head : Head
   pub lines : lines_of bytes ≡ line ∷ block
   pub says : Says line head
-  pub whole : length block ≡ lines_behind head
+  pub whole : length block ≡ block_lines head
   pub short : AllByRecursion IsShort block
-  pub is : request ≡ request_of head (behind_first_line bytes)
+  pub is : request ≡ request_of head (after_first_line bytes)
 
 -- the command has a text or a name, for which memory is taken
 abbrev pub HasText : Command → Type 0

@@ -1,4 +1,4 @@
--- What comes behind a text that is being sent.
+-- What comes after a text that is being sent.
 use Rattle.std.specs.Prelude.{◌≡◌, List, ℕ, ◌++◌, true, false, Option}
 use Rattle.std.specs.Io.KnownBytes.{Appends}
 use Rattle.desk_line.specs.declared.waiting.Waiting.{Waiting}
@@ -10,7 +10,7 @@ pub data IsSent (CanFail : Type 0) (before now : Option (List ℕ)) (waiting : W
   broken : (out rest : List ℕ) → Appends before now out → out ++ rest ≡ text → waiting.is_broken ≡ true → CanFail
       → IsSent CanFail before now waiting text
 
--- a piece comes behind whatever text was sent
+-- a piece comes after whatever text was sent
 abbrev pub Adds : Type 0 → (now new : Option (List ℕ)) → (was waiting : Waiting) → List ℕ → Type 0
 Adds CanFail now new was waiting piece =
     (before : Option (List ℕ)) (text : List ℕ) → IsSent CanFail before now was text → IsSent CanFail before new waiting (text ++ piece)

@@ -37,7 +37,7 @@ pub record IsWord (name : List ℕ) : Type 0 where
   pub some : name ≢ []
   pub no_blank : All (λ c. c ≢ 32) name
 
--- the name of a reader, where one is named
+-- the name of a proofreader, where one is named
 abbrev pub IsWordIfAny : List ℕ → Type 0
 IsWordIfAny [] = Unit {0}
 IsWordIfAny (c ∷ who) = IsWord (c ∷ who)
@@ -100,7 +100,7 @@ abbrev pub flag_field : Bool → List ℕ
 flag_field true = codes "on"
 flag_field false = codes "off"
 
--- a correction, with the name of its reader where somebody is named
+-- a correction, with the name of its proofreader where somebody is named
 abbrev pub correction_fields : (id start count : ℕ) → List ℕ → List ℕ → List (List ℕ)
 correction_fields id start count text [] =
     codes "correct" ∷ decimal id ∷ decimal start ∷ decimal count ∷ shown_text text ∷ []
@@ -131,7 +131,7 @@ query_fields (Whence id cell) = codes "whence" ∷ decimal id ∷ decimal cell �
 query_fields queries.List = codes "list" ∷ []
 query_fields Version = codes "version" ∷ []
 
--- a line behind the version that is expected, if one is
+-- a line after the version that is expected, if one is
 abbrev pub expecting_line : Option ℕ → List ℕ → List ℕ
 expecting_line None line = line
 expecting_line (Some version) line = joined ((64 ∷ decimal version) ∷ line ∷ [])
@@ -142,7 +142,7 @@ head_text (Ask query) = joined (query_fields query)
 
 -- ---- the request
 
--- the bytes of the lines behind the head line
+-- the bytes of the lines after the head line
 abbrev pub block_of : Command → List ℕ
 block_of (Table name text) = text
 block_of (TypeIn after table text) = []

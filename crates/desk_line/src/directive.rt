@@ -47,7 +47,7 @@ pub(crate) enum Directive<'a> {
     Correct {
         /// The characters and the text.
         span: SpanText<'a>,
-        /// The name of the reader who corrects, empty where nobody is named.
+        /// The name of the proofreader who corrects, empty where nobody is named.
         who: Field<'a>,
     },
     /// Takes back the newest correction of a paragraph that is in force.
@@ -105,7 +105,7 @@ pub(crate) enum Directive<'a> {
     },
 }
 
-/// The command that a word and the fields behind it give.
+/// The command that a word and the fields after it give.
 pub(crate) fn read_directive<'a>(word: &Field<'_>, fields: Fields<'a>) -> Option<Directive<'a>>
     ensures { result ≡ directive_by word.now fields.entry }
 {

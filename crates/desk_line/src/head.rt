@@ -1,7 +1,7 @@
 //! What a head line says.
 ghost use Rattle.desk_line.specs.Fields.{fields_of};
 ghost use Rattle.desk_line.specs.Reading.{command_in, expecting, head_in, head_of};
-ghost use Rattle.desk_line.specs.Request.{lines_behind};
+ghost use Rattle.desk_line.specs.Request.{block_lines};
 ghost use Rattle.std.specs.Prelude.{◌≡◌};
 
 use super::directive::{Directive, read_directive};
@@ -26,8 +26,8 @@ pub(crate) enum Head<'a> {
 }
 
 /// How many lines follow what a head line says.
-pub(crate) fn lines_behind(head: &Head<'_>) -> u64
-    ensures { result ≡ lines_behind head.now }
+pub(crate) fn block_lines(head: &Head<'_>) -> u64
+    ensures { result ≡ block_lines head.now }
 {
     match head {
         Head::Do {
@@ -79,7 +79,7 @@ fn read_command(fields: Fields<'_>) -> Option<Head<'_>>
     }
 }
 
-/// The command behind an expected version.
+/// The command after an expected version.
 #[tactic(auto, unfolding(crate::specs::Reading::directive_in))]
 fn read_expecting<'a>(version: &[u8], fields: Fields<'a>) -> Option<Head<'a>>
     ensures { result ≡ expecting version.now fields.entry }

@@ -1,7 +1,7 @@
 //! Laws of requests and replies.
 ghost use Rattle.desk_book.specs.Book.{Book};
 ghost use Rattle.desk_book.specs.Sound.{IsSound};
-ghost use Rattle.desk_line.specs.Reply.{EndsBehindBars, RepliesToQuery};
+ghost use Rattle.desk_line.specs.Reply.{EndsAfterBars, RepliesToQuery};
 ghost use Rattle.desk_line.specs.declared.request.Query.{Query};
 ghost use Rattle.desk_line.specs.Request.{Reads, Requests, WholeRequests};
 ghost use Rattle.desk_line.specs.Written.{CanBeWritten, written};
@@ -25,7 +25,7 @@ pub fn one_cut()
     ensures one { (input : List ℕ) (this that : List (List ℕ)) → Requests input this → Requests input that → this ≡ that }
 {}
 
-/// Bytes behind which a read failed have one list of whole requests: the first requests of each input that begins with them.
+/// Bytes after which a read failed have one list of whole requests: the first requests of each input that begins with them.
 pub fn one_cut_before_a_fault()
     ensures some { (bytes : List ℕ) → (requests : List (List ℕ)) × WholeRequests bytes requests }
     ensures one { (bytes : List ℕ) (this that : List (List ℕ)) → WholeRequests bytes this → WholeRequests bytes that → this ≡ that }
@@ -35,7 +35,7 @@ pub fn one_cut_before_a_fault()
 
 /// Each line of a reply to a query but the last begins with a bar, so that none of them can be taken for an answer. Of a
 /// sound book this holds because none of its texts has a line feed.
-pub fn lines_behind_bars()
+pub fn lines_after_bars()
     ensures { (book : Book) (query : Query) (text : List ℕ)
-        → IsSound book → RepliesToQuery book query text → EndsBehindBars text }
+        → IsSound book → RepliesToQuery book query text → EndsAfterBars text }
 {}

@@ -1,4 +1,4 @@
-//! What the fields behind the first word of a head line stand for.
+//! What the fields after the first word of a head line stand for.
 ghost use Rattle.desk_line.specs.Reading.{anchor_in, count_in, flag_in, name_in, number_in, style_in};
 ghost use Rattle.std.specs.Char.{is_ascii_digit};
 ghost use Rattle.std.specs.List.{list_all};

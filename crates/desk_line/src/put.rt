@@ -1,4 +1,4 @@
-//! Puts texts behind what waits to be sent, without memory.
+//! Puts texts after what waits to be sent, without memory.
 ghost use Rattle.cell_core.specs.Cell.{braille_character};
 ghost use Rattle.desk_ends.specs.Cells.{text_of};
 ghost use Rattle.desk_ends.specs.Sent.{Sent};
@@ -139,7 +139,7 @@ pub(crate) fn put_cells<K: Sink>(sink: &mut K, waiting: &mut Waiting, cells: &[C
     }
 }
 
-/// Puts a line of a word and numbers behind it.
+/// Puts a line of a word and numbers after it.
 pub(crate) fn put_line<K: Sink>(sink: &mut K, waiting: &mut Waiting, word: &[u8], numbers: &[u64])
     ensures { Adds K.can_fail (K.contents sink.old) (K.contents sink.new)
         waiting.old waiting.new (word_and word.now numbers.now) }
@@ -152,7 +152,7 @@ pub(crate) fn put_line<K: Sink>(sink: &mut K, waiting: &mut Waiting, word: &[u8]
     put_byte(sink, waiting, b'\n');
 }
 
-/// Puts a line of a bar and fields behind it.
+/// Puts a line of a bar and fields after it.
 pub(crate) fn put_fields<K: Sink>(sink: &mut K, waiting: &mut Waiting, fields: &[&[u8]])
     ensures { Adds K.can_fail (K.contents sink.old) (K.contents sink.new)
         waiting.old waiting.new (line_of (codes "|" ∷ map (λ field. field.now) fields.now)) }

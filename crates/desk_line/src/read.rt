@@ -1,5 +1,5 @@
 //! Reads requests.
-ghost use Rattle.desk_line.specs.Lines.{behind_first_line};
+ghost use Rattle.desk_line.specs.Lines.{after_first_line};
 ghost use Rattle.desk_line.specs.Reading.{Gives, are_lines, head_line, request_in};
 ghost use Rattle.desk_line.specs.Request.{HasText, Reads, Takes, Tells, command_of, correction_of, mark_of, request_of};
 ghost use Rattle.louis_table.specs.Lines.{lines_of};
@@ -11,7 +11,7 @@ ghost use Rattle.std.specs.Str.{chars};
 use super::directive::{Directive, SpanText};
 use super::fault::Fault;
 use super::fields::Field;
-use super::head::{Head, lines_behind, read_head};
+use super::head::{Head, block_lines, read_head};
 use super::limits::MOST_LINE_BYTES;
 use super::request::Request;
 use desk_book::{Anchor, Bytes, Command, Text};
@@ -26,7 +26,7 @@ pub fn lines_after(head: &[u8]) -> u64
     ensures { Takes head.now result }
 {
     match read_head(head) {
-        Some(head) => lines_behind(&head),
+        Some(head) => block_lines(&head),
         None => 0,
     }
 }
@@ -52,7 +52,7 @@ fn read(alloc: Global, bytes: &[u8]) -> Result<Request, Fault>
     let Some(head) = read_head(without_return(line)) else {
         return Err(Fault::Syntax);
     };
-    if !are_lines(text, lines_behind(&head)) {
+    if !are_lines(text, block_lines(&head)) {
         return Err(Fault::Syntax);
     }
     make_request(alloc, head, text)
@@ -113,7 +113,7 @@ fn are_lines(bytes: &[u8], count: u64) -> bool
     left == 0
 }
 
-/// The request that a head line and the bytes of the lines behind it make.
+/// The request that a head line and the bytes of the lines after it make.
 fn make_request(alloc: Global, head: Head<'_>, text: &[u8]) -> Result<Request, Fault>
     ensures { Gives result (Some (request_of head.entry text.now)) }
 {
@@ -126,7 +126,7 @@ fn make_request(alloc: Global, head: Head<'_>, text: &[u8]) -> Result<Request, F
     }
 }
 
-/// The command that a head line and the bytes of the lines behind it make.
+/// The command that a head line and the bytes of the lines after it make.
 fn make_command(alloc: Global, directive: Directive<'_>, text: &[u8]) -> Result<Command, AllocError>
     ensures made { IfOk result (λ command. command ≡ command_of directive.entry text.now) }
     ensures short { OnErr result (HasText (command_of directive.entry text.now)) }

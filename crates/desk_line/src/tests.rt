@@ -640,7 +640,7 @@ version¶ => end 6¶",
 }
 
 #[test]
-fn tables_are_in_the_lines_behind(rt: HostRuntime) -> Result<(), Fail> {
+fn tables_are_in_the_lines_after(rt: HostRuntime) -> Result<(), Fail> {
     judge_session(
         &rt,
         rt.alloc(),
@@ -904,7 +904,7 @@ fn taken(alloc: Global, book: &Book, answer: &Answer, room: usize) -> (Vec<u8>, 
     (full.taken, is_whole)
 }
 
-/// Judges that so much of a reply is taken, and whether it is all, where a write fails behind it.
+/// Judges that so much of a reply is taken, and whether it is all, where a write fails after it.
 fn judge_break(
     rt: &impl Abort,
     alloc: Global,
@@ -918,7 +918,7 @@ fn judge_break(
     assert_eq!(rt; is_whole, is_all, "at {}", wanted.len());
 }
 
-/// Judges that a reply is broken off behind each of its first 20 and its last 400 bytes where a write fails there.
+/// Judges that a reply is broken off after each of its first 20 and its last 400 bytes where a write fails there.
 fn judge_breaks(rt: &impl Abort, alloc: Global, book: &Book, answer: &Answer) -> Result<(), Fail> {
     let whole = replied(alloc, book, answer)?;
     let whole = whole.as_slice();

@@ -13,15 +13,19 @@ returns-clause-found c =
     let book = c.self.inside in
     IfOk-ok_or _ _ _ c.ok_or.ensures.value _
     (λ kept e.
-      let there : lookup (nat_eq c.args.id) book.paragraphs ≡ Some kept.now = sym c.get.ensures ∙ ap option_copied e in
-      let table = table-kept book.version book.tables book.paragraphs book.marks c.self.invariant c.args.id kept.now there in
-      (table.0.rules,
+    let there : lookup (nat_eq c.args.id) book.paragraphs ≡ Some kept.now = sym c.get.ensures ∙ ap option_copied e in
+    let table = table-kept book.version book.tables book.paragraphs book.marks c.self.invariant c.args.id kept.now there in (
+      table.0.rules,
       subst (λ (b : Book). IsShown b c.args.id kept.now table.0.rules) c.self.view_is
-      (IsShown-found book.version book.tables book.paragraphs book.marks c.self.invariant c.args.id kept.now there table.0 table.1)))
+          (IsShown-found book.version book.tables book.paragraphs book.marks c.self.invariant c.args.id kept.now there table.0 table.1),
+    ))
 
 pub returns-clause-missing : goal.returns-clause-missing
 returns-clause-missing c =
     let book = c.self.inside in
     IfErr-ok_or _ _ _ c.ok_or.ensures.value _
-    (λ e. (refl, subst (λ (b : Book). paragraph_of b c.args.id ≡ None) c.self.view_is
-    (missing-kept book.version book.tables book.paragraphs book.marks c.self.invariant c.args.id (sym c.get.ensures ∙ ap option_copied e))))
+    (λ e. (
+      refl,
+      subst (λ (b : Book). paragraph_of b c.args.id ≡ None) c.self.view_is
+          (missing-kept book.version book.tables book.paragraphs book.marks c.self.invariant c.args.id (sym c.get.ensures ∙ ap option_copied e)),
+    ))

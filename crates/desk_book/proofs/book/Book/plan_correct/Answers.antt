@@ -25,7 +25,7 @@ returns-clause-planned c =
     (subst (λ (t : List ℕ). IsCorrection c.as_slice-old.result.now c.args.start c.args.count t c.args.who.now c.in_ok-correction.field-0) (c.deref-3.ensures.value ∙ put) c.in_ok-correction.ensures) in
     let there = subst (λ (t : List ℕ). c.args.start + c.args.count ≤ length t) shown.print span in
     IfOk-weaker c.entered.result _ _
-    (λ effect is. planned_here c.args.self.now c.args.id c.args.start c.args.count c.args.text.now c.args.who.now c.in_ok-check_reader.ensures.name c.in_ok-check_text.ensures.unbarred
+    (λ effect is. planned_here c.args.self.now c.args.id c.args.start c.args.count c.args.text.now c.args.who.now c.in_ok-check_proofreader.ensures.name c.in_ok-check_text.ensures.unbarred
     c.in_ok-paragraph.paragraph.now c.in_ok-paragraph.rules.now shown c.in_ok-paragraph.ensures.found.1 span c.in_ok-print.print.items printed short _ effect refl is
     (entry-correction (print_of shown.paragraph) c.args.start c.args.count text c.args.who.now c.in_ok-correction.field-0 made there)
     (TookFrom-correction (print_of shown.paragraph) c.args.start c.args.count text c.args.who.now c.in_ok-correction.field-0 made there)
@@ -43,7 +43,7 @@ returns-clause-refused c =
     let printed : c.in_ok-print.print.items ≡ replaced (print_of shown.paragraph) (replacement_by c.args.start c.args.count c.args.text.now) =
     c.in_ok-print.ensures ∙ (λ i. replaced_by c.args.start c.args.count ((c.deref-2.ensures.value ∙ put) i) (before i)) in
     IfErr-weaker c.entered.result _ _
-    (λ told halts. halted_here c.args.self.now c.args.id c.args.start c.args.count c.args.text.now c.args.who.now c.in_ok-check_reader.ensures.name c.in_ok-check_text.ensures.unbarred
+    (λ told halts. halted_here c.args.self.now c.args.id c.args.start c.args.count c.args.text.now c.args.who.now c.in_ok-check_proofreader.ensures.name c.in_ok-check_text.ensures.unbarred
     c.in_ok-paragraph.paragraph.now c.in_ok-paragraph.rules.now shown c.in_ok-paragraph.ensures.found.1 span c.in_ok-print.print.items printed short told halts) c.entered.ensures.refused
 
 pub returns-in_err-put-clause-refused : goal.returns-in_err-put-clause-refused
@@ -51,7 +51,7 @@ returns-in_err-put-clause-refused c =
     let p = err_from_is_err_and c.from_residual-in_err-put.result c.from_residual-in_err-put.ensures.1 in
     let shown = c.in_ok-paragraph.ensures.found.0 in
     let span = subst (λ (t : List ℕ). c.args.start + c.args.count ≤ length t) c.as_slice-old.ensures c.in_ok-check_span.ensures.there in
-    rw p.1 (no_memory_here c.args.self.now c.args.id c.args.start c.args.count c.args.text.now c.args.who.now c.in_ok-check_reader.ensures.name c.in_ok-check_text.ensures.unbarred
+    rw p.1 (no_memory_here c.args.self.now c.args.id c.args.start c.args.count c.args.text.now c.args.who.now c.in_ok-check_proofreader.ensures.name c.in_ok-check_text.ensures.unbarred
     c.in_ok-paragraph.paragraph.now c.in_ok-paragraph.rules.now shown c.in_ok-paragraph.ensures.found.1 span _ p.2)
 
 pub returns-in_err-print-clause-refused : goal.returns-in_err-print-clause-refused
@@ -59,7 +59,7 @@ returns-in_err-print-clause-refused c =
     let p = err_from_is_err_and c.from_residual-in_err-print.result c.from_residual-in_err-print.ensures.1 in
     let shown = c.in_ok-paragraph.ensures.found.0 in
     let span = subst (λ (t : List ℕ). c.args.start + c.args.count ≤ length t) c.as_slice-old.ensures c.in_ok-check_span.ensures.there in
-    rw p.1 (no_memory_here c.args.self.now c.args.id c.args.start c.args.count c.args.text.now c.args.who.now c.in_ok-check_reader.ensures.name c.in_ok-check_text.ensures.unbarred
+    rw p.1 (no_memory_here c.args.self.now c.args.id c.args.start c.args.count c.args.text.now c.args.who.now c.in_ok-check_proofreader.ensures.name c.in_ok-check_text.ensures.unbarred
     c.in_ok-paragraph.paragraph.now c.in_ok-paragraph.rules.now shown c.in_ok-paragraph.ensures.found.1 span _ p.2)
 
 pub returns-in_err-correction-clause-refused : goal.returns-in_err-correction-clause-refused
@@ -67,5 +67,5 @@ returns-in_err-correction-clause-refused c =
     let p = err_from_is_err_and c.from_residual-in_err-correction.result c.from_residual-in_err-correction.ensures.1 in
     let shown = c.in_ok-paragraph.ensures.found.0 in
     let span = subst (λ (t : List ℕ). c.args.start + c.args.count ≤ length t) c.as_slice-old.ensures c.in_ok-check_span.ensures.there in
-    rw p.1 (no_memory_here c.args.self.now c.args.id c.args.start c.args.count c.args.text.now c.args.who.now c.in_ok-check_reader.ensures.name c.in_ok-check_text.ensures.unbarred
+    rw p.1 (no_memory_here c.args.self.now c.args.id c.args.start c.args.count c.args.text.now c.args.who.now c.in_ok-check_proofreader.ensures.name c.in_ok-check_text.ensures.unbarred
     c.in_ok-paragraph.paragraph.now c.in_ok-paragraph.rules.now shown c.in_ok-paragraph.ensures.found.1 span _ p.2)
