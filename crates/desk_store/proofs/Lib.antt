@@ -10,6 +10,7 @@ pub mod Distinct
 pub mod Exact
 pub mod FileTexts
 pub mod Kept
+pub mod LostStores
 pub mod MadeTables
 pub mod MoreTables
 pub mod Named

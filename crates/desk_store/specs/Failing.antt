@@ -47,6 +47,7 @@ module _ {S : Type 0} (g : Ghosts S) where
         → Survives (state g last) new (λ _. ⊥) → FailsToPut putting old new e
     at_commit : (last : Held S) → Survives (state g old) (state g last) (λ _. ⊥)
         → putting.puts old last
+        → Survives (state g last) new (λ db. db ≡ (state g last).now.trees)
         → Fails (state g last) new ⊥ e → FailsToPut putting old new e
 
   -- Some of these tables aren't made, or what is put then isn't.

@@ -8,7 +8,7 @@ use Rattle.sqlite_catalog.specs.Change.{KeepsRows, created, next_tree, is_used}
 use Rattle.sqlite.specs.Does.{lacks_sequence}
 use Rattle.sqlite.specs.Effect.{Database}
 use Rattle.sqlite.specs.Held.{Held, state}
-use Rattle.sqlite.specs.State.{State, IsLive}
+use Rattle.sqlite.specs.State.{State}
 use Rattle.desk_book.specs.declared.rows.BookRow.{BookRow}
 use Rattle.desk_book.specs.Puts.{RowPut}
 use Rattle.sql_tables.specs.Making.{AreFree, FreesNone, IsMaking, KeepsAside, first_created}
@@ -95,7 +95,7 @@ making = map creation new_tables ++ row_put books first_row ∷ []
 
 -- What making adds to what a crash may leave: only where the names were free, and then the file with the tables.
 abbrev pub IsMade : State → Trees → Type 0
-IsMade s db = AreAbsent s.now.schema × (IsLive s → IsNew s.now.schema s.now.trees (λ c. IsFile (made s.now.schema) c db))
+IsMade s db = AreAbsent s.now.schema × IsNew s.now.schema s.now.trees (λ c. IsFile (made s.now.schema) c db)
 
 -- ---- tables that are made in a file
 

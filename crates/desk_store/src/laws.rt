@@ -19,7 +19,7 @@ ghost use Rattle.sql_tables.specs.Rows.{Lists, picked};
 ghost use Rattle.desk_store.specs.Whole.{AreApart, AreRows, AreUtf8, HaveOwnRowids, HaveSameRows, IsUtf8Put, Rows, contents_of};
 ghost use Rattle.sqlite.specs.Effect.{Database};
 ghost use Rattle.sqlite.specs.Held.{state};
-ghost use Rattle.sqlite.specs.State.{IsLive, Opens};
+ghost use Rattle.sqlite.specs.State.{Opens};
 ghost use Rattle.sqlite_catalog.specs.Change.{KeepsRows};
 ghost use Rattle.sqlite_catalog.specs.Listing.{IsSound};
 ghost use Rattle.sqlite_schema.specs.declared.schema.Schema.{Schema};
@@ -39,10 +39,11 @@ pub fn one_schema()
 
 /// A connection that is open over the trees of a file shows that file, however it was opened.
 pub fn one_file<S: Alter>(conn: &Connection<S>)
-    ensures { IsLive (state S.Store conn.now) → IsTrue (state S.Store conn.now).is_open
-        → (l : Layout) (c : Contents) → IsFile l c (state S.Store conn.now).now.trees
-        → Shows l c (state S.Store conn.now) }
-{}
+    ensures { IsTrue (state S.Store conn.now).is_open → (l : Layout) (c : Contents)
+        → IsFile l c (state S.Store conn.now).now.trees → Shows l c (state S.Store conn.now) }
+{
+    let _ = conn.schema();
+}
 
 /// A connection that opened at what a crash may leave of another one shows just that, so it has whatever property each outcome of the crash
 /// had, and it shows what these trees are, whatever stores they are over.
@@ -50,10 +51,11 @@ pub fn found_again<S: Alter, T: Alter>(last: &Connection<S>, next: &Connection<T
     ensures left { (state S.Store last.now).may_leave (state T.Store next.now).committed.trees
         → Opens (state T.Store next.now)
         → (state S.Store last.now).may_leave (state T.Store next.now).now.trees }
-    ensures shows { Opens (state T.Store next.now) → IsLive (state T.Store next.now)
-        → (l : Layout) (c : Contents) → IsFile l c (state T.Store next.now).committed.trees
-        → Shows l c (state T.Store next.now) }
-{}
+    ensures shows { Opens (state T.Store next.now) → (l : Layout) (c : Contents)
+        → IsFile l c (state T.Store next.now).committed.trees → Shows l c (state T.Store next.now) }
+{
+    let _ = next.schema();
+}
 
 /// A file has one contents, but for the order of the rows.
 pub fn one_contents()

@@ -2,11 +2,11 @@
 
 ghost use Rattle.std.specs.Prelude.{◌≡◌, false, true, [], ◌∷◌, IfErr, IsTrue, OnErr, OnOk, map};
 ghost use Rattle.sqlite.specs.Held.{state};
-ghost use Rattle.sqlite.specs.State.{HasCleanDisk, IsLive, KeepsCommit, Survives};
-ghost use Rattle.sql_tables.specs.States.{IsCommitted, IsSettled, IsUndone, seen};
+ghost use Rattle.sqlite.specs.State.{HasCleanDisk, KeepsCommit, Survives};
+ghost use Rattle.sql_tables.specs.States.{IsCommitted, IsSettled, IsUndone, ShowsAsBefore, seen};
 ghost use Rattle.desk_store.specs.Described.{described};
 ghost use Rattle.desk_store.specs.Failing.{FailsToChange, StopsMaking, of_first_row};
-ghost use Rattle.desk_store.specs.Fault.{IsToldAs};
+ghost use Rattle.desk_store.specs.Fault.{CountsLoss, IsToldAs};
 ghost use Rattle.desk_store.specs.Making.{AreAbsent, AreMade, IsMade, IsNew, MakesTables, creation, made, making, new_tables};
 ghost use Rattle.desk_store.specs.States.{Shows};
 ghost use Rattle.desk_store.specs.Tables.{AreWritten, which};
@@ -15,6 +15,7 @@ ghost use Rattle.desk_store.specs.Turns.{AreRun, Failed, IsLeftBy, Ran, begun};
 use crate::fault::Fault;
 use crate::put::{put_book, run};
 use crate::table::create_text;
+use crate::transaction::begin;
 use desk_book::parts::FileTable;
 use desk_book::rows::BookRow;
 use sqlite::{Alter, Connection, Error, Transaction};
@@ -106,7 +107,7 @@ pub fn make_tables<S: Alter>(conn: &mut Connection<S>) -> Result<(), Error>
     // Where a name is taken, the answer is an error.
     ensures free { HasCleanDisk (state S.Store conn.new)
         → OnOk result (AreAbsent (state S.Store conn.old).now.schema) }
-    ensures made { HasCleanDisk (state S.Store conn.new) → IsLive (state S.Store conn.old)
+    ensures made { HasCleanDisk (state S.Store conn.new)
         → OnOk result (IsNew (state S.Store conn.old).now.schema (state S.Store conn.old).now.trees
         (λ c. Shows (made (state S.Store conn.old).now.schema) c (state S.Store conn.new))) }
     ensures open { HasCleanDisk (state S.Store conn.new)
@@ -126,12 +127,18 @@ pub fn make_tables<S: Alter>(conn: &mut Connection<S>) -> Result<(), Error>
         (state S.Store conn.new)) }
     ensures undone { HasCleanDisk (state S.Store conn.new)
         → OnErr result (IsUndone (state S.Store conn.old) (state S.Store conn.new)) }
+    // The connection shows what it showed before, if it is open still.
+    ensures as_before { HasCleanDisk (state S.Store conn.new)
+        → OnErr result (ShowsAsBefore (state S.Store conn.old) (state S.Store conn.new)) }
+    // What was lost is counted, or was too big.
+    ensures lost { HasCleanDisk (state S.Store conn.new)
+        → IfErr result (CountsLoss (state S.Store conn.old) (state S.Store conn.new)) }
     // After a refusal a crash leaves nothing new.
     ensures refused { HasCleanDisk (state S.Store conn.new)
         → IfErr result (λ e. IsToldAs e Fault.Refused
         → Survives (state S.Store conn.old) (state S.Store conn.new) (λ _. ⊥)) }
 {
-    let mut tx = conn.transaction();
+    let mut tx = begin(conn);
     create_all(&mut tx, &NEW_TABLES)?;
     put_first_row(&mut tx)?;
     tx.commit()?;

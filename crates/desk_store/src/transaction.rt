@@ -1,24 +1,38 @@
 //! A change of the file, as one transaction.
 
-ghost use Rattle.std.specs.Prelude.{◌≡◌, ◌++◌, false, IfErr, OnErr, OnOk, map};
+ghost use Rattle.std.specs.Prelude.{◌≡◌, ◌++◌, false, true, IfErr, IsTrue, OnErr, OnOk, map};
 ghost use Rattle.std.specs.Iterator.{IsFinite};
 ghost use Rattle.sqlite.specs.Held.{state};
-ghost use Rattle.sqlite.specs.State.{HasCleanDisk, Survives};
+ghost use Rattle.sqlite.specs.State.{HasCleanDisk, IsLive, Survives};
 ghost use Rattle.desk_store.specs.Failing.{FailsToChange, FailsToPut, of_items};
-ghost use Rattle.desk_store.specs.Fault.{IsToldAs};
+ghost use Rattle.desk_store.specs.Fault.{CountsLoss, IsToldAs};
 ghost use Rattle.desk_store.specs.Puts.{IsFileWith, OfItems, Writes, statement};
 ghost use Rattle.desk_store.specs.Making.{IsFileWithTables, WritesWithTables, creation};
 ghost use Rattle.desk_store.specs.Tables.{AreWritten, which};
 ghost use Rattle.desk_store.specs.Turns.{AreRun, IsLeftBy, begun};
-ghost use Rattle.sql_tables.specs.States.{IsCommitted, IsSettled, IsUndone};
+ghost use Rattle.sql_tables.specs.States.{IsCommitted, IsSettled, IsUndone, ShowsAsBefore};
 
 use crate::fault::Fault;
 use crate::make::create_all;
 use crate::put::put_all;
 use desk_book::parts::FileTable;
 use desk_book::rows::Put;
-use sqlite::{Alter, Connection, Error};
+use sqlite::{Alter, Connection, Error, Transaction};
 use std::alloc::Global;
+
+/// Begins a transaction of a connection, which is live and shows the last commit.
+pub(crate) fn begin<S: Alter>(conn: &mut Connection<S>) -> Transaction<'_, S>
+    requires { conn.old.in_transaction ≡ false }
+    ensures same_reference { result.conn.ghost_name ≡ conn.entry.ghost_name }
+    ensures begun { result.conn.now ≡ record conn.old { in_transaction = true } }
+    ensures live { IsLive (state S.Store conn.old) }
+    ensures settled { IsTrue (state S.Store conn.old).is_open
+        → (state S.Store conn.old).now ≡ (state S.Store conn.old).committed }
+{
+    let _ = conn.schema();
+    let _ = conn.is_autocommit();
+    conn.transaction()
+}
 
 /// Puts in turn what an iterator lends and commits it, as one. The caller's condition: the iterator ends. The error is the database's, or
 /// want of memory for what is put. A
@@ -56,12 +70,18 @@ pub fn write<'a, S: Alter, I: Iterator<Item = Put<'a>> + Drop>(
         (state S.Store conn.new)) }
     ensures undone { HasCleanDisk (state S.Store conn.new)
         → OnErr result (IsUndone (state S.Store conn.old) (state S.Store conn.new)) }
+    // The connection shows what it showed before, if it is open still.
+    ensures as_before { HasCleanDisk (state S.Store conn.new)
+        → OnErr result (ShowsAsBefore (state S.Store conn.old) (state S.Store conn.new)) }
+    // What was lost is counted, or was too big.
+    ensures lost { HasCleanDisk (state S.Store conn.new)
+        → IfErr result (CountsLoss (state S.Store conn.old) (state S.Store conn.new)) }
     // After a refusal a crash leaves nothing new.
     ensures refused { HasCleanDisk (state S.Store conn.new)
         → IfErr result (λ e. IsToldAs e Fault.Refused
         → Survives (state S.Store conn.old) (state S.Store conn.new) (λ _. ⊥)) }
 {
-    let mut tx = conn.transaction();
+    let mut tx = begin(conn);
     put_all(alloc, &mut tx, puts)?;
     tx.commit()?;
     Ok(())
@@ -105,12 +125,18 @@ pub fn write_with_tables<'a, S: Alter, I: Iterator<Item = Put<'a>> + Drop>(
         (of_items S.Store I.next_gives puts) (begun conn.old) (state S.Store conn.new)) }
     ensures undone { HasCleanDisk (state S.Store conn.new)
         → OnErr result (IsUndone (state S.Store conn.old) (state S.Store conn.new)) }
+    // The connection shows what it showed before, if it is open still.
+    ensures as_before { HasCleanDisk (state S.Store conn.new)
+        → OnErr result (ShowsAsBefore (state S.Store conn.old) (state S.Store conn.new)) }
+    // What was lost is counted, or was too big.
+    ensures lost { HasCleanDisk (state S.Store conn.new)
+        → IfErr result (CountsLoss (state S.Store conn.old) (state S.Store conn.new)) }
     // After a refusal a crash leaves nothing new.
     ensures refused { HasCleanDisk (state S.Store conn.new)
         → IfErr result (λ e. IsToldAs e Fault.Refused
         → Survives (state S.Store conn.old) (state S.Store conn.new) (λ _. ⊥)) }
 {
-    let mut both = conn.transaction();
+    let mut both = begin(conn);
     create_all(&mut both, tables)?;
     put_all(alloc, &mut both, puts)?;
     both.commit()?;

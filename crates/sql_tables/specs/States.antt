@@ -33,6 +33,10 @@ IsCommitted s = IsTrue s.is_open × (s.committed ≡ s.now)
 abbrev pub IsUndone : State → State → Type 0
 IsUndone old new = KeepsCommit old new × (IsTrue new.is_open → new.now ≡ new.committed)
 
+-- If the connection is open still, it shows what it showed before.
+abbrev pub ShowsAsBefore : State → State → Type 0
+ShowsAsBefore old new = IsTrue new.is_open → new.now ≡ old.now
+
 -- the connection shows a database in which this table is declared
 pub record HasTable (table : Table) (s : State) : Type 0 where
   pub declared : IsDeclared s.now.schema table

@@ -6,4 +6,4 @@ pub returns-clause-left : goal.returns-clause-left
 returns-clause-left g c = still_left (state g.S.Store c.args.last.now) (state g.T.Store c.args.next.now)
 
 pub returns-clause-shows : goal.returns-clause-shows
-returns-clause-shows g c = shows_committed (state g.T.Store c.args.next.now)
+returns-clause-shows g c opens = shows_committed (state g.T.Store c.args.next.now) opens c.schema.ensures.live

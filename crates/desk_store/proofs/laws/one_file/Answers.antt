@@ -3,4 +3,4 @@ use Rattle.desk_store.proofs.Schemas.{shows_own}
 use Rattle.desk_store.proofs.laws.one_file.Goals as goal
 
 pub returns : goal.returns
-returns g c live is_open l contents is = shows_own (state g.S.Store c.args.conn.now) l contents live is_open is
+returns g c is_open l contents is = shows_own (state g.S.Store c.args.conn.now) l contents c.schema.ensures.live is_open is
