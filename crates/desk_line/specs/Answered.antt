@@ -20,8 +20,8 @@ use Rattle.desk_line.specs.Reply.{IsReply}
 use Rattle.desk_line.specs.Request.{HasText, Reads, Tells, command_of}
 
 -- a request of these bytes to a book is answered so, and this is the book after it: the next one with a command's own
--- number where it is accepted, and else the same. Memory may be wanting while a command with a text or a name is read, whatever
--- the lines after its head line are, or while it is planned
+-- number where it is accepted, and else the same, also where the store failed to keep what the command makes. Memory may be
+-- wanting while a command with a text or a name is read, whatever the lines after its head line are, or while it is planned
 pub data IsAnswered (bytes : List ℕ) (book next : Book) (answer : Answer) : Type 0 where
   accepted : (command : Command) (expect : Option ℕ) → Reads bytes (Do command expect) → IsAccepted book expect command
       → Makes book command next → answer ≡ answers.Done (number_of book command) → IsAnswered bytes book next answer
@@ -34,8 +34,8 @@ pub data IsAnswered (bytes : List ℕ) (book next : Book) (answer : Answer) : Ty
       → next ≡ book → answer ≡ answers.NoMemory → IsAnswered bytes book next answer
   unplanned : (command : Command) (expect : Option ℕ) → Reads bytes (Do command expect) → MayLackMemory book expect command
       → next ≡ book → answer ≡ answers.Refused refusals.NoMemory → IsAnswered bytes book next answer
-  lost : (command : Command) (expect : Option ℕ) → Reads bytes (Do command expect) → IsAccepted book expect command
-      → next ≡ book → answer ≡ answers.Lost → IsAnswered bytes book next answer
+  lost : (command : Command) (expect : Option ℕ) (made : Book) → Reads bytes (Do command expect) → IsAccepted book expect command
+      → Makes book command made → next ≡ book → answer ≡ answers.Lost → IsAnswered bytes book next answer
 
 -- this text is replied to a request of these bytes to a book, and this is the book after it
 pub record Replies (bytes : List ℕ) (book next : Book) (text : List ℕ) : Type 0 where
