@@ -58,6 +58,28 @@ IsSession book (turn ∷ turns) given last =
 abbrev pub commands_of : List Given → List Command
 commands_of given = map (λ one. one.command) given
 
+-- the last turn is one whose command the store failed to keep
+abbrev pub EndsLost : List Turn → Type 0
+EndsLost [] = ⊥
+EndsLost (turn ∷ []) = turn.answer ≡ Lost
+EndsLost (turn ∷ next ∷ turns) = EndsLost (next ∷ turns)
+
+-- The book held at the end of a session has all that was given, but where the last command was lost: without that one.
+pub record IsHeld (book : Book) (turns : List Turn) (given : List Given) (last : Book) : Type 0 where
+  pub held : List Given
+  pub lost : List Given
+  pub front : given ≡ held ++ lost
+  pub which : ((¬ EndsLost turns) × (lost ≡ [])) ⊎ (EndsLost turns × (length lost ≡ 1))
+  pub after : After book (commands_of held) last
+
+-- all of these were acknowledged, but for the last one at most
+pub record AllButOne (given : List Given) : Type 0 where
+  pub sure : List Given
+  pub more : List Given
+  pub front : given ≡ sure ++ more
+  pub all : All (λ one. one.acknowledged ≡ true) sure
+  pub one : length more ≤ 1
+
 -- a session, the commands that it gave, and the first of these, which its file kept
 pub record Lived : Type 0 where
   pub turns : List Turn
@@ -82,12 +104,8 @@ IsLife book (lived ∷ later) found =
 abbrev pub kept_commands : List Lived → List Command
 kept_commands sessions = flat_map (λ lived. commands_of lived.kept) sessions
 
--- the book held at the end of a session: it has all that was given, but for one command at most, the last one, which was
--- never acknowledged
-pub record IsHeld (book : Book) (given : List Given) (last : Book) : Type 0 where
-  pub held : List Given
-  pub lost : List Given
-  pub front : given ≡ held ++ lost
-  pub one : length lost ≤ 1
-  pub unacknowledged : All (λ one. one.acknowledged ≡ false) lost
-  pub after : After book (commands_of held) last
+-- the turn gave this: it was done, and its reply was taken or not, or the store failed to keep it
+pub data IsGivenBy (turn : Turn) (one : Given) : Type 0 where
+  done : (number : Option ℕ) → turn.answer ≡ Done number → IsCommand turn.request one.command
+      → one.acknowledged ≡ turn.taken → IsGivenBy turn one
+  lost : turn.answer ≡ Lost → IsCommand turn.request one.command → one.acknowledged ≡ false → IsGivenBy turn one
