@@ -52,7 +52,8 @@ IsSession book [] given last = (given ≡ []) × (last ≡ book)
 IsSession book (turn ∷ turns) given last =
     (next : Book) × IsAnswered turn.request book next turn.answer
     × ((turns ≡ []) ⊎ MayGoOn turn)
-    × ((first others : List Given) × Gives turn turn.answer first × (given ≡ first ++ others) × IsSession next turns others last)
+    × ((first others : List Given) × Gives turn turn.answer first × (given ≡ first ++ others)
+    × IsSession next turns others last)
 
 -- the commands of what was given
 abbrev pub commands_of : List Given → List Command
