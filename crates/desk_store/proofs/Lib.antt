@@ -8,6 +8,7 @@ pub mod Committing
 pub mod Creates
 pub mod Distinct
 pub mod Exact
+pub mod FileFormats
 pub mod FileTexts
 pub mod Kept
 pub mod LostStores

@@ -17,8 +17,9 @@ pub data Presence : Type 0 where
   needed : Presence
   optional : Presence
   foreign : Presence
+  unread : Presence
 
--- A file without `cache` gets it when it is opened. `corr` may be left in a file that got names, where it isn't read.
+-- A file without `cache` gets it when it is opened. Where entries have names nothing reads `corr`, so whatever has its name may stand there.
 abbrev pub presence : Format → Which → Presence
 presence unnamed books = needed
 presence unnamed tabs = needed
@@ -30,17 +31,18 @@ presence unnamed named_corrs = foreign
 presence named books = needed
 presence named tabs = needed
 presence named paras = needed
-presence named corrs = optional
+presence named corrs = unread
 presence named marks = needed
 presence named caches = optional
 presence named named_corrs = needed
 
-abbrev pub IsPresent : Presence → Bool → Type 0
-IsPresent needed there = there ≡ true
-IsPresent optional there = ⊤
-IsPresent foreign there = there ≡ false
+-- what a layout has of a table, and whether something is there by its name
+abbrev pub IsPresent : Presence → (has there : Bool) → Type 0
+IsPresent needed has there = (has ≡ there) × (has ≡ true)
+IsPresent optional has there = has ≡ there
+IsPresent foreign has there = (has ≡ there) × (has ≡ false)
+IsPresent unread has there = ⊤
 
--- it has the tables of a file of this format, and those that it has it has as they are
-pub record IsOfFormat (format : Format) (l : Layout) : Type 0 where
-  pub exact : IsExact l
-  pub present : (w : Which) → IsPresent (presence format w) (l.has w)
+-- it has the tables of a file of this format, and of those that are read just those that are there
+abbrev pub IsOfFormat : Format → Layout → Type 0
+IsOfFormat format l = (w : Which) → IsPresent (presence format w) (l.has w) (is_there l.schema w)

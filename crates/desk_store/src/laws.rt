@@ -7,10 +7,10 @@ ghost use Rattle.desk_book.specs.FileRows.{FileRows};
 ghost use Rattle.desk_book.specs.Shows.{Shows as RowsShow};
 ghost use Rattle.desk_book.specs.Puts.{LendsFirst, RowPut, with_puts};
 ghost use Rattle.desk_book.specs.Rows.{StoredTab};
-ghost use Rattle.desk_store.specs.Described.{Which, described, shows_rowid, tabs};
+ghost use Rattle.desk_store.specs.Described.{Which, caches, described, named_corrs, shows_rowid, tabs};
 ghost use Rattle.sql_tables.specs.Kinds.{HaveIntegerRowids};
 ghost use Rattle.desk_store.specs.Layout.{AreDeclared, Layout};
-ghost use Rattle.desk_store.specs.Formats.{IsExact};
+ghost use Rattle.desk_store.specs.Formats.{Format, IsExact, IsOfFormat, named, unnamed};
 ghost use Rattle.desk_store.specs.Making.{Differ, IsNew, MakesTables, after, is_among, made, with_none, with_tables};
 ghost use Rattle.sql_tables.specs.Making.{KeepsAside};
 ghost use Rattle.desk_store.specs.States.{IsFile, IsUnder, Shows};
@@ -24,7 +24,7 @@ ghost use Rattle.sqlite_catalog.specs.Change.{KeepsRows};
 ghost use Rattle.sqlite_catalog.specs.Listing.{IsSound};
 ghost use Rattle.sqlite_schema.specs.declared.schema.Schema.{Schema};
 ghost use Rattle.sqlite_trees.specs.Tree.{Trees};
-ghost use Rattle.std.specs.Prelude.{IsTrue, List, false, true, ◌≡◌, ◌||◌, ◌↔◌};
+ghost use Rattle.std.specs.Prelude.{IsTrue, List, [], ◌∷◌, false, true, ◌≡◌, ◌||◌, ◌↔◌};
 ghost use Rattle.std.specs.List.{AllByRecursion};
 ghost use Rattle.desk_store.specs.Puts.{HasThem, Lends, puts_into};
 ghost use Rattle.desk_store.specs.Tables.{is_there};
@@ -136,4 +136,14 @@ pub fn tables_made()
     ensures there { (ws : List Which) (s : Schema) (v : Which)
         → is_there (after ws s) v ≡ (is_among ws v || is_there s v) }
     ensures exact { (ws : List Which) (l : Layout) → IsExact l → IsExact (with_tables ws l) }
+{}
+
+/// A new file is of format 2. One of format 1 in which tables are made, `corr2` among them, is of format 2 then, and one of either format in
+/// which `cache` is made stays of it.
+pub fn formats()
+    ensures new { (s : Schema) → IsOfFormat named (made s) }
+    ensures names { (l : Layout) (ws : List Which) → IsOfFormat unnamed l
+        → is_among ws named_corrs ≡ true → IsOfFormat named (with_tables ws l) }
+    ensures cells { (format : Format) (l : Layout) → IsOfFormat format l
+        → IsOfFormat format (with_tables (caches ∷ []) l) }
 {}
