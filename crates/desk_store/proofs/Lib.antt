@@ -1,7 +1,9 @@
 pub mod Answering
 pub mod Asking
+pub mod BookKeeps
 pub mod BookNumbers
 pub mod BookPuts
+pub mod Both
 pub mod ByName
 pub mod Changing
 pub mod Committing

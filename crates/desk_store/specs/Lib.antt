@@ -13,3 +13,4 @@ pub mod Making
 pub mod Failing
 pub mod Whole
 pub mod BookFile
+pub mod Books

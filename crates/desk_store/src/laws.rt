@@ -1,6 +1,7 @@
 //! Laws of files, and of the connections that show them.
 ghost use Rattle.desk_store.specs.Asked.{AreReadable};
 ghost use Rattle.desk_store.specs.BookFile.{HaveOwnNumbers, rows_of};
+ghost use Rattle.desk_store.specs.Books.{HasNewTables, HoldsKept, IsKept, LeadsTo, LeavesEither, shown_by};
 ghost use Rattle.desk_store.specs.Contents.{Contents};
 ghost use Rattle.desk_book.specs.Book.{Book};
 ghost use Rattle.desk_book.specs.FileRows.{FileRows};
@@ -19,7 +20,7 @@ ghost use Rattle.sql_tables.specs.Rows.{Lists, picked};
 ghost use Rattle.desk_store.specs.Whole.{AreApart, AreRows, AreUtf8, HaveOwnRowids, HaveSameRows, IsUtf8Put, Rows, contents_of};
 ghost use Rattle.sqlite.specs.Effect.{Database};
 ghost use Rattle.sqlite.specs.Held.{state};
-ghost use Rattle.sqlite.specs.State.{Opens};
+ghost use Rattle.sqlite.specs.State.{HasCleanDisk, Opens, Survives};
 ghost use Rattle.sqlite_catalog.specs.Change.{KeepsRows};
 ghost use Rattle.sqlite_catalog.specs.Listing.{IsSound};
 ghost use Rattle.sqlite_schema.specs.declared.schema.Schema.{Schema};
@@ -30,6 +31,8 @@ ghost use Rattle.desk_store.specs.Puts.{HasThem, Lends, puts_into};
 ghost use Rattle.desk_store.specs.Tables.{is_there};
 ghost use Rattle.sqlite_catalog.specs.Change.{is_used};
 
+use crate::store::Store;
+use desk_book::Change;
 use sqlite::{Alter, Connection};
 
 /// Trees are a database of one schema at most.
@@ -115,6 +118,16 @@ pub fn puts_of_the_book()
 /// Rows that show a book differ by their numbers, where a table's key is one.
 pub fn numbers_differ()
     ensures { (rows : FileRows) (book : Book) → RowsShow rows book → HaveOwnNumbers rows }
+{}
+
+/// Once a change is kept, whatever becomes of the next one: a crash leaves the book with the first, or with both.
+pub fn two_keeps<S: Alter>(middle: &Store<S>, end: &Store<S>, change: &Change)
+    ensures { HasCleanDisk (shown_by S.Store end.now) → (l : Layout) (first both : Book)
+        → IsKept l first (shown_by S.Store middle.now) → HasNewTables l
+        → LeadsTo first change.now both
+        → Survives (shown_by S.Store middle.now) (shown_by S.Store end.now)
+        (HoldsKept first change.now (shown_by S.Store middle.now))
+        → LeavesEither l first both (shown_by S.Store end.now) }
 {}
 
 /// Texts in UTF-8 that are put leave the texts of a file in UTF-8.

@@ -9,6 +9,7 @@ mod open;
 mod put;
 mod read;
 mod row;
+mod store;
 mod table;
 mod texts;
 mod transaction;
@@ -20,9 +21,12 @@ pub use open::open_file;
 pub use read::{
     read_books, read_caches, read_corrs, read_marks, read_named_corrs, read_paras, read_tabs,
 };
+pub use store::{Lost, Store};
 pub use table::{has_table, table_name};
 pub use transaction::{write, write_with_tables};
 
+#[cfg(test)]
+mod keeps;
 #[cfg(test)]
 mod lines;
 #[cfg(test)]

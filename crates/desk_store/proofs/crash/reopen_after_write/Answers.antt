@@ -1,7 +1,8 @@
-use Rattle.std.proofs.Common.{Err, Ok, OnOk, Result, arith, inl, inr, subst, sym}
+use Rattle.std.proofs.Common.{arith, inl, inr, subst, sym}
 use Rattle.sqlite.specs.Held.{state}
 use Rattle.desk_store.specs.Puts.{puts_into}
 use Rattle.desk_store.specs.States.{IsFile}
+use Rattle.desk_store.proofs.Both.{on_ok_both}
 use Rattle.desk_store.proofs.Schemas.{shows_own}
 use Rattle.desk_store.proofs.crash.reopen_after_write.Goals as goal
 
@@ -16,17 +17,13 @@ returns-clause-crash g c clean l contents was leaves =
       | inr all ↦ inr (all.0, all.1, λ there. shows_own after l (puts_into all.0 contents) opened.1 opened.0.is_open (all.2.0 l contents there was))
     ]
 
-on_both : {A E : Type 0} (r : Result A E) (P Q R : Type 0) → (P → Q → R) → OnOk r P → OnOk r Q → OnOk r R
-on_both (Ok a) P Q R f p q = f p q
-on_both (Err e) P Q R f p q = tt
-
 pub returns-clause-kept : goal.returns-clause-kept
 returns-clause-kept g c clean =
     let after = state g.S.Store c.in_ok-after.after in
     let early = c.in_ok-after.ensures.clean clean in
     let opened = c.in_ok-after.ensures.opens clean in
     let found = c.in_ok-after.ensures.found clean in
-    on_both c.write-answer.result _ _ _ (λ written leaves. (
+    on_ok_both c.write-answer.result _ _ _ (λ written leaves. (
       written.0,
       written.1,
       λ l contents there was.

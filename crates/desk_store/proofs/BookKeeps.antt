@@ -1,0 +1,90 @@
+-- What a change that is put into a file makes of its book.
+use Rattle.std.proofs.Common.{◌≡◌, true, List, [], ◌∷◌, inl, inr, refl, sym, subst}
+use Rattle.std.specs.List.{AllByRecursion}
+use Rattle.std.proofs.lemmas.List.Elements.{All-from_recursion}
+use Rattle.sqlite_trees.specs.Tree.{Trees}
+use Rattle.sqlite.specs.State.{HasCleanDisk, State, Survives}
+use Rattle.sql_tables.specs.States.{IsSettled}
+use Rattle.desk_book.specs.Book.{Book}
+use Rattle.desk_book.specs.ChangePuts.{LeadTo}
+use Rattle.desk_book.specs.Changes.{Change}
+use Rattle.desk_book.specs.Puts.{HasItsTable, RowPut, PutBook, PutTab, PutPara, PutMark, PutCache, PutEntry, SetPlace, SetFlags, SetTable, SetPrint, SetSpan, SetResolved, SetVersion}
+use Rattle.desk_book.specs.FileRows.{FileRows}
+use Rattle.desk_book.specs.Shows.{Shows as RowsShow}
+use Rattle.desk_store.specs.BookFile.{rows_of}
+use Rattle.desk_store.specs.Books.{HasNewTables, HoldsBook, HoldsKept, IsKept, LeavesBook, LeavesEither, MayKeep, ShowsBook}
+use Rattle.desk_store.specs.Contents.{Contents}
+use Rattle.desk_store.specs.Layout.{Layout}
+use Rattle.desk_store.specs.Puts.{HasThem, IsFileWith, Writes, puts_into, table_put}
+use Rattle.desk_store.proofs.BookPuts.{all_put}
+
+-- ---- the tables of what is put
+
+module _ (l : Layout) (tables : HasNewTables l) where
+  there : (it : RowPut) → l.has (table_put it) ≡ true
+  there (PutBook row) = tables.0
+  there (PutTab row) = tables.1.0
+  there (PutPara row) = tables.1.1.0
+  there (PutMark row) = tables.1.1.1.0
+  there (PutCache row) = tables.1.1.1.1.0
+  there (PutEntry row) = tables.1.1.1.1.1.0
+  there (SetPlace id place) = tables.1.1.0
+  there (SetFlags id style volume struck) = tables.1.1.0
+  there (SetTable id tab) = tables.1.1.0
+  there (SetPrint id print) = tables.1.1.0
+  there (SetSpan id start stop touched) = tables.1.1.1.0
+  there (SetResolved id resolved) = tables.1.1.1.0
+  there (SetVersion version) = tables.0
+
+  has_them : (puts : List RowPut) → HasThem l puts
+  has_them [] = tt
+  has_them (it ∷ puts) = (there it, has_them puts)
+
+  its_table : (c : Contents) (it : RowPut) → HasItsTable (rows_of l c) it
+  its_table c (PutBook row) = tt
+  its_table c (PutTab row) = tt
+  its_table c (PutPara row) = tt
+  its_table c (PutMark row) = tt
+  its_table c (PutCache row) = rw tables.1.1.1.1.0 refl
+  its_table c (PutEntry row) = rw tables.1.1.1.1.1.0 refl
+  its_table c (SetPlace id place) = tt
+  its_table c (SetFlags id style volume struck) = tt
+  its_table c (SetTable id tab) = tt
+  its_table c (SetPrint id print) = tt
+  its_table c (SetSpan id start stop touched) = tt
+  its_table c (SetResolved id resolved) = tt
+  its_table c (SetVersion version) = tt
+
+  their_tables : (c : Contents) (puts : List RowPut) → AllByRecursion (HasItsTable (rows_of l c)) puts
+  their_tables c [] = tt
+  their_tables c (it ∷ puts) = (its_table c it, their_tables c puts)
+
+  -- ---- the book of the file with these put
+
+  module _ (puts : List RowPut) (book next : Book) (leads : LeadTo book puts next) where
+    rows_show : (c : Contents) → RowsShow (rows_of l c) book → RowsShow (rows_of l (puts_into puts c)) next
+    rows_show c was =
+        subst (λ (rows : FileRows). RowsShow rows next) (sym (all_put l c puts (has_them puts)))
+        (leads (rows_of l c) was (All-from_recursion (HasItsTable (rows_of l c)) puts (their_tables c puts)))
+
+    shows_next : (old new : State) → Writes puts old new → ShowsBook l book old → ShowsBook l next new
+    shows_next old new writes was = (puts_into puts was.0, writes l was.0 (has_them puts) was.1, rows_show was.0 was.2)
+
+    pub holds_next : (old : State) (db : Trees) → IsFileWith puts old db → ShowsBook l book old → HoldsBook l next db
+    holds_next old db with_them was = (puts_into puts was.0, with_them l was.0 (has_them puts) was.1, rows_show was.0 was.2)
+
+    pub is_kept : (old new : State) → Writes puts old new → IsSettled new → ShowsBook l book old → IsKept l next new
+    is_kept old new writes settled was =
+        let shows = shows_next old new writes was in
+        record {
+          shows = shows;
+          leaves = λ db left. subst (HoldsBook l next) (sym (settled db left)) (shows.0, shows.1.is, shows.2);
+        }
+
+-- ---- what a crash leaves
+
+pub leaves_either : (old new : State) (l : Layout) (book : Book) (change : Change) (next : Book) → Survives old new (HoldsKept book change old) → HasCleanDisk new → MayKeep l book change next old → LeavesBook l book old → LeavesEither l book next new
+leaves_either old new l book change next survives clean may leaves db left = elim (survives.crash clean db left) [
+  | inl before ↦ inl (leaves db before)
+  | inr kept ↦ inr (kept l next may)
+]

@@ -1,0 +1,39 @@
+use Rattle.std.proofs.Common.{List, subst}
+use Rattle.sqlite.specs.Held.{state}
+use Rattle.sqlite.proofs.StateLemmas.{survives_weaker}
+use Rattle.desk_book.specs.Puts.{RowPut}
+use Rattle.desk_store.specs.Puts.{IsFileWith, Writes}
+use Rattle.desk_store.proofs.BookKeeps.{holds_next, is_kept}
+use Rattle.desk_store.proofs.BookPuts.{all_lent}
+use Rattle.desk_store.proofs.Both.{if_err_both, on_ok_both}
+use Rattle.desk_store.proofs.store.put_change.Goals as goal
+
+pub returns-clause-kept : goal.returns-clause-kept
+returns-clause-kept g c clean l next may =
+    let old = state g.S.Store c.args.conn.now in
+    let new = state g.S.Store c.write.new.conn in
+    let puts = c.puts.result in
+    let leads = c.puts.ensures may.leads.0 next may.leads.1 in
+    on_ok_both c.write.result _ _ _ (λ written settled.
+    let writes = subst (λ (xs : List RowPut). Writes xs old new) (all_lent puts written.0 written.1) written.2 in
+    is_kept l may.tables puts c.args.book.now next leads old new writes settled may.shows)
+    (c.write.ensures.written clean) (c.write.ensures.settled clean)
+
+pub returns-clause-survives : goal.returns-clause-survives
+returns-clause-survives g c =
+    let old = state g.S.Store c.args.conn.now in
+    let new = state g.S.Store c.write.new.conn in
+    let puts = c.puts.result in
+    survives_weaker old new _ _ (λ clean db left l next may.
+    let file = subst (λ (xs : List RowPut). IsFileWith xs old db) (all_lent puts left.0 left.1) left.2.0 in
+    holds_next l may.tables puts c.args.book.now next (c.puts.ensures may.leads.0 next may.leads.1) old db file may.shows)
+    c.write.ensures.crash
+
+pub returns-clause-told : goal.returns-clause-told
+returns-clause-told g c clean =
+    if_err_both c.write.result _ _ _ (λ e fails counts. record {
+      puts = c.puts.result;
+      are = λ next leads. c.puts.ensures leads.0 next leads.1;
+      fails = fails;
+      counts = counts;
+    }) (c.write.ensures.told clean) (c.write.ensures.lost clean)

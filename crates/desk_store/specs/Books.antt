@@ -1,0 +1,96 @@
+-- The book of a file: what a connection shows of it, what a crash leaves, and what a change that is kept makes of it.
+use Rattle.std.specs.Prelude.{◌≡◌, ◌⊎◌, Bool, true, List, refl}
+use Rattle.std.specs.Coded.{Coded, code_by, coded×, coded_bool}
+use Rattle.std.specs.List.{AllByRecursion}
+use Rattle.sqlite_trees.specs.declared.store.Store.{Ghosts}
+use Rattle.sqlite_trees.specs.Tree.{Trees}
+use Rattle.sqlite.specs.declared.error.Error.{Error}
+use Rattle.sqlite.specs.Held.{Held, held_code, state}
+use Rattle.sqlite.specs.State.{State}
+use Rattle.sql_tables.specs.States.{Leaves}
+use Rattle.desk_book.specs.Book.{Book}
+use Rattle.desk_book.specs.ChangePuts.{LeadTo}
+use Rattle.desk_book.specs.Changes.{Carries, Change}
+use Rattle.desk_book.specs.Puts.{LendsFirst, RowPut}
+use Rattle.desk_book.specs.Shows.{Shows as RowsShow}
+use Rattle.desk_book.specs.declared.command.Command.{Command}
+use Rattle.desk_store.specs.BookFile.{rows_of}
+use Rattle.desk_store.specs.Contents.{Contents}
+use Rattle.desk_store.specs.Failing.{FailsToPut, of_items}
+use Rattle.desk_store.specs.Fault.{CountsLoss}
+use Rattle.desk_store.specs.Layout.{Layout}
+use Rattle.desk_store.specs.Making.{new_tables}
+use Rattle.desk_store.specs.States.{IsFile, Shows}
+use Rattle.desk_store.specs.Turns.{begun}
+
+-- ---- the book of a file
+
+-- the connection shows a file of this layout, whose rows show the book
+abbrev pub ShowsBook : Layout → Book → State → Type 0
+ShowsBook l book s = (c : Contents) × Shows l c s × RowsShow (rows_of l c) book
+
+-- the trees are such a file
+abbrev pub HoldsBook : Layout → Book → Trees → Type 0
+HoldsBook l book db = (c : Contents) × IsFile l c db × RowsShow (rows_of l c) book
+
+-- a crash now leaves the book, and one of these two
+abbrev pub LeavesBook : Layout → Book → State → Type 0
+LeavesBook l book = Leaves (HoldsBook l book)
+
+abbrev pub LeavesEither : Layout → (book next : Book) → State → Type 0
+LeavesEither l book next = Leaves (λ db. HoldsBook l book db ⊎ HoldsBook l next db)
+
+-- ---- a change of it
+
+-- the layout has each table of a new file
+abbrev pub HasNewTables : Layout → Type 0
+HasNewTables l = AllByRecursion (λ w. l.has w ≡ true) new_tables
+
+-- the change carries out a command that makes the next of this book
+abbrev pub LeadsTo : Book → Change → Book → Type 0
+LeadsTo book change next = (command : Command) × Carries book command next change
+
+-- The connection shows the book in a file with the tables of a new one, and the change makes the next of it.
+pub record MayKeep (l : Layout) (book : Book) (change : Change) (next : Book) (s : State) : Type 0 where
+  pub tables : HasNewTables l
+  pub leads : LeadsTo book change next
+  pub shows : ShowsBook l book s
+
+-- the connection shows the book, and so does whatever a crash leaves
+pub record IsKept (l : Layout) (book : Book) (s : State) : Type 0 where
+  pub shows : ShowsBook l book s
+  pub leaves : LeavesBook l book s
+
+-- the trees hold the next book, of whatever file the connection showed in which the change may be kept
+abbrev pub HoldsKept : Book → Change → State → Trees → Type 0
+HoldsKept book change s db = (l : Layout) (next : Book) → MayKeep l book change next s → HoldsBook l next db
+
+-- put into rows that show the book, they make rows that show the next
+abbrev pub ArePutBy : Book → Change → List RowPut → Type 0
+ArePutBy book change puts = (next : Book) → LeadsTo book change next → LeadTo book puts next
+
+-- Why a change isn't kept: the database answered the error to the statement of a put or to the commit, or memory for a
+-- put was refused. What was lost is counted, or was too big.
+pub record FailsToKeep {S : Type 0} (g : Ghosts S) (book : Book) (change : Change) (old : Held S) (new : State) (e : Error)
+    : Type 0 where
+  pub puts : List RowPut
+  pub are : ArePutBy book change puts
+  pub fails : FailsToPut g (of_items g LendsFirst puts) (begun old) new e
+  pub counts : CountsLoss (state g old) new e
+
+-- ---- a store
+
+-- a connection, and whether a change was lost on it
+pub record Store (S : Type 0) : Type 0 where
+  pub connection : Held S
+  pub lost : Bool
+
+abbrev pub store_code : {S : Type 0} → Coded S → Coded (Store S)
+store_code {S} store =
+    code_by (Held S × Bool) (coded× (held_code store) coded_bool) (λ s. (s.connection, s.lost))
+    (λ p. record { connection = p.0; lost = p.1 })
+    (λ _. refl)
+
+-- what its connection shows
+abbrev pub shown_by : {S : Type 0} → Ghosts S → Store S → State
+shown_by g store = state g store.connection
