@@ -1,6 +1,6 @@
 -- Rows that show a book differ by their numbers.
-use Rattle.std.proofs.Common.{◌≡◌, ℕ, ◌+◌, ℤ, pos, List, [], ◌∷◌, map, refl, sym, ap, subst, ◌∙◌, IsPermutation, nat_eq, inl, inr, false, true≢false}
-use Rattle.std.specs.List.{AllByRecursion, IsDistinct, enumerate_from, range_with_len}
+use Rattle.std.proofs.Common.{◌≡◌, ℕ, ◌+◌, ℤ, pos, List, [], ◌∷◌, map, refl, sym, subst, ◌∙◌, IsPermutation, nat_eq, inl, inr, false, true≢false}
+use Rattle.std.specs.List.{AllByRecursion, IsDistinct, enumerate_from}
 use Rattle.std.specs.Ordering.{int_eq}
 use Rattle.std.proofs.lemmas.Bool.{cases_Bool}
 use Rattle.std.proofs.lemmas.Bool.Decides.{Decides-eqb, Decides-int_eq}

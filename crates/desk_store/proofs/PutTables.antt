@@ -1,6 +1,5 @@
 -- What the statements that put and set rows make of their tables.
 use Rattle.std.proofs.Common.{◌≡◌, ℕ, ℤ, pos, true, List, [], ◌∷◌, map, drop, codes, Ok, refl, IsPermutation}
-use Rattle.std.specs.Ordering.{int_eq}
 use Rattle.std.proofs.lemmas.List.Sorted.{IsPermutation-sym, IsPermutation-trans, IsPermutation-cons, IsPermutation-map}
 use Rattle.sqlite_value.specs.declared.value.Value.TheVariants.{Null, Int, Text}
 use Rattle.sqlite_value.specs.Order.{Row, column}
@@ -20,7 +19,7 @@ use Rattle.sqlite_tied.specs.Compute.{everything}
 use Rattle.desk_book.specs.declared.rows.BookRow.{BookRow}
 use Rattle.desk_book.specs.Puts.{RowPut, PutBook, PutTab, PutPara, PutMark, PutCache, PutEntry, SetPlace, SetFlags, SetTable, SetPrint, SetSpan, SetResolved, SetVersion}
 use Rattle.desk_book.specs.Rows.{Mark, Para, NamedCorr, Cached}
-use Rattle.sql_tables.specs.Rows.{HaveRowids, Lists, picked, set_where}
+use Rattle.sql_tables.specs.Rows.{HaveRowids, Lists, picked}
 use Rattle.sql_tables.specs.Tables.{IsDeclared, needed}
 use Rattle.sql_tables.proofs.ByRowid.{PutsByRowid, numbered_puts}
 use Rattle.sql_tables.proofs.Casts.{cast_int, cast_null}
