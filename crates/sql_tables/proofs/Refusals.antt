@@ -105,7 +105,7 @@ then {B = B} First Next first next = record {
   plain = λ e h. elim h [
     | inl stopped ↦ first.plain e (subst (λ stop. First (Err stop)) (sym (ap (λ (out : Outcome B). stop_in out) stopped.2)) stopped.1)
     | inr went ↦ (next went.0).plain e went.2
-  ]
+  ];
 }
 
 either : {A : Type 0} (P Q : Part A) (b : Bool) → IsPlainPart P → IsPlainPart Q → IsPlainPart (λ out. MatchBool b (P out) (Q out))
@@ -123,7 +123,7 @@ queried : (limit : Option ℕ) (db : Database) (p : Program) (params : Row) → 
 queried limit db p params = record { plain = query_plain limit db p params }
 
 sourced : (limit : Option ℕ) (db : Database) (params : Row) (from : Source) → IsPlainPart (Sourced limit db params from)
-sourced limit db params (Values terms width) = record { plain = λ e h. elim h [ | inl wrong ↦ plain_if e _ wrong.0 refl | inr late ↦ plain_if e _ late.0 refl ] }
+sourced limit db params (Values terms width) = record { plain = λ e h. elim h [ inl wrong ↦ plain_if e _ wrong.0 refl | inr late ↦ plain_if e _ late.0 refl ] }
 sourced limit db params (Query q) = record { plain = query_plain limit db q params }
 
 edited : (schema : Schema) (keys : _) (db : Trees) (edit : Edit) → IsPlainPart (Edited schema keys db edit)
@@ -146,13 +146,13 @@ no_text : (text : List ℕ) (e : Error) → IsNoText text e → IsPlain e
 no_text text e h = plain_if e _ h.1 refl
 
 makes_table : (text : List ℕ) (db : Database) → IsPlainPart (MakesTable text db)
-makes_table text db = record { plain = λ e h. elim h [ | inl none ↦ no_text text e none | inr refused ↦ alters _ e refused ] }
+makes_table text db = record { plain = λ e h. elim h [ inl none ↦ no_text text e none | inr refused ↦ alters _ e refused ] }
 
 makes_index : (text : List ℕ) (db : Database) (table : Table) → IsPlainPart (MakesIndex text db table)
-makes_index text db table = record { plain = λ e h. elim h [ | inl none ↦ no_text text e none | inr refused ↦ alters _ e refused ] }
+makes_index text db table = record { plain = λ e h. elim h [ inl none ↦ no_text text e none | inr refused ↦ alters _ e refused ] }
 
 makes_view : (text : List ℕ) (db : Database) → IsPlainPart (MakesView text db)
-makes_view text db = record { plain = λ e h. elim h [ | inl none ↦ no_text text e none | inr refused ↦ alters _ e refused ] }
+makes_view text db = record { plain = λ e h. elim h [ inl none ↦ no_text text e none | inr refused ↦ alters _ e refused ] }
 
 leaves : (schema : Schema) (db : Trees) (Refused : Error → Type 0) → ((e : Error) → Refused e → IsPlain e) → IsPlainPart (Leaves schema db Refused)
 leaves schema db Refused plain = record { plain = λ e h. plain e h }
@@ -222,12 +222,12 @@ module _ (task : Task) where
     plain = λ e h. elim h [
       | inl none ↦ (refuses {A = Written} (SqliteFailure code.NoRowid) refl).plain e none.1
       | inr tried ↦ (judged way clauses new db tried.0).plain e tried.2
-    ]
+    ];
   }
 
   tries_each : (way : Conflict) (clauses : List Upsert) (rows : List Row) (top : ℤ) (done : Written) → IsPlainPart (TriesEach task way clauses rows top done)
   tries_each way clauses [] top done = gives _
-  tries_each way clauses (source ∷ more) top done = 
+  tries_each way clauses (source ∷ more) top done =
       then _ _ (tries way clauses (with_rowid (rowids_for task.table top) (done.trees task.table.tree) (cast_row task.table (mended way task.table source))) done.trees)
       (λ one. tries_each way clauses more _ _)
 
