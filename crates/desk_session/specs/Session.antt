@@ -94,7 +94,7 @@ pub record HoldsAcknowledged (lived : Lived) : Type 0 where
   pub unacknowledged : All (λ one. one.acknowledged ≡ false) lost
 
 -- Sessions one after another, the first of which begins with this book. After each the book is found that its kept commands
--- make of the one it began with, and the next session begins with that. The last book is found after all of them.
+-- make of the one it began with, and the one after it begins with that. The last book is found after all of them.
 abbrev pub IsLife : Book → List Lived → Book → Type 0
 IsLife book [] found = found ≡ book
 IsLife book (lived ∷ later) found =
