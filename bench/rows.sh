@@ -1,62 +1,73 @@
 #!/bin/bash
-# Times putting 100, 1,000 and 10,000 paragraphs into a new book's file, a hundred to a transaction, and reading them again, beside
-# sqlite3 with the same rows, statements and transactions, its journal in mode WAL and synchronous FULL, which is what the rows' file
-# has. Each time is that of a whole process, with opening and closing the file.
+# Times putting 100, 1,000 and 10,000 paragraphs into a new book's file, a hundred to a transaction, and reading them again, beside a C
+# program over SQLite's library (bench/rows.c) and beside the sqlite3 shell with the values as parameters (.param), with the same
+# statements and transactions, the journal in mode WAL and synchronous FULL, which is what the rows' file has. A put is timed as a whole
+# process, with opening and closing the file; a reading by what a process takes longer that reads the file 21 times than one that does
+# so once. Instructions are counted by callgrind.
 #   bench/rows.sh     RUNS (5): timings of each, of which the best counts
+# PROGRAM is the program where it is built already.
 set -eu
 cd "$(dirname "$0")/.."
 runs=${RUNS:-5}
-command -v sqlite3 > /dev/null || { echo 'sqlite3 is missing: install it, as by apt-get install sqlite3' >&2; exit 1; }
+for tool in sqlite3 valgrind cc; do
+    command -v "$tool" > /dev/null || { echo "$tool is missing: install it" >&2; exit 1; }
+done
 scratch=$(mktemp -d); trap 'rm -rf "$scratch"' EXIT
 
-program=$(bench/build.sh rows put "$scratch/first.db" 1)
+program=${PROGRAM:-$(bench/build.sh rows put "$scratch/first.db" 1)}
+"$program" put "$scratch/schema.db" 1
+sqlite3 "$scratch/schema.db" .schema > "$scratch/schema"
+cc -O2 -o "$scratch/rows" bench/rows.c -lsqlite3
 
-# the same as SQL, each statement with its values
-statements() { # COUNT
-    sqlite3 "$scratch/first.db" .schema
-    awk -v count="$1" 'BEGIN {
+upsert='INSERT INTO para VALUES (?1, ?2, ?3, ?4, ?5, ?6, ?7, ?8) ON CONFLICT (id) DO UPDATE SET place = excluded.place, tab = excluded.tab, original = excluded.original, print = excluded.print, style = excluded.style, volume = excluded.volume, struck = excluded.struck;'
+# the puts as lines for the shell, with their values as parameters
+shell_lines() { # COUNT
+    awk -v count="$1" -v upsert="$upsert" 'BEGIN {
+        print ".param init"
         for (id = 1; id <= count; id++) {
             if (id % 100 == 1) print "BEGIN;"
             text = "Paragraph " id ". It was the best of times, it was the worst of times, it was the age of wisdom."
-            printf "INSERT INTO para VALUES (%d, %d, \047en\047, \047%s\047, \047%s\047, 0, 0, 0) ON CONFLICT (id) DO UPDATE SET ", id, id, text, text
-            printf "place = excluded.place, tab = excluded.tab, original = excluded.original, print = excluded.print, "
-            print "style = excluded.style, volume = excluded.volume, struck = excluded.struck;"
+            printf ".param set ?1 %d\n.param set ?2 %d\n", id, id
+            printf ".param set ?3 \"\047en\047\"\n.param set ?4 \"\047%s\047\"\n.param set ?5 \"\047%s\047\"\n", text, text
+            printf ".param set ?6 0\n.param set ?7 0\n.param set ?8 0\n%s\n", upsert
             if (id % 100 == 0 || id == count) print "COMMIT;"
         } }'
 }
-sqlite3_put() {
-    sqlite3 -batch -bail -init /dev/null -cmd 'PRAGMA journal_mode = WAL' -cmd 'PRAGMA synchronous = FULL' "$scratch/there.db" < "$scratch/statements"
+new() { rm -f "$scratch"/put.db*; sqlite3 "$scratch/put.db" < "$scratch/schema"; }
+none() { rm -f "$scratch"/put.db*; }
+shell_put() {
+    sqlite3 -batch -bail -init /dev/null -cmd 'PRAGMA journal_mode = WAL' -cmd 'PRAGMA synchronous = FULL' "$scratch/put.db" < "$scratch/lines"
 }
-sqlite3_read() {
-    sqlite3 -batch -bail -init /dev/null "$scratch/there.db" 'SELECT id, place, tab, original, print, style, volume, struck FROM para ORDER BY id'
-}
-here_put() { "$program" put "$scratch/here.db" "$1"; } # COUNT
-here_read() { "$program" read "$scratch/here.db"; }
 
-TIMEFORMAT='%R %U %S'
-best_of() { # BEFORE COMMAND..: the best of the timings, by the clock and of processor time, in seconds; BEFORE runs before each
+TIMEFORMAT='%R'
+best_of() { # BEFORE COMMAND..: the best of the timings by the clock, in seconds; BEFORE runs before each
     local before=$1 k
     shift
     for ((k = 0; k < runs; k++)); do
         $before
         { time "$@" > "$scratch/out"; } 2> "$scratch/time"
         tail -n 1 "$scratch/time"
-    done | awk '{ cpu = $2 + $3 }
-        NR == 1 || $1 < clock { clock = $1 } NR == 1 || cpu < least { least = cpu }
-        END { print clock, least }'
+    done | sort -g | head -n 1
 }
-none() { rm -f "$scratch"/here.db* "$scratch"/there.db*; }
-report() { # NAME COUNT BY SECONDS PROCESSOR
-    awk -v name="$1" -v n="$2" -v by="$3" -v clock="$4" -v cpu="$5" 'BEGIN {
-        printf "%-4s %6d paragraphs %-11s %8.0f rows a second, %8.0f a second of processor time\n", name, n, by, n / clock,
-            cpu ? n / cpu : 0 }'
-}
+instructions() { valgrind --tool=callgrind --callgrind-out-file=/dev/null "$@" 2>&1 > "$scratch/out" | sed -n 's/.*Collected : //p'; }
+rows_a_second() { awk -v n="$1" -v s="$2" 'BEGIN { printf "%8.0f", n / s }'; }
+
 for count in 100 1000 10000; do
-    statements "$count" > "$scratch/statements"
-    report put "$count" here $(best_of none here_put "$count")
-    report put "$count" 'by sqlite3' $(best_of none sqlite3_put)
-    none; here_put "$count"; sqlite3_put > "$scratch/out"
-    [ "$(here_read)" = "$count" ] || { echo "the file doesn't have $count paragraphs" >&2; exit 1; }
-    report read "$count" here $(best_of true here_read)
-    report read "$count" 'by sqlite3' $(best_of true sqlite3_read)
+    shell_lines "$count" > "$scratch/lines"
+    ours=$(best_of none "$program" put "$scratch/put.db" "$count")
+    shell=$(best_of new shell_put)
+    theirs=$(best_of new "$scratch/rows" put "$scratch/put.db" "$count")
+    echo "put  $count: $(rows_a_second "$count" "$ours") rows a second here, $(rows_a_second "$count" "$theirs") in C," \
+        "$(rows_a_second "$count" "$shell") by the shell"
+    [ "$("$scratch/rows" read "$scratch/put.db" 1)" = "$count" ] || { echo 'rows are missing' >&2; exit 1; }
+    [ "$("$program" read "$scratch/put.db" 1)" = "$count" ] || { echo 'rows are missing' >&2; exit 1; }
+    for by in "$program" "$scratch/rows"; do
+        once=$(best_of true "$by" read "$scratch/put.db" 1)
+        often=$(best_of true "$by" read "$scratch/put.db" 21)
+        awk -v n="$count" -v once="$once" -v often="$often" 'BEGIN { printf "%.0f\n", (often > once) ? 20 * n / (often - once) : 0 }'
+    done > "$scratch/reads"
+    here=$((($(instructions "$program" read "$scratch/put.db" 21) - $(instructions "$program" read "$scratch/put.db" 1)) / (20 * count)))
+    there=$((($(instructions "$scratch/rows" read "$scratch/put.db" 21) - $(instructions "$scratch/rows" read "$scratch/put.db" 1)) / (20 * count)))
+    echo "read $count: $(sed -n 1p "$scratch/reads") rows a second here, $(sed -n 2p "$scratch/reads") in C;" \
+        "$here and $there instructions a row"
 done
