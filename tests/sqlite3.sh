@@ -1,6 +1,7 @@
 #!/bin/bash
 # Compares files with sqlite3: a file that make_tables and write made is shown by sqlite3 with the same rows and
-# declarations, and a file that sqlite3 made is read here with the same rows.
+# declarations, and a file that sqlite3 made is read here with the same rows. Of a file with other things under the names of the tables
+# the same ones are there for both: tables and views, but no indexes and no triggers.
 #   tests/sqlite3.sh
 # The program tests/rows.rattle, which makes and shows the files, is built by `rt try` in a scratch folder, and is not proved.
 set -eu
@@ -56,7 +57,23 @@ sqlite3 -batch -bail -init /dev/null "$scratch/other.db" "$declarations
     INSERT INTO mark VALUES (2, 3, 0, 2, 'look', 0, 1), (1, -4, 9223372036854775807, 0, '', 1, 0);
     INSERT INTO note VALUES (1, 3, 'beside');"
 
-# both runs of the program, over one build
+# a file with two tables and a view of these names, in other letters, and an index, a trigger and a column with others
+sqlite3 -batch -bail -init /dev/null "$scratch/names.db" "
+    CREATE TABLE note (id INTEGER PRIMARY KEY, mark TEXT);
+    CREATE TABLE BOOK (id INTEGER PRIMARY KEY);
+    CREATE TABLE Tab (name TEXT);
+    CREATE VIEW para AS SELECT id FROM note;
+    CREATE INDEX corr ON note (mark);
+    CREATE TRIGGER cache AFTER INSERT ON note BEGIN DELETE FROM note WHERE id < NEW.id; END;"
+there() { # FILE
+    local table
+    for table in book tab para corr mark cache corr2; do
+        sqlite3 -batch -bail -init /dev/null "$1" \
+            "SELECT '$table' FROM sqlite_schema WHERE type IN ('table', 'view') AND name = '$table' COLLATE NOCASE"
+    done
+}
+
+# all runs of the program, over one build
 mkdir -p "$scratch/crates/rows/src" "$scratch/cases"
 tar -c --exclude=out crates | tar -x -C "$scratch"
 cp tests/rows.rattle "$scratch/crates/rows/src/main.rt"
@@ -65,9 +82,14 @@ cp tests/rows.rattle "$scratch/crates/rows/src/main.rt"
 : > "$scratch/cases/make"; echo make > "$scratch/cases/make.args"
 : > "$scratch/cases/show"; printf 'show\nother.db\n' > "$scratch/cases/show.args"
 rows "$scratch/other.db" > "$scratch/cases/show.stdout"
-(cd "$scratch/crates/rows" && "$rt" try --cases "$scratch/cases" --data other.db="$scratch/other.db") > "$scratch/told" 2> "$scratch/errors" ||
-    { cat "$scratch/told" "$scratch/errors" >&2; fail 'the program rows failed, or shows other rows of the file that sqlite3 made'; }
+: > "$scratch/cases/tables"; printf 'tables\nnames.db\n' > "$scratch/cases/tables.args"
+there "$scratch/names.db" > "$scratch/cases/tables.stdout"
+(cd "$scratch/crates/rows" &&
+    "$rt" try --cases "$scratch/cases" --data other.db="$scratch/other.db" --data names.db="$scratch/names.db") > "$scratch/told" 2> "$scratch/errors" ||
+    { cat "$scratch/told" "$scratch/errors" >&2; fail 'the program rows failed, or shows other rows or tables of the files that sqlite3 made'; }
 echo 'ok  the rows of a file that sqlite3 made'
+[ "$(tr '\n' ' ' < "$scratch/cases/tables.stdout")" = 'book tab para ' ] || fail 'sqlite3 made other tables than it was told'
+echo 'ok  the tables that are there'
 
 # the file that the program made, from the hex digits that it printed
 sed -n 's/^file //p' "$scratch/told" > "$scratch/hex"
