@@ -1,6 +1,5 @@
 -- When a fault is told, and what is told of it.
 use Rattle.std.specs.Prelude.{◌≡◌, ◌≢◌, ℕ, ◌<◌, ◌⊎◌, ◌++◌, ◌∷◌, [], List, length, codes, decimal}
-use Rattle.std.specs.Str.{IsUtf8}
 use Rattle.std.specs.declared.io.ErrorKind.{ErrorKind}
 use Rattle.std.specs.declared.io.ErrorKind.TheVariants.{OutOfMemory}
 use Rattle.louis_table.specs.declared.en.TheConstants.{EN}
@@ -43,12 +42,10 @@ pub data TextAt (shelf : List ℕ → Shelved) (path text : List ℕ) : Type 0 w
   supplied : path ≡ codes "@en" → text ≡ EN.now → TextAt shelf path text
   in_file : path ≢ codes "@en" → IsRead (shelf path) text → TextAt shelf path text
 
--- the fault of the table that the word names; a word that isn't UTF-8 names no file
+-- the fault of the table that the word names
 pub data FaultAt (CanFail : Type 0) (shelf : List ℕ → Shelved) (path : List ℕ) (fault : Fault)
     : Type 0 where
   of_text : (text : List ℕ) → TextAt shelf path text → IsFaultOf text fault
-      → FaultAt CanFail shelf path fault
-  not_text : path ≢ codes "@en" → ¬ IsUtf8 path → fault ≡ faults.File
       → FaultAt CanFail shelf path fault
   of_file : path ≢ codes "@en" → IsOfFile CanFail (shelf path) fault
       → FaultAt CanFail shelf path fault

@@ -1,3 +1,5 @@
+//! The program `braildesk`: its words, its standard ends and its exit status.
+//!
 //! `braildesk translate TABLE` writes for each line of standard input its braille by a table.
 #![tactic(auto)]
 
@@ -16,7 +18,7 @@ mod translate;
 
 use desk_ends::Buffered;
 use fault::Fault;
-use program::{program as run_program, refuse};
+use program::{program as run_program, refuse, refuse_words};
 use std::alloc::AllocError;
 use std::env::FillError;
 use std::io::Write;
@@ -28,6 +30,12 @@ const OUTPUT_BYTES: usize = 1 << 16;
 
 /// The most bytes of a word of the command line. The system gives no longer ones.
 const MOST_WORD_BYTES: usize = 1 << 17;
+
+/// What is said of words that aren't text.
+const NOT_TEXT: &str = "error: a word is not UTF-8\n";
+
+/// The program's name, which stands before the words.
+const NAME: &str = "braildesk";
 
 /// The words behind the program's name.
 fn read_words(rt: &HostRuntime) -> Result<Vec<Vec<u8>>, Fault> {
@@ -54,13 +62,27 @@ fn add_copy(rt: &HostRuntime, words: &mut Vec<Vec<u8>>, word: &[u8]) -> Result<(
 /// Runs the program over the words of the command line and the standard ends.
 fn start<E: Write>(rt: &HostRuntime, errors: &mut E) -> Result<u8, Fault> {
     let words = read_words(rt)?;
-    let texts: Vec<&[u8]> = words
-        .iter()
-        .map(|word| word.as_slice())
-        .collect(rt.alloc())?;
+    let Some(texts) = texts_of(rt, words.as_slice())? else {
+        return Ok(refuse_words(errors, NOT_TEXT));
+    };
     let mut output = Buffered::new(rt.alloc(), OUTPUT_BYTES, rt.stdout())?;
     let status = run_program(rt, texts.as_slice(), &mut rt.stdin(), &mut output, errors);
     Ok(status)
+}
+
+/// The program's name, and the words as text, if they are.
+fn texts_of<'a>(
+    rt: &HostRuntime,
+    words: &'a [Vec<u8>],
+) -> Result<Option<Vec<&'a str>>, AllocError> {
+    let mut texts = vec![in rt.alloc(); NAME]?;
+    for word in words {
+        let Ok(text) = str::from_utf8(word.as_slice()) else {
+            return Ok(None);
+        };
+        texts.push(text)?;
+    }
+    Ok(Some(texts))
 }
 
 fn main(rt: HostRuntime) -> ExitCode {

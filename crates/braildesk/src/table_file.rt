@@ -23,18 +23,15 @@ const CHUNK_BYTES: usize = 1 << 16;
 /// What is written in place of a path for the supplied table. A file of this name is reached as `./@en`.
 pub const SUPPLIED: &str = "@en";
 
-/// Reads the supplied table, or the table in the file at this path. A path that isn't UTF-8 names no file.
-pub fn read_table<F: Shelf + AllocGlobal>(rt: &F, path: &[u8]) -> Result<RuleIndex, Fault>
+/// Reads the supplied table, or the table in the file at this path.
+pub fn read_table<F: Shelf + AllocGlobal>(rt: &F, path: &str) -> Result<RuleIndex, Fault>
     ensures { MatchResult result
         (λ table. (text : List ℕ) × TextAt (F.at rt.now) path.now text × Means text table)
         (FaultAt (F.can_fail ⊎ F.File.can_fail) (F.at rt.now) path.now) }
 {
-    if path == SUPPLIED.as_bytes() {
+    if path == SUPPLIED {
         return index_text(rt.alloc(), EN.as_bytes());
     }
-    let Ok(path) = str::from_utf8(path) else {
-        return Err(Fault::File);
-    };
     match read_file(rt, path) {
         Ok(text) => index_text(rt.alloc(), text.as_slice()),
         Err(fault) => Err(fault),

@@ -31,25 +31,44 @@ const BY_A_FILE: &[Row] = &[
     (b"# x\nfoo\n", b"a\n", REFUSED, "", "braildesk: no 8 2 1\n"),
 ];
 
-/// Words that are not the program's.
-const OTHERS: &[&[&[u8]]] = &[
-    &[],
-    &[b"translate"],
-    &[b"translate", b"a", b"b"],
-    &[b"check", b"a"],
-    &[b"Translate", b"a"],
-    &[b"\xFF", b"a"],
+/// Words that are refused, and the first line of what is told of them.
+const OTHERS: &[(&[&str], &str)] = &[
+    (
+        &[],
+        "error: 'braildesk' requires a subcommand but one was not provided\n",
+    ),
+    (
+        &["braildesk"],
+        "error: 'braildesk' requires a subcommand but one was not provided\n",
+    ),
+    (
+        &["braildesk", "translate"],
+        "error: the following required arguments were not provided:\n",
+    ),
+    (
+        &["braildesk", "translate", "a", "b"],
+        "error: unexpected argument 'b' found\n",
+    ),
+    (
+        &["braildesk", "check", "a"],
+        "error: unrecognized subcommand 'check'\n",
+    ),
+    (
+        &["braildesk", "help"],
+        "error: unrecognized subcommand 'help'\n",
+    ),
+    (
+        &["braildesk", "--version"],
+        "error: unexpected argument '--version' found\n",
+    ),
 ];
 
 /// Words that name a file which isn't there.
-const NO_FILES: &[&[&[u8]]] = &[
-    &[b"translate", b"no/such/table"],
-    &[b"translate", b"\xFF"],
-    &[b"translate", b"@EN"],
+const NO_FILES: &[&[&str]] = &[
+    &["braildesk", "translate", "no/such/table"],
+    &["braildesk", "translate", "@EN"],
+    &["braildesk", "translate", ""],
 ];
-
-/// What is told of them.
-const USE: &str = "use: braildesk translate TABLE < PRINT > BRAILLE\n";
 
 /// A reader or a writer of which each call fails.
 #[derive(Drop)]
@@ -96,7 +115,7 @@ struct Outcome {
 /// The status of a run over two ends, and what it told.
 fn ended<R: Read, W: Write>(
     rt: &HostRuntime,
-    words: &[&[u8]],
+    words: &[&str],
     reader: &mut R,
     writer: &mut W,
 ) -> (u8, Vec<u8>) {
@@ -106,7 +125,7 @@ fn ended<R: Read, W: Write>(
 }
 
 /// The outcome of a run over an input.
-fn outcome_of(rt: &HostRuntime, words: &[&[u8]], input: &[u8]) -> Outcome {
+fn outcome_of(rt: &HostRuntime, words: &[&str], input: &[u8]) -> Outcome {
     let mut reader = input;
     let mut output = Vec::new(rt.alloc());
     let (status, told) = ended(rt, words, &mut reader, &mut output);
@@ -126,7 +145,7 @@ fn path_of(rt: &HostRuntime) -> Result<PathBuf, Fail> {
 /// The outcome of a run by a file at this path, that gets the text and goes again.
 fn outcome_at(rt: &HostRuntime, path: &Path, table: &[u8], input: &[u8]) -> Result<Outcome, Fail> {
     fs::write(rt, path, table)?;
-    let outcome = outcome_of(rt, &[b"translate", path.as_str().as_bytes()], input);
+    let outcome = outcome_of(rt, &["braildesk", "translate", path.as_str()], input);
     fs::remove_file(rt, path)?;
     Ok(outcome)
 }
@@ -160,11 +179,41 @@ fn translates_by_a_file(rt: HostRuntime) -> Result<(), Fail> {
     Ok(())
 }
 
+/// Asserts that words are refused, that nothing is written, and how what is told of them begins and ends.
+fn assert_refused(rt: &impl Abort, outcome: &Outcome, first: &str) {
+    let begins = outcome.told.as_slice().starts_with(first.as_bytes());
+    let ends = outcome
+        .told
+        .as_slice()
+        .ends_with(b"For more information, try '--help'.\n");
+    assert_eq!(rt;
+        (outcome.status, outcome.output.len(), begins, ends),
+        (OTHER_WORDS, 0, true, true)
+    );
+}
+
 #[test]
 fn takes_no_other_words(rt: HostRuntime) {
-    for words in OTHERS {
-        assert_outcome(&rt, &outcome_of(&rt, words, b"a\n"), OTHER_WORDS, "", USE);
+    for (words, first) in OTHERS {
+        assert_refused(&rt, &outcome_of(&rt, words, b"a\n"), first);
     }
+}
+
+/// Asserts that help was shown, that it says how the program is used, and that nothing was told.
+fn assert_help(rt: &impl Abort, outcome: &Outcome, usage: &str) {
+    let is_used = str::from_utf8(outcome.output.as_slice()).is_ok_and(|text| text.contains(usage));
+    assert_eq!(rt;
+        (outcome.status, outcome.told.len(), is_used),
+        (DONE, 0, true)
+    );
+}
+
+#[test]
+fn shows_help(rt: HostRuntime) {
+    let outcome = outcome_of(&rt, &["braildesk", "--help"], b"a\n");
+    assert_help(&rt, &outcome, "Usage: braildesk <COMMAND>");
+    let outcome = outcome_of(&rt, &["braildesk", "translate", "-h"], b"a\n");
+    assert_help(&rt, &outcome, "Usage: braildesk translate <TABLE>");
 }
 
 #[test]
@@ -182,7 +231,7 @@ fn assert_silent(rt: &impl Abort, ended: &(u8, Vec<u8>)) {
 
 #[test]
 fn says_nothing_of_failed_ends(rt: HostRuntime) {
-    let words: [&[u8]; 2] = [b"translate", b"@en"];
+    let words = ["braildesk", "translate", "@en"];
     let mut output = Vec::new(rt.alloc());
     assert_silent(&rt, &ended(&rt, &words, &mut Broken, &mut output));
     let mut input: &[u8] = b"a\n";
@@ -193,6 +242,10 @@ fn says_nothing_of_failed_ends(rt: HostRuntime) {
 
 #[test]
 fn translates_by_the_supplied_table(rt: HostRuntime) {
-    let outcome = outcome_of(&rt, &[b"translate", b"@en"], "ab 1.\n’\nø\n".as_bytes());
+    let outcome = outcome_of(
+        &rt,
+        &["braildesk", "translate", "@en"],
+        "ab 1.\n’\nø\n".as_bytes(),
+    );
     assert_outcome(&rt, &outcome, DONE, "⠁⠃⠀⠼⠁⠲\n⠄\nno 7 0\n", "");
 }

@@ -1,9 +1,8 @@
-use Rattle.std.proofs.Common.{◌≢◌, ◌∙◌, List, ℕ, codes, refl, subst, sym}
+use Rattle.std.proofs.Common.{◌≢◌, ◌∙◌, codes, sym}
 use Rattle.std.specs.Prelude.{MatchResult, Result, Ok, Err}
 use Rattle.std.proofs.lemmas.Bool.{both_ways}
 use Rattle.std.proofs.lemmas.Slice.Eq.{bytes_eq-Decides}
-use Rattle.braildesk.specs.Shelf.{IsRead}
-use Rattle.braildesk.specs.Fault.{IsOfFile, in_file, not_text, of_file, of_text, supplied}
+use Rattle.braildesk.specs.Fault.{in_file, of_text, supplied}
 use Rattle.braildesk.proofs.table_file.read_table.Goals as goal
 
 -- what holds of a result's value, and of its error, is carried over
@@ -13,22 +12,12 @@ carried (Err e) P P' Q Q' f g h = g e h
 
 pub returns-then-eq : goal.returns-then-eq
 returns-then-eq g c =
-    let same = (bytes_eq-Decides c.args.path.now c.as_bytes.result.now).0 (sym c.eq.ensures ∙ c.if-eq.true) ∙ c.as_bytes.ensures.value in
-    let at = supplied same c.as_bytes-then-eq.ensures.value in
-    carried c.index_text.result _ _ _ _ (λ table h. (c.as_bytes-then-eq.result.now, at, h)) (λ fault h. of_text c.as_bytes-then-eq.result.now at h) c.index_text.ensures
+    let same = (bytes_eq-Decides c.args.path.now (codes "@en")).0 (sym c.eq.ensures ∙ c.if-eq.true) in
+    let at = supplied same c.as_bytes.ensures.value in
+    carried c.index_text.result _ _ _ _ (λ table h. (c.as_bytes.result.now, at, h)) (λ fault h. of_text c.as_bytes.result.now at h) c.index_text.ensures
 
-pub returns-in-Ok-read_file : goal.returns-in-Ok-read_file
-returns-in-Ok-read_file g c =
-    let other : c.args.path.now ≢ codes "@en" = λ e. both_ways _ c.if-eq.false (c.eq.ensures ∙ (bytes_eq-Decides c.args.path.now c.as_bytes.result.now).1 (e ∙ sym c.as_bytes.ensures.value)) in
-    let at = in_file other (subst (λ (path : List ℕ). IsRead (g.F.Shelf.at c.args.rt.now path) c.in-Ok-read_file.text.items) c.in-Ok.ensures.cases.0 c.in-Ok-read_file.ensures) in
-    carried c.index_text-in-Ok-read_file.result _ _ _ _ (λ table h. (c.in-Ok-read_file.text.items, at, h)) (λ fault h. of_text c.in-Ok-read_file.text.items at h) (rw c.as_slice.ensures.value at c.index_text-in-Ok-read_file.ensures)
-
-pub returns-in-Err : goal.returns-in-Err
-returns-in-Err g c =
-    let other : c.args.path.now ≢ codes "@en" = λ e. both_ways _ c.if-eq.false (c.eq.ensures ∙ (bytes_eq-Decides c.args.path.now c.as_bytes.result.now).1 (e ∙ sym c.as_bytes.ensures.value)) in
-    of_file other (subst (λ (path : List ℕ). IsOfFile _ (g.F.Shelf.at c.args.rt.now path) c.in-Err.fault) c.in-Ok.ensures.cases.0 c.in-Err.ensures)
-
-pub returns-in_default : goal.returns-in_default
-returns-in_default g c =
-    let other : c.args.path.now ≢ codes "@en" = λ e. both_ways _ c.if-eq.false (c.eq.ensures ∙ (bytes_eq-Decides c.args.path.now c.as_bytes.result.now).1 (e ∙ sym c.as_bytes.ensures.value)) in
-    not_text other c.in_default.ensures.cases.0 refl
+pub returns-in-Ok : goal.returns-in-Ok
+returns-in-Ok g c =
+    let other : c.args.path.now ≢ codes "@en" = λ e. both_ways _ c.if-eq.false (c.eq.ensures ∙ (bytes_eq-Decides c.args.path.now (codes "@en")).1 e) in
+    let at = in_file other c.in-Ok.ensures in
+    carried c.index_text-in-Ok.result _ _ _ _ (λ table h. (c.in-Ok.text.items, at, h)) (λ fault h. of_text c.in-Ok.text.items at h) (rw c.as_slice.ensures.value at c.index_text-in-Ok.ensures)

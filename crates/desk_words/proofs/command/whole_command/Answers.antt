@@ -1,0 +1,12 @@
+use Rattle.std.proofs.Common.{◌∙◌, ap₂}
+use Rattle.std.proofs.lemmas.Result.{IfOk-weaker}
+use Rattle.clap.specs.Words.{with_subcommand}
+use Rattle.desk_words.proofs.command.whole_command.Goals as goal
+
+pub returns : goal.returns
+returns c =
+    let one = c.in_ok-subcommand.ensures.shape c.in_ok-file_command.ensures.local ∙ ap₂ with_subcommand c.top_command.ensures c.in_ok-file_command.ensures.shape in
+    let two = c.in_ok-subcommand-2.ensures.shape c.in_ok-file_command-2.ensures.local ∙ ap₂ with_subcommand one c.in_ok-file_command-2.ensures.shape in
+    let three = c.in_ok-subcommand-3.ensures.shape c.in_ok-export_command.ensures.local ∙ ap₂ with_subcommand two c.in_ok-export_command.ensures.shape in
+    let four = c.in_ok-subcommand-4.ensures.shape c.in_ok-translate_command.ensures.local ∙ ap₂ with_subcommand three c.in_ok-translate_command.ensures.shape in
+    IfOk-weaker c.subcommand-5.result _ _ (λ command h. h.shape c.in_ok-file_command-3.ensures.local ∙ ap₂ with_subcommand four c.in_ok-file_command-3.ensures.shape) c.subcommand-5.ensures

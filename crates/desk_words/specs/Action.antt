@@ -1,0 +1,36 @@
+-- Which action the words name.
+use Rattle.std.specs.Prelude.{◌≡◌, ◌<◌, ◌^◌, ℕ, List, IsSomeAnd, Some, codes}
+use Rattle.std.specs.Str.Parse.{IsNumeral, digits_value, without_leading_plus}
+use Rattle.clap.specs.Words.{Row, Text, first_of, one_of, subcommand_rows_of}
+use Rattle.clap.specs.declared.parser.matches.ArgMatches.{ArgMatches}
+use Rattle.desk_words.specs.declared.action.Action.{Action}
+use Rattle.desk_words.specs.declared.action.Action.TheVariants.{Check, Export, New, Session, Translate}
+
+-- ---- by what was found for each argument
+
+-- the argument with this id is this text
+abbrev pub Names : List Row → Text → Text → Type 0
+Names rows id text = first_of id rows ≡ Some text
+
+-- it is the number of 64 bits that decimal digits write, after a plus or none
+pub record Counts (rows : List Row) (id : Text) (number : ℕ) : Type 0 where
+  pub text : Text
+  pub given : one_of id rows ≡ Some text
+  pub numeral : IsNumeral 10 (without_leading_plus text)
+  pub value : number ≡ digits_value 10 (without_leading_plus text)
+  pub fits : number < 2 ^ 64
+
+-- a subcommand of this name, with these arguments, asks for the action
+abbrev pub Asks : Text → List Row → Action → Type 0
+Asks name rows (New file) = (name ≡ codes "new") × Names rows (codes "file") file.now
+Asks name rows (Session file) = (name ≡ codes "session") × Names rows (codes "file") file.now
+Asks name rows (Export file volume width lines) =
+    (name ≡ codes "export") × Names rows (codes "file") file.now
+    × Counts rows (codes "volume") volume × Counts rows (codes "width") width
+    × Counts rows (codes "lines") lines
+Asks name rows (Translate table) = (name ≡ codes "translate") × Names rows (codes "table") table.now
+Asks name rows (Check file) = (name ≡ codes "check") × Names rows (codes "file") file.now
+
+-- the matches ask for the action
+abbrev pub IsAsked : ArgMatches → Action → Type 0
+IsAsked matches action = IsSomeAnd (subcommand_rows_of matches) (λ found. Asks found.0 found.1 action)

@@ -1,0 +1,4 @@
+pub mod Commands
+pub mod Action
+pub mod Reading
+pub mod Plain

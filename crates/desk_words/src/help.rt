@@ -1,0 +1,150 @@
+//! What `--help` says of the program and of each action.
+
+/// What the program is.
+pub const ABOUT: &str = "braildesk, the desk program of a braille transcribing office";
+
+/// What `new` does.
+pub const NEW_ABOUT: &str = "Makes an empty book in a file";
+
+/// What `session` does.
+pub const SESSION_ABOUT: &str = "Answers the requests of standard input from the book in a file";
+
+/// What `export` does.
+pub const EXPORT_ABOUT: &str = "Writes a volume of the book in a file as pages for an embosser";
+
+/// What `translate` does.
+pub const TRANSLATE_ABOUT: &str = "Writes the braille of each line of standard input by a table";
+
+/// What `check` does.
+pub const CHECK_ABOUT: &str = "Says which version the book in a file has";
+
+/// What the operand of `translate` is.
+pub const TABLE: &str = "A table file, or @en for the supplied table of uncontracted English";
+
+/// The end of the program's help.
+pub const WHOLE: &str = "\
+Example:
+  braildesk new book.braildesk
+  printf 'supply en\\ntype end en Hello\\nbraille 1\\n' | braildesk session book.braildesk
+  braildesk export book.braildesk 1 > book.brf
+
+Exit status:
+  0  done, and what was asked for is written
+  1  the words were refused
+  2  a file, a table, a book or a volume was refused, or there was no memory
+  3  the book could not be kept, or standard input or standard output failed
+
+What is refused with status 2 is reported in one line on standard error, as 'braildesk: no 98'.
+'braildesk COMMAND --help' says which codes a command has.";
+
+/// The end of the program's help, with `translate` alone.
+pub const TRANSLATING: &str = "\
+Example:
+  echo 'Hello' | braildesk translate @en
+
+Exit status:
+  0  done, and what was asked for is written
+  1  the words were refused
+  2  the table was refused, or there was no memory
+  3  standard input or standard output failed
+
+What is refused with status 2 is reported in one line on standard error, as 'braildesk: no 98'.
+'braildesk translate --help' says which codes there are.";
+
+/// The end of the help of `new`.
+pub const NEW: &str = "\
+The answer is 'ok 0'. A file that holds a book stays as it is.
+
+Example:
+  braildesk new book.braildesk
+
+Exit status:
+  0  done
+  1  the words were refused
+  2  one line on standard error, 'braildesk: ' and
+     no 90           there was no memory
+     no 91           the file could not be written
+     no 92           the file is not a book, and can't be made one
+     no 93 TABLE ID  the book in the file is damaged
+     no 94           the book is of a newer format
+     no 98           the file can't be opened
+     no 99 VERSION   the file holds a book already
+  3  standard output failed";
+
+/// The end of the help of `session`.
+pub const SESSION: &str = "\
+Each request is answered when what it changes is kept in the file.
+
+Example:
+  printf 'supply en\\ntype end en Hello\\nbraille 1\\n' | braildesk session book.braildesk
+
+Exit status:
+  0  the input is at its end
+  1  the words were refused
+  2  one line on standard error, 'braildesk: ' and
+     no 90           there was no memory
+     no 91           the file could not be read or written
+     no 92           the file is not a book
+     no 93 TABLE ID  the book in the file is damaged
+     no 94           the book is of a newer format
+     no 98           the file is not there, or can't be opened
+  3  the book could not be kept, or standard input or standard output failed";
+
+/// The end of the help of `export`.
+pub const EXPORT: &str = "\
+The pages are in Braille Ready Format.
+
+Example:
+  braildesk export book.braildesk 1 --width 30 --lines 27 > volume1.brf
+
+Exit status:
+  0  done
+  1  the words were refused
+  2  one line on standard error, 'braildesk: ' and
+     no 90            there was no memory
+     no 91            the file could not be read or written
+     no 92            the file is not a book
+     no 93 TABLE ID   the book in the file is damaged
+     no 94            the book is of a newer format
+     no 95 PARA CELL  a cell of the volume has dot 7 or 8
+     no 96            the book has no such volume
+     no 98            the file is not there, or can't be opened
+  3  standard output failed";
+
+/// The end of the help of `translate`.
+pub const TRANSLATE: &str = "\
+Each line of input is answered by one line: its cells as characters of Braille Patterns, or
+  no 1        the line has over 65536 bytes, or is not UTF-8
+  no 7 PLACE  the table doesn't define the character at PLACE, counted from 0
+  no 14       the line has over 4000 characters
+
+Example:
+  echo 'Hello' | braildesk translate @en
+
+Exit status:
+  0  all lines are answered
+  1  the words were refused
+  2  one line on standard error, 'braildesk: ' and
+     no 8 LINE CAUSE  the table is refused at LINE, for a CAUSE of docs/FORMATS.md
+     no 90            there was no memory
+     no 98            the table file is not there, can't be read, or is too large
+  3  standard input or standard output failed";
+
+/// The end of the help of `check`.
+pub const CHECK: &str = "\
+The answer is 'ok VERSION'.
+
+Example:
+  braildesk check book.braildesk
+
+Exit status:
+  0  done
+  1  the words were refused
+  2  one line on standard error, 'braildesk: ' and
+     no 90           there was no memory
+     no 91           the file could not be read or written
+     no 92           the file is not a book
+     no 93 TABLE ID  the book in the file is damaged
+     no 94           the book is of a newer format
+     no 98           the file is not there, or can't be opened
+  3  standard output failed";

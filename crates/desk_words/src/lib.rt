@@ -1,0 +1,27 @@
+//! The words of the command line: the program's `clap` commands, and which action the words name.
+//!
+//! ```rust
+//! use desk_words::{Action, action_of, translating_command};
+//!
+//! let matches = translating_command(alloc)?.try_get_matches_from(words)?;
+//! if let Some(Action::Translate { table }) = action_of(&matches) {
+//!     translate(table)
+//! }
+//! ```
+//!
+//! `whole_command` has every action, and `translating_command` the one that the program carries out
+//! today. What an action does is left to `braildesk`.
+#![tactic(auto)]
+
+mod action;
+mod command;
+mod help;
+pub mod laws;
+mod reading;
+
+pub use action::{Action, action_of};
+pub use command::{translating_command, whole_command};
+pub use reading::{Reading, read_words};
+
+#[cfg(test)]
+mod tests;
