@@ -36,10 +36,10 @@ whole-then request later w =
     ∙ (lines-then w.front later
     ∙ ap (λ (ls : List (List ℕ)). ls ++ lines_of later) (sym (ap lines_of w.ends) ∙ w.lines))
 
-whole-feeds : (request : List ℕ) (w : IsWhole request) → feeds (fed w.front) ≡ suc (length w.block)
+pub whole-feeds : (request : List ℕ) (w : IsWhole request) → feeds (fed w.front) ≡ suc (length w.block)
 whole-feeds request w = sym (lines-fed w.front) ∙ ap length (sym (ap lines_of w.ends) ∙ w.lines)
 
-both-whole : (this that later other : List ℕ) (v : IsWhole this) (w : IsWhole that) → this ++ later ≡ that ++ other → (this ≡ that) × (later ≡ other)
+pub both-whole : (this that later other : List ℕ) (v : IsWhole this) (w : IsWhole that) → this ++ later ≡ that ++ other → (this ≡ that) × (later ≡ other)
 both-whole this that later other v w e =
     let lines = sym (whole-then this later v) ∙ (ap lines_of e ∙ whole-then that other w) in
     let line = heads-same v.line w.line (v.block ++ lines_of later) (w.block ++ lines_of other) lines in
@@ -61,7 +61,7 @@ whole-last this that later v w e =
 alone : (request later : List ℕ) → later ≡ [] → request ++ later ≡ request
 alone request later e = ap (λ (t : List ℕ). request ++ t) e ∙ append-nil request
 
-same-request : (this that later other : List ℕ) → IsRequestBefore later this → IsRequestBefore other that → this ++ later ≡ that ++ other
+pub same-request : (this that later other : List ℕ) → IsRequestBefore later this → IsRequestBefore other that → this ++ later ≡ that ++ other
     → (this ≡ that) × (later ≡ other)
 same-request this that later other (whole v) (whole w) e = both-whole this that later other v w e
 same-request this that later other (whole v) (last n w) e =
@@ -75,10 +75,10 @@ same-request this that later other (last m v) (last n w) e =
 
 -- ---- the first request of bytes
 
-whole-some : (request : List ℕ) → IsWhole request → request ≢ []
+pub whole-some : (request : List ℕ) → IsWhole request → request ≢ []
 whole-some request w = some-lines request w.line w.block w.lines
 
-before-some : (later request : List ℕ) → IsRequestBefore later request → request ≢ []
+pub before-some : (later request : List ℕ) → IsRequestBefore later request → request ≢ []
 before-some later request (whole w) = whole-some request w
 before-some later request (last n w) = some-lines request w.line w.block w.lines
 
@@ -123,15 +123,20 @@ short-last bytes some count takes few =
     record { line = head_line bytes; block = lines_of (after_first_line bytes); lines = split; count = count; takes = takes; most = omega arith }
 
 -- and begin with no whole one
-short-none : (bytes : List ℕ) → bytes ≢ [] → (count : ℕ) → Takes (head_line bytes) count → feeds bytes ≤ count
+pub none-whole : (bytes line : List ℕ) (block : List (List ℕ)) (count : ℕ) → lines_of bytes ≡ line ∷ block → Takes line count → feeds bytes ≤ count
     → (request later : List ℕ) → bytes ≡ request ++ later → ¬ IsWhole request
-short-none bytes some count takes few request later e w =
-    let lines = sym (lines_of-split bytes some) ∙ (ap lines_of e ∙ whole-then request later w) in
-    let line = heads-same (head_line bytes) w.line (lines_of (after_first_line bytes)) (w.block ++ lines_of later) lines in
-    let same = takes-one w.line count (length w.block) (subst (λ (l : List ℕ). Takes l count) line takes) w.takes in
+none-whole bytes line block count split takes few request later e w =
+    let lines = sym split ∙ (ap lines_of e ∙ whole-then request later w) in
+    let first = heads-same line w.line block (w.block ++ lines_of later) lines in
+    let same = takes-one w.line count (length w.block) (subst (λ (l : List ℕ). Takes l count) first takes) w.takes in
     let more = whole-feeds request w in
     let all = ap feeds e ∙ (feeds-append request later ∙ ap (λ (t : List ℕ). feeds t + feeds later) w.ends) in
     omega arith
+
+short-none : (bytes : List ℕ) → bytes ≢ [] → (count : ℕ) → Takes (head_line bytes) count → feeds bytes ≤ count
+    → (request later : List ℕ) → bytes ≡ request ++ later → ¬ IsWhole request
+short-none bytes some count takes few =
+    none-whole bytes (head_line bytes) (lines_of (after_first_line bytes)) count (lines_of-split bytes some) takes few
 
 -- what follows a request is shorter
 shorter : (bound : ℕ) (bytes request later : List ℕ) → length bytes ≤ suc bound → bytes ≡ request ++ later → request ≢ [] → length later ≤ bound

@@ -1,6 +1,5 @@
 -- What becomes of a request, and what is replied to it.
-use Rattle.std.specs.Prelude.{◌≡◌, ℕ, List, [], ◌∷◌, Option}
-use Rattle.louis_table.specs.Lines.{lines_of}
+use Rattle.std.specs.Prelude.{◌≡◌, ℕ, List, Option}
 use Rattle.desk_book.specs.declared.command.Command.{Command}
 use Rattle.desk_book.specs.declared.refusal.Refusal.{Refusal}
 use Rattle.desk_book.specs.declared.refusal.Refusal.TheVariants as refusals
@@ -10,14 +9,11 @@ use Rattle.desk_book.specs.Refusals.{IsAccepted, IsRefused}
 use Rattle.desk_book.specs.Step.{Makes, number_of}
 use Rattle.desk_line.specs.declared.answer.Answer.{Answer}
 use Rattle.desk_line.specs.declared.answer.Answer.TheVariants as answers
-use Rattle.desk_line.specs.declared.directive.Directive.{Directive}
 use Rattle.desk_line.specs.declared.fault.Fault.TheVariants.{Syntax}
-use Rattle.desk_line.specs.declared.head.Head.TheVariants as heads
 use Rattle.desk_line.specs.declared.request.Query.{Query}
 use Rattle.desk_line.specs.declared.request.Request.TheVariants.{Do, Ask}
-use Rattle.desk_line.specs.Head.{Says}
 use Rattle.desk_line.specs.Reply.{IsReply}
-use Rattle.desk_line.specs.Request.{HasText, Reads, Tells, command_of}
+use Rattle.desk_line.specs.Request.{AsksForMemory, Reads, Tells}
 
 -- a request of these bytes to a book is answered so, and this is the book after it: the next one with a command's own
 -- number where it is accepted, and else the same, also where the store failed to keep what the command makes. Memory may be
@@ -29,9 +25,7 @@ pub data IsAnswered (bytes : List ℕ) (book next : Book) (answer : Answer) : Ty
       → IsRefused book expect command refusal → next ≡ book → answer ≡ answers.Refused refusal → IsAnswered bytes book next answer
   asked : (query : Query) → Reads bytes (Ask query) → next ≡ book → answer ≡ answers.Asked query → IsAnswered bytes book next answer
   no_request : Tells bytes Syntax → next ≡ book → answer ≡ answers.Syntax → IsAnswered bytes book next answer
-  unread : (line : List ℕ) (block : List (List ℕ)) (directive : Directive) (expect : Option ℕ) → lines_of bytes ≡ line ∷ block
-      → Says line (heads.Do directive expect) → HasText (command_of directive [])
-      → next ≡ book → answer ≡ answers.NoMemory → IsAnswered bytes book next answer
+  unread : AsksForMemory bytes → next ≡ book → answer ≡ answers.NoMemory → IsAnswered bytes book next answer
   unplanned : (command : Command) (expect : Option ℕ) → Reads bytes (Do command expect) → MayLackMemory book expect command
       → next ≡ book → answer ≡ answers.Refused refusals.NoMemory → IsAnswered bytes book next answer
   lost : (command : Command) (expect : Option ℕ) (made : Book) → Reads bytes (Do command expect) → IsAccepted book expect command

@@ -137,6 +137,16 @@ HasText (commands.Volume id begins) = ⊥
 HasText (commands.Retable id table) = Unit {0}
 HasText (commands.Move id after) = ⊥
 
+-- the bytes begin with the head line of a command that has a text or a name, whatever the lines after it are
+pub record AsksForMemory (bytes : List ℕ) : Type 0 where
+  pub line : List ℕ
+  pub block : List (List ℕ)
+  pub directive : Directive
+  pub expect : Option ℕ
+  pub lines : lines_of bytes ≡ line ∷ block
+  pub says : Says line (heads.Do directive expect)
+  pub text : HasText (command_of directive [])
+
 -- the fault is told of the bytes: they are no request; want of memory is told of commands alone that have a text or a name
 abbrev pub Tells : List ℕ → Fault → Type 0
 Tells bytes Syntax = (request : Request) → ¬ Reads bytes request

@@ -1,2 +1,12 @@
 pub mod Sessions
 pub mod Lives
+pub mod OneLine
+pub mod UsedInput
+pub mod WaitingBytes
+pub mod LineReading
+pub mod Blocks
+pub mod NextRequests
+pub mod TurnsTaken
+pub mod RequestCuts
+pub mod MoreTurns
+pub mod Serving

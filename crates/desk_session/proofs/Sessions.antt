@@ -106,7 +106,7 @@ module _ (turn : Turn) (turns : List Turn) (book next last : Book) (first others
       Turned-quiet same (gives_by _ answer) (λ is_lost. cc (sym answer ∙ is_lost)) (λ number is_done. cc (sym answer ∙ is_done))
   turned_by (no_request tells same answer) =
       Turned-quiet same (gives_by _ answer) (λ is_lost. cc (sym answer ∙ is_lost)) (λ number is_done. cc (sym answer ∙ is_done))
-  turned_by (unread line block directive expect lines says text same answer) =
+  turned_by (unread asks same answer) =
       Turned-quiet same (gives_by _ answer) (λ is_lost. cc (sym answer ∙ is_lost)) (λ number is_done. cc (sym answer ∙ is_done))
   turned_by (unplanned command expect reads lacks same answer) =
       Turned-quiet same (gives_by _ answer) (λ is_lost. cc (sym answer ∙ is_lost)) (λ number is_done. cc (sym answer ∙ is_done))

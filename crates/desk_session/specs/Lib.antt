@@ -1,1 +1,5 @@
 pub mod Session
+pub mod Requests
+pub mod Reading
+pub mod Served
+pub mod Turns

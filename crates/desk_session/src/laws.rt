@@ -2,8 +2,10 @@
 ghost use Rattle.desk_book.specs.After.{After};
 ghost use Rattle.desk_book.specs.Book.{Book};
 ghost use Rattle.desk_line.specs.declared.answer.Answer.TheVariants.{Done};
+ghost use Rattle.desk_line.specs.Request.{Requests};
+ghost use Rattle.desk_session.specs.Requests.{FirstRequests};
 ghost use Rattle.desk_session.specs.Session.{AllButOne, Given, IsGivenBy, IsHeld, IsLife, IsSession, Lived, Turn, commands_of, kept_commands};
-ghost use Rattle.std.specs.Prelude.{◌≡◌, ◌++◌, ◌∷◌, ℕ, List, Option, true};
+ghost use Rattle.std.specs.Prelude.{[], ◌≡◌, ◌++◌, ◌∷◌, ℕ, List, Option, true};
 ghost use Rattle.std.specs.List.{All, Contains};
 
 /// Each command that a session gave was a request of it, done and acknowledged where the writer took the whole reply,
@@ -15,6 +17,14 @@ pub fn given_commands()
     ensures done { (book last : Book) (turns : List Turn) (given : List Given) (turn : Turn) (number : Option ℕ)
         → IsSession book turns given last → Contains turns turn → turn.answer ≡ Done number
         → (one : Given) × Contains given one × IsGivenBy turn one }
+{}
+
+/// The requests that a session answered are the first of all that an input is cut into of which it read a beginning, with
+/// what was left of it.
+pub fn first_requests()
+    ensures { (read left : List ℕ) (requests all : List (List ℕ))
+        → FirstRequests (left ≡ []) read requests → Requests (read ++ left) all
+        → (others : List (List ℕ)) × (all ≡ requests ++ others) }
 {}
 
 /// The book that a session holds at its end is the one after all the commands that it gave, but where the store failed

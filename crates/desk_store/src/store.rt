@@ -64,7 +64,7 @@ fn put_change<S: Alter>(
 
 impl<S: Alter> Store<S> {
     /// The store of a connection on which no transaction is open.
-    pub(crate) fn over(connection: Connection<S>) -> Self
+    pub fn over(connection: Connection<S>) -> Self
         requires { connection.in_transaction ≡ false }
         ensures { result ≡ record { connection = connection; lost = false } }
     {

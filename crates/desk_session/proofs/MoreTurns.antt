@@ -1,0 +1,124 @@
+-- A session with one turn more.
+use Rattle.std.proofs.Common.{◌≡◌, ◌≢◌, ℕ, false, List, [], ◌∷◌, ◌++◌, refl, sym, ap, subst, ◌∙◌, append_assoc, inl, inr}
+use Rattle.std.specs.List.{AllByRecursion}
+use Rattle.std.proofs.lemmas.List.{append-nil}
+use Rattle.desk_book.specs.After.{After}
+use Rattle.desk_book.specs.Book.{Book}
+use Rattle.desk_line.specs.declared.answer.Answer.{Answer}
+use Rattle.desk_line.specs.declared.answer.Answer.TheVariants as answers
+use Rattle.desk_line.specs.Answered.{IsAnswered, accepted, asked, lost, no_request, refused, unplanned, unread}
+use Rattle.desk_line.specs.Reply.{IsReply}
+use Rattle.desk_session.specs.Served.{IsPart, IsWritten, requests_of}
+use Rattle.desk_session.specs.Session.{EndsLost, Given, Gives, IsHeld, IsSession, MayGoOn, Turn, commands_of}
+use Rattle.desk_session.proofs.Sessions.{IsSession-held}
+
+-- ---- what a turn gives
+
+gives-by : (turn : Turn) (answer : Answer) (given : List Given) → turn.answer ≡ answer → Gives turn answer given → Gives turn turn.answer given
+gives-by turn answer given is gives = subst (λ (a : Answer). Gives turn a given) (sym is) gives
+
+-- each answer gives something or nothing
+pub gives-some : (turn : Turn) (book next : Book) → IsAnswered turn.request book next turn.answer → (given : List Given) × Gives turn turn.answer given
+gives-some turn book next (accepted command expect reads is makes answer) =
+    let given : List Given = record { command = command; acknowledged = turn.taken } ∷ [] in
+    (given, gives-by turn _ given answer (command, (expect, reads), refl))
+gives-some turn book next (refused command expect refusal reads is same answer) = ([], gives-by turn _ [] answer refl)
+gives-some turn book next (asked query reads same answer) = ([], gives-by turn _ [] answer refl)
+gives-some turn book next (no_request tells same answer) = ([], gives-by turn _ [] answer refl)
+gives-some turn book next (unread asks same answer) = ([], gives-by turn _ [] answer refl)
+gives-some turn book next (unplanned command expect reads lacks same answer) = ([], gives-by turn _ [] answer refl)
+gives-some turn book next (lost command expect made reads is makes same answer) =
+    let given : List Given = record { command = command; acknowledged = false } ∷ [] in
+    (given, gives-by turn _ given answer (command, (expect, reads), refl))
+
+-- a book stays where its command is lost
+pub lost-stays : (bytes : List ℕ) (book next : Book) (answer : Answer) → IsAnswered bytes book next answer → answer ≡ answers.Lost → next ≡ book
+lost-stays bytes book next answer (accepted command expect reads is makes answer_) e = absurd (cc (sym answer_ ∙ e))
+lost-stays bytes book next answer (refused command expect refusal reads is same answer_) e = same
+lost-stays bytes book next answer (asked query reads same answer_) e = same
+lost-stays bytes book next answer (no_request tells same answer_) e = same
+lost-stays bytes book next answer (unread asks same answer_) e = same
+lost-stays bytes book next answer (unplanned command expect reads lacks same answer_) e = same
+lost-stays bytes book next answer (lost command expect made reads is makes same answer_) e = same
+
+-- ---- how the turns end
+
+pub goes-held : (turns : List Turn) → AllByRecursion MayGoOn turns → ¬ EndsLost turns
+goes-held [] goes ends = ends
+goes-held (turn ∷ []) goes ends = goes.0.held ends
+goes-held (turn ∷ next ∷ turns) goes ends = goes-held (next ∷ turns) goes.1 ends
+
+module _ (turn : Turn) where
+  pub goes-more : (turns : List Turn) → AllByRecursion MayGoOn turns → MayGoOn turn → AllByRecursion MayGoOn (turns ++ turn ∷ [])
+  goes-more [] goes one = (one, tt)
+  goes-more (first ∷ turns) goes one = (goes.0, goes-more turns goes.1 one)
+
+  pub ends-lost : (turns : List Turn) → turn.answer ≡ answers.Lost → EndsLost (turns ++ turn ∷ [])
+  ends-lost [] is = is
+  ends-lost (first ∷ []) is = is
+  ends-lost (first ∷ next ∷ turns) is = ends-lost (next ∷ turns) is
+
+  pub ends-held : (turns : List Turn) → turn.answer ≢ answers.Lost → ¬ EndsLost (turns ++ turn ∷ [])
+  ends-held [] held ends = held ends
+  ends-held (first ∷ []) held ends = held ends
+  ends-held (first ∷ next ∷ turns) held ends = ends-held (next ∷ turns) held ends
+
+  pub requests-more : (turns : List Turn) → requests_of (turns ++ turn ∷ []) ≡ requests_of turns ++ turn.request ∷ []
+  requests-more [] = refl
+  requests-more (first ∷ turns) = ap (λ (rs : List (List ℕ)). first.request ∷ rs) (requests-more turns)
+
+  -- ---- the session
+
+  module _ (mid next : Book) (answered : IsAnswered turn.request mid next turn.answer) where
+    pub IsSession-more : (gives : List Given) → Gives turn turn.answer gives → (turns : List Turn) (book : Book) (given : List Given) → AllByRecursion MayGoOn turns
+        → IsSession book turns given mid → IsSession book (turns ++ turn ∷ []) (given ++ gives) next
+    IsSession-more gives is [] book given goes (none, same) = (
+      next,
+      subst (λ (b : Book). IsAnswered turn.request b next turn.answer) same answered,
+      inl refl,
+      (gives, [], is, ap (λ (all : List Given). all ++ gives) none ∙ sym (append-nil gives), (refl, refl)),
+    )
+    IsSession-more gives is (first ∷ turns) book given goes (after, answer, on, (front, others, gave, whole, session)) = (
+      after,
+      answer,
+      inr goes.0,
+      (
+        front,
+        others ++ gives,
+        gave,
+        ap (λ (all : List Given). all ++ gives) whole ∙ append_assoc front others gives,
+        IsSession-more gives is turns after others goes.1 session,
+      ),
+    )
+
+    pub IsWritten-more : (reply piece : List ℕ) → IsReply next turn.answer reply → IsPart turn.taken piece reply → (turns : List Turn) (book : Book) (output : List ℕ)
+        → IsWritten book turns output mid → IsWritten book (turns ++ turn ∷ []) (output ++ piece) next
+    IsWritten-more reply piece is part [] book output (none, same) = (
+      next,
+      subst (λ (b : Book). IsAnswered turn.request b next turn.answer) same answered,
+      (reply, piece, [], is, part, ap (λ (t : List ℕ). t ++ piece) none ∙ sym (append-nil piece), (refl, refl)),
+    )
+    IsWritten-more reply piece is part (first ∷ turns) book output (after, answer, (text, front, others, replied, whole, parts, written)) = (
+      after,
+      answer,
+      (
+        text,
+        front,
+        others ++ piece,
+        replied,
+        whole,
+        ap (λ (t : List ℕ). t ++ piece) parts ∙ append_assoc front others piece,
+        IsWritten-more reply piece is part turns after others written,
+      ),
+    )
+
+-- the book is the one after all that was given
+pub after-given : (turns : List Turn) (book last : Book) (given : List Given) → IsSession book turns given last → ¬ EndsLost turns → After book (commands_of given) last
+after-given turns book last given session held = by (IsSession-held turns book given last session)
+  where
+    same : (h : IsHeld book turns given last) → h.lost ≡ [] → After book (commands_of given) last
+    same h empty =
+        subst (λ (all : List Given). After book (commands_of all) last) (sym (h.front ∙ (ap (λ (l : List Given). h.held ++ l) empty ∙ append-nil h.held))) h.after
+
+    by : IsHeld book turns given last → After book (commands_of given) last
+    by h = elim h.which [ inl none ↦ same h none.1 | inr ends ↦ absurd (held ends.0) ]

@@ -1,0 +1,320 @@
+-- A session over its ends and its file, turn by turn.
+use Rattle.std.proofs.Common.{◌≡◌, ◌≢◌, ◌⊎◌, ℕ, ◌+◌, ◌-◌, ◌^◌, ◌<◌, ◌≤◌, Bool, true, false, List, [], ◌∷◌, ◌++◌, length, Option, None, Some, Ok, Err, refl, sym, ap, subst, ◌∙◌, inl, inr, arith}
+use Rattle.std.specs.Io.KnownBytes.{Appends, IsAtEnd}
+use Rattle.std.specs.List.{AllByRecursion}
+use Rattle.std.proofs.KnownBytes.{Appends-nil, Appends-trans}
+use Rattle.std.proofs.lemmas.List.{append-nil, length-append, map-append}
+use Rattle.sqlite_trees.specs.Tree.{Trees}
+use Rattle.sqlite.specs.State.{HasCleanDisk, State}
+use Rattle.desk_book.specs.declared.command.Command.{Command}
+use Rattle.desk_book.specs.After.{After}
+use Rattle.desk_book.specs.Book.{Book}
+use Rattle.desk_book.proofs.Histories.{After-append}
+use Rattle.desk_ends.specs.declared.ends.Failed.{Failed}
+use Rattle.desk_ends.specs.Ends.{IsFlushed}
+use Rattle.desk_line.specs.declared.answer.Answer.{Answer}
+use Rattle.desk_line.specs.declared.answer.Answer.TheVariants as answers
+use Rattle.desk_line.specs.declared.request.Request.TheVariants.{Do}
+use Rattle.desk_line.specs.Request.{WholeRequests}
+use Rattle.desk_line.proofs.RequestLaws.{one-request}
+use Rattle.desk_store.specs.Books.{HoldsBook, IsKept}
+use Rattle.desk_store.specs.Layout.{Layout}
+use Rattle.desk_session.specs.declared.input.Input.{Input}
+use Rattle.desk_session.specs.declared.reader.Found.{Found}
+use Rattle.desk_session.specs.declared.session.Ended.{Ended}
+use Rattle.desk_session.specs.declared.session.Ended.TheVariants as ended
+use Rattle.desk_session.specs.Reading.{KnowsEnd, ReadsRequest, Used}
+use Rattle.desk_session.specs.Requests.{FirstRequests}
+use Rattle.desk_session.specs.Served.{HoldsGiven, IsLeft, IsWritten, MayLack, MayServe, Served, requests_of}
+use Rattle.desk_session.specs.Session.{EndsLost, Given, Gives, IsCommand, IsSession, MayGoOn, Turn, commands_of}
+use Rattle.desk_session.specs.Turns.{LeavesLost, LeftBy, SendsReply, TakesTurn}
+use Rattle.desk_session.proofs.MoreTurns.{IsSession-more, IsWritten-more, after-given, ends-held, ends-lost, gives-some, goes-held, goes-more, requests-more}
+use Rattle.desk_session.proofs.RequestCuts.{CutInto, CutInto-all, CutInto-first, CutInto-more, CutInto-whole, next-some}
+use Rattle.desk_session.proofs.UsedInput.{Used-none, Used-then, no-parts}
+
+-- nothing read yet
+abbrev pub fresh : Input
+fresh = record { chunk = []; total = 0; is_over = false }
+
+fresh-knows : (a : Option (List ℕ)) → KnowsEnd a fresh
+fresh-knows a over = absurd (cc over)
+
+-- ---- the file
+
+-- after a session in which no command was lost
+held-left : (l : Layout) (start last : Book) (e : Ended) (turns : List Turn) (given : List Given) (s : State) → IsSession start turns given last → ¬ EndsLost turns
+    → MayLack e [] → IsKept l last s → IsLeft l start last e given s
+held-left l start last e turns given s session held lacks kept = record {
+  shows = λ ends. kept.shows;
+  leaves = λ db left. record {
+    kept = given;
+    missing = [];
+    front = sym (append-nil given);
+    lacks = lacks;
+    next = last;
+    after = after-given turns start last given session held;
+    holds = kept.leaves db left;
+  };
+}
+
+same-command : (bytes : List ℕ) (this that : Command) → IsCommand bytes this → IsCommand bytes that → this ≡ that
+same-command bytes this that (expect, is) (other, too) = let h = one-request bytes (Do this expect) (Do that other) is too in cc
+
+commands-more : (given gives : List Given) → commands_of (given ++ gives) ≡ commands_of given ++ commands_of gives
+commands-more given gives = map-append (λ (one : Given). one.command) given gives
+
+module _ (l : Layout) (start book : Book) (given gives : List Given) (bytes : List ℕ) (s : State)
+    (after : After start (commands_of given) book) (lost : LeavesLost l bytes book s) (command : Command) (asked : IsCommand bytes command)
+    (is : gives ≡ record { command = command; acknowledged = false } ∷ []) where
+  after-made : After start (commands_of (given ++ gives)) lost.made
+  after-made =
+      let all : commands_of (given ++ gives) ≡ commands_of given ++ lost.command ∷ [] =
+      commands-more given gives
+      ∙ (ap (λ (more : List Given). commands_of given ++ commands_of more) is
+      ∙ ap (λ (c : Command). commands_of given ++ c ∷ []) (same-command bytes command lost.command asked lost.asked)) in
+      subst (λ (commands : List Command). After start commands lost.made) (sym all)
+      ((After-append start lost.made (commands_of given) (lost.command ∷ [])).1 (book, after, (lost.accepted, (lost.made, lost.makes, refl))))
+
+  few : length gives ≤ 1
+  few = let n = ap length is in omega arith
+
+  lost-holds : (db : Trees) → HoldsBook l book db ⊎ HoldsBook l lost.made db → HoldsGiven l start ended.Lost (given ++ gives) db
+  lost-holds db (inl holds) =
+      record { kept = given; missing = gives; front = refl; lacks = few; next = book; after = after; holds = holds }
+  lost-holds db (inr holds) = record {
+    kept = given ++ gives;
+    missing = [];
+    front = sym (append-nil (given ++ gives));
+    lacks = omega arith;
+    next = lost.made;
+    after = after-made;
+    holds = holds;
+  }
+
+  -- after a session in which a command was lost
+  pub lost-left : (last : Book) → IsLeft l start last ended.Lost (given ++ gives) s
+  lost-left last = record { shows = λ held. absurd (held refl); leaves = λ db left. lost-holds db (lost.leaves db left) }
+
+kept-by : (l : Layout) (bytes : List ℕ) (book next : Book) (answer : Answer) (s : State) → answer ≢ answers.Lost → LeftBy l bytes book next answer s → IsKept l next s
+kept-by l bytes book next (answers.Done number) s held left = left
+kept-by l bytes book next (answers.Refused refusal) s held left = left
+kept-by l bytes book next (answers.Asked query) s held left = left
+kept-by l bytes book next answers.Syntax s held left = left
+kept-by l bytes book next answers.NoMemory s held left = left
+kept-by l bytes book next answers.Lost s held left = absurd (held refl)
+
+empty-list : (bytes : List ℕ) → length bytes ≡ 0 → bytes ≡ []
+empty-list [] none = refl
+empty-list (b ∷ bytes) none = absurd (omega arith)
+
+-- ---- a session so far
+
+pub record IsServing (start book : Book) (a b v w flushed : Option (List ℕ)) (input : Input) (old s : State) : Type 0 where
+  pub bytes : List ℕ
+  pub output : List ℕ
+  pub turns : List Turn
+  pub given : List Given
+  pub used : Used a b fresh input bytes
+  pub cut : CutInto (input.is_over ≡ true) bytes (requests_of turns)
+  pub session : IsSession start turns given book
+  pub written : IsWritten start turns output book
+  pub appends : Appends v w output
+  pub goes : AllByRecursion MayGoOn turns
+  pub passed : (turns ≡ []) ⊎ IsFlushed w flushed
+  pub clean : HasCleanDisk s → HasCleanDisk old
+  pub kept : HasCleanDisk s → (l : Layout) → MayServe l start old → IsKept l book s
+
+pub IsServing-none : (book : Book) (a v flushed : Option (List ℕ)) (s : State) → IsServing book book a a v v flushed fresh s s
+IsServing-none book a v flushed s = record {
+  bytes = [];
+  output = [];
+  turns = [];
+  given = [];
+  used = Used-none a fresh;
+  cut = refl;
+  session = (refl, refl);
+  written = (refl, refl);
+  appends = Appends-nil v;
+  goes = tt;
+  passed = inl refl;
+  clean = λ clean. clean;
+  kept = λ clean l may. may.kept;
+}
+
+module _ (RF WF : Type 0) (start book : Book) (a b c v w flushed : Option (List ℕ)) (input new : Input) (old s : State) (line : Option (List ℕ))
+    (so_far : IsServing start book a b v w flushed input old s) where
+  all-left : (e : Ended) → MayLack e [] → HasCleanDisk s → (l : Layout) → MayServe l start old → IsLeft l start book e so_far.given s
+  all-left e lacks clean l may =
+      held-left l start book e so_far.turns so_far.given s so_far.session (goes-held so_far.turns so_far.goes) lacks (so_far.kept clean l may)
+
+  -- the input is at its end
+  pub Served-done : ReadsRequest RF b c input new line (Ok None) → Served start book ended.Done a c v w flushed RF WF old s
+  Served-done read =
+      let used = Used-then a b c fresh input new so_far.bytes read.bytes so_far.used read.used in
+      let knows = used.ends (fresh-knows a) read.found.1 in
+      let all : used.read ≡ so_far.bytes =
+      used.parts
+      ∙ (ap (λ (t : List ℕ). (so_far.bytes ++ read.bytes) ++ t) read.found.2
+      ∙ (append-nil (so_far.bytes ++ read.bytes) ∙ (ap (λ (t : List ℕ). so_far.bytes ++ t) read.found.0 ∙ append-nil so_far.bytes))) in
+      record {
+        read = used.read;
+        output = so_far.output;
+        turns = so_far.turns;
+        given = so_far.given;
+        consumes = used.consumes;
+        requests = (knows.0, CutInto-all (input.is_over ≡ true) used.read (requests_of so_far.turns) (subst (λ (t : List ℕ). CutInto (input.is_over ≡ true) t (requests_of so_far.turns)) (sym all) so_far.cut));
+        session = so_far.session;
+        written = so_far.written;
+        appends = so_far.appends;
+        ends = so_far.goes;
+        honest = tt;
+        flushed = so_far.passed;
+        left = all-left ended.Done refl;
+      }
+
+  -- a read failed
+  pub Served-input : (failed : Failed) → ReadsRequest RF b c input new line (Err failed) → Served start book ended.Input a c v w flushed RF WF old s
+  Served-input failed read =
+      let used = Used-then a b c fresh input new so_far.bytes read.bytes so_far.used read.used in
+      let going : ¬ (input.is_over ≡ true) = λ over. let h = sym (read.used.over over).1 ∙ read.found.2 in cc h in
+      let all : used.read ≡ so_far.bytes ++ read.bytes =
+      used.parts
+      ∙ (ap (λ (t : List ℕ). (so_far.bytes ++ read.bytes) ++ t) read.found.1 ∙ append-nil (so_far.bytes ++ read.bytes)) in
+      let size : new.total ≡ length used.read = let n = used.total in omega arith in
+      record {
+        read = used.read;
+        output = so_far.output;
+        turns = so_far.turns;
+        given = so_far.given;
+        consumes = used.consumes;
+        requests = subst (λ (t : List ℕ). WholeRequests t (requests_of so_far.turns)) (sym all)
+            (CutInto-whole (input.is_over ≡ true) read.bytes going read.found.0 so_far.bytes (requests_of so_far.turns) so_far.cut);
+        session = so_far.session;
+        written = so_far.written;
+        appends = so_far.appends;
+        ends = so_far.goes;
+        honest = elim read.found.3 [ inl fails ↦ inl fails | inr many ↦ inr (subst (λ (n : ℕ). 2 ^ 62 ≤ n) size many) ];
+        flushed = so_far.passed;
+        left = all-left ended.Input refl;
+      }
+
+  -- ---- one turn more
+
+  module _ (found : Found) (next : Book) (answer : Answer) (s' : State) (x passed : Option (List ℕ)) (ok : Bool)
+      (read : ReadsRequest RF b c input new line (Ok (Some found)))
+      (took : TakesTurn read.bytes book next answer s s') (sends : SendsReply WF w x passed next answer ok) where
+    abbrev turn : Turn
+    turn = record { request = read.bytes; answer = answer; taken = sends.taken }
+
+    abbrev turns : List Turn
+    turns = so_far.turns ++ turn ∷ []
+
+    gave : (given : List Given) × Gives turn answer given
+    gave = gives-some turn book next took.answered
+
+    used : Used a c fresh new (so_far.bytes ++ read.bytes)
+    used = Used-then a b c fresh input new so_far.bytes read.bytes so_far.used read.used
+
+    going : ¬ (input.is_over ≡ true)
+    going over =
+        let none = (read.used.over over).0 in
+        let empty = (so_far.used.ends (fresh-knows a) over).1 in
+        let parts : read.bytes ++ new.chunk ≡ [] = sym read.used.parts ∙ (ap (λ (t : List ℕ). input.chunk ++ t) none ∙ (append-nil input.chunk ∙ empty)) in
+        next-some (new.is_over ≡ true) new.chunk read.bytes read.found.0 (no-parts read.bytes new.chunk parts).0
+
+    -- bytes were used
+    pub fewer-left : 2 ^ 64 + length new.chunk - new.total < 2 ^ 64 + length input.chunk - input.total
+    fewer-left =
+        let few = so_far.used.bound (omega arith) in
+        let some : length read.bytes ≢ 0 = λ none. next-some (new.is_over ≡ true) new.chunk read.bytes read.found.0 (empty-list read.bytes none) in
+        let total = read.used.total in
+        let parts = sym (length-append input.chunk read.used.read) ∙ (ap length read.used.parts ∙ length-append read.bytes new.chunk) in
+        omega arith
+
+    cut : CutInto (new.is_over ≡ true) (so_far.bytes ++ read.bytes) (requests_of turns)
+    cut =
+        subst (CutInto (new.is_over ≡ true) (so_far.bytes ++ read.bytes)) (sym (requests-more turn so_far.turns))
+        (CutInto-more (input.is_over ≡ true) (new.is_over ≡ true) going new.chunk read.bytes read.found.0 so_far.bytes (requests_of so_far.turns) so_far.cut)
+
+    session : IsSession start turns (so_far.given ++ gave.0) next
+    session = IsSession-more turn book next took.answered gave.0 gave.1 so_far.turns start so_far.given so_far.goes so_far.session
+
+    written : IsWritten start turns (so_far.output ++ sends.piece) next
+    written = IsWritten-more turn book next took.answered sends.reply sends.piece sends.is sends.part so_far.turns start so_far.output so_far.written
+
+    appends : Appends v x (so_far.output ++ sends.piece)
+    appends = Appends-trans v w x so_far.output sends.piece so_far.appends sends.appends
+
+    first : FirstRequests (IsAtEnd c) used.read (requests_of turns)
+    first =
+        subst (λ (t : List ℕ). FirstRequests (IsAtEnd c) t (requests_of turns)) (sym used.parts)
+        (CutInto-first (new.is_over ≡ true) (IsAtEnd c) new.chunk (used.ends (fresh-knows a)) (so_far.bytes ++ read.bytes) (requests_of turns) cut)
+
+    kept-next : answer ≢ answers.Lost → HasCleanDisk s' → (l : Layout) → MayServe l start old → IsKept l next s'
+    kept-next held clean l may =
+        kept-by l read.bytes book next answer s' held (took.left clean l may.tables (so_far.kept (took.clean clean) l may))
+
+    pub IsServing-more : answer ≢ answers.Lost → ok ≡ true → IsServing start next a c v x passed new old s'
+    IsServing-more held whole = record {
+      bytes = so_far.bytes ++ read.bytes;
+      output = so_far.output ++ sends.piece;
+      turns = turns;
+      given = so_far.given ++ gave.0;
+      used = used;
+      cut = cut;
+      session = session;
+      written = written;
+      appends = appends;
+      goes = goes-more turn so_far.turns so_far.goes (record { taken = (sends.all whole).0; held = held });
+      passed = inr (sends.all whole).1;
+      clean = λ clean. so_far.clean (took.clean clean);
+      kept = kept-next held;
+    }
+
+    -- a write failed
+    pub Served-output : answer ≢ answers.Lost → ok ≡ false → Served start next ended.Output a c v x passed RF WF old s'
+    Served-output held broken = record {
+      read = used.read;
+      output = so_far.output ++ sends.piece;
+      turns = turns;
+      given = so_far.given ++ gave.0;
+      consumes = used.consumes;
+      requests = first;
+      session = session;
+      written = written;
+      appends = appends;
+      ends = ends-held turn so_far.turns held;
+      honest = sends.fails broken;
+      flushed = tt;
+      left = λ clean l may.
+          held-left l start next ended.Output turns (so_far.given ++ gave.0) s' session (ends-held turn so_far.turns held) refl (kept-next held clean l may);
+    }
+
+    lost-by : answer ≡ answers.Lost → (l : Layout) → LeftBy l read.bytes book next answer s' → LeavesLost l read.bytes book s'
+    lost-by is l left = subst (λ (one : Answer). LeftBy l read.bytes book next one s') is left
+
+    gave-lost : answer ≡ answers.Lost → Gives turn answers.Lost gave.0
+    gave-lost is = subst (λ (one : Answer). Gives turn one gave.0) is gave.1
+
+    -- a command was lost
+    pub Served-lost : answer ≡ answers.Lost → Served start next ended.Lost a c v x passed RF WF old s'
+    Served-lost is = record {
+      read = used.read;
+      output = so_far.output ++ sends.piece;
+      turns = turns;
+      given = so_far.given ++ gave.0;
+      consumes = used.consumes;
+      requests = first;
+      session = session;
+      written = written;
+      appends = appends;
+      ends = ends-lost turn so_far.turns is;
+      honest = tt;
+      flushed = tt;
+      left = λ clean l may.
+          let lost = lost-by is l (took.left clean l may.tables (so_far.kept (took.clean clean) l may)) in
+          let one = gave-lost is in
+          lost-left l start book so_far.given gave.0 read.bytes s'
+          (after-given so_far.turns start book so_far.given so_far.session (goes-held so_far.turns so_far.goes))
+          lost one.0 one.1 one.2 next;
+    }

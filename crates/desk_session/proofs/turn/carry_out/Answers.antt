@@ -1,0 +1,22 @@
+use Rattle.std.proofs.Common.{◌≡◌, ◌∙◌, ap, not, is_ok, true}
+use Rattle.desk_ends.proofs.Sending.{at_ok}
+use Rattle.desk_session.proofs.TurnsTaken.{done-turn, lost-turn, refused-turn}
+use Rattle.desk_session.proofs.turn.carry_out.Goals as goal
+
+pub returns-in-Err : goal.returns-in-Err
+returns-in-Err g c = λ bytes reads. refused-turn bytes c.args.book c.args.command.now c.args.expect c.in-Err.refusal _ reads c.in-Err.ensures.refused
+
+pub returns-then-is_err : goal.returns-then-is_err
+returns-then-is_err g c =
+    let planned = c.in-Ok.ensures.accepted in
+    λ bytes reads.
+    lost-turn bytes c.args.book c.args.command.now c.args.expect planned.1.0 c.in-Ok.change _ _ reads planned.0 planned.1.1 _ c.keep.ensures.survives c.keep.ensures.either
+
+pub returns : goal.returns
+returns g c =
+    let planned = c.in-Ok.ensures.accepted in
+    let ok : is_ok c.keep.result ≡ true = c.is_err.ensures.negation ∙ ap not c.if-is_err.false in
+    λ bytes reads.
+    done-turn bytes c.args.book c.args.command.now c.args.expect planned.1.0 c.in-Ok.change _ _ reads planned.0 planned.1.1 _ c.keep.ensures.survives
+    c.number-number.result c.settle.result c.number-number.ensures (c.settle.ensures _ _ planned.1.1)
+    (λ clean l next may. at_ok c.keep.result _ (c.keep.ensures.kept clean l next may) ok)

@@ -1,0 +1,120 @@
+-- What a session over two ends and a file does, and how it ends.
+use Rattle.std.specs.Prelude.{◌≡◌, ◌≢◌, ◌⊎◌, ℕ, ◌≤◌, Bool, true, false, List, [], ◌∷◌, ◌++◌, length, map, Option}
+use Rattle.std.specs.Io.KnownBytes.{Appends, Consumes, IsAtEnd}
+use Rattle.std.specs.List.{AllByRecursion}
+use Rattle.sqlite_trees.specs.Tree.{Trees}
+use Rattle.sqlite.specs.State.{HasCleanDisk, State}
+use Rattle.sql_tables.specs.States.{Leaves}
+use Rattle.desk_book.specs.After.{After}
+use Rattle.desk_book.specs.Book.{Book}
+use Rattle.desk_ends.specs.Ends.{IsFlushed}
+use Rattle.desk_line.specs.Answered.{IsAnswered}
+use Rattle.desk_line.specs.Reply.{IsReply}
+use Rattle.desk_line.specs.Request.{Requests, WholeRequests}
+use Rattle.desk_store.specs.Books.{HasNewTables, HoldsBook, IsKept, ShowsBook}
+use Rattle.desk_store.specs.Layout.{Layout}
+use Rattle.desk_session.specs.declared.input.TheConstants.{MOST_INPUT}
+use Rattle.desk_session.specs.declared.session.Ended.{Ended}
+use Rattle.desk_session.specs.declared.session.Ended.TheVariants.{Done, Input, Output, Lost}
+use Rattle.desk_session.specs.Requests.{FirstRequests}
+use Rattle.desk_session.specs.Session.{EndsLost, Given, IsSession, MayGoOn, Turn, commands_of}
+
+-- ---- what is read
+
+abbrev pub requests_of : List Turn → List (List ℕ)
+requests_of turns = map (λ turn. turn.request) turns
+
+-- Each request of the bytes that were read was answered: all at the end of the input, and all whole ones before a failed read. Where
+-- the session ended otherwise, the first of them were.
+abbrev pub AreRequests : Ended → (AtEnd : Type 0) → (read : List ℕ) → List (List ℕ) → Type 0
+AreRequests Done AtEnd read requests = AtEnd × Requests read requests
+AreRequests Input AtEnd read requests = WholeRequests read requests
+AreRequests Output AtEnd read requests = FirstRequests AtEnd read requests
+AreRequests Lost AtEnd read requests = FirstRequests AtEnd read requests
+
+-- ---- what is written
+
+-- of a reply that was taken, all went out, and of another one a beginning
+abbrev pub IsPart : (taken : Bool) → (piece reply : List ℕ) → Type 0
+IsPart true piece reply = piece ≡ reply
+IsPart false piece reply = (rest : List ℕ) × (piece ++ rest ≡ reply)
+
+-- What is written in a session from one book to another: the reply to each request, on the book after it, one after another.
+abbrev pub IsWritten : Book → List Turn → List ℕ → Book → Type 0
+IsWritten book [] output last = (output ≡ []) × (last ≡ book)
+IsWritten book (turn ∷ turns) output last =
+    (next : Book) × IsAnswered turn.request book next turn.answer
+    × ((reply piece others : List ℕ) × IsReply next turn.answer reply × IsPart turn.taken piece reply
+    × (output ≡ piece ++ others) × IsWritten next turns others last)
+
+-- ---- how it ends
+
+-- each reply was taken and no command was lost; or a write failed, but no command was lost; or one was lost
+abbrev pub EndsAs : Ended → List Turn → Type 0
+EndsAs Done turns = AllByRecursion MayGoOn turns
+EndsAs Input turns = AllByRecursion MayGoOn turns
+EndsAs Output turns = ¬ EndsLost turns
+EndsAs Lost turns = EndsLost turns
+
+-- it ends early only where so many bytes were read, where an end can fail, or where a command was lost
+abbrev pub IsHonest : Ended → (read : ℕ) → (ReadsFail WritesFail : Type 0) → Type 0
+IsHonest Done read ReadsFail WritesFail = Unit {0}
+IsHonest Input read ReadsFail WritesFail = ReadsFail ⊎ (MOST_INPUT ≤ read)
+IsHonest Output read ReadsFail WritesFail = WritesFail
+IsHonest Lost read ReadsFail WritesFail = Unit {0}
+
+-- all replies are flushed, but where a write or a flush failed or a command was lost
+abbrev pub EndsFlushed : Ended → List Turn → (written flushed : Option (List ℕ)) → Type 0
+EndsFlushed Done turns written flushed = (turns ≡ []) ⊎ IsFlushed written flushed
+EndsFlushed Input turns written flushed = (turns ≡ []) ⊎ IsFlushed written flushed
+EndsFlushed Output turns written flushed = Unit {0}
+EndsFlushed Lost turns written flushed = Unit {0}
+
+-- ---- what is in the file
+
+-- the connection shows the book in a file with the tables of a new one, and so does whatever a crash leaves
+pub record MayServe (l : Layout) (book : Book) (s : State) : Type 0 where
+  pub tables : HasNewTables l
+  pub kept : IsKept l book s
+
+-- what of the given commands a file may lack: none, or the last one where that was lost
+abbrev pub MayLack : Ended → List Given → Type 0
+MayLack Done missing = missing ≡ []
+MayLack Input missing = missing ≡ []
+MayLack Output missing = missing ≡ []
+MayLack Lost missing = length missing ≤ 1
+
+-- the trees are a file of the book that the given commands make of the first one, but for what it may lack
+pub record HoldsGiven (l : Layout) (book : Book) (ended : Ended) (given : List Given) (db : Trees) : Type 0 where
+  pub kept : List Given
+  pub missing : List Given
+  pub front : given ≡ kept ++ missing
+  pub lacks : MayLack ended missing
+  pub next : Book
+  pub after : After book (commands_of kept) next
+  pub holds : HoldsBook l next db
+
+-- The connection shows the last book, but where a command was lost, and whatever a crash leaves holds the given commands.
+pub record IsLeft (l : Layout) (book last : Book) (ended : Ended) (given : List Given) (s : State) : Type 0 where
+  pub shows : ended ≢ Lost → ShowsBook l last s
+  pub leaves : Leaves (HoldsGiven l book ended given) s
+
+-- ---- the whole
+
+-- A session from one book to another, over ends and a file. There is one list of turns, and of what these gave, that fits what was
+-- read, what was written, the book at the end, and the file.
+pub record Served (book last : Book) (ended : Ended) (read_old read_new write_old write_new flushed_new : Option (List ℕ))
+    (ReadsFail WritesFail : Type 0) (old new : State) : Type 0 where
+  pub read : List ℕ
+  pub output : List ℕ
+  pub turns : List Turn
+  pub given : List Given
+  pub consumes : Consumes read_old read_new read
+  pub requests : AreRequests ended (IsAtEnd read_new) read (requests_of turns)
+  pub session : IsSession book turns given last
+  pub written : IsWritten book turns output last
+  pub appends : Appends write_old write_new output
+  pub ends : EndsAs ended turns
+  pub honest : IsHonest ended (length read) ReadsFail WritesFail
+  pub flushed : EndsFlushed ended turns write_new flushed_new
+  pub left : HasCleanDisk new → (l : Layout) → MayServe l book old → IsLeft l book last ended given new

@@ -1,0 +1,68 @@
+-- One turn of a session. Only private functions and proofs need these words.
+use Rattle.std.specs.Prelude.{◌≡◌, ℕ, Bool, true, false, List, Option, IsSome}
+use Rattle.std.specs.Io.KnownBytes.{Appends}
+use Rattle.sqlite.specs.State.{HasCleanDisk, State}
+use Rattle.desk_book.specs.declared.command.Command.{Command}
+use Rattle.desk_book.specs.Book.{Book}
+use Rattle.desk_book.specs.Refusals.{IsAccepted}
+use Rattle.desk_book.specs.Step.{Makes}
+use Rattle.std.specs.Prelude.{None}
+use Rattle.desk_ends.specs.Ends.{IsFlushed}
+use Rattle.desk_line.specs.declared.answer.Answer.{Answer}
+use Rattle.desk_line.specs.declared.answer.Answer.TheVariants.{Done, Refused, Asked, Syntax, NoMemory, Lost}
+use Rattle.desk_line.specs.declared.fault.Fault.{Fault}
+use Rattle.desk_line.specs.declared.fault.Fault.TheVariants as faults
+use Rattle.desk_line.specs.Answered.{IsAnswered}
+use Rattle.desk_line.specs.Reply.{IsReply}
+use Rattle.desk_store.specs.Books.{HasNewTables, IsKept, LeavesEither}
+use Rattle.desk_store.specs.Layout.{Layout}
+use Rattle.desk_session.specs.declared.reader.Found.{Found}
+use Rattle.desk_session.specs.declared.reader.Found.TheVariants as found
+use Rattle.desk_session.specs.Served.{IsPart}
+use Rattle.desk_session.specs.Session.{IsCommand}
+
+-- what is answered to bytes that were not read as a request
+abbrev pub fault_answer : Fault → Answer
+fault_answer faults.Syntax = Syntax
+fault_answer faults.NoMemory = NoMemory
+
+-- a head line is held where the request is one
+abbrev pub HoldsHead : Option (List ℕ) → Found → Type 0
+HoldsHead line found.Head = IsSome line
+HoldsHead line (found.Whole text) = Unit {0}
+HoldsHead line (found.Fault fault) = Unit {0}
+
+-- a command was lost: whatever a crash leaves holds the book, or what the command makes of it
+pub record LeavesLost (l : Layout) (request : List ℕ) (book : Book) (s : State) : Type 0 where
+  pub command : Command
+  pub made : Book
+  pub asked : IsCommand request command
+  pub accepted : IsAccepted book None command
+  pub makes : Makes book command made
+  pub leaves : LeavesEither l book made s
+
+-- what the file is after a request was answered so, and this is the book after it
+abbrev pub LeftBy : Layout → List ℕ → (book next : Book) → Answer → State → Type 0
+LeftBy l request book next (Done number) s = IsKept l next s
+LeftBy l request book next (Refused refusal) s = IsKept l next s
+LeftBy l request book next (Asked query) s = IsKept l next s
+LeftBy l request book next Syntax s = IsKept l next s
+LeftBy l request book next NoMemory s = IsKept l next s
+LeftBy l request book next Lost s = LeavesLost l request book s
+
+-- a request was answered so, and the file is as it is then
+pub record TakesTurn (request : List ℕ) (book next : Book) (answer : Answer) (old new : State) : Type 0 where
+  pub answered : IsAnswered request book next answer
+  pub clean : HasCleanDisk new → HasCleanDisk old
+  pub left : HasCleanDisk new → (l : Layout) → HasNewTables l → IsKept l book old → LeftBy l request book next answer new
+
+-- A reply, or a beginning of it, was written. At true it was taken, and is flushed.
+pub record SendsReply (CanFail : Type 0) (old new flushed : Option (List ℕ)) (book : Book) (answer : Answer) (whole : Bool) : Type 0 where
+  pub taken : Bool
+  pub reply : List ℕ
+  pub piece : List ℕ
+  pub is : IsReply book answer reply
+  pub part : IsPart taken piece reply
+  pub appends : Appends old new piece
+  pub all : whole ≡ true → (taken ≡ true) × IsFlushed new flushed
+  pub fails : whole ≡ false → CanFail

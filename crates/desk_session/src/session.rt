@@ -1,0 +1,82 @@
+//! A session over two ends.
+ghost use Rattle.desk_session.specs.Served.{Served};
+ghost use Rattle.desk_book.specs.Book.{Book};
+ghost use Rattle.desk_store.specs.Books.{Store as Shown, shown_by};
+
+use super::reader::Reader;
+use super::turn::{answer_found, is_lost, reply};
+use desk_book::Book;
+use desk_ends::{Sink, Source};
+use desk_store::Store;
+use sqlite::Alter;
+use std::alloc::Global;
+
+/// How a session ended.
+#[derive(Clone, Copy, Debug, PartialEq, Eq)]
+pub enum Ended {
+    /// All requests are answered.
+    Done,
+    /// A read failed, or 2^62 bytes had been read.
+    Input,
+    /// A write or a flush failed.
+    Output,
+    /// The file failed to keep a change.
+    Lost,
+}
+
+/// Answers the requests of a source, one after another, by replies to a sink.
+///
+/// Each accepted command is kept in the file of the store, before it is put into the book and acknowledged. A reply is
+/// flushed before the next request is read. A read, a write or a flush that fails, in any way, isn't tried again. Where a
+/// command is lost, this is replied, and the session ends. The first failure says how it ended.
+///
+/// The caller's condition: no change was lost on the store, and its file shows the book in tables as they are made.
+pub fn serve<R: Source, W: Sink, S: Alter>(
+    alloc: Global,
+    source: &mut R,
+    sink: &mut W,
+    store: &mut Store<S>,
+    book: Book,
+) -> (Ended, Book)
+    ensures { Served book result.1 result.0 (R.remaining source.old) (R.remaining source.new)
+        (W.contents sink.old) (W.contents sink.new) (W.flushed sink.new) R.can_fail W.can_fail
+        (shown_by S.Store store.old) (shown_by S.Store store.new) }
+{
+    let mut reader = Reader::new();
+    let mut book = book;
+    loop {
+        let found = match reader.read(alloc, source) {
+            Ok(Some(found)) => found,
+            Ok(None) => return (Ended::Done, book),
+            Err(_) => return (Ended::Input, book),
+        };
+        let (answer, next) = answer_found(alloc, store, book, &reader.line, found);
+        book = next;
+        let sent = reply(sink, &book, &answer);
+        if is_lost(&answer) {
+            return (Ended::Lost, book);
+        }
+        if sent.is_err() {
+            return (Ended::Output, book);
+        }
+    }
+}
+
+/// Answers the requests of a source, one after another, by replies to a sink, as [`serve`] does, and lets go of the store and
+/// the book.
+pub fn run<R: Source, W: Sink, S: Alter + Drop>(
+    alloc: Global,
+    source: &mut R,
+    sink: &mut W,
+    store: Store<S>,
+    book: Book,
+) -> Ended
+    // What became of the book and of the file is known of `serve`; here it is a book and a state that fit.
+    ensures { (last : Book) × (left : Shown S) × Served book last result (R.remaining source.old) (R.remaining source.new)
+        (W.contents sink.old) (W.contents sink.new) (W.flushed sink.new) R.can_fail W.can_fail
+        (shown_by S.Store store) (shown_by S.Store left) }
+{
+    let mut store = store;
+    let (ended, _) = serve(alloc, source, sink, &mut store, book);
+    ended
+}

@@ -1,0 +1,102 @@
+//! One request to a book and its file, from its bytes to its reply.
+ghost use Rattle.desk_line.specs.Request.{Reads};
+ghost use Rattle.desk_session.specs.Reading.{IsFound};
+ghost use Rattle.desk_session.specs.Turns.{HoldsHead, SendsReply, TakesTurn, fault_answer};
+ghost use Rattle.desk_store.specs.Books.{shown_by};
+ghost use Rattle.std.specs.Prelude.{IsTrue, List, is_ok, ◌≡◌, ◌↔◌, ℕ};
+
+use super::line::Line;
+use super::reader::Found;
+use desk_book::{Book, Command};
+use desk_ends::{Failed, Sink};
+use desk_line::{Answer, Fault, Request, read_request, write_reply};
+use desk_store::Store;
+use sqlite::Alter;
+use std::alloc::Global;
+
+/// Answers a request that was found, and gives the book as it is then. The line is the one that is held.
+pub(crate) fn answer_found<S: Alter>(
+    alloc: Global,
+    store: &mut Store<S>,
+    book: Book,
+    line: &Line,
+    found: Found,
+) -> (Answer, Book)
+    requires { HoldsHead line.now found }
+    ensures { (bytes : List ℕ) → IsFound line.now bytes found → TakesTurn bytes book result.1 result.0
+        (shown_by S.Store store.old) (shown_by S.Store store.new) }
+{
+    match found {
+        Found::Head => answer(alloc, store, book, line.held()),
+        Found::Whole(text) => answer(alloc, store, book, text.as_slice()),
+        Found::Fault(fault) => (fault_answer(fault), book),
+    }
+}
+
+/// Answers a request.
+fn answer<S: Alter>(
+    alloc: Global,
+    store: &mut Store<S>,
+    book: Book,
+    request: &[u8],
+) -> (Answer, Book)
+    ensures { TakesTurn request.now book result.1 result.0
+        (shown_by S.Store store.old) (shown_by S.Store store.new) }
+{
+    match read_request(alloc, request) {
+        Ok(Request::Do { command, expect }) => carry_out(alloc, store, book, &command, expect),
+        Ok(Request::Ask(query)) => (Answer::Asked(query), book),
+        Err(fault) => (fault_answer(fault), book),
+    }
+}
+
+/// What is answered to a request that wasn't read.
+fn fault_answer(fault: Fault) -> Answer
+    ensures { result ≡ fault_answer fault }
+{
+    match fault {
+        Fault::Syntax => Answer::Syntax,
+        Fault::NoMemory => Answer::NoMemory,
+    }
+}
+
+/// Plans a command, keeps its change in the file, and then puts it into the book.
+fn carry_out<S: Alter>(
+    alloc: Global,
+    store: &mut Store<S>,
+    book: Book,
+    command: &Command,
+    expect: Option<u64>,
+) -> (Answer, Book)
+    ensures { (bytes : List ℕ) → Reads bytes (Request.Do command.now expect)
+        → TakesTurn bytes book result.1 result.0
+        (shown_by S.Store store.old) (shown_by S.Store store.new) }
+{
+    let change = match book.plan(alloc, command, expect) {
+        Ok(change) => change,
+        Err(refusal) => return (Answer::Refused(refusal), book),
+    };
+    if store.keep(alloc, &book, &change).is_err() {
+        return (Answer::Lost, book);
+    }
+    let number = change.number();
+    (Answer::Done { number }, book.settle(change))
+}
+
+/// Replies to a request, and flushes the reply.
+pub(crate) fn reply<K: Sink>(sink: &mut K, book: &Book, answer: &Answer) -> Result<(), Failed>
+    ensures { SendsReply K.can_fail (K.contents sink.old) (K.contents sink.new) (K.flushed sink.new)
+        book.now answer.now (is_ok result) }
+{
+    if write_reply(sink, book, answer).is_err() {
+        return Err(Failed);
+    }
+    sink.flush()
+}
+
+/// Whether a command was lost.
+pub(crate) fn is_lost(answer: &Answer) -> bool
+    ensures { IsTrue result ↔ (answer.now ≡ Answer.Lost) }
+{
+    matches!(answer, Answer::Lost)
+}
