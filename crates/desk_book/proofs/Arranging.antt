@@ -115,7 +115,7 @@ entry_of id found = option_to_list (option_map (λ kept. (id, kept)) found)
 
 module _ (items : List KeptParagraph) where
   -- the list is this one, then those that follow
-  numbered-cons : (id : ℕ) (order : List ℕ) (kept : KeptParagraph) → slice_get items (id - 1) ≡ Some kept → flat_map (numbered items) (id ∷ order) ≡ (id, kept) ∷ flat_map (numbered items) order
+  pub numbered-cons : (id : ℕ) (order : List ℕ) (kept : KeptParagraph) → slice_get items (id - 1) ≡ Some kept → flat_map (numbered items) (id ∷ order) ≡ (id, kept) ∷ flat_map (numbered items) order
   numbered-cons id order kept is = ap (λ found. entry_of id found ++ flat_map (numbered items) order) is
 
   -- the ids that stand in the list are the order

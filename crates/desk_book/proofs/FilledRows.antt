@@ -9,15 +9,17 @@ use Rattle.std.specs.Ordering.{int_eq}
 use Rattle.std.specs.Prelude.{IsNone, IsSome, nat_eq, not}
 use Rattle.std.proofs.lemmas.List.{get_or-map, length-map}
 use Rattle.std.proofs.lemmas.Simd.{map-map}
-use Rattle.std.proofs.lemmas.List.Elements.{All-cons, All-head, All-nil, All-tail, All-from_recursion}
+use Rattle.std.proofs.lemmas.List.Elements.{All-append, All-cons, All-head, All-map, All-nil, All-tail, All-from_recursion}
 use Rattle.std.proofs.lemmas.List.Sorted.{All-permutation, IsPermutation-map, IsPermutation-middle, IsPermutation-refl, IsPermutation-sym, IsPermutation-trans}
 use Rattle.std.proofs.lemmas.Map.Keys.{IsDistinct-from_apart, IsDistinct-head, IsDistinct-IsPermutation, IsDistinct-tail, apart_from_distinct}
+use Rattle.desk_book.specs.declared.filling.NewTables.{NewTables}
+use Rattle.desk_book.specs.declared.filling.NewTables.TheVariants.{Braille, Entries, EntriesAndBraille}
 use Rattle.desk_book.specs.declared.parts.FileTable.TheVariants.{Corr as CorrTable, NamedCorr as NamedCorrTable}
 use Rattle.desk_book.specs.declared.rows.BookRow.{BookRow}
 use Rattle.desk_book.specs.Book.{Book, Paragraph, empty_book}
 use Rattle.desk_book.specs.FileRows.{EntryRows, FileRows, HasEntryTexts, HasMarkText, HasParaTexts, HasTabText, Named, entries_in, format_of, spelled_entry, table_of}
-use Rattle.desk_book.specs.FilledRows.{AreEntriesOf, in_second_format, new_rows, second_format_puts, with_caches, with_new_entries, with_new_tables}
-use Rattle.desk_book.specs.Puts.{PutBook, PutCache, PutEntry, RowPuts, put_in, with_put, with_puts}
+use Rattle.desk_book.specs.FilledRows.{AreEntriesOf, Fills, entry_puts, in_second_format, new_rows, second_format_puts, with_caches, with_empty, with_new_entries, with_new_tables}
+use Rattle.desk_book.specs.Puts.{HasItsTable, HasTheirTables, PutBook, PutCache, PutEntry, RowPuts, put_in, with_put, with_puts}
 use Rattle.desk_book.specs.Rows.{Cached, NamedCorr}
 use Rattle.desk_book.specs.Shows.{AreCached, IsCached, IsUnnamed, Shows, book_row_of, entry_rows_of}
 use Rattle.desk_book.specs.Sound.{IsSound}
@@ -196,17 +198,49 @@ module _ (rows : FileRows) (book : Book) (shown : Shows rows book) (caches : Lis
       let made = made_caches book shown.sound caches are rows in
       subst (λ (shows : FileRows). Shows shows book) (sym made.2) (cached-shown rows book shown made.0 made.1)
 
-  pub all-put : Shows (with_puts (second_format_puts book.version rows caches) (with_new_tables rows)) book
-  all-put =
-      let entries = entries_in rows.entries in
+  -- with these entries
+  both-put : (entries : List NamedCorr) → AreEntriesOf book entries → Shows (with_puts (entry_puts book entries ++ map PutCache caches) (with_new_tables rows)) book
+  both-put entries of_book =
       let named = put-second (with_caches [] rows) (format_of rows.entries) book.version shown.row entries in
       let left : FileRows = record rows { books = book_row_of 2 book.version ∷ []; entries = Named named.0 } in
       let full = made_caches book shown.sound caches are left in
-      let is : with_puts (second_format_puts book.version rows caches) (with_new_tables rows) ≡ with_caches full.0 left =
-      with_puts-append (PutBook (book_row_of 2 book.version) ∷ map PutEntry entries) (map PutCache caches) (with_new_tables rows)
+      let is : with_puts (entry_puts book entries ++ map PutCache caches) (with_new_tables rows) ≡ with_caches full.0 left =
+      with_puts-append (entry_puts book entries) (map PutCache caches) (with_new_tables rows)
       ∙ (ap (with_puts (map PutCache caches)) named.2 ∙ full.2) in
-      let shows = entered rows book shown named.0 (moved-entries book entries named.0 named.1 (its-entries rows book shown)) in
+      let shows = entered rows book shown named.0 (moved-entries book entries named.0 named.1 of_book) in
       subst (λ (all : FileRows). Shows all book) (sym is) (cached-shown left book shows full.0 full.1)
+
+  pub all-put : Shows (with_puts (second_format_puts book.version rows caches) (with_new_tables rows)) book
+  all-put = both-put (entries_in rows.entries) (its-entries rows book shown)
+
+-- ---- new tables
+
+pub filled-shown : (tables : NewTables) (rows : FileRows) (book : Book) (puts : RowPuts) → Shows rows book → Fills tables book puts → Shows (with_puts puts (with_empty tables rows)) book
+filled-shown EntriesAndBraille rows book puts shown (entries, caches, of_book, cached, is) =
+    subst (λ (all : RowPuts). Shows (with_puts all (with_new_tables rows)) book) (sym is) (both-put rows book shown caches cached entries of_book)
+filled-shown Entries rows book puts shown (entries, of_book, is) =
+    subst (λ (all : RowPuts). Shows (with_puts all (with_new_entries rows)) book) (sym is) (names-put rows book shown entries of_book)
+filled-shown Braille rows book puts shown (caches, cached, is) =
+    subst (λ (all : RowPuts). Shows (with_puts all (with_caches [] rows)) book) (sym is) (caches-put rows book shown caches cached)
+
+entries-there : (rows : FileRows) → table_of rows.entries ≡ NamedCorrTable → (entries : List NamedCorr) → HasTheirTables (map PutEntry entries) rows
+entries-there rows named entries = All-map (HasItsTable rows) PutEntry entries (λ k d within. named)
+
+caches-there : (rows : FileRows) → IsSome rows.caches → (caches : List Cached) → HasTheirTables (map PutCache caches) rows
+caches-there rows some caches = All-map (HasItsTable rows) PutCache caches (λ k d within. some)
+
+pub filled-there : (tables : NewTables) (rows : FileRows) (book : Book) (puts : RowPuts) → Fills tables book puts → HasTheirTables puts (with_empty tables rows)
+filled-there EntriesAndBraille rows book puts (entries, caches, of_book, cached, is) =
+    subst (λ (all : RowPuts). HasTheirTables all (with_new_tables rows)) (sym is)
+    (All-cons (HasItsTable (with_new_tables rows)) (PutBook (book_row_of 2 book.version)) (map PutEntry entries ++ map PutCache caches) tt
+    (All-append (HasItsTable (with_new_tables rows)) (map PutEntry entries) (map PutCache caches)
+    (entries-there (with_new_tables rows) refl entries) (caches-there (with_new_tables rows) refl caches)))
+filled-there Entries rows book puts (entries, of_book, is) =
+    subst (λ (all : RowPuts). HasTheirTables all (with_new_entries rows)) (sym is)
+    (All-cons (HasItsTable (with_new_entries rows)) (PutBook (book_row_of 2 book.version)) (map PutEntry entries) tt
+    (entries-there (with_new_entries rows) refl entries))
+filled-there Braille rows book puts (caches, cached, is) =
+    subst (λ (all : RowPuts). HasTheirTables all (with_caches [] rows)) (sym is) (caches-there (with_caches [] rows) refl caches)
 
 -- ---- rows of both formats, with the braille and without it
 

@@ -110,14 +110,14 @@ same_from f back undone xs ys same = sym (map-undone f back undone xs) ∙ (ap (
 abbrev pub to_flag : ℤ → Bool
 to_flag z = cond (int_eq z (pos 0)) false true
 
-flag_back : (b : Bool) → to_flag (flag_number b) ≡ b
+pub flag_back : (b : Bool) → to_flag (flag_number b) ≡ b
 flag_back false = refl
 flag_back true = refl
 
 abbrev pub to_style : ℤ → Style
 to_style z = cond (int_eq z (pos 0)) Body Heading
 
-style_back : (s : Style) → to_style (style_number s) ≡ s
+pub style_back : (s : Style) → to_style (style_number s) ≡ s
 style_back Body = refl
 style_back Heading = refl
 
@@ -230,13 +230,37 @@ same_paragraphs n (p ∷ ps) (q ∷ qs) rows histories =
     let rest = same_paragraphs (n + 1) ps qs others (λ a b c d. histories a b (Contains-behind p a ps c) (Contains-behind q b qs d)) in
     λ i. one i ∷ rest i
 
+-- ---- lists of the same rows
+
+module _ {X : Type 0} (xs ys zs : List X) (p : IsPermutation xs ys) (q : IsPermutation xs zs) where
+  onto : (z : X) → Contains ys z → Contains zs z
+  onto z c = Contains-permutation xs zs z q (Contains-permutation ys xs z (IsPermutation-sym xs ys p) c)
+
+-- tables in the order of their names
+pub tables_same : (ta tb : List (List ℕ × List ℕ)) (rows : List Tab)
+    → IsStrictlySortedBy (slice_cmp nat_cmp) (map (λ entry. entry.0) ta) → IsStrictlySortedBy (slice_cmp nat_cmp) (map (λ entry. entry.0) tb)
+    → IsPermutation rows (map tab_of ta) → IsPermutation rows (map tab_of tb) → ta ≡ tb
+tables_same ta tb rows sorted_a sorted_b of_a of_b =
+    same_from tab_of to_pair (λ t. refl) ta tb
+    (sorted_same (slice_cmp nat_cmp) nat_list_cmp_total (λ (t : Tab). t.name) (map tab_of ta) (map tab_of tb)
+    (subst (IsStrictlySortedBy (slice_cmp nat_cmp)) (sym (map-map (λ (t : Tab). t.name) tab_of ta)) sorted_a)
+    (subst (IsStrictlySortedBy (slice_cmp nat_cmp)) (sym (map-map (λ (t : Tab). t.name) tab_of tb)) sorted_b)
+    (onto rows (map tab_of ta) (map tab_of tb) of_a of_b) (onto rows (map tab_of tb) (map tab_of ta) of_b of_a))
+
+-- marks in the order of their ids
+pub marks_same : (ma mb : List Mark) (rows : List MarkRow)
+    → map (λ mark. mark.id) ma ≡ range_with_len 1 (length ma) → map (λ mark. mark.id) mb ≡ range_with_len 1 (length mb)
+    → IsPermutation rows (map mark_row_of ma) → IsPermutation rows (map mark_row_of mb) → ma ≡ mb
+marks_same ma mb rows ids_a ids_b of_a of_b =
+    same_from mark_row_of to_mark mark_back ma mb
+    (sorted_same nat_cmp nat_cmp_total (λ (m : MarkRow). number m.id) (map mark_row_of ma) (map mark_row_of mb)
+    (subst (IsStrictlySortedBy nat_cmp) (sym (map-map (λ (m : MarkRow). number m.id) mark_row_of ma ∙ ids_a)) (range_sorted 1 (length ma)))
+    (subst (IsStrictlySortedBy nat_cmp) (sym (map-map (λ (m : MarkRow). number m.id) mark_row_of mb ∙ ids_b)) (range_sorted 1 (length mb)))
+    (onto rows (map mark_row_of ma) (map mark_row_of mb) of_a of_b) (onto rows (map mark_row_of mb) (map mark_row_of ma) of_b of_a))
+
 -- ---- whole books
 
 module _ (rows : FileRows) (a b : Book) (shown_a : Shows rows a) (shown_b : Shows rows b) where
-  module _ {X : Type 0} (xs ys zs : List X) (p : IsPermutation xs ys) (q : IsPermutation xs zs) where
-    onto : (z : X) → Contains ys z → Contains zs z
-    onto z c = Contains-permutation xs zs z q (Contains-permutation ys xs z (IsPermutation-sym xs ys p) c)
-
   same_version : a.version ≡ b.version
   same_version =
       let same : book_row_of (format_of rows.entries) a.version ∷ [] ≡ book_row_of (format_of rows.entries) b.version ∷ [] = sym shown_a.row ∙ shown_b.row in
@@ -244,24 +268,10 @@ module _ (rows : FileRows) (a b : Book) (shown_a : Shows rows a) (shown_b : Show
       ap (λ (r : BookRow). number r.version) first
 
   same_tables : a.tables ≡ b.tables
-  same_tables =
-      let ta = map tab_of a.tables in
-      let tb = map tab_of b.tables in
-      same_from tab_of to_pair (λ t. refl) a.tables b.tables
-      (sorted_same (slice_cmp nat_cmp) nat_list_cmp_total (λ (t : Tab). t.name) ta tb
-      (subst (IsStrictlySortedBy (slice_cmp nat_cmp)) (sym (map-map (λ (t : Tab). t.name) tab_of a.tables)) shown_a.sound.names)
-      (subst (IsStrictlySortedBy (slice_cmp nat_cmp)) (sym (map-map (λ (t : Tab). t.name) tab_of b.tables)) shown_b.sound.names)
-      (onto (map spelled_tab rows.tabs) ta tb shown_a.tables shown_b.tables) (onto (map spelled_tab rows.tabs) tb ta shown_b.tables shown_a.tables))
+  same_tables = tables_same a.tables b.tables (map spelled_tab rows.tabs) shown_a.sound.names shown_b.sound.names shown_a.tables shown_b.tables
 
   same_marks : a.marks ≡ b.marks
-  same_marks =
-      let ma = map mark_row_of a.marks in
-      let mb = map mark_row_of b.marks in
-      same_from mark_row_of to_mark mark_back a.marks b.marks
-      (sorted_same nat_cmp nat_cmp_total (λ (m : MarkRow). number m.id) ma mb
-      (subst (IsStrictlySortedBy nat_cmp) (sym (map-map (λ (m : MarkRow). number m.id) mark_row_of a.marks ∙ shown_a.sound.numbers)) (range_sorted 1 (length a.marks)))
-      (subst (IsStrictlySortedBy nat_cmp) (sym (map-map (λ (m : MarkRow). number m.id) mark_row_of b.marks ∙ shown_b.sound.numbers)) (range_sorted 1 (length b.marks)))
-      (onto (map spelled_mark rows.marks) ma mb shown_a.marks shown_b.marks) (onto (map spelled_mark rows.marks) mb ma shown_b.marks shown_a.marks))
+  same_marks = marks_same a.marks b.marks (map spelled_mark rows.marks) shown_a.sound.numbers shown_b.sound.numbers shown_a.marks shown_b.marks
 
   all_paragraphs : a.paragraphs ≡ b.paragraphs
   all_paragraphs =

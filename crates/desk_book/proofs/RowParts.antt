@@ -49,10 +49,10 @@ module _ (row : NamedCorr) where
   abbrev undoing : Entry
   undoing = Undoes (nat_abs row.entry.start)
 
-  entry-corrects : row.entry.kind ≡ pos 0 → entry_of row ≡ correction
+  pub entry-corrects : row.entry.kind ≡ pos 0 → entry_of row ≡ correction
   entry-corrects is = cond-false (int_eq row.entry.kind (pos 1)) undoing correction (ap (λ z. int_eq z (pos 1)) is)
 
-  entry-undoes : row.entry.kind ≡ pos 1 → entry_of row ≡ undoing
+  pub entry-undoes : row.entry.kind ≡ pos 1 → entry_of row ≡ undoing
   entry-undoes is = cond-true (int_eq row.entry.kind (pos 1)) undoing correction (ap (λ z. int_eq z (pos 1)) is)
 
   -- the entry of a sound row has that row
@@ -115,7 +115,7 @@ at-map f [] i y at = absurd (cc)
 at-map f (x ∷ xs) zero y at = (x, refl, cc)
 at-map f (x ∷ xs) (suc i) y at = at-map f xs i y at
 
-at-some : {X : Type 0} (xs : List X) (i : ℕ) → i < length xs → (x : X) × (slice_get xs i ≡ Some x)
+pub at-some : {X : Type 0} (xs : List X) (i : ℕ) → i < length xs → (x : X) × (slice_get xs i ≡ Some x)
 at-some [] i less = absurd (omega arith)
 at-some (x ∷ xs) zero less = (x, refl)
 at-some (x ∷ xs) (suc i) less = at-some xs i (omega arith)

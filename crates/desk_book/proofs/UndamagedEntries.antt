@@ -75,7 +75,7 @@ entry-stable original sorted index row twice = record {
 abbrev seq : NamedCorr → ℤ
 seq row = row.entry.seq
 
-seqs-numbers : (n : ℕ) (rows : List NamedCorr) → ((i : ℕ) (row : NamedCorr) → slice_get rows i ≡ Some row → seq row ≡ pos (n + i)) → map seq rows ≡ numbers n (length rows)
+pub seqs-numbers : (n : ℕ) (rows : List NamedCorr) → ((i : ℕ) (row : NamedCorr) → slice_get rows i ≡ Some row → seq row ≡ pos (n + i)) → map seq rows ≡ numbers n (length rows)
 seqs-numbers n [] each = refl
 seqs-numbers n (row ∷ rows) each =
     let own : n + 0 ≡ n = omega arith in

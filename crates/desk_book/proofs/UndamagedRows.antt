@@ -63,7 +63,7 @@ IsNumber-stable key last rows id twice = record {
 }
 
 -- no row has a key that is nowhere
-none-with : {X : Type 0} (key : X → ℤ) (id : ℤ) (rows : List X) → ¬ ((row : X) × Contains rows row × (key row ≡ id)) → rows_with key id rows ≡ 0
+pub none-with : {X : Type 0} (key : X → ℤ) (id : ℤ) (rows : List X) → ¬ ((row : X) × Contains rows row × (key row ≡ id)) → rows_with key id rows ≡ 0
 none-with key id [] lacks = refl
 none-with {X} key id (row ∷ rows) lacks =
     let test : X → Bool = λ other. int_eq (key other) id in

@@ -5,6 +5,9 @@ use Rattle.desk_book.specs.declared.parts.EntryRows.TheVariants as parts
 use Rattle.desk_book.specs.declared.parts.Parts.{Parts}
 use Rattle.desk_book.specs.declared.parts.PartsFault.{PartsFault}
 use Rattle.desk_book.specs.declared.parts.PartsFault.TheVariants.{Damaged, NoMemory}
+use Rattle.desk_book.specs.declared.parts.FileTable.{FileTable}
+use Rattle.desk_book.specs.declared.parts.RowsFault.{RowsFault}
+use Rattle.desk_book.specs.declared.parts.RowsFault.TheVariants as rows_fault
 use Rattle.desk_book.specs.Damage.{IsFirstDamage}
 use Rattle.desk_book.specs.FileRows.{FileRows, EntryRows, Named, Unnamed, format_of}
 
@@ -28,3 +31,8 @@ rows_in parts = record {
 abbrev pub IsFaultOf : FileRows → PartsFault → Type 0
 IsFaultOf rows (Damaged table id) = IsFirstDamage rows table id
 IsFaultOf rows NoMemory = ⊤
+
+-- the fault of the parts whose rows of this table weren't taken
+abbrev pub fault_in : FileTable → RowsFault → PartsFault
+fault_in table (rows_fault.Damaged id) = Damaged table id
+fault_in table rows_fault.NoMemory = NoMemory

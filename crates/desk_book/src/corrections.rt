@@ -58,7 +58,7 @@ fn check_entries(paragraph: &Paragraph) -> Result<(), Refusal>
 }
 
 /// The print with a text in place of so many characters from a place on.
-fn replaced(
+pub(crate) fn replaced(
     alloc: Global,
     print: &[char],
     start: usize,

@@ -1,7 +1,7 @@
 //! Lists that a planned change makes longer without memory, at a constant cost for each item, taken over all.
-ghost use Rattle.desk_book.specs.Room.{Suffices, grown as grown_lem};
+ghost use Rattle.desk_book.specs.Room.{Suffices, grown as grown_lem, room_of};
 ghost use Rattle.std.specs.List.{insert};
-ghost use Rattle.std.specs.Prelude.{◌≡◌, ◌+◌, ◌<◌, ◌≤◌, ◌^◌, [], ◌∷◌, ◌++◌, IfOk, length};
+ghost use Rattle.std.specs.Prelude.{◌≡◌, ◌+◌, ◌<◌, ◌≤◌, ◌^◌, [], ◌∷◌, ◌++◌, IfOk, IfSome, length};
 
 use std::alloc::{AllocError, Global};
 use std::marker::Model;
@@ -56,6 +56,17 @@ fn grown(room: usize, count: usize) -> usize
     if count <= room { room } else { 2 * count }
 }
 
+/// The room of a list that grew to so many items, if a list may have so much.
+fn room_for(count: usize) -> Option<usize>
+    ensures { IfSome result (λ room. (room ≡ room_of count) × (count ≤ room)) }
+{
+    let mut room: usize = 0;
+    while room < count {
+        room = room.checked_add(1)?.checked_mul(2)?;
+    }
+    Some(room)
+}
+
 impl<T: Drop> Items<T> {
     /// No items.
     pub(crate) fn new(alloc: Global) -> Self
@@ -65,6 +76,15 @@ impl<T: Drop> Items<T> {
             items: Vec::new(alloc),
             room: 0,
         }
+    }
+
+    /// The items of a list, with the room of one that grew to them.
+    pub(crate) fn from_vec(mut items: Vec<T>) -> Result<Self, AllocError>
+        ensures { IfOk result (λ kept. kept ≡ items.items) }
+    {
+        let room = room_for(items.len()).ok_or(AllocError)?;
+        items.reserve_exact(room - items.len())?;
+        Ok(Items { items, room })
     }
 
     /// The items in order.

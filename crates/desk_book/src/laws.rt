@@ -3,12 +3,14 @@ ghost use Rattle.desk_book.specs.After.{After};
 ghost use Rattle.desk_book.specs.Book.{Book, empty_book};
 ghost use Rattle.desk_book.specs.Damage.{HasItsTables, IsDamaged, IsFirstDamage};
 ghost use Rattle.desk_book.specs.declared.command.Command.{Command};
+ghost use Rattle.desk_book.specs.declared.filling.NewTables.{NewTables};
 ghost use Rattle.desk_book.specs.declared.parts.FileTable.{FileTable};
 ghost use Rattle.desk_book.specs.FileRows.{AreTexts, FileRows, table_of};
-ghost use Rattle.desk_book.specs.FilledRows.{AreEntriesOf, in_second_format, new_rows, second_format_puts};
-ghost use Rattle.desk_book.specs.FilledRows.{with_caches, with_new_entries, with_new_tables};
+ghost use Rattle.desk_book.specs.FilledRows.{AreEntriesOf, Fills, in_second_format, new_rows};
+ghost use Rattle.desk_book.specs.FilledRows.{second_format_puts, with_caches, with_empty};
+ghost use Rattle.desk_book.specs.FilledRows.{with_new_entries, with_new_tables};
 ghost use Rattle.desk_book.specs.Outcome.{HasOneOutcome};
-ghost use Rattle.desk_book.specs.Puts.{PutBook, PutCache, PutEntry, with_puts};
+ghost use Rattle.desk_book.specs.Puts.{HasTheirTables, PutBook, PutCache, PutEntry, RowPuts, with_puts};
 ghost use Rattle.desk_book.specs.Refusals.{IsAccepted};
 ghost use Rattle.desk_book.specs.Restored.{RestoresPrint};
 ghost use Rattle.desk_book.specs.Rows.{Cached, NamedCorr};
@@ -85,6 +87,15 @@ pub fn filled_rows_show_their_book()
     ensures all { (rows : FileRows) (book : Book) (caches : List Cached) → Shows rows book
         → AreCached book caches
         → Shows (with_puts (second_format_puts book.version rows caches) (with_new_tables rows)) book }
+{}
+
+/// Rows that show a book show it still once they have new tables, which are empty, and all that fills these with the
+/// book's entries and braille is put, one after the other; and each of it has its table.
+pub fn filled_tables_show_their_book()
+    ensures shown { (tables : NewTables) (rows : FileRows) (book : Book) (puts : RowPuts) → Shows rows book
+        → Fills tables book puts → Shows (with_puts puts (with_empty tables rows)) book }
+    ensures there { (tables : NewTables) (rows : FileRows) (book : Book) (puts : RowPuts)
+        → Fills tables book puts → HasTheirTables puts (with_empty tables rows) }
 {}
 
 /// Rows that show a book have no damage.

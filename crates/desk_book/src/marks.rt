@@ -147,6 +147,15 @@ impl Marks {
         }
     }
 
+    /// The marks of a list in the order of their ids.
+    pub(crate) fn from_vec(items: Vec<KeptMark>) -> Result<Self, AllocError>
+        ensures { IfOk result (λ marks. marks ≡ items.items) }
+    {
+        Ok(Marks {
+            items: Items::from_vec(items)?,
+        })
+    }
+
     /// The marks in the order of their ids.
     pub(crate) fn as_slice(&self) -> &[KeptMark]
         ensures { result.now ≡ self.now }

@@ -1,10 +1,10 @@
 //! The paragraphs of a book.
-ghost use Rattle.desk_book.specs.Kept.{arranged, ids, renewed, renewed_items, with_id, with_id_moved, with_kept_change};
+ghost use Rattle.desk_book.specs.Kept.{arranged, ids, numbered, renewed, renewed_items, with_id, with_id_moved, with_kept_change};
 ghost use Rattle.desk_book.specs.KeptPrints.{HasRoomFor, HasRoomForMark, with_mark, with_print_changed};
 ghost use Rattle.desk_book.specs.Refusals.{paragraph_before};
 ghost use Rattle.desk_book.specs.Room.{Suffices};
 ghost use Rattle.desk_book.specs.Step.{is_after};
-ghost use Rattle.std.specs.List.{Contains, filter, insert, position, range_with_len};
+ghost use Rattle.std.specs.List.{Contains, filter, flat_map, insert, position, range_with_len};
 ghost use Rattle.std.specs.List.Sorted.{IsPermutation};
 ghost use Rattle.std.specs.Map.{lookup};
 ghost use Rattle.std.specs.Option.{option_copied, option_map_or};
@@ -74,7 +74,7 @@ impl Paragraph {
 }
 
 /// Gives paragraphs, in the order of their ids, new cells, where there are any.
-fn renew(paragraphs: &mut [Paragraph], cells: Vec<Option<Cells>>)
+pub(crate) fn renew(paragraphs: &mut [Paragraph], cells: Vec<Option<Cells>>)
     ensures { paragraphs.new ≡ renewed_items cells.items paragraphs.old }
 {
     let mut cells = cells.into_iter();
@@ -204,6 +204,17 @@ impl Paragraphs {
             items: Items::new(alloc),
             order: Items::new(alloc),
         }
+    }
+
+    /// The paragraphs of a list in the order of their ids, as these ids stand here.
+    pub(crate) fn from_vecs(items: Vec<Paragraph>, order: Vec<u64>) -> Result<Self, AllocError>
+        requires { IsPermutation (range_with_len 1 (length items.items)) order.items }
+        ensures { IfOk result (λ paragraphs. paragraphs ≡ flat_map (numbered items.items) order.items) }
+    {
+        Ok(Paragraphs {
+            items: Items::from_vec(items)?,
+            order: Items::from_vec(order)?,
+        })
     }
 
     /// How many there are.

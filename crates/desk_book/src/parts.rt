@@ -1,8 +1,12 @@
 //! The rows of a book's file, and what is wrong with them.
-ghost use Rattle.desk_book.specs.Damage.{table_number};
-ghost use Rattle.std.specs.Prelude.{◌≡◌};
+ghost use Rattle.desk_book.specs.Damage.{IsFlag, table_number};
+ghost use Rattle.desk_book.specs.FileRows.{table_of};
+ghost use Rattle.desk_book.specs.Rebuilt.{entry_rows, fault_in};
+ghost use Rattle.desk_book.specs.Shows.{flag_number};
+ghost use Rattle.std.specs.Prelude.{◌≡◌, MatchOption};
 
 use super::rows::{CacheRow, CorrRow, MarkRow, NamedCorrRow, ParaRow, StoredTab};
+use std::alloc::AllocError;
 
 /// A table of a book's file.
 #[derive(Clone, Copy, Debug, PartialEq, Eq)]
@@ -49,6 +53,18 @@ pub enum EntryRows {
     Named(Vec<NamedCorrRow>),
 }
 
+impl EntryRows {
+    /// The table that they are the rows of.
+    pub(crate) fn table(&self) -> FileTable
+        ensures { result ≡ table_of (entry_rows self.now) }
+    {
+        match self {
+            EntryRows::Unnamed(_) => FileTable::Corr,
+            EntryRows::Named(_) => FileTable::NamedCorr,
+        }
+    }
+}
+
 /// What the file of a book holds: the version and the rows of the other tables, those of each in any order.
 #[derive(Drop)]
 pub struct Parts {
@@ -79,4 +95,58 @@ pub enum PartsFault {
     },
     /// An allocation was refused.
     NoMemory,
+}
+
+/// Why the rows of one table were not taken.
+#[derive(Clone, Copy, Debug, PartialEq, Eq)]
+pub(crate) enum RowsFault {
+    /// The smallest id of the damage in the table.
+    Damaged(i64),
+    /// An allocation was refused.
+    NoMemory,
+}
+
+impl From<AllocError> for RowsFault {
+    ghost use Rattle.desk_book.specs.declared.parts.RowsFault.{RowsFault};
+    ghost use Rattle.desk_book.specs.declared.parts.RowsFault.TheVariants.{NoMemory};
+
+    ghost from_gives = { λ _ fault. fault ≡ NoMemory };
+
+    fn from(_: AllocError) -> Self {
+        RowsFault::NoMemory
+    }
+}
+
+impl From<AllocError> for PartsFault {
+    ghost use Rattle.desk_book.specs.declared.parts.PartsFault.{PartsFault};
+    ghost use Rattle.desk_book.specs.declared.parts.PartsFault.TheVariants.{NoMemory};
+
+    ghost from_gives = { λ _ fault. fault ≡ NoMemory };
+
+    fn from(_: AllocError) -> Self {
+        PartsFault::NoMemory
+    }
+}
+
+impl RowsFault {
+    /// The fault of the parts whose rows of this table weren't taken.
+    pub(crate) fn of(self, table: FileTable) -> PartsFault
+        ensures { result ≡ fault_in table self }
+    {
+        match self {
+            RowsFault::Damaged(id) => PartsFault::Damaged { table, id },
+            RowsFault::NoMemory => PartsFault::NoMemory,
+        }
+    }
+}
+
+/// The flag that a number is, if it is 0 or 1.
+pub(crate) fn flag_of(number: i64) -> Option<bool>
+    ensures { MatchOption result (¬ IsFlag number) (λ flag. flag_number flag ≡ number) }
+{
+    match number {
+        0 => Some(false),
+        1 => Some(true),
+        _ => None,
+    }
 }

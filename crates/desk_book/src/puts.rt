@@ -22,7 +22,7 @@ use cell_core::Cells;
 use std::marker::Model;
 
 /// A number of a book as one of a row. Each is far below the greatest of a row, which stands for any that is not.
-fn number(n: u64) -> i64
+pub(crate) fn number(n: u64) -> i64
     ensures { result ≡ row_number n }
 {
     n.min(i64::MAX as u64) as i64
@@ -46,7 +46,7 @@ fn style_row(style: Style) -> i64
 }
 
 /// The entry with a number of the history of a paragraph.
-fn entry(id: u64, seq: u64, entry: &KeptEntry) -> Put<'_>
+pub(crate) fn entry(id: u64, seq: u64, entry: &KeptEntry) -> Put<'_>
     ensures { put_of result ≡ PutEntry (entry_row id seq entry.now) }
 {
     match entry {
@@ -381,7 +381,7 @@ fn tab<'a>(name: &'a Text, table: &'a BoxedTable) -> Put<'a>
 }
 
 /// The row of a paragraph's cells.
-fn cache(id: u64, cells: &Cells) -> Put<'_>
+pub(crate) fn cache(id: u64, cells: &Cells) -> Put<'_>
     ensures { put_of result ≡ cache_put id cells.now }
 {
     Put::Cache {

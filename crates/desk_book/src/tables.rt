@@ -4,7 +4,7 @@ ghost use Rattle.louis_table.specs.Tells.{Tells};
 ghost use Rattle.std.specs.Cmp.Lexicographic.{pointwise};
 ghost use Rattle.std.specs.Map.{lookup};
 ghost use Rattle.std.specs.Option.{option_copied};
-ghost use Rattle.std.specs.Prelude.{◌≡◌, ◌<◌, ◌≤◌, [], None, IfErr, IfOk, IsSome, length, nat_eq};
+ghost use Rattle.std.specs.Prelude.{◌≡◌, ◌<◌, ◌≤◌, [], None, IfErr, IfOk, IsSome, OnOk, length, nat_eq, string_bytes};
 ghost use Rattle.std.specs.Str.{chars};
 
 use super::text::{Bytes, Text};
@@ -181,6 +181,15 @@ impl Tables {
         ensures { option_copied result ≡ lookup (pointwise nat_eq (chars name.now)) self.now }
     {
         self.entries.get(name)
+    }
+
+    /// Puts in a table under a name that no other has.
+    pub(crate) fn insert(&mut self, name: String, table: BookTable) -> Result<(), AllocError>
+        requires new { lookup (pointwise nat_eq (chars (string_bytes name))) self.old ≡ None }
+        ensures { OnOk result (self.new ≡ with_table (chars (string_bytes name)) table self.old) }
+    {
+        self.entries.insert(name, table)?;
+        Ok(())
     }
 
     /// Puts a table in the place of the one with the name, if there is one.

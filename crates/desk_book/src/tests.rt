@@ -2,12 +2,13 @@
 //!
 //! The sessions stand in texts, one request to a row, since the proof of a test with long arrays takes minutes: the
 //! answer, ` | `, and the request. A request that begins with `@V` expects version V, and `again N` makes a request N times,
-//! whose last answer counts; `puts` before a command asks what it would put into the rows of a file. In a text a pilcrow is a line feed, an open box a blank, and `{a×3}` is `aaa`.
+//! whose last answer counts; `puts` before a command asks what it would put into the rows of a file, and `fill` what fills
+//! new tables of it. In a text a pilcrow is a line feed, an open box a blank, and `{a×3}` is `aaa`.
 use super::limits::MOST_VERSION;
 use super::rows::Put;
 use super::{
-    Anchor, Book, Bytes, Command, Done, History, HistoryItem, Listed, MarkItem, ParagraphMarks,
-    Puts, Refusal, Style, Text,
+    Anchor, Book, Bytes, Command, Done, Filling, History, HistoryItem, Listed, MarkItem, NewTables,
+    ParagraphMarks, Puts, Refusal, Style, Text,
 };
 use cell_core::Cell;
 use louis_table::EN;
@@ -47,7 +48,7 @@ fn style(word: &str) -> Style {
 }
 
 /// The text that a row writes.
-fn text_of(alloc: Global, written: &str) -> Result<String, Fail> {
+pub(crate) fn text_of(alloc: Global, written: &str) -> Result<String, Fail> {
     let mut text = String::new(alloc);
     for part in written.split('}') {
         let (plain, repeated) = part.split_once('{').unwrap_or((part, ""));
@@ -438,6 +439,24 @@ fn each_put_shown(alloc: Global, items: Puts) -> Result<String, AllocError> {
     Ok(puts)
 }
 
+/// What fills new tables, in order.
+fn filling_shown(alloc: Global, items: Filling) -> Result<String, AllocError> {
+    let mut puts = String::new(alloc);
+    for item in items {
+        puts.push_str(put_shown(alloc, &item)?.as_str())?;
+    }
+    Ok(puts)
+}
+
+/// What fills the new tables that a word names.
+fn filled(alloc: Global, book: &Book, word: &str) -> Result<String, AllocError> {
+    match word {
+        "entries" => filling_shown(alloc, book.filling(NewTables::Entries)),
+        "braille" => filling_shown(alloc, book.filling(NewTables::Braille)),
+        _ => filling_shown(alloc, book.filling(NewTables::EntriesAndBraille)),
+    }
+}
+
 /// What a command would put.
 fn puts_shown(alloc: Global, book: &Book, command: &Command) -> Result<String, AllocError> {
     match book.plan(alloc, command, None) {
@@ -449,8 +468,8 @@ fn puts_shown(alloc: Global, book: &Book, command: &Command) -> Result<String, A
 /// What a book shows.
 fn shown(alloc: Global, book: &Book, request: &str) -> Result<String, AllocError> {
     let (verb, rest) = cut(request);
-    let (id, place) = cut(rest);
-    let id = number(id);
+    let (word, place) = cut(rest);
+    let id = number(word);
     let place = number(place) as usize;
     match verb {
         "print" => print_shown(alloc, book, id),
@@ -461,6 +480,7 @@ fn shown(alloc: Global, book: &Book, request: &str) -> Result<String, AllocError
         "marks" => marks_shown(alloc, book, id),
         "list" => list_shown(alloc, book),
         "order" => order_shown(alloc, book),
+        "fill" => filled(alloc, book, word),
         "version" => format!(in alloc; "{}", book.version()),
         _ => String::from_str(alloc, "what?"),
     }
@@ -504,12 +524,17 @@ fn last_answer(alloc: Global, book: &mut Book, request: &str) -> Result<String, 
 }
 
 /// Compares an answer.
-fn judge(rt: &impl Abort, row: &str, given: &str, wanted: &str) {
+pub(crate) fn judge(rt: &impl Abort, row: &str, given: &str, wanted: &str) {
     assert_eq!(rt; given, wanted, "{row}");
 }
 
 /// Compares what is answered to each row's request.
-fn judge_rows(rt: &impl Abort, alloc: Global, book: &mut Book, rows: &str) -> Result<(), Fail> {
+pub(crate) fn judge_rows(
+    rt: &impl Abort,
+    alloc: Global,
+    book: &mut Book,
+    rows: &str,
+) -> Result<(), Fail> {
     for row in rows.split('\n') {
         let (wanted, request) = row.split_once(" | ").unwrap_or((row, ""));
         judge(rt, row, last_answer(alloc, book, request)?.as_str(), wanted);
@@ -1327,5 +1352,28 @@ version 10, place 3 1, place 2 2, place 1 3,  | puts move 3 front
 version 10, place 1 1, place 2 2,  | puts move 1 front
 version 10,  | puts move 2 2
 no 12 | puts restore 1",
+    )
+}
+
+#[test]
+fn a_book_fills_new_tables(rt: HostRuntime) -> Result<(), Fail> {
+    judge_session(
+        &rt,
+        rt.alloc(),
+        "\
+book 1 2 0,  | fill entries
+book 1 2 0,  | fill all
+ok 1 | table en SMALL
+ok 2 1 | type end en ab
+ok 3 2 | type end en
+ok 4 3 | type front en c
+ok 5 1 | correct-by Ann 1 1 1 c
+ok 6 2 | undo 1
+ok 7 3 | correct 1 0 0 é
+ok 8 1 | correct-by Bo 3 0 1 ba
+ok 9 | strike 2
+book 1 2 9, entry 3 1 0 0 1 ba Bo, entry 1 1 0 1 1 c Ann, entry 1 2 1 1 0  , entry 1 3 0 0 0 é ,  | fill entries
+cache 3 ⠃⠁, cache 1 ⠿⠁⠃, cache 2 ,  | fill braille
+book 1 2 9, entry 3 1 0 0 1 ba Bo, entry 1 1 0 1 1 c Ann, entry 1 2 1 1 0  , entry 1 3 0 0 0 é , cache 3 ⠃⠁, cache 1 ⠿⠁⠃, cache 2 ,  | fill all",
     )
 }

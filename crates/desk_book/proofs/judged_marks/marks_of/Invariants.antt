@@ -1,0 +1,12 @@
+use Rattle.std.proofs.Common.{◌≡◌, ◌++◌}
+use Rattle.std.specs.Vec.Iter.{into_iter_items}
+use Rattle.desk_book.specs.JudgedMarks.{AreKeptOf}
+use Rattle.desk_book.proofs.judged_marks.marks_of.Given as goal
+
+-- the rows that were taken are sound, and their marks read
+abbrev pub invariant-loop-row : goal.invariant-loop-row
+invariant-loop-row l =
+    (goal.iterator-loop-row).can_next l.row-iterator ×
+    (goal.iterator-loop-row).is_finite l.row-iterator ×
+    AreKeptOf l.items l.yielded l.marks.items ×
+    (l.yielded ++ into_iter_items l.row-iterator ≡ l.fn.rows.items)

@@ -1,0 +1,63 @@
+use Rattle.std.proofs.Common.{◌≡◌, List, [], length}
+use Rattle.std.specs.List.{All}
+use Rattle.std.specs.List.Sorted.{IsPermutation}
+use Rattle.desk_book.specs.declared.judged_paras.JudgedParas.{JudgedParas}
+use Rattle.desk_book.specs.declared.parts.RowsFault.{RowsFault}
+use Rattle.desk_book.specs.declared.parts.RowsFault.TheVariants.{Damaged, NoMemory}
+use Rattle.desk_book.specs.declared.paragraphs.Paragraph.{Paragraph as KeptParagraph}
+use Rattle.desk_book.specs.Damage.{IsDamagedPara}
+use Rattle.desk_book.specs.Judged.{AreInPlaces, AreOf, AreTables, IsWhole, TellsDamage}
+use Rattle.desk_book.specs.JudgedParas.{AreInOrder, AreKeptOf, TellsUnsound}
+use Rattle.desk_book.specs.Kept.{KeptTables}
+use Rattle.desk_book.specs.Rows.{Para, Tab}
+use Rattle.desk_book.proofs.KeptLookups.{IfErr-weaker, IfOk-weaker}
+use Rattle.desk_book.proofs.ParaOrder.{are-of, in-places, tells, unmarked, whole}
+use Rattle.desk_book.proofs.judged_paras.judged_paras.Goals as goal
+
+abbrev Reads : KeptTables → List Para → JudgedParas → Type 0
+Reads tables sorted judged = AreKeptOf tables (length sorted) sorted judged.items.items judged.order.items
+
+told : (tabs : List Tab) (tables : KeptTables) → AreTables tabs tables → (rows sorted : List Para) → IsPermutation rows sorted → AreInOrder sorted
+    → (fault : RowsFault) → TellsUnsound tables sorted fault → TellsDamage (IsDamagedPara tabs rows) fault
+told tabs tables are rows sorted moved up (Damaged id) first = tells tabs tables are rows sorted moved up id first
+told tabs tables are rows sorted moved up NoMemory first = tt
+
+pub returns-clause-whole : goal.returns-clause-whole
+returns-clause-whole c = λ tabs are.
+    let tables = c.args.tables.now in
+    let rows = c.args.rows.items in
+    let sorted = c.sort.new.rows.items in
+    IfOk-weaker c.paragraphs_of.result (Reads tables sorted) (λ judged. IsWhole (IsDamagedPara tabs rows))
+    (λ judged have. whole tables rows sorted c.sort.ensures.same judged.items.items judged.order.items have tabs are c.sort.ensures.sorted) c.paragraphs_of.ensures.kept
+
+pub returns-clause-items : goal.returns-clause-items
+returns-clause-items c = λ tabs are.
+    let tables = c.args.tables.now in
+    let rows = c.args.rows.items in
+    let sorted = c.sort.new.rows.items in
+    IfOk-weaker c.paragraphs_of.result (Reads tables sorted) (λ judged. AreOf rows judged.items.items)
+    (λ judged have. are-of tables rows sorted c.sort.ensures.same judged.items.items judged.order.items have) c.paragraphs_of.ensures.kept
+
+pub returns-clause-unmarked : goal.returns-clause-unmarked
+returns-clause-unmarked c =
+    let tables = c.args.tables.now in
+    let rows = c.args.rows.items in
+    let sorted = c.sort.new.rows.items in
+    IfOk-weaker c.paragraphs_of.result (Reads tables sorted) (λ judged. All (λ (kept : KeptParagraph). kept.marks ≡ []) judged.items.items)
+    (λ judged have. unmarked tables rows sorted c.sort.ensures.same judged.items.items judged.order.items have) c.paragraphs_of.ensures.kept
+
+pub returns-clause-order : goal.returns-clause-order
+returns-clause-order c = λ tabs are.
+    let tables = c.args.tables.now in
+    let rows = c.args.rows.items in
+    let sorted = c.sort.new.rows.items in
+    IfOk-weaker c.paragraphs_of.result (Reads tables sorted) (λ judged. AreInPlaces rows judged.order.items)
+    (λ judged have. in-places tables rows sorted c.sort.ensures.same judged.items.items judged.order.items have) c.paragraphs_of.ensures.kept
+
+pub returns-clause-damaged : goal.returns-clause-damaged
+returns-clause-damaged c = λ tabs are.
+    let tables = c.args.tables.now in
+    let rows = c.args.rows.items in
+    let sorted = c.sort.new.rows.items in
+    IfErr-weaker c.paragraphs_of.result (TellsUnsound tables sorted) (TellsDamage (IsDamagedPara tabs rows))
+    (λ fault first. told tabs tables are rows sorted c.sort.ensures.same c.sort.ensures.sorted fault first) c.paragraphs_of.ensures.damaged

@@ -1,0 +1,17 @@
+-- What is told where the rows of a table are not those of a book.
+use Rattle.std.specs.Prelude.{◌≡◌, ℤ, List, Option, Some, ⊤}
+use Rattle.desk_book.specs.declared.parts.FileTable.{FileTable}
+use Rattle.desk_book.specs.declared.parts.PartsFault.{PartsFault}
+use Rattle.desk_book.specs.declared.parts.PartsFault.TheVariants.{Damaged, NoMemory}
+use Rattle.desk_book.specs.Damage.{IsDamagedCache}
+use Rattle.desk_book.specs.Judged.{IsFirstId}
+use Rattle.desk_book.specs.Rows.{Cached, Para, Tab}
+
+-- the smallest id of the damage is told, of this table, or memory was refused
+abbrev pub TellsDamageOf : FileTable → (ℤ → Type 0) → PartsFault → Type 0
+TellsDamageOf table damaged (Damaged other id) = (other ≡ table) × IsFirstId damaged id
+TellsDamageOf table damaged NoMemory = ⊤
+
+-- there are rows of braille, and this is a damaged id of them
+abbrev pub IsDamagedBraille : List Tab → List Para → Option (List Cached) → ℤ → Type 0
+IsDamagedBraille tabs paras cache id = (caches : List Cached) × (cache ≡ Some caches) × IsDamagedCache tabs paras caches id

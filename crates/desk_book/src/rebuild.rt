@@ -1,0 +1,196 @@
+//! A book from the rows of its file.
+ghost use Rattle.desk_book.specs.Damage.{IsDamagedEntries, IsDamagedPara, IsWithin};
+ghost use Rattle.desk_book.specs.FileRows.{HasEntryTexts, HasMarkText, entries_in, table_of, unnamed};
+ghost use Rattle.desk_book.specs.Joined.{IsDamagedBraille, TellsDamageOf};
+ghost use Rattle.desk_book.specs.Judged.{AreOf, AreTables, HasCells, HasHistory, IsWhole, without_cells, without_history};
+ghost use Rattle.desk_book.specs.Kept.{IsKept, book_kept, numbered};
+ghost use Rattle.desk_book.specs.Limits.{most_version};
+ghost use Rattle.desk_book.specs.Rebuilt.{IsFaultOf, entry_rows, fault_in, rows_in};
+ghost use Rattle.desk_book.specs.Rows.{Para, Tab};
+ghost use Rattle.desk_book.specs.Shows.{Shows};
+ghost use Rattle.desk_book.specs.declared.parts.FileTable.{FileTable};
+ghost use Rattle.std.specs.List.{All, flat_map, range_with_len};
+ghost use Rattle.std.specs.List.Sorted.{IsPermutation};
+ghost use Rattle.std.specs.Prelude.{◌≡◌, Err, List, IfErr, IfOk, MatchOption, MatchResult, Ok, OnOk, length, map, option_map, pos};
+
+use super::book::Book;
+use super::judged_caches::{judged_caches, made_cells};
+use super::judged_entries::judged_entries;
+use super::judged_marks::judged_marks;
+use super::judged_paras::{JudgedParas, judged_paras};
+use super::judged_tabs::judged_tabs;
+use super::limits::MOST_VERSION;
+use super::marks::{KeptMark, Marks};
+use super::paragraphs::{Paragraph, Paragraphs};
+use super::parts::{EntryRows, FileTable, Parts, PartsFault, RowsFault};
+use super::rows::{CacheRow, CorrRow, MarkRow, NamedCorrRow};
+use super::tables::Tables;
+use std::alloc::{AllocError, Global};
+
+/// The version in the row of `book`, if a book may have it.
+fn version_of(version: i64) -> Option<u64>
+    ensures { MatchOption result (¬ IsWithin 0 most_version version)
+        (λ number. IsWithin 0 most_version version × (pos number ≡ version)) }
+{
+    let number = u64::try_from(version).ok()?;
+    if number <= MOST_VERSION {
+        Some(number)
+    } else {
+        None
+    }
+}
+
+/// Looks at the texts of entries: that a string is UTF-8 is known of each that was looked at.
+fn look_at_entries(rows: &[NamedCorrRow])
+    ensures { All HasEntryTexts rows.now }
+{
+    for row in rows {
+        let entry = &row.entry;
+        let _ = &entry.body;
+        let _ = &row.who;
+    }
+}
+
+/// Looks at the notes of marks, as at the texts of entries.
+fn look_at_marks(rows: &[MarkRow])
+    ensures { All HasMarkText rows.now }
+{
+    for row in rows {
+        let _ = &row.note;
+    }
+}
+
+/// The entries of the first format as those of proofreaders without a name.
+fn with_no_names(alloc: Global, rows: Vec<CorrRow>) -> Result<Vec<NamedCorrRow>, AllocError>
+    ensures { IfOk result (λ named. named.items ≡ map unnamed rows.items) }
+{
+    let mut named = Vec::with_capacity(alloc, rows.len())?;
+    for entry in rows {
+        let who = String::new(alloc);
+        named.push(NamedCorrRow { entry, who })?;
+    }
+    Ok(named)
+}
+
+/// The entries of either format as those of the second.
+fn with_names(alloc: Global, entries: EntryRows) -> Result<Vec<NamedCorrRow>, AllocError>
+    ensures { IfOk result (λ named. named.items ≡ entries_in (entry_rows entries)) }
+{
+    match entries {
+        EntryRows::Unnamed(rows) => with_no_names(alloc, rows),
+        EntryRows::Named(rows) => Ok(rows),
+    }
+}
+
+/// What was read of a table, or the fault, told of this table.
+fn of_table<T>(table: FileTable, read: Result<T, RowsFault>) -> Result<T, PartsFault>
+    ensures { MatchResult read (λ rows. result ≡ Ok rows) (λ fault. result ≡ Err (fault_in table fault)) }
+{
+    match read {
+        Ok(rows) => Ok(rows),
+        Err(fault) => Err(fault.of(table)),
+    }
+}
+
+/// Gives the paragraphs, which are in the order of their ids, the histories of rows of either format.
+fn give_histories(
+    alloc: Global,
+    items: &mut Vec<Paragraph>,
+    entries: EntryRows,
+) -> Result<(), PartsFault>
+    requires of { (paras : List Para) × AreOf paras items.old.items }
+    ensures texts { OnOk result (All HasEntryTexts (entries_in (entry_rows entries))) }
+    ensures whole { (paras : List Para) → AreOf paras items.old.items
+        → OnOk result (IsWhole (IsDamagedEntries paras (entries_in (entry_rows entries)))) }
+    ensures histories { (paras : List Para) → AreOf paras items.old.items
+        → OnOk result (All (HasHistory (entries_in (entry_rows entries)) items.new.items) paras) }
+    ensures same { OnOk result (map without_history items.new.items ≡ map without_history items.old.items) }
+    ensures damaged { (paras : List Para) → AreOf paras items.old.items
+        → IfErr result (TellsDamageOf (table_of (entry_rows entries))
+        (IsDamagedEntries paras (entries_in (entry_rows entries)))) }
+{
+    let table = entries.table();
+    let rows = with_names(alloc, entries)?;
+    look_at_entries(&rows);
+    of_table(table, judged_entries(alloc, items, rows))
+}
+
+/// Gives the paragraphs, which are in the order of their ids, the braille of rows, or else that of their prints.
+fn give_cells(
+    alloc: Global,
+    tables: &Tables,
+    items: &mut Vec<Paragraph>,
+    cache: Option<Vec<CacheRow>>,
+) -> Result<(), PartsFault>
+    requires of { (tabs : List Tab) × (paras : List Para) × AreTables tabs tables.now × AreOf paras items.old.items
+        × IsWhole (IsDamagedPara tabs paras) }
+    ensures whole { (tabs : List Tab) (paras : List Para) → AreTables tabs tables.now → AreOf paras items.old.items
+        → IsWhole (IsDamagedPara tabs paras)
+        → OnOk result (IsWhole (IsDamagedBraille tabs paras (option_map (λ caches. caches.items) cache))) }
+    ensures cells { (tabs : List Tab) (paras : List Para) → AreTables tabs tables.now → AreOf paras items.old.items
+        → IsWhole (IsDamagedPara tabs paras) → OnOk result (All (HasCells tabs items.new.items) paras) }
+    ensures same { OnOk result (map without_cells items.new.items ≡ map without_cells items.old.items) }
+    ensures damaged { (tabs : List Tab) (paras : List Para) → AreTables tabs tables.now → AreOf paras items.old.items
+        → IsWhole (IsDamagedPara tabs paras)
+        → IfErr result (TellsDamageOf FileTable.Cache
+        (IsDamagedBraille tabs paras (option_map (λ caches. caches.items) cache))) }
+{
+    let given = match cache {
+        Some(rows) => judged_caches(alloc, tables, items, rows),
+        None => made_cells(alloc, tables, items),
+    };
+    of_table(FileTable::Cache, given)
+}
+
+/// The book of what was read of its tables: the paragraphs in the order of their ids, and these ids as they stand.
+fn joined(
+    version: u64,
+    tables: Tables,
+    items: Vec<Paragraph>,
+    order: Vec<u64>,
+    marks: Vec<KeptMark>,
+) -> Result<Book, AllocError>
+    requires order { IsPermutation (range_with_len 1 (length items.items)) order.items }
+    requires kept { IsKept version tables (flat_map (numbered items.items) order.items) marks.items }
+    ensures { IfOk result (λ book. book ≡ book_kept version tables (flat_map (numbered items.items) order.items) marks.items) }
+{
+    let paragraphs = Paragraphs::from_vecs(items, order)?;
+    let marks = Marks::from_vec(marks)?;
+    Ok(Book {
+        version,
+        tables,
+        paragraphs,
+        marks,
+    })
+}
+
+impl Book {
+    /// The book that the parts show, with the braille that they have, once it is that of their prints, or else made anew.
+    ///
+    /// # Errors
+    ///
+    /// The first damage of parts that show no book, and [`PartsFault::NoMemory`] where an allocation was refused.
+    pub fn rebuild(alloc: Global, parts: Parts) -> Result<Self, PartsFault>
+        ensures shown { IfOk result (Shows (rows_in parts)) }
+        ensures damaged { IfErr result (IsFaultOf (rows_in parts)) }
+    {
+        let Some(version) = version_of(parts.version) else {
+            return Err(PartsFault::Damaged {
+                table: FileTable::Book,
+                id: 1,
+            });
+        };
+        let tables = of_table(FileTable::Tab, judged_tabs(alloc, parts.tabs))?;
+        let paras = of_table(FileTable::Para, judged_paras(alloc, &tables, parts.paras))?;
+        let JudgedParas { mut items, order } = paras;
+        give_histories(alloc, &mut items, parts.entries)?;
+        look_at_marks(&parts.marks);
+        let marks = of_table(
+            FileTable::Mark,
+            judged_marks(alloc, &mut items, parts.marks),
+        )?;
+        give_cells(alloc, &tables, &mut items, parts.cache)?;
+        let book = joined(version, tables, items, order, marks)?;
+        Ok(book)
+    }
+}

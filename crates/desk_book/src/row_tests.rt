@@ -1,0 +1,673 @@
+//! Books made of rows, and what is told of rows that show none.
+//!
+//! The rows stand in texts, one to a line: the name of a table and the columns behind it, apart by one blank, where `_` is a text with no
+//! character and a mask of a cell is a number. In a text a pilcrow is a line feed, a section sign a carriage return, a currency sign
+//! U+0000, an open box a blank, and `{a×3}` is `aaa`. A case changes the rows of one book: what begins with `-` takes out the rows that
+//! begin so, the rest are further rows. Its answer is the number of the table and the id that are told, or `ok`.
+use super::Book;
+use super::parts::{EntryRows, FileTable, Parts, PartsFault};
+use super::rows::{CacheRow, CorrRow, MarkRow, NamedCorrRow, ParaRow, StoredTab, TabRow};
+use super::tests::{judge, judge_rows, text_of};
+use std::alloc::Global;
+use std::process::Abort;
+use std::test::Fail;
+
+/// Defines the space and the letters a, b, c and é, and the ß as no table of the book does.
+const SMALL: &str = "space \\s 0\nletter a 1\nletter b 12\nletter c 14\nletter \\x00E9 123456\n";
+
+/// The rows of a book, in no order.
+const ROWS: &str = "\
+version 9
+cache 3 3
+entry 2 3 1 2 0 _ _
+mark 2 1 0 0 _ 1 1
+para 3 3 t b b 0 0 1
+tab t SMALL
+para 1 2 t ab ab 0 0 0
+cache 1 1,3
+entry 2 1 0 0 0 a Ann
+para 2 1 t abc aabc 1 1 0
+entry 2 2 0 1 3 b _
+cache 2 1,1,3,9
+mark 1 2 0 4 look 0 0";
+
+/// What the file of a book has.
+#[derive(Clone, Copy)]
+enum Form {
+    /// The first format, whose entries have no names, without the braille.
+    First,
+    /// The first format, with the braille.
+    FirstWithCells,
+    /// The second format, without the braille.
+    Second,
+    /// The second format, with the braille.
+    SecondWithCells,
+}
+
+/// The forms of a file.
+const FORMS: [Form; 4] = [
+    Form::First,
+    Form::FirstWithCells,
+    Form::Second,
+    Form::SecondWithCells,
+];
+
+/// The forms of a file that has the braille.
+const WITH_CELLS: [Form; 2] = [Form::FirstWithCells, Form::SecondWithCells];
+
+/// The forms of a file of the second format.
+const NAMED: [Form; 2] = [Form::Second, Form::SecondWithCells];
+
+/// The rows of a book, table by table.
+#[derive(Drop)]
+struct Rows {
+    version: i64,
+    tabs: Vec<StoredTab>,
+    paras: Vec<ParaRow>,
+    entries: Vec<NamedCorrRow>,
+    marks: Vec<MarkRow>,
+    caches: Vec<CacheRow>,
+}
+
+/// The word at an index of a line, from 0.
+fn word(line: &str, at: usize) -> &str {
+    line.split(' ').nth(at).unwrap_or("")
+}
+
+/// The number at an index of a line.
+fn number(line: &str, at: usize) -> i64 {
+    word(line, at).parse().unwrap_or(0)
+}
+
+/// The text at an index of a line.
+fn text(alloc: Global, line: &str, at: usize) -> Result<String, Fail> {
+    let written = match word(line, at) {
+        "_" => "",
+        "SMALL" => SMALL,
+        other => other,
+    };
+    let text = text_of(alloc, written)?;
+    let characters = text.chars().map(|c| match c {
+        '§' => '\r',
+        '¤' => '\0',
+        other => other,
+    });
+    Ok(characters.collect(alloc)?)
+}
+
+fn tab(alloc: Global, line: &str, rowid: i64) -> Result<StoredTab, Fail> {
+    Ok(StoredTab {
+        rowid,
+        row: TabRow {
+            name: text(alloc, line, 1)?,
+            body: text(alloc, line, 2)?.into_bytes(),
+        },
+    })
+}
+
+fn para(alloc: Global, line: &str) -> Result<ParaRow, Fail> {
+    Ok(ParaRow {
+        id: number(line, 1),
+        place: number(line, 2),
+        tab: text(alloc, line, 3)?,
+        original: text(alloc, line, 4)?,
+        print: text(alloc, line, 5)?,
+        style: number(line, 6),
+        volume: number(line, 7),
+        struck: number(line, 8),
+    })
+}
+
+fn entry(alloc: Global, line: &str) -> Result<NamedCorrRow, Fail> {
+    Ok(NamedCorrRow {
+        entry: CorrRow {
+            para: number(line, 1),
+            seq: number(line, 2),
+            kind: number(line, 3),
+            start: number(line, 4),
+            len: number(line, 5),
+            body: text(alloc, line, 6)?,
+        },
+        who: text(alloc, line, 7)?,
+    })
+}
+
+fn mark(alloc: Global, line: &str) -> Result<MarkRow, Fail> {
+    Ok(MarkRow {
+        id: number(line, 1),
+        para: number(line, 2),
+        start: number(line, 3),
+        stop: number(line, 4),
+        note: text(alloc, line, 5)?,
+        touched: number(line, 6),
+        resolved: number(line, 7),
+    })
+}
+
+fn cache(alloc: Global, line: &str) -> Result<CacheRow, Fail> {
+    let mut cells = Vec::new(alloc);
+    for mask in word(line, 2).split(',') {
+        if mask != "_" {
+            cells.push(mask.parse::<u8>()?)?;
+        }
+    }
+    Ok(CacheRow {
+        para: number(line, 1),
+        cells,
+    })
+}
+
+impl Rows {
+    /// Adds the row of a line.
+    fn add(&mut self, alloc: Global, line: &str) -> Result<(), Fail> {
+        match word(line, 0) {
+            "version" => self.version = number(line, 1),
+            "tab" => {
+                let rowid = self.tabs.len() as i64 - 1;
+                self.tabs.push(tab(alloc, line, rowid)?)?;
+            }
+            "para" => self.paras.push(para(alloc, line)?)?,
+            "entry" => self.entries.push(entry(alloc, line)?)?,
+            "mark" => self.marks.push(mark(alloc, line)?)?,
+            "cache" => self.caches.push(cache(alloc, line)?)?,
+            _ => {}
+        }
+        Ok(())
+    }
+
+    /// What a file of this form holds.
+    fn parts(self, alloc: Global, form: Form) -> Result<Parts, Fail> {
+        let (named, cells) = match form {
+            Form::First => (false, false),
+            Form::FirstWithCells => (false, true),
+            Form::Second => (true, false),
+            Form::SecondWithCells => (true, true),
+        };
+        let Rows {
+            version,
+            tabs,
+            paras,
+            entries,
+            marks,
+            caches,
+        } = self;
+        let entries = if named {
+            EntryRows::Named(entries)
+        } else {
+            EntryRows::Unnamed(unnamed(alloc, entries)?)
+        };
+        Ok(Parts {
+            version,
+            tabs,
+            paras,
+            entries,
+            marks,
+            cache: if cells { Some(caches) } else { None },
+        })
+    }
+}
+
+/// The entries without their names.
+fn unnamed(alloc: Global, named: Vec<NamedCorrRow>) -> Result<Vec<CorrRow>, Fail> {
+    let mut entries = Vec::new(alloc);
+    for row in named {
+        entries.push(row.entry)?;
+    }
+    Ok(entries)
+}
+
+/// Whether a change takes out the row of a line.
+fn is_taken_out(line: &str, changes: &str) -> bool {
+    for change in changes.split(';') {
+        if let Some(front) = change.strip_prefix('-') {
+            if line.starts_with(front) {
+                return true;
+            }
+        }
+    }
+    false
+}
+
+/// The rows of the book with these changes.
+fn rows_with(alloc: Global, changes: &str) -> Result<Rows, Fail> {
+    let mut rows = Rows {
+        version: 0,
+        tabs: Vec::new(alloc),
+        paras: Vec::new(alloc),
+        entries: Vec::new(alloc),
+        marks: Vec::new(alloc),
+        caches: Vec::new(alloc),
+    };
+    for line in ROWS.split('\n') {
+        if !is_taken_out(line, changes) {
+            rows.add(alloc, line)?;
+        }
+    }
+    for change in changes.split(';') {
+        rows.add(alloc, change)?;
+    }
+    Ok(rows)
+}
+
+/// What is told of rows, in which the table of entries has the number 4 in either format.
+fn told(alloc: Global, parts: Parts) -> Result<String, Fail> {
+    let told = match Book::rebuild(alloc, parts) {
+        Ok(_) => String::from_str(alloc, "ok")?,
+        Err(
+            PartsFault::Damaged {
+                table: FileTable::NamedCorr,
+                id,
+            },
+        ) => format!(in alloc; "4 {id}")?,
+        Err(PartsFault::Damaged { table, id }) => format!(in alloc; "{} {id}", table.number())?,
+        Err(PartsFault::NoMemory) => String::from_str(alloc, "no memory")?,
+    };
+    Ok(told)
+}
+
+/// Compares what is told of the cases in these forms.
+fn judge_cases(rt: &impl Abort, alloc: Global, forms: &[Form], cases: &str) -> Result<(), Fail> {
+    for case in cases.split('\n') {
+        let (wanted, changes) = case.split_once(" | ").unwrap_or((case, ""));
+        for form in forms {
+            let parts = rows_with(alloc, changes)?.parts(alloc, *form)?;
+            judge(rt, case, told(alloc, parts)?.as_str(), wanted);
+        }
+    }
+    Ok(())
+}
+
+#[test]
+fn rows_make_their_book(rt: HostRuntime) -> Result<(), Fail> {
+    let alloc = rt.alloc();
+    let parts = rows_with(alloc, "")?.parts(alloc, Form::SecondWithCells)?;
+    let book = Book::rebuild(alloc, parts).ok();
+    assert!(rt; book.is_some());
+    let Some(mut book) = book else {
+        return Ok(());
+    };
+    judge_rows(
+        &rt,
+        alloc,
+        &mut book,
+        "\
+9 | version
+2 t heading volume live 4, 1 t body - live 2, 3 t body - struck 1,  | list
+aabc | print 2
+⠁⠁⠃⠉ | cells 2
+⠁⠃ | cells 1
+⠃ | cells 3
+1 Ann 0 0 a, 2  1 3 b, 3 undo 2,  | history 2
+ | history 1
+1 0 4 open kept look,  | marks 2
+2 0 0 resolved touched ,  | marks 1
+ | marks 3
+ok 10 4 | undo 2
+abc | print 2
+1 0 3 open touched look,  | marks 2
+ok 11 3 | mark 1 0 1 x
+ok 12 4 | type end t c",
+    )
+}
+
+#[test]
+fn damage_is_told_in_each_form(rt: HostRuntime) -> Result<(), Fail> {
+    judge_cases(
+        &rt,
+        rt.alloc(),
+        &FORMS,
+        "\
+1 1 | -version;version -1
+1 1 | -version;version 9007199254740993
+1 1 | -version;version 9223372036854775807
+1 1 | -version;version -9223372036854775808
+ok | -version;version 9007199254740992
+ok | -version;version 0
+2 1 | -tab t;tab t include␣x
+2 2 | tab u include␣x
+2 1 | tab T SMALL
+2 2 | tab ü SMALL
+2 1 | tab _ SMALL
+2 2 | tab t SMALL
+2 2 | tab t letter␣a␣1¶
+2 2 | tab {u×33} SMALL
+ok | tab {u×32} SMALL
+2 17 | tab u0 SMALL;tab u1 SMALL;tab u2 SMALL;tab u3 SMALL;tab u4 SMALL;tab u5 SMALL;tab u6 SMALL;tab u7 SMALL;tab u8 SMALL;tab u9 SMALL;tab u10 SMALL;tab u11 SMALL;tab u12 SMALL;tab u13 SMALL;tab u14 SMALL;tab u15 SMALL
+ok | tab u0 SMALL;tab u1 SMALL;tab u2 SMALL;tab u3 SMALL;tab u4 SMALL;tab u5 SMALL;tab u6 SMALL;tab u7 SMALL;tab u8 SMALL;tab u9 SMALL;tab u10 SMALL;tab u11 SMALL;tab u12 SMALL;tab u13 SMALL;tab u14 SMALL
+3 0 | -para 1;para 0 2 t ab ab 0 0 0
+3 -1 | -para 1;para -1 2 t ab ab 0 0 0
+3 -9223372036854775808 | -para 1;para -9223372036854775808 2 t ab ab 0 0 0
+3 2 | -para 1;para 4 2 t ab ab 0 0 0
+3 2 | -para 1;para 9223372036854775807 2 t ab ab 0 0 0
+3 2 | -para 1
+3 3 | -para 2
+3 4 | para 4 5 t a a 0 0 0
+3 5 | para 5 4 t a a 0 0 0
+3 2 | para 2 4 t a a 0 0 0
+3 1 | para 1 4 t a a 0 0 0
+3 1 | -para 1;para 1 0 t ab ab 0 0 0
+3 1 | -para 1;para 1 -1 t ab ab 0 0 0
+3 1 | -para 1;para 1 4 t ab ab 0 0 0
+3 1 | -para 1;para 1 9223372036854775807 t ab ab 0 0 0
+3 1 | -para 1;para 1 -9223372036854775808 t ab ab 0 0 0
+3 2 | -para 1;para 1 1 t ab ab 0 0 0
+3 3 | -para 1;para 1 3 t ab ab 0 0 0
+3 3 | -para 2;para 2 3 t abc aabc 1 1 0
+3 1 | -para 1;para 1 2 u ab ab 0 0 0
+3 1 | -para 1;para 1 2 _ ab ab 0 0 0
+3 1 | -para 1;para 1 2 T ab ab 0 0 0
+3 1 | -tab t
+3 1 | -para 1;para 1 2 t {a×4001} ab 0 0 0
+3 1 | -para 1;para 1 2 t ab {a×4001} 0 0 0
+3 1 | -para 1;para 1 2 t a¶b ab 0 0 0
+3 1 | -para 1;para 1 2 t a§b ab 0 0 0
+3 1 | -para 1;para 1 2 t a¤b ab 0 0 0
+3 1 | -para 1;para 1 2 t ab a¶b 0 0 0
+3 1 | -para 1;para 1 2 t ab a§b 0 0 0
+3 1 | -para 1;para 1 2 t ab a¤b 0 0 0
+3 1 | -para 1;para 1 2 t ab a~ 0 0 0
+3 3 | -para 3;para 3 3 t b~ b~ 0 0 1
+3 1 | -para 1;para 1 2 t ab ab 2 0 0
+3 1 | -para 1;para 1 2 t ab ab -1 0 0
+3 1 | -para 1;para 1 2 t ab ab 9223372036854775807 0 0
+3 1 | -para 1;para 1 2 t ab ab -9223372036854775808 0 0
+3 1 | -para 1;para 1 2 t ab ab 0 2 0
+3 1 | -para 1;para 1 2 t ab ab 0 -1 0
+3 1 | -para 1;para 1 2 t ab ab 0 9223372036854775807 0
+3 1 | -para 1;para 1 2 t ab ab 0 -9223372036854775808 0
+3 1 | -para 1;para 1 2 t ab ab 0 0 2
+3 1 | -para 1;para 1 2 t ab ab 0 0 -1
+3 1 | -para 1;para 1 2 t ab ab 0 0 9223372036854775807
+3 1 | -para 1;para 1 2 t ab ab 0 0 -9223372036854775808
+ok | -cache 1;cache 1 1,3;-para 1;para 1 2 t ab ab 1 1 1
+4 1 | -para 1;para 1 2 t a~ ab 0 0 0
+4 1 | -para 1;para 1 2 t ab ac 0 0 0
+4 0 | entry 0 1 0 0 0 a _
+4 -1 | entry -1 1 0 0 0 a _
+4 4 | entry 4 1 0 0 0 a _
+4 -9223372036854775808 | entry -9223372036854775808 1 0 0 0 a _
+4 9223372036854775807 | entry 9223372036854775807 1 0 0 0 a _
+4 2 | -entry 2 1;entry 2 0 0 0 0 a Ann
+4 2 | -entry 2 1;entry 2 2 0 0 0 a Ann
+4 2 | -entry 2 1;entry 2 -1 0 0 0 a Ann
+4 2 | -entry 2 1;entry 2 4 0 0 0 a Ann
+4 2 | -entry 2 1;entry 2 9223372036854775807 0 0 0 a Ann
+4 2 | -entry 2 1;entry 2 -9223372036854775808 0 0 0 a Ann
+4 2 | -entry 2 1
+4 2 | -entry 2 2
+4 2 | -entry 2 3
+4 2 | -entry 2 3;entry 2 4 1 2 0 _ _
+4 2 | -entry 2 3;entry 2 2 1 2 0 _ _
+4 2 | -entry 2 1;-entry 2 2;-entry 2 3
+4 2 | -entry 2 1;entry 2 1 2 0 0 a Ann
+4 2 | -entry 2 3;entry 2 3 2 2 0 _ _
+4 2 | -entry 2 1;entry 2 1 -1 0 0 a Ann
+4 2 | -entry 2 3;entry 2 3 -1 2 0 _ _
+4 2 | -entry 2 1;entry 2 1 9223372036854775807 0 0 a Ann
+4 2 | -entry 2 3;entry 2 3 9223372036854775807 2 0 _ _
+4 2 | -entry 2 1;entry 2 1 -9223372036854775808 0 0 a Ann
+4 2 | -entry 2 3;entry 2 3 -9223372036854775808 2 0 _ _
+4 2 | -entry 2 1;entry 2 1 0 -1 0 a Ann
+4 2 | -entry 2 1;entry 2 1 0 0 -1 a Ann
+4 2 | -entry 2 1;entry 2 1 0 4 0 a Ann
+4 2 | -entry 2 1;entry 2 1 0 3 1 a Ann
+4 2 | -entry 2 1;entry 2 1 0 0 4 a Ann
+4 2 | -entry 2 1;entry 2 1 0 9223372036854775807 1 a Ann
+4 2 | -entry 2 1;entry 2 1 0 1 9223372036854775807 a Ann
+4 2 | -entry 2 1;entry 2 1 0 9223372036854775807 9223372036854775807 a Ann
+4 2 | -entry 2 1;entry 2 1 0 -9223372036854775808 0 a Ann
+4 2 | -entry 2 1;entry 2 1 0 0 -9223372036854775808 a Ann
+4 2 | -entry 2 1;entry 2 1 0 -1 1 a Ann
+4 2 | -entry 2 2;entry 2 2 0 1 3 a¶ _
+4 2 | -entry 2 2;entry 2 2 0 1 3 a§ _
+4 2 | -entry 2 2;entry 2 2 0 1 3 a¤ _
+4 2 | -entry 2 2;entry 2 2 0 1 3 {b×4000} _
+ok | -entry 2 2;entry 2 2 0 1 3 {b×3999} _
+ok | -entry 2 2;entry 2 2 0 1 3 ~ _
+4 2 | -entry 2 3;entry 2 3 1 1 0 _ _
+4 2 | -entry 2 3;entry 2 3 1 0 0 _ _
+4 2 | -entry 2 3;entry 2 3 1 3 0 _ _
+4 2 | -entry 2 3;entry 2 3 1 -2 0 _ _
+4 2 | -entry 2 3;entry 2 3 1 9223372036854775807 0 _ _
+4 2 | -entry 2 3;entry 2 3 1 -9223372036854775808 0 _ _
+4 2 | -entry 2 3;entry 2 3 1 2 1 _ _
+4 2 | -entry 2 3;entry 2 3 1 2 -1 _ _
+4 2 | -entry 2 3;entry 2 3 1 2 0 a _
+4 2 | entry 2 4 1 2 0 _ _
+4 2 | entry 2 4 1 1 0 _ _
+ok | entry 2 4 1 1 0 _ _;-para 2;para 2 1 t abc abc 1 1 0;-mark 1;mark 1 2 0 3 look 0 0;-cache 2;cache 2 1,3,9
+4 2 | entry 2 4 1 1 0 _ _;entry 2 5 1 1 0 _ _;-para 2;para 2 1 t abc abc 1 1 0
+4 1 | entry 1 1 1 0 0 _ _
+4 1 | entry 1 1 1 1 0 _ _
+4 3 | entry 3 1 0 0 1 a _
+4 3 | entry 3 1 0 0 1 b _;entry 3 3 0 0 1 b _
+ok | entry 3 1 0 0 1 b _
+5 0 | -mark 1;mark 0 2 0 4 look 0 0
+5 -1 | -mark 1;mark -1 2 0 4 look 0 0
+5 2 | -mark 1
+5 4 | mark 4 2 0 4 look 0 0
+5 2 | -mark 1;mark 9223372036854775807 2 0 4 look 0 0
+5 -9223372036854775808 | -mark 1;mark -9223372036854775808 2 0 4 look 0 0
+5 2 | mark 2 1 0 0 _ 0 0
+5 1 | mark 1 1 0 0 _ 0 0
+5 1 | -mark 1;mark 1 0 0 4 look 0 0
+5 1 | -mark 1;mark 1 4 0 4 look 0 0
+5 1 | -mark 1;mark 1 -2 0 4 look 0 0
+5 1 | -mark 1;mark 1 9223372036854775807 0 4 look 0 0
+5 1 | -mark 1;mark 1 -9223372036854775808 0 4 look 0 0
+5 1 | -mark 1;mark 1 2 -1 4 look 0 0
+5 1 | -mark 1;mark 1 2 0 5 look 0 0
+5 1 | -mark 1;mark 1 2 3 2 look 0 0
+5 1 | -mark 1;mark 1 2 5 5 look 0 0
+5 1 | -mark 1;mark 1 2 -9223372036854775808 0 look 0 0
+5 1 | -mark 1;mark 1 2 0 9223372036854775807 look 0 0
+5 1 | -mark 1;mark 1 2 9223372036854775807 9223372036854775807 look 0 0
+5 1 | -mark 1;mark 1 2 0 -9223372036854775808 look 0 0
+5 1 | -mark 1;mark 1 2 0 -1 look 0 0
+ok | -mark 1;mark 1 2 4 4 look 0 0
+ok | -mark 1;mark 1 2 0 0 look 1 1
+5 1 | -mark 1;mark 1 2 0 4 {x×501} 0 0
+ok | -mark 1;mark 1 2 0 4 {x×500} 0 0
+5 1 | -mark 1;mark 1 2 0 4 a¶ 0 0
+5 1 | -mark 1;mark 1 2 0 4 a§ 0 0
+5 1 | -mark 1;mark 1 2 0 4 a¤ 0 0
+5 1 | -mark 1;mark 1 2 0 4 look 2 0
+5 1 | -mark 1;mark 1 2 0 4 look 0 2
+5 1 | -mark 1;mark 1 2 0 4 look -1 0
+5 1 | -mark 1;mark 1 2 0 4 look 0 -1
+5 1 | -mark 1;mark 1 2 0 4 look 9223372036854775807 0
+5 1 | -mark 1;mark 1 2 0 4 look 0 9223372036854775807
+5 1 | -mark 1;mark 1 2 0 4 look -9223372036854775808 0
+5 1 | -mark 1;mark 1 2 0 4 look 0 -9223372036854775808",
+    )
+}
+
+#[test]
+fn names_and_cells_are_judged_where_they_are(rt: HostRuntime) -> Result<(), Fail> {
+    judge_cases(
+        &rt,
+        rt.alloc(),
+        &NAMED,
+        "\
+4 2 | -entry 2 1;entry 2 1 0 0 0 a A␣B
+4 2 | -entry 2 1;entry 2 1 0 0 0 a A¶B
+4 2 | -entry 2 1;entry 2 1 0 0 0 a A§B
+4 2 | -entry 2 1;entry 2 1 0 0 0 a A¤B
+4 2 | -entry 2 1;entry 2 1 0 0 0 a {A×41}
+ok | -entry 2 1;entry 2 1 0 0 0 a {A×40}
+4 2 | -entry 2 3;entry 2 3 1 2 0 _ Ann",
+    )?;
+    judge_cases(
+        &rt,
+        rt.alloc(),
+        &WITH_CELLS,
+        "\
+6 1 | -cache 1
+6 3 | -cache 3
+6 1 | -cache 1;-cache 2
+6 0 | cache 0 _
+6 -1 | cache -1 1
+6 4 | cache 4 1
+6 9223372036854775807 | cache 9223372036854775807 1
+6 -9223372036854775808 | cache -9223372036854775808 1
+6 1 | cache 1 1,3
+6 2 | cache 2 _
+6 1 | -cache 1;cache 1 _
+6 1 | -cache 1;cache 1 1
+6 1 | -cache 1;cache 1 1,3,0
+6 1 | -cache 1;cache 1 3,3
+6 1 | -cache 1;cache 1 1,67
+6 2 | -cache 2;cache 2 1,1,3
+6 2 | -cache 2;cache 2 1,1,3,9,9
+6 1 | -cache 1;cache 4 1,3",
+    )
+}
+
+#[test]
+fn the_first_of_two_damages_is_told(rt: HostRuntime) -> Result<(), Fail> {
+    judge_cases(
+        &rt,
+        rt.alloc(),
+        &WITH_CELLS,
+        "\
+1 1 | tab u include␣x;-version;version -1
+1 1 | -para 1;para 1 2 t ab ab 2 0 0;-version;version -1
+1 1 | -para 3;para 3 3 t b~ b~ 0 0 1;-version;version -1
+1 1 | entry 1 1 1 1 0 _ _;-version;version -1
+1 1 | -entry 2 3;entry 2 3 1 1 0 _ _;-version;version -1
+1 1 | -mark 1;mark 1 2 0 5 look 0 0;-version;version -1
+1 1 | -mark 2;mark 2 9 0 0 _ 1 1;-version;version -1
+1 1 | -cache 1;cache 1 1;-version;version -1
+1 1 | -cache 3;-version;version -1
+2 2 | -para 1;para 1 2 t ab ab 2 0 0;tab u include␣x
+2 2 | -para 3;para 3 3 t b~ b~ 0 0 1;tab u include␣x
+2 2 | entry 1 1 1 1 0 _ _;tab u include␣x
+2 2 | -entry 2 3;entry 2 3 1 1 0 _ _;tab u include␣x
+2 2 | -mark 1;mark 1 2 0 5 look 0 0;tab u include␣x
+2 2 | -mark 2;mark 2 9 0 0 _ 1 1;tab u include␣x
+2 2 | -cache 1;cache 1 1;tab u include␣x
+2 2 | -cache 3;tab u include␣x
+3 1 | -para 3;para 3 3 t b~ b~ 0 0 1;-para 1;para 1 2 t ab ab 2 0 0
+3 1 | entry 1 1 1 1 0 _ _;-para 1;para 1 2 t ab ab 2 0 0
+3 1 | -entry 2 3;entry 2 3 1 1 0 _ _;-para 1;para 1 2 t ab ab 2 0 0
+3 1 | -mark 1;mark 1 2 0 5 look 0 0;-para 1;para 1 2 t ab ab 2 0 0
+3 1 | -mark 2;mark 2 9 0 0 _ 1 1;-para 1;para 1 2 t ab ab 2 0 0
+3 1 | -cache 1;cache 1 1;-para 1;para 1 2 t ab ab 2 0 0
+3 1 | -cache 3;-para 1;para 1 2 t ab ab 2 0 0
+3 3 | entry 1 1 1 1 0 _ _;-para 3;para 3 3 t b~ b~ 0 0 1
+3 3 | -entry 2 3;entry 2 3 1 1 0 _ _;-para 3;para 3 3 t b~ b~ 0 0 1
+3 3 | -mark 1;mark 1 2 0 5 look 0 0;-para 3;para 3 3 t b~ b~ 0 0 1
+3 3 | -mark 2;mark 2 9 0 0 _ 1 1;-para 3;para 3 3 t b~ b~ 0 0 1
+3 3 | -cache 1;cache 1 1;-para 3;para 3 3 t b~ b~ 0 0 1
+3 3 | -cache 3;-para 3;para 3 3 t b~ b~ 0 0 1
+4 1 | -entry 2 3;entry 2 3 1 1 0 _ _;entry 1 1 1 1 0 _ _
+4 1 | -mark 1;mark 1 2 0 5 look 0 0;entry 1 1 1 1 0 _ _
+4 1 | -mark 2;mark 2 9 0 0 _ 1 1;entry 1 1 1 1 0 _ _
+4 1 | -cache 1;cache 1 1;entry 1 1 1 1 0 _ _
+4 1 | -cache 3;entry 1 1 1 1 0 _ _
+4 2 | -mark 1;mark 1 2 0 5 look 0 0;-entry 2 3;entry 2 3 1 1 0 _ _
+4 2 | -mark 2;mark 2 9 0 0 _ 1 1;-entry 2 3;entry 2 3 1 1 0 _ _
+4 2 | -cache 1;cache 1 1;-entry 2 3;entry 2 3 1 1 0 _ _
+4 2 | -cache 3;-entry 2 3;entry 2 3 1 1 0 _ _
+5 1 | -mark 2;mark 2 9 0 0 _ 1 1;-mark 1;mark 1 2 0 5 look 0 0
+5 1 | -cache 1;cache 1 1;-mark 1;mark 1 2 0 5 look 0 0
+5 1 | -cache 3;-mark 1;mark 1 2 0 5 look 0 0
+5 2 | -cache 1;cache 1 1;-mark 2;mark 2 9 0 0 _ 1 1
+5 2 | -cache 3;-mark 2;mark 2 9 0 0 _ 1 1
+6 1 | -cache 3;-cache 1;cache 1 1",
+    )
+}
+
+impl Rows {
+    /// Adds paragraphs with these ids in reverse order, and their braille.
+    fn add_paras(&mut self, alloc: Global, first: i64, last: i64) -> Result<(), Fail> {
+        for id in first..=last {
+            self.paras.push(ParaRow {
+                id,
+                place: first.saturating_add(last).saturating_sub(id),
+                tab: String::from_str(alloc, "t")?,
+                original: String::from_str(alloc, "a")?,
+                print: String::from_str(alloc, "a")?,
+                style: 0,
+                volume: 0,
+                struck: 0,
+            })?;
+            self.caches.push(CacheRow {
+                para: id,
+                cells: vec![in alloc; 1u8]?,
+            })?;
+        }
+        Ok(())
+    }
+
+    /// Adds corrections of the third paragraph that change nothing, with these numbers.
+    fn add_entries(&mut self, alloc: Global, first: i64, last: i64) -> Result<(), Fail> {
+        for seq in first..=last {
+            self.entries.push(NamedCorrRow {
+                entry: CorrRow {
+                    para: 3,
+                    seq,
+                    kind: 0,
+                    start: 0,
+                    len: 0,
+                    body: String::new(alloc),
+                },
+                who: String::new(alloc),
+            })?;
+        }
+        Ok(())
+    }
+
+    /// Adds marks of the second paragraph with these ids.
+    fn add_marks(&mut self, alloc: Global, first: i64, last: i64) -> Result<(), Fail> {
+        for id in first..=last {
+            self.marks.push(MarkRow {
+                id,
+                para: 2,
+                start: 0,
+                stop: 1,
+                note: String::new(alloc),
+                touched: 0,
+                resolved: 0,
+            })?;
+        }
+        Ok(())
+    }
+}
+
+/// Compares what is told of rows in the second format with their braille.
+fn judge_told(rt: &impl Abort, alloc: Global, rows: Rows, wanted: &str) -> Result<(), Fail> {
+    let parts = rows.parts(alloc, Form::SecondWithCells)?;
+    judge(rt, wanted, told(alloc, parts)?.as_str(), wanted);
+    Ok(())
+}
+
+#[test]
+fn a_file_has_20000_paragraphs(rt: HostRuntime) -> Result<(), Fail> {
+    let mut rows = rows_with(rt.alloc(), "")?;
+    rows.add_paras(rt.alloc(), 4, 20_000)?;
+    judge_told(&rt, rt.alloc(), rows, "ok")?;
+    let mut rows = rows_with(rt.alloc(), "")?;
+    rows.add_paras(rt.alloc(), 4, 20_001)?;
+    judge_told(&rt, rt.alloc(), rows, "3 20001")
+}
+
+#[test]
+fn a_history_in_a_file_has_10000_entries(rt: HostRuntime) -> Result<(), Fail> {
+    let mut rows = rows_with(rt.alloc(), "")?;
+    rows.add_entries(rt.alloc(), 1, 10_000)?;
+    judge_told(&rt, rt.alloc(), rows, "ok")?;
+    let mut rows = rows_with(rt.alloc(), "")?;
+    rows.add_entries(rt.alloc(), 1, 10_001)?;
+    judge_told(&rt, rt.alloc(), rows, "4 3")
+}
+
+#[test]
+fn a_file_has_100000_marks(rt: HostRuntime) -> Result<(), Fail> {
+    let mut rows = rows_with(rt.alloc(), "")?;
+    rows.add_marks(rt.alloc(), 3, 100_000)?;
+    judge_told(&rt, rt.alloc(), rows, "ok")?;
+    let mut rows = rows_with(rt.alloc(), "")?;
+    rows.add_marks(rt.alloc(), 3, 100_001)?;
+    judge_told(&rt, rt.alloc(), rows, "5 100001")
+}
