@@ -69,6 +69,7 @@ bench: $(PROGRAM)
 	bench/requests.sh
 	bench/pages.sh
 	bench/rows.sh
+	bench/rebuild.sh
 
 install: $(PROGRAM)
 	install -d '$(DESTDIR)$(PREFIX)/bin' '$(DESTDIR)$(PREFIX)/share/man/man1'
