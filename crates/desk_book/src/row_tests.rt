@@ -8,6 +8,7 @@ use super::Book;
 use super::parts::{EntryRows, FileTable, Parts, PartsFault};
 use super::rows::{CacheRow, CorrRow, MarkRow, NamedCorrRow, ParaRow, StoredTab, TabRow};
 use super::tests::{judge, judge_rows, text_of};
+use louis_table::EN;
 use std::alloc::Global;
 use std::process::Abort;
 use std::test::Fail;
@@ -30,6 +31,27 @@ para 2 1 t abc aabc 1 1 0
 entry 2 2 0 1 3 b _
 cache 2 1,1,3,9
 mark 1 2 0 4 look 0 0";
+
+/// The rows of a book with one paragraph, of which a correction was taken back.
+const TAKEN_BACK: &str = "\
+version 4
+tab en EN
+para 1 1 en The␣cat The␣cat 0 0 0
+entry 1 1 0 4 3 dog _
+entry 1 2 1 1 0 _ _
+cache 1 32,30,19,17,0,9,1,30";
+
+/// The rows of a book with one paragraph, whose mark moved with its corrections.
+const MARKED: &str = "\
+version 8
+tab en EN
+para 1 1 en The␣cat The␣xcats 0 0 0
+entry 1 1 0 7 0 s _
+entry 1 2 0 4 0 x _
+entry 1 3 0 0 9 _ _
+entry 1 4 1 3 0 _ _
+mark 1 1 0 0 cat? 1 1
+cache 1 32,30,19,17,0,45,9,1,30,14";
 
 /// What the file of a book has.
 #[derive(Clone, Copy)]
@@ -83,6 +105,7 @@ fn number(line: &str, at: usize) -> i64 {
 fn text(alloc: Global, line: &str, at: usize) -> Result<String, Fail> {
     let written = match word(line, at) {
         "_" => "",
+        "EN" => EN,
         "SMALL" => SMALL,
         other => other,
     };
@@ -228,8 +251,13 @@ fn is_taken_out(line: &str, changes: &str) -> bool {
     false
 }
 
-/// The rows of the book with these changes.
+/// The rows of the first book with these changes.
 fn rows_with(alloc: Global, changes: &str) -> Result<Rows, Fail> {
+    changed(alloc, ROWS, changes)
+}
+
+/// Rows with these changes.
+fn changed(alloc: Global, lines: &str, changes: &str) -> Result<Rows, Fail> {
     let mut rows = Rows {
         version: 0,
         tabs: Vec::new(alloc),
@@ -238,7 +266,7 @@ fn rows_with(alloc: Global, changes: &str) -> Result<Rows, Fail> {
         marks: Vec::new(alloc),
         caches: Vec::new(alloc),
     };
-    for line in ROWS.split('\n') {
+    for line in lines.split('\n') {
         if !is_taken_out(line, changes) {
             rows.add(alloc, line)?;
         }
@@ -265,12 +293,18 @@ fn told(alloc: Global, parts: Parts) -> Result<String, Fail> {
     Ok(told)
 }
 
-/// Compares what is told of the cases in these forms.
-fn judge_cases(rt: &impl Abort, alloc: Global, forms: &[Form], cases: &str) -> Result<(), Fail> {
+/// Compares what is told of the cases of a book in these forms.
+fn judge_cases(
+    rt: &impl Abort,
+    alloc: Global,
+    book: &str,
+    forms: &[Form],
+    cases: &str,
+) -> Result<(), Fail> {
     for case in cases.split('\n') {
         let (wanted, changes) = case.split_once(" | ").unwrap_or((case, ""));
         for form in forms {
-            let parts = rows_with(alloc, changes)?.parts(alloc, *form)?;
+            let parts = changed(alloc, book, changes)?.parts(alloc, *form)?;
             judge(rt, case, told(alloc, parts)?.as_str(), wanted);
         }
     }
@@ -315,6 +349,7 @@ fn damage_is_told_in_each_form(rt: HostRuntime) -> Result<(), Fail> {
     judge_cases(
         &rt,
         rt.alloc(),
+        ROWS,
         &FORMS,
         "\
 1 1 | -version;version -1
@@ -487,6 +522,7 @@ fn names_and_cells_are_judged_where_they_are(rt: HostRuntime) -> Result<(), Fail
     judge_cases(
         &rt,
         rt.alloc(),
+        ROWS,
         &NAMED,
         "\
 4 2 | -entry 2 1;entry 2 1 0 0 0 a A␣B
@@ -500,6 +536,7 @@ ok | -entry 2 1;entry 2 1 0 0 0 a {A×40}
     judge_cases(
         &rt,
         rt.alloc(),
+        ROWS,
         &WITH_CELLS,
         "\
 6 1 | -cache 1
@@ -528,6 +565,7 @@ fn the_first_of_two_damages_is_told(rt: HostRuntime) -> Result<(), Fail> {
     judge_cases(
         &rt,
         rt.alloc(),
+        ROWS,
         &WITH_CELLS,
         "\
 1 1 | tab u include␣x;-version;version -1
@@ -600,12 +638,12 @@ impl Rows {
         Ok(())
     }
 
-    /// Adds corrections of the third paragraph that change nothing, with these numbers.
-    fn add_entries(&mut self, alloc: Global, first: i64, last: i64) -> Result<(), Fail> {
+    /// Adds corrections of a paragraph that change nothing, with these numbers.
+    fn add_entries(&mut self, alloc: Global, para: i64, first: i64, last: i64) -> Result<(), Fail> {
         for seq in first..=last {
             self.entries.push(NamedCorrRow {
                 entry: CorrRow {
-                    para: 3,
+                    para,
                     seq,
                     kind: 0,
                     start: 0,
@@ -655,11 +693,25 @@ fn a_file_has_20000_paragraphs(rt: HostRuntime) -> Result<(), Fail> {
 #[test]
 fn a_history_in_a_file_has_10000_entries(rt: HostRuntime) -> Result<(), Fail> {
     let mut rows = rows_with(rt.alloc(), "")?;
-    rows.add_entries(rt.alloc(), 1, 10_000)?;
+    rows.add_entries(rt.alloc(), 3, 1, 10_000)?;
     judge_told(&rt, rt.alloc(), rows, "ok")?;
     let mut rows = rows_with(rt.alloc(), "")?;
-    rows.add_entries(rt.alloc(), 1, 10_001)?;
+    rows.add_entries(rt.alloc(), 3, 1, 10_001)?;
     judge_told(&rt, rt.alloc(), rows, "4 3")
+}
+
+#[test]
+fn a_print_at_its_limit_has_10000_entries(rt: HostRuntime) -> Result<(), Fail> {
+    let mut rows = rows_with(rt.alloc(), "para 4 4 t {a×4000} {a×4000} 0 0 0")?;
+    rows.add_entries(rt.alloc(), 4, 1, 10_000)?;
+    let parts = rows.parts(rt.alloc(), Form::Second)?;
+    judge(
+        &rt,
+        "10,000 entries",
+        told(rt.alloc(), parts)?.as_str(),
+        "ok",
+    );
+    Ok(())
 }
 
 #[test]
@@ -670,4 +722,60 @@ fn a_file_has_100000_marks(rt: HostRuntime) -> Result<(), Fail> {
     let mut rows = rows_with(rt.alloc(), "")?;
     rows.add_marks(rt.alloc(), 3, 100_001)?;
     judge_told(&rt, rt.alloc(), rows, "5 100001")
+}
+
+#[test]
+fn damage_is_told_of_a_book_with_one_paragraph(rt: HostRuntime) -> Result<(), Fail> {
+    judge_cases(
+        &rt,
+        rt.alloc(),
+        TAKEN_BACK,
+        &WITH_CELLS,
+        "\
+ok
+1 1 | -version;version -1
+2 1 | -tab;tab en include␣x
+3 1 | -tab
+3 1 | -para;para 1 2 en The␣cat The␣cat 0 0 0
+3 1 | -para;para 1 1 en The␣cat The␣cat~ 0 0 0
+4 1 | -para;para 1 1 en The␣cat The␣cat. 0 0 0
+4 1 | -entry 1 1;entry 1 1 0 8 3 dog _
+4 1 | -entry 1 2;entry 1 3 1 1 0 _ _
+4 1 | -entry 1 2;entry 1 2 1 2 0 _ _
+5 1 | mark 1 1 0 8 _ 0 0
+5 2 | mark 2 1 0 0 _ 0 0
+6 1 | -cache
+6 1 | -cache;cache 1 32,30,19,17,0,9,1
+2 1 | -tab;-cache;tab en include␣x",
+    )?;
+    judge_cases(
+        &rt,
+        rt.alloc(),
+        TAKEN_BACK,
+        &NAMED,
+        "4 1 | -entry 1 1;entry 1 1 0 4 3 dog A␣B",
+    )
+}
+
+#[test]
+fn rows_make_the_book_of_a_mark_that_moved(rt: HostRuntime) -> Result<(), Fail> {
+    let alloc = rt.alloc();
+    let parts = changed(alloc, MARKED, "")?.parts(alloc, Form::FirstWithCells)?;
+    let book = Book::rebuild(alloc, parts).ok();
+    assert!(rt; book.is_some());
+    let Some(mut book) = book else {
+        return Ok(());
+    };
+    judge_rows(
+        &rt,
+        alloc,
+        &mut book,
+        "\
+8 | version
+The xcats | print 1
+⠠⠞⠓⠑⠀⠭⠉⠁⠞⠎ | cells 1
+1  7 0 s, 2  4 0 x, 3  0 9 , 4 undo 3,  | history 1
+1 0 0 resolved touched cat?,  | marks 1
+ok 9 5 | correct-by Ann 1 4 3 dog",
+    )
 }
