@@ -13,7 +13,7 @@ use std::alloc::Global;
 use std::process::Abort;
 use std::test::Fail;
 
-/// Defines the space and the letters a, b, c and é, and the ß as no table of the book does.
+/// Defines the space and the letters a, b, c and é.
 const SMALL: &str = "space \\s 0\nletter a 1\nletter b 12\nletter c 14\nletter \\x00E9 123456\n";
 
 /// The rows of a book, in no order.
