@@ -1,7 +1,7 @@
 -- Rows of a new file show the empty book, and rows that show a book show it still once they are brought to the second
 -- format, or get the braille of its paragraphs.
 use Rattle.std.proofs.Common.{◌≡◌, ℕ, ◌<◌, pos, true, false, List, [], ◌∷◌, ◌++◌, map, length, get_or, Option, None, Some, append-nil, refl, sym, ap, ap₂, subst, ◌∙◌, arith}
-use Rattle.std.specs.List.{All, IsDistinct, flat_map}
+use Rattle.std.specs.List.{All, IsDistinct}
 use Rattle.std.specs.List.Sorted.{IsPermutation}
 use Rattle.std.specs.Option.{ForSome}
 use Rattle.std.specs.Cmp.{int_eq_equiv}
@@ -10,24 +10,25 @@ use Rattle.std.specs.Prelude.{IsNone, IsSome, nat_eq, not}
 use Rattle.std.proofs.lemmas.List.{get_or-map, length-map}
 use Rattle.std.proofs.lemmas.Simd.{map-map}
 use Rattle.std.proofs.lemmas.List.Elements.{All-append, All-cons, All-head, All-map, All-nil, All-tail, All-from_recursion}
-use Rattle.std.proofs.lemmas.List.Sorted.{All-permutation, IsPermutation-map, IsPermutation-middle, IsPermutation-refl, IsPermutation-sym, IsPermutation-trans}
+use Rattle.std.proofs.lemmas.List.Sorted.{IsPermutation-map, IsPermutation-middle, IsPermutation-refl, IsPermutation-sym, IsPermutation-trans}
 use Rattle.std.proofs.lemmas.Map.Keys.{IsDistinct-from_apart, IsDistinct-head, IsDistinct-IsPermutation, IsDistinct-tail, apart_from_distinct}
 use Rattle.desk_book.specs.declared.filling.NewTables.{NewTables}
 use Rattle.desk_book.specs.declared.filling.NewTables.TheVariants.{Braille, Entries, EntriesAndBraille}
 use Rattle.desk_book.specs.declared.parts.FileTable.TheVariants.{Corr as CorrTable, NamedCorr as NamedCorrTable}
 use Rattle.desk_book.specs.declared.rows.BookRow.{BookRow}
 use Rattle.desk_book.specs.Book.{Book, Paragraph, empty_book}
-use Rattle.desk_book.specs.FileRows.{EntryRows, FileRows, HasEntryTexts, HasMarkText, HasParaTexts, HasTabText, Named, entries_in, format_of, spelled_entry, table_of}
+use Rattle.desk_book.specs.FileRows.{EntryRows, FileRows, HasEntryTexts, HasMarkText, HasParaTexts, HasTabText, Named, entries_in, format_of, table_of}
 use Rattle.desk_book.specs.FilledRows.{AreEntriesOf, Fills, entry_puts, in_second_format, new_rows, second_format_puts, with_caches, with_empty, with_new_entries, with_new_tables}
 use Rattle.desk_book.specs.Puts.{HasItsTable, HasTheirTables, PutBook, PutCache, PutEntry, RowPuts, put_in, with_put, with_puts}
 use Rattle.desk_book.specs.Rows.{Cached, NamedCorr}
-use Rattle.desk_book.specs.Shows.{AreCached, IsCached, IsUnnamed, Shows, book_row_of, entry_rows_of}
+use Rattle.desk_book.specs.Shows.{AreCached, IsCached, IsUnnamed, Shows, book_row_of}
 use Rattle.desk_book.specs.Sound.{IsSound}
 use Rattle.desk_book.proofs.BookRows.{book_caches, some_rows, some_unnamed_rows}
 use Rattle.desk_book.proofs.PutRows.{filter-all}
 use Rattle.desk_book.proofs.ParagraphLists.{ids_of}
 use Rattle.desk_book.proofs.Planning.{same_some}
 use Rattle.desk_book.proofs.RowNumbers.{int_eq-pos}
+use Rattle.desk_book.proofs.SameRows.{AreCached-moved, AreEntriesOf-moved}
 use Rattle.desk_book.proofs.SoundBooks.{paragraphs-apart}
 use Rattle.desk_book.proofs.SoundSteps.{IsSound-empty}
 
@@ -82,13 +83,6 @@ module _ (rows : FileRows) (book : Book) (shown : Shows rows book) where
   entered : (entries : List NamedCorr) → AreEntriesOf book entries → Shows (record rows { books = book_row_of 2 book.version ∷ []; entries = Named entries }) book
   entered entries are = with-others (book_row_of 2 book.version ∷ []) (Named entries) rows.caches refl are shown.caches
 
-moved-entries : (book : Book) (entries all : List NamedCorr) → IsPermutation entries all → AreEntriesOf book entries → AreEntriesOf book all
-moved-entries book entries all same are = (
-  All-permutation HasEntryTexts entries all same are.0,
-  IsPermutation-trans (map spelled_entry all) (map spelled_entry entries) (flat_map entry_rows_of book.paragraphs)
-      (IsPermutation-map spelled_entry all entries (IsPermutation-sym entries all same)) are.1,
-)
-
 -- ---- entries put one by one
 
 put-entries : (rows : FileRows) (entries done : List NamedCorr)
@@ -119,7 +113,7 @@ module _ (rows : FileRows) (book : Book) (shown : Shows rows book) (entries : Li
   pub names-put : Shows (with_puts (PutBook (book_row_of 2 book.version) ∷ map PutEntry entries) (with_new_entries rows)) book
   names-put =
       let made = put-second rows (format_of rows.entries) book.version shown.row entries in
-      subst (λ (shows : FileRows). Shows shows book) (sym made.2) (entered rows book shown made.0 (moved-entries book entries made.0 made.1 are))
+      subst (λ (shows : FileRows). Shows shows book) (sym made.2) (entered rows book shown made.0 (AreEntriesOf-moved book entries made.0 made.1 are))
 
 -- ---- rows of braille put one by one
 
@@ -175,18 +169,11 @@ module _ (book : Book) (sound : IsSound book) (caches : List Cached) (are : AreC
       (IsPermutation-sym (map (λ c. c.para) caches) (map (λ (p : Paragraph). pos p.id) book.paragraphs) are.one_each)
       (subst (IsDistinct int_eq) (map-map pos (λ (p : Paragraph). p.id) book.paragraphs) (IsDistinct-pos (ids_of book.paragraphs) (paragraphs-apart book sound)))
 
-  moved-caches : (all : List Cached) → IsPermutation caches all → AreCached book all
-  moved-caches all same = record {
-    one_each = IsPermutation-trans (map (λ c. c.para) all) (map (λ c. c.para) caches) (map (λ (p : Paragraph). pos p.id) book.paragraphs)
-        (IsPermutation-map (λ (c : Cached). c.para) all caches (IsPermutation-sym caches all same)) are.one_each;
-    cells = All-permutation (IsCached book) caches all same are.cells;
-  }
-
   -- the rows with these put, one by one, where none was
   made_caches : (rows : FileRows) → (made : List Cached) × AreCached book made × (with_puts (map PutCache caches) (with_caches [] rows) ≡ with_caches made rows)
   made_caches rows =
       let made = put-caches rows caches [] (subst AreDistinct (sym (append-nil caches)) cached-apart) in
-      (made.0, moved-caches made.0 (subst (λ (some : List Cached). IsPermutation some made.0) (append-nil caches) made.1), made.2)
+      (made.0, AreCached-moved book caches made.0 (subst (λ (some : List Cached). IsPermutation some made.0) (append-nil caches) made.1) are, made.2)
 
 with_puts-append : (some more : RowPuts) (rows : FileRows) → with_puts (some ++ more) rows ≡ with_puts more (with_puts some rows)
 with_puts-append [] more rows = refl
@@ -207,7 +194,7 @@ module _ (rows : FileRows) (book : Book) (shown : Shows rows book) (caches : Lis
       let is : with_puts (entry_puts book entries ++ map PutCache caches) (with_new_tables rows) ≡ with_caches full.0 left =
       with_puts-append (entry_puts book entries) (map PutCache caches) (with_new_tables rows)
       ∙ (ap (with_puts (map PutCache caches)) named.2 ∙ full.2) in
-      let shows = entered rows book shown named.0 (moved-entries book entries named.0 named.1 of_book) in
+      let shows = entered rows book shown named.0 (AreEntriesOf-moved book entries named.0 named.1 of_book) in
       subst (λ (all : FileRows). Shows all book) (sym is) (cached-shown left book shows full.0 full.1)
 
   pub all-put : Shows (with_puts (second_format_puts book.version rows caches) (with_new_tables rows)) book

@@ -70,6 +70,8 @@ pub mod ReadTabs
 pub mod ReadRows
 pub mod Replacing
 pub mod RoomLists
+pub mod SameDamage
+pub mod SameRows
 pub mod Settled
 pub mod RowGroups
 pub mod RowNumbers

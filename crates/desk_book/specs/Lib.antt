@@ -28,6 +28,7 @@ pub mod Told
 pub mod ParagraphMarks
 pub mod FileRows
 pub mod Shows
+pub mod SameRows
 pub mod Damage
 pub mod Judged
 pub mod JudgedTabs

@@ -14,6 +14,7 @@ ghost use Rattle.desk_book.specs.Puts.{HasTheirTables, PutBook, PutCache, PutEnt
 ghost use Rattle.desk_book.specs.Refusals.{IsAccepted};
 ghost use Rattle.desk_book.specs.Restored.{RestoresPrint};
 ghost use Rattle.desk_book.specs.Rows.{Cached, NamedCorr};
+ghost use Rattle.desk_book.specs.SameRows.{AreSameRows};
 ghost use Rattle.desk_book.specs.Shows.{AreCached, IsUnnamed, Shows, book_row_of};
 ghost use Rattle.desk_book.specs.Sound.{IsSound};
 ghost use Rattle.desk_book.specs.Step.{HasCharacters, Makes};
@@ -115,4 +116,12 @@ pub fn undamaged_rows_show_a_book()
 pub fn one_first_damage()
     ensures { (rows : FileRows) (table other : FileTable) (id n : ℤ) → IsFirstDamage rows table id
         → IsFirstDamage rows other n → (table ≡ other) × (id ≡ n) }
+{}
+
+/// What rows show, and what is damaged in them, doesn't depend on their order.
+pub fn rows_in_any_order()
+    ensures shown { (a b : FileRows) (book : Book) → AreSameRows a b → Shows a book → Shows b book }
+    ensures damage { (a b : FileRows) (table : FileTable) (id : ℤ) → AreSameRows a b
+        → IsFirstDamage a table id → IsFirstDamage b table id }
+    ensures turned { (a b : FileRows) → AreSameRows a b → AreSameRows b a }
 {}

@@ -57,6 +57,7 @@ pub use book::Book;
 pub use change::Change;
 pub use command::{Anchor, Command};
 pub use filling::{Filling, NewTables};
+pub use limits::MOST_VERSION;
 pub use list::{List, Listed};
 pub use paragraph_marks::{MarkItem, ParagraphMarks};
 pub use puts::Puts;

@@ -1,7 +1,7 @@
 //! How much a book may hold.
 
 /// The greatest version: 2^53.
-pub(crate) const MOST_VERSION: u64 = 1 << 53;
+pub const MOST_VERSION: u64 = 1 << 53;
 
 /// Tables of a book.
 pub(crate) const MOST_TABLES: usize = 16;
