@@ -22,7 +22,7 @@ operand_of (Export file volume width lines) = codes "file"
 operand_of (Translate table) = codes "table"
 operand_of (Check file) = codes "file"
 
-letter_asked : (name : Text) (rows : List Row) (action : Action) → Asks name rows action → slice_index name 0 ≡ letter_of action
+pub letter_asked : (name : Text) (rows : List Row) (action : Action) → Asks name rows action → slice_index name 0 ≡ letter_of action
 letter_asked name rows (New file) h = ap (λ (t : Text). slice_index t 0) h.0
 letter_asked name rows (Session file) h = ap (λ (t : Text). slice_index t 0) h.0
 letter_asked name rows (Export file volume width lines) h = ap (λ (t : Text). slice_index t 0) h.0

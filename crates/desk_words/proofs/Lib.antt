@@ -1,2 +1,5 @@
 pub mod Asking
 pub mod PlainWords
+pub mod Walked
+pub mod OneWord
+pub mod Taken

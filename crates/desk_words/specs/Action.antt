@@ -1,5 +1,5 @@
 -- Which action the words name.
-use Rattle.std.specs.Prelude.{◌≡◌, ◌<◌, ◌^◌, ℕ, List, IsSomeAnd, Some, codes}
+use Rattle.std.specs.Prelude.{◌≡◌, ◌≤◌, ◌<◌, ◌^◌, ℕ, List, IsSomeAnd, Some, codes}
 use Rattle.std.specs.Str.Parse.{IsNumeral, digits_value, without_leading_plus}
 use Rattle.clap.specs.Words.{Row, Text, first_of, one_of, subcommand_rows_of}
 use Rattle.clap.specs.declared.parser.matches.ArgMatches.{ArgMatches}
@@ -34,3 +34,22 @@ Asks name rows (Check file) = (name ≡ codes "check") × Names rows (codes "fil
 -- the matches ask for the action
 abbrev pub IsAsked : ArgMatches → Action → Type 0
 IsAsked matches action = IsSomeAnd (subcommand_rows_of matches) (λ found. Asks found.0 found.1 action)
+
+-- ---- what an export may be asked for
+
+-- a volume of a book, and pages as wide and as long as a page may be
+pub record IsExportable (volume width lines : ℕ) : Type 0 where
+  pub volume_from : 1 ≤ volume
+  pub volume_to : volume ≤ 20000
+  pub width_from : 10 ≤ width
+  pub width_to : width ≤ 60
+  pub lines_from : 5 ≤ lines
+  pub lines_to : lines ≤ 40
+
+-- its numbers, where it has some, are within these limits
+abbrev pub IsWithinLimits : Action → Type 0
+IsWithinLimits (New file) = Unit {0}
+IsWithinLimits (Session file) = Unit {0}
+IsWithinLimits (Export file volume width lines) = IsExportable volume width lines
+IsWithinLimits (Translate table) = Unit {0}
+IsWithinLimits (Check file) = Unit {0}

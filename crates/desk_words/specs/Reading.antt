@@ -1,9 +1,10 @@
 -- What the words of the command line are read as.
-use Rattle.std.specs.Prelude.{◌≡◌, ◌≢◌, List, [], IsSomeAnd}
-use Rattle.clap.specs.Words.{App, IsAmong, Text, fault_of, subcommand_of}
+use Rattle.std.specs.Prelude.{◌≡◌, ◌≢◌, List, [], IsSomeAnd, Option}
+use Rattle.clap.specs.Words.{App, IsAmong, Text, fault_of, subcommand_of, subcommand_rows_of}
 use Rattle.clap.specs.declared.error.kind.ErrorKind.{ErrorKind}
 use Rattle.clap.specs.declared.error.kind.ErrorKind.TheVariants.{DisplayHelp, OutOfMemory}
-use Rattle.desk_words.specs.Action.{Asks}
+use Rattle.clap.specs.declared.parser.matches.ArgMatches.{ArgMatches}
+use Rattle.desk_words.specs.Action.{Asks, IsWithinLimits}
 use Rattle.desk_words.specs.declared.action.Action.{Action as ActionTerm}
 use Rattle.desk_words.specs.declared.reading.Reading.{Reading}
 use Rattle.desk_words.specs.declared.reading.Reading.TheVariants.{Asked, Help, NoMemory, Refused}
@@ -13,15 +14,32 @@ pub record NamesAction (app : App) (words : List Text) (action : ActionTerm) : T
   pub taken : fault_of app words ≡ []
   pub asked : IsSomeAnd (subcommand_of app words) (λ found. Asks found.0 found.1 action)
 
+-- and its numbers are within their limits
+abbrev pub NamesWithinLimits : App → List Text → ActionTerm → Type 0
+NamesWithinLimits app words action = NamesAction app words action × IsWithinLimits action
+
+abbrev pub NameAnAction : App → List Text → Type 0
+NameAnAction app words = (action : ActionTerm) × NamesWithinLimits app words action
+
+-- the matches are those that the command, which takes the words, has on them
+pub record AreMatchesOf (app : App) (words : List Text) (matches : ArgMatches) : Type 0 where
+  pub taken : fault_of app words ≡ []
+  pub subcommand : subcommand_rows_of matches ≡ subcommand_of app words
+
+-- of the matches of words, it is the action that these name
+abbrev pub IsNamedByWords : App → ArgMatches → Option ActionTerm → Type 0
+IsNamedByWords app matches result = (words : List Text) → AreMatchesOf app words matches
+    → IsSomeAnd result (NamesWithinLimits app words)
+
 -- the words ask for help
 pub record AskForHelp (app : App) (words : List Text) : Type 0 where
   pub help : IsAmong DisplayHelp (fault_of app words)
 
--- the command refuses the words for another cause than that they ask for help, or they name no action
-pub data AreRefused (app : App) (words : List Text) : Type 0 where
-  fails : (kind : ErrorKind) → kind ≢ DisplayHelp → IsAmong kind (fault_of app words)
-      → AreRefused app words
-  names_none : ((action : ActionTerm) → ¬ NamesAction app words action) → AreRefused app words
+-- the command refuses the words for another cause than that they ask for help
+pub record AreRefused (app : App) (words : List Text) : Type 0 where
+  pub kind : ErrorKind
+  pub other : kind ≢ DisplayHelp
+  pub among : IsAmong kind (fault_of app words)
 
 -- the words are read so
 abbrev pub IsReading : App → List Text → Reading → Type 0

@@ -1,9 +1,11 @@
 //! Laws of words.
 ghost use Rattle.desk_words.specs.Commands.{translating, whole};
 ghost use Rattle.desk_words.specs.Plain.{IsPlain, NamesWith};
+ghost use Rattle.desk_words.specs.Reading.{NameAnAction};
 ghost use Rattle.desk_words.specs.declared.action.Action.TheVariants.{Check, New, Session, Translate};
+ghost use Rattle.clap.specs.Words.{fault_of};
 ghost use Rattle.std.specs.Borrow.{Bor};
-ghost use Rattle.std.specs.Prelude.{List, codes, ℕ};
+ghost use Rattle.std.specs.Prelude.{List, [], codes, ◌≡◌, ℕ};
 
 /// An action's name and a word that doesn't begin with a hyphen ask for the action on that file, or
 /// by that table.
@@ -18,4 +20,12 @@ pub fn plain_words()
         → NamesWith whole (codes "check") Check word }
     ensures offered { (word : Bor (List ℕ)) → IsPlain word.now
         → NamesWith translating (codes "translate") Translate word }
+{}
+
+/// Words in which a command finds no fault name an action, with its numbers within their limits.
+pub fn taken_words()
+    ensures whole { (words : List (List ℕ)) → fault_of whole words ≡ []
+        → NameAnAction whole words }
+    ensures offered { (words : List (List ℕ)) → fault_of translating words ≡ []
+        → NameAnAction translating words }
 {}

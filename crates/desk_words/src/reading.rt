@@ -33,7 +33,7 @@ pub fn read_words<'a>(alloc: Global, words: &'a [&'a str]) -> Reading<'a>
     match command.try_get_matches_from(words) {
         Ok(matches) => match action_of(&matches) {
             Some(action) => Reading::Asked(action),
-            None => Reading::Refused(String::new(alloc)),
+            None => unreachable!("words that are taken name an action"),
         },
         Err(error) => reading_of(alloc, &error),
     }

@@ -4,7 +4,7 @@ use Rattle.clap.specs.Walk.{texts}
 use Rattle.clap.specs.declared.error.kind.ErrorKind.{ErrorKind}
 use Rattle.clap.specs.declared.error.kind.ErrorKind.TheVariants.{OutOfMemory}
 use Rattle.desk_words.specs.Commands.{translating}
-use Rattle.desk_words.specs.Reading.{IsError, IsReading, fails}
+use Rattle.desk_words.specs.Reading.{IsError, IsReading}
 use Rattle.desk_words.specs.declared.reading.Reading.{Reading}
 use Rattle.desk_words.specs.declared.reading.Reading.TheVariants.{Asked, Help, NoMemory, Refused}
 use Rattle.desk_words.proofs.reading.read_words.Goals as goal
@@ -16,14 +16,14 @@ among app words kind (inr h) other = h
 failed : (app : App) (words : List Text) (kind : ErrorKind) (reading : Reading) → (kind ≡ OutOfMemory) ⊎ IsAmong kind (fault_of app words) → IsError kind reading → IsReading app words reading
 failed app words kind (Asked action) h e = absurd e
 failed app words kind (Help text) h e = record { help = subst (λ (k : ErrorKind). IsAmong k (fault_of app words)) e (among app words kind h (λ memory. let bad = sym e ∙ memory in cc)) }
-failed app words kind (Refused text) h e = fails kind e.0 (among app words kind h e.1)
+failed app words kind (Refused text) h e = record { kind = kind; other = e.0; among = among app words kind h e.1 }
 failed app words kind NoMemory h e = tt
 
 simple : is_simple_and_free translating ≡ true
 simple = refl
 
-pub returns : goal.returns
-returns c =
+pub returns-in-Err : goal.returns-in-Err
+returns-in-Err c =
     let app = c.in-Ok.ensures in
     failed translating (texts c.args.words.now) _ c.reading_of.result
     (subst (λ (a : App). HasKind (fault_of a (texts c.args.words.now)) c.in-Err.error) app (c.in-Err.ensures.kinds (ap is_simple_and_free app ∙ simple))) c.reading_of.ensures
