@@ -1,7 +1,8 @@
 #!/bin/bash
 # Compares files with sqlite3: a file that make_tables and write made is shown by sqlite3 with the same rows and
 # declarations, and a file that sqlite3 made is read here with the same rows. Of a file with other things under the names of the tables
-# the same ones are there for both: tables and views, but no indexes and no triggers.
+# the same ones are there for both: tables and views, but no indexes and no triggers. Files of a book that sqlite3 made, in either
+# format, with the tables declared as in a new file and otherwise, show the same book here, and sqlite3 reads what opening made of them.
 #   tests/sqlite3.sh
 # The program tests/rows.rattle, which makes and shows the files, is built by `rt try` in a scratch folder, and is not proved.
 set -eu
@@ -73,6 +74,30 @@ there() { # FILE
     done
 }
 
+# files of one book: in the second format; in the first without its braille, both beside other tables; and the same two with the tables
+# declared otherwise, without STRICT and with a further column
+book="INSERT INTO tab VALUES ('t', CAST('letter a 17' || char(10) || 'letter b 27' AS BLOB));
+    INSERT INTO para (id, place, tab, original, print, style, volume, struck) VALUES
+        (1, 2, 't', 'ab', 'aab', 0, 0, 0), (2, 1, 't', 'ba', 'ba', 1, 1, 1);
+    INSERT INTO mark VALUES (1, 1, 0, 2, 'look', 1, 0);"
+named="INSERT INTO book VALUES (1, 2, 7);
+    INSERT INTO corr2 VALUES (1, 1, 0, 0, 1, 'aa', ''), (1, 2, 0, 3, 0, 'b', ''), (1, 3, 1, 2, 0, '', '');
+    INSERT INTO cache VALUES (1, CAST('AAB' AS BLOB)), (2, CAST('BA' AS BLOB));"
+unnamed="CREATE TABLE corr (para INTEGER NOT NULL, seq INTEGER NOT NULL, kind INTEGER NOT NULL, start INTEGER NOT NULL, len INTEGER NOT NULL, body TEXT NOT NULL, PRIMARY KEY (para, seq)) STRICT;
+    INSERT INTO book VALUES (1, 1, 7);
+    INSERT INTO corr VALUES (1, 1, 0, 0, 1, 'aa'), (1, 2, 0, 3, 0, 'b'), (1, 3, 1, 2, 0, '');
+    DROP TABLE cache; DROP TABLE corr2;"
+beside="CREATE TABLE note (id INTEGER PRIMARY KEY, para INTEGER REFERENCES para ON DELETE CASCADE, body TEXT);
+    CREATE INDEX note_by_para ON note (para);
+    CREATE VIEW heading AS SELECT id, print FROM para WHERE style = 1;
+    INSERT INTO note VALUES (1, 1, 'beside');"
+otherwise=$(sed -e 's/ STRICT;/;/' -e 's/struck INTEGER NOT NULL/struck INTEGER, further TEXT/' -e 's/ NOT NULL//' <<< "$declarations")
+sqlite3 -batch -bail -init /dev/null "$scratch/named.db" "$declarations $book $named $beside"
+sqlite3 -batch -bail -init /dev/null "$scratch/unnamed.db" "$declarations $book $unnamed $beside"
+sqlite3 -batch -bail -init /dev/null "$scratch/named-otherwise.db" "$otherwise $book $named"
+sqlite3 -batch -bail -init /dev/null "$scratch/unnamed-otherwise.db" "$otherwise $book ${unnamed/ STRICT/}"
+forms='named unnamed named-otherwise unnamed-otherwise'
+
 # all runs of the program, over one build
 mkdir -p "$scratch/crates/rows/src" "$scratch/cases"
 tar -c --exclude=out crates | tar -x -C "$scratch"
@@ -84,19 +109,27 @@ cp tests/rows.rattle "$scratch/crates/rows/src/main.rt"
 rows "$scratch/other.db" > "$scratch/cases/show.stdout"
 : > "$scratch/cases/tables"; printf 'tables\nnames.db\n' > "$scratch/cases/tables.args"
 there "$scratch/names.db" > "$scratch/cases/tables.stdout"
-(cd "$scratch/crates/rows" &&
-    "$rt" try --cases "$scratch/cases" --data other.db="$scratch/other.db" --data names.db="$scratch/names.db") > "$scratch/told" 2> "$scratch/errors" ||
+data=(--data "other.db=$scratch/other.db" --data "names.db=$scratch/names.db")
+for form in $forms; do
+    : > "$scratch/cases/$form"; printf 'open\n%s.db\n' "$form" > "$scratch/cases/$form.args"
+    data+=(--data "$form.db=$scratch/$form.db")
+done
+(cd "$scratch/crates/rows" && "$rt" try --cases "$scratch/cases" "${data[@]}") > "$scratch/told" 2> "$scratch/errors" ||
     { cat "$scratch/told" "$scratch/errors" >&2; fail 'the program rows failed, or shows other rows or tables of the files that sqlite3 made'; }
 echo 'ok  the rows of a file that sqlite3 made'
 [ "$(tr '\n' ' ' < "$scratch/cases/tables.stdout")" = 'book tab para ' ] || fail 'sqlite3 made other tables than it was told'
 echo 'ok  the tables that are there'
 
-# the file that the program made, from the hex digits that it printed
-sed -n 's/^file //p' "$scratch/told" > "$scratch/hex"
-[ -s "$scratch/hex" ] || { cat "$scratch/told" "$scratch/errors" >&2; fail 'the program rows made no file'; }
-{ echo "SELECT writefile('$scratch/made.db', X'"; tr -d '\n' < "$scratch/hex"; echo "');"; } | tr -d '\n' > "$scratch/write.sql"
-sqlite3 -batch -bail -init /dev/null :memory: < "$scratch/write.sql" > /dev/null
-sed -n '/^== make$/,/^file /p' "$scratch/told" | sed -e 1d -e '$d' > "$scratch/made.rows"
+# what the program printed in a run, and the file that it left then, from the hex digits that it printed
+taken() { # RUN FILE
+    sed -n "/^== $1\$/,/^file /p" "$scratch/told" > "$scratch/section"
+    sed -n 's/^file //p' "$scratch/section" > "$scratch/hex"
+    [ -s "$scratch/hex" ] || { cat "$scratch/told" "$scratch/errors" >&2; fail "the program rows left no file in the run $1"; }
+    { echo "SELECT writefile('$2', X'"; tr -d '\n' < "$scratch/hex"; echo "');"; } | tr -d '\n' > "$scratch/write.sql"
+    sqlite3 -batch -bail -init /dev/null :memory: < "$scratch/write.sql" > /dev/null
+    sed -e 1d -e '$d' "$scratch/section"
+}
+taken make "$scratch/made.db" > "$scratch/made.rows"
 for table in book tab para mark cache corr2; do
     [ "$(grep -c "^$table|" "$scratch/made.rows")" -ge 5 ] || fail "the file that was made here lacks rows of $table"
 done
@@ -111,3 +144,17 @@ same 'its columns and keys' "$scratch/expected" "$scratch/found"
 echo ok > "$scratch/expected"
 sqlite3 -batch -init /dev/null "$scratch/made.db" 'PRAGMA integrity_check' > "$scratch/found"
 same 'its integrity' "$scratch/expected" "$scratch/found"
+
+# the book of each file that sqlite3 made, and what opening it left
+sqlite3 -batch -bail -init /dev/null "$scratch/named.db" "
+    SELECT id, quote(print), quote(cells) FROM para JOIN cache ON cache.para = id ORDER BY place; SELECT 'version', version FROM book;" > "$scratch/book"
+rows "$scratch/named.db" > "$scratch/expected.rows"
+for form in $forms; do
+    taken "$form" "$scratch/opened.db" > "$scratch/found"
+    same "the book of $form.db" "$scratch/book" "$scratch/found"
+    rows "$scratch/opened.db" > "$scratch/found"
+    same 'the rows that opening left in it' "$scratch/expected.rows" "$scratch/found"
+    sqlite3 -batch -init /dev/null "$scratch/opened.db" 'PRAGMA integrity_check' > "$scratch/found"
+    echo ok > "$scratch/expected"
+    same 'its integrity' "$scratch/expected" "$scratch/found"
+done

@@ -5,6 +5,7 @@ pub mod UsedInput
 pub mod WaitingBytes
 pub mod LineReading
 pub mod Blocks
+pub mod FoundAgain
 pub mod NextRequests
 pub mod TurnsTaken
 pub mod RequestCuts

@@ -13,11 +13,12 @@ use Rattle.desk_line.specs.Reply.{IsReply}
 use Rattle.desk_line.specs.Request.{Requests, WholeRequests}
 use Rattle.desk_store.specs.Books.{HasNewTables, HoldsBook, IsKept, ShowsBook}
 use Rattle.desk_store.specs.Layout.{Layout}
+use Rattle.desk_store.specs.Opened.{Stands}
 use Rattle.desk_session.specs.declared.input.TheConstants.{MOST_INPUT}
 use Rattle.desk_session.specs.declared.session.Ended.{Ended}
 use Rattle.desk_session.specs.declared.session.Ended.TheVariants.{Done, Input, Output, Lost}
 use Rattle.desk_session.specs.Requests.{FirstRequests}
-use Rattle.desk_session.specs.Session.{EndsLost, Given, IsSession, MayGoOn, Turn, commands_of}
+use Rattle.desk_session.specs.Session.{EndsLost, Given, HoldsAcknowledged, IsSession, MayGoOn, Turn, commands_of}
 
 -- ---- what is read
 
@@ -118,3 +119,12 @@ pub record Served (book last : Book) (ended : Ended) (read_old read_new write_ol
   pub honest : IsHonest ended (length read) ReadsFail WritesFail
   pub flushed : EndsFlushed ended turns write_new flushed_new
   pub left : HasCleanDisk new → (l : Layout) → MayServe l book old → IsLeft l book last ended given new
+
+-- What a session left in its file is found there: the book after the first of the given commands, with all that were acknowledged and at
+-- most one more.
+pub record IsFound (l : Layout) (book : Book) (turns : List Turn) (given : List Given) (s : State) : Type 0 where
+  pub kept : List Given
+  pub holds : HoldsAcknowledged (record { turns = turns; given = given; kept = kept })
+  pub next : Book
+  pub after : After book (commands_of kept) next
+  pub stands : Stands l next s

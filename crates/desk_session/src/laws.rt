@@ -4,9 +4,21 @@ ghost use Rattle.desk_book.specs.Book.{Book};
 ghost use Rattle.desk_line.specs.declared.answer.Answer.TheVariants.{Done};
 ghost use Rattle.desk_line.specs.Request.{Requests};
 ghost use Rattle.desk_session.specs.Requests.{FirstRequests};
+ghost use Rattle.desk_session.specs.Served.{EndsAs, IsFound, IsLeft, MayServe};
+ghost use Rattle.desk_session.specs.declared.session.Ended.{Ended};
+ghost use Rattle.desk_store.specs.Books.{HasNewTables, LeavesBook, shown_by};
+ghost use Rattle.desk_store.specs.Found.{HasNone};
+ghost use Rattle.desk_store.specs.Layout.{Layout};
+ghost use Rattle.desk_store.specs.Making.{made};
+ghost use Rattle.desk_store.specs.Opened.{Opens as OpensSo, Stands, completed};
+ghost use Rattle.sqlite.specs.Held.{state};
+ghost use Rattle.sqlite.specs.State.{Opens};
 ghost use Rattle.desk_session.specs.Session.{AllButOne, Given, IsGivenBy, IsHeld, IsLife, IsSession, Lived, Turn, commands_of, kept_commands};
-ghost use Rattle.std.specs.Prelude.{[], ◌≡◌, ◌++◌, ◌∷◌, ℕ, List, Option, true};
+ghost use Rattle.std.specs.Prelude.{[], ◌≡◌, ◌++◌, ◌∷◌, ℕ, Bool, List, Ok, Option, true};
 ghost use Rattle.std.specs.List.{All, Contains};
+
+use desk_store::Store;
+use sqlite::{Alter, Connection};
 
 /// Each command that a session gave was a request of it, done and acknowledged where the writer took the whole reply,
 /// or lost and not acknowledged; and each request that was done was given so.
@@ -54,3 +66,29 @@ pub fn life()
     ensures one_more { (book found : Book) (sessions : List Lived) (lived : Lived)
         → IsLife book sessions found → Contains sessions lived → AllButOne lived.kept }
 {}
+
+/// A session may begin over a connection on which a book was opened: where the book stood in the file and a crash would have
+/// left it, or where it was made.
+pub fn begins_where_a_book_was_opened<S: Alter>(old: &Connection<S>, new: &Connection<S>)
+    ensures opened { (make : Bool) (book : Book)
+        → OpensSo S.Store make old.now (state S.Store new.now) (Ok book) → (l : Layout)
+        → Stands l book (state S.Store old.now) → LeavesBook l book (state S.Store old.now)
+        → MayServe (completed l) book (state S.Store new.now) }
+    ensures made { (make : Bool) (book : Book)
+        → OpensSo S.Store make old.now (state S.Store new.now) (Ok book)
+        → HasNone (state S.Store old.now).now.schema
+        → MayServe (made (state S.Store old.now).now.schema) book (state S.Store new.now) }
+{}
+
+/// Whatever a crash leaves after a session, however that ended: a connection that opened at it shows the book after the first
+/// of the commands that the session gave, with all that were acknowledged and at most one more. It is what opening a book
+/// finds there.
+pub fn found_after_a_session<S: Alter, T: Alter>(last: &Store<S>, next: &Connection<T>)
+    ensures { (l : Layout) (book held : Book) (ended : Ended) (turns : List Turn) (given : List Given)
+        → HasNewTables l → IsSession book turns given held → EndsAs ended turns
+        → IsLeft l book held ended given (shown_by S.Store last.now)
+        → (shown_by S.Store last.now).may_leave (state T.Store next.now).committed.trees
+        → Opens (state T.Store next.now) → IsFound l book turns given (state T.Store next.now) }
+{
+    let _ = next.schema();
+}

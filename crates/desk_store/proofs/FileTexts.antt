@@ -61,8 +61,12 @@ module _ (l : Layout) (c : Contents) (db : Trees) (is : IsFile l c db) where
   pub rowids : (w : Which) → l.has w ≡ true → shows_rowid w ≡ true → HaveIntegerRowids (db (l.tree w))
   rowids w there shows = (is.holds.ids w there (is_changed w shows)).integers
 
-  pub readable : AreUtf8 c → (w : Which) → l.has w ≡ true → AreReadable w (db (l.tree w))
-  readable utf8 w there =
-      let texts = in_rows (written w) (picked (described w).own) (IsUtf8Row w) (columns_utf8 w) (c.rows w) (db (l.tree w)) (utf8 w) (is.holds.tables w there) in
+  -- those of one table, where its texts are UTF-8
+  pub readable_table : (w : Which) → l.has w ≡ true → AllByRecursion (IsUtf8Row w) (c.rows w) → AreReadable w (db (l.tree w))
+  readable_table w there utf8 =
+      let texts = in_rows (written w) (picked (described w).own) (IsUtf8Row w) (columns_utf8 w) (c.rows w) (db (l.tree w)) utf8 (is.holds.tables w there) in
       let all = each_of _ _ (db (l.tree w)) (λ row both. row_utf8 w (l.tree w) row both.0 both.1) (all_both _ _ (db (l.tree w)) (kept l.schema (table_of w (l.tree w)) (is.declared w there) db is.sound) texts) in
       record { ids = rowids w there; texts = λ has. all }
+
+  pub readable : AreUtf8 c → (w : Which) → l.has w ≡ true → AreReadable w (db (l.tree w))
+  readable utf8 w there = readable_table w there (utf8 w)

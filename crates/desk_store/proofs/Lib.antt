@@ -1,6 +1,10 @@
 pub mod Answering
+pub mod AnyFile
 pub mod Asking
 pub mod BookKeeps
+pub mod Filled
+pub mod StandingBooks
+pub mod Completed
 pub mod BookNumbers
 pub mod BookPuts
 pub mod Both
@@ -12,10 +16,15 @@ pub mod Distinct
 pub mod Exact
 pub mod FileFormats
 pub mod FileTexts
+pub mod JudgedTables
 pub mod Kept
+pub mod FoundFormats
+pub mod GainedTables
 pub mod LostStores
 pub mod MadeTables
 pub mod MoreTables
+pub mod Opened
+pub mod Openings
 pub mod Named
 pub mod OneList
 pub mod PlainReads

@@ -1,5 +1,5 @@
 -- The formats of a file, and which tables each has.
-use Rattle.std.specs.Prelude.{◌≡◌, Bool, true, false, ⊤}
+use Rattle.std.specs.Prelude.{◌≡◌, ◌⊎◌, Bool, true, false, ⊤}
 use Rattle.desk_store.specs.Described.{Which, books, tabs, paras, corrs, marks, caches, named_corrs}
 use Rattle.desk_store.specs.Layout.{Layout}
 use Rattle.desk_store.specs.Tables.{is_there}
@@ -46,3 +46,7 @@ IsPresent unread has there = ⊤
 -- it has the tables of a file of this format, and of those that are read just those that are there
 abbrev pub IsOfFormat : Format → Layout → Type 0
 IsOfFormat format l = (w : Which) → IsPresent (presence format w) (l.has w) (is_there l.schema w)
+
+-- It has each of our tables that is there, or those that are read in a file of a format.
+abbrev pub HasThoseRead : Layout → Type 0
+HasThoseRead l = IsExact l ⊎ ((format : Format) × IsOfFormat format l)

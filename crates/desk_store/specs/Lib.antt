@@ -14,3 +14,6 @@ pub mod Failing
 pub mod Whole
 pub mod BookFile
 pub mod Books
+pub mod Opening
+pub mod Found
+pub mod Opened

@@ -2,6 +2,7 @@
 
 ghost use Rattle.desk_store.specs.Fault.{IsToldAs};
 
+use desk_book::parts::{FileTable, PartsFault};
 use sqlite::{Error as Failure, ErrorCode};
 use thiserror::Error;
 
@@ -35,6 +36,61 @@ impl Fault {
                 | ErrorCode::TooBig,
             ) => Fault::Lost,
             _ => Fault::Refused,
+        }
+    }
+}
+
+/// Why no book is opened from a file.
+#[derive(Clone, Copy, Debug, Error, PartialEq, Eq)]
+pub enum OpenFault {
+    /// A table that a book's file has isn't there, lacks a column or holds a value of another kind, or there is no book in
+    /// the file and none is to be made.
+    #[error("the file holds no book")]
+    NotABook,
+    /// The rows show no book.
+    #[error("the file of the book is damaged")]
+    Damaged {
+        /// The first damaged table.
+        table: FileTable,
+        /// The smallest id of the damage in it.
+        id: i64,
+    },
+    /// The file has a later format than the second.
+    #[error("the file has a later format")]
+    NewerFormat,
+    /// The store failed.
+    #[error("the store failed")]
+    Lost,
+    /// A growth was refused.
+    #[error("no memory")]
+    NoMemory,
+}
+
+impl From<Fault> for OpenFault {
+    ghost use Rattle.desk_store.specs.Opening.{opened_as};
+    ghost use Rattle.std.specs.Prelude.{◌≡◌};
+
+    ghost from_gives = { λ fault told. told ≡ opened_as fault };
+
+    fn from(fault: Fault) -> Self {
+        match fault {
+            Fault::NoMemory => OpenFault::NoMemory,
+            Fault::Lost => OpenFault::Lost,
+            Fault::Refused => OpenFault::NotABook,
+        }
+    }
+}
+
+impl From<PartsFault> for OpenFault {
+    ghost use Rattle.desk_store.specs.Opening.{rebuilt_as};
+    ghost use Rattle.std.specs.Prelude.{◌≡◌};
+
+    ghost from_gives = { λ fault told. told ≡ rebuilt_as fault };
+
+    fn from(fault: PartsFault) -> Self {
+        match fault {
+            PartsFault::Damaged { table, id } => OpenFault::Damaged { table, id },
+            PartsFault::NoMemory => OpenFault::NoMemory,
         }
     }
 }

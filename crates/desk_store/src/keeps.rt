@@ -1,15 +1,20 @@
 //! Changes that are kept in a file.
 
+use super::commands::read_commands;
 use super::lines::list;
 use super::tests::judge;
 use crate::{Lost, Store, make_tables};
-use desk_book::{Anchor, Book, Bytes, Command, Text};
+use desk_book::{Book, Command};
 use sqlite::{Connection, MemStore};
 use std::alloc::Global;
 use std::test::Fail;
 
-/// A table with two letters, whose cells have the masks 65 and 66.
-const TABLE: &str = "letter a 17\nletter b 27";
+/// A table with two letters, whose cells have the masks 65 and 66, a paragraph, a mark and a correction.
+const COMMANDS: &str = "\
+table t letter␣a␣17¶letter␣b␣27
+type end t ab
+mark 1 0 2 look
+correct 1 0 1 _ Ann";
 
 /// What the file holds once the commands are kept.
 const KEPT: &str = "\
@@ -20,38 +25,6 @@ corr 1 1 0 0 1 _ Ann
 mark 1 1 0 1 look 1 0
 cache 1 B
 ";
-
-fn text(alloc: Global, of: &str) -> Result<Text, Fail> {
-    Ok(Text::from_string(String::from_str(alloc, of)?))
-}
-
-/// A table, a paragraph, a mark and a correction.
-fn commands(alloc: Global) -> Result<Vec<Command>, Fail> {
-    let mut commands = Vec::new(alloc);
-    commands.push(Command::Table {
-        name: text(alloc, "t")?,
-        text: Bytes::from_vec(String::from_str(alloc, TABLE)?.into_bytes()),
-    })?;
-    commands.push(Command::TypeIn {
-        after: Anchor::End,
-        table: text(alloc, "t")?,
-        text: text(alloc, "ab")?,
-    })?;
-    commands.push(Command::Mark {
-        paragraph: 1,
-        cell: 0,
-        count: 2,
-        note: text(alloc, "look")?,
-    })?;
-    commands.push(Command::Correct {
-        paragraph: 1,
-        start: 0,
-        count: 1,
-        text: text(alloc, "")?,
-        who: text(alloc, "Ann")?,
-    })?;
-    Ok(commands)
-}
 
 /// A store over a new file, where these statements ran.
 fn store(alloc: Global, further: &str) -> Result<Store<MemStore>, Fail> {
@@ -85,7 +58,7 @@ fn keep(
 fn keep_all(alloc: Global, mut store: Store<MemStore>) -> Result<String, Fail> {
     let mut book = Book::new(alloc)?;
     let mut answers = String::new(alloc);
-    for command in &commands(alloc)? {
+    for command in &read_commands(alloc, COMMANDS)? {
         let (answer, next) = keep(alloc, &mut store, book, command)?;
         answers.push(if answer.is_ok() { 'k' } else { 'l' })?;
         book = next;

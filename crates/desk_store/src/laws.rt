@@ -1,7 +1,7 @@
 //! Laws of files, and of the connections that show them.
 ghost use Rattle.desk_store.specs.Asked.{AreReadable};
 ghost use Rattle.desk_store.specs.BookFile.{HaveOwnNumbers, rows_of};
-ghost use Rattle.desk_store.specs.Books.{HasNewTables, HoldsKept, IsKept, LeadsTo, LeavesEither, shown_by};
+ghost use Rattle.desk_store.specs.Books.{HasNewTables, HoldsKept, IsKept, LeadsTo, LeavesBook, LeavesEither, MayKeep, ShowsBook, shown_by};
 ghost use Rattle.desk_store.specs.Contents.{Contents};
 ghost use Rattle.desk_book.specs.Book.{Book};
 ghost use Rattle.desk_book.specs.FileRows.{FileRows};
@@ -14,6 +14,9 @@ ghost use Rattle.desk_store.specs.Layout.{AreDeclared, Layout};
 ghost use Rattle.desk_store.specs.Formats.{Format, IsExact, IsOfFormat, named, unnamed};
 ghost use Rattle.desk_store.specs.Making.{Differ, IsNew, MakesTables, after, is_among, made, with_none, with_tables};
 ghost use Rattle.sql_tables.specs.Making.{KeepsAside};
+ghost use Rattle.desk_store.specs.Opened.{IsMadeNew, IsOpened, Opens as OpensSo, Stands, completed};
+ghost use Rattle.desk_store.specs.Opening.{IsRefusal};
+ghost use Rattle.desk_store.specs.declared.fault.OpenFault.{OpenFault};
 ghost use Rattle.desk_store.specs.States.{IsFile, IsUnder, Shows};
 ghost use Rattle.desk_store.specs.Rows.{shown};
 ghost use Rattle.sql_tables.specs.Rows.{Lists, picked};
@@ -25,7 +28,7 @@ ghost use Rattle.sqlite_catalog.specs.Change.{KeepsRows};
 ghost use Rattle.sqlite_catalog.specs.Listing.{IsSound};
 ghost use Rattle.sqlite_schema.specs.declared.schema.Schema.{Schema};
 ghost use Rattle.sqlite_trees.specs.Tree.{Trees};
-ghost use Rattle.std.specs.Prelude.{IsTrue, List, [], ◌∷◌, false, true, ◌≡◌, ◌||◌, ◌↔◌};
+ghost use Rattle.std.specs.Prelude.{Bool, IfErr, IfOk, IsTrue, List, Result, [], ◌∷◌, false, true, ◌≡◌, ◌⊎◌, ◌||◌, ◌↔◌};
 ghost use Rattle.std.specs.List.{AllByRecursion};
 ghost use Rattle.desk_store.specs.Puts.{HasThem, Lends, puts_into};
 ghost use Rattle.desk_store.specs.Tables.{is_there};
@@ -130,6 +133,42 @@ pub fn two_keeps<S: Alter>(middle: &Store<S>, end: &Store<S>, change: &Change)
         → LeavesEither l first both (shown_by S.Store end.now) }
 {}
 
+/// A connection that opened at what a crash may leave of a store shows the book that each outcome of the crash holds, or one of
+/// the two of which each holds one.
+pub fn kept_then_opened<S: Alter, T: Alter>(last: &Store<S>, next: &Connection<T>)
+    ensures book { (shown_by S.Store last.now).may_leave (state T.Store next.now).committed.trees
+        → Opens (state T.Store next.now) → (l : Layout) (book : Book)
+        → LeavesBook l book (shown_by S.Store last.now)
+        → ShowsBook l book (state T.Store next.now) }
+    ensures either { (shown_by S.Store last.now).may_leave (state T.Store next.now).committed.trees
+        → Opens (state T.Store next.now) → (l : Layout) (book other : Book)
+        → LeavesEither l book other (shown_by S.Store last.now)
+        → ShowsBook l book (state T.Store next.now) ⊎ ShowsBook l other (state T.Store next.now) }
+{
+    let _ = next.schema();
+}
+
+/// Where a book was opened or made, a change that leads on from it may be kept; and a crash leaves the book, where one before
+/// it was opened did.
+pub fn opened_then_kept<S: Alter>(before: &Connection<S>, after: &Store<S>, change: &Change)
+    ensures opened { (l : Layout) (c : Contents) (book next : Book)
+        → IsOpened l c book (state S.Store before.now) (shown_by S.Store after.now)
+        → LeadsTo book change.now next
+        → MayKeep (completed l) book change.now next (shown_by S.Store after.now) }
+    ensures left { (l : Layout) (c : Contents) (book : Book)
+        → IsOpened l c book (state S.Store before.now) (shown_by S.Store after.now)
+        → LeavesBook l book (state S.Store before.now)
+        → IsKept (completed l) book (shown_by S.Store after.now) }
+    ensures made { (make : Bool) (book next : Book)
+        → IsMadeNew make book (state S.Store before.now) (shown_by S.Store after.now)
+        → LeadsTo book change.now next
+        → MayKeep (made (state S.Store before.now).now.schema) book change.now next
+        (shown_by S.Store after.now) }
+    ensures made_left { (make : Bool) (book : Book)
+        → IsMadeNew make book (state S.Store before.now) (shown_by S.Store after.now)
+        → IsKept (made (state S.Store before.now).now.schema) book (shown_by S.Store after.now) }
+{}
+
 /// Texts in UTF-8 that are put leave the texts of a file in UTF-8.
 pub fn texts_stay()
     ensures { (puts : List RowPut) (c : Contents) → AllByRecursion IsUtf8Put puts → AreUtf8 c
@@ -159,4 +198,12 @@ pub fn formats()
         → is_among ws named_corrs ≡ true → IsOfFormat named (with_tables ws l) }
     ensures cells { (format : Format) (l : Layout) → IsOfFormat format l
         → IsOfFormat format (with_tables (caches ∷ []) l) }
+{}
+
+/// Where a book stands in a file that is opened, that one is found, or no refusal is told.
+pub fn found_where_it_stands<S: Alter>(old: &Connection<S>, new: &Connection<S>)
+    ensures { (make : Bool) (result : Result Book OpenFault)
+        → OpensSo S.Store make old.now (state S.Store new.now) result → (l : Layout) (book : Book)
+        → Stands l book (state S.Store old.now)
+        → IfOk result (λ found. found ≡ book) × IfErr result (λ fault. ¬ IsRefusal fault) }
 {}

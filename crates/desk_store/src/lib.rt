@@ -1,11 +1,14 @@
 //! The file of one book, as a SQLite database.
 #![tactic(auto)]
 
+mod book_file;
 mod crash;
 mod fault;
+mod fill;
 pub mod laws;
 mod make;
 mod open;
+mod opening;
 mod put;
 mod read;
 mod row;
@@ -15,7 +18,7 @@ mod texts;
 mod transaction;
 
 pub use crash::{reopen, reopen_after_write};
-pub use fault::Fault;
+pub use fault::{Fault, OpenFault};
 pub use make::make_tables;
 pub use open::open_file;
 pub use read::{
@@ -26,10 +29,18 @@ pub use table::{has_table, table_name};
 pub use transaction::{write, write_with_tables};
 
 #[cfg(test)]
+mod commands;
+#[cfg(test)]
+mod disks;
+#[cfg(test)]
+mod files;
+#[cfg(test)]
 mod keeps;
 #[cfg(test)]
 mod lines;
 #[cfg(test)]
 mod stops;
+#[cfg(test)]
+mod tasks;
 #[cfg(test)]
 mod tests;

@@ -410,24 +410,36 @@ fn add_rows<T: Listed>(text: &mut String, rows: &[T]) -> fmt::Result {
     Ok(())
 }
 
-/// Adds the lines of rows that were read, if they were.
+/// Adds the lines of rows that were read, or one that says that they weren't.
 fn add_read<T: Listed + Drop>(text: &mut String, rows: Option<Vec<T>>) -> Option<()> {
-    add_rows(text, rows?.as_slice()).ok()
+    match rows {
+        Some(rows) => add_rows(text, rows.as_slice()).ok(),
+        None => text.push_str("not read\n").ok(),
+    }
 }
 
-/// Adds the rows of the four tables that each format has, and of those that one of them may lack where they are there.
-fn add_tables<S: Alter>(alloc: Global, conn: &mut Connection<S>, text: &mut String) -> Option<()> {
-    add_read(text, read_books(alloc, conn).ok())?;
-    add_read(text, read_tabs(alloc, conn).ok())?;
-    add_read(text, read_paras(alloc, conn).ok())?;
+/// Adds the rows of the tables before the histories, where these are there.
+fn add_first<S: Alter>(alloc: Global, conn: &mut Connection<S>, text: &mut String) -> Option<()> {
+    if has_table(conn, FileTable::Book) {
+        add_read(text, read_books(alloc, conn).ok())?;
+    }
+    if has_table(conn, FileTable::Tab) {
+        add_read(text, read_tabs(alloc, conn).ok())?;
+    }
+    if has_table(conn, FileTable::Para) {
+        add_read(text, read_paras(alloc, conn).ok())?;
+    }
+    Some(())
+}
+
+/// Adds the rows of the others, where these are there; those of an older table of histories stand last.
+fn add_others<S: Alter>(alloc: Global, conn: &mut Connection<S>, text: &mut String) -> Option<()> {
     if has_table(conn, FileTable::NamedCorr) {
         add_read(text, read_named_corrs(alloc, conn).ok())?;
     }
-    add_read(text, read_marks(alloc, conn).ok())
-}
-
-/// Adds the rows of the cells and of an older table of histories, where these are there.
-fn add_others<S: Alter>(alloc: Global, conn: &mut Connection<S>, text: &mut String) -> Option<()> {
+    if has_table(conn, FileTable::Mark) {
+        add_read(text, read_marks(alloc, conn).ok())?;
+    }
     if has_table(conn, FileTable::Cache) {
         add_read(text, read_caches(alloc, conn).ok())?;
     }
@@ -452,12 +464,9 @@ fn add_notes<S: Alter>(conn: &mut Connection<S>, text: &mut String) -> Option<()
 /// All rows of a file: those of its tables, where there is one of these, and the notes, where they are there.
 pub(crate) fn list<S: Alter>(alloc: Global, conn: &mut Connection<S>) -> Option<String> {
     let mut text = String::new(alloc);
-    let has_notes = conn.schema().table_named(b"note").is_some();
-    if conn.schema().tables.as_slice().len() > usize::from(has_notes) {
-        add_tables(alloc, conn, &mut text)?;
-        add_others(alloc, conn, &mut text)?;
-    }
-    if has_notes {
+    add_first(alloc, conn, &mut text)?;
+    add_others(alloc, conn, &mut text)?;
+    if conn.schema().table_named(b"note").is_some() {
         add_notes(conn, &mut text)?;
     }
     Some(text)

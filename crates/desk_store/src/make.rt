@@ -1,20 +1,22 @@
 //! The making of tables.
 
-ghost use Rattle.std.specs.Prelude.{◌≡◌, false, true, [], ◌∷◌, IfErr, IsTrue, OnErr, OnOk, map};
+ghost use Rattle.std.specs.Prelude.{◌≡◌, false, true, [], ◌∷◌, Err, IfErr, IsTrue, OnErr, OnOk, map};
 ghost use Rattle.sqlite.specs.Held.{state};
+ghost use Rattle.sqlite.specs.declared.error.Error.{Error as Failure};
 ghost use Rattle.sqlite.specs.State.{HasCleanDisk, KeepsCommit, Survives};
 ghost use Rattle.sql_tables.specs.States.{IsCommitted, IsSettled, IsUndone, ShowsAsBefore, seen};
-ghost use Rattle.desk_store.specs.Described.{described};
+ghost use Rattle.desk_store.specs.Described.{caches, described};
 ghost use Rattle.desk_store.specs.Failing.{FailsToChange, StopsMaking, of_first_row};
 ghost use Rattle.desk_store.specs.Fault.{CountsLoss, IsToldAs};
 ghost use Rattle.desk_store.specs.Making.{AreAbsent, AreMade, IsMade, IsNew, MakesTables, creation, made, making, new_tables};
+ghost use Rattle.desk_store.specs.Opening.{IsOpenedAs};
 ghost use Rattle.desk_store.specs.States.{Shows};
-ghost use Rattle.desk_store.specs.Tables.{AreWritten, which};
+ghost use Rattle.desk_store.specs.Tables.{AreWritten, is_there, which};
 ghost use Rattle.desk_store.specs.Turns.{AreRun, Failed, IsLeftBy, Ran, begun};
 
-use crate::fault::Fault;
+use crate::fault::{Fault, OpenFault};
 use crate::put::{put_book, run};
-use crate::table::create_text;
+use crate::table::{create_text, has_table};
 use crate::transaction::begin;
 use desk_book::parts::FileTable;
 use desk_book::rows::BookRow;
@@ -143,4 +145,49 @@ pub fn make_tables<S: Alter>(conn: &mut Connection<S>) -> Result<(), Error>
     put_first_row(&mut tx)?;
     tx.commit()?;
     Ok(())
+}
+
+/// Makes the file of a new book, as one, where none of a book's tables is there but perhaps `cache`: where that is there,
+/// nothing is made.
+///
+/// # Errors
+///
+/// [`OpenFault::NotABook`] where a name is taken or the making is refused, and else want of memory or a store that failed.
+/// What the connection shows is as it was, if it is open still.
+pub(crate) fn make_book<S: Alter>(conn: &mut Connection<S>) -> Result<(), OpenFault>
+    requires { conn.old.in_transaction ≡ false }
+    ensures idle { conn.new.in_transaction ≡ false }
+    ensures made { HasCleanDisk (state S.Store conn.new)
+        → OnOk result (IsNew (state S.Store conn.old).now.schema (state S.Store conn.old).now.trees
+        (λ c. Shows (made (state S.Store conn.old).now.schema) c (state S.Store conn.new))) }
+    ensures open { HasCleanDisk (state S.Store conn.new)
+        → OnOk result (IsCommitted (state S.Store conn.new)) }
+    // Of a crash at any exit: nothing new is left but all of it, and that only where no name was taken.
+    ensures crash { Survives (state S.Store conn.old) (state S.Store conn.new)
+        (IsMade (state S.Store conn.old)) }
+    ensures settled { HasCleanDisk (state S.Store conn.new)
+        → OnOk result (IsSettled (state S.Store conn.new)) }
+    ensures as_before { HasCleanDisk (state S.Store conn.new)
+        → OnErr result (ShowsAsBefore (state S.Store conn.old) (state S.Store conn.new)) }
+    // After a refusal a crash leaves nothing new.
+    ensures refused { HasCleanDisk (state S.Store conn.new)
+        → IfErr result (λ fault. fault ≡ OpenFault.NotABook
+        → Survives (state S.Store conn.old) (state S.Store conn.new) (λ _. ⊥)) }
+    // The error is what the database answered to one of the statements or to the commit.
+    ensures told { HasCleanDisk (state S.Store conn.new)
+        → is_there (state S.Store conn.old).now.schema caches ≡ false
+        → IfErr result (λ told. (e : Failure)
+        × FailsToChange S.Store new_tables (of_first_row S.Store) (begun conn.old)
+        (state S.Store conn.new) e × IsOpenedAs e told) }
+    // Where `cache` is there, nothing is done.
+    ensures beside { is_there (state S.Store conn.old).now.schema caches ≡ true
+        → (result ≡ Err OpenFault.NotABook) × (conn.new ≡ conn.old) }
+{
+    if has_table(conn, FileTable::Cache) {
+        return Err(OpenFault::NotABook);
+    }
+    match make_tables(conn) {
+        Ok(()) => Ok(()),
+        Err(error) => Err(OpenFault::from(Fault::of(error))),
+    }
 }

@@ -1,19 +1,18 @@
 //! A stop at each call of a file.
 //!
-//! A run opens the two files of a database, changes the rows and closes them. From some call on one of the files fails, as where the
-//! machine stops there. Whether what was written since the last sync stays or is lost, the files are then opened again, and have to
-//! show the rows from before or those from after, and those from after where the change was told to be made. Which rows these are is
-//! written here.
+//! A run opens the two files of a database, opens the book or makes it, keeps what commands change,
+//! and closes the files. From some call on one of the files fails, as where the machine stops
+//! there. Whether what was written since the last sync stays or is lost, the files are then opened
+//! again: they have to show the book before the step that was stopped or the one after it, and the
+//! one after it where the step was told to be done. What the first and the last of these books are
+//! is written here.
 
-use super::lines::{list, puts, read_lines};
+use super::commands::read_commands;
+use super::disks::{Bytes, Left, Stopped, is_stopped, stopped_after};
+use super::tasks::{Progress, Task, after, run, shown};
 use super::tests::{NOTES, judge};
-use crate::{make_tables, write, write_with_tables};
-use desk_book::parts::FileTable;
-use desk_book::rows::Put;
-use sqlite::{Alter, Connection, FileStore, Files, Options};
-use sqlite_disk::{Crash, Disk, Fuse, Memory};
+use desk_book::{Bytes as TableText, Command, Text};
 use std::alloc::Global;
-use std::io;
 use std::process::Abort;
 use std::test::Fail;
 
@@ -27,559 +26,416 @@ const NOTE: &str = "note 0 apart\n";
 const MADE: &str = "book 1 2 0\n";
 
 /// The row of a new book beside the notes.
-const MADE_BESIDE_NOTES: &str = "\
-book 1 2 0
+const MADE_BESIDE_NOTES: &str = "book 1 2 0\nnote 0 apart\n";
+
+/// The rows of a book whose braille is kept, with corrections, one of which was taken back, and a
+/// mark.
+const ROWS: &str = "\
+UPDATE book SET version = 7;
+INSERT INTO para VALUES (1, 2, 't', 'ab', 'aab', 0, 0, 0), (2, 1, 't', 'ba', 'ba', 1, 1, 1);
+INSERT INTO corr2 VALUES (1, 1, 0, 0, 1, 'aa', ''), (1, 2, 0, 3, 0, 'b', ''), (1, 3, 1, 2, 0, '', '');
+INSERT INTO mark VALUES (1, 1, 0, 2, 'look', 1, 0);
+INSERT INTO cache VALUES (1, x'414142'), (2, x'4241');
+";
+
+/// The text of its table, of which the cells read like capitals.
+const TABLE: &str = "letter a 17\nletter b 27";
+
+/// Makes of them the rows of a file of the first format.
+const OLDER: &str = "\
+CREATE TABLE corr (para INTEGER NOT NULL, seq INTEGER NOT NULL, kind INTEGER NOT NULL, start INTEGER NOT NULL, len INTEGER NOT NULL, body TEXT NOT NULL, PRIMARY KEY (para, seq)) STRICT;
+INSERT INTO corr VALUES (1, 1, 0, 0, 1, 'aa'), (1, 2, 0, 3, 0, 'b'), (1, 3, 1, 2, 0, '');
+DROP TABLE corr2;
+UPDATE book SET format = 1;
+";
+
+/// Takes the braille out of a file.
+const NO_BRAILLE: &str = "DROP TABLE cache";
+
+/// The file in the first format.
+const OLDER_ROWS: &str = "\
+book 1 1 7
+tab 1 t letter a 17
+letter b 27
+para 1 2 t ab aab 0 0 0
+para 2 1 t ba ba 1 1 1
+mark 1 1 0 2 look 1 0
+older 1 1 0 0 1 aa
+older 1 2 0 3 0 b
+older 1 3 1 2 0 _
+";
+
+/// The file in the second format, which was in the first.
+const MIGRATED_ROWS: &str = "\
+book 1 2 7
+tab 1 t letter a 17
+letter b 27
+para 1 2 t ab aab 0 0 0
+para 2 1 t ba ba 1 1 1
+corr 1 1 0 0 1 aa _
+corr 1 2 0 3 0 b _
+corr 1 3 1 2 0 _ _
+mark 1 1 0 2 look 1 0
+cache 1 AAB
+cache 2 BA
+older 1 1 0 0 1 aa
+older 1 2 0 3 0 b
+older 1 3 1 2 0 _
+";
+
+/// The file in the second format without the braille.
+const UNFILLED_ROWS: &str = "\
+book 1 2 7
+tab 1 t letter a 17
+letter b 27
+para 1 2 t ab aab 0 0 0
+para 2 1 t ba ba 1 1 1
+corr 1 1 0 0 1 aa _
+corr 1 2 0 3 0 b _
+corr 1 3 1 2 0 _ _
+mark 1 1 0 2 look 1 0
+";
+
+/// The same with the braille.
+const FILLED_ROWS: &str = "\
+book 1 2 7
+tab 1 t letter a 17
+letter b 27
+para 1 2 t ab aab 0 0 0
+para 2 1 t ba ba 1 1 1
+corr 1 1 0 0 1 aa _
+corr 1 2 0 3 0 b _
+corr 1 3 1 2 0 _ _
+mark 1 1 0 2 look 1 0
+cache 1 AAB
+cache 2 BA
+";
+
+/// What is done to a new book.
+const COMMANDS: &str = "\
+table t letter␣a␣17¶letter␣b␣27
+type end t ab
+type front t ba
+mark 1 0 1 look
+correct 1 0 0 b Ann
+correct 1 1 1 b _
+undo 1
+resolve 1
+strike 2
+move 1 front
+table t letter␣a␣167¶letter␣b␣267";
+
+/// The rows of the book then: the mark moved with its character and was touched as this gave way,
+/// and the braille is that of the second text.
+const COMMANDED_ROWS: &str = "\
+book 1 2 11
+tab 1 t letter a 167
+letter b 267
+para 1 1 t ab bab 0 0 0
+para 2 2 t ba ba 0 0 1
+corr 1 1 0 0 0 b Ann
+corr 1 2 0 1 1 b _
+corr 1 3 1 2 0 _ _
+mark 1 1 1 2 look 1 1
+cache 1 bab
+cache 2 ba
 note 0 apart
 ";
 
-/// What is put first.
-const FIRST_PUTS: &str = "\
-book 1 1 7
-tab en one
-tab de two
-tab old three
-para 1 5 en o1 p1 11 12 13
-para 2 4 de o2 p2 21 22 23
-para 3 3 en o3 p3 31 32 33
-para 4 2 en o4 p4 41 42 43
-para 5 1 de o5 _ 51 52 53
-corr 1 1 11 12 13 a w1
-corr 2 1 21 22 23 b w2
-corr 3 1 31 32 33 c w3
-corr 4 1 41 42 43 d w4
-corr 5 1 51 52 53 _ w5
-mark 1 2 11 12 m1 13 14
-mark 2 3 21 22 m2 23 24
-mark 3 4 31 32 m3 33 34
-cache 1 c1
-cache 2 c2
-place 1 20
-place 5 21
-version 8";
+/// How many paragraphs use a table that is replaced.
+const MANY: u64 = 300;
 
-/// The rows that are there then, and a note on a paragraph.
-const FIRST_ROWS: &str = "\
-book 1 1 8
-tab 2 de two
-tab 1 en one
-tab 3 old three
-para 1 20 en o1 p1 11 12 13
-para 2 4 de o2 p2 21 22 23
-para 3 3 en o3 p3 31 32 33
-para 4 2 en o4 p4 41 42 43
-para 5 21 de o5 _ 51 52 53
-corr 1 1 11 12 13 a w1
-corr 2 1 21 22 23 b w2
-corr 3 1 31 32 33 c w3
-corr 4 1 41 42 43 d w4
-corr 5 1 51 52 53 _ w5
-mark 1 2 11 12 m1 13 14
-mark 2 3 21 22 m2 23 24
-mark 3 4 31 32 m3 33 34
-cache 1 c1
-cache 2 c2
-note 0 apart,1 first
-";
+/// The characters of such a paragraph, with cells that read like capitals.
+const UPPER: &str =
+    "letter t 357\nletter h 47\nletter e 137\nletter c 127\nletter a 17\nspace \\s 6\ndigit 1 156";
 
-/// What is put then: twenty-two puts, each of which shows.
-const LATER_PUTS: &str = "\
-book 1 2 17
-tab en four
-tab de five
-tab new six
-para 1 6 de O1 P1 61 62 63
-para 2 7 en O2 P2 71 72 73
-para 3 8 de O3 P3 81 82 83
-para 4 9 de O4 _ 91 92 93
-para 6 1 en O5 P5 1 2 3
-corr 5 2 61 62 63 e w5
-corr 4 2 71 72 73 f w4
-corr 3 2 81 82 83 g w3
-corr 2 2 91 92 93 h w2
-corr 1 2 1 2 3 i w1
-mark 1 5 61 62 n1 63 64
-mark 2 4 71 72 n2 73 74
-mark 4 1 1 2 n4 3 4
-cache 2 d2
-cache 3 d3
-place 1 30
-place 5 31
-version 18";
+/// The same with cells that read like small letters.
+const LOWER: &str =
+    "letter t 3567\nletter h 467\nletter e 1367\nletter c 1267\nletter a 167\nspace \\s 6\ndigit 1 156";
 
-/// The rows that are there in the end.
-const LATER_ROWS: &str = "\
-book 1 2 18
-tab 2 de five
-tab 1 en four
-tab 4 new six
-tab 3 old three
-para 1 30 de O1 P1 61 62 63
-para 2 7 en O2 P2 71 72 73
-para 3 8 de O3 P3 81 82 83
-para 4 9 de O4 _ 91 92 93
-para 5 31 de o5 _ 51 52 53
-para 6 1 en O5 P5 1 2 3
-corr 1 1 11 12 13 a w1
-corr 1 2 1 2 3 i w1
-corr 2 1 21 22 23 b w2
-corr 2 2 91 92 93 h w2
-corr 3 1 31 32 33 c w3
-corr 3 2 81 82 83 g w3
-corr 4 1 41 42 43 d w4
-corr 4 2 71 72 73 f w4
-corr 5 1 51 52 53 _ w5
-corr 5 2 61 62 63 e w5
-mark 1 5 61 62 n1 63 64
-mark 2 4 71 72 n2 73 74
-mark 3 4 31 32 m3 33 34
-mark 4 1 1 2 n4 3 4
-cache 1 c1
-cache 2 d2
-cache 3 d3
-note 0 apart,1 first
-";
-
-/// A file of the older format, with rows of all kinds.
-const OLDER: &str = "\
-CREATE TABLE book (id INTEGER NOT NULL PRIMARY KEY, format INTEGER NOT NULL, version INTEGER NOT NULL) STRICT;
-CREATE TABLE tab (name TEXT NOT NULL PRIMARY KEY, body BLOB NOT NULL) STRICT;
-CREATE TABLE para (id INTEGER NOT NULL PRIMARY KEY, place INTEGER NOT NULL, tab TEXT NOT NULL, original TEXT NOT NULL, print TEXT NOT NULL, style INTEGER NOT NULL, volume INTEGER NOT NULL, struck INTEGER NOT NULL) STRICT;
-CREATE TABLE corr (para INTEGER NOT NULL, seq INTEGER NOT NULL, kind INTEGER NOT NULL, start INTEGER NOT NULL, len INTEGER NOT NULL, body TEXT NOT NULL, PRIMARY KEY (para, seq)) STRICT;
-CREATE TABLE mark (id INTEGER NOT NULL PRIMARY KEY, para INTEGER NOT NULL, start INTEGER NOT NULL, stop INTEGER NOT NULL, note TEXT NOT NULL, touched INTEGER NOT NULL, resolved INTEGER NOT NULL) STRICT;
-INSERT INTO book VALUES (1, 1, 7);
-INSERT INTO tab VALUES ('en', x'6F6E65');
-INSERT INTO para VALUES (1, 1, 'en', 'o1', 'p1', 0, 1, 0), (2, 2, 'en', 'o2', 'o2', 1, 0, 1);
-INSERT INTO corr VALUES (1, 1, 0, 2, 3, 'a'), (1, 2, 1, 1, 0, '');
-INSERT INTO mark VALUES (1, 2, 0, 1, 'm', 1, 0);
-";
-
-/// Its rows.
-const OLDER_ROWS: &str = "\
-book 1 1 7
-tab 1 en one
-para 1 1 en o1 p1 0 1 0
-para 2 2 en o2 o2 1 0 1
-mark 1 2 0 1 m 1 0
-older 1 1 0 2 3 a
-older 1 2 1 1 0 _
-";
-
-/// The tables that it lacks.
-const NEWER_TABLES: [FileTable; 2] = [FileTable::Cache, FileTable::NamedCorr];
-
-/// What it gets with these.
-const NEWER_PUTS: &str = "\
-corr 1 1 0 2 3 a _
-corr 1 2 1 1 0 _ _
-cache 1 c1
-cache 2 c2
-book 1 2 7";
-
-/// The rows that it has then.
-const NEWER_ROWS: &str = "\
-book 1 2 7
-tab 1 en one
-para 1 1 en o1 p1 0 1 0
-para 2 2 en o2 o2 1 0 1
-corr 1 1 0 2 3 a _
-corr 1 2 1 1 0 _ _
-mark 1 2 0 1 m 1 0
-cache 1 c1
-cache 2 c2
-older 1 1 0 2 3 a
-older 1 2 1 1 0 _
-";
-
-/// What a run does.
+/// A task that is stopped, and what its files show.
 #[derive(Clone, Copy)]
-enum Task<'a> {
-    /// Statements.
-    Run(&'a str),
-    Make,
-    Write(&'a [Put<'a>]),
-    /// The tables that the older format lacks, and rows.
-    Renew(&'a [Put<'a>]),
-    List,
-}
-
-/// The file that is stopped.
-#[derive(Clone, Copy)]
-enum Stopped {
-    Database,
-    Journal,
-}
-
-/// How far a run came.
-#[derive(Clone, Copy, PartialEq, Eq)]
-enum Ended {
-    /// The task wasn't told to be done.
-    Early,
-    /// It was, and then the files weren't closed in order.
-    Done,
-    Closed,
-}
-
-/// What the two files hold.
-#[derive(Drop)]
-struct Bytes {
-    log: Vec<u8>,
-    db: Vec<u8>,
-}
-
-/// A task that changes rows, with those before it and those after it.
-#[derive(Clone, Copy)]
-struct Change<'a> {
+struct Sweep<'a> {
+    /// What the files hold before.
+    start: &'a Bytes,
     task: Task<'a>,
-    before: &'a str,
-    after: &'a str,
+    /// The rows that they show before it and after each of its steps.
+    states: &'a [String],
 }
 
-/// A file with these bytes, which passes so many calls on.
-fn fused(alloc: Global, bytes: &[u8], calls: u64) -> io::Result<Fuse<Memory>> {
-    let mut file = Memory::new(alloc);
-    file.write_at(0, bytes)?;
-    file.sync()?;
-    Ok(Fuse::new(file, calls))
-}
-
-/// Files with these bytes, each of which passes so many calls on.
-fn both(
-    alloc: Global,
-    log: &[u8],
-    db: &[u8],
-    log_calls: u64,
-    db_calls: u64,
-) -> io::Result<Files<Fuse<Memory>>> {
-    let log = fused(alloc, log, log_calls)?;
-    let db = fused(alloc, db, db_calls)?;
-    Ok(Files { log, db })
-}
-
-/// Files with these bytes, which pass all calls on.
-fn whole(alloc: Global, log: &[u8], db: &[u8]) -> io::Result<Files<Fuse<Memory>>> {
-    both(alloc, log, db, u64::MAX, u64::MAX)
-}
-
-fn open<D: Disk + Drop>(
-    alloc: Global,
-    files: Files<D>,
-) -> Result<Connection<FileStore<D>>, Files<D>> {
-    if !files.may_be_used() {
-        return Err(files);
-    }
-    match Connection::open_files(alloc, files, Options::new(1)) {
-        Ok(conn) => Ok(conn),
-        Err((_, left)) => Err(left.into_files()),
+/// The last of these rows.
+fn last(states: &[String]) -> &str {
+    match states.last() {
+        Some(rows) => rows.as_str(),
+        None => "",
     }
 }
 
-fn close<D: Disk + Drop>(conn: Connection<FileStore<D>>) -> (Ended, Files<D>) {
-    match conn.close_files() {
-        Ok(files) => (Ended::Closed, files),
-        Err((_, store)) => (Ended::Done, store.close()),
+impl Sweep<'_> {
+    /// Whether the task and the closing of its files were told to be done.
+    fn is_whole(&self, progress: Progress) -> bool {
+        progress.steps == self.task.steps() && progress.closed
     }
-}
 
-/// Does a task. The answer is what is listed, and else no text; there is none where the task wasn't told to be done.
-fn carry_out<S: Alter>(alloc: Global, conn: &mut Connection<S>, task: Task<'_>) -> Option<String> {
-    if !conn.is_autocommit() {
-        return None;
+    /// Whether a run that came so far may leave these rows.
+    fn allows(&self, progress: Progress, rows: &str) -> bool {
+        let next = progress.steps.saturating_add(1);
+        let is_state = |at: usize| self
+            .states
+            .get(at)
+            .is_some_and(|state| state.as_str() == rows);
+        is_state(progress.steps) || is_state(next)
     }
-    match task {
-        Task::Run(sql) => conn.execute_batch(sql).ok()?,
-        Task::Make => make_tables(conn).ok()?,
-        Task::Write(puts) => write(alloc, conn, puts.iter().copied()).ok()?,
-        Task::Renew(puts) => {
-            write_with_tables(alloc, conn, &NEWER_TABLES, puts.iter().copied()).ok()?
+
+    /// The rows of a file once its book is opened, where it shows these.
+    fn opened<'a>(&'a self, rows: &'a str) -> &'a str {
+        match self.task {
+            Task::Open => last(self.states),
+            Task::Run(_) | Task::Table(_) | Task::Make | Task::Keep(_) => rows,
         }
-        Task::List => return list(alloc, conn),
-    }
-    Some(String::new(alloc))
-}
-
-/// Does a task and closes the files.
-fn carry_out_and_close<D: Disk + Drop>(
-    alloc: Global,
-    mut conn: Connection<FileStore<D>>,
-    task: Task<'_>,
-) -> (Option<String>, Ended, Files<D>) {
-    let answer = carry_out(alloc, &mut conn, task);
-    let (closed, files) = close(conn);
-    (answer, closed, files)
-}
-
-/// Opens the files, does a task and closes the files.
-fn run<D: Disk + Drop>(
-    alloc: Global,
-    files: Files<D>,
-    task: Task<'_>,
-) -> (Option<String>, Ended, Files<D>) {
-    match open(alloc, files) {
-        Ok(conn) => carry_out_and_close(alloc, conn, task),
-        Err(files) => (None, Ended::Early, files),
     }
 }
 
-/// How far a run came, by whether the task was told to be done and how the files were closed.
-fn reached(told: bool, closed: Ended) -> Ended {
-    if told { closed } else { Ended::Early }
-}
-
-/// The rows that these files show, if they can be opened and listed.
-fn listed(alloc: Global, files: Files<Fuse<Memory>>) -> Option<String> {
-    let (answer, _, _files) = run(alloc, files, Task::List);
-    answer
-}
-
-/// The rows that files with these bytes show.
-fn shown(alloc: Global, log: &[u8], db: &[u8]) -> Result<String, Fail> {
-    let files = whole(alloc, log, db)?;
-    Ok(listed(alloc, files).ok_or("the files can't be opened again and listed")?)
-}
-
-fn held(alloc: Global, files: &Files<Fuse<Memory>>) -> Result<Bytes, Fail> {
-    Ok(Bytes {
-        log: Vec::from_slice(alloc, files.log.inner().bytes())?,
-        db: Vec::from_slice(alloc, files.db.inner().bytes())?,
-    })
-}
-
-/// What is left where no file is stopped.
-fn unstopped(alloc: Global, start: &Bytes, task: Task<'_>) -> Result<Bytes, Fail> {
-    let files = whole(alloc, start.log.as_slice(), start.db.as_slice())?;
-    let (answer, closed, files) = run(alloc, files, task);
-    if reached(answer.is_some(), closed) != Ended::Closed {
-        return Err("a run failed with no stop".into());
-    }
-    held(alloc, &files)
-}
-
-/// Compares the rows that these files show.
-fn judge_rows(rt: &impl Abort, alloc: Global, files: &Bytes, wanted: &str) -> Result<(), Fail> {
-    let text = shown(alloc, files.log.as_slice(), files.db.as_slice())?;
-    judge(rt, text.as_str(), wanted);
-    Ok(())
-}
-
-/// Whether the file passes no call on any more.
-fn is_blown(file: &mut Fuse<Memory>) -> bool {
-    !file.may_be_used() || file.len().is_err()
-}
-
-/// Whether a run that came so far may leave these rows.
-fn is_allowed(change: Change<'_>, ended: Ended, text: &str) -> bool {
-    text == change.after || (ended == Ended::Early && text == change.before)
-}
-
+/// Opens files with these bytes, which a run left that came so far.
 fn look(
     alloc: Global,
+    sweep: &Sweep<'_>,
+    progress: Progress,
     log: &[u8],
     db: &[u8],
-    change: Change<'_>,
-    ended: Ended,
 ) -> Result<(), Fail> {
-    let text = shown(alloc, log, db)?;
-    if is_allowed(change, ended, text.as_str()) {
-        Ok(())
-    } else {
-        Err("neither the rows from before nor those from after".into())
+    let shown = shown(alloc, log, db)?;
+    let (rows, opened) = (shown.rows.as_str(), shown.opened.as_str());
+    if !sweep.allows(progress, rows) {
+        return Err("the rows are those of neither book".into());
     }
+    if opened != sweep.opened(rows) || !opened.contains(shown.braille.as_str()) {
+        return Err("another book is opened".into());
+    }
+    Ok(())
 }
 
 /// Opens the files again, each with what was written since its last sync and without it.
 fn look_again(
     alloc: Global,
-    mut files: Files<Fuse<Memory>>,
-    change: Change<'_>,
-    ended: Ended,
+    sweep: &Sweep<'_>,
+    progress: Progress,
+    left: &Left,
 ) -> Result<(), Fail> {
-    let written = held(alloc, &files)?;
-    files.log.crash();
-    files.db.crash();
-    let synced = held(alloc, &files)?;
-    look(
-        alloc,
-        written.log.as_slice(),
-        written.db.as_slice(),
-        change,
-        ended,
-    )?;
-    look(
-        alloc,
-        written.log.as_slice(),
-        synced.db.as_slice(),
-        change,
-        ended,
-    )?;
-    look(
-        alloc,
-        synced.log.as_slice(),
-        written.db.as_slice(),
-        change,
-        ended,
-    )?;
-    look(
-        alloc,
-        synced.log.as_slice(),
-        synced.db.as_slice(),
-        change,
-        ended,
-    )
-}
-
-/// How many calls the journal and the database's file pass on, where one of them is stopped after so many.
-fn limits(stopped: Stopped, calls: u64) -> (u64, u64) {
-    match stopped {
-        Stopped::Database => (u64::MAX, calls),
-        Stopped::Journal => (calls, u64::MAX),
+    let (log, db) = (left.written.log.as_slice(), left.written.db.as_slice());
+    let (synced_log, synced_db) = (left.synced.log.as_slice(), left.synced.db.as_slice());
+    look(alloc, sweep, progress, log, db)?;
+    if synced_db != db {
+        look(alloc, sweep, progress, log, synced_db)?;
     }
-}
-
-/// The same files, one of which passes only so many calls on.
-fn stopped_after(
-    alloc: Global,
-    start: &Bytes,
-    stopped: Stopped,
-    calls: u64,
-) -> io::Result<Files<Fuse<Memory>>> {
-    let (log_calls, db_calls) = limits(stopped, calls);
-    both(
-        alloc,
-        start.log.as_slice(),
-        start.db.as_slice(),
-        log_calls,
-        db_calls,
-    )
-}
-
-fn is_stopped(files: &mut Files<Fuse<Memory>>, stopped: Stopped) -> bool {
-    match stopped {
-        Stopped::Database => is_blown(&mut files.db),
-        Stopped::Journal => is_blown(&mut files.log),
+    if synced_log != log {
+        look(alloc, sweep, progress, synced_log, db)?;
     }
+    if synced_log != log && synced_db != db {
+        look(alloc, sweep, progress, synced_log, synced_db)?;
+    }
+    Ok(())
 }
 
-/// Stops one of the files after so many calls. The answer is whether it was stopped.
-fn stop(
-    alloc: Global,
-    start: &Bytes,
-    change: Change<'_>,
-    stopped: Stopped,
-    calls: u64,
-) -> Result<bool, Fail> {
-    let files = stopped_after(alloc, start, stopped, calls)?;
-    let (answer, closed, mut files) = run(alloc, files, change.task);
-    let ended = reached(answer.is_some(), closed);
+/// A run that was stopped, or was about to be.
+#[derive(Drop)]
+struct Run {
+    stopped: bool,
+    progress: Progress,
+    left: Left,
+}
+
+/// Stops one of the files after so many calls.
+fn stop(alloc: Global, sweep: &Sweep<'_>, stopped: Stopped, calls: u64) -> Result<Run, Fail> {
+    let files = stopped_after(alloc, sweep.start, stopped, calls)?;
+    let (progress, mut files) = run(alloc, files, sweep.task)?;
     let was_stopped = is_stopped(&mut files, stopped);
-    if ended != Ended::Closed && !was_stopped {
+    if !sweep.is_whole(progress) && !was_stopped {
         return Err("a run failed with no stop".into());
     }
-    look_again(alloc, files, change, ended)?;
-    Ok(was_stopped)
+    Ok(Run {
+        stopped: was_stopped,
+        progress,
+        left: Left::of(alloc, files)?,
+    })
 }
 
-/// Stops one of the files at each call, until a run leaves a call over, and answers how many runs were stopped. The last run before
-/// that made just its calls.
-fn stop_at_each(
-    alloc: Global,
-    start: &Bytes,
-    change: Change<'_>,
-    stopped: Stopped,
-) -> Result<u64, Fail> {
-    for calls in 0..MOST_CALLS {
-        if !stop(alloc, start, change, stopped, calls)? {
+/// Stops one of the files at each call, until a run leaves a call over, and answers how many runs
+/// were stopped. The last run before that made just its calls. Files that are left as by the run
+/// before, which only read since, aren't opened again.
+fn stop_at_each(alloc: Global, sweep: &Sweep<'_>, stopped: Stopped) -> Result<u64, Fail> {
+    let mut last = stop(alloc, sweep, stopped, 0)?;
+    look_again(alloc, sweep, last.progress, &last.left)?;
+    for calls in 1..MOST_CALLS {
+        let next = stop(alloc, sweep, stopped, calls)?;
+        if next.progress.steps != last.progress.steps || !next.left.is_same(&last.left) {
+            look_again(alloc, sweep, next.progress, &next.left)?;
+        }
+        if !next.stopped {
             return Ok(calls.saturating_sub(1));
         }
+        last = next;
     }
     Err("the file is stopped however many calls it passes on".into())
 }
 
-/// Stops each of the files at each call of a change.
+/// The rows that files show before a task and after each of its steps.
+fn states(alloc: Global, start: &Bytes, task: Task<'_>) -> Result<Vec<String>, Fail> {
+    let mut states = Vec::new(alloc);
+    states.push(shown(alloc, start.log.as_slice(), start.db.as_slice())?.rows)?;
+    for done in 0..task.steps() {
+        let bytes = after(alloc, start, task.front(done.saturating_add(1)))?;
+        states.push(shown(alloc, bytes.log.as_slice(), bytes.db.as_slice())?.rows)?;
+    }
+    Ok(states)
+}
+
+/// Stops each of the files at each call of a task, before which and after which they show these
+/// rows.
 fn stop_everywhere(
     rt: &impl Abort,
     alloc: Global,
     start: &Bytes,
-    change: Change<'_>,
+    task: Task<'_>,
+    before: &str,
+    done: &str,
 ) -> Result<(), Fail> {
-    let end = unstopped(alloc, start, change.task)?;
-    judge_rows(rt, alloc, start, change.before)?;
-    judge_rows(rt, alloc, &end, change.after)?;
+    let states = states(alloc, start, task)?;
+    judge(rt, last(states.get(..1).unwrap_or(&[])), before);
+    judge(rt, last(states.as_slice()), done);
+    let sweep = Sweep {
+        start,
+        task,
+        states: states.as_slice(),
+    };
     for stopped in [Stopped::Database, Stopped::Journal] {
-        if stop_at_each(alloc, start, change, stopped)? == 0 {
+        if stop_at_each(alloc, &sweep, stopped)? == 0 {
             return Err("nothing was stopped".into());
         }
     }
     Ok(())
 }
 
-fn nothing(alloc: Global) -> Bytes {
-    Bytes {
-        log: Vec::new(alloc),
-        db: Vec::new(alloc),
-    }
-}
-
 /// A file with the notes alone.
 fn noted(alloc: Global) -> Result<Bytes, Fail> {
-    unstopped(alloc, &nothing(alloc), Task::Run(NOTES))
+    after(alloc, &Bytes::new(alloc), Task::Run(NOTES))
 }
 
-/// A file with rows of all kinds.
-fn filled(alloc: Global) -> Result<Bytes, Fail> {
-    let lines = read_lines(alloc, FIRST_PUTS)?;
-    let puts = puts(alloc, &lines)?;
-    let made = unstopped(alloc, &noted(alloc)?, Task::Make)?;
-    let put = unstopped(alloc, &made, Task::Write(&puts))?;
-    unstopped(
-        alloc,
-        &put,
-        Task::Run("INSERT INTO note VALUES (1, 'first')"),
+/// The file of a new book, beside the notes.
+fn made(alloc: Global) -> Result<Bytes, Fail> {
+    after(alloc, &noted(alloc)?, Task::Open)
+}
+
+/// The file of a book with this table, in which these statements ran.
+fn made_with(alloc: Global, table: &str, first: &str, second: &str) -> Result<Bytes, Fail> {
+    let made = after(alloc, &Bytes::new(alloc), Task::Make)?;
+    let with_table = after(alloc, &made, Task::Table(table))?;
+    let filled = after(alloc, &with_table, Task::Run(first))?;
+    after(alloc, &filled, Task::Run(second))
+}
+
+#[test]
+fn a_stop_while_a_book_is_made(rt: HostRuntime) -> Result<(), Fail> {
+    let alloc = rt.alloc();
+    let nothing = Bytes::new(alloc);
+    stop_everywhere(&rt, alloc, &nothing, Task::Open, "", MADE)?;
+    let noted = noted(alloc)?;
+    stop_everywhere(&rt, alloc, &noted, Task::Open, NOTE, MADE_BESIDE_NOTES)
+}
+
+#[test]
+fn a_stop_while_the_braille_is_filled_in(rt: HostRuntime) -> Result<(), Fail> {
+    let start = made_with(rt.alloc(), TABLE, ROWS, NO_BRAILLE)?;
+    stop_everywhere(
+        &rt,
+        rt.alloc(),
+        &start,
+        Task::Open,
+        UNFILLED_ROWS,
+        FILLED_ROWS,
     )
 }
 
 #[test]
-fn a_stop_while_the_tables_are_made(rt: HostRuntime) -> Result<(), Fail> {
-    let change = Change {
-        task: Task::Make,
-        before: "",
-        after: MADE,
-    };
-    stop_everywhere(&rt, rt.alloc(), &nothing(rt.alloc()), change)
+fn a_stop_while_an_older_file_is_brought_to_the_second_format(rt: HostRuntime) -> Result<(), Fail> {
+    let filled = made_with(rt.alloc(), TABLE, ROWS, OLDER)?;
+    let start = after(rt.alloc(), &filled, Task::Run(NO_BRAILLE))?;
+    stop_everywhere(
+        &rt,
+        rt.alloc(),
+        &start,
+        Task::Open,
+        OLDER_ROWS,
+        MIGRATED_ROWS,
+    )
 }
 
 #[test]
-fn a_stop_while_the_tables_are_made_beside_notes(rt: HostRuntime) -> Result<(), Fail> {
-    let change = Change {
-        task: Task::Make,
-        before: NOTE,
-        after: MADE_BESIDE_NOTES,
-    };
-    let start = noted(rt.alloc())?;
-    stop_everywhere(&rt, rt.alloc(), &start, change)
+fn a_stop_while_changes_are_kept(rt: HostRuntime) -> Result<(), Fail> {
+    let commands = read_commands(rt.alloc(), COMMANDS)?;
+    let (start, task) = (made(rt.alloc())?, Task::Keep(commands.as_slice()));
+    stop_everywhere(
+        &rt,
+        rt.alloc(),
+        &start,
+        task,
+        MADE_BESIDE_NOTES,
+        COMMANDED_ROWS,
+    )
+}
+
+/// The statements that put many paragraphs, whose cells read `THE CAT 1`.
+fn many(alloc: Global) -> Result<String, Fail> {
+    let mut sql = String::from_str(alloc, "BEGIN;")?;
+    for before in 0..MANY {
+        let id = before.saturating_add(1);
+        let para = format!(in alloc;
+            "INSERT INTO para VALUES ({id}, {id}, 't', 'the cat 1', 'the cat 1', 0, 0, 0);"
+        )?;
+        sql.push_str(para.as_str())?;
+        let cache = format!(in alloc; "INSERT INTO cache VALUES ({id}, x'544845204341542031');")?;
+        sql.push_str(cache.as_str())?;
+    }
+    sql.push_str("COMMIT")?;
+    Ok(sql)
+}
+
+/// The rows of these paragraphs.
+fn rows_of_many(alloc: Global, version: u64, table: &str, cells: &str) -> Result<String, Fail> {
+    let mut rows = format!(in alloc; "book 1 2 {version}\ntab 1 t {table}\n")?;
+    for before in 0..MANY {
+        let id = before.saturating_add(1);
+        let para = format!(in alloc; "para {id} {id} t the cat 1 the cat 1 0 0 0\n")?;
+        rows.push_str(para.as_str())?;
+    }
+    for before in 0..MANY {
+        let id = before.saturating_add(1);
+        rows.push_str(format!(in alloc; "cache {id} {cells}\n")?.as_str())?;
+    }
+    Ok(rows)
+}
+
+/// The command that replaces the table.
+fn replacement(alloc: Global) -> Result<Command, Fail> {
+    Ok(Command::Table {
+        name: Text::from_string(String::from_str(alloc, "t")?),
+        text: TableText::from_vec(String::from_str(alloc, LOWER)?.into_bytes()),
+    })
 }
 
 #[test]
-fn a_stop_while_rows_are_put(rt: HostRuntime) -> Result<(), Fail> {
-    let start = filled(rt.alloc())?;
-    let lines = read_lines(rt.alloc(), LATER_PUTS)?;
-    let puts = puts(rt.alloc(), &lines)?;
-    let change = Change {
-        task: Task::Write(&puts),
-        before: FIRST_ROWS,
-        after: LATER_ROWS,
-    };
-    stop_everywhere(&rt, rt.alloc(), &start, change)
-}
-
-#[test]
-fn a_stop_while_an_older_file_gets_its_tables(rt: HostRuntime) -> Result<(), Fail> {
-    let start = unstopped(rt.alloc(), &nothing(rt.alloc()), Task::Run(OLDER))?;
-    let lines = read_lines(rt.alloc(), NEWER_PUTS)?;
-    let puts = puts(rt.alloc(), &lines)?;
-    let change = Change {
-        task: Task::Renew(&puts),
-        before: OLDER_ROWS,
-        after: NEWER_ROWS,
-    };
-    stop_everywhere(&rt, rt.alloc(), &start, change)
+fn a_stop_while_the_table_of_many_paragraphs_is_replaced(rt: HostRuntime) -> Result<(), Fail> {
+    let alloc = rt.alloc();
+    let start = made_with(alloc, UPPER, many(alloc)?.as_str(), "")?;
+    let first = rows_of_many(alloc, 0, UPPER, "THE CAT 1")?;
+    let last = rows_of_many(alloc, 1, LOWER, "the cat 1")?;
+    let commands = [replacement(alloc)?];
+    stop_everywhere(
+        &rt,
+        alloc,
+        &start,
+        Task::Keep(&commands),
+        first.as_str(),
+        last.as_str(),
+    )
 }

@@ -1,0 +1,138 @@
+-- What is found of a book after a session, and what a session begins with.
+use Rattle.std.proofs.Common.{◌≡◌, ◌∙◌, ◌≤◌, Bool, true, false, List, [], ◌∷◌, ◌++◌, length, refl, sym, ap, subst, arith}
+use Rattle.std.specs.Prelude.{Ok}
+use Rattle.std.specs.List.{All}
+use Rattle.std.proofs.lemmas.List.Elements.{All-cons, All-nil}
+use Rattle.sqlite_trees.specs.Tree.{Trees}
+use Rattle.sqlite_trees.specs.declared.store.Store.{Ghosts}
+use Rattle.sqlite.specs.Held.{Held, state}
+use Rattle.sqlite.specs.State.{State}
+use Rattle.desk_book.specs.Book.{Book}
+use Rattle.desk_line.specs.declared.answer.Answer.TheVariants.{Lost}
+use Rattle.desk_store.specs.Books.{HasNewTables, HoldsBook, LeavesBook}
+use Rattle.desk_store.specs.Contents.{Contents}
+use Rattle.desk_store.specs.Described.{Which, books, tabs, paras, corrs, marks, caches, named_corrs}
+use Rattle.desk_store.specs.Formats.{IsOfFormat, named}
+use Rattle.desk_store.specs.Found.{HasNone}
+use Rattle.desk_store.specs.Layout.{Layout}
+use Rattle.desk_store.specs.Making.{made}
+use Rattle.desk_store.specs.Opened.{Opens, Stands, completed}
+use Rattle.desk_store.specs.States.{IsFile, Shows}
+use Rattle.desk_store.specs.Tables.{is_there}
+use Rattle.desk_session.specs.declared.session.Ended.{Ended}
+use Rattle.desk_session.specs.declared.session.Ended.TheVariants as ended
+use Rattle.desk_session.specs.Served.{EndsAs, HoldsGiven, IsFound, MayLack, MayServe}
+use Rattle.desk_session.specs.Session.{EndsLost, Given, Gives, IsSession, Turn}
+
+-- ---- a command that was lost is the last one, and wasn't acknowledged
+
+abbrev IsUnacknowledged : Given → Type 0
+IsUnacknowledged one = one.acknowledged ≡ false
+
+-- the last of what was given wasn't acknowledged
+record LastLost (given : List Given) : Type 0 where
+  front : List Given
+  one : Given
+  is : given ≡ front ++ one ∷ []
+  lost : IsUnacknowledged one
+
+with_first : (first front : List Given) (one : Given) → first ++ (front ++ one ∷ []) ≡ (first ++ front) ++ one ∷ []
+with_first [] front one = refl
+with_first (x ∷ first) front one = ap (λ (xs : List Given). x ∷ xs) (with_first first front one)
+
+with_none : (first : List Given) → first ++ [] ≡ first
+with_none [] = refl
+with_none (x ∷ first) = ap (λ (xs : List Given). x ∷ xs) (with_none first)
+
+last_lost : (turns : List Turn) (book last : Book) (given : List Given) → IsSession book turns given last → EndsLost turns → LastLost given
+last_lost [] book last given session none = absurd none
+last_lost (turn ∷ []) book last given (next, answered, on, (first, others, gives, is, rest)) lost =
+    let it = subst (λ (answer : _). Gives turn answer first) lost gives in
+    record {
+      front = [];
+      one = record { command = it.0; acknowledged = false };
+      is = is ∙ ap (λ (xs : List Given). first ++ xs) rest.0 ∙ with_none first ∙ it.2;
+      lost = refl;
+    }
+last_lost (turn ∷ second ∷ turns) book last given (next, answered, on, (first, others, gives, is, rest)) lost =
+    let later = last_lost (second ∷ turns) next last others rest lost in
+    record {
+      front = first ++ later.front;
+      one = later.one;
+      is = is ∙ ap (λ (xs : List Given). first ++ xs) later.is ∙ with_first first later.front later.one;
+      lost = later.lost;
+    }
+
+none_left : (ks missing : List Given) → ks ++ missing ≡ [] → missing ≡ []
+none_left [] missing is = is
+none_left (k ∷ ks) missing is = absurd (cc is)
+
+last_of : (kept missing front : List Given) (one : Given) → kept ++ missing ≡ front ++ one ∷ [] → length missing ≤ 1 → IsUnacknowledged one → All IsUnacknowledged missing
+last_of [] missing [] one is few lost = subst (All IsUnacknowledged) (sym is) (All-cons IsUnacknowledged one [] lost (All-nil IsUnacknowledged))
+last_of [] missing (f ∷ []) one is few lost =
+    let count : length missing ≡ 2 = ap length is in absurd (omega (arith, count, few))
+last_of [] missing (f ∷ g ∷ front) one is few lost =
+    let count : length missing ≡ length (f ∷ g ∷ (front ++ one ∷ [])) = ap length is in absurd (omega (arith, count, few))
+last_of (k ∷ kept) missing [] one is few lost =
+    let rest : kept ++ missing ≡ [] = cc is in
+    subst (All IsUnacknowledged) (sym (none_left kept missing rest)) (All-nil IsUnacknowledged)
+last_of (k ∷ kept) missing (f ∷ front) one is few lost =
+    let rest : kept ++ missing ≡ front ++ one ∷ [] = cc is in
+    last_of kept missing front one rest few lost
+
+missing_lost : (end : Ended) (turns : List Turn) (book last : Book) (given kept missing : List Given) → IsSession book turns given last → EndsAs end turns
+    → given ≡ kept ++ missing → MayLack end missing → All IsUnacknowledged missing
+missing_lost ended.Done turns book last given kept missing session ends is lacks = subst (All IsUnacknowledged) (sym lacks) (All-nil IsUnacknowledged)
+missing_lost ended.Input turns book last given kept missing session ends is lacks = subst (All IsUnacknowledged) (sym lacks) (All-nil IsUnacknowledged)
+missing_lost ended.Output turns book last given kept missing session ends is lacks = subst (All IsUnacknowledged) (sym lacks) (All-nil IsUnacknowledged)
+missing_lost ended.Lost turns book last given kept missing session ends is lacks =
+    let it = last_lost turns book last given session ends in
+    last_of kept missing it.front it.one (sym is ∙ it.is) lacks it.lost
+
+-- ---- a file with the tables of a new one is of the second format
+
+there_by : (l : Layout) (c : Contents) (db : Trees) → IsFile l c db → (w : Which) → l.has w ≡ true → is_there l.schema w ≡ true
+there_by l c db is w there = rw (is.declared w there).named refl
+
+second_format : (l : Layout) (c : Contents) (db : Trees) → HasNewTables l → IsFile l c db → IsOfFormat named l
+second_format l c db tables is books = (tables.0 ∙ sym (there_by l c db is books tables.0), tables.0)
+second_format l c db tables is tabs = (tables.1.0 ∙ sym (there_by l c db is tabs tables.1.0), tables.1.0)
+second_format l c db tables is paras = (tables.1.1.0 ∙ sym (there_by l c db is paras tables.1.1.0), tables.1.1.0)
+second_format l c db tables is corrs = tt
+second_format l c db tables is marks = (tables.1.1.1.0 ∙ sym (there_by l c db is marks tables.1.1.1.0), tables.1.1.1.0)
+second_format l c db tables is caches = tables.1.1.1.1.0 ∙ sym (there_by l c db is caches tables.1.1.1.1.0)
+second_format l c db tables is named_corrs = (tables.1.1.1.1.1.0 ∙ sym (there_by l c db is named_corrs tables.1.1.1.1.1.0), tables.1.1.1.1.1.0)
+
+-- ---- what is found after a session
+
+pub is_found : (l : Layout) (book held : Book) (end : Ended) (turns : List Turn) (given : List Given) (db : Trees) (s : State)
+    → HasNewTables l → IsSession book turns given held → EndsAs end turns → HoldsGiven l book end given db
+    → ((c : Contents) → IsFile l c db → Shows l c s) → IsFound l book turns given s
+is_found l book held end turns given db s tables session ends holds shows = record {
+  kept = holds.kept;
+  holds = record { lost = holds.missing; front = holds.front; unacknowledged = missing_lost end turns book held given holds.kept holds.missing session ends holds.front holds.lacks };
+  next = holds.next;
+  after = holds.after;
+  stands = (
+    holds.holds.0,
+    record {
+      format = named;
+      of = second_format l holds.holds.0 db tables holds.holds.1;
+      shows = shows holds.holds.0 holds.holds.1;
+      rows = holds.holds.2;
+    },
+  );
+}
+
+-- ---- what a session begins with
+
+module _ {S : Type 0} (g : Ghosts S) (make : Bool) (book : Book) (old : Held S) (new : State) (opens : Opens g make old new (Ok book)) where
+  pub begins_opened : (l : Layout) → Stands l book (state g old) → LeavesBook l book (state g old) → MayServe (completed l) book new
+  begins_opened l (c, stands) leaves =
+      let opened = opens.opened stands.format l c stands.of stands.shows in
+      record { tables = opened.tables; kept = record { shows = (opened.shows.0, opened.shows.1, opened.shows.2); leaves = opened.leaves leaves } }
+
+  pub begins_made : HasNone (state g old).now.schema → MayServe (made (state g old).now.schema) book new
+  begins_made none =
+      let is = opens.made none in
+      record { tables = is.tables; kept = record { shows = is.shows; leaves = is.leaves } }

@@ -1,0 +1,139 @@
+-- What is read of any file, in the state that the reads began with.
+use Rattle.std.proofs.Common.{◌≡◌, ◌≢◌, ℕ, true, false, List, [], ◌∷◌, map, Ok, Err, Some, None, Option, refl, sym, subst, ◌∙◌}
+use Rattle.std.specs.List.{AllByRecursion}
+use Rattle.std.proofs.lemmas.List.Sorted.{IsPermutation-sym}
+use Rattle.sqlite_resolve.specs.Compile.{first}
+use Rattle.sqlite_trees.proofs.ListLemmas.{all-map, all-permutation}
+use Rattle.sqlite_value.specs.Order.{Row}
+use Rattle.sqlite.specs.Clock.{timed}
+use Rattle.sqlite.specs.Effect.{Database, RefusesToRead}
+use Rattle.sqlite.specs.Listing.{IsSourceOf, reads_listing, understood}
+use Rattle.sqlite.specs.State.{IsStatement, IsUnchanged, Shown, ShowsRows, State}
+use Rattle.sqlite.specs.declared.error.Error.{Error}
+use Rattle.sql_tables.specs.States.{HasAnswer}
+use Rattle.sql_tables.proofs.Quiet.{never_returns, reads}
+use Rattle.desk_book.specs.FileRows.{EntryRows, Named, Unnamed}
+use Rattle.desk_book.specs.Rows.{Cached}
+use Rattle.desk_store.specs.Asked.{AnswersRows, Gives, asked}
+use Rattle.desk_store.specs.Contents.{Contents}
+use Rattle.desk_store.specs.Described.{Which, books, tabs, paras, corrs, marks, caches, named_corrs}
+use Rattle.desk_store.specs.Formats.{Format, IsOfFormat, Presence, named, needed, presence, unnamed}
+use Rattle.desk_store.specs.Found.{AreCellsIn, AreEntriesIn, AreRowsIn, AreToldApart, CanAllAnswer, CanAnswer, IsReadAs}
+use Rattle.desk_store.specs.Layout.{Layout}
+use Rattle.desk_store.specs.Opening.{AreEntriesReadable, CanAllBeRead, ShowsReadable, Stays}
+use Rattle.desk_store.specs.Rows.{RowOf, ShownOf, own, shown}
+use Rattle.desk_store.specs.States.{Shows}
+use Rattle.desk_store.specs.Tables.{is_there}
+use Rattle.desk_store.specs.Whole.{IsUtf8Row}
+use Rattle.desk_store.specs.declared.fault.Fault.{Fault}
+use Rattle.desk_store.specs.declared.fault.Fault.TheVariants.{Refused}
+use Rattle.desk_store.proofs.Opened.{shows_still}
+use Rattle.desk_store.proofs.WholeReads.{reads_only}
+
+-- ---- a query
+
+module _ (text : List ℕ) (is_read : reads (first text) ≡ true) (s a : State) (same : Stays s a) where
+  as_it_is : (b : State) → IsUnchanged a b → IsUnchanged s s
+  as_it_is b quiet =
+      let is_open = sym same.is_open ∙ quiet.0.was_open in
+      (record { was_open = is_open; is_open = is_open; now_is = refl; committed_is = refl; mode = refl }, record { changes = refl; last_rowid = refl }, refl)
+
+  -- what it shows once nothing has changed it shows before, too
+  pub shown_before : (b : State) (rows : List Row) → Shown text [] a b rows → Shown text [] s s rows
+  unfolding Shown
+  shown_before b rows h =
+      let none = never_returns text is_read a.now.schema h.0 h.1.is in
+      let full = timed [] h.0.formats h.1.now in
+      let it : ShowsRows a b text h.0 full rows None = subst (ShowsRows a b text h.0 full rows) none h.2 in
+      let is : IsStatement s text [] h.0 = record { is = subst (λ (d : Database). understood d.schema text ≡ Ok h.0) same.now h.1.is; whole = h.1.whole; given = h.1.given; now = h.1.now } in
+      let source = subst (λ (d : Database). IsSourceOf (reads_listing d.schema text) d it.0) same.now it.1 in
+      (h.0, is, subst (ShowsRows s s text h.0 full rows) (sym none) (it.0, source, it.2, as_it_is b it.3))
+
+  -- and it still has an answer
+  pub answer_still : HasAnswer text s → HasAnswer text a
+  answer_still can = record {
+    compiled = can.compiled;
+    is = record { is = subst (λ (d : Database). understood d.schema text ≡ Ok can.compiled) (sym same.now) can.is.is; whole = can.is.whole; given = can.is.given; now = can.is.now };
+    timeless = can.timeless;
+    unrefused = subst (λ (d : Database). (db : Database) → IsSourceOf (reads_listing d.schema text) d db → (e : Error) → ¬ RefusesToRead None can.compiled.command db [] e) (sym same.now) can.unrefused;
+  }
+
+-- ---- a table
+
+module _ (s a : State) (same : Stays s a) where
+  pub gives_before : (w : Which) (b : State) (rows : List (ShownOf w)) → Gives (asked w) (shown w) a b rows → Gives (asked w) (shown w) s s rows
+  gives_before w b rows h = (h.0, shown_before (asked w).text (reads_only w) s a same b h.0 h.1, h.2)
+
+  pub entries_before : (entries : EntryRows) → AreEntriesIn a entries → AreEntriesIn s entries
+  entries_before (Unnamed rows) are = (gives_before corrs a rows are.0, are.1)
+  entries_before (Named rows) are = (gives_before named_corrs a rows are.0, are.1)
+
+  pub cells_before : (cells : Option (List Cached)) → AreCellsIn a cells → AreCellsIn s cells
+  cells_before None none = subst (λ (d : Database). is_there d.schema caches ≡ false) same.now none
+  cells_before (Some rows) are =
+      (subst (λ (d : Database). is_there d.schema caches ≡ true) same.now are.0, (gives_before caches a rows are.1.0, are.1.1))
+
+  pub readable_still : (f : Format) → a.step_limit ≡ s.step_limit → ShowsReadable f s → ShowsReadable f a
+  readable_still f limit r = (r.0, r.1, r.2, shows_still s a same r.0 r.1 r.3, r.4, limit ∙ r.5)
+
+  can_still : (w : Which) → CanAnswer s w → CanAnswer a w
+  can_still w can = record {
+    has = answer_still (asked w).text (reads_only w) s a same can.has;
+    kinds = λ rows seen. can.kinds rows (shown_before (asked w).text (reads_only w) s a same a rows seen);
+    apart = λ rows gives. can.apart rows (gives_before w a rows gives);
+  }
+
+  pub can_all_still : (f : Format) → CanAllAnswer f s → CanAllAnswer f a
+  can_all_still f can w is_read = can_still w (can w (subst (λ (d : Database). IsReadAs (presence f w) (is_there d.schema w)) same.now is_read))
+
+module _ {V : Type 0} (w : Which) (items : V → List (ShownOf w)) (Apart : List (ShownOf w) → Type 0) (s old new : State) (same : Stays s old) where
+  -- what a read gave after others
+  pub rows_before : (v : V) → (Apart (items v) → AreToldApart w (items v)) → AnswersRows (Ok v) items w (λ x. x) Apart old new → AreRowsIn s w (items v)
+  rows_before v apart answers = (gives_before s old same w new (items v) answers.gives, apart answers.apart)
+
+  -- it isn't refused where the statement has an answer that can be read
+  pub never_refused_any : (fault : Fault) → ((xs : List (ShownOf w)) → AreToldApart w xs → Apart xs) → AnswersRows (Err fault) items w (λ x. x) Apart old new
+      → old.step_limit ≡ None → CanAnswer s w → fault ≢ Refused
+  never_refused_any fault apart answers unlimited can =
+      answers.answered (answer_still (asked w).text (reads_only w) s old same can.has) unlimited
+      (λ rows seen. can.kinds rows (shown_before (asked w).text (reads_only w) s old same new rows seen))
+      (λ xs gives. apart xs (can.apart xs (gives_before s old same w new xs gives)))
+
+  pub never_refused_needed : (f : Format) (fault : Fault) → presence f w ≡ needed → ((xs : List (ShownOf w)) → AreToldApart w xs → Apart xs)
+      → AnswersRows (Err fault) items w (λ x. x) Apart old new → old.step_limit ≡ None → fault ≡ Refused → ¬ CanAllAnswer f s
+  never_refused_needed f fault has_to apart answers unlimited is can =
+      never_refused_any fault apart answers unlimited (can w (subst (λ (p : Presence). IsReadAs p (is_there s.now.schema w)) (sym has_to) tt)) is
+
+-- ---- texts
+
+-- the rows of a table are readable where those are that were read of it
+pub texts_of : {V : Type 0} (w : Which) (items : V → List (ShownOf w)) (Apart : List (ShownOf w) → Type 0) (old new : State) (v : V) → AnswersRows (Ok v) items w (λ x. x) Apart old new
+    → (l : Layout) (c : Contents) → l.has w ≡ true → Shows l c old → AllByRecursion (IsUtf8Row w) (c.rows w)
+texts_of w items Apart old new v answers l c there shows =
+    all-permutation (IsUtf8Row w) (map (own w) (items v)) (c.rows w) (IsPermutation-sym _ _ (answers.shows l c there shows)) (all-map (IsUtf8Row w) (own w) (items v) answers.utf8)
+
+no_book_texts : (rows : List (RowOf books)) → AllByRecursion (IsUtf8Row books) rows
+no_book_texts [] = tt
+no_book_texts (row ∷ rows) = (tt, no_book_texts rows)
+
+no_cell_texts : (rows : List (RowOf caches)) → AllByRecursion (IsUtf8Row caches) rows
+no_cell_texts [] = tt
+no_cell_texts (row ∷ rows) = (tt, no_cell_texts rows)
+
+-- a file of the format can be read where its texts can
+pub all_readable : (f : Format) (l : Layout) (c : Contents) → IsOfFormat f l → AllByRecursion (IsUtf8Row tabs) (c.rows tabs) → AllByRecursion (IsUtf8Row paras) (c.rows paras)
+    → AreEntriesReadable f l c → AllByRecursion (IsUtf8Row marks) (c.rows marks) → CanAllBeRead f l c
+all_readable unnamed l c of names prints entries notes books = ((of books).1, no_book_texts (c.rows books))
+all_readable unnamed l c of names prints entries notes tabs = ((of tabs).1, names)
+all_readable unnamed l c of names prints entries notes paras = ((of paras).1, prints)
+all_readable unnamed l c of names prints entries notes corrs = ((of corrs).1, entries)
+all_readable unnamed l c of names prints entries notes marks = ((of marks).1, notes)
+all_readable unnamed l c of names prints entries notes caches = λ there. no_cell_texts (c.rows caches)
+all_readable unnamed l c of names prints entries notes named_corrs = (of named_corrs).1
+all_readable named l c of names prints entries notes books = ((of books).1, no_book_texts (c.rows books))
+all_readable named l c of names prints entries notes tabs = ((of tabs).1, names)
+all_readable named l c of names prints entries notes paras = ((of paras).1, prints)
+all_readable named l c of names prints entries notes corrs = tt
+all_readable named l c of names prints entries notes marks = ((of marks).1, notes)
+all_readable named l c of names prints entries notes caches = λ there. no_cell_texts (c.rows caches)
+all_readable named l c of names prints entries notes named_corrs = ((of named_corrs).1, entries)

@@ -1,0 +1,97 @@
+-- The book of a new file, and a file that has all tables of one.
+use Rattle.std.proofs.Common.{◌≡◌, Bool, true, false, if◌then◌else◌, List, Option, Some, None, is_some, refl}
+use Rattle.sqlite_schema.specs.declared.schema.Schema.{Schema}
+use Rattle.sqlite_trees.specs.Tree.{Trees}
+use Rattle.sqlite.specs.State.{State}
+use Rattle.desk_book.specs.Book.{empty_book}
+use Rattle.desk_book.specs.FileRows.{EntryRows, FileRows, Named, Unnamed}
+use Rattle.desk_book.specs.Rows.{Cached}
+use Rattle.desk_book.specs.SameRows.{AreSameRows, AreSameCaches, AreSameEntries}
+use Rattle.desk_book.proofs.FilledRows.{new-shown}
+use Rattle.desk_store.specs.BookFile.{rows_of}
+use Rattle.desk_store.specs.Books.{HasNewTables, HoldsBook, ShowsBook}
+use Rattle.desk_store.specs.Contents.{Contents}
+use Rattle.desk_store.specs.Described.{books, tabs, paras, marks, caches, named_corrs}
+use Rattle.desk_store.specs.Formats.{Format, IsOfFormat, unnamed, named}
+use Rattle.desk_store.specs.Layout.{Layout}
+use Rattle.desk_store.specs.Making.{IsMade, IsNew, first_contents, is_among, made}
+use Rattle.desk_store.specs.Opened.{completed, have_names, lacked, lacked_by, lacking, which_lacked}
+use Rattle.desk_store.specs.States.{Shows}
+
+-- ---- a new file
+
+pub new_tables_there : (s : Schema) → HasNewTables (made s)
+new_tables_there s = (refl, (refl, (refl, (refl, (refl, (refl, tt))))))
+
+pub new_shows : (old new : State) → IsNew old.now.schema old.now.trees (λ c. Shows (made old.now.schema) c new) → ShowsBook (made old.now.schema) empty_book new
+new_shows old new is = (first_contents is.0, is.4, new-shown)
+
+pub made_holds : (s : State) (db : Trees) → IsMade s db → HoldsBook (made s.now.schema) empty_book db
+made_holds s db is = (first_contents is.1.0, is.1.4, new-shown)
+
+-- ---- a file with all tables of a new one
+
+stays_there : (made has : Bool) → has ≡ true → (if made then true else has) ≡ true
+stays_there true has is = refl
+stays_there false has is = is
+
+gains_caches : (names cells : Bool) → (if is_among (which_lacked (lacking names cells)) caches then true else cells) ≡ true
+gains_caches false false = refl
+gains_caches false true = refl
+gains_caches true false = refl
+gains_caches true true = refl
+
+gains_names : (names cells : Bool) → (if is_among (which_lacked (lacking names cells)) named_corrs then true else names) ≡ true
+gains_names false false = refl
+gains_names false true = refl
+gains_names true false = refl
+gains_names true true = refl
+
+has_all : (l : Layout) → l.has books ≡ true → l.has tabs ≡ true → l.has paras ≡ true → l.has marks ≡ true → HasNewTables (completed l)
+has_all l book tab para mark = (
+  stays_there (is_among (lacked l) books) (l.has books) book,
+  (
+    stays_there (is_among (lacked l) tabs) (l.has tabs) tab,
+    (
+      stays_there (is_among (lacked l) paras) (l.has paras) para,
+      (
+        stays_there (is_among (lacked l) marks) (l.has marks) mark,
+        (gains_caches (l.has named_corrs) (l.has caches), (gains_names (l.has named_corrs) (l.has caches), tt)),
+      ),
+    ),
+  ),
+)
+
+pub completed_tables : (f : Format) (l : Layout) → IsOfFormat f l → HasNewTables (completed l)
+completed_tables unnamed l of = has_all l (of books).1 (of tabs).1 (of paras).1 (of marks).1
+completed_tables named l of = has_all l (of books).1 (of tabs).1 (of paras).1 (of marks).1
+
+-- it lacks nothing
+pub whole : (l : Layout) → lacking (l.has named_corrs) (l.has caches) ≡ None → completed l ≡ l
+whole l none = rw none refl
+
+-- ---- what the rows say of it
+
+pub lacked_rows : (l : Layout) (c : Contents) → lacked_by (rows_of l c) ≡ lacking (l.has named_corrs) (l.has caches)
+lacked_rows l c = by_tables (l.has named_corrs) (l.has caches) refl refl
+  where
+    by_tables : (entries cells : Bool) → l.has named_corrs ≡ entries → l.has caches ≡ cells → lacked_by (rows_of l c) ≡ lacking (l.has named_corrs) (l.has caches)
+    by_tables true true e k = rw (e, k) refl
+    by_tables true false e k = rw (e, k) refl
+    by_tables false true e k = rw (e, k) refl
+    by_tables false false e k = rw (e, k) refl
+
+pub lacked_same : (a b : FileRows) → AreSameRows a b → lacked_by a ≡ lacked_by b
+lacked_same a b same = by_rows a.entries b.entries a.caches b.caches same.entries same.caches
+  where
+    by_rows : (x y : EntryRows) (p q : Option (List Cached)) → AreSameEntries x y → AreSameCaches p q → lacking (have_names x) (is_some p) ≡ lacking (have_names y) (is_some q)
+    by_rows (Unnamed x) (Unnamed y) None None e k = refl
+    by_rows (Unnamed x) (Unnamed y) None (Some q) e k = absurd k
+    by_rows (Unnamed x) (Unnamed y) (Some p) None e k = absurd k
+    by_rows (Unnamed x) (Unnamed y) (Some p) (Some q) e k = refl
+    by_rows (Unnamed x) (Named y) p q e k = absurd e
+    by_rows (Named x) (Unnamed y) p q e k = absurd e
+    by_rows (Named x) (Named y) None None e k = refl
+    by_rows (Named x) (Named y) None (Some q) e k = absurd k
+    by_rows (Named x) (Named y) (Some p) None e k = absurd k
+    by_rows (Named x) (Named y) (Some p) (Some q) e k = refl

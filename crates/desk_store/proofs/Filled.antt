@@ -1,0 +1,153 @@
+-- The tables that a book's file lacked, filled with what the book has for them.
+use Rattle.std.proofs.Common.{◌≡◌, true, List, [], ◌∷◌, ◌++◌, map, refl, sym, subst, ap, ◌∙◌}
+use Rattle.std.specs.List.{AllByRecursion}
+use Rattle.sqlite_trees.specs.Tree.{Trees}
+use Rattle.sqlite_catalog.specs.Change.{KeepsRows}
+use Rattle.sqlite.specs.State.{State}
+use Rattle.sql_tables.specs.Making.{KeepsAside}
+use Rattle.desk_book.specs.Book.{Book}
+use Rattle.desk_book.specs.FileRows.{FileRows}
+use Rattle.desk_book.specs.FilledRows.{Fills, entry_puts, with_empty}
+use Rattle.desk_book.specs.Puts.{RowPut, PutBook, PutTab, PutPara, PutMark, PutCache, PutEntry, SetPlace, SetFlags, SetTable, SetPrint, SetSpan, SetResolved, SetVersion, with_puts}
+use Rattle.desk_book.specs.Rows.{Cached, NamedCorr}
+use Rattle.desk_book.specs.Shows.{Shows as RowsShow}
+use Rattle.desk_book.specs.declared.filling.NewTables.{NewTables}
+use Rattle.desk_book.specs.declared.filling.NewTables.TheVariants.{Braille, Entries, EntriesAndBraille}
+use Rattle.desk_book.proofs.FilledRows.{filled-shown}
+use Rattle.desk_store.specs.BookFile.{rows_of}
+use Rattle.desk_store.specs.Contents.{Contents}
+use Rattle.desk_store.specs.Described.{Which, books, caches, corrs, named_corrs, described}
+use Rattle.desk_store.specs.Formats.{Format, IsOfFormat, unnamed, named}
+use Rattle.desk_store.specs.Layout.{Layout}
+use Rattle.desk_store.specs.Making.{Differ, IsFileWithTables, IsGrown, WritesWithTables, with_none, with_tables}
+use Rattle.desk_store.specs.Opened.{HasGained, HoldsWith, StandsAs, which_new}
+use Rattle.desk_store.specs.Puts.{HasThem, put_into, puts_into}
+use Rattle.desk_store.specs.States.{IsFile, Shows}
+use Rattle.desk_store.specs.Tables.{AreWritten, which}
+use Rattle.desk_book.specs.declared.parts.FileTable.{FileTable}
+use Rattle.desk_store.proofs.BookPuts.{all_put}
+
+-- ---- the tables of what is put
+
+pub new_differ : (t : NewTables) → Differ (which_new t)
+new_differ EntriesAndBraille = ((refl, tt), (tt, tt))
+new_differ Entries = (tt, tt)
+new_differ Braille = (tt, tt)
+
+module _ (l : Layout) where
+  entries_there : l.has named_corrs ≡ true → (entries : List NamedCorr) → HasThem l (map PutEntry entries)
+  entries_there there [] = tt
+  entries_there there (e ∷ es) = (there, entries_there there es)
+
+  cells_there : l.has caches ≡ true → (cells : List Cached) → HasThem l (map PutCache cells)
+  cells_there there [] = tt
+  cells_there there (k ∷ ks) = (there, cells_there there ks)
+
+  both_there : (a b : List RowPut) → HasThem l a → HasThem l b → HasThem l (a ++ b)
+  both_there [] b _ q = q
+  both_there (it ∷ a) b p q = (p.0, both_there a b p.1 q)
+
+has_books : (f : Format) (l : Layout) → IsOfFormat f l → l.has books ≡ true
+has_books unnamed l of = (of books).1
+has_books named l of = (of books).1
+
+pub new_there : (t : NewTables) (f : Format) (l : Layout) → IsOfFormat f l → (book : Book) (puts : List RowPut) → Fills t book puts → HasThem (with_tables (which_new t) l) puts
+new_there EntriesAndBraille f l of book puts fills =
+    let after = with_tables (which_new EntriesAndBraille) l in
+    subst (HasThem after) (sym fills.4)
+    (both_there after (entry_puts book fills.0) (map PutCache fills.1)
+    (has_books f l of, entries_there after refl fills.0) (cells_there after refl fills.1))
+new_there Entries f l of book puts fills =
+    let after = with_tables (which_new Entries) l in
+    subst (HasThem after) (sym fills.2) (has_books f l of, entries_there after refl fills.0)
+new_there Braille f l of book puts fills =
+    let after = with_tables (which_new Braille) l in
+    subst (HasThem after) (sym fills.2) (cells_there after refl fills.0)
+
+-- ---- none of the new tables is `corr`
+
+abbrev AreNotCorr : List Which → Type 0
+AreNotCorr ws = AllByRecursion (λ w. (described w).is_written ≡ true) ws
+
+new_written : (t : NewTables) → AreNotCorr (which_new t)
+new_written EntriesAndBraille = (refl, (refl, tt))
+new_written Entries = (refl, tt)
+new_written Braille = (refl, tt)
+
+written_of : (ts : List FileTable) → AreNotCorr (map which ts) → AreWritten ts
+written_of [] all = tt
+written_of (t ∷ ts) all = (all.0, written_of ts all.1)
+
+pub are_written : (t : NewTables) (ts : List FileTable) → map which ts ≡ which_new t → AreWritten ts
+are_written t ts are = written_of ts (subst AreNotCorr (sym are) (new_written t))
+
+-- ---- the rows once the tables are there
+
+pub emptied : (t : NewTables) (l : Layout) (others : Trees) (c : Contents) → rows_of (with_tables (which_new t) l) (with_none (which_new t) others c) ≡ with_empty t (rows_of l c)
+emptied EntriesAndBraille l others c = refl
+emptied Entries l others c = refl
+emptied Braille l others c = refl
+
+-- ---- what stays
+
+one_keeps : (it : RowPut) (c : Contents) → (put_into c it).rows corrs ≡ c.rows corrs
+one_keeps (PutBook row) c = refl
+one_keeps (PutTab row) c = refl
+one_keeps (PutPara row) c = refl
+one_keeps (PutMark row) c = refl
+one_keeps (PutCache row) c = refl
+one_keeps (PutEntry row) c = refl
+one_keeps (SetPlace id place) c = refl
+one_keeps (SetFlags id style volume struck) c = refl
+one_keeps (SetTable id tab) c = refl
+one_keeps (SetPrint id print) c = refl
+one_keeps (SetSpan id start stop touched) c = refl
+one_keeps (SetResolved id resolved) c = refl
+one_keeps (SetVersion version) c = refl
+
+keep_corrs : (puts : List RowPut) (c : Contents) → (puts_into puts c).rows corrs ≡ c.rows corrs
+keep_corrs [] c = refl
+keep_corrs (it ∷ puts) c = keep_corrs puts (put_into c it) ∙ one_keeps it c
+
+keep_others : (puts : List RowPut) (c : Contents) → (puts_into puts c).others ≡ c.others
+keep_others [] c = refl
+keep_others (it ∷ puts) c = keep_others puts (put_into c it)
+
+none_of_corrs : (t : NewTables) (others : Trees) (c : Contents) → (with_none (which_new t) others c).rows corrs ≡ c.rows corrs
+none_of_corrs EntriesAndBraille others c = refl
+none_of_corrs Entries others c = refl
+none_of_corrs Braille others c = refl
+
+-- ---- the book in the file with these tables
+
+module _ (t : NewTables) (l : Layout) (c : Contents) (book : Book) (puts : List RowPut) (fills : Fills t book puts) (s : State) (stands : StandsAs l c book s) (P : Layout → Contents → Type 0) where
+  pub gained : IsGrown (which_new t) puts l c s.now.trees P → HasGained (which_new t) l c book s.now.trees P
+  gained (others, rows, aside, is) =
+      let after = with_tables (which_new t) l in
+      let empty = with_none (which_new t) others c in
+      let same = all_put after empty puts (new_there t stands.format l stands.of book puts fills) ∙ ap (with_puts puts) (emptied t l others c) in (
+        puts_into puts empty,
+        is,
+        subst (λ (rows : FileRows). RowsShow rows book) (sym same) (filled-shown t (rows_of l c) book puts stands.rows fills),
+        record {
+          corrs = keep_corrs puts empty ∙ none_of_corrs t others c;
+          others = subst (KeepsRows l.schema.tables s.now.trees) (sym (keep_others puts empty)) rows;
+          aside = subst (KeepsAside l.schema s.now.trees) (sym (keep_others puts empty)) aside;
+        },
+      )
+
+-- ---- what is written, and what a crash leaves
+
+module _ (t : NewTables) (book : Book) (puts : List RowPut) (fills : Fills t book puts) (ts : List FileTable) (are : map which ts ≡ which_new t) (old : State) where
+  pub shows_gained : (new : State) → WritesWithTables (map which ts) puts old new
+      → (l : Layout) (c : Contents) → StandsAs l c book old → HasGained (which_new t) l c book old.now.trees (λ after d. Shows after d new)
+  shows_gained new writes l c stands =
+      let writes_new = subst (λ (ws : List Which). WritesWithTables ws puts old new) are writes in
+      gained t l c book puts fills old stands (λ after d. Shows after d new)
+      (writes_new l c (new_differ t) (new_there t stands.format l stands.of book puts fills) stands.shows)
+
+  pub holds_gained : (db : Trees) → IsFileWithTables (map which ts) puts old db → HoldsWith (which_new t) book old db
+  holds_gained db file l c stands =
+      let file_new = subst (λ (ws : List Which). IsFileWithTables ws puts old db) are file in
+      gained t l c book puts fills old stands (λ after d. IsFile after d db)
+      (file_new l c (new_differ t) (new_there t stands.format l stands.of book puts fills) stands.shows)

@@ -1,0 +1,56 @@
+-- A file that gains no table is as it was, and one that gained some, and is settled, leaves the book with them.
+use Rattle.std.proofs.Common.{◌≡◌, List, [], ◌∷◌, refl, sym, subst}
+use Rattle.std.specs.List.{AllByRecursion}
+use Rattle.sqlite_catalog.specs.Change.{KeepsRows}
+use Rattle.sqlite_schema.specs.declared.schema.Table.{Table}
+use Rattle.sqlite_trees.specs.Tree.{Trees}
+use Rattle.sqlite.specs.State.{State}
+use Rattle.sql_tables.specs.States.{IsSettled}
+use Rattle.desk_book.specs.Book.{Book}
+use Rattle.desk_store.specs.Books.{HoldsBook, LeavesBook}
+use Rattle.desk_store.specs.Contents.{Contents}
+use Rattle.desk_store.specs.Described.{Which}
+use Rattle.desk_store.specs.Layout.{IsOther, Layout}
+use Rattle.desk_store.specs.Making.{with_tables}
+use Rattle.desk_store.specs.Opened.{HasGained, StandsAs}
+use Rattle.desk_store.specs.States.{Shows}
+
+own_rows : (tables : List Table) (rows : Trees) → KeepsRows tables rows rows
+own_rows [] rows = tt
+own_rows (t ∷ tables) rows = (refl, own_rows tables rows)
+
+module _ (l : Layout) (c : Contents) (book : Book) (s : State) where
+  -- the contents with the other trees as they stand
+  abbrev as_it_stands : Contents
+  as_it_stands = record { rows = c.rows; others = s.now.trees }
+
+  pub gains_none : StandsAs l c book s → HasGained [] l c book s.now.trees (λ after d. Shows after d s)
+  gains_none stands = (
+    as_it_stands,
+    record {
+      schema = stands.shows.schema;
+      is = record {
+        declared = stands.shows.is.declared;
+        sound = stands.shows.is.sound;
+        holds = record {
+          tables = stands.shows.is.holds.tables;
+          ids = stands.shows.is.holds.ids;
+          others = own_others l.schema.tables;
+          aside = λ tree other no_index. refl;
+        };
+      };
+    },
+    stands.rows,
+    record {
+      corrs = refl;
+      others = own_rows l.schema.tables s.now.trees;
+      aside = record { rows = λ tree is. refl; texts = λ row has foreign. has; version = refl };
+    },
+  )
+    where
+      own_others : (tables : List Table) → AllByRecursion (λ t. IsOther l t.tree → s.now.trees t.tree ≡ s.now.trees t.tree) tables
+      own_others [] = tt
+      own_others (t ∷ tables) = (λ other. refl, own_others tables)
+
+  pub leaves_gained : (ws : List Which) (rows : Trees) → HasGained ws l c book rows (λ after d. Shows after d s) → IsSettled s → LeavesBook (with_tables ws l) book s
+  leaves_gained ws rows gained settled db left = subst (HoldsBook (with_tables ws l) book) (sym (settled db left)) (gained.0, gained.1.is, gained.2)

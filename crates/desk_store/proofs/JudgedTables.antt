@@ -1,0 +1,317 @@
+-- How the tables of a book's file are judged, from what was read of `book`.
+use Rattle.std.proofs.Common.{arith, ◌≡◌, ◌≢◌, ℤ, pos, ◌≤ℤ◌, ◌<ℤ◌, Bool, true, false, ◌&&◌, not, if◌then◌else◌, List, [], ◌∷◌, length, None, Ok, Err, inl, inr, refl, sym, subst, ap, ◌∙◌, true≢false, IsPermutation}
+use Rattle.std.specs.List.{AllByRecursion}
+use Rattle.std.specs.Ordering.{int_eq}
+use Rattle.std.proofs.lemmas.Bool.Decides.{Decides-int_eq}
+use Rattle.std.proofs.lemmas.Int.{ints}
+use Rattle.std.proofs.lemmas.List.Sorted.{IsPermutation-sym, length_permutation}
+use Rattle.sqlite_schema.specs.declared.schema.Schema.{Schema}
+use Rattle.sqlite_trees.proofs.ListLemmas.{all-permutation}
+use Rattle.sqlite.specs.Effect.{Database}
+use Rattle.sqlite.specs.State.{State}
+use Rattle.desk_book.specs.Book.{Book}
+use Rattle.desk_book.specs.Damage.{IsDamagedBook}
+use Rattle.desk_book.specs.FileRows.{EntryRows, FileRows, Named, Unnamed, format_of}
+use Rattle.desk_book.specs.Rebuilt.{entry_rows, rows_in}
+use Rattle.desk_book.specs.Shows.{Shows as RowsShow, book_row_of}
+use Rattle.desk_book.specs.declared.parts.FileTable.TheVariants as file
+use Rattle.desk_book.specs.declared.parts.Parts.{Parts}
+use Rattle.desk_book.specs.declared.rows.BookRow.{BookRow}
+use Rattle.desk_book.proofs.SoundEntryRows.{sound}
+use Rattle.desk_store.specs.Asked.{AnswersRows, AnyRows, asked}
+use Rattle.desk_store.specs.BookFile.{rows_of}
+use Rattle.desk_store.specs.Contents.{Contents}
+use Rattle.desk_store.specs.Described.{books, tabs, paras, corrs, marks, named_corrs}
+use Rattle.desk_store.specs.Formats.{Format, HasThoseRead, IsOfFormat, IsPresent, Presence, foreign, named, needed, optional, presence, unnamed, unread}
+use Rattle.desk_store.specs.Found.{AreFileRows, AreOtherRows, AreRowsIn, CanAllAnswer, CanAnswer, RowsShowIn, format_kept}
+use Rattle.desk_store.specs.Layout.{Layout}
+use Rattle.desk_store.specs.Opened.{IsReadOf, LacksTables, TellsOfTables}
+use Rattle.desk_store.specs.Opening.{AreRead, CanAllBeRead, CanBeRead, IsBookRow, IsNewer, IsRefusal, ShowsReadable, Stays, TellsOfRow, format_in, has_tables, opened_as}
+use Rattle.desk_store.specs.States.{Shows}
+use Rattle.desk_store.specs.Tables.{is_there}
+use Rattle.desk_store.specs.declared.fault.Fault.{Fault}
+use Rattle.desk_store.specs.declared.fault.Fault.TheVariants as reading
+use Rattle.desk_store.specs.declared.fault.OpenFault.{OpenFault}
+use Rattle.desk_store.specs.declared.fault.OpenFault.TheVariants.{NotABook, Damaged, NewerFormat, Lost, NoMemory}
+use Rattle.desk_store.proofs.AnyFile.{cells_before, entries_before, gives_before, shown_before}
+use Rattle.desk_store.proofs.Opened.{as_listed, same_state, stays_read}
+use Rattle.desk_store.proofs.WholeReads.{reads_only}
+
+-- ---- one row
+
+length_one : {X : Type 0} (x : X) (ys : List X) → length ys ≡ 1 → AllByRecursion (λ y. y ≡ x) ys → ys ≡ x ∷ []
+length_one x [] one all = absurd (omega (arith, one))
+length_one x (y ∷ []) one all = ap (λ z. z ∷ []) all.0
+length_one x (y ∷ z ∷ zs) one all = absurd (omega (arith, one))
+
+-- a list that is one row but for the order is that row
+same_one : {X : Type 0} (xs ys : List X) (x : X) → IsPermutation xs ys → ys ≡ x ∷ [] → xs ≡ x ∷ []
+same_one {X} xs ys x same is =
+    let back : IsPermutation (x ∷ []) xs = subst (λ (zs : List X). IsPermutation zs xs) is (IsPermutation-sym xs ys same) in
+    length_one x xs (length_permutation (x ∷ []) xs back) (all-permutation (λ y. y ≡ x) (x ∷ []) xs back (refl, tt))
+
+same_head : {X : Type 0} (x y : X) → x ∷ [] ≡ y ∷ [] → x ≡ y
+same_head x y same = cc
+
+newer_in : (xs ys : List BookRow) → IsPermutation xs ys → IsNewer ys → IsNewer xs
+newer_in xs ys same newer = (newer.0, same_one xs ys newer.0 same newer.1, newer.2)
+
+damaged_in : (xs ys : List BookRow) (id : ℤ) → IsPermutation xs ys → IsDamagedBook ys id → IsDamagedBook xs id
+damaged_in xs ys id same damaged = (damaged.0, λ one. damaged.1 (one.0, same_one ys xs one.0 (IsPermutation-sym xs ys same) one.1, one.2))
+
+book_row_in : (xs ys : List BookRow) (row : BookRow) → IsPermutation xs ys → IsBookRow ys row → IsBookRow xs row
+book_row_in xs ys row same is = record { alone = same_one xs ys row same is.alone; sound = is.sound; format = is.format }
+
+-- what is told of the rows that were read is told of those of the file
+pub row_told : (l : Layout) (c : Contents) (rows : List BookRow) → l.has books ≡ true → IsPermutation (c.rows books) rows → (told : OpenFault) → TellsOfRow rows told → TellsOfTables l c told
+row_told l c rows has same NotABook tells = absurd tells
+row_told l c rows has same (Damaged table id) tells =
+    (has, tells.0, damaged_in (c.rows books) rows id same tells.1, λ newer. tells.2 (newer_in rows (c.rows books) (IsPermutation-sym (c.rows books) rows same) newer))
+row_told l c rows has same NewerFormat tells = (has, newer_in (c.rows books) rows same tells)
+row_told l c rows has same Lost tells = absurd tells
+row_told l c rows has same NoMemory tells = absurd tells
+
+-- ---- the row that a book's rows have
+
+same_fields : (row : BookRow) (id format version : ℤ) → id ≡ row.id → format ≡ row.format → version ≡ row.version → ◌≡◌ {A = BookRow} (record { id = id; format = format; version = version }) row
+same_fields row id format version p q r = λ i. record { id = p i; format = q i; version = r i }
+
+-- the format of entries is told by their row
+numbered : (entries : EntryRows) → format_in (pos (format_of entries)) ≡ format_kept entries
+numbered (Unnamed rows) = refl
+numbered (Named rows) = refl
+
+number_of : (n : ℤ) → pos 1 ≤ℤ n → n ≤ℤ pos 2 → (entries : EntryRows) → format_kept entries ≡ format_in n → pos (format_of entries) ≡ n
+number_of n low high entries kept = go (int_eq n (pos 1)) (Decides-int_eq n (pos 1)).0 (Decides-int_eq n (pos 1)).1 entries kept
+  where
+    go : (b : Bool) → (b ≡ true → n ≡ pos 1) → (n ≡ pos 1 → b ≡ true) → (entries : EntryRows) → format_kept entries ≡ (if b then unnamed else named) → pos (format_of entries) ≡ n
+    go true is back (Unnamed rows) same = sym (is refl)
+    go true is back (Named rows) same = absurd (cc)
+    go false is back (Unnamed rows) same = absurd (cc)
+    go false is back (Named rows) same =
+        let other : n ≢ pos 1 = λ one. true≢false (sym (back one)) in
+        omega (arith, ints, low, high, other)
+
+books_of : (row : BookRow) (rows : List BookRow) (parts : Parts) → IsBookRow rows row → parts.version ≡ row.version → format_kept (entry_rows parts.entries) ≡ format_in row.format → (rows_in parts).books ≡ rows
+books_of row rows parts is version kept =
+    ap (λ (r : BookRow). r ∷ []) (same_fields row (pos 1) (pos (format_of (entry_rows parts.entries))) parts.version (sym is.sound.id) (number_of row.format is.sound.format is.format (entry_rows parts.entries) kept) version)
+    ∙ sym is.alone
+
+-- ---- the tables of a format
+
+present : (p : Presence) (has there : Bool) (Utf8 : Type 0) → has ≡ there → CanBeRead p has Utf8 → IsPresent p has there
+present needed has there Utf8 same can = (same, can.0)
+present optional has there Utf8 same can = same
+present foreign has there Utf8 same can = (same, can)
+present unread has there Utf8 same can = tt
+
+-- a file that can be read as one of a format is of it
+of_read : (f : Format) (l : Layout) (c : Contents) → HasThoseRead l → CanAllBeRead f l c → IsOfFormat f l
+of_read f l c (inl exact) can = λ w. present (presence f w) (l.has w) (is_there l.schema w) _ (exact w) (can w)
+of_read f l c (inr other) can = go f other.0 other.1 can
+  where
+    go : (f g : Format) → IsOfFormat g l → CanAllBeRead f l c → IsOfFormat f l
+    go unnamed unnamed of can = of
+    go unnamed named of can = absurd (true≢false (sym (of named_corrs).1 ∙ can named_corrs))
+    go named unnamed of can = absurd (true≢false (sym (can named_corrs).0 ∙ (of named_corrs).1))
+    go named named of can = of
+
+all_but_one : (t p m c n : Bool) → t ≡ true → p ≡ true → m ≡ true → c ≡ true → n ≡ false → ((t && p && m) && (c && not n)) ≡ true
+all_but_one t p m c n is_t is_p is_m is_c is_n = rw (is_t, is_p, is_m, is_c, is_n) refl
+
+all_of_them : (t p m n : Bool) → t ≡ true → p ≡ true → m ≡ true → n ≡ true → ((t && p && m) && n) ≡ true
+all_of_them t p m n is_t is_p is_m is_n = rw (is_t, is_p, is_m, is_n) refl
+
+right_of : (a b : Bool) → (a && b) ≡ true → b ≡ true
+right_of true b both = both
+right_of false b both = absurd (true≢false (sym both))
+
+none_of : (b : Bool) → not b ≡ true → b ≡ false
+none_of true is = absurd (true≢false (sym is))
+none_of false is = refl
+
+tables_of : (f : Format) (l : Layout) → IsOfFormat f l → has_tables f l.schema ≡ true
+tables_of unnamed l of =
+    all_but_one _ _ _ _ _ (sym (of tabs).0 ∙ (of tabs).1) (sym (of paras).0 ∙ (of paras).1) (sym (of marks).0 ∙ (of marks).1) (sym (of corrs).0 ∙ (of corrs).1) (sym (of named_corrs).0 ∙ (of named_corrs).1)
+tables_of named l of =
+    all_of_them _ _ _ _ (sym (of tabs).0 ∙ (of tabs).1) (sym (of paras).0 ∙ (of paras).1) (sym (of marks).0 ∙ (of marks).1) (sym (of named_corrs).0 ∙ (of named_corrs).1)
+
+-- the tables that are there are those of one format
+one_format : (f g : Format) (l : Layout) → has_tables f l.schema ≡ true → IsOfFormat g l → g ≡ f
+one_format unnamed unnamed l all of = refl
+one_format unnamed named l all of =
+    absurd (true≢false (sym (of named_corrs).1 ∙ (of named_corrs).0 ∙ none_of (is_there l.schema named_corrs) (right_of (is_there l.schema corrs) _ (right_of _ _ all))))
+one_format named unnamed l all of = absurd (true≢false (sym (right_of _ (is_there l.schema named_corrs) all) ∙ sym (of named_corrs).0 ∙ (of named_corrs).1))
+one_format named named l all of = refl
+
+books_as_there : (f : Format) (l : Layout) → IsOfFormat f l → l.has books ≡ is_there l.schema books
+books_as_there unnamed l of = (of books).0
+books_as_there named l of = (of books).0
+
+books_there : (l : Layout) → HasThoseRead l → l.has books ≡ is_there l.schema books
+books_there l (inl exact) = exact books
+books_there l (inr other) = books_as_there other.0 l other.1
+
+-- ---- what is told
+
+pub refusal_is : (fault : Fault) → IsRefusal (opened_as fault) → fault ≡ reading.Refused
+refusal_is reading.NoMemory is = absurd is
+refusal_is reading.Lost is = absurd is
+refusal_is reading.Refused is = refl
+
+pub read_told : (l : Layout) (c : Contents) (fault : Fault) → (fault ≡ reading.Refused → LacksTables l c) → TellsOfTables l c (opened_as fault)
+read_told l c reading.NoMemory lacks = tt
+read_told l c reading.Lost lacks = tt
+read_told l c reading.Refused lacks = lacks refl
+
+-- ---- what was read
+
+others_before : (s a : State) → Stays s a → (rows : FileRows) → AreOtherRows a rows → AreOtherRows s rows
+others_before s a same rows are = record {
+  stored = are.stored;
+  tabs_are = are.tabs_are;
+  tabs = (gives_before s a same tabs a are.stored are.tabs.0, are.tabs.1);
+  paras = (gives_before s a same paras a rows.paras are.paras.0, are.paras.1);
+  entries = entries_before s a same rows.entries are.entries;
+  marks = (gives_before s a same marks a rows.marks are.marks.0, are.marks.1);
+  caches = cells_before s a same rows.caches are.caches;
+}
+
+-- ---- a read of `book`
+
+pub books_in : {V : Type 0} (items : V → List BookRow) (v : V) (old new : State) → AnswersRows (Ok v) items books (λ x. x) AnyRows old new → AreRowsIn old books (items v)
+books_in items v old new answers = (gives_before old old (same_state old) books new (items v) answers.gives, tt)
+
+can_books : (f : Format) (s : State) → CanAllAnswer f s → CanAnswer s books
+can_books unnamed s all = all books tt
+can_books named s all = all books tt
+
+pub books_answered : {V : Type 0} (items : V → List BookRow) (f : Format) (fault : Fault) (old new : State) → AnswersRows (Err fault) items books (λ x. x) AnyRows old new → old.step_limit ≡ None
+    → CanAllAnswer f old → fault ≢ reading.Refused
+books_answered items f fault old new answers unlimited all =
+    let can = can_books f old all in
+    answers.answered can.has unlimited (λ rows seen. can.kinds rows (shown_before (asked books).text (reads_only books) old old (same_state old) new rows seen)) (λ xs gives. tt)
+
+-- ---- a row that was judged
+
+-- `book` is there and was read, and this is its one row, sound and of a known format.
+pub record IsJudged (old new : State) (rows : List BookRow) (row : BookRow) : Type 0 where
+  pub there : is_there old.now.schema books ≡ true
+  pub so_far : Stays old new
+  pub are : AreRowsIn old books rows
+  pub shows : (l : Layout) (c : Contents) → l.has books ≡ true → Shows l c old → IsPermutation (c.rows books) rows
+  pub is : IsBookRow rows row
+
+pub judged : {V : Type 0} (items : V → List BookRow) (v : V) (old new : State) (seen : List BookRow) (row : BookRow) → is_there old.now.schema books ≡ true → AnswersRows (Ok v) items books (λ x. x) AnyRows old new
+    → seen ≡ items v → IsBookRow seen row → IsJudged old new (items v) row
+judged items v old new seen row there answers value is = record {
+  there = there;
+  so_far = stays_read items books (λ x. x) AnyRows old new v answers;
+  are = books_in items v old new answers;
+  shows = λ l c has was. as_listed _ _ (answers.shows l c has was);
+  is = subst (λ (rows : List BookRow). IsBookRow rows row) value is;
+}
+
+-- a layout has `book` where it is there
+pub has_books : (l : Layout) (c : Contents) (s : State) → HasThoseRead l → Shows l c s → is_there s.now.schema books ≡ true → l.has books ≡ true
+has_books l c s those was there = books_there l those ∙ ap (λ (schema : Schema). is_there schema books) (sym was.schema) ∙ there
+
+module _ {old new : State} {rows : List BookRow} {row : BookRow} (it : IsJudged old new rows row) where
+  -- whether the tables of the row's format are there
+  pub tables_there : (f : Format) (has is : Bool) → has ≡ has_tables f new.now.schema → f ≡ format_in row.format → has ≡ is → has_tables (format_in row.format) old.now.schema ≡ is
+  tables_there f has is told of found =
+      ap (λ (g : Format). has_tables g old.now.schema) (sym of) ∙ ap (λ (d : Database). has_tables f d.schema) (sym it.so_far.now) ∙ sym told ∙ found
+
+  -- the row is the file's
+  row_of_file : (l : Layout) (c : Contents) → HasThoseRead l → Shows l c old → (l.has books ≡ true) × IsBookRow (c.rows books) row
+  row_of_file l c those was =
+      let has = has_books l c old those was it.there in
+      (has, book_row_in (c.rows books) rows row (it.shows l c has was) it.is)
+
+  -- a table of its format isn't there
+  pub lacks_tables : (l : Layout) (c : Contents) → HasThoseRead l → Shows l c old → has_tables (format_in row.format) old.now.schema ≡ false → LacksTables l c
+  lacks_tables l c those was none =
+      let f = format_in row.format in
+      let here = row_of_file l c those was in
+      inr (row, here.0, here.1, λ can. true≢false (sym (tables_of f l (of_read f l c those can)) ∙ ap (λ (schema : Schema). has_tables f schema) (sym was.schema) ∙ none))
+
+  -- or one can't be read
+  pub lacks_readable : (l : Layout) (c : Contents) → HasThoseRead l → Shows l c old → old.step_limit ≡ None → ¬ ShowsReadable (format_in row.format) old → LacksTables l c
+  lacks_readable l c those was limit none =
+      let here = row_of_file l c those was in
+      inr (row, here.0, here.1, λ can. none (l, c, of_read (format_in row.format) l c those can, was, can, limit))
+
+  -- a file of either format is of the row's where its tables are there
+  pub of_the_row : (g : Format) (l : Layout) (c : Contents) → Shows l c old → has_tables (format_in row.format) old.now.schema ≡ true → IsOfFormat g l → IsOfFormat (format_in row.format) l
+  of_the_row g l c was all of =
+      let f = format_in row.format in
+      subst (λ (h : Format). IsOfFormat h l) (one_format f g l (ap (λ (schema : Schema). has_tables f schema) (sym was.schema) ∙ all) of) of
+
+  module _ (parts : Parts) (version : parts.version ≡ row.version) (kept : format_kept (entry_rows parts.entries) ≡ format_in row.format) where
+    pub file_rows : has_tables (format_in row.format) old.now.schema ≡ true → AreOtherRows new (rows_in parts) → AreFileRows old (rows_in parts)
+    file_rows all others = record {
+      book = it.there;
+      tables = subst (λ (f : Format). has_tables f old.now.schema ≡ true) (sym kept) all;
+      books = subst (AreRowsIn old books) (sym (books_of row rows parts it.is version kept)) it.are;
+      others = others_before old new it.so_far (rows_in parts) others;
+    }
+
+    pub read_whole : (l : Layout) (c : Contents) → Shows l c old → IsOfFormat (format_in row.format) l → CanAllBeRead (format_in row.format) l c → AreRead (rows_of l c) parts → IsReadOf l c (rows_in parts)
+    read_whole l c was of can are =
+        let here = row_of_file l c (inr (format_in row.format, of)) was in
+        record {
+          row = row;
+          book = here.1;
+          of = of;
+          readable = can;
+          same = record {
+            books = sym (books_of row (c.rows books) parts here.1 version kept);
+            tabs = are.tabs;
+            paras = are.paras;
+            entries = are.entries;
+            marks = are.marks;
+            caches = are.caches;
+          };
+        }
+
+-- ---- a file whose rows show a book
+
+module _ (s : State) (book : Book) (shows : RowsShowIn s book) (read : List BookRow) (are : AreRowsIn s books read) where
+  abbrev others : FileRows
+  others = record shows.rows { books = read }
+
+  shown : RowsShow others book
+  shown = shows.each others (record {
+    book = shows.are.book;
+    tables = shows.are.tables;
+    books = are;
+    others = record {
+      stored = shows.are.others.stored;
+      tabs_are = shows.are.others.tabs_are;
+      tabs = shows.are.others.tabs;
+      paras = shows.are.others.paras;
+      entries = shows.are.others.entries;
+      marks = shows.are.others.marks;
+      caches = shows.are.others.caches;
+    };
+  })
+
+  not_newer : (entries : EntryRows) (row : BookRow) → row ≡ book_row_of (format_of entries) book.version → ¬ (pos 2 <ℤ row.format)
+  not_newer (Unnamed rows) row is more = let same = ap (λ (r : BookRow). r.format) is in absurd (omega (arith, ints, same, more))
+  not_newer (Named rows) row is more = let same = ap (λ (r : BookRow). r.format) is in absurd (omega (arith, ints, same, more))
+
+  -- nothing is told of the row that was read
+  pub row_is_sound : (told : OpenFault) → ¬ TellsOfRow read told
+  row_is_sound NotABook tells = tells
+  row_is_sound (Damaged table id) tells = sound others book shown file.Book id tells.1
+  row_is_sound NewerFormat tells = not_newer shows.rows.entries tells.0 (same_head _ _ (sym tells.1 ∙ shown.row)) tells.2
+  row_is_sound Lost tells = tells
+  row_is_sound NoMemory tells = tells
+
+  -- and it tells how its entries are kept
+  pub kept_by_row : (row : BookRow) → IsBookRow read row → format_kept shows.rows.entries ≡ format_in row.format
+  kept_by_row row is =
+      sym (numbered shows.rows.entries) ∙ ap (λ (r : BookRow). format_in r.format) (same_head _ _ (sym shown.row ∙ is.alone))
+
+  pub has_its_tables : (row : BookRow) → IsBookRow read row → has_tables (format_in row.format) s.now.schema ≡ true
+  has_its_tables row is = subst (λ (f : Format). has_tables f s.now.schema ≡ true) (kept_by_row row is) shows.are.tables

@@ -1,0 +1,124 @@
+-- What a read of a table tells of the file that it is of.
+use Rattle.std.proofs.Common.{[], ◌∷◌, ◌≡◌, ◌≢◌, true, List, Ok, Err, map, None, refl, sym, subst, ap, ◌∙◌, IsPermutation}
+use Rattle.std.specs.List.{AllByRecursion}
+use Rattle.sqlite_value.specs.Order.{Row}
+use Rattle.sqlite.specs.Effect.{Database}
+use Rattle.sqlite.specs.State.{IsUnchanged, State}
+use Rattle.sql_tables.specs.Rows.{Lists, picked}
+use Rattle.desk_store.specs.Asked.{AnswersRows, AnyRows}
+use Rattle.desk_store.specs.Contents.{Contents}
+use Rattle.desk_store.specs.Described.{Which, tabs, paras, marks, caches, described}
+use Rattle.desk_store.specs.Layout.{Layout}
+use Rattle.desk_store.specs.Formats.{Format, unnamed, named, Presence, needed, optional, presence, IsOfFormat, IsPresent}
+use Rattle.desk_store.specs.Opening.{CanBeRead, ShowsReadable, Stays}
+use Rattle.desk_store.specs.Tables.{is_there}
+use Rattle.desk_store.specs.Rows.{ShownOf, own, shown}
+use Rattle.desk_store.specs.States.{IsFile, Shows}
+use Rattle.desk_store.specs.Whole.{HaveOwnRowids, IsUtf8Row}
+use Rattle.desk_store.specs.declared.fault.Fault.{Fault}
+use Rattle.desk_store.specs.declared.fault.Fault.TheVariants.{Refused}
+use Rattle.desk_store.proofs.FileTexts.{readable_table}
+use Rattle.desk_store.proofs.WholeFile.{tabs_apart}
+
+-- ---- a connection that stays as it was
+
+pub as_it_was : (old new : State) → IsUnchanged old new → Stays old new
+as_it_was old new same = record { now = same.0.now_is; committed = same.0.committed_is; is_open = same.0.is_open ∙ sym same.0.was_open }
+
+pub same_state : (s : State) → Stays s s
+same_state s = record { now = refl; committed = refl; is_open = refl }
+
+pub stays_then : (a b c : State) → Stays a b → Stays b c → Stays a c
+stays_then a b c p q = record { now = q.now ∙ p.now; committed = q.committed ∙ p.committed; is_open = q.is_open ∙ p.is_open }
+
+pub shows_still : (old new : State) → Stays old new → (l : Layout) (c : Contents) → Shows l c old → Shows l c new
+shows_still old new same l c was = record {
+  schema = ap (λ (d : Database). d.schema) same.now ∙ was.schema;
+  is = subst (λ (d : Database). IsFile l c d.trees) (sym same.now) was.is;
+}
+
+-- ---- a read of a table
+
+-- in whatever file the connection shows, the rows of the table are so apart
+abbrev pub AreApartIn : {X : Type 0} (w : Which) (written : X → Row) → (List X → Type 0) → State → Type 0
+AreApartIn {X} w written Apart s = (l : Layout) (c : Contents) → l.has w ≡ true → Shows l c s → (xs : List X) → Lists written (picked (described w).shown) xs (s.now.trees (l.tree w)) → Apart xs
+
+pub any_apart : {X : Type 0} (w : Which) (written : X → Row) (s : State) → AreApartIn w written AnyRows s
+any_apart w written s l c there shows xs lists = tt
+
+pub own_rowids : (s : State) → AreApartIn tabs (shown tabs) HaveOwnRowids s
+own_rowids s l c there shows xs lists = tabs_apart l c s.now.trees shows.is there xs lists
+
+module _ {V X : Type 0} (items : V → List X) (w : Which) (view : X → ShownOf w) (Apart : List X → Type 0) (old new : State) where
+  -- it isn't refused in a file that has the table with texts in UTF-8
+  pub never_refused_in : (fault : Fault) → AnswersRows (Err fault) items w view Apart old new → AreApartIn w (λ x. shown w (view x)) Apart old
+      → fault ≡ Refused → (l : Layout) (c : Contents) → Shows l c old → l.has w ≡ true → AllByRecursion (IsUtf8Row w) (c.rows w) → old.step_limit ≢ None
+  never_refused_in fault answers apart is l c shows there utf8 free =
+      answers.cause (l.tree w)
+      (record { declared = rw shows.schema (shows.is.declared w there); sound = rw shows.schema shows.is.sound })
+      free (readable_table l c old.now.trees shows.is w there utf8) (apart l c there shows) is
+
+  pub stays_refused : (fault : Fault) → AnswersRows (Err fault) items w view Apart old new → fault ≡ Refused → Stays old new
+  stays_refused fault answers is = as_it_was old new (answers.refused is)
+
+  pub stays_read : (v : V) → AnswersRows (Ok v) items w view Apart old new → Stays old new
+  stays_read v answers = as_it_was old new answers.unchanged
+
+-- ---- a read of a table, after others
+
+module _ {V X : Type 0} (items : V → List X) (w : Which) (view : X → ShownOf w) (Apart : List X → Type 0)
+    (before old new : State) (so_far : Stays before old) (limit : old.step_limit ≡ before.step_limit) where
+  -- in a file of this format that can be read
+  pub never_refused_of : (f : Format) (fault : Fault) → presence f w ≡ needed → AnswersRows (Err fault) items w view Apart old new → AreApartIn w (λ x. shown w (view x)) Apart old
+      → fault ≡ Refused → Stays before new × ¬ ShowsReadable f before
+  never_refused_of f fault has_to answers apart is = (
+    stays_then before old new so_far (stays_refused items w view Apart old new fault answers is),
+    λ r.
+        let can = subst (λ (p : Presence). CanBeRead p (r.0.has w) (AllByRecursion (IsUtf8Row w) (r.1.rows w))) has_to (r.4 w) in
+        never_refused_in items w view Apart old new fault answers apart is r.0 r.1 (shows_still before old so_far r.0 r.1 r.3) can.0 can.1 (limit ∙ r.5),
+  )
+
+  pub never_refused_optional : (f : Format) (fault : Fault) → presence f w ≡ optional → AnswersRows (Err fault) items w view Apart old new → AreApartIn w (λ x. shown w (view x)) Apart old
+      → ((l : Layout) → IsOfFormat f l → l.schema ≡ before.now.schema → l.has w ≡ true) → fault ≡ Refused → Stays before new × ¬ ShowsReadable f before
+  never_refused_optional f fault may answers apart has is = (
+    stays_then before old new so_far (stays_refused items w view Apart old new fault answers is),
+    λ r.
+        let there = has r.0 r.2 (sym r.3.schema) in
+        let can = subst (λ (p : Presence). CanBeRead p (r.0.has w) (AllByRecursion (IsUtf8Row w) (r.1.rows w))) may (r.4 w) in
+        never_refused_in items w view Apart old new fault answers apart is r.0 r.1 (shows_still before old so_far r.0 r.1 r.3) there (can there) (limit ∙ r.5),
+  )
+
+  -- and what it gave are the table's rows
+  pub read_of : (v : V) → AnswersRows (Ok v) items w view Apart old new → (l : Layout) (c : Contents) → l.has w ≡ true → Shows l c before → IsPermutation (c.rows w) (map (λ x. own w (view x)) (items v))
+  read_of v answers l c there was = answers.shows l c there (shows_still before old so_far l c was)
+
+pub map_same : {X : Type 0} (xs : List X) → map (λ x. x) xs ≡ xs
+map_same [] = refl
+map_same (x ∷ xs) = ap (λ (ys : List _). x ∷ ys) (map_same xs)
+
+pub as_listed : {X : Type 0} (xs ys : List X) → IsPermutation xs (map (λ y. y) ys) → IsPermutation xs ys
+as_listed xs ys p = subst (λ (zs : List _). IsPermutation xs zs) (map_same ys) p
+
+-- ---- the tables of a format
+
+pub optional_caches : (f : Format) → presence f caches ≡ optional
+optional_caches unnamed = refl
+optional_caches named = refl
+
+pub needs_tabs : (f : Format) → presence f tabs ≡ needed
+needs_tabs unnamed = refl
+needs_tabs named = refl
+
+pub needs_paras : (f : Format) → presence f paras ≡ needed
+needs_paras unnamed = refl
+needs_paras named = refl
+
+pub needs_marks : (f : Format) → presence f marks ≡ needed
+needs_marks unnamed = refl
+needs_marks named = refl
+
+pub has_needed : (f : Format) (l : Layout) (w : Which) → IsOfFormat f l → presence f w ≡ needed → l.has w ≡ true
+has_needed f l w of is = (subst (λ (p : Presence). IsPresent p (l.has w) (is_there l.schema w)) is (of w)).1
+
+pub has_caches : (f : Format) (l : Layout) → IsOfFormat f l → l.has caches ≡ is_there l.schema caches
+has_caches f l of = subst (λ (p : Presence). IsPresent p (l.has caches) (is_there l.schema caches)) (optional_caches f) (of caches)

@@ -1,0 +1,274 @@
+-- What opening tells and leaves at each of its ends.
+use Rattle.std.proofs.Common.{◌≡◌, ◌⊎◌, Bool, true, false, ◌||◌, IsTrue, List, Option, Ok, Err, arith, refl, sym, ap, ◌∙◌, subst, inl, inr, true≢false}
+use Rattle.std.proofs.lemmas.Bool.{cases_Bool}
+use Rattle.sqlite_schema.specs.declared.schema.Schema.{Schema}
+use Rattle.sqlite_trees.specs.Tree.{Trees}
+use Rattle.sqlite_trees.specs.declared.store.Store.{Ghosts}
+use Rattle.sqlite.specs.declared.error.Error.{Error}
+use Rattle.sqlite.specs.Effect.{Database}
+use Rattle.sqlite.specs.Held.{Held, state}
+use Rattle.sqlite.specs.State.{HasCleanDisk, State, Survives}
+use Rattle.sqlite.proofs.StateLemmas.{survives_then}
+use Rattle.sql_tables.specs.States.{IsSettled, Leaves, ShowsAsBefore}
+use Rattle.desk_book.specs.Book.{Book, empty_book}
+use Rattle.desk_book.specs.FileRows.{FileRows}
+use Rattle.desk_book.specs.Rebuilt.{IsFaultOf}
+use Rattle.desk_book.specs.Shows.{Shows as RowsShow}
+use Rattle.desk_book.specs.declared.filling.NewTables.{NewTables}
+use Rattle.desk_book.specs.declared.parts.PartsFault.{PartsFault}
+use Rattle.desk_book.specs.declared.parts.PartsFault.TheVariants as rebuilt
+use Rattle.desk_book.proofs.OneBook.{one_book}
+use Rattle.desk_book.proofs.SameDamage.{first-damage}
+use Rattle.desk_book.proofs.SameRows.{shown, turned}
+use Rattle.desk_book.proofs.SoundEntryRows.{sound}
+use Rattle.desk_store.specs.BookFile.{rows_of}
+use Rattle.desk_store.specs.Books.{HoldsBook, LeavesBook, ShowsBook}
+use Rattle.desk_store.specs.Contents.{Contents}
+use Rattle.desk_store.specs.Described.{Which, books, caches}
+use Rattle.desk_store.specs.Failing.{FailsToChange, of_first_row}
+use Rattle.desk_store.specs.Formats.{Format, HasThoseRead, IsOfFormat}
+use Rattle.desk_store.specs.Found.{AreFileRows, HasNone, RowsShowIn}
+use Rattle.desk_store.specs.Layout.{Layout}
+use Rattle.desk_store.specs.Making.{IsMade, IsNew, made, new_tables, with_tables}
+use Rattle.desk_store.specs.Opened.{HasGained, HoldsEither, HoldsEmpty, HoldsNone, HoldsWith, IsMadeNew, IsReadOf, MayBring, Opens, Stands, StandsAs, TellsOf, TellsOfNone, TellsOfTables, lacked, lacked_by, which_lacked}
+use Rattle.desk_store.specs.Opening.{IsOpenedAs, IsRefusal, Stays, rebuilt_as}
+use Rattle.desk_store.specs.States.{IsFile, Shows}
+use Rattle.desk_store.specs.Tables.{is_there}
+use Rattle.desk_store.specs.Turns.{begun}
+use Rattle.desk_store.specs.declared.fault.Fault.TheVariants as fault
+use Rattle.desk_store.specs.declared.fault.OpenFault.{OpenFault}
+use Rattle.desk_store.specs.declared.fault.OpenFault.TheVariants.{NotABook, Damaged, NewerFormat, Lost, NoMemory}
+use Rattle.desk_store.proofs.Completed.{completed_tables, lacked_rows, lacked_same, made_holds, new_shows, new_tables_there}
+use Rattle.desk_store.proofs.FoundFormats.{books_there, of_format}
+use Rattle.desk_store.proofs.Opened.{shows_still}
+
+-- ---- what a crash leaves
+
+-- the book in one of its two forms
+pub leaves_either : (make : Bool) (old new : State) → Survives old new (MayBring make old) → HasCleanDisk new → (l : Layout) (book : Book) → Stands l book old
+    → Leaves (HoldsEither l book) old → Leaves (HoldsEither l book) new
+leaves_either make old new survives clean l book stands leaves db left = elim (survives.crash clean db left) [
+  | inl before ↦ leaves db before
+  | inr brought ↦ let gained = brought.old l stands.0 book stands.1 in inr (gained.0, gained.1, gained.2)
+]
+
+-- no book, or the empty one
+pub leaves_none : (make : Bool) (old new : State) → Survives old new (MayBring make old) → HasCleanDisk new → HasNone old.now.schema
+    → Leaves HoldsNone old → Leaves (λ db. HoldsNone db ⊎ HoldsEmpty db) new
+leaves_none make old new survives clean none leaves db left = elim (survives.crash clean db left) [
+  | inl before ↦ inl (leaves db before)
+  | inr brought ↦ inr (made old.now.schema, new_tables_there old.now.schema, made_holds old db (brought.new none).1)
+]
+
+-- ---- where a table of a book is there
+
+pub tells : (l : Layout) (c : Contents) (fault : OpenFault) → TellsOfTables l c fault → TellsOf l c fault
+tells l c NotABook told = told
+tells l c (Damaged table id) told = inl told
+tells l c NewerFormat told = told
+tells l c Lost told = tt
+tells l c NoMemory told = tt
+
+pub tells_no_refusal : (l : Layout) (c : Contents) (fault : OpenFault) → ¬ IsRefusal fault → TellsOf l c fault
+tells_no_refusal l c NotABook none = absurd (none tt)
+tells_no_refusal l c (Damaged table id) none = absurd (none tt)
+tells_no_refusal l c NewerFormat none = absurd (none tt)
+tells_no_refusal l c Lost none = tt
+tells_no_refusal l c NoMemory none = tt
+
+gained_same : (ws vs : List Which) (l : Layout) (c : Contents) (a b : Book) (x y : Database) (P : Layout → Contents → Type 0) → ws ≡ vs → a ≡ b → x ≡ y
+    → HasGained ws l c a x.trees P → HasGained vs l c b y.trees P
+gained_same ws vs l c a b x y P same_tables same_book same_rows gained =
+    subst (λ (d : Database). HasGained vs l c b d.trees P) same_rows
+    (subst (λ (book : Book). HasGained vs l c book x.trees P) same_book
+    (subst (λ (us : List Which). HasGained us l c a x.trees P) same_tables gained))
+
+module _ {S : Type 0} (g : Ghosts S) (make : Bool) (old : Held S) (there : ¬ HasNone (state g old).now.schema) where
+  abbrev s : State
+  s = state g old
+
+  pub refuses : (new : State) (fault : OpenFault) → ((book : Book) → RowsShowIn s book → ¬ IsRefusal fault)
+      → ((l : Layout) (c : Contents) → HasThoseRead l → Shows l c s → TellsOf l c fault) → (IsRefusal fault → ShowsAsBefore s new) → Opens g make old new (Err fault)
+  refuses new fault unrefused told before = record {
+    found = tt;
+    given = λ book shows. tt;
+    unrefused = unrefused;
+    told = λ l c some. told l c;
+    bare = λ none. absurd (there none);
+    as_before = before;
+    is_open = tt;
+    opened = λ format l c of shows. tt;
+    made = λ none. tt;
+  }
+
+  -- ---- once the rows are read
+
+  module _ (rows : FileRows) (found : AreFileRows s rows) (read : (format : Format) (l : Layout) (c : Contents) → IsOfFormat format l → Shows l c s → IsReadOf l c rows) where
+    damage_told : (fault : PartsFault) → IsFaultOf rows fault → (l : Layout) (c : Contents) → HasThoseRead l → Shows l c s → TellsOf l c (rebuilt_as fault)
+    damage_told (rebuilt.Damaged table id) first l c those shows =
+        let of = of_format s rows l c found those shows in
+        let it = read of.0 l c of.1 shows in
+        inr (record { row = it.row; book = it.book; of = it.of; readable = it.readable; first = first-damage rows (rows_of l c) table id (turned (rows_of l c) rows it.same) first })
+    damage_told rebuilt.NoMemory first l c those shows = tt
+
+    damage_shows_none : (fault : PartsFault) → IsFaultOf rows fault → (book : Book) → RowsShowIn s book → ¬ IsRefusal (rebuilt_as fault)
+    damage_shows_none (rebuilt.Damaged table id) first book shows refusal = sound rows book (shows.each rows found) table id first.damaged
+    damage_shows_none rebuilt.NoMemory first book shows refusal = refusal
+
+    pub refuses_damaged : (new : State) (fault : PartsFault) → IsFaultOf rows fault → Stays s new → Opens g make old new (Err (rebuilt_as fault))
+    refuses_damaged new fault first stays = refuses new (rebuilt_as fault) (damage_shows_none fault first) (damage_told fault first) (λ refusal is_open. stays.now)
+
+    -- ---- once they show a book
+
+    module _ (book : Book) (shows_it : RowsShow rows book) (mid : State) (stays : Stays s mid) where
+      stood : (format : Format) (l : Layout) (c : Contents) → IsOfFormat format l → Shows l c s → StandsAs l c book s
+      stood format l c of shows = record {
+        format = format;
+        of = of;
+        shows = shows;
+        rows = shown rows (rows_of l c) (turned (rows_of l c) rows (read format l c of shows).same) book shows_it;
+      }
+
+      still : (l : Layout) (c : Contents) (other : Book) → StandsAs l c other s → StandsAs l c other mid
+      still l c other st = record { format = st.format; of = st.of; shows = shows_still s mid stays l c st.shows; rows = st.rows }
+
+      -- what stands there is this book
+      one_stood : (l : Layout) (c : Contents) (other : Book) → StandsAs l c other s → other ≡ book
+      one_stood l c other st = one_book rows other book (shown (rows_of l c) rows (read st.format l c st.of st.shows).same other st.rows) shows_it
+
+      lacks : (l : Layout) (c : Contents) (other : Book) → StandsAs l c other s → which_lacked (lacked_by rows) ≡ lacked l
+      lacks l c other st = ap which_lacked (sym (lacked_same (rows_of l c) rows (read st.format l c st.of st.shows).same) ∙ lacked_rows l c)
+
+      pub brings : (db : Trees) → HoldsWith (which_lacked (lacked_by rows)) book mid db → MayBring make s db
+      brings db holds = record {
+        only = inr (book, (rows, found, shows_it));
+        new = λ none. absurd (there none);
+        old = λ l c other st.
+            let one = one_stood l c other st in
+            let here = subst (λ (b : Book). StandsAs l c b mid) one (still l c other st) in
+            gained_same _ _ l c book other mid.now s.now (λ after d. IsFile after d db) (lacks l c other st) (sym one) stays.now (holds l c here);
+      }
+
+      pub opens : (new : State) → ((l : Layout) (c : Contents) → StandsAs l c book mid → HasGained (which_lacked (lacked_by rows)) l c book mid.now.trees (λ after d. Shows after d new))
+          → ((l : Layout) (c : Contents) → StandsAs l c book mid → LeavesBook l book mid → LeavesBook (with_tables (which_lacked (lacked_by rows)) l) book new)
+          → ((db : Trees) → mid.may_leave db → s.may_leave db) → IsTrue new.is_open → Opens g make old new (Ok book)
+      opens new filled leaves left is_open = record {
+        found = inl (rows, found, shows_it);
+        given = λ other shows. one_book rows book other shows_it (shows.each rows found);
+        unrefused = λ other shows. tt;
+        told = λ l c some those shows. tt;
+        bare = λ none. tt;
+        as_before = tt;
+        is_open = is_open;
+        opened = λ format l c of shows.
+            let st = stood format l c of shows in
+            let same = lacks l c book st in
+            record {
+              stood = st;
+              tables = completed_tables format l of;
+              shows = gained_same _ _ l c book book mid.now s.now (λ after d. Shows after d new) same refl stays.now (filled l c (still l c book st));
+              leaves = λ was. subst (λ (ws : List Which). LeavesBook (with_tables ws l) book new) same (leaves l c (still l c book st) (λ db here. was db (left db here)));
+            };
+        made = λ none. absurd (there none);
+      }
+
+  -- where the tables that it lacks are made, a crash leaves nothing new but all of it
+  pub fills : (rows : FileRows) (book : Book) (mid new : State) (some : Option NewTables) → some ≡ lacked_by rows → RowsShow rows book
+      → (HasCleanDisk mid → AreFileRows s rows)
+      → (HasCleanDisk mid → (format : Format) (l : Layout) (c : Contents) → IsOfFormat format l → Shows l c s → IsReadOf l c rows)
+      → (HasCleanDisk mid → Stays s mid) → Survives s mid (λ _. ⊥) → Survives mid new (HoldsWith (which_lacked some) book mid) → Survives s new (MayBring make s)
+  fills rows book mid new some is shows_it found read stays reads writes =
+      survives_then s mid new _ _ _ (λ clean db none. absurd none)
+      (λ clean db holds.
+      let early : HasCleanDisk mid = omega (arith, clean, writes.clean) in
+      brings rows (found early) (read early) book shows_it mid (stays early) db (subst (λ (x : Option NewTables). HoldsWith (which_lacked x) book mid db) is holds))
+      reads writes
+
+-- ---- where none is there
+
+first_none : (a b : Bool) → (a || b) ≡ false → a ≡ false
+first_none true b none = absurd (true≢false none)
+first_none false b none = refl
+
+module _ {S : Type 0} (g : Ghosts S) (make : Bool) (old : Held S) (none : HasNone (state g old).now.schema) where
+  abbrev bare : State
+  bare = state g old
+
+  no_books : is_there bare.now.schema books ≡ true → ⊥
+  no_books there = true≢false (sym there ∙ first_none (is_there bare.now.schema books) _ none)
+
+  no_file : (format : Format) (l : Layout) (c : Contents) → IsOfFormat format l → Shows l c bare → ⊥
+  no_file format l c of shows = no_books (subst (λ (x : Schema). is_there x books ≡ true) (sym shows.schema) (books_there format l of))
+
+  no_exact : (l : Layout) (c : Contents) → (¬ HasNone l.schema) → Shows l c bare → ⊥
+  no_exact l c some shows = some (subst HasNone shows.schema none)
+
+  pub refuses_new : (new : State) (fault : OpenFault) → TellsOfNone make g old new fault → (IsRefusal fault → ShowsAsBefore bare new) → Opens g make old new (Err fault)
+  refuses_new new fault told before = record {
+    found = tt;
+    given = λ book shows. tt;
+    unrefused = λ book shows. absurd (no_books shows.are.book);
+    told = λ l c some those shows. absurd (no_exact l c some shows);
+    bare = λ still. told;
+    as_before = before;
+    is_open = tt;
+    opened = λ format l c of shows. tt;
+    made = λ still. tt;
+  }
+
+  pub brings_new : make ≡ true → (db : Trees) → IsMade bare db → MayBring make bare db
+  brings_new wanted db is = record {
+    only = inl none;
+    new = λ still. (wanted, is);
+    old = λ l c book st. absurd (no_file st.format l c st.of st.shows);
+  }
+
+  pub makes : (new : State) (book : Book) → make ≡ true → book ≡ empty_book → IsNew bare.now.schema bare.now.trees (λ c. Shows (made bare.now.schema) c new) → IsSettled new
+      → IsTrue new.is_open → Opens g make old new (Ok book)
+  makes new book wanted empty beside settled is_open =
+      let shows = new_shows bare new beside in
+      let it : IsMadeNew make book bare new = record {
+        bare = none;
+        wanted = wanted;
+        empty = empty;
+        beside = beside;
+        tables = new_tables_there bare.now.schema;
+        shows = subst (λ (b : Book). ShowsBook (made bare.now.schema) b new) (sym empty) shows;
+        leaves = subst (λ (b : Book). LeavesBook (made bare.now.schema) b new) (sym empty)
+            (λ db left. subst (HoldsBook (made bare.now.schema) empty_book) (sym (settled db left)) (shows.0, shows.1.is, shows.2));
+      } in
+      record {
+        found = inr it;
+        given = λ other shows. absurd (no_books shows.are.book);
+        unrefused = λ other shows. tt;
+        told = λ l c some those shows. tt;
+        bare = λ still. tt;
+        as_before = tt;
+        is_open = is_open;
+        opened = λ format l c of shows. absurd (no_file format l c of shows);
+        made = λ still. it;
+      }
+
+  -- ---- what is told where the making failed
+
+  abbrev Failed : State → OpenFault → Type 0
+  Failed new told = (e : Error) × FailsToChange g new_tables (of_first_row g) (begun old) new e × IsOpenedAs e told
+
+  tells_failed : (new : State) (told : OpenFault) → make ≡ true → Failed new told → TellsOfNone make g old new told
+  tells_failed new told wanted (e, fails, (fault.NoMemory, cause, is)) = subst (TellsOfNone make g old new) (sym is) wanted
+  tells_failed new told wanted (e, fails, (fault.Lost, cause, is)) = subst (TellsOfNone make g old new) (sym is) (wanted, (e, fails, cause))
+  tells_failed new told wanted (e, fails, (fault.Refused, cause, is)) = subst (TellsOfNone make g old new) (sym is) (inr (inr (e, fails, cause)))
+
+  pub tells_new : (new : State) (told : OpenFault) → make ≡ true → (is_there bare.now.schema caches ≡ true → told ≡ NotABook)
+      → (is_there bare.now.schema caches ≡ false → Failed new told) → TellsOfNone make g old new told
+  tells_new new told wanted beside failed = elim (cases_Bool (is_there bare.now.schema caches)) [
+    | inl there ↦ subst (TellsOfNone make g old new) (sym (beside there)) (inr (inl there))
+    | inr free ↦ tells_failed new told wanted (failed free)
+  ]
+
+  pub only_no_book : (new : State) (told : OpenFault) → TellsOfNone make g old new told → IsRefusal told → told ≡ NotABook
+  only_no_book new NotABook it refusal = refl
+  only_no_book new (Damaged table id) it refusal = absurd it
+  only_no_book new NewerFormat it refusal = absurd it
+  only_no_book new Lost it refusal = absurd refusal
+  only_no_book new NoMemory it refusal = absurd refusal

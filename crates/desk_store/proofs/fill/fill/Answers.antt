@@ -1,0 +1,40 @@
+use Rattle.std.proofs.Common.{List, map, refl, subst}
+use Rattle.sqlite.specs.Held.{state}
+use Rattle.sqlite.proofs.StateLemmas.{survives_weaker}
+use Rattle.desk_book.specs.Puts.{RowPut}
+use Rattle.desk_store.specs.Making.{IsFileWithTables, WritesWithTables}
+use Rattle.desk_store.specs.Tables.{which}
+use Rattle.desk_store.proofs.BookPuts.{all_lent}
+use Rattle.desk_store.proofs.Filled.{are_written, holds_gained, shows_gained}
+use Rattle.desk_store.proofs.fill.fill.Goals as goal
+
+pub write_with_tables-requires : goal.write_with_tables-requires
+write_with_tables-requires g c κs =
+    ((refl, tt), (c.requires, (are_written c.args.tables c.file_tables.result.now c.file_tables.ensures, (tt, tt))))
+
+pub returns-in-Ok-clause-filled : goal.returns-in-Ok-clause-filled
+returns-in-Ok-clause-filled g c clean l d stands =
+    let old = state g.S.Store c.args.conn.now in
+    let new = state g.S.Store c.write_with_tables.new.conn in
+    let puts = c.filling.result in
+    let written = c.in-Ok.ensures.written clean in
+    let writes = subst (λ (xs : List RowPut). WritesWithTables (map which c.file_tables.result.now) xs old new) (all_lent puts written.0 written.1) written.2 in
+    shows_gained c.args.tables c.args.book.now puts c.filling.ensures c.file_tables.result.now c.file_tables.ensures old new writes l d stands
+
+pub returns-in-Ok-clause-crash : goal.returns-in-Ok-clause-crash
+returns-in-Ok-clause-crash g c =
+    let old = state g.S.Store c.args.conn.now in
+    let puts = c.filling.result in
+    survives_weaker old (state g.S.Store c.write_with_tables.new.conn) _ _ (λ clean db left.
+    let file = subst (λ (xs : List RowPut). IsFileWithTables (map which c.file_tables.result.now) xs old db) (all_lent puts left.0 left.1) left.2.0 in
+    holds_gained c.args.tables c.args.book.now puts c.filling.ensures c.file_tables.result.now c.file_tables.ensures old db file)
+    c.write_with_tables.ensures.crash
+
+pub returns-in-Err-clause-crash : goal.returns-in-Err-clause-crash
+returns-in-Err-clause-crash g c =
+    let old = state g.S.Store c.args.conn.now in
+    let puts = c.filling.result in
+    survives_weaker old (state g.S.Store c.write_with_tables.new.conn) _ _ (λ clean db left.
+    let file = subst (λ (xs : List RowPut). IsFileWithTables (map which c.file_tables.result.now) xs old db) (all_lent puts left.0 left.1) left.2.0 in
+    holds_gained c.args.tables c.args.book.now puts c.filling.ensures c.file_tables.result.now c.file_tables.ensures old db file)
+    c.write_with_tables.ensures.crash

@@ -1,0 +1,92 @@
+use Rattle.std.proofs.Common.{Option, arith, inl, inr, subst}
+use Rattle.std.proofs.lemmas.Result.{err_from_is_err_and}
+use Rattle.sqlite.proofs.StateLemmas.{survives_weaker}
+use Rattle.sqlite.specs.Held.{state}
+use Rattle.sqlite.specs.State.{HasCleanDisk}
+use Rattle.desk_book.specs.Rebuilt.{rows_in}
+use Rattle.desk_book.specs.declared.filling.NewTables.{NewTables}
+use Rattle.desk_store.specs.Books.{LeavesBook}
+use Rattle.desk_store.specs.Contents.{Contents}
+use Rattle.desk_store.specs.Layout.{Layout}
+use Rattle.desk_store.specs.Making.{with_tables}
+use Rattle.desk_store.specs.Opened.{HasGained, StandsAs, which_lacked}
+use Rattle.desk_store.specs.States.{Shows}
+use Rattle.desk_store.proofs.Openings.{fills, opens, refuses, refuses_damaged, tells, tells_no_refusal}
+use Rattle.desk_store.proofs.opening.open_book.Goals as goal
+
+-- ---- nothing is read
+
+pub returns-in_err-parts-clause-opens : goal.returns-in_err-parts-clause-opens
+returns-in_err-parts-clause-opens g c clean make =
+    let p = err_from_is_err_and c.from_residual.result c.from_residual.ensures.1 in
+    let read = c.in_err-parts.ensures in
+    rw (p.1, p.2)
+    (refuses g.S.Store make c.args.conn.now c.requires.there (state g.S.Store c.read_parts.new.conn) _ (read.unrefused clean)
+    (λ l contents those shows. tells l contents _ (read.told clean l contents those shows)) (λ refusal is_open. (read.refused clean refusal).now))
+
+pub returns-in_err-parts-clause-crash : goal.returns-in_err-parts-clause-crash
+returns-in_err-parts-clause-crash g c make =
+    survives_weaker (state g.S.Store c.args.conn.now) (state g.S.Store c.read_parts.new.conn) _ _ (λ clean db none. absurd none) c.read_parts.ensures.survives
+
+-- ---- the rows are damaged
+
+pub returns-in_err-book-clause-opens : goal.returns-in_err-book-clause-opens
+returns-in_err-book-clause-opens g c clean make =
+    let p = err_from_is_err_and c.from_residual-in_err-book.result c.from_residual-in_err-book.ensures.1 in
+    let read = c.in_ok-parts.ensures in
+    rw (p.1, p.2)
+    (refuses_damaged g.S.Store make c.args.conn.now c.requires.there (rows_in c.in_ok-parts.parts) (read.found clean) (read.read clean)
+    (state g.S.Store c.read_parts.new.conn) _ c.in_err-book.ensures.damaged (read.unchanged clean))
+
+pub returns-in_err-book-clause-crash : goal.returns-in_err-book-clause-crash
+returns-in_err-book-clause-crash g c make =
+    survives_weaker (state g.S.Store c.args.conn.now) (state g.S.Store c.read_parts.new.conn) _ _ (λ clean db none. absurd none) c.read_parts.ensures.survives
+
+-- ---- the tables that it lacks aren't made
+
+pub returns-in_err-complete-clause-opens : goal.returns-in_err-complete-clause-opens
+returns-in_err-complete-clause-opens g c clean make =
+    let p = err_from_is_err_and c.from_residual-in_err-complete.result c.from_residual-in_err-complete.ensures.1 in
+    let none = c.in_err-complete.ensures.told in
+    rw (p.1, p.2)
+    (refuses g.S.Store make c.args.conn.now c.requires.there (state g.S.Store c.complete.new.conn) _ (λ book shows. none)
+    (λ l contents those shows. tells_no_refusal l contents _ none) (λ refusal. absurd (none refusal)))
+
+pub returns-in_err-complete-clause-crash : goal.returns-in_err-complete-clause-crash
+returns-in_err-complete-clause-crash g c make =
+    let read = c.in_ok-parts.ensures in
+    fills g.S.Store make c.args.conn.now c.requires.there (rows_in c.in_ok-parts.parts) c.in_ok-book.book
+    (state g.S.Store c.read_parts.new.conn) (state g.S.Store c.complete.new.conn) c.lacked_by-lacked.result c.lacked_by-lacked.ensures
+    c.in_ok-book.ensures.shown read.found read.read read.unchanged c.read_parts.ensures.survives c.complete.ensures.crash
+
+pub returns-in_err-complete-clause-refused : goal.returns-in_err-complete-clause-refused
+returns-in_err-complete-clause-refused g c clean =
+    let p = err_from_is_err_and c.from_residual-in_err-complete.result c.from_residual-in_err-complete.ensures.1 in
+    rw (p.1, p.2) (λ refusal. absurd (c.in_err-complete.ensures.told refusal))
+
+-- ---- the book is there
+
+pub returns-clause-opens : goal.returns-clause-opens
+returns-clause-opens g c clean make =
+    let old = c.args.conn.now in
+    let mid = state g.S.Store c.read_parts.new.conn in
+    let new = state g.S.Store c.complete.new.conn in
+    let book = c.in_ok-book.book in
+    let read = c.in_ok-parts.ensures in
+    let done = c.in_ok-complete.ensures in
+    let early : HasCleanDisk mid = omega (arith, clean, c.complete.ensures.crash.clean) in
+    opens g.S.Store make old c.requires.there (rows_in c.in_ok-parts.parts) (read.found early) (read.read early)
+    book c.in_ok-book.ensures.shown mid (read.unchanged early) new
+    (subst (λ (x : Option NewTables). (l : Layout) (d : Contents) → StandsAs l d book mid → HasGained (which_lacked x) l d book mid.now.trees (λ after e. Shows after e new))
+    c.lacked_by-lacked.ensures (done.filled clean))
+    (subst (λ (x : Option NewTables). (l : Layout) (d : Contents) → StandsAs l d book mid → LeavesBook l book mid → LeavesBook (with_tables (which_lacked x) l) book new)
+    c.lacked_by-lacked.ensures (done.leaves clean))
+    (λ db here. elim (c.read_parts.ensures.survives.crash early db here) [ inl before ↦ before | inr none ↦ absurd none ])
+    (done.open clean (read.is_open early))
+
+pub returns-clause-crash : goal.returns-clause-crash
+returns-clause-crash g c make =
+    let read = c.in_ok-parts.ensures in
+    fills g.S.Store make c.args.conn.now c.requires.there (rows_in c.in_ok-parts.parts) c.in_ok-book.book
+    (state g.S.Store c.read_parts.new.conn) (state g.S.Store c.complete.new.conn) c.lacked_by-lacked.result c.lacked_by-lacked.ensures
+    c.in_ok-book.ensures.shown read.found read.read read.unchanged c.read_parts.ensures.survives c.complete.ensures.crash

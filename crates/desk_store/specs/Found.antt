@@ -1,0 +1,105 @@
+-- The rows of a book's file, as the statements that read it give them in any file, and the book that they show.
+use Rattle.std.specs.Prelude.{◌≡◌, Bool, true, false, List, [], ◌∷◌, map, Option, Some, None, ⊤}
+use Rattle.std.specs.List.{AllByRecursion, list_any}
+use Rattle.sqlite_schema.specs.declared.schema.Schema.{Schema}
+use Rattle.sqlite_value.specs.Order.{Row}
+use Rattle.sqlite.specs.State.{State, Shown}
+use Rattle.sql_tables.specs.Kinds.{HasKinds}
+use Rattle.sql_tables.specs.States.{HasAnswer}
+use Rattle.desk_book.specs.Book.{Book}
+use Rattle.desk_book.specs.FileRows.{EntryRows, FileRows, Named, Unnamed}
+use Rattle.desk_book.specs.Rows.{Cached, StoredTab}
+use Rattle.desk_book.specs.Shows.{Shows as RowsShow}
+use Rattle.desk_store.specs.Asked.{Gives, asked}
+use Rattle.desk_store.specs.Described.{Which, books, tabs, paras, corrs, marks, caches, named_corrs}
+use Rattle.desk_store.specs.Formats.{Format, Presence, needed, optional, foreign, unread, unnamed, named, presence}
+use Rattle.desk_store.specs.Opening.{has_tables}
+use Rattle.desk_store.specs.Rows.{ShownOf, shown}
+use Rattle.desk_store.specs.Tables.{is_there}
+use Rattle.desk_store.specs.Whole.{HaveOwnRowids}
+
+-- ---- which tables are there
+
+-- the tables of a book's file by which it is known, of either format
+abbrev pub known_tables : List Which
+known_tables = books ∷ tabs ∷ paras ∷ corrs ∷ marks ∷ named_corrs ∷ []
+
+-- none of them is there
+abbrev pub HasNone : Schema → Type 0
+HasNone s = list_any (is_there s) known_tables ≡ false
+
+-- ---- the rows that statements give
+
+-- the rows of `tab` have different rowids, and of the others nothing is asked
+abbrev pub AreToldApart : (w : Which) → List (ShownOf w) → Type 0
+AreToldApart books rows = ⊤
+AreToldApart tabs rows = HaveOwnRowids rows
+AreToldApart paras rows = ⊤
+AreToldApart corrs rows = ⊤
+AreToldApart marks rows = ⊤
+AreToldApart caches rows = ⊤
+AreToldApart named_corrs rows = ⊤
+
+-- in this state the statement that reads the table gives these rows
+abbrev pub AreRowsIn : State → (w : Which) → List (ShownOf w) → Type 0
+AreRowsIn s w rows = Gives (asked w) (shown w) s s rows × AreToldApart w rows
+
+-- the format that keeps entries so
+abbrev pub format_kept : EntryRows → Format
+format_kept (Unnamed rows) = unnamed
+format_kept (Named rows) = named
+
+abbrev pub AreEntriesIn : State → EntryRows → Type 0
+AreEntriesIn s (Unnamed rows) = AreRowsIn s corrs rows
+AreEntriesIn s (Named rows) = AreRowsIn s named_corrs rows
+
+-- the cells, where their table is there
+abbrev pub AreCellsIn : State → Option (List Cached) → Type 0
+AreCellsIn s None = is_there s.now.schema caches ≡ false
+AreCellsIn s (Some rows) = (is_there s.now.schema caches ≡ true) × AreRowsIn s caches rows
+
+-- These are the rows of the tables but `book`.
+pub record AreOtherRows (s : State) (rows : FileRows) : Type 0 where
+  pub stored : List StoredTab
+  pub tabs_are : rows.tabs ≡ map (λ tab. tab.row) stored
+  pub tabs : AreRowsIn s tabs stored
+  pub paras : AreRowsIn s paras rows.paras
+  pub entries : AreEntriesIn s rows.entries
+  pub marks : AreRowsIn s marks rows.marks
+  pub caches : AreCellsIn s rows.caches
+
+-- The tables of the format that keeps the entries so are there, and these are the rows of the file.
+pub record AreFileRows (s : State) (rows : FileRows) : Type 0 where
+  pub book : is_there s.now.schema books ≡ true
+  pub tables : has_tables (format_kept rows.entries) s.now.schema ≡ true
+  pub books : AreRowsIn s books rows.books
+  pub others : AreOtherRows s rows
+
+-- ---- the book that they show
+
+-- rows that the statements give show the book
+abbrev pub ShowsIn : State → Book → Type 0
+ShowsIn s book = (rows : FileRows) × AreFileRows s rows × RowsShow rows book
+
+-- The statement that reads the table has an answer, and whatever it answers can be read.
+pub record CanAnswer (s : State) (w : Which) : Type 0 where
+  pub has : HasAnswer (asked w).text s
+  pub kinds : (rows : List Row) → Shown (asked w).text [] s s rows → AllByRecursion (HasKinds (asked w).kinds) rows
+  pub apart : (rows : List (ShownOf w)) → Gives (asked w) (shown w) s s rows → AreToldApart w rows
+
+-- whether a table is read, of which something is there by its name
+abbrev pub IsReadAs : Presence → (there : Bool) → Type 0
+IsReadAs needed there = ⊤
+IsReadAs optional there = there ≡ true
+IsReadAs foreign there = ⊥
+IsReadAs unread there = ⊥
+
+abbrev pub CanAllAnswer : Format → State → Type 0
+CanAllAnswer format s = (w : Which) → IsReadAs (presence format w) (is_there s.now.schema w) → CanAnswer s w
+
+-- The rows of the file show the book: the statements that read it give rows, and all that they may give show it.
+pub record RowsShowIn (s : State) (book : Book) : Type 0 where
+  pub rows : FileRows
+  pub are : AreFileRows s rows
+  pub answer : CanAllAnswer (format_kept rows.entries) s
+  pub each : (others : FileRows) → AreFileRows s others → RowsShow others book

@@ -1,0 +1,223 @@
+-- What opening a book's file tells, what it writes, and what the connection shows then.
+use Rattle.std.specs.Prelude.{◌≡◌, ◌⊎◌, ℤ, Bool, true, false, IsTrue, List, [], ◌∷◌, Option, Some, None, IfErr, IfOk, OnOk, Result, Err, is_some, option_map, unwrap_or, ⊤}
+use Rattle.sqlite_catalog.specs.Change.{KeepsRows}
+use Rattle.sqlite_catalog.specs.Listing.{IsSound}
+use Rattle.sqlite_schema.specs.declared.schema.Schema.{Schema}
+use Rattle.sqlite_trees.specs.Tree.{Trees}
+use Rattle.sqlite_trees.specs.declared.store.Store.{Ghosts}
+use Rattle.sqlite.specs.declared.error.Error.{Error}
+use Rattle.sqlite.specs.Held.{Held, state}
+use Rattle.sqlite.specs.State.{HasCleanDisk, State, Survives}
+use Rattle.sql_tables.specs.Making.{KeepsAside}
+use Rattle.sql_tables.specs.States.{ShowsAsBefore}
+use Rattle.desk_book.specs.Book.{Book, empty_book}
+use Rattle.desk_book.specs.Damage.{IsDamagedBook, IsFirstDamage}
+use Rattle.desk_book.specs.FileRows.{EntryRows, FileRows, Named, Unnamed}
+use Rattle.desk_book.specs.SameRows.{AreSameRows}
+use Rattle.desk_book.specs.Shows.{Shows as RowsShow}
+use Rattle.desk_book.specs.declared.filling.NewTables.{NewTables}
+use Rattle.desk_book.specs.declared.filling.NewTables.TheVariants.{Braille, Entries, EntriesAndBraille}
+use Rattle.desk_book.specs.declared.parts.FileTable.{FileTable}
+use Rattle.desk_book.specs.declared.parts.FileTable.TheVariants.{Book as BookTable}
+use Rattle.desk_book.specs.declared.rows.BookRow.{BookRow}
+use Rattle.desk_store.specs.BookFile.{rows_of}
+use Rattle.desk_store.specs.Books.{HasNewTables, HoldsBook, LeavesBook, ShowsBook}
+use Rattle.desk_store.specs.Contents.{Contents}
+use Rattle.desk_store.specs.Described.{Which, books, caches, corrs, named_corrs}
+use Rattle.desk_store.specs.Failing.{FailsToChange, of_first_row}
+use Rattle.desk_store.specs.Fault.{IsToldAs}
+use Rattle.desk_store.specs.Formats.{Format, HasThoseRead, IsOfFormat}
+use Rattle.desk_store.specs.Found.{HasNone, RowsShowIn, ShowsIn}
+use Rattle.desk_store.specs.Layout.{Layout}
+use Rattle.desk_store.specs.Making.{IsMade, IsNew, made, new_tables, with_tables}
+use Rattle.desk_store.specs.Opening.{CanAllBeRead, IsBookRow, IsNewer, IsRefusal, format_in}
+use Rattle.desk_store.specs.States.{IsFile, Shows}
+use Rattle.desk_store.specs.Tables.{is_there}
+use Rattle.desk_store.specs.Turns.{begun}
+use Rattle.desk_store.specs.declared.fault.Fault.{Fault}
+use Rattle.desk_store.specs.declared.fault.Fault.TheVariants as fault
+use Rattle.desk_store.specs.declared.fault.OpenFault.{OpenFault}
+use Rattle.desk_store.specs.declared.fault.OpenFault.TheVariants.{NotABook, Damaged, NewerFormat, Lost, NoMemory}
+
+-- ---- what is told of a file whose tables are declared as those of a new one
+
+-- `book` is missing; or its row is sound and of a known format, and a table of that format can't be read
+abbrev pub LacksTables : Layout → Contents → Type 0
+LacksTables l c =
+    (l.has books ≡ false)
+    ⊎ ((row : BookRow) × (l.has books ≡ true) × IsBookRow (c.rows books) row × ¬ CanAllBeRead (format_in row.format) l c)
+
+-- Before the rows of the tables but `book` are judged, the first of these is told: a table is missing, `book` is of a later format, or is
+-- damaged; but a table that is missing beside `book` is told last.
+abbrev pub TellsOfTables : Layout → Contents → OpenFault → Type 0
+TellsOfTables l c NotABook = LacksTables l c
+TellsOfTables l c (Damaged table id) =
+    (l.has books ≡ true) × (table ≡ BookTable) × IsDamagedBook (c.rows books) id × ¬ IsNewer (c.rows books)
+TellsOfTables l c NewerFormat = (l.has books ≡ true) × IsNewer (c.rows books)
+TellsOfTables l c Lost = ⊤
+TellsOfTables l c NoMemory = ⊤
+
+-- the tables of its format can all be read, and this is the first damage in their rows
+pub record IsDamagedIn (l : Layout) (c : Contents) (table : FileTable) (id : ℤ) : Type 0 where
+  pub row : BookRow
+  pub book : IsBookRow (c.rows books) row
+  pub of : IsOfFormat (format_in row.format) l
+  pub readable : CanAllBeRead (format_in row.format) l c
+  pub first : IsFirstDamage (rows_of l c) table id
+
+-- what is told of a file that has a table of a book: just one of these, that it holds no book, has a later format, or is damaged
+abbrev pub TellsOf : Layout → Contents → OpenFault → Type 0
+TellsOf l c NotABook = TellsOfTables l c NotABook
+TellsOf l c (Damaged table id) = TellsOfTables l c (Damaged table id) ⊎ IsDamagedIn l c table id
+TellsOf l c NewerFormat = TellsOfTables l c NewerFormat
+TellsOf l c Lost = ⊤
+TellsOf l c NoMemory = ⊤
+
+-- ---- what is told of any file without the tables of a book
+
+-- a statement that makes the tables of a new file, or the commit, failed with an error that is told so
+abbrev pub FailsToMake : {S : Type 0} → Ghosts S → Held S → State → Fault → Type 0
+FailsToMake g old new fault =
+    (e : Error) × FailsToChange g new_tables (of_first_row g) (begun old) new e × IsToldAs e fault
+
+-- It holds no book: none is to be made, `cache` is there, or the database refuses to make the tables.
+abbrev pub TellsOfNone : {S : Type 0} → (make : Bool) → Ghosts S → Held S → State → OpenFault → Type 0
+TellsOfNone make g old new NotABook =
+    (make ≡ false) ⊎ ((is_there (state g old).now.schema caches ≡ true) ⊎ FailsToMake g old new fault.Refused)
+TellsOfNone make g old new (Damaged table id) = ⊥
+TellsOfNone make g old new NewerFormat = ⊥
+TellsOfNone make g old new Lost = (make ≡ true) × FailsToMake g old new fault.Lost
+TellsOfNone make g old new NoMemory = make ≡ true
+
+-- ---- what was read of such a file
+
+-- the row of `book` is sound, all other tables can be read, and these are its rows
+pub record IsReadOf (l : Layout) (c : Contents) (rows : FileRows) : Type 0 where
+  pub row : BookRow
+  pub book : IsBookRow (c.rows books) row
+  pub of : IsOfFormat (format_in row.format) l
+  pub readable : CanAllBeRead (format_in row.format) l c
+  pub same : AreSameRows (rows_of l c) rows
+
+-- ---- the tables that a book's file lacks
+
+-- a table for entries with names, and one for the cells of the paragraphs
+abbrev pub lacking : (has_entries has_cells : Bool) → Option NewTables
+lacking false false = Some EntriesAndBraille
+lacking false true = Some Entries
+lacking true false = Some Braille
+lacking true true = None
+
+abbrev pub have_names : EntryRows → Bool
+have_names (Unnamed rows) = false
+have_names (Named rows) = true
+
+abbrev pub lacked_by : FileRows → Option NewTables
+lacked_by rows = lacking (have_names rows.entries) (is_some rows.caches)
+
+-- these tables, in the order in which they are made
+abbrev pub which_new : NewTables → List Which
+which_new EntriesAndBraille = caches ∷ named_corrs ∷ []
+which_new Entries = named_corrs ∷ []
+which_new Braille = caches ∷ []
+
+-- those that are lacked, if any are
+abbrev pub which_lacked : Option NewTables → List Which
+which_lacked tables = unwrap_or (option_map which_new tables) []
+
+-- the tables of a new file that it lacks, and the layout with them
+abbrev pub lacked : Layout → List Which
+lacked l = which_lacked (lacking (l.has named_corrs) (l.has caches))
+
+abbrev pub completed : Layout → Layout
+completed l = with_tables (lacked l) l
+
+-- ---- what stands in a file, and what opening makes of it
+
+-- the connection shows the book in a file of either format, which has these contents
+pub record StandsAs (l : Layout) (c : Contents) (book : Book) (s : State) : Type 0 where
+  pub format : Format
+  pub of : IsOfFormat format l
+  pub shows : Shows l c s
+  pub rows : RowsShow (rows_of l c) book
+
+abbrev pub Stands : Layout → Book → State → Type 0
+Stands l book s = (c : Contents) × StandsAs l c book s
+
+-- The rows of `corr`, of all tables that aren't those of a book, and what the database keeps aside are as they were.
+pub record Keeps (l : Layout) (c : Contents) (rows : Trees) (d : Contents) : Type 0 where
+  pub corrs : d.rows corrs ≡ c.rows corrs
+  pub others : KeepsRows l.schema.tables rows d.others
+  pub aside : KeepsAside l.schema rows d.others
+
+-- The book in the file with these tables more, in which nothing else is lost.
+abbrev pub HasGained : List Which → Layout → Contents → Book → Trees → (Layout → Contents → Type 0) → Type 0
+HasGained ws l c book rows P =
+    (d : Contents) × P (with_tables ws l) d × RowsShow (rows_of (with_tables ws l) d) book × Keeps l c rows d
+
+-- the trees are such a file, of whatever file the book stood in
+abbrev pub HoldsWith : List Which → Book → State → Trees → Type 0
+HoldsWith ws book s db =
+    (l : Layout) (c : Contents) → StandsAs l c book s → HasGained ws l c book s.now.trees (λ after d. IsFile after d db)
+
+-- the trees are those of a database without the tables of a book
+abbrev pub HoldsNone : Trees → Type 0
+HoldsNone db = (s : Schema) × IsSound s db × HasNone s
+
+-- the empty book, in a file with the tables of a new one
+abbrev pub HoldsEmpty : Trees → Type 0
+HoldsEmpty db = (l : Layout) × HasNewTables l × HoldsBook l empty_book db
+
+-- What opening commits, and only in a file without the tables of a book or whose rows show one: a new book where there was none and one is
+-- to be made, and else the book that stood there, with the tables that its file lacked.
+pub record MayBring (make : Bool) (s : State) (db : Trees) : Type 0 where
+  pub only : HasNone s.now.schema ⊎ ((book : Book) × ShowsIn s book)
+  pub new : HasNone s.now.schema → (make ≡ true) × IsMade s db
+  pub old : (l : Layout) (c : Contents) (book : Book) → StandsAs l c book s
+      → HasGained (lacked l) l c book s.now.trees (λ after d. IsFile after d db)
+
+-- the book in the file as it was, or with the tables that it lacked
+abbrev pub HoldsEither : Layout → Book → Trees → Type 0
+HoldsEither l book db = HoldsBook l book db ⊎ HoldsBook (completed l) book db
+
+-- the book stood there, it stands there in a file with the tables of a new one, and a crash leaves it so
+pub record IsOpened (l : Layout) (c : Contents) (book : Book) (old new : State) : Type 0 where
+  pub stood : StandsAs l c book old
+  pub tables : HasNewTables (completed l)
+  pub shows : HasGained (lacked l) l c book old.now.trees (λ after d. Shows after d new)
+  pub leaves : LeavesBook l book old → LeavesBook (completed l) book new
+
+-- a new book was made where none of the tables was there, the empty one, and a crash leaves it
+pub record IsMadeNew (make : Bool) (book : Book) (old new : State) : Type 0 where
+  pub bare : HasNone old.now.schema
+  pub wanted : make ≡ true
+  pub empty : book ≡ empty_book
+  pub beside : IsNew old.now.schema old.now.trees (λ c. Shows (made old.now.schema) c new)
+  pub tables : HasNewTables (made old.now.schema)
+  pub shows : ShowsBook (made old.now.schema) book new
+  pub leaves : LeavesBook (made old.now.schema) book new
+
+-- ---- the whole
+
+-- What opening answers, and what the connection shows then.
+pub record Opens {S : Type 0} (g : Ghosts S) (make : Bool) (old : Held S) (new : State) (result : Result Book OpenFault) : Type 0 where
+  -- in any file: a book only where its rows show it, or where a new one was made; where they show a book, that one or no refusal
+  pub found : IfOk result (λ book. ShowsIn (state g old) book ⊎ IsMadeNew make book (state g old) new)
+  pub given : (book : Book) → RowsShowIn (state g old) book → IfOk result (λ found. found ≡ book)
+  pub unrefused : (book : Book) → RowsShowIn (state g old) book → IfErr result (λ fault. ¬ IsRefusal fault)
+  -- where the tables that are there are declared as those of a new file, just this is told
+  pub told : (l : Layout) (c : Contents) → (¬ HasNone l.schema) → HasThoseRead l → Shows l c (state g old) → IfErr result (TellsOf l c)
+  -- and in any file that has none of them this
+  pub bare : HasNone (state g old).now.schema → IfErr result (TellsOfNone make g old new)
+  -- a file that is refused is as it was
+  pub as_before : IfErr result (λ fault. IsRefusal fault → ShowsAsBefore (state g old) new)
+  pub is_open : OnOk result (IsTrue new.is_open)
+  pub opened : (format : Format) (l : Layout) (c : Contents) → IsOfFormat format l → Shows l c (state g old)
+      → IfOk result (λ book. IsOpened l c book (state g old) new)
+  pub made : HasNone (state g old).now.schema → IfOk result (λ book. IsMadeNew make book (state g old) new)
+
+-- No book is opened, this is told, and what a crash leaves is what opening may bring; after a refusal nothing new.
+pub record IsRefusedWith {S : Type 0} (g : Ghosts S) (make : Bool) (old : Held S) (new : State) (fault : OpenFault) : Type 0 where
+  pub opens : HasCleanDisk new → Opens g make old new (Err fault)
+  pub crash : Survives (state g old) new (MayBring make (state g old))
+  pub refused : HasCleanDisk new → IsRefusal fault → Survives (state g old) new (λ _. ⊥)

@@ -1,0 +1,129 @@
+-- How a book's file is opened: in what order it is judged, and what is told of it.
+use Rattle.std.specs.Prelude.{◌&&◌, not, ◌≡◌, ℤ, pos, ◌<ℤ◌, ◌≤ℤ◌, Bool, true, false, if◌then◌else◌, List, [], ◌∷◌, None, ⊤}
+use Rattle.std.specs.List.{AllByRecursion}
+use Rattle.std.specs.Ordering.{int_eq}
+use Rattle.sqlite.specs.declared.error.Error.{Error}
+use Rattle.sqlite.specs.State.{State}
+use Rattle.sqlite_schema.specs.declared.schema.Schema.{Schema}
+use Rattle.desk_book.specs.Damage.{IsDamagedBook, IsSoundBookRow}
+use Rattle.desk_book.specs.FileRows.{FileRows}
+use Rattle.desk_book.specs.Rebuilt.{rows_in}
+use Rattle.desk_book.specs.SameRows.{AreSameRows}
+use Rattle.desk_book.specs.declared.parts.FileTable.TheVariants.{Book}
+use Rattle.desk_book.specs.declared.parts.Parts.{Parts}
+use Rattle.desk_book.specs.declared.parts.PartsFault.{PartsFault}
+use Rattle.desk_book.specs.declared.parts.PartsFault.TheVariants as rebuilt
+use Rattle.desk_book.specs.declared.rows.BookRow.{BookRow}
+use Rattle.desk_store.specs.BookFile.{rows_of}
+use Rattle.desk_store.specs.Contents.{Contents}
+use Rattle.desk_store.specs.Described.{Which, tabs, paras, corrs, marks, named_corrs}
+use Rattle.desk_store.specs.Fault.{IsToldAs}
+use Rattle.desk_store.specs.Formats.{Format, Presence, needed, optional, foreign, unread, unnamed, named, presence, IsOfFormat}
+use Rattle.desk_store.specs.Layout.{Layout}
+use Rattle.desk_store.specs.States.{Shows}
+use Rattle.desk_store.specs.Tables.{is_there}
+use Rattle.desk_store.specs.Whole.{IsUtf8Row}
+use Rattle.desk_store.specs.declared.book_file.FileFormat.{FileFormat}
+use Rattle.desk_store.specs.declared.book_file.FileFormat.TheVariants as read
+use Rattle.desk_store.specs.declared.fault.Fault.{Fault}
+use Rattle.desk_store.specs.declared.fault.Fault.TheVariants as fault
+use Rattle.desk_store.specs.declared.fault.OpenFault.{OpenFault}
+use Rattle.desk_store.specs.declared.fault.OpenFault.TheVariants.{NotABook, Damaged, NewerFormat, Lost, NoMemory}
+
+-- ---- what is told
+
+-- how the fault of a read is told
+abbrev pub opened_as : Fault → OpenFault
+opened_as fault.NoMemory = NoMemory
+opened_as fault.Lost = Lost
+opened_as fault.Refused = NotABook
+
+-- how an error of the database is told
+abbrev pub IsOpenedAs : Error → OpenFault → Type 0
+IsOpenedAs e told = (fault : Fault) × IsToldAs e fault × (told ≡ opened_as fault)
+
+-- how it is told that the rows show no book
+abbrev pub rebuilt_as : PartsFault → OpenFault
+rebuilt_as (rebuilt.Damaged table id) = Damaged table id
+rebuilt_as rebuilt.NoMemory = NoMemory
+
+-- the file is refused for what stands in it, and not because memory was refused or the store failed
+abbrev pub IsRefusal : OpenFault → Type 0
+IsRefusal NotABook = ⊤
+IsRefusal (Damaged table id) = ⊤
+IsRefusal NewerFormat = ⊤
+IsRefusal Lost = ⊥
+IsRefusal NoMemory = ⊥
+
+-- ---- the table `book`
+
+-- one row, of a later format than the second
+abbrev pub IsNewer : List BookRow → Type 0
+IsNewer rows = (row : BookRow) × (rows ≡ row ∷ []) × (pos 2 <ℤ row.format)
+
+-- one sound row, of the first or the second format
+pub record IsBookRow (rows : List BookRow) (row : BookRow) : Type 0 where
+  pub alone : rows ≡ row ∷ []
+  pub sound : IsSoundBookRow row
+  pub format : row.format ≤ℤ pos 2
+
+-- a later format is told before any damage
+abbrev pub TellsOfRow : List BookRow → OpenFault → Type 0
+TellsOfRow rows NotABook = ⊥
+TellsOfRow rows (Damaged table id) = (table ≡ Book) × IsDamagedBook rows id × ¬ IsNewer rows
+TellsOfRow rows NewerFormat = IsNewer rows
+TellsOfRow rows Lost = ⊥
+TellsOfRow rows NoMemory = ⊥
+
+-- ---- the tables of a format
+
+-- the format of a file whose row of `book` is sound and of no later one
+abbrev pub format_in : ℤ → Format
+format_in format = if int_eq format (pos 1) then unnamed else named
+
+abbrev pub format_read : FileFormat → Format
+format_read read.Unnamed = unnamed
+format_read read.Named = named
+
+-- the tables of the format are there, `book` aside
+abbrev pub has_tables : Format → Schema → Bool
+has_tables unnamed s =
+    (is_there s tabs && is_there s paras && is_there s marks) && (is_there s corrs && not (is_there s named_corrs))
+has_tables named s = (is_there s tabs && is_there s paras && is_there s marks) && is_there s named_corrs
+
+-- ---- what is read
+
+-- A table can be read: it is there where the format needs it, none stands where there must be none, and its texts are UTF-8.
+abbrev pub CanBeRead : Presence → Bool → Type 0 → Type 0
+CanBeRead needed has are_utf8 = (has ≡ true) × are_utf8
+CanBeRead optional has are_utf8 = has ≡ true → are_utf8
+CanBeRead foreign has are_utf8 = has ≡ false
+CanBeRead unread has are_utf8 = ⊤
+
+abbrev pub CanAllBeRead : Format → Layout → Contents → Type 0
+CanAllBeRead format l c =
+    (w : Which) → CanBeRead (presence format w) (l.has w) (AllByRecursion (IsUtf8Row w) (c.rows w))
+
+-- the table of the entries can be read
+abbrev pub AreEntriesReadable : Format → Layout → Contents → Type 0
+AreEntriesReadable unnamed l c = AllByRecursion (IsUtf8Row corrs) (c.rows corrs)
+AreEntriesReadable named l c = AllByRecursion (IsUtf8Row named_corrs) (c.rows named_corrs)
+
+-- these are the rows of the parts of a file, `book` aside
+abbrev pub AreRead : FileRows → Parts → Type 0
+AreRead rows parts = AreSameRows (record rows { books = (rows_in parts).books }) (rows_in parts)
+
+-- the connection is as it was, and shows what it showed
+pub record Stays (old new : State) : Type 0 where
+  pub now : new.now ≡ old.now
+  pub committed : new.committed ≡ old.committed
+  pub is_open : new.is_open ≡ old.is_open
+
+-- Whatever file of this format the connection shows, this is so of its rows.
+abbrev pub OfFile : Format → State → (FileRows → Type 0) → Type 0
+OfFile format s P = (l : Layout) (c : Contents) → IsOfFormat format l → Shows l c s → P (rows_of l c)
+
+-- The connection shows a file of this format that can be read, and has no limit on steps.
+abbrev pub ShowsReadable : Format → State → Type 0
+ShowsReadable format s =
+    (l : Layout) × (c : Contents) × IsOfFormat format l × Shows l c s × CanAllBeRead format l c × (s.step_limit ≡ None)

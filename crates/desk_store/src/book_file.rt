@@ -1,0 +1,261 @@
+//! A book's file, read whole. Nothing is written.
+//!
+//! Of a file that is declared as a new one the rows are told as they stand, in any order.
+
+ghost use Rattle.std.specs.Prelude.{◌≡◌, false, IfErr, IfOk, IsTrue, MatchBool, None, OnOk, option_map};
+ghost use Rattle.std.specs.List.{list_all, list_any};
+ghost use Rattle.sqlite.specs.Held.{state};
+ghost use Rattle.desk_book.specs.Damage.{IsSoundBookRow};
+ghost use Rattle.sqlite.specs.State.{HasCleanDisk, Survives};
+ghost use Rattle.desk_book.specs.Book.{Book};
+ghost use Rattle.desk_book.specs.Rebuilt.{entry_rows, rows_in};
+ghost use Rattle.desk_book.specs.SameRows.{AreSameCaches, AreSameEntries};
+ghost use Rattle.desk_store.specs.Contents.{Contents};
+ghost use Rattle.desk_store.specs.Formats.{Format, HasThoseRead, IsOfFormat};
+ghost use Rattle.desk_store.specs.Found.{AreCellsIn, AreEntriesIn, AreFileRows, AreOtherRows, CanAllAnswer, RowsShowIn, format_kept};
+ghost use Rattle.desk_store.specs.Layout.{Layout};
+ghost use Rattle.desk_store.specs.Opened.{IsReadOf, TellsOfTables};
+ghost use Rattle.desk_store.specs.Opening.{AreEntriesReadable, AreRead, CanAllBeRead, IsBookRow, IsRefusal, OfFile, ShowsReadable, Stays, TellsOfRow, format_in, format_read, has_tables};
+ghost use Rattle.desk_store.specs.States.{Shows};
+ghost use Rattle.desk_store.specs.Tables.{is_there, which};
+
+use crate::fault::{Fault, OpenFault};
+use crate::read::{
+    read_books, read_caches, read_corrs, read_marks, read_named_corrs, read_paras, read_tabs,
+};
+use crate::table::has_table;
+use desk_book::MOST_VERSION;
+use desk_book::parts::{EntryRows, FileTable, Parts};
+use desk_book::rows::{BookRow, CacheRow};
+use sqlite::{Alter, Connection};
+use std::alloc::Global;
+
+/// The newest format that is read.
+const NEWEST_FORMAT: i64 = 2;
+
+/// Whether each of these tables is there, as [`has_table`] says.
+pub(crate) fn has_all<S: Alter>(conn: &Connection<S>, tables: &[FileTable]) -> bool
+    ensures { result ≡ list_all (λ t. is_there (state S.Store conn.now).now.schema (which t)) tables.now }
+{
+    tables.iter().all(|table| has_table(conn, *table))
+}
+
+/// Whether one of these tables is there.
+pub(crate) fn has_any<S: Alter>(conn: &Connection<S>, tables: &[FileTable]) -> bool
+    ensures { result ≡ list_any (λ t. is_there (state S.Store conn.now).now.schema (which t)) tables.now }
+{
+    tables.iter().any(|table| has_table(conn, *table))
+}
+
+/// Whether a row of `book` is sound, where its format is no later one.
+fn is_sound(row: &BookRow) -> bool
+    ensures { MatchBool result (IsSoundBookRow row.now) (¬ IsSoundBookRow row.now) }
+{
+    row.id == 1 && row.format >= 1 && (0..=MOST_VERSION as i64).contains(&row.version)
+}
+
+/// The row of `book`, which has to be the only one, sound, and of a format that is read.
+fn judge_book(rows: &[BookRow]) -> Result<BookRow, OpenFault>
+    ensures book { IfOk result (IsBookRow rows.now) }
+    ensures told { IfErr result (TellsOfRow rows.now) }
+{
+    match rows {
+        [row] if row.format > NEWEST_FORMAT => Err(OpenFault::NewerFormat),
+        [row] if is_sound(row) => Ok(*row),
+        _ => Err(OpenFault::Damaged {
+            table: FileTable::Book,
+            id: 1,
+        }),
+    }
+}
+
+/// The formats that are read, by how their histories are kept.
+#[derive(Clone, Copy, PartialEq, Eq)]
+enum FileFormat {
+    /// The first: no entry has a name.
+    Unnamed,
+    /// The second: each entry has a name, which may be empty.
+    Named,
+}
+
+/// The format of a file with this row of `book`, which is sound and of no later one.
+fn format_of(row: &BookRow) -> FileFormat
+    ensures { format_read result ≡ format_in row.now.format }
+{
+    if row.format == 1 {
+        FileFormat::Unnamed
+    } else {
+        FileFormat::Named
+    }
+}
+
+/// Whether the tables of this format are there, `book` aside.
+fn has_tables<S: Alter>(conn: &Connection<S>, format: FileFormat) -> bool
+    ensures { result ≡ has_tables (format_read format) (state S.Store conn.now).now.schema }
+{
+    let shared = has_table(conn, FileTable::Tab)
+        && has_table(conn, FileTable::Para)
+        && has_table(conn, FileTable::Mark);
+    let entries = match format {
+        FileFormat::Unnamed => {
+            has_table(conn, FileTable::Corr) && !has_table(conn, FileTable::NamedCorr)
+        }
+        FileFormat::Named => has_table(conn, FileTable::NamedCorr),
+    };
+    shared && entries
+}
+
+/// The entries of the histories in a file of this format.
+fn read_entries<S: Alter>(
+    alloc: Global,
+    conn: &mut Connection<S>,
+    format: FileFormat,
+) -> Result<EntryRows, Fault>
+    ensures gives { HasCleanDisk (state S.Store conn.new) → IfOk result (λ entries.
+        OfFile (format_read format) (state S.Store conn.old) (λ rows.
+        AreSameEntries rows.entries (entry_rows entries))) }
+    ensures rows { HasCleanDisk (state S.Store conn.new) → IfOk result (λ entries.
+        AreEntriesIn (state S.Store conn.old) (entry_rows entries)) }
+    ensures kept { IfOk result (λ entries. format_kept (entry_rows entries) ≡ format_read format) }
+    ensures readable { HasCleanDisk (state S.Store conn.new) → (l : Layout) (c : Contents)
+        → IsOfFormat (format_read format) l → Shows l c (state S.Store conn.old)
+        → OnOk result (AreEntriesReadable (format_read format) l c) }
+    ensures unchanged { HasCleanDisk (state S.Store conn.new)
+        → OnOk result (Stays (state S.Store conn.old) (state S.Store conn.new)) }
+    ensures refused { HasCleanDisk (state S.Store conn.new) → IfErr result (λ fault. fault ≡ Fault.Refused
+        → Stays (state S.Store conn.old) (state S.Store conn.new)
+        × ¬ ShowsReadable (format_read format) (state S.Store conn.old)) }
+    ensures answered { HasCleanDisk (state S.Store conn.new)
+        → (state S.Store conn.old).step_limit ≡ None → IfErr result (λ fault. fault ≡ Fault.Refused
+        → ¬ CanAllAnswer (format_read format) (state S.Store conn.old)) }
+    ensures mode { conn.old.in_transaction ≡ false → conn.new.in_transaction ≡ false }
+    ensures survives { Survives (state S.Store conn.old) (state S.Store conn.new) (λ _. ⊥) }
+{
+    match format {
+        FileFormat::Unnamed => {
+            let entries = read_corrs(alloc, conn)?;
+            Ok(EntryRows::Unnamed(entries))
+        }
+        FileFormat::Named => {
+            let entries = read_named_corrs(alloc, conn)?;
+            Ok(EntryRows::Named(entries))
+        }
+    }
+}
+
+/// The cells of the paragraphs in a file of this format, where it has them.
+fn read_cells<S: Alter>(
+    alloc: Global,
+    conn: &mut Connection<S>,
+    format: FileFormat,
+) -> Result<Option<Vec<CacheRow>>, Fault>
+    ensures gives { HasCleanDisk (state S.Store conn.new) → IfOk result (λ cells.
+        OfFile (format_read format) (state S.Store conn.old) (λ rows.
+        AreSameCaches rows.caches (option_map (λ rows. rows.items) cells))) }
+    ensures rows { HasCleanDisk (state S.Store conn.new) → IfOk result (λ cells.
+        AreCellsIn (state S.Store conn.old) (option_map (λ rows. rows.items) cells)) }
+    ensures unchanged { HasCleanDisk (state S.Store conn.new)
+        → OnOk result (Stays (state S.Store conn.old) (state S.Store conn.new)) }
+    ensures refused { HasCleanDisk (state S.Store conn.new) → IfErr result (λ fault. fault ≡ Fault.Refused
+        → Stays (state S.Store conn.old) (state S.Store conn.new)
+        × ¬ ShowsReadable (format_read format) (state S.Store conn.old)) }
+    ensures answered { HasCleanDisk (state S.Store conn.new)
+        → (state S.Store conn.old).step_limit ≡ None → IfErr result (λ fault. fault ≡ Fault.Refused
+        → ¬ CanAllAnswer (format_read format) (state S.Store conn.old)) }
+    ensures mode { conn.old.in_transaction ≡ false → conn.new.in_transaction ≡ false }
+    ensures survives { Survives (state S.Store conn.old) (state S.Store conn.new) (λ _. ⊥) }
+{
+    if !has_table(conn, FileTable::Cache) {
+        return Ok(None);
+    }
+    let cells = read_caches(alloc, conn)?;
+    Ok(Some(cells))
+}
+
+/// What a file of this format and at this version holds.
+fn read_rest<S: Alter>(
+    alloc: Global,
+    conn: &mut Connection<S>,
+    format: FileFormat,
+    version: i64,
+) -> Result<Parts, Fault>
+    ensures gives { HasCleanDisk (state S.Store conn.new) → IfOk result (λ parts.
+        OfFile (format_read format) (state S.Store conn.old) (λ rows. AreRead rows parts)) }
+    // In any file they are what the statements give.
+    ensures rows { HasCleanDisk (state S.Store conn.new)
+        → IfOk result (λ parts. AreOtherRows (state S.Store conn.old) (rows_in parts)) }
+    ensures kept { IfOk result (λ parts. (parts.version ≡ version)
+        × (format_kept (rows_in parts).entries ≡ format_read format)) }
+    ensures readable { HasCleanDisk (state S.Store conn.new) → (l : Layout) (c : Contents)
+        → IsOfFormat (format_read format) l → Shows l c (state S.Store conn.old)
+        → OnOk result (CanAllBeRead (format_read format) l c) }
+    ensures unchanged { HasCleanDisk (state S.Store conn.new)
+        → OnOk result (Stays (state S.Store conn.old) (state S.Store conn.new)) }
+    ensures refused { HasCleanDisk (state S.Store conn.new) → IfErr result (λ fault. fault ≡ Fault.Refused
+        → Stays (state S.Store conn.old) (state S.Store conn.new)
+        × ¬ ShowsReadable (format_read format) (state S.Store conn.old)) }
+    ensures answered { HasCleanDisk (state S.Store conn.new)
+        → (state S.Store conn.old).step_limit ≡ None → IfErr result (λ fault. fault ≡ Fault.Refused
+        → ¬ CanAllAnswer (format_read format) (state S.Store conn.old)) }
+    ensures mode { conn.old.in_transaction ≡ false → conn.new.in_transaction ≡ false }
+    ensures survives { Survives (state S.Store conn.old) (state S.Store conn.new) (λ _. ⊥) }
+{
+    let tabs = read_tabs(alloc, conn)?;
+    let paras = read_paras(alloc, conn)?;
+    let entries = read_entries(alloc, conn, format)?;
+    let marks = read_marks(alloc, conn)?;
+    let cache = read_cells(alloc, conn, format)?;
+    Ok(Parts {
+        version,
+        tabs,
+        paras,
+        entries,
+        marks,
+        cache,
+    })
+}
+
+/// What a book's file holds, once its row of `book` is judged and its tables are there. Whether its rows show a book isn't
+/// asked.
+///
+/// # Errors
+///
+/// [`OpenFault::NewerFormat`] or a damage of `book`, [`OpenFault::NotABook`] where a table is missing or can't be read, and
+/// else want of memory or a store that failed.
+pub(crate) fn read_parts<S: Alter>(
+    alloc: Global,
+    conn: &mut Connection<S>,
+) -> Result<Parts, OpenFault>
+    requires unlimited { conn.old.step_limit ≡ None }
+    // In any file these are the rows that the statements give, and what is refused shows no book.
+    ensures found { HasCleanDisk (state S.Store conn.new)
+        → IfOk result (λ parts. AreFileRows (state S.Store conn.old) (rows_in parts)) }
+    ensures unrefused { HasCleanDisk (state S.Store conn.new) → (book : Book)
+        → RowsShowIn (state S.Store conn.old) book → IfErr result (λ fault. ¬ IsRefusal fault) }
+    // Where the tables that are there are declared as those of a new file, this is told, and the rows are as they stand.
+    ensures told { HasCleanDisk (state S.Store conn.new) → (l : Layout) (c : Contents)
+        → HasThoseRead l → Shows l c (state S.Store conn.old) → IfErr result (TellsOfTables l c) }
+    ensures read { HasCleanDisk (state S.Store conn.new) → (format : Format) (l : Layout)
+        (c : Contents) → IsOfFormat format l → Shows l c (state S.Store conn.old)
+        → IfOk result (λ parts. IsReadOf l c (rows_in parts)) }
+    ensures is_open { HasCleanDisk (state S.Store conn.new)
+        → OnOk result (IsTrue (state S.Store conn.new).is_open) }
+    ensures refused { HasCleanDisk (state S.Store conn.new) → IfErr result (λ fault. IsRefusal fault
+        → Stays (state S.Store conn.old) (state S.Store conn.new)) }
+    ensures unchanged { HasCleanDisk (state S.Store conn.new)
+        → OnOk result (Stays (state S.Store conn.old) (state S.Store conn.new)) }
+    ensures mode { conn.old.in_transaction ≡ false → conn.new.in_transaction ≡ false }
+    ensures survives { Survives (state S.Store conn.old) (state S.Store conn.new) (λ _. ⊥) }
+{
+    if !has_table(conn, FileTable::Book) {
+        return Err(OpenFault::NotABook);
+    }
+    let books = read_books(alloc, conn)?;
+    let book = judge_book(&books)?;
+    let format = format_of(&book);
+    if !has_tables(conn, format) {
+        return Err(OpenFault::NotABook);
+    }
+    let parts = read_rest(alloc, conn, format, book.version)?;
+    Ok(parts)
+}

@@ -1,0 +1,86 @@
+//! The tables that a book's file lacks of those of a new one, made and filled.
+
+ghost use Rattle.std.specs.Prelude.{◌≡◌, false, IfErr, OnOk, map};
+ghost use Rattle.desk_book.specs.Rebuilt.{rows_in};
+ghost use Rattle.desk_store.specs.Contents.{Contents};
+ghost use Rattle.desk_store.specs.Layout.{Layout};
+ghost use Rattle.desk_store.specs.Opened.{HasGained, HoldsWith, StandsAs, lacked_by, which_new};
+ghost use Rattle.desk_store.specs.Opening.{IsRefusal};
+ghost use Rattle.desk_store.specs.States.{Shows};
+ghost use Rattle.desk_store.specs.Tables.{which};
+ghost use Rattle.sql_tables.specs.States.{IsCommitted, IsSettled};
+ghost use Rattle.sqlite.specs.Held.{state};
+ghost use Rattle.sqlite.specs.State.{HasCleanDisk, Survives};
+
+use crate::fault::{Fault, OpenFault};
+use crate::transaction::write_with_tables;
+use desk_book::parts::{EntryRows, FileTable, Parts};
+use desk_book::{Book, NewTables};
+use sqlite::{Alter, Connection, Error};
+use std::alloc::Global;
+
+/// What the file of these parts lacks of a new one.
+pub(crate) fn lacked_by(parts: &Parts) -> Option<NewTables>
+    ensures { result ≡ lacked_by (rows_in parts.now) }
+{
+    match (&parts.entries, &parts.cache) {
+        (EntryRows::Unnamed(_), None) => Some(NewTables::EntriesAndBraille),
+        (EntryRows::Unnamed(_), Some(_)) => Some(NewTables::Entries),
+        (EntryRows::Named(_), None) => Some(NewTables::Braille),
+        (EntryRows::Named(_), Some(_)) => None,
+    }
+}
+
+/// How an error is told that stopped the filling of a file which shows a book: that one is there is known by then, so no
+/// error says that there is none.
+fn stopped_by(error: Error) -> OpenFault
+    ensures { ¬ IsRefusal result }
+{
+    match Fault::of(error) {
+        Fault::NoMemory => OpenFault::NoMemory,
+        Fault::Lost | Fault::Refused => OpenFault::Lost,
+    }
+}
+
+/// The tables that are new, in the order in which they are made.
+fn file_tables(tables: NewTables) -> &'static [FileTable]
+    ensures { map which result.now ≡ which_new tables }
+{
+    match tables {
+        NewTables::EntriesAndBraille => &[FileTable::Cache, FileTable::NamedCorr],
+        NewTables::Entries => &[FileTable::NamedCorr],
+        NewTables::Braille => &[FileTable::Cache],
+    }
+}
+
+/// Makes these tables in the file of a book and fills them with what the book has for them, as one.
+///
+/// # Errors
+///
+/// [`OpenFault::Lost`] where the store failed or refused it, and [`OpenFault::NoMemory`]. A crash then leaves the file as it
+/// was or with all of this.
+pub(crate) fn fill<S: Alter>(
+    alloc: Global,
+    conn: &mut Connection<S>,
+    book: &Book,
+    tables: NewTables,
+) -> Result<(), OpenFault>
+    requires { conn.old.in_transaction ≡ false }
+    ensures idle { conn.new.in_transaction ≡ false }
+    ensures filled { HasCleanDisk (state S.Store conn.new) → (l : Layout) (c : Contents)
+        → StandsAs l c book.now (state S.Store conn.old) → OnOk result (HasGained (which_new tables)
+        l c book.now (state S.Store conn.old).now.trees (λ after d. Shows after d (state S.Store conn.new))) }
+    ensures open { HasCleanDisk (state S.Store conn.new)
+        → OnOk result (IsCommitted (state S.Store conn.new)) }
+    ensures settled { HasCleanDisk (state S.Store conn.new)
+        → OnOk result (IsSettled (state S.Store conn.new)) }
+    // Of a crash at any exit: nothing new is left but all of it.
+    ensures crash { Survives (state S.Store conn.old) (state S.Store conn.new)
+        (HoldsWith (which_new tables) book.now (state S.Store conn.old)) }
+    ensures told { IfErr result (λ fault. ¬ IsRefusal fault) }
+{
+    match write_with_tables(alloc, conn, file_tables(tables), book.filling(tables)) {
+        Ok(()) => Ok(()),
+        Err(error) => Err(stopped_by(error)),
+    }
+}

@@ -1,0 +1,179 @@
+//! A book's file opened: judged, read whole, and completed where it is of an older form; or made.
+
+ghost use Rattle.std.specs.Prelude.{◌≡◌, ◌⊎◌, Bool, None, false, true, IfErr, IfOk, IsTrue, Ok, OnOk};
+ghost use Rattle.desk_book.specs.Book.{Book as BookOf};
+ghost use Rattle.desk_store.specs.Books.{LeavesBook, shown_by};
+ghost use Rattle.desk_store.specs.Contents.{Contents};
+ghost use Rattle.desk_store.specs.Found.{HasNone};
+ghost use Rattle.desk_store.specs.Layout.{Layout};
+ghost use Rattle.desk_store.specs.Making.{with_tables};
+ghost use Rattle.desk_store.specs.Opened.{HasGained, HoldsEither, HoldsEmpty, HoldsNone, HoldsWith, IsRefusedWith, MayBring, Opens, Stands, StandsAs, which_lacked};
+ghost use Rattle.desk_store.specs.Opening.{IsRefusal};
+ghost use Rattle.desk_store.specs.States.{Shows};
+ghost use Rattle.sql_tables.specs.States.{Leaves};
+ghost use Rattle.sqlite.specs.Held.{Held, state};
+ghost use Rattle.sqlite.specs.State.{HasCleanDisk, Survives};
+
+use crate::book_file::{has_any, read_parts};
+use crate::fault::OpenFault;
+use crate::fill::{fill, lacked_by};
+use crate::make::make_book;
+use crate::store::Store;
+use desk_book::parts::FileTable;
+use desk_book::{Book, NewTables};
+use sqlite::{Alter, Connection};
+use std::alloc::Global;
+
+/// The tables by which a book's file is known, in either format.
+const KNOWN_TABLES: [FileTable; 6] = [
+    FileTable::Book,
+    FileTable::Tab,
+    FileTable::Para,
+    FileTable::Corr,
+    FileTable::Mark,
+    FileTable::NamedCorr,
+];
+
+/// Makes the tables that a book's file lacks, if it lacks any, and fills them.
+fn complete<S: Alter>(
+    alloc: Global,
+    conn: &mut Connection<S>,
+    book: &Book,
+    lacked: Option<NewTables>,
+) -> Result<(), OpenFault>
+    requires { conn.old.in_transaction ≡ false }
+    ensures idle { conn.new.in_transaction ≡ false }
+    ensures filled { HasCleanDisk (state S.Store conn.new) → (l : Layout) (c : Contents)
+        → StandsAs l c book.now (state S.Store conn.old)
+        → OnOk result (HasGained (which_lacked lacked) l c book.now (state S.Store conn.old).now.trees
+        (λ after d. Shows after d (state S.Store conn.new))) }
+    ensures open { HasCleanDisk (state S.Store conn.new) → IsTrue (state S.Store conn.old).is_open
+        → OnOk result (IsTrue (state S.Store conn.new).is_open) }
+    ensures leaves { HasCleanDisk (state S.Store conn.new) → (l : Layout) (c : Contents)
+        → StandsAs l c book.now (state S.Store conn.old)
+        → LeavesBook l book.now (state S.Store conn.old) → OnOk result
+        (LeavesBook (with_tables (which_lacked lacked) l) book.now (state S.Store conn.new)) }
+    // Of a crash at any exit: nothing new is left but all of it.
+    ensures crash { Survives (state S.Store conn.old) (state S.Store conn.new)
+        (HoldsWith (which_lacked lacked) book.now (state S.Store conn.old)) }
+    ensures told { IfErr result (λ fault. ¬ IsRefusal fault) }
+{
+    match lacked {
+        Some(tables) => fill(alloc, conn, book, tables),
+        None => Ok(()),
+    }
+}
+
+/// Opens the file of a book, of which a table is there.
+fn open_book<S: Alter>(alloc: Global, conn: &mut Connection<S>) -> Result<Book, OpenFault>
+    requires idle { conn.old.in_transaction ≡ false }
+    requires unlimited { conn.old.step_limit ≡ None }
+    requires there { ¬ HasNone (state S.Store conn.old).now.schema }
+    ensures idle { conn.new.in_transaction ≡ false }
+    ensures opens { HasCleanDisk (state S.Store conn.new) → (make : Bool)
+        → Opens S.Store make conn.old (state S.Store conn.new) result }
+    ensures crash { (make : Bool) → Survives (state S.Store conn.old) (state S.Store conn.new)
+        (MayBring make (state S.Store conn.old)) }
+    ensures refused { HasCleanDisk (state S.Store conn.new) → IfErr result (λ fault. IsRefusal fault
+        → Survives (state S.Store conn.old) (state S.Store conn.new) (λ _. ⊥)) }
+{
+    let parts = read_parts(alloc, conn)?;
+    let lacked = lacked_by(&parts);
+    let book = Book::rebuild(alloc, parts)?;
+    complete(alloc, conn, &book, lacked)?;
+    Ok(book)
+}
+
+/// Makes a new book, the empty one, in a file that has none of a book's tables.
+fn open_new<S: Alter>(alloc: Global, conn: &mut Connection<S>) -> Result<Book, OpenFault>
+    requires idle { conn.old.in_transaction ≡ false }
+    requires bare { HasNone (state S.Store conn.old).now.schema }
+    ensures idle { conn.new.in_transaction ≡ false }
+    ensures opens { HasCleanDisk (state S.Store conn.new)
+        → Opens S.Store true conn.old (state S.Store conn.new) result }
+    ensures crash { Survives (state S.Store conn.old) (state S.Store conn.new)
+        (MayBring true (state S.Store conn.old)) }
+    ensures refused { HasCleanDisk (state S.Store conn.new) → IfErr result (λ fault. IsRefusal fault
+        → Survives (state S.Store conn.old) (state S.Store conn.new) (λ _. ⊥)) }
+{
+    let Ok(book) = Book::new(alloc) else {
+        return Err(OpenFault::NoMemory);
+    };
+    make_book(conn)?;
+    Ok(book)
+}
+
+impl<S: Alter> Store<S> {
+    /// Opens the book of a file: the one that its rows show, with the braille of its prints. A file of the first format is
+    /// brought to the second, and one without the cells of its paragraphs gets them, as one transaction. Where none of a book's
+    /// tables is there and `make` is true, the file of the empty book is made. The caller's conditions: no transaction is open
+    /// on the connection, and it has no limit on steps.
+    ///
+    /// # Errors
+    ///
+    /// [`OpenFault::NotABook`], [`OpenFault::NewerFormat`] and [`OpenFault::Damaged`] where the file shows no book; it is as it
+    /// was then. [`OpenFault::Lost`] where a call of the database failed, and [`OpenFault::NoMemory`]: the file holds the same
+    /// book in the older form or the newer one.
+    pub fn open_on(
+        alloc: Global,
+        connection: &mut Connection<S>,
+        make: bool,
+    ) -> Result<Book, OpenFault>
+        requires idle { connection.old.in_transaction ≡ false }
+        requires unlimited { connection.old.step_limit ≡ None }
+        ensures idle { connection.new.in_transaction ≡ false }
+        ensures opens { HasCleanDisk (state S.Store connection.new)
+            → Opens S.Store make connection.old (state S.Store connection.new) result }
+        // Of a crash at any exit: nothing new is left but the book in a file with the tables of a new one.
+        ensures crash { Survives (state S.Store connection.old) (state S.Store connection.new)
+            (MayBring make (state S.Store connection.old)) }
+        ensures either { HasCleanDisk (state S.Store connection.new) → (l : Layout) (book : BookOf)
+            → Stands l book (state S.Store connection.old)
+            → Leaves (HoldsEither l book) (state S.Store connection.old)
+            → Leaves (HoldsEither l book) (state S.Store connection.new) }
+        ensures none { HasCleanDisk (state S.Store connection.new)
+            → HasNone (state S.Store connection.old).now.schema
+            → Leaves HoldsNone (state S.Store connection.old)
+            → Leaves (λ db. HoldsNone db ⊎ HoldsEmpty db) (state S.Store connection.new) }
+        // After a refusal a crash leaves nothing new.
+        ensures refused { HasCleanDisk (state S.Store connection.new)
+            → IfErr result (λ fault. IsRefusal fault
+            → Survives (state S.Store connection.old) (state S.Store connection.new) (λ _. ⊥)) }
+    {
+        if has_any(connection, &KNOWN_TABLES) {
+            open_book(alloc, connection)
+        } else if make {
+            open_new(alloc, connection)
+        } else {
+            Err(OpenFault::NotABook)
+        }
+    }
+}
+
+impl<S: Alter + Drop> Store<S> {
+    /// Opens the book of a file as [`Store::open_on`] does, and takes the connection.
+    ///
+    /// # Errors
+    ///
+    /// Those of [`Store::open_on`]; the connection is dropped then.
+    pub fn adopt(
+        alloc: Global,
+        connection: Connection<S>,
+        make: bool,
+    ) -> Result<(Self, Book), OpenFault>
+        requires idle { connection.in_transaction ≡ false }
+        requires unlimited { connection.step_limit ≡ None }
+        ensures opens { IfOk result (λ it. HasCleanDisk (shown_by S.Store it.0)
+            → Opens S.Store make connection (shown_by S.Store it.0) (Ok it.1)) }
+        ensures crash { IfOk result (λ it. Survives (state S.Store connection)
+            (shown_by S.Store it.0) (MayBring make (state S.Store connection))) }
+        ensures kept { IfOk result (λ it. it.0.lost ≡ false) }
+        // There is a connection of which this is so, that which was dropped.
+        ensures told { IfErr result (λ fault. (last : Held S)
+            × IsRefusedWith S.Store make connection (state S.Store last) fault) }
+    {
+        let mut connection = connection;
+        let book = Store::open_on(alloc, &mut connection, make)?;
+        Ok((Store::over(connection), book))
+    }
+}
