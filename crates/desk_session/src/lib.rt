@@ -23,4 +23,8 @@ mod turn;
 pub use session::{Ended, run, serve};
 
 #[cfg(test)]
+mod failing;
+#[cfg(test)]
+mod rows;
+#[cfg(test)]
 mod tests;

@@ -1,16 +1,12 @@
 //! Sessions over memory, worked out by hand from the language of requests and the rules of books.
-//!
-//! The rows stand in texts, one request to a row: the request, ` => `, and the reply. In both a pilcrow is a line feed, `←` a
-//! carriage return, `~` the byte FF, and `{a×3}` is `aaa`.
 
+use super::rows::{replies, requests, rows};
 use crate::{Ended, run, serve};
 use desk_book::Book;
-use desk_ends::{Memory, Source};
-use desk_store::{Store, make_tables};
-use sqlite::{Connection, MemStore};
+use desk_ends::Memory;
+use desk_store::Store;
+use sqlite::{Connection, MemStore, params};
 use std::alloc::Global;
-use std::io::{self, Error, ErrorKind, Read, Write};
-use std::iter;
 use std::process::Abort;
 use std::test::Fail;
 
@@ -24,7 +20,7 @@ whence 1 1 => | 0¶end 2
 where 1 5 => no 5";
 
 /// A correction and its undo, and what is refused after them.
-const CORRECTED: &str = "\
+pub(crate) const CORRECTED: &str = "\
 supply en => ok 1
 type end en The cat => ok 2 1
 correct 1 4 3 dog => ok 3 1
@@ -38,7 +34,7 @@ undo 1 => no 10
 version => end 4";
 
 /// Marks that move with corrections.
-const MARKED: &str = "\
+pub(crate) const MARKED: &str = "\
 supply en => ok 1
 type end en The cat => ok 2 1
 mark 1 5 3 cat? => ok 3 1
@@ -55,6 +51,31 @@ resolve 1 => no 13
 resolve 2 => no 4
 mark 1 0 0 x => no 5
 history 1 => | 1 correct 7 0 s¶| 2 correct 4 0 x¶| 3 correct 0 9 ¶| 4 undo 3¶end 8";
+
+/// Marks over the cells of a rule, with the supplied table and rules after it.
+pub(crate) const JOINED: &str = "\
+table t 69¶{en}always th 1456¶always the 2346¶word but 12¶midword ea 2¶word into 35-2345¶always in 35¶always st 34¶endword st 12-34 => ok 1
+type end t then => ok 2 1
+mark 1 0 1 look => ok 3 1
+marks 1 => | 1 0 3 open kept look¶end 3
+correct 1 0 0 x => ok 4 1
+marks 1 => | 1 1 4 open kept look¶end 4
+correct 1 2 1 i => ok 5 2
+marks 1 => | 1 1 4 open touched look¶end 5
+undo 1 => ok 6 3
+undo 1 => ok 7 4
+marks 1 => | 1 0 3 open touched look¶end 7";
+
+/// Corrections with their proofreaders, after the requests of [`CORRECTED`].
+const NAMED: &str = "\
+history 1 => | 1 correct 4 3 dog¶| 2 undo 1¶end 4
+correct-by Ann 1 4 3 dog => ok 5 3
+history 1 => | 1 correct 4 3 dog¶| 2 undo 1¶| 3 correct-by Ann 4 3 dog¶end 5
+correct-by {A×41} 1 0 0 x => no 18
+correct-by  1 0 0 x => no 1
+@4 correct-by Ann 1 0 0 x => no 16 5
+correct-by {A×40} 1 0 0 x => ok 6 4
+print 1 => | xThe dog¶end 6";
 
 /// Two tables: an undo that the second doesn't define.
 const TWO_TABLES: &str = "\
@@ -102,53 +123,70 @@ print  1 => no 1
 version => end 2
 ← => no 1";
 
-/// The byte that a row writes.
-fn byte(written: u8) -> u8 {
-    match written {
-        b'~' => 0xFF,
-        other => other,
+/// Sessions over new files.
+const SESSIONS: [&str; 7] = [
+    FIRST, CORRECTED, MARKED, JOINED, TWO_TABLES, REFUSED, LIMITS,
+];
+
+/// Statements that bring a file to the first format, without the braille of its paragraphs.
+pub(crate) const OLDER: &str = "\
+CREATE TABLE corr (para INTEGER NOT NULL, seq INTEGER NOT NULL, kind INTEGER NOT NULL, start INTEGER NOT NULL, len INTEGER NOT NULL, body TEXT NOT NULL, PRIMARY KEY (para, seq)) STRICT;
+INSERT INTO corr SELECT para, seq, kind, start, len, body FROM corr2;
+DROP TABLE corr2;
+DROP TABLE cache;
+UPDATE book SET format = 1;";
+
+/// A book at the last version.
+const LAST: &str = "\
+strike 1 => no 15 5
+version => end 9007199254740992";
+
+/// Sessions over new files, statements that run in these, sessions over them as they are then, and how many entries they
+/// have in the end in tables of the first format and of the second.
+const AGAIN: [(&str, &str, &str, &str, i64); 4] = [
+    (CORRECTED, "", NAMED, ENTRIES, 4),
+    (CORRECTED, "DROP TABLE cache", NAMED, ENTRIES, 4),
+    (CORRECTED, OLDER, NAMED, OLDER_AND_NEWER_ENTRIES, 204),
+    (
+        FIRST,
+        "UPDATE book SET version = 9007199254740992",
+        LAST,
+        ENTRIES,
+        0,
+    ),
+];
+
+/// Counts the entries of a file in the second format.
+const ENTRIES: &str = "SELECT count(*) FROM corr2";
+
+/// Counts those that were left in the first format a hundredfold, and the entries.
+const OLDER_AND_NEWER_ENTRIES: &str =
+    "SELECT 100 * (SELECT count(*) FROM corr) + (SELECT count(*) FROM corr2)";
+
+/// Inputs whose last request is cut by the end, and what is answered.
+const CUT: [(&[u8], &str); 3] = [
+    (b"version", "end 0\n"),
+    (b"\r", "no 1\n"),
+    (b"table t 3\nletter a 1\nversion\n", "no 1\n"),
+];
+
+/// The book in a database, opened or made there.
+pub(crate) fn opened(
+    alloc: Global,
+    conn: Connection<MemStore>,
+) -> Result<(Store<MemStore>, Book), Fail> {
+    let mut conn = conn;
+    if !conn.is_autocommit() {
+        return Err("in a transaction".into());
     }
+    conn.set_step_limit(None);
+    Ok(Store::adopt(alloc, conn, true)?)
 }
 
-/// The bytes that a row writes.
-fn bytes_of(alloc: Global, written: &str) -> Result<Vec<u8>, Fail> {
-    let mut text = String::new(alloc);
-    for part in written.split('}') {
-        let (plain, repeated) = part.split_once('{').unwrap_or((part, ""));
-        let (piece, count) = repeated.split_once('×').unwrap_or((repeated, "0"));
-        text.push_str(plain)?;
-        text.extend(iter::repeat_n(piece, count.parse()?))?;
-    }
-    let text: String = text
-        .chars()
-        .map(|c| match c {
-            '¶' => '\n',
-            '←' => '\r',
-            other => other,
-        })
-        .collect(alloc)?;
-    Ok(text.bytes().map(|b| byte(b)).collect(alloc)?)
-}
-
-/// The requests of rows, and their replies.
-fn rows(alloc: Global, rows: &str) -> Result<(Vec<u8>, Vec<u8>), Fail> {
-    let mut requests = Vec::new(alloc);
-    let mut replies = Vec::new(alloc);
-    for row in rows.lines() {
-        let (request, reply) = row.split_once(" => ").ok_or("a row has no reply")?;
-        requests.extend_from_slice(bytes_of(alloc, request)?.as_slice())?;
-        requests.push(b'\n')?;
-        replies.extend_from_slice(bytes_of(alloc, reply)?.as_slice())?;
-        replies.push(b'\n')?;
-    }
-    Ok((requests, replies))
-}
-
-/// A store over a new file, where these statements ran.
-fn store(alloc: Global, further: &str) -> Result<Store<MemStore>, Fail> {
-    let mut conn = Connection::open_in_memory(alloc)?;
-    make_tables(&mut conn)?;
-    conn.execute_batch(further)?;
+/// The store of a database in which these statements ran besides.
+pub(crate) fn altered(store: Store<MemStore>, sql: &str) -> Result<Store<MemStore>, Fail> {
+    let mut conn = store.release();
+    conn.execute_batch(sql)?;
     if conn.is_autocommit() {
         Ok(Store::over(conn))
     } else {
@@ -156,156 +194,74 @@ fn store(alloc: Global, further: &str) -> Result<Store<MemStore>, Fail> {
     }
 }
 
-/// Gives its bytes, and then fails.
-#[derive(Drop)]
-struct Cut<'a>(&'a [u8]);
-
-impl<'a> Read for Cut<'a> {
-    fn read(&mut self, buf: &mut [u8]) -> io::Result<usize> {
-        if self.0.is_empty() {
-            return Err(Error::from(ErrorKind::Interrupted));
-        }
-        self.0.read(buf)
-    }
-}
-
-/// Takes so many bytes, two at a time, and then fails.
-#[derive(Drop)]
-struct Room {
-    taken: Vec<u8>,
-    left: usize,
-}
-
-impl Write for Room {
-    fn write(&mut self, buf: &[u8]) -> io::Result<usize> {
-        let count = buf.len().min(2).min(self.left);
-        self.left -= count;
-        self.taken.write(&buf[..count])
-    }
-
-    fn flush(&mut self) -> io::Result<()> {
-        Ok(())
-    }
-}
-
-/// A word for how a session ended.
-fn word(ended: Ended) -> &'static str {
-    match ended {
-        Ended::Done => "done",
-        Ended::Input => "input",
-        Ended::Output => "output",
-        Ended::Lost => "lost",
-    }
-}
-
-/// What a session writes to a sink with so much room, how it ends, and the version of the book that it gives back. In the
-/// file these statements ran before.
-fn session<R: Source>(
+/// Whether a session over this database is done, and gives these replies. The answer is the database.
+fn judge(
+    rt: &impl Abort,
     alloc: Global,
-    source: &mut R,
-    room: usize,
-    further: &str,
-) -> Result<String, Fail> {
-    let mut store = store(alloc, further)?;
-    let taken = Vec::new(alloc);
-    let mut sink = Room { taken, left: room };
-    let (ended, book) = serve(alloc, source, &mut sink, &mut store, Book::new(alloc)?);
-    let written = String::from_utf8(sink.taken)?;
-    Ok(format!(in alloc; "{written}{} {}", word(ended), book.version())?)
-}
-
-/// Whether a session over these rows gives their replies and is done.
-fn judge(rt: &impl Abort, alloc: Global, text: &str) -> Result<(), Fail> {
-    let (requests, replies) = rows(alloc, text)?;
-    let mut sink = Vec::new(alloc);
-    let mut source = Memory(requests.as_slice());
-    let ended = run(
-        alloc,
-        &mut source,
-        &mut sink,
-        store(alloc, "")?,
-        Book::new(alloc)?,
-    );
+    conn: Connection<MemStore>,
+    requests: &[u8],
+    wanted: &[u8],
+) -> Result<Connection<MemStore>, Fail> {
+    let (store, book) = opened(alloc, conn)?;
+    let mut store = store;
+    let mut given = Vec::new(alloc);
+    let (ended, _) = serve(alloc, &mut Memory(requests), &mut given, &mut store, book);
     assert_eq!(rt; ended, Ended::Done);
-    assert_eq!(rt;
-        str::from_utf8(sink.as_slice()),
-        str::from_utf8(replies.as_slice())
-    );
-    Ok(())
+    assert_eq!(rt; str::from_utf8(given.as_slice()), str::from_utf8(wanted));
+    Ok(store.release())
+}
+
+/// Whether a session over this database gives the replies of these rows. The answer is the database.
+fn judge_rows(
+    rt: &impl Abort,
+    alloc: Global,
+    conn: Connection<MemStore>,
+    text: &str,
+) -> Result<Connection<MemStore>, Fail> {
+    let rows = rows(alloc, text)?;
+    let (requests, replies) = (requests(alloc, &rows)?, replies(alloc, &rows)?);
+    judge(rt, alloc, conn, requests.as_slice(), replies.as_slice())
 }
 
 #[test]
-fn answers_queries(rt: HostRuntime) -> Result<(), Fail> {
-    judge(&rt, rt.alloc(), FIRST)
-}
-
-#[test]
-fn corrects_and_undoes(rt: HostRuntime) -> Result<(), Fail> {
-    judge(&rt, rt.alloc(), CORRECTED)
-}
-
-#[test]
-fn moves_marks(rt: HostRuntime) -> Result<(), Fail> {
-    judge(&rt, rt.alloc(), MARKED)
-}
-
-#[test]
-fn changes_tables(rt: HostRuntime) -> Result<(), Fail> {
-    judge(&rt, rt.alloc(), TWO_TABLES)
-}
-
-#[test]
-fn refuses_and_changes_nothing(rt: HostRuntime) -> Result<(), Fail> {
-    judge(&rt, rt.alloc(), REFUSED)
-}
-
-#[test]
-fn reads_lines_at_their_limits(rt: HostRuntime) -> Result<(), Fail> {
-    judge(&rt, rt.alloc(), LIMITS)
-}
-
-#[test]
-fn reads_what_the_end_cuts(rt: HostRuntime) -> Result<(), Fail> {
+fn sessions_are_answered(rt: HostRuntime) -> Result<(), Fail> {
     let alloc = rt.alloc();
-    let given = session(alloc, &mut Memory(b"version"), 99, "")?;
-    assert_eq!(&rt; given.as_str(), "end 0\ndone 0");
-    let given = session(alloc, &mut Memory(b"\r"), 99, "")?;
-    assert_eq!(&rt; given.as_str(), "no 1\ndone 0");
-    let given = session(
-        alloc,
-        &mut Memory(b"table t 3\nletter a 1\nversion\n"),
-        99,
-        "",
-    )?;
-    assert_eq!(&rt; given.as_str(), "no 1\ndone 0");
+    for text in SESSIONS {
+        judge_rows(&rt, alloc, Connection::open_in_memory(alloc)?, text)?;
+    }
     Ok(())
 }
 
 #[test]
-fn gives_no_request_that_a_failed_read_cuts(rt: HostRuntime) -> Result<(), Fail> {
-    let given = session(rt.alloc(), &mut Cut(b"supply en\nsupply en"), 99, "")?;
-    assert_eq!(&rt; given.as_str(), "ok 1\ninput 1");
-    Ok(())
-}
-
-#[test]
-fn stops_where_a_write_fails(rt: HostRuntime) -> Result<(), Fail> {
+fn sessions_over_files_that_are_opened_again_are_answered(rt: HostRuntime) -> Result<(), Fail> {
     let alloc = rt.alloc();
-    let requests = b"supply en\nversion\nsupply b\nsupply c\n";
-    let given = session(alloc, &mut Memory(requests), 13, "")?;
-    assert_eq!(&rt; given.as_str(), "ok 1\nend 1\nokoutput 2");
-    let given = session(alloc, &mut Memory(requests), 16, "")?;
-    assert_eq!(&rt; given.as_str(), "ok 1\nend 1\nok 2\noutput 3");
+    for (before, sql, after, counts, count) in AGAIN {
+        let mut conn = judge_rows(&rt, alloc, Connection::open_in_memory(alloc)?, before)?;
+        conn.execute_batch(sql)?;
+        let mut conn = judge_rows(&rt, alloc, conn, after)?;
+        let found: i64 = conn.query_row(counts, params![])?.get(0)?;
+        assert_eq!(&rt; found, count);
+    }
     Ok(())
 }
 
 #[test]
-fn ends_where_a_command_is_lost(rt: HostRuntime) -> Result<(), Fail> {
+fn requests_that_the_end_cuts_are_answered(rt: HostRuntime) -> Result<(), Fail> {
     let alloc = rt.alloc();
-    let requests = b"supply en\ntype end en Hello\nversion\n";
-    let given = session(alloc, &mut Memory(requests), 99, "DROP TABLE cache")?;
-    assert_eq!(&rt; given.as_str(), "ok 1\nno 91\nlost 1");
-    let given = session(alloc, &mut Memory(requests), 5, "DROP TABLE cache")?;
-    assert_eq!(&rt; given.as_str(), "ok 1\nlost 1");
+    for (requests, wanted) in CUT {
+        let conn = Connection::open_in_memory(alloc)?;
+        judge(&rt, alloc, conn, requests, wanted.as_bytes())?;
+    }
+    Ok(())
+}
+
+#[test]
+fn a_session_lets_go_of_its_book(rt: HostRuntime) -> Result<(), Fail> {
+    let alloc = rt.alloc();
+    let (store, book) = opened(alloc, Connection::open_in_memory(alloc)?)?;
+    let mut given = Vec::new(alloc);
+    let ended = run(alloc, &mut Memory(b"supply en"), &mut given, store, book);
+    assert_eq!(&rt; ended, Ended::Done);
+    assert_eq!(&rt; str::from_utf8(given.as_slice()), Ok("ok 1\n"));
     Ok(())
 }
