@@ -70,6 +70,7 @@ bench: $(PROGRAM)
 	bench/pages.sh
 	bench/rows.sh
 	bench/rebuild.sh
+	bench/keep.sh
 
 install: $(PROGRAM)
 	install -d '$(DESTDIR)$(PREFIX)/bin' '$(DESTDIR)$(PREFIX)/share/man/man1'
