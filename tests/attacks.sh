@@ -1,7 +1,8 @@
 #!/bin/bash
 # Tries the edits in crates/NAME/attacks, which the gate doesn't: wrong bodies that the prover has to refuse, beside those
 # of must-fail. An edit with a line 'test: TEST' is one that no contract rules out: with it the crate's tests are run
-# unproved, and that test has to fail. It works on a copy, and takes some minutes for each crate that has some.
+# unproved, and that test has to fail; with 'test: CRATE TEST' those of that crate. It works on a copy, and takes some
+# minutes for each crate that has some.
 #   tests/attacks.sh [NAME..]
 set -eu
 cd "$(dirname "$0")/.."
@@ -31,15 +32,19 @@ apply() {
 
 # Says whether the edit's test fails with it, and undoes it.
 test_sees() {
-    local edit=$1 test sources
-    test=$(sed -n 's/^test: //p' "$edit")
+    local edit=$1 crate test sources
+    read -r crate test < <(sed -n 's/^test: //p' "$edit")
+    if [ -z "$test" ]; then
+        test=$crate
+        crate=$(basename "$PWD")
+    fi
     sources=$(mktemp -d "$scratch/sources.XXXXXX")
     cp -r src/. "$sources"
     if ! apply "$edit"; then
         echo "$edit cannot be applied"
         return 1
     fi
-    "$rt" try --test > "$sources/log" 2>&1 || true
+    (cd "../$crate" && "$rt" try --test) > "$sources/log" 2>&1 || true
     rm -r src && cp -r "$sources" src && rm src/log
     if grep -qF "test $test ... FAILED" "$sources/log"; then
         echo "$edit: $test fails"

@@ -65,8 +65,3 @@ pub use refusal::{Limit, Refusal};
 pub use style::Style;
 pub use text::{Bytes, Text};
 pub use told::{Done, History, HistoryItem};
-
-#[cfg(test)]
-mod row_tests;
-#[cfg(test)]
-mod tests;

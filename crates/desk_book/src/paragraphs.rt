@@ -423,32 +423,3 @@ impl Paragraphs {
         renew(&mut self.items.items, cells);
     }
 }
-
-#[cfg(test)]
-mod tests {
-    use super::*;
-    use std::test::Fail;
-
-    #[test]
-    fn a_new_id_stands_where_it_is_put(rt: HostRuntime) -> Result<(), Fail> {
-        let rows = [
-            (Anchor::Front, [4, 3, 1, 2]),
-            (Anchor::End, [3, 1, 2, 4]),
-            (Anchor::Para(3), [3, 4, 1, 2]),
-            (Anchor::Para(2), [3, 1, 2, 4]),
-        ];
-        for (after, order) in rows {
-            let ids = with_new(rt.alloc(), &[3, 1, 2], 4, after)?;
-            assert_eq!(rt; ids.as_slice(), order.as_slice(), "{after:?}");
-        }
-        Ok(())
-    }
-
-    #[test]
-    fn no_paragraph_is_there_at_first(rt: HostRuntime) -> Result<(), Fail> {
-        let paragraphs = Paragraphs::new(rt.alloc());
-        assert!(rt; paragraphs.get(1).is_none());
-        assert_eq!(rt; paragraphs.place_for(Anchor::End), 0);
-        Ok(())
-    }
-}

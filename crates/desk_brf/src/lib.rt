@@ -23,6 +23,3 @@ mod word;
 
 pub use layout::{BadLayout, Layout};
 pub use volume::{ExportFault, export};
-
-#[cfg(test)]
-mod tests;

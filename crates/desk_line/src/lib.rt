@@ -35,6 +35,3 @@ pub use limits::MOST_LINE_BYTES;
 pub use read::{lines_after, read_request};
 pub use reply::write_reply;
 pub use request::{Query, Request};
-
-#[cfg(test)]
-mod tests;

@@ -21,10 +21,3 @@ mod session;
 mod turn;
 
 pub use session::{Ended, run, serve};
-
-#[cfg(test)]
-mod failing;
-#[cfg(test)]
-mod rows;
-#[cfg(test)]
-mod tests;

@@ -27,20 +27,3 @@ pub use read::{
 pub use store::{Lost, Store};
 pub use table::{has_table, table_name};
 pub use transaction::{write, write_with_tables};
-
-#[cfg(test)]
-mod commands;
-#[cfg(test)]
-mod disks;
-#[cfg(test)]
-mod files;
-#[cfg(test)]
-mod keeps;
-#[cfg(test)]
-mod lines;
-#[cfg(test)]
-mod stops;
-#[cfg(test)]
-mod tasks;
-#[cfg(test)]
-mod tests;

@@ -4,14 +4,14 @@
 //! number and the values stand behind it: `place 1 20` moves a paragraph. `version 8` sets the book's version. Words stand apart by one
 //! space, and `_` is a text with no character. `corr` is a row of the table `corr2`, and `older` one of `corr`.
 
-use crate::{
-    has_table, read_books, read_caches, read_corrs, read_marks, read_named_corrs, read_paras,
-    read_tabs,
-};
 use cell_core::Cell;
 use desk_book::parts::FileTable;
 use desk_book::rows::{
     BookRow, CacheRow, CorrRow, MarkRow, NamedCorrRow, ParaRow, Put, StoredTab, TabRow,
+};
+use desk_store::{
+    has_table, read_books, read_caches, read_corrs, read_marks, read_named_corrs, read_paras,
+    read_tabs,
 };
 use sqlite::{Alter, Connection};
 use std::alloc::Global;

@@ -4,13 +4,12 @@
 //! answer, ` | `, and the request. A request that begins with `@V` expects version V, and `again N` makes a request N times,
 //! whose last answer counts; `puts` before a command asks what it would put into the rows of a file, and `fill` what fills
 //! new tables of it. In a text a pilcrow is a line feed, an open box a blank, and `{a×3}` is `aaa`.
-use super::limits::MOST_VERSION;
-use super::rows::Put;
-use super::{
+use cell_core::Cell;
+use desk_book::rows::Put;
+use desk_book::{
     Anchor, Book, Bytes, Command, Done, Filling, History, HistoryItem, Listed, MarkItem, NewTables,
     ParagraphMarks, Puts, Refusal, Style, Text,
 };
-use cell_core::Cell;
 use louis_table::EN;
 use std::alloc::{AllocError, Global};
 use std::process::Abort;
@@ -548,43 +547,6 @@ fn judge_session(rt: &impl Abort, alloc: Global, rows: &str) -> Result<(), Fail>
     judge_rows(rt, alloc, &mut book, rows)
 }
 
-/// The book as if all commands but one that a book can take had been accepted.
-fn nearly_out_of_versions(book: Book) -> Book {
-    let Book {
-        version: _,
-        tables,
-        paragraphs,
-        marks,
-    } = book;
-    Book {
-        version: MOST_VERSION - 1,
-        tables,
-        paragraphs,
-        marks,
-    }
-}
-
-/// Compares the answers of a session, and those of a later one when only one version is left.
-fn judge_to_the_end(
-    rt: &impl Abort,
-    alloc: Global,
-    book: &mut Book,
-    rows: &str,
-    later: &str,
-) -> Result<(), Fail> {
-    judge_rows(rt, alloc, book, rows)?;
-    let old = mem::replace(book, Book::new(alloc)?);
-    *book = nearly_out_of_versions(old);
-    judge_rows(rt, alloc, book, later)
-}
-
-/// Compares the answers of a session that begins with a new book, and those of a later one when only one version is
-/// left.
-fn judge_long_session(rt: &impl Abort, alloc: Global, rows: &str, later: &str) -> Result<(), Fail> {
-    let mut book = Book::new(alloc)?;
-    judge_to_the_end(rt, alloc, &mut book, rows, later)
-}
-
 #[test]
 fn paragraphs_are_typed_and_moved(rt: HostRuntime) -> Result<(), Fail> {
     judge_session(
@@ -915,7 +877,7 @@ ok 9 | @8 restore 1
 
 #[test]
 fn a_book_has_sixteen_tables(rt: HostRuntime) -> Result<(), Fail> {
-    judge_long_session(
+    judge_session(
         &rt,
         rt.alloc(),
         "\
@@ -944,44 +906,6 @@ ok 17 | table t16 SMALL
 ok 18 1 | type end en ab
 ok 19 2 | type end en a
 ok 20 | strike 2",
-        "\
-9007199254740991 | version
-no 7 0 | type end en z
-no 16 9007199254740991 | @20 strike 1
-ok 9007199254740992 | volume 1 on
-9007199254740992 | version
-no 16 9007199254740992 | @1 strike 1
-no 15 5 | @9007199254740992 strike 1
-no 17 | table T17 foo
-no 15 1 | table t17 foo
-no 15 1 | table t17
-no 15 5 | table en SMALL
-no 15 5 | table en foo
-no 15 5 | table en letter b 12
-no 6 0 | type end en ¶
-no 2 | type 3 en a
-no 3 | type end zz a
-no 14 | type end en {a×4001}
-no 15 5 | type end en a
-no 15 5 | type end en z
-no 2 | strike 3
-no 11 | strike 2
-no 15 5 | strike 1
-no 2 | restore 3
-no 12 | restore 1
-no 15 5 | restore 2
-no 2 | style 3 heading
-no 15 5 | style 1 heading
-no 2 | volume 3 on
-no 15 5 | volume 1 on
-no 2 | retable 3 en
-no 3 | retable 1 zz
-no 11 | retable 2 t16
-no 15 5 | retable 1 t16
-no 15 5 | retable 1 sp
-no 2 | move 1 3
-no 15 5 | move 1 1
-1 en body volume live 2, 2 en body - struck 1,  | list",
     )
 }
 
@@ -1077,7 +1001,7 @@ ok 16 4 | undo 2
 
 #[test]
 fn an_undo_is_judged_by_the_table_of_now(rt: HostRuntime) -> Result<(), Fail> {
-    judge_long_session(
+    judge_session(
         &rt,
         rt.alloc(),
         "\
@@ -1092,11 +1016,6 @@ no 7 1 | correct 1 1 0 ca
 no 14 | correct 1 0 0 {a×4001}
 no 14 | correct 1 0 0 {a×4000}
 ok 6 2 | correct 1 0 1 {a×4000}",
-        "\
-ok 9007199254740992 3 | undo 1
-no 15 5 | correct 1 0 0 z
-no 2 | undo 9
-no 15 5 | mark 1 0 1 x",
     )
 }
 
@@ -1220,7 +1139,7 @@ ok 20 7 | mark 4 0 2 e\u{301}
 
 #[test]
 fn the_first_refusal_of_a_correction_or_a_mark_is_told(rt: HostRuntime) -> Result<(), Fail> {
-    judge_long_session(
+    judge_session(
         &rt,
         rt.alloc(),
         "\
@@ -1260,17 +1179,6 @@ ok 9 1 | correct-by a\t\u{A0} 1 0 0 a
 ok 10 2 | correct-by e\u{301} 1 0 0 b
 1 a\t\u{A0} 0 0 a, 2 e\u{301} 0 0 b,  | history 1
 baab | print 1",
-        "\
-ok 9007199254740992 | style 1 heading
-no 14 | correct 1 0 0 {a×4001}
-no 15 5 | correct 1 0 0 z
-no 15 5 | undo 1
-no 10 | undo 2
-no 14 | mark 1 0 1 {x×501}
-no 15 5 | mark 1 0 1 x
-no 4 | resolve 9
-no 13 | resolve 2
-no 15 5 | resolve 1",
     )
 }
 

@@ -1,8 +1,8 @@
 ghost use Rattle.std.specs.Prelude.{◌≡◌, false, OnOk};
 
 use super::lines::{list, puts, read_lines};
-use crate::{Fault, make_tables, read_books, read_paras, reopen_after_write, write};
 use desk_book::rows::Put;
+use desk_store::{Fault, make_tables, read_books, read_paras, reopen_after_write, write};
 use sqlite::{Connection, Error, MemStore};
 use std::alloc::Global;
 use std::process::Abort;

@@ -5,8 +5,8 @@
 //! is `aaa`.
 ghost use Rattle.std.specs.Prelude.{Some};
 
-use super::{Answer, Fault, Query, Request, lines_after, read_request, write_reply};
 use desk_book::{Book, Command, Limit, Refusal};
+use desk_line::{Answer, Fault, Query, Request, lines_after, read_request, write_reply};
 use std::alloc::{AllocError, Global};
 use std::io::{self, Error, ErrorKind, Write};
 use std::process::Abort;

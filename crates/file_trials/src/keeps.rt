@@ -2,9 +2,9 @@
 
 use super::commands::read_commands;
 use super::lines::list;
-use super::tests::judge;
-use crate::{Lost, Store, make_tables};
+use super::tables::judge;
 use desk_book::{Book, Command};
+use desk_store::{Lost, Store, make_tables};
 use sqlite::{Connection, MemStore};
 use std::alloc::Global;
 use std::test::Fail;

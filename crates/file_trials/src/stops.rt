@@ -9,8 +9,8 @@
 
 use super::commands::read_commands;
 use super::disks::{Bytes, Left, Stopped, is_stopped, stopped_after};
+use super::tables::{NOTES, judge};
 use super::tasks::{Progress, Task, after, run, shown};
-use super::tests::{NOTES, judge};
 use desk_book::{Bytes as TableText, Command, Text};
 use std::alloc::Global;
 use std::process::Abort;

@@ -1,9 +1,9 @@
 //! Sessions over memory, worked out by hand from the language of requests and the rules of books.
 
-use super::rows::{replies, requests, rows};
-use crate::{Ended, run, serve};
+use super::session_rows::{replies, requests, rows};
 use desk_book::Book;
 use desk_ends::Memory;
+use desk_session::{Ended, run, serve};
 use desk_store::Store;
 use sqlite::{Connection, MemStore, params};
 use std::alloc::Global;

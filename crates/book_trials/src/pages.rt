@@ -4,8 +4,8 @@
 //! `h` for body or heading, `v` where it begins a volume, `x` where it is struck, `7` where its table gives the letter a
 //! the dots 1 and 7. The answer is the number of pages and the bytes, where `|` stands for CR LF, `^` for a form feed, and
 //! `{a×3}` for `aaa`; or the number of a fault.
-use super::{ExportFault, Layout, export};
 use desk_book::{Anchor, Book, Bytes, Command, Style, Text};
+use desk_brf::{ExportFault, Layout, export};
 use louis_table::EN;
 use std::alloc::{AllocError, Global};
 use std::io::{self, Error, ErrorKind, Write};

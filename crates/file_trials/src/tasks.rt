@@ -3,8 +3,8 @@
 
 use super::disks::{Bytes, close, open, whole};
 use super::lines::list;
-use crate::{OpenFault, Store, make_tables};
 use desk_book::{Book, Command};
+use desk_store::{OpenFault, Store, make_tables};
 use sqlite::types::ToSql;
 use sqlite::{Alter, Connection, FileStore, Files};
 use sqlite_disk::{Disk, Fuse, Memory};

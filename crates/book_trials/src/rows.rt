@@ -4,10 +4,10 @@
 //! character and a mask of a cell is a number. In a text a pilcrow is a line feed, a section sign a carriage return, a currency sign
 //! U+0000, an open box a blank, and `{a×3}` is `aaa`. A case changes the rows of one book: what begins with `-` takes out the rows that
 //! begin so, the rest are further rows. Its answer is the number of the table and the id that are told, or `ok`.
-use super::Book;
-use super::parts::{EntryRows, FileTable, Parts, PartsFault};
-use super::rows::{CacheRow, CorrRow, MarkRow, NamedCorrRow, ParaRow, StoredTab, TabRow};
-use super::tests::{judge, judge_rows, text_of};
+use super::sessions::{judge, judge_rows, text_of};
+use desk_book::Book;
+use desk_book::parts::{EntryRows, FileTable, Parts, PartsFault};
+use desk_book::rows::{CacheRow, CorrRow, MarkRow, NamedCorrRow, ParaRow, StoredTab, TabRow};
 use louis_table::EN;
 use std::alloc::Global;
 use std::process::Abort;
@@ -52,6 +52,48 @@ entry 1 3 0 0 9 _ _
 entry 1 4 1 3 0 _ _
 mark 1 1 0 0 cat? 1 1
 cache 1 32,30,19,17,0,45,9,1,30,14";
+
+/// The rows of a book with all tables that it may have, and with one version left.
+const LAST_VERSION: &str = "\
+version 9007199254740991
+tab en SMALL
+tab sp space␣\\s␣0
+tab t3 _
+tab t4 _
+tab t5 _
+tab t6 _
+tab t7 _
+tab t8 _
+tab t9 _
+tab t10 _
+tab t11 _
+tab t12 _
+tab t13 _
+tab t14 _
+tab t15 _
+tab t16 SMALL
+para 1 1 en ab ab 0 0 0
+para 2 2 en a a 0 0 1";
+
+/// The rows of a book with one version left, the print of whose paragraph is as long as one may be.
+const LONG_PRINT: &str = "\
+version 9007199254740991
+tab en EN
+tab ab letter␣a␣1¶letter␣b␣12
+para 1 1 ab c {a×4000} 0 0 0
+entry 1 1 0 0 1 a _
+entry 1 2 0 0 1 {a×4000} _";
+
+/// The rows of a book with one version left, with corrections by two people and two marks.
+const MARKED_AND_CORRECTED: &str = "\
+version 9007199254740991
+tab en SMALL
+para 1 1 en ab baab 0 0 0
+para 2 2 en ab ab 0 0 0
+entry 1 1 0 0 0 a a\t\u{A0}
+entry 1 2 0 0 0 b e\u{301}
+mark 1 2 0 1 {é×500} 0 0
+mark 2 1 3 4 x 0 1";
 
 /// What the file of a book has.
 #[derive(Clone, Copy)]
@@ -777,5 +819,97 @@ The xcats | print 1
 1  7 0 s, 2  4 0 x, 3  0 9 , 4 undo 3,  | history 1
 1 0 0 resolved touched cat?,  | marks 1
 ok 9 5 | correct-by Ann 1 4 3 dog",
+    )
+}
+
+/// Compares the answers of a session that begins with the book of these rows.
+fn judge_from(rt: &impl Abort, alloc: Global, rows: &str, answers: &str) -> Result<(), Fail> {
+    let parts = changed(alloc, rows, "")?.parts(alloc, Form::Second)?;
+    let book = Book::rebuild(alloc, parts).ok();
+    assert!(rt; book.is_some());
+    let Some(mut book) = book else {
+        return Ok(());
+    };
+    judge_rows(rt, alloc, &mut book, answers)
+}
+
+#[test]
+fn one_version_is_left_for_tables_and_paragraphs(rt: HostRuntime) -> Result<(), Fail> {
+    judge_from(
+        &rt,
+        rt.alloc(),
+        LAST_VERSION,
+        "\
+9007199254740991 | version
+no 7 0 | type end en z
+no 16 9007199254740991 | @20 strike 1
+ok 9007199254740992 | volume 1 on
+9007199254740992 | version
+no 16 9007199254740992 | @1 strike 1
+no 15 5 | @9007199254740992 strike 1
+no 17 | table T17 foo
+no 15 1 | table t17 foo
+no 15 1 | table t17
+no 15 5 | table en SMALL
+no 15 5 | table en foo
+no 15 5 | table en letter b 12
+no 6 0 | type end en ¶
+no 2 | type 3 en a
+no 3 | type end zz a
+no 14 | type end en {a×4001}
+no 15 5 | type end en a
+no 15 5 | type end en z
+no 2 | strike 3
+no 11 | strike 2
+no 15 5 | strike 1
+no 2 | restore 3
+no 12 | restore 1
+no 15 5 | restore 2
+no 2 | style 3 heading
+no 15 5 | style 1 heading
+no 2 | volume 3 on
+no 15 5 | volume 1 on
+no 2 | retable 3 en
+no 3 | retable 1 zz
+no 11 | retable 2 t16
+no 15 5 | retable 1 t16
+no 15 5 | retable 1 sp
+no 2 | move 1 3
+no 15 5 | move 1 1
+1 en body volume live 2, 2 en body - struck 1,  | list",
+    )
+}
+
+#[test]
+fn one_version_is_left_for_an_undo(rt: HostRuntime) -> Result<(), Fail> {
+    judge_from(
+        &rt,
+        rt.alloc(),
+        LONG_PRINT,
+        "\
+ok 9007199254740992 3 | undo 1
+no 15 5 | correct 1 0 0 z
+no 2 | undo 9
+no 15 5 | mark 1 0 1 x",
+    )
+}
+
+#[test]
+fn one_version_is_left_for_corrections_and_marks(rt: HostRuntime) -> Result<(), Fail> {
+    judge_from(
+        &rt,
+        rt.alloc(),
+        MARKED_AND_CORRECTED,
+        "\
+ok 9007199254740992 | style 1 heading
+no 14 | correct 1 0 0 {a×4001}
+no 15 5 | correct 1 0 0 z
+no 15 5 | undo 1
+no 10 | undo 2
+no 14 | mark 1 0 1 {x×501}
+no 15 5 | mark 1 0 1 x
+no 4 | resolve 9
+no 13 | resolve 2
+no 15 5 | resolve 1",
     )
 }

@@ -5,10 +5,10 @@
 //! A number sign is the table of the histories in the format of the file: its name in a statement,
 //! and else its number.
 
+use super::tables::judge;
 use super::tasks::{Task, carry_out, open_book, rows};
-use super::tests::judge;
-use crate::OpenFault;
 use desk_book::Book;
+use desk_store::OpenFault;
 use sqlite::{Connection, MemStore};
 use std::alloc::{AllocError, Global};
 use std::process::Abort;

@@ -1,9 +1,9 @@
 //! Ends that fail in a session.
 
-use super::rows::{Row, replies, requests, rows};
-use super::tests::{MARKED, altered, opened};
-use crate::{Ended, serve};
+use super::session_rows::{Row, replies, requests, rows};
+use super::sessions::{MARKED, altered, opened};
 use desk_ends::{Memory, Source};
+use desk_session::{Ended, serve};
 use sqlite::Connection;
 use std::alloc::Global;
 use std::io::{self, Error, ErrorKind, Read, Write};
