@@ -8,8 +8,7 @@ use Rattle.sqlite_trees.specs.declared.store.Store.{Ghosts}
 use Rattle.sqlite.specs.Held.{Held, state}
 use Rattle.sqlite.specs.State.{State}
 use Rattle.desk_book.specs.Book.{Book}
-use Rattle.desk_line.specs.declared.answer.Answer.TheVariants.{Lost}
-use Rattle.desk_store.specs.Books.{HasNewTables, HoldsBook, LeavesBook}
+use Rattle.desk_store.specs.Books.{HasNewTables, LeavesBook}
 use Rattle.desk_store.specs.Contents.{Contents}
 use Rattle.desk_store.specs.Described.{Which, books, tabs, paras, corrs, marks, caches, named_corrs}
 use Rattle.desk_store.specs.Formats.{IsOfFormat, named}

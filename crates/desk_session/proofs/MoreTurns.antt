@@ -1,5 +1,5 @@
 -- A session with one turn more.
-use Rattle.std.proofs.Common.{◌≡◌, ◌≢◌, ℕ, false, List, [], ◌∷◌, ◌++◌, refl, sym, ap, subst, ◌∙◌, append_assoc, inl, inr}
+use Rattle.std.proofs.Common.{◌≡◌, ◌≢◌, ℕ, true, false, List, [], ◌∷◌, ◌++◌, refl, sym, ap, subst, ◌∙◌, append_assoc, inl, inr}
 use Rattle.std.specs.List.{AllByRecursion}
 use Rattle.std.proofs.lemmas.List.{append-nil}
 use Rattle.desk_book.specs.After.{After}
@@ -8,7 +8,7 @@ use Rattle.desk_line.specs.declared.answer.Answer.{Answer}
 use Rattle.desk_line.specs.declared.answer.Answer.TheVariants as answers
 use Rattle.desk_line.specs.Answered.{IsAnswered, accepted, asked, lost, no_request, refused, unplanned, unread}
 use Rattle.desk_line.specs.Reply.{IsReply}
-use Rattle.desk_session.specs.Served.{IsPart, IsWritten, requests_of}
+use Rattle.desk_session.specs.Served.{AllTaken, IsPart, IsWritten, requests_of}
 use Rattle.desk_session.specs.Session.{EndsLost, Given, Gives, IsHeld, IsSession, MayGoOn, Turn, commands_of}
 use Rattle.desk_session.proofs.Sessions.{IsSession-held}
 
@@ -52,6 +52,10 @@ module _ (turn : Turn) where
   pub goes-more : (turns : List Turn) → AllByRecursion MayGoOn turns → MayGoOn turn → AllByRecursion MayGoOn (turns ++ turn ∷ [])
   goes-more [] goes one = (one, tt)
   goes-more (first ∷ turns) goes one = (goes.0, goes-more turns goes.1 one)
+
+  pub taken-more : (turns : List Turn) → AllByRecursion MayGoOn turns → turn.taken ≡ true → AllTaken (turns ++ turn ∷ [])
+  taken-more [] goes is = (is, tt)
+  taken-more (first ∷ turns) goes is = (goes.0.taken, taken-more turns goes.1 is)
 
   pub ends-lost : (turns : List Turn) → turn.answer ≡ answers.Lost → EndsLost (turns ++ turn ∷ [])
   ends-lost [] is = is

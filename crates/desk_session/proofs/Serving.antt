@@ -25,10 +25,10 @@ use Rattle.desk_session.specs.declared.session.Ended.{Ended}
 use Rattle.desk_session.specs.declared.session.Ended.TheVariants as ended
 use Rattle.desk_session.specs.Reading.{KnowsEnd, ReadsRequest, Used}
 use Rattle.desk_session.specs.Requests.{FirstRequests}
-use Rattle.desk_session.specs.Served.{HoldsGiven, IsLeft, IsWritten, MayLack, MayServe, Served, requests_of}
+use Rattle.desk_session.specs.Served.{AllTaken, HoldsGiven, IsLeft, IsWritten, MayLack, MayServe, Served, requests_of}
 use Rattle.desk_session.specs.Session.{EndsLost, Given, Gives, IsCommand, IsSession, MayGoOn, Turn, commands_of}
 use Rattle.desk_session.specs.Turns.{LeavesLost, LeftBy, SendsReply, TakesTurn}
-use Rattle.desk_session.proofs.MoreTurns.{IsSession-more, IsWritten-more, after-given, ends-held, ends-lost, gives-some, goes-held, goes-more, requests-more}
+use Rattle.desk_session.proofs.MoreTurns.{IsSession-more, IsWritten-more, after-given, ends-held, ends-lost, gives-some, goes-held, goes-more, requests-more, taken-more}
 use Rattle.desk_session.proofs.RequestCuts.{CutInto, CutInto-all, CutInto-first, CutInto-more, CutInto-whole, next-some}
 use Rattle.desk_session.proofs.UsedInput.{Used-none, Used-then, no-parts}
 
@@ -296,6 +296,10 @@ module _ (RF WF : Type 0) (start book : Book) (a b c v w flushed : Option (List 
     gave-lost : answer ≡ answers.Lost → Gives turn answers.Lost gave.0
     gave-lost is = subst (λ (one : Answer). Gives turn one gave.0) is gave.1
 
+    all-told : (whole : Bool) → ok ≡ whole → (AllTaken turns × IsFlushed x passed) ⊎ WF
+    all-told true is = inl (taken-more turn so_far.turns so_far.goes (sends.all is).0, (sends.all is).1)
+    all-told false is = inr (sends.fails is)
+
     -- a command was lost
     pub Served-lost : answer ≡ answers.Lost → Served start next ended.Lost a c v x passed RF WF old s'
     Served-lost is = record {
@@ -310,7 +314,7 @@ module _ (RF WF : Type 0) (start book : Book) (a b c v w flushed : Option (List 
       appends = appends;
       ends = ends-lost turn so_far.turns is;
       honest = tt;
-      flushed = tt;
+      flushed = all-told ok refl;
       left = λ clean l may.
           let lost = lost-by is l (took.left clean l may.tables (so_far.kept (took.clean clean) l may)) in
           let one = gave-lost is in

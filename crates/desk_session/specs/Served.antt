@@ -64,12 +64,17 @@ IsHonest Input read ReadsFail WritesFail = ReadsFail ⊎ (MOST_INPUT ≤ read)
 IsHonest Output read ReadsFail WritesFail = WritesFail
 IsHonest Lost read ReadsFail WritesFail = Unit {0}
 
--- all replies are flushed, but where a write or a flush failed or a command was lost
-abbrev pub EndsFlushed : Ended → List Turn → (written flushed : Option (List ℕ)) → Type 0
-EndsFlushed Done turns written flushed = (turns ≡ []) ⊎ IsFlushed written flushed
-EndsFlushed Input turns written flushed = (turns ≡ []) ⊎ IsFlushed written flushed
-EndsFlushed Output turns written flushed = Unit {0}
-EndsFlushed Lost turns written flushed = Unit {0}
+-- the writer has taken the whole reply to each request
+abbrev pub AllTaken : List Turn → Type 0
+AllTaken turns = AllByRecursion (λ turn. turn.taken ≡ true) turns
+
+-- All replies are flushed, but where a write or a flush failed. Where a command was lost, the reply that tells it was taken and is
+-- flushed, or the writer can fail.
+abbrev pub EndsFlushed : Ended → List Turn → (written flushed : Option (List ℕ)) → (WritesFail : Type 0) → Type 0
+EndsFlushed Done turns written flushed WritesFail = (turns ≡ []) ⊎ IsFlushed written flushed
+EndsFlushed Input turns written flushed WritesFail = (turns ≡ []) ⊎ IsFlushed written flushed
+EndsFlushed Output turns written flushed WritesFail = Unit {0}
+EndsFlushed Lost turns written flushed WritesFail = (AllTaken turns × IsFlushed written flushed) ⊎ WritesFail
 
 -- ---- what is in the file
 
@@ -117,7 +122,7 @@ pub record Served (book last : Book) (ended : Ended) (read_old read_new write_ol
   pub appends : Appends write_old write_new output
   pub ends : EndsAs ended turns
   pub honest : IsHonest ended (length read) ReadsFail WritesFail
-  pub flushed : EndsFlushed ended turns write_new flushed_new
+  pub flushed : EndsFlushed ended turns write_new flushed_new WritesFail
   pub left : HasCleanDisk new → (l : Layout) → MayServe l book old → IsLeft l book last ended given new
 
 -- What a session left in its file is found there: the book after the first of the given commands, with all that were acknowledged and at
