@@ -3,3 +3,4 @@ pub mod Answering
 pub mod Putting
 pub mod Cuts
 pub mod Stepping
+pub mod Outcomes

@@ -5,4 +5,5 @@ pub mod Machine
 pub mod Sends
 pub mod Shelf
 pub mod Fault
+pub mod Books
 pub mod Program

@@ -94,8 +94,9 @@ abbrev pub AnswersAll : {S K : Type 0} → Source S → S → S → Sink K → K
 AnswersAll source read_old read_new sink write_old write_new meaning =
     Ran source read_old read_new sink write_old write_new meaning Done
 
--- it ended early
+-- it ended early, and what went out is a beginning of what is answered to the whole input
 abbrev pub RanShort : {S K : Type 0} → Source S → S → S → Sink K → K → K → Meaning → Type 0
 RanShort source read_old read_new sink write_old write_new meaning =
     (ended : Ended) × (ended ≢ Done)
     × Ran source read_old read_new sink write_old write_new meaning ended
+    × AnswersBeginning meaning (source.remaining read_old) (sink.contents write_old) (sink.contents write_new)

@@ -1,5 +1,5 @@
 -- What stands at a path, as far as that is known.
-use Rattle.std.specs.Prelude.{◌≡◌, ℕ, ◌≤◌, List, length, Option, Some, None}
+use Rattle.std.specs.Prelude.{◌≡◌, ℕ, ◌≤◌, Bool, true, List, length, Option, Some, None}
 use Rattle.braildesk.specs.declared.table_file.TheConstants.{MOST_FILE_BYTES}
 
 -- the bytes that a table file may have
@@ -28,3 +28,9 @@ IsRead (holds bytes) text = (text ≡ bytes) × (length bytes ≤ most_file_byte
 abbrev pub left_in : Option (List ℕ) → Shelved
 left_in None = unknown
 left_in (Some bytes) = holds bytes
+
+-- a database at a path may be connected to: where no file is there, only if one is to be made
+abbrev pub MayConnect : Bool → Shelved → Type 0
+MayConnect make unknown = Unit {0}
+MayConnect make missing = make ≡ true
+MayConnect make (holds bytes) = Unit {0}

@@ -1,11 +1,12 @@
-//! Why the program ends before its first line.
+//! Why the program refuses what is asked.
+use desk_book::parts::FileTable;
 use louis_table::TableFault;
+use sqlite::{Error as DatabaseError, ErrorCode};
 use std::alloc::AllocError;
 use std::io::{Error as IoError, ErrorKind};
 use thiserror::Error;
 
-/// A fault that ends the program before it reads or writes a line. It is told by its number and details,
-/// as `no 8 LINE CAUSE`.
+/// A fault for which the program refuses what is asked. It is told by its number and details, as `no 8 LINE CAUSE`.
 #[derive(Debug, Drop, Error)]
 pub enum Fault {
     /// The table text is bad.
@@ -14,9 +15,43 @@ pub enum Fault {
     /// There was no memory.
     #[error("no 90")]
     NoMemory,
+    /// The file is no book.
+    #[error("no 92")]
+    NotABook,
+    /// The book in the file is damaged.
+    #[error("no 93 {} {id}", .table.number())]
+    Damaged {
+        /// The first damaged table.
+        table: FileTable,
+        /// The smallest id of the damage in it.
+        id: i64,
+    },
+    /// The book is of a newer format.
+    #[error("no 94")]
+    NewerFormat,
+    /// A cell of the volume has dot 7 or 8.
+    #[error("no 95 {paragraph} {cell}")]
+    NotSixDots {
+        /// The paragraph's id.
+        paragraph: u64,
+        /// The cell's place in its braille, from 0.
+        cell: usize,
+    },
+    /// The book has no such volume.
+    #[error("no 96")]
+    NoVolume,
+    /// Pages can't be as large, or as small.
+    #[error("no 97")]
+    BadLayout,
     /// The file can't be opened or read, or is larger than any table.
     #[error("no 98")]
     File,
+    /// The file holds a book already.
+    #[error("no 99 {version}")]
+    Taken {
+        /// The version of that book.
+        version: u64,
+    },
 }
 
 impl From<IoError> for Fault {
@@ -41,5 +76,18 @@ impl From<AllocError> for Fault {
 
     fn from(_error: AllocError) -> Self {
         Fault::NoMemory
+    }
+}
+
+impl From<DatabaseError> for Fault {
+    ghost use Rattle.braildesk.specs.Fault.{IsDatabaseFault};
+
+    ghost from_gives = { λ error fault. IsDatabaseFault error fault };
+
+    fn from(error: DatabaseError) -> Self {
+        match error {
+            DatabaseError::SqliteFailure(ErrorCode::OutOfMemory) => Fault::NoMemory,
+            _ => Fault::File,
+        }
     }
 }

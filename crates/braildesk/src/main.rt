@@ -1,16 +1,18 @@
 //! The program `braildesk`: its words, its standard ends and its exit status.
 //!
-//! `braildesk translate TABLE` writes for each line of standard input its braille by a table.
+//! `new`, `session`, `export` and `check` are about the book in a file, and `translate` about lines of print.
 #![tactic(auto)]
 
 mod answer;
 mod answerer;
+mod books;
 mod braille;
 mod fault;
 mod line;
 mod print;
 mod program;
 mod shelf;
+mod stop;
 mod table_file;
 #[cfg(test)]
 mod tests;

@@ -1,20 +1,24 @@
 //! What the program does with its words and its ends.
-ghost use Rattle.braildesk.specs.Fault.{FaultAt, fault_line};
-ghost use Rattle.braildesk.specs.Program.{AsksToTranslate, FaultOf, IsCarriedOut, TableAt, Tells, texts_of};
-ghost use Rattle.braildesk.specs.Run.{AnswersAll, RanShort};
-ghost use Rattle.desk_ends.specs.Sent.{HasFlushed, Sends};
-ghost use Rattle.louis_table.specs.Meaning.{Meaning};
-ghost use Rattle.std.specs.Prelude.{List, OnErr, OnOk, is_ok, true, ◌≡◌, ◌≢◌, ◌≤◌, ◌⊎◌, ℕ};
+ghost use Rattle.braildesk.specs.Books.{Says};
+ghost use Rattle.braildesk.specs.Fault.{fault_line};
+ghost use Rattle.braildesk.specs.Program.{CarriesOut, Does, IsFailure, Tells, Translates, files, texts_of};
+ghost use Rattle.braildesk.specs.declared.fault.Fault.TheVariants.{NoMemory};
+ghost use Rattle.braildesk.specs.declared.stop.Stop.TheVariants.{Refused};
+ghost use Rattle.desk_ends.specs.Sent.{Sends};
+ghost use Rattle.desk_words.specs.Commands.{whole};
+ghost use Rattle.desk_words.specs.Reading.{AreRefused};
+ghost use Rattle.std.specs.Prelude.{Err, IfErr, List, Ok, [], codes, is_ok, ◌++◌, ◌∷◌, ◌≡◌, ◌≢◌, ◌≤◌, ◌⊎◌, ℕ};
 
+use super::books::{check_book, export_from, hold_session, make_book};
 use super::fault::Fault;
-use super::shelf::Shelf;
+use super::shelf::{Databases, Shelf};
+use super::stop::Stop;
 use super::table_file::read_table;
 use super::translate::{Ended, translate_lines};
+use desk_brf::Layout;
 use desk_ends::{Failed, Sink, Source, send, send_parts};
 use desk_words::{Action, Reading, read_words};
-use itoa::Buffer;
-use louis_table::TableFault;
-use louis_translate::RuleIndex;
+use itoa::{Buffer, Integer};
 
 /// The exit status where what was asked is done.
 pub const DONE: u8 = 0;
@@ -22,136 +26,126 @@ pub const DONE: u8 = 0;
 /// The exit status where the words are refused.
 pub const OTHER_WORDS: u8 = 1;
 
-/// The exit status where the table is refused, or there was no memory.
+/// The exit status where a file, a table, a book or a volume is refused, or there was no memory.
 pub const REFUSED: u8 = 2;
 
-/// The exit status where standard input or standard output failed.
-pub const ENDS_FAILED: u8 = 3;
+/// The exit status where the file of a book, standard input or standard output failed.
+pub const FAILED: u8 = 3;
 
-/// What is said of an action that the command doesn't offer.
-const NOT_OFFERED: &str = "error: the command offers no such action\n";
+// The contracts name them.
+const _: () = prove!(DONE == 0 && OTHER_WORDS == 1 && REFUSED == 2 && FAILED == 3);
 
 /// Does what the words ask, over the given ends, and answers the exit status. The first word is the program's name.
 ///
-/// `translate TABLE` answers each line of the source on the sink by the table in the file TABLE, or by
-/// the supplied table where TABLE is `@en`: by its definitions, rules and signs. A table that is refused is
-/// reported in one line on `errors`. Help goes to the sink, and why words are refused to `errors`.
-pub fn program<'a, F: Shelf + AllocGlobal, S: Source, K: Sink, E: Sink>(
+/// What is refused is reported in one line on `errors`. Help goes to the sink, and why words are refused to `errors`.
+pub fn program<'a, F: Databases + AllocGlobal, S: Source, K: Sink, E: Sink>(
     rt: &F,
     words: &'a [&'a str],
     source: &mut S,
     sink: &mut K,
     errors: &mut E,
 ) -> u8
-    ensures status { result ≤ ENDS_FAILED }
+    ensures status { result ≤ FAILED }
 
-    // Words that ask to translate are never refused, and why others are is reported.
-    ensures words { result ≡ OTHER_WORDS → ¬ AsksToTranslate (texts_of words.now) }
-    ensures reported { result ≡ OTHER_WORDS
-        → (text : List ℕ) × Tells E.Sink errors.old errors.new text }
+    // Words are refused as the whole command refuses them, and why is reported.
+    ensures words { result ≡ OTHER_WORDS → AreRefused whole (texts_of words.now)
+        × ((text : List ℕ) × Tells E.Sink errors.old errors.new text) }
 
-    // Lines are answered by the table that the words name, or help is shown where they ask for it.
-    ensures done { result ≡ DONE → IsCarriedOut (F.at rt.now) (texts_of words.now)
-        ((text : List ℕ) × Sends K.Sink sink.old sink.new text true × HasFlushed K.Sink sink.new
-        × (source.new ≡ source.old))
-        (AnswersAll S.Source source.old source.new K.Sink sink.old sink.new) }
+    // What the words ask for is carried out, or something fails in it, which the status alone tells.
+    ensures done { result ≡ DONE → Does
+        (files (F.Shelf.at rt.now) F.Shelf.can_fail F.File.can_fail F.Database.Store
+        (F.connects rt.now) (F.closes rt.now))
+        S.Source source.old source.new K.Sink sink.old sink.new (texts_of words.now) (Ok tt) }
+    ensures failed { result ≡ FAILED → (stop : Stop) × IsFailure stop × Does
+        (files (F.Shelf.at rt.now) F.Shelf.can_fail F.File.can_fail F.Database.Store
+        (F.connects rt.now) (F.closes rt.now))
+        S.Source source.old source.new K.Sink sink.old sink.new (texts_of words.now) (Err stop) }
+    ensures silent { (result ≡ DONE) ⊎ (result ≡ FAILED) → errors.new ≡ errors.old }
 
-    // A failed end is told by the status alone.
-    ensures failed { result ≡ ENDS_FAILED → IsCarriedOut (F.at rt.now) (texts_of words.now)
-        K.can_fail (RanShort S.Source source.old source.new K.Sink sink.old sink.new) }
-    ensures silent { (result ≡ DONE) ⊎ (result ≡ ENDS_FAILED) → errors.new ≡ errors.old }
-
-    // A table is refused for a fault of its own, and before the first line.
-    ensures refused { result ≡ REFUSED → (fault : Fault)
-        × FaultOf (F.can_fail ⊎ F.File.can_fail) (F.at rt.now) (texts_of words.now) fault
+    // It is refused, or there is no memory for the words: one line tells the fault.
+    ensures refused { result ≡ REFUSED → (fault : Fault) × ((fault ≡ NoMemory) ⊎ Does
+        (files (F.Shelf.at rt.now) F.Shelf.can_fail F.File.can_fail F.Database.Store
+        (F.connects rt.now) (F.closes rt.now))
+        S.Source source.old source.new K.Sink sink.old sink.new (texts_of words.now) (Err (Refused fault)))
         × Tells E.Sink errors.old errors.new (fault_line fault) }
     ensures untouched { (result ≡ OTHER_WORDS) ⊎ (result ≡ REFUSED)
         → (source.new ≡ source.old) × (sink.new ≡ sink.old) }
 {
     match read_words(rt.alloc(), words) {
-        Reading::Asked(Action::Translate { table }) => translate(rt, table, source, sink, errors),
-        Reading::Asked(
-            Action::New { .. }
-            | Action::Session { .. }
-            | Action::Export { .. }
-            | Action::Check { .. },
-        ) => refuse_words(errors, NOT_OFFERED),
-        Reading::Help(text) => show(sink, text.as_str()),
+        Reading::Asked(action) => end(errors, carry_out(rt, action, source, sink)),
+        Reading::Help(text) => end(errors, show(sink, text.as_str())),
         Reading::Refused(text) => refuse_words(errors, text.as_str()),
         Reading::NoMemory => refuse(errors, &Fault::NoMemory),
     }
 }
 
-/// Answers each line of the source by the table that a word names, and gives the exit status.
-fn translate<F: Shelf + AllocGlobal, S: Source, K: Sink, E: Sink>(
+/// Carries an action out.
+fn carry_out<F: Databases + AllocGlobal, S: Source, K: Sink>(
+    rt: &F,
+    action: Action<'_>,
+    source: &mut S,
+    sink: &mut K,
+) -> Result<(), Stop>
+    ensures carried_out { CarriesOut
+        (files (F.Shelf.at rt.now) F.Shelf.can_fail F.File.can_fail F.Database.Store
+        (F.connects rt.now) (F.closes rt.now))
+        S.Source source.old source.new K.Sink sink.old sink.new action.entry result }
+    ensures untouched { IfErr result (λ stop. ¬ IsFailure stop
+        → (source.new ≡ source.old) × (sink.new ≡ sink.old)) }
+{
+    match action {
+        Action::New { file } => make_book(rt, file, sink),
+        Action::Session { file } => hold_session(rt, file, source, sink),
+        Action::Export {
+            file,
+            volume,
+            width,
+            lines,
+        } => export_from(rt, file, &Layout::new(width, lines)?, volume, sink),
+        Action::Translate { table } => translate(rt, table, source, sink),
+        Action::Check { file } => check_book(rt, file, sink),
+    }
+}
+
+/// Answers each line of the source by the table that a word names.
+fn translate<F: Shelf + AllocGlobal, S: Source, K: Sink>(
     rt: &F,
     table: &str,
     source: &mut S,
     sink: &mut K,
-    errors: &mut E,
-) -> u8
-    ensures status { (result ≤ ENDS_FAILED) × (result ≢ OTHER_WORDS) }
-    ensures done { result ≡ DONE → (meaning : Meaning) × TableAt (F.at rt.now) table.now meaning
-        × AnswersAll S.Source source.old source.new K.Sink sink.old sink.new meaning }
-    ensures failed { result ≡ ENDS_FAILED → (meaning : Meaning)
-        × TableAt (F.at rt.now) table.now meaning
-        × RanShort S.Source source.old source.new K.Sink sink.old sink.new meaning }
-    ensures silent { (result ≡ DONE) ⊎ (result ≡ ENDS_FAILED) → errors.new ≡ errors.old }
-    ensures refused { result ≡ REFUSED → (fault : Fault)
-        × FaultAt (F.can_fail ⊎ F.File.can_fail) (F.at rt.now) table.now fault
+) -> Result<(), Stop>
+    ensures { Translates (F.can_fail ⊎ F.File.can_fail) (F.at rt.now)
+        S.Source source.old source.new K.Sink sink.old sink.new table.now result }
+{
+    let index = read_table(rt, table)?;
+    match translate_lines(source, sink, &index) {
+        Ended::Done => Ok(()),
+        Ended::Input | Ended::Output => Err(Stop::Ends),
+    }
+}
+
+/// Shows help.
+fn show<K: Sink>(sink: &mut K, text: &str) -> Result<(), Stop>
+    ensures { Says K.Sink sink.old sink.new text.now result }
+{
+    send(sink, text.as_bytes())?;
+    Ok(sink.flush()?)
+}
+
+/// The exit status of what was carried out, or stopped. A refusal is told.
+fn end<E: Sink>(errors: &mut E, outcome: Result<(), Stop>) -> u8
+    ensures status { (result ≤ FAILED) × (result ≢ OTHER_WORDS) }
+    ensures done { result ≡ DONE → outcome ≡ Ok tt }
+    ensures failed { result ≡ FAILED → (stop : Stop) × IsFailure stop × (outcome ≡ Err stop) }
+    ensures silent { (result ≡ DONE) ⊎ (result ≡ FAILED) → errors.new ≡ errors.old }
+    ensures refused { result ≡ REFUSED → (fault : Fault) × (outcome ≡ Err (Refused fault))
         × Tells E.Sink errors.old errors.new (fault_line fault) }
-    ensures untouched { result ≡ REFUSED → (source.new ≡ source.old) × (sink.new ≡ sink.old) }
 {
-    match read_table(rt, table) {
-        Ok(index) => translate_by(&index, source, sink),
-        Err(fault) => refuse(errors, &fault),
-    }
-}
-
-/// Answers each line of the source by a table that was read, and gives the exit status.
-fn translate_by<S: Source, K: Sink>(index: &RuleIndex, source: &mut S, sink: &mut K) -> u8
-    ensures done { result ≡ DONE
-        → AnswersAll S.Source source.old source.new K.Sink sink.old sink.new index.now }
-    ensures failed { result ≡ ENDS_FAILED
-        → RanShort S.Source source.old source.new K.Sink sink.old sink.new index.now }
-    ensures either { (result ≡ DONE) ⊎ (result ≡ ENDS_FAILED) }
-{
-    status_of(translate_lines(source, sink, index))
-}
-
-/// The exit status of a run over the lines.
-fn status_of(ended: Ended) -> u8
-    ensures done { result ≡ DONE → ended ≡ Ended.Done }
-    ensures failed { result ≡ ENDS_FAILED → ended ≢ Ended.Done }
-    ensures either { (result ≡ DONE) ⊎ (result ≡ ENDS_FAILED) }
-{
-    match ended {
-        Ended::Done => DONE,
-        Ended::Input | Ended::Output => ENDS_FAILED,
-    }
-}
-
-/// Shows help, and gives the exit status.
-fn show<K: Sink>(sink: &mut K, text: &str) -> u8
-    ensures done { result ≡ DONE
-        → Sends K.Sink sink.old sink.new text.now true × HasFlushed K.Sink sink.new }
-    ensures failed { result ≡ ENDS_FAILED → K.can_fail }
-    ensures either { (result ≡ DONE) ⊎ (result ≡ ENDS_FAILED) }
-{
-    match send_and_flush(sink, text.as_bytes()) {
+    match outcome {
         Ok(()) => DONE,
-        Err(_) => ENDS_FAILED,
+        Err(Stop::Refused(fault)) => refuse(errors, &fault),
+        Err(Stop::Lost | Stop::Ends) => FAILED,
     }
-}
-
-/// Writes the whole text, and passes it on.
-fn send_and_flush<K: Sink>(sink: &mut K, text: &[u8]) -> Result<(), Failed>
-    ensures sent { OnOk result (Sends K.Sink sink.old sink.new text.now true) }
-    ensures flushed { OnOk result (HasFlushed K.Sink sink.new) }
-    ensures fails { OnErr result K.can_fail }
-{
-    send(sink, text)?;
-    sink.flush()
 }
 
 /// Says why words are refused. A failure to say it changes nothing.
@@ -163,7 +157,7 @@ pub fn refuse_words<E: Sink>(errors: &mut E, text: &str) -> u8
     OTHER_WORDS
 }
 
-/// Tells why nothing is translated. A failure to tell it changes nothing.
+/// Tells why something is refused. A failure to tell it changes nothing.
 pub fn refuse<E: Sink>(errors: &mut E, fault: &Fault) -> u8
     ensures status { result ≡ REFUSED }
     ensures told { Tells E.Sink errors.old errors.new (fault_line fault.now) }
@@ -177,29 +171,50 @@ fn tell<E: Sink>(errors: &mut E, fault: &Fault) -> Result<(), Failed>
     ensures { Sends E.Sink errors.old errors.new (fault_line fault.now) (is_ok result) }
 {
     match fault {
-        Fault::Table(fault) => tell_table(errors, *fault),
+        Fault::Table(fault) => tell_two(errors, b"8", fault.line, fault.cause),
         Fault::NoMemory => send(errors, b"braildesk: no 90\n"),
+        Fault::NotABook => send(errors, b"braildesk: no 92\n"),
+        Fault::Damaged { table, id } => tell_two(errors, b"93", table.number(), *id),
+        Fault::NewerFormat => send(errors, b"braildesk: no 94\n"),
+        Fault::NotSixDots { paragraph, cell } => tell_two(errors, b"95", *paragraph, *cell),
+        Fault::NoVolume => send(errors, b"braildesk: no 96\n"),
+        Fault::BadLayout => send(errors, b"braildesk: no 97\n"),
         Fault::File => send(errors, b"braildesk: no 98\n"),
+        Fault::Taken { version } => tell_one(errors, b"99", *version),
     }
 }
 
-/// Sends the line of a bad table, with its own line and cause.
-fn tell_table<E: Sink>(errors: &mut E, fault: TableFault) -> Result<(), Failed>
-    ensures { Sends E.Sink errors.old errors.new (fault_line (Fault.Table fault)) (is_ok result) }
+/// Sends the line of a fault with one detail.
+fn tell_one<E: Sink, I: Integer>(errors: &mut E, code: &[u8], detail: I) -> Result<(), Failed>
+    ensures { Sends E.Sink errors.old errors.new
+        (codes "braildesk: no " ++ code.now ++ 32 ∷ I.text detail ++ 10 ∷ []) (is_ok result) }
 {
-    let mut line = Buffer::new();
-    let mut cause = Buffer::new();
+    let mut number = Buffer::new();
+    let detail = number.format(detail).as_bytes();
+    send_parts(errors, &[b"braildesk: no ", code, b" ", detail, b"\n"])
+}
+
+/// Sends the line of a fault with two details.
+fn tell_two<E: Sink, I: Integer, J: Integer>(
+    errors: &mut E,
+    code: &[u8],
+    first: I,
+    second: J,
+) -> Result<(), Failed>
+    ensures { Sends E.Sink errors.old errors.new
+        (codes "braildesk: no " ++ code.now ++ 32 ∷ I.text first ++ 32 ∷ J.text second ++ 10 ∷ [])
+        (is_ok result) }
+{
+    let (mut one, mut two) = (Buffer::new(), Buffer::new());
+    let first = one.format(first).as_bytes();
+    let second = two.format(second).as_bytes();
     send_parts(
         errors,
-        &[
-            b"braildesk: no 8 ",
-            line.format(fault.line).as_bytes(),
-            b" ",
-            cause.format(fault.cause).as_bytes(),
-            b"\n",
-        ],
+        &[b"braildesk: no ", code, b" ", first, b" ", second, b"\n"],
     )
 }
 
+#[cfg(test)]
+mod book_tests;
 #[cfg(test)]
 mod tests;

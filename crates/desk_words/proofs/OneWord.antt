@@ -1,22 +1,21 @@
 -- Arguments that take one word: what a parse that finds no fault found for each.
-use Rattle.std.proofs.Common.{◌≡◌, ◌∙◌, ◌⊎◌, inl, inr, ℕ, Bool, cond, true, false, not, refl, sym, ap, ap₂, subst, arith, List, [], ◌∷◌, ◌++◌, ◌&&◌, ◌||◌, ◌==◌, length, Option, Some, None, true≢false, append-nil}
-use Rattle.std.specs.Prelude.{IfSome, codes, find, slice_get, unwrap_or, option_and_then, option_map}
-use Rattle.std.specs.List.{All, fold, list_any}
+use Rattle.std.proofs.Common.{◌≡◌, ◌∙◌, ◌⊎◌, inl, inr, ℕ, Bool, cond, true, false, refl, sym, ap, ap₂, subst, arith, List, [], ◌∷◌, ◌++◌, ◌&&◌, ◌||◌, ◌==◌, length, Option, Some, None, true≢false, append-nil}
+use Rattle.std.specs.Prelude.{IfSome, find, slice_get, unwrap_or, option_and_then, option_map}
+use Rattle.std.specs.List.{All, fold}
 use Rattle.std.specs.List.{AllByRecursion as Each}
 use Rattle.std.specs.Option.{option_map_or}
 use Rattle.std.specs.Str.{bytes_eq}
 use Rattle.std.proofs.lemmas.Bool.{ne_eqb}
 use Rattle.std.proofs.lemmas.List.Elements.{All-head, All-nil, All-push, All-tail}
-use Rattle.std.proofs.lemmas.List.Folds.{list_any-append}
 use Rattle.std.proofs.lemmas.Slice.Eq.{bytes_eq-Decides}
 use Rattle.clap.specs.Facts.{explicit_source, unwrap_or_range}
-use Rattle.clap.specs.Kinds.{Kinds, check_kinds, or_else, range_kinds, request_kinds}
+use Rattle.clap.specs.Kinds.{range_kinds}
 use Rattle.clap.specs.Faults.{action_fault, check_fault, default_fault, defaults_fault, given_default_fault, level_fault, repeat_fault, settle_fault, set_fault, use_fault, values_fault}
 use Rattle.clap.specs.Lexer.{long_of}
 use Rattle.clap.specs.Simple.{Shape}
 use Rattle.clap.specs.Takes.{is_given}
 use Rattle.clap.specs.Values.{read_as}
-use Rattle.clap.specs.Walk.{Held, Names, Row, Rule, Text, action_of, all_of, arg_by_id, arg_by_index, arg_by_long, arg_by_short, at_row, default_rows, finished, first_of, has_row, is_empty, more_values, most_values, nothing_held, one_of, reading_by, row_text, settled, settled_rows, used, used_as, rows_after, used_by_id, values_or_missing, walk, with_default, with_values, without}
+use Rattle.clap.specs.Walk.{Held, Row, Rule, Text, action_of, arg_by_id, arg_by_long, at_row, default_rows, first_of, has_row, is_empty, more_values, most_values, nothing_held, one_of, reading_by, row_text, settled, settled_rows, used, used_as, rows_after, used_by_id, values_or_missing, walk, with_default, with_values, without}
 use Rattle.clap.specs.declared.builder.action.ArgAction.{ArgAction}
 use Rattle.clap.specs.declared.builder.action.ArgAction.TheVariants.{Help, Set}
 use Rattle.clap.specs.declared.builder.value_parser.Reading.{Reading}
@@ -65,6 +64,7 @@ pub record IsOne (c : List Rule) (r : Row) : Type 0 where
   pub values : r.values ≡ text ∷ []
   pub reading : r.reading ≡ reading_by rule
   pub passes : values_fault rule (text ∷ []) ≡ []
+  pub source : (explicit_source r.source ≡ true) ⊎ (rule.defaults ≡ text ∷ [])
 
 -- the argument takes one word, or none
 pub record TakesOne (a : Rule) : Type 0 where
@@ -99,11 +99,12 @@ free_row id rows e = go (has_row id rows) e
 
 -- a word joins the rows, where there is none for its argument
 joined : (c : List Rule) (a : Rule) (source : ValueSource) (text : Text) (rows : List Row) → arg_by_id c a.id ≡ Some a → has_row a.id rows ≡ false → values_fault a (text ∷ []) ≡ []
+    → (explicit_source (Some source) ≡ true) ⊎ (a.defaults ≡ text ∷ [])
     → All (IsOne c) rows → All (IsOne c) (with_values a.id (reading_by a) source (text ∷ []) rows)
-joined c a source text rows is none passes ones =
+joined c a source text rows is none passes from ones =
     let row : Row = record { id = a.id; values = text ∷ []; count = None; source = Some source; reading = reading_by a } in
     rw (row_joins a.id (more_values source (text ∷ [])) (row ∷ []) rows none)
-    (All-push (IsOne c) rows row ones (record { rule = a; is = is; text = text; values = refl; reading = refl; passes = passes }))
+    (All-push (IsOne c) rows row ones (record { rule = a; is = is; text = text; values = refl; reading = refl; passes = passes; source = from }))
 
 set_used : (c : List Rule) (a : Rule) (text : Text) (rows : List Row) → arg_by_id c a.id ≡ Some a → set_fault false a (text ∷ []) rows ≡ []
     → All (IsOne c) rows → All (IsOne c) (used_as Set a.id (reading_by a) (text ∷ []) rows)
@@ -111,7 +112,7 @@ set_used c a text rows is e ones =
     let parts = no_fault _ _ e in
     let none = free_row a.id rows parts.0 in
     let same : without a.id rows ≡ rows = row_joins a.id (λ _. []) [] rows none ∙ append-nil rows in
-    rw same (joined c a CommandLine text rows is none parts.1 ones)
+    rw same (joined c a CommandLine text rows is none parts.1 (inl refl) ones)
 
 pub one_used : (c : List Rule) (a : Rule) → IsPlainOf c a → (values : List Text) (rows : List Row) → All (IsOne c) rows → use_fault false a values rows ≡ [] → All (IsOne c) (used a values rows)
 one_used c a (is, inl one) values rows ones e =
@@ -137,7 +138,7 @@ one_defaulted c a plain rows ones e = go (has_row a.id rows) refl e
     given values same (inr one) free f =
         let fault : given_default_fault a (one.0 ∷ []) ≡ [] = rw one.1 at f in
         subst (λ (vs : List Text). All (IsOne c) (default_rows a.id (reading_by a) vs rows)) (sym one.1)
-        (joined c a DefaultValue one.0 rows plain.0 free (no_fault _ _ fault).1 ones)
+        (joined c a DefaultValue one.0 rows plain.0 free (no_fault _ _ fault).1 (inr (same ∙ one.1)) ones)
 
     default_of : TakesOne a ⊎ AsksForHelp a → (a.defaults ≡ []) ⊎ ((text : Text) × (a.defaults ≡ text ∷ []))
     default_of (inl one) = one.default
@@ -190,6 +191,7 @@ pub record Finds (c : List Rule) (rows : List Row) (id : Text) : Type 0 where
   pub first : first_of id rows ≡ Some text
   pub one : one_of id rows ≡ Some (read_as (reading_by rule) text)
   pub passes : values_fault rule (text ∷ []) ≡ []
+  pub source : (is_given id rows ≡ true) ⊎ (rule.defaults ≡ text ∷ [])
 
 row_with : (id : Text) (rows : List Row) → has_row id rows ≡ true → (r : Row) × (find (λ x. bytes_eq x.id id) rows ≡ Some r)
 row_with id [] has = absurd (true≢false (sym has))
@@ -223,6 +225,10 @@ word_of c id rows r found same one =
       first = ap (option_and_then (λ (x : Row). slice_get x.values 0)) found ∙ at_first;
       one = ap (option_and_then row_text) found ∙ read;
       passes = one.passes;
+      source = elim one.source [
+        | inl given ↦ inl (ap (λ o. option_map_or (λ (x : Row). explicit_source x.source) o false) found ∙ given)
+        | inr default ↦ inr default
+      ];
     }
 
 pub found_word : (c : List Rule) (id : Text) (rows : List Row) → All (IsOne c) rows → has_row id rows ≡ true → Finds c rows id

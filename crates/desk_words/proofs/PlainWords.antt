@@ -3,7 +3,7 @@ use Rattle.std.proofs.Common.{◌≡◌, [], ◌∷◌, Some, Bor, codes, refl, 
 use Rattle.std.proofs.lemmas.Bool.{ne_eqb}
 use Rattle.clap.specs.Words.{Text}
 use Rattle.clap.proofs.OnLiterals.{clap_on_literals}
-use Rattle.desk_words.specs.Commands.{translating, whole}
+use Rattle.desk_words.specs.Commands.{whole}
 use Rattle.desk_words.specs.Plain.{IsPlain}
 use Rattle.desk_words.specs.Reading.{NamesAction}
 use Rattle.desk_words.specs.declared.action.Action.TheVariants.{Check, New, Session, Translate}
@@ -27,8 +27,3 @@ pub check_with : (word : Bor Text) (t : Text) → word.now ≡ t → IsPlain t �
 unfolding clap_on_literals
 check_with word [] e plain = record { taken = refl; asked = (refl, ap Some (sym e)) }
 check_with word (x ∷ xs) e plain = let other = ne_eqb x 45 plain in record { taken = simp other refl; asked = simp other (refl, ap Some (sym e)) }
-
-pub offered_with : (word : Bor Text) (t : Text) → word.now ≡ t → IsPlain t → NamesAction translating (codes "braildesk" ∷ codes "translate" ∷ t ∷ []) (Translate word)
-unfolding clap_on_literals
-offered_with word [] e plain = record { taken = refl; asked = (refl, ap Some (sym e)) }
-offered_with word (x ∷ xs) e plain = let other = ne_eqb x 45 plain in record { taken = simp other refl; asked = simp other (refl, ap Some (sym e)) }

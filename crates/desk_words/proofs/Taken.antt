@@ -1,32 +1,32 @@
 -- Words that an action's own command takes ask for it.
 use Rattle.std.proofs.Common.{◌≡◌, ◌∙◌, inl, inr, ℕ, Bool, Bor, cond, true, false, not, refl, sym, ap, subst, List, [], ◌∷◌, ◌&&◌, ◌||◌, Option, Some, None, codes, true≢false, arith}
-use Rattle.std.specs.Prelude.{◌≢◌, MatchOption, ◌<◌, ◌≤◌, ◌^◌, IfSome, IsSomeAnd, find, is_some, option_map, unwrap_or}
+use Rattle.std.specs.Prelude.{◌≢◌, MatchOption, ◌≤◌, IfSome, IsSomeAnd, find, is_some, option_map, unwrap_or}
 use Rattle.std.specs.Option.{option_map_or}
-use Rattle.std.specs.List.{All, fold, list_any}
+use Rattle.std.specs.List.{fold, list_any}
 use Rattle.std.specs.List.{AllByRecursion as Each}
 use Rattle.std.specs.Str.{bytes_eq}
 use Rattle.std.specs.Str.Parse.{digits_value, without_leading_plus}
-use Rattle.clap.specs.Kinds.{Kinds, check_kinds, or_else, value_kinds}
+use Rattle.clap.specs.Kinds.{check_kinds, or_else}
 use Rattle.clap.specs.Facts.{explicit_source, parser_of_value}
-use Rattle.clap.specs.Faults.{built_fault, check_fault, entered_fault, fault_of, level_fault, values_fault}
+use Rattle.clap.specs.Faults.{built_fault, check_fault, entered_fault, fault_of, level_fault}
 use Rattle.clap.specs.Simple.{App, Shape, argument_words, built, built_leaf, entered, label_of, names_of, rows_at, inherited, filled, help_rule, marked_built, with_index, with_leaf_noted}
 use Rattle.clap.specs.Takes.{is_given}
-use Rattle.clap.specs.Values.{Accepts, IsUnsignedIn, read_as, reading_of}
+use Rattle.clap.specs.Values.{IsUnsignedIn, read_as, reading_of}
 use Rattle.clap.specs.ValueTests.{accepts}
-use Rattle.clap.specs.Walk.{Row, Rule, Text, answers_to, arg_by_id, has_row, nothing_held, one_of, reading_by, rows_after, settled, stop_after, walk, with_default}
+use Rattle.clap.specs.Walk.{Row, Rule, Text, answers_to, arg_by_id, has_row, nothing_held, one_of, rows_after, settled, stop_after, walk, with_default}
 use Rattle.clap.specs.declared.builder.value_parser.ValueParser.{ValueParser}
 use Rattle.clap.specs.declared.builder.value_parser.ValueParser.TheVariants.{Unsigned}
 use Rattle.clap.specs.declared.error.kind.ErrorKind.{ErrorKind}
 use Rattle.clap.proofs.ValueTestLemmas.{accepts-Accepts}
-use Rattle.desk_words.specs.Action.{Asks, Counts, IsAsked, IsExportable, IsWithinLimits, Names}
-use Rattle.desk_words.specs.Commands.{acts, export, on_file, operand, size, translate, translating, whole, within}
-use Rattle.desk_words.specs.Reading.{AreMatchesOf, IsNamedByWords, NameAnAction, NamesAction}
+use Rattle.desk_words.specs.Action.{Asks, Counts, HasDefault, IsAsked, IsExportable, IsWithinLimits, Names}
+use Rattle.desk_words.specs.Commands.{acts, export, on_file, operand, size, translate, whole, within}
+use Rattle.desk_words.specs.Reading.{IsNamedByWords, NameAnAction}
 use Rattle.desk_words.specs.declared.action.Action.{Action}
 use Rattle.desk_words.specs.declared.action.Action.TheVariants.{Check, Export, New, Session, Translate}
 use Rattle.clap.specs.declared.parser.matches.ArgMatches.{ArgMatches}
 use Rattle.clap.specs.Simple.{subcommand_of}
 use Rattle.desk_words.proofs.Asking.{letter_asked, letter_of}
-use Rattle.desk_words.proofs.OneWord.{Finds, IsOne, IsPlainOf, default_row, found_word, given_row, ones_found, rows_stay}
+use Rattle.desk_words.proofs.OneWord.{Finds, IsPlainOf, default_row, found_word, given_row, ones_found, rows_stay}
 use Rattle.desk_words.proofs.Walked.{no_fault}
 
 -- the shape by which an action of the program reads its words
@@ -95,7 +95,7 @@ accepted false k e = cc
 
 -- a number within limits is read as it was written
 number_found : (c : List Rule) (rows : List Row) (id : Text) (low high : ℕ) (a : Rule) → arg_by_id c id ≡ Some a → a.parser ≡ Some (Unsigned low high) → Finds c rows id
-    → (n : ℕ) × Counts rows id n × (low ≤ n) × (n ≤ high)
+    → (n : ℕ) × Counts rows id n × (low ≤ n) × (n ≤ high) × ((default : Text) → a.defaults ≡ default ∷ [] → HasDefault rows id n (digits_value 10 (without_leading_plus default)))
 number_found c rows id low high a is parser found =
     let same : found.rule ≡ a = ap (λ o. unwrap_or o a) (sym found.is ∙ is) in
     let within : parser_of_value found.rule.parser ≡ Unsigned low high = ap (λ (r : Rule). parser_of_value r.parser) same ∙ ap parser_of_value parser in
@@ -107,6 +107,12 @@ number_found c rows id low high a is parser found =
       record { text = found.text; given = read; numeral = number.0; value = refl; fits = number.1 },
       number.2,
       number.3,
+      λ default is_default free. elim found.source [
+        | inl given ↦ absurd (true≢false (sym given ∙ free))
+        | inr own ↦ let one : found.text ∷ [] ≡ default ∷ [] = sym own ∙ (ap (λ (r : Rule). r.defaults) same ∙ is_default) in
+            let text : found.text ≡ default = cc in
+            ap (λ (t : Text). digits_value 10 (without_leading_plus t)) text
+      ],
     )
 
 -- the width and the lines have a row, whatever was read
@@ -120,7 +126,7 @@ export_sizes read =
     )
 
 abbrev Exports : List Row → Type 0
-Exports rows = (file : Bor Text) × (volume : ℕ) × (width : ℕ) × (lines : ℕ) × Asks (codes "export") rows (Export file volume width lines) × IsExportable volume width lines
+Exports rows = (file : Bor Text) × (volume : ℕ) × (width : ℕ) × (lines : ℕ) × Asks (codes "export") rows (Export file volume width lines) × IsWithinLimits rows (Export file volume width lines)
 
 export_named : (words : List Text) → level_fault (entered_as export) [] nothing_held words false [] ≡ [] → Exports (rows_after (entered_as export).rules [] words)
 export_named words e =
@@ -140,14 +146,18 @@ export_named words e =
       width.0,
       lines.0,
       (refl, file.first, volume.1, width.1, lines.1),
-      record { volume_from = volume.2; volume_to = volume.3; width_from = width.2; width_to = width.3; lines_from = lines.2; lines_to = lines.3 },
+      (
+        record { volume_from = volume.2; volume_to = volume.3; width_from = width.2; width_to = width.3; lines_from = lines.2; lines_to = lines.3 },
+        width.4 (codes "40") refl,
+        lines.4 (codes "25") refl,
+      ),
     )
 
 -- ---- a subcommand
 
 -- words that the command takes ask for an action
 abbrev pub NamesOne : Shape → Type 0
-NamesOne s = (words : List Text) → level_fault s [] nothing_held words false [] ≡ [] → (action : Action) × Asks s.name (rows_after s.rules [] words) action × IsWithinLimits action
+NamesOne s = (words : List Text) → level_fault s [] nothing_held words false [] ≡ [] → (action : Action) × Asks s.name (rows_after s.rules [] words) action × IsWithinLimits (rows_after s.rules [] words) action
 
 file_named : (name : Text) (words : List Text) → level_fault (entered_as (on_file name)) [] nothing_held words false [] ≡ []
     → (file : Bor Text) × Names (rows_after (entered_as (on_file name)).rules [] words) (codes "file") file.now
@@ -203,7 +213,7 @@ one_met p (s ∷ subs) each = go (p s) (one_met p subs each.1)
     go false h = h
 
 abbrev AsksOne : Option (Text × List Row) → Type 0
-AsksOne entered = (action : Action) × IsSomeAnd entered (λ found. Asks found.0 found.1 action) × IsWithinLimits action
+AsksOne entered = (action : Action) × IsSomeAnd entered (λ found. Asks found.0 found.1 action) × IsSomeAnd entered (λ found. IsWithinLimits found.1 action)
 
 found_asks : (words : List Text) (found : Option Shape) → IfSome found NamesOne → option_map_or (λ s. level_fault s [] nothing_held words false []) found [] ≡ []
     → is_some (option_map (λ s. rows_at s words) found) ≡ true → AsksOne (option_map (λ s. rows_at s words) found)
@@ -229,11 +239,6 @@ whole_named words e =
     let asked = taken_asks (built whole) refl (new_named, (session_named, (export_one, (translate_named, (check_named, tt))))) (argument_words whole words) e in
     (asked.0, (record { taken = e; asked = asked.1 }, asked.2))
 
-pub translating_named : (words : List Text) → fault_of translating words ≡ [] → NameAnAction translating words
-translating_named words e =
-    let asked = taken_asks (built translating) refl (translate_named, tt) (argument_words translating words) e in
-    (asked.0, (record { taken = e; asked = asked.1 }, asked.2))
-
 -- ---- by the matches
 
 counts_same : (rows : List Row) (id : Text) (m n : ℕ) → Counts rows id m → Counts rows id n → m ≡ n
@@ -245,7 +250,7 @@ other_name : (name : Text) (rows : List Row) (a b : Action) → Asks name rows a
 other_name name rows a b x y differ = differ (sym (letter_asked name rows a x) ∙ letter_asked name rows b y)
 
 -- what asks for one action within the limits asks for no other past them
-limits_same : (name : Text) (rows : List Row) (a b : Action) → Asks name rows a → Asks name rows b → IsWithinLimits a → IsWithinLimits b
+limits_same : (name : Text) (rows : List Row) (a b : Action) → Asks name rows a → Asks name rows b → IsWithinLimits rows a → IsWithinLimits rows b
 limits_same name rows a (New file) x y limits = tt
 limits_same name rows a (Session file) x y limits = tt
 limits_same name rows a (Translate table) x y limits = tt
@@ -257,13 +262,17 @@ limits_same name rows (Check f) (Export file volume width lines) x y limits = ab
 limits_same name rows (Export f v w l) (Export file volume width lines) x y limits =
     let same_volume = counts_same rows (codes "volume") v volume x.2 y.2 in
     let same_width = counts_same rows (codes "width") w width x.3 y.3 in
-    let same_lines = counts_same rows (codes "lines") l lines x.4 y.4 in
-    subst (λ (n : ℕ). IsExportable volume width n) same_lines (subst (λ (n : ℕ). IsExportable volume n l) same_width (subst (λ (n : ℕ). IsExportable n w l) same_volume limits))
+    let same_lines = counts_same rows (codes "lines") l lines x.4 y.4 in (
+      subst (λ (n : ℕ). IsExportable volume width n) same_lines (subst (λ (n : ℕ). IsExportable volume n l) same_width (subst (λ (n : ℕ). IsExportable n w l) same_volume limits.0)),
+      λ free. sym same_width ∙ limits.1 free,
+      λ free. sym same_lines ∙ limits.2 free,
+    )
 
 abbrev IsAskedOf : Option (Text × List Row) → Action → Type 0
 IsAskedOf entered action = IsSomeAnd entered (λ found. Asks found.0 found.1 action)
 
-entered_limits : (entered : Option (Text × List Row)) (a b : Action) → IsAskedOf entered a → IsAskedOf entered b → IsWithinLimits a → IsWithinLimits b
+entered_limits : (entered : Option (Text × List Row)) (a b : Action) → IsAskedOf entered a → IsAskedOf entered b
+    → IsSomeAnd entered (λ found. IsWithinLimits found.1 a) → IsSomeAnd entered (λ found. IsWithinLimits found.1 b)
 entered_limits None a b x y limits = absurd x
 entered_limits (Some found) a b x y limits = limits_same found.0 found.1 a b x y limits
 

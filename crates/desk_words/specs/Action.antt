@@ -1,6 +1,7 @@
 -- Which action the words name.
-use Rattle.std.specs.Prelude.{◌≡◌, ◌≤◌, ◌<◌, ◌^◌, ℕ, List, IsSomeAnd, Some, codes}
+use Rattle.std.specs.Prelude.{◌≡◌, ◌≤◌, ◌<◌, ◌^◌, ℕ, List, IsSomeAnd, Some, codes, false}
 use Rattle.std.specs.Str.Parse.{IsNumeral, digits_value, without_leading_plus}
+use Rattle.clap.specs.Takes.{is_given}
 use Rattle.clap.specs.Words.{Row, Text, first_of, one_of, subcommand_rows_of}
 use Rattle.clap.specs.declared.parser.matches.ArgMatches.{ArgMatches}
 use Rattle.desk_words.specs.declared.action.Action.{Action}
@@ -46,10 +47,16 @@ pub record IsExportable (volume width lines : ℕ) : Type 0 where
   pub lines_from : 5 ≤ lines
   pub lines_to : lines ≤ 40
 
--- its numbers, where it has some, are within these limits
-abbrev pub IsWithinLimits : Action → Type 0
-IsWithinLimits (New file) = Unit {0}
-IsWithinLimits (Session file) = Unit {0}
-IsWithinLimits (Export file volume width lines) = IsExportable volume width lines
-IsWithinLimits (Translate table) = Unit {0}
-IsWithinLimits (Check file) = Unit {0}
+-- unless the argument with this id was given, the number is this one
+abbrev pub HasDefault : List Row → Text → (number default : ℕ) → Type 0
+HasDefault rows id number default = is_given id rows ≡ false → number ≡ default
+
+-- its numbers, where it has some, are within these limits, and pages of which nothing is said have 25 lines of 40 cells
+abbrev pub IsWithinLimits : List Row → Action → Type 0
+IsWithinLimits rows (New file) = Unit {0}
+IsWithinLimits rows (Session file) = Unit {0}
+IsWithinLimits rows (Export file volume width lines) =
+    IsExportable volume width lines × HasDefault rows (codes "width") width 40
+    × HasDefault rows (codes "lines") lines 25
+IsWithinLimits rows (Translate table) = Unit {0}
+IsWithinLimits rows (Check file) = Unit {0}

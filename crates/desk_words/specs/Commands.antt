@@ -63,7 +63,3 @@ abbrev pub whole : App
 whole = program
     (on_file (codes "new") ∷ on_file (codes "session") ∷ export ∷ translate
     ∷ on_file (codes "check") ∷ [])
-
--- with `translate` alone
-abbrev pub translating : App
-translating = program (translate ∷ [])

@@ -14,9 +14,11 @@ pub record NamesAction (app : App) (words : List Text) (action : ActionTerm) : T
   pub taken : fault_of app words ≡ []
   pub asked : IsSomeAnd (subcommand_of app words) (λ found. Asks found.0 found.1 action)
 
--- and its numbers are within their limits
+-- and its numbers are within their limits, or the defaults where the words don't give them
 abbrev pub NamesWithinLimits : App → List Text → ActionTerm → Type 0
-NamesWithinLimits app words action = NamesAction app words action × IsWithinLimits action
+NamesWithinLimits app words action =
+    NamesAction app words action
+    × IsSomeAnd (subcommand_of app words) (λ found. IsWithinLimits found.1 action)
 
 abbrev pub NameAnAction : App → List Text → Type 0
 NameAnAction app words = (action : ActionTerm) × NamesWithinLimits app words action
@@ -43,7 +45,7 @@ pub record AreRefused (app : App) (words : List Text) : Type 0 where
 
 -- the words are read so
 abbrev pub IsReading : App → List Text → Reading → Type 0
-IsReading app words (Asked action) = NamesAction app words action
+IsReading app words (Asked action) = NamesWithinLimits app words action
 IsReading app words (Help text) = AskForHelp app words
 IsReading app words (Refused text) = AreRefused app words
 IsReading app words NoMemory = Unit {0}

@@ -1,7 +1,7 @@
 //! What the words ask for.
 ghost use Rattle.clap.specs.Words.{first_of, found_of, rows_of};
 ghost use Rattle.desk_words.specs.Action.{Asks, Counts, IsAsked};
-ghost use Rattle.desk_words.specs.Commands.{translating, whole};
+ghost use Rattle.desk_words.specs.Commands.{whole};
 ghost use Rattle.desk_words.specs.Reading.{IsNamedByWords};
 ghost use Rattle.desk_words.specs.declared.action.Action.{Action as ActionTerm};
 ghost use Rattle.std.specs.Prelude.{MatchOption, codes, option_map, ◌≡◌, ℕ};
@@ -40,12 +40,11 @@ pub enum Action<'a> {
 }
 
 /// The action that the matches of a parse ask for. It takes no memory, and borrows from the words.
-/// Where words were taken by a command of this program, it is the action that they name.
+/// Where the program's command took the words, it is the action that they name.
 pub fn action_of<'a>(matches: &ArgMatches<'a>) -> Option<Action<'a>>
     ensures asked { MatchOption result ((action : ActionTerm) → ¬ IsAsked matches.now action)
         (IsAsked matches.now) }
-    ensures whole { IsNamedByWords whole matches.now result }
-    ensures offered { IsNamedByWords translating matches.now result }
+    ensures named { IsNamedByWords whole matches.now result }
 {
     let (name, matches) = matches.subcommand()?;
     asked_by(name, matches)

@@ -1,7 +1,7 @@
 //! The commands that read the words.
 ghost use Rattle.clap.specs.Words.{app_of, rule_of, shape_of};
 ghost use Rattle.clap.specs.declared.builder.command.Command.TheViews.{out-Command};
-ghost use Rattle.desk_words.specs.Commands.{bare, export, on_file, operand, size, translate, translating, whole, within};
+ghost use Rattle.desk_words.specs.Commands.{bare, export, on_file, operand, size, translate, whole, within};
 ghost use Rattle.std.specs.Prelude.{IfOk, codes, false, ◌≡◌};
 
 use super::help;
@@ -18,13 +18,6 @@ pub fn whole_command<'a>(alloc: Global) -> Result<Command<'a>, AllocError>
         .subcommand(export_command(alloc)?)?
         .subcommand(translate_command(alloc)?)?
         .subcommand(file_command(alloc, "check", help::CHECK_ABOUT, help::CHECK)?)
-}
-
-/// The command of what the program does today: `translate` alone.
-pub fn translating_command<'a>(alloc: Global) -> Result<Command<'a>, AllocError>
-    ensures { IfOk result (λ command. app_of command ≡ translating) }
-{
-    top_command(alloc, help::TRANSLATING).subcommand(translate_command(alloc)?)
 }
 
 /// The program without its actions.

@@ -32,28 +32,14 @@ Exit status:
   0  done, and what was asked for is written
   1  the words were refused
   2  a file, a table, a book or a volume was refused, or there was no memory
-  3  the book could not be kept, or standard input or standard output failed
+  3  the file of a book, standard input or standard output failed
 
 What is refused with status 2 is reported in one line on standard error, as 'braildesk: no 98'.
 'braildesk COMMAND --help' says which codes a command has.";
 
-/// The end of the program's help, with `translate` alone.
-pub const TRANSLATING: &str = "\
-Example:
-  echo 'Hello' | braildesk translate @en
-
-Exit status:
-  0  done, and what was asked for is written
-  1  the words were refused
-  2  the table was refused, or there was no memory
-  3  standard input or standard output failed
-
-What is refused with status 2 is reported in one line on standard error, as 'braildesk: no 98'.
-'braildesk translate --help' says which codes there are.";
-
 /// The end of the help of `new`.
 pub const NEW: &str = "\
-The answer is 'ok 0'. A file that holds a book stays as it is.
+The answer is 'ok 0'. A file that isn't there is made; a book that is there stays as it is.
 
 Example:
   braildesk new book.braildesk
@@ -63,13 +49,12 @@ Exit status:
   1  the words were refused
   2  one line on standard error, 'braildesk: ' and
      no 90           there was no memory
-     no 91           the file could not be written
      no 92           the file is not a book, and can't be made one
      no 93 TABLE ID  the book in the file is damaged
      no 94           the book is of a newer format
      no 98           the file can't be opened
      no 99 VERSION   the file holds a book already
-  3  standard output failed";
+  3  the file could not be written, or standard output failed";
 
 /// The end of the help of `session`.
 pub const SESSION: &str = "\
@@ -83,12 +68,11 @@ Exit status:
   1  the words were refused
   2  one line on standard error, 'braildesk: ' and
      no 90           there was no memory
-     no 91           the file could not be read or written
      no 92           the file is not a book
      no 93 TABLE ID  the book in the file is damaged
      no 94           the book is of a newer format
      no 98           the file is not there, or can't be opened
-  3  the book could not be kept, or standard input or standard output failed";
+  3  the file could not be read, the book could not be kept, or standard input or standard output failed";
 
 /// The end of the help of `export`.
 pub const EXPORT: &str = "\
@@ -102,14 +86,13 @@ Exit status:
   1  the words were refused
   2  one line on standard error, 'braildesk: ' and
      no 90            there was no memory
-     no 91            the file could not be read or written
      no 92            the file is not a book
      no 93 TABLE ID   the book in the file is damaged
      no 94            the book is of a newer format
      no 95 PARA CELL  a cell of the volume has dot 7 or 8
      no 96            the book has no such volume
      no 98            the file is not there, or can't be opened
-  3  standard output failed";
+  3  the file could not be read, or standard output failed";
 
 /// The end of the help of `translate`.
 pub const TRANSLATE: &str = "\
@@ -142,9 +125,8 @@ Exit status:
   1  the words were refused
   2  one line on standard error, 'braildesk: ' and
      no 90           there was no memory
-     no 91           the file could not be read or written
      no 92           the file is not a book
      no 93 TABLE ID  the book in the file is damaged
      no 94           the book is of a newer format
      no 98           the file is not there, or can't be opened
-  3  standard output failed";
+  3  the file could not be read, or standard output failed";

@@ -1,5 +1,5 @@
 //! Laws of words.
-ghost use Rattle.desk_words.specs.Commands.{translating, whole};
+ghost use Rattle.desk_words.specs.Commands.{whole};
 ghost use Rattle.desk_words.specs.Plain.{IsPlain, NamesWith};
 ghost use Rattle.desk_words.specs.Reading.{NameAnAction};
 ghost use Rattle.desk_words.specs.declared.action.Action.TheVariants.{Check, New, Session, Translate};
@@ -18,14 +18,10 @@ pub fn plain_words()
         → NamesWith whole (codes "translate") Translate word }
     ensures check { (word : Bor (List ℕ)) → IsPlain word.now
         → NamesWith whole (codes "check") Check word }
-    ensures offered { (word : Bor (List ℕ)) → IsPlain word.now
-        → NamesWith translating (codes "translate") Translate word }
 {}
 
-/// Words in which a command finds no fault name an action, with its numbers within their limits.
+/// Words in which the program's command finds no fault name an action, with its numbers within
+/// their limits.
 pub fn taken_words()
-    ensures whole { (words : List (List ℕ)) → fault_of whole words ≡ []
-        → NameAnAction whole words }
-    ensures offered { (words : List (List ℕ)) → fault_of translating words ≡ []
-        → NameAnAction translating words }
+    ensures { (words : List (List ℕ)) → fault_of whole words ≡ [] → NameAnAction whole words }
 {}

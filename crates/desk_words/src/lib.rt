@@ -1,16 +1,15 @@
 //! The words of the command line: the program's `clap` commands, and which action the words name.
 //!
 //! ```rust
-//! use desk_words::{Action, action_of, translating_command};
+//! use desk_words::{Action, action_of, whole_command};
 //!
-//! let matches = translating_command(alloc)?.try_get_matches_from(words)?;
+//! let matches = whole_command(alloc)?.try_get_matches_from(words)?;
 //! if let Some(Action::Translate { table }) = action_of(&matches) {
 //!     translate(table)
 //! }
 //! ```
 //!
-//! `whole_command` has every action, and `translating_command` the one that the program carries out
-//! today. What an action does is left to `braildesk`.
+//! What an action does is left to `braildesk`.
 #![tactic(auto)]
 
 mod action;
@@ -20,7 +19,7 @@ pub mod laws;
 mod reading;
 
 pub use action::{Action, action_of};
-pub use command::{translating_command, whole_command};
+pub use command::whole_command;
 pub use reading::{Reading, read_words};
 
 #[cfg(test)]

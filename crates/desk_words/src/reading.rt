@@ -1,11 +1,11 @@
 //! What the program makes of its words.
 ghost use Rattle.clap.specs.Walk.{texts};
 ghost use Rattle.clap.specs.Words.{kind_of};
-ghost use Rattle.desk_words.specs.Commands.{translating};
+ghost use Rattle.desk_words.specs.Commands.{whole};
 ghost use Rattle.desk_words.specs.Reading.{IsError, IsReading};
 
 use super::action::{Action, action_of};
-use super::command::translating_command;
+use super::command::whole_command;
 use clap::Error;
 use clap::error::ErrorKind;
 use std::alloc::Global;
@@ -25,9 +25,9 @@ pub enum Reading<'a> {
 
 /// Reads the words, of which the first is the program's name.
 pub fn read_words<'a>(alloc: Global, words: &'a [&'a str]) -> Reading<'a>
-    ensures { IsReading translating (texts words.now) result }
+    ensures { IsReading whole (texts words.now) result }
 {
-    let Ok(command) = translating_command(alloc) else {
+    let Ok(command) = whole_command(alloc) else {
         return Reading::NoMemory;
     };
     match command.try_get_matches_from(words) {

@@ -214,11 +214,13 @@ fn shows_help(rt: HostRuntime) -> Result<(), Fail> {
 }
 
 #[test]
-fn offers_what_runs(rt: HostRuntime) {
+fn reads_words(rt: HostRuntime) {
     let asked = read_words(rt.alloc(), &["braildesk", "translate", "@en"]);
     assert!(&rt; matches!(asked, Reading::Asked(Action::Translate { table: "@en" })));
     let help = read_words(rt.alloc(), &["braildesk", "--help"]);
     assert!(&rt; matches!(help, Reading::Help(_)));
-    let refused = read_words(rt.alloc(), &["braildesk", "check", "b"]);
+    let asked = read_words(rt.alloc(), &["braildesk", "check", "b"]);
+    assert!(&rt; matches!(asked, Reading::Asked(Action::Check { file: "b" })));
+    let refused = read_words(rt.alloc(), &["braildesk", "check"]);
     assert!(&rt; matches!(refused, Reading::Refused(_)));
 }

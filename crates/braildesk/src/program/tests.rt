@@ -1,5 +1,5 @@
 //! The words, the statuses, and what stands on standard error.
-use super::{DONE, ENDS_FAILED, OTHER_WORDS, REFUSED, program};
+use super::{DONE, FAILED, OTHER_WORDS, REFUSED, program};
 use std::io::{self, Error, ErrorKind, Read, Write};
 use std::path::{Path, PathBuf};
 use std::process::Abort;
@@ -50,8 +50,8 @@ const OTHERS: &[(&[&str], &str)] = &[
         "error: unexpected argument 'b' found\n",
     ),
     (
-        &["braildesk", "check", "a"],
-        "error: unrecognized subcommand 'check'\n",
+        &["braildesk", "verify", "a"],
+        "error: unrecognized subcommand 'verify'\n",
     ),
     (
         &["braildesk", "help"],
@@ -68,6 +68,11 @@ const NO_FILES: &[&[&str]] = &[
     &["braildesk", "translate", "no/such/table"],
     &["braildesk", "translate", "@EN"],
     &["braildesk", "translate", ""],
+    &["braildesk", "session", "no-such-book"],
+    &["braildesk", "export", "no-such-book", "1"],
+    &["braildesk", "check", "no-such-book"],
+    &["braildesk", "new", "no/such/folder/book"],
+    &["braildesk", "check", ""],
 ];
 
 /// A reader or a writer of which each call fails.
@@ -226,7 +231,7 @@ fn tells_a_file_that_is_not_there(rt: HostRuntime) {
 
 /// Asserts that a run ended with a failed end, and told nothing.
 fn assert_silent(rt: &impl Abort, ended: &(u8, Vec<u8>)) {
-    assert_eq!(rt; (ended.0, ended.1.len()), (ENDS_FAILED, 0));
+    assert_eq!(rt; (ended.0, ended.1.len()), (FAILED, 0));
 }
 
 #[test]

@@ -1,5 +1,5 @@
 use Rattle.std.proofs.Common.{refl}
-use Rattle.desk_words.proofs.PlainWords.{check_with, new_with, offered_with, session_with, translate_with}
+use Rattle.desk_words.proofs.PlainWords.{check_with, new_with, session_with, translate_with}
 use Rattle.desk_words.proofs.laws.plain_words.Goals as goal
 
 pub returns-clause-new : goal.returns-clause-new
@@ -13,6 +13,3 @@ returns-clause-translate c word plain = translate_with word word.now refl plain
 
 pub returns-clause-check : goal.returns-clause-check
 returns-clause-check c word plain = check_with word word.now refl plain
-
-pub returns-clause-offered : goal.returns-clause-offered
-returns-clause-offered c word plain = offered_with word word.now refl plain

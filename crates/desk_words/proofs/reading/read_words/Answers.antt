@@ -1,9 +1,9 @@
-use Rattle.std.proofs.Common.{◌≡◌, ◌∙◌, ◌⊎◌, List, true, refl, ap, sym, subst, inl, inr}
-use Rattle.clap.specs.Words.{App, HasKind, IsAmong, Text, fault_of, is_simple_and_free}
+use Rattle.std.proofs.Common.{◌≡◌, ◌∙◌, ◌⊎◌, List, true, refl, [], ap, sym, subst, inl, inr}
+use Rattle.clap.specs.Words.{App, HasKind, IsAmong, Text, fault_of, is_simple_and_free, HasMatchesOf}
 use Rattle.clap.specs.Walk.{texts}
 use Rattle.clap.specs.declared.error.kind.ErrorKind.{ErrorKind}
 use Rattle.clap.specs.declared.error.kind.ErrorKind.TheVariants.{OutOfMemory}
-use Rattle.desk_words.specs.Commands.{translating}
+use Rattle.desk_words.specs.Commands.{whole}
 use Rattle.desk_words.specs.Reading.{IsError, IsReading}
 use Rattle.desk_words.specs.declared.reading.Reading.{Reading}
 use Rattle.desk_words.specs.declared.reading.Reading.TheVariants.{Asked, Help, NoMemory, Refused}
@@ -19,11 +19,21 @@ failed app words kind (Help text) h e = record { help = subst (λ (k : ErrorKind
 failed app words kind (Refused text) h e = record { kind = kind; other = e.0; among = among app words kind h e.1 }
 failed app words kind NoMemory h e = tt
 
-simple : is_simple_and_free translating ≡ true
+simple : is_simple_and_free whole ≡ true
 simple = refl
 
 pub returns-in-Err : goal.returns-in-Err
 returns-in-Err c =
     let app = c.in-Ok.ensures in
-    failed translating (texts c.args.words.now) _ c.reading_of.result
+    failed whole (texts c.args.words.now) _ c.reading_of.result
     (subst (λ (a : App). HasKind (fault_of a (texts c.args.words.now)) c.in-Err.error) app (c.in-Err.ensures.kinds (ap is_simple_and_free app ∙ simple))) c.reading_of.ensures
+
+pub returns-in-Some : goal.returns-in-Some
+returns-in-Some c =
+    let words = texts c.args.words.now in
+    let app = c.in-Ok.ensures in
+    let read = c.in-Ok-try_get_matches_from.ensures in
+    let taken : fault_of whole words ≡ [] = subst (λ (a : App). fault_of a words ≡ []) app (read.kinds (ap is_simple_and_free app ∙ simple)) in
+    let asked : HasMatchesOf whole words c.in-Ok-try_get_matches_from.matches =
+    subst (λ (a : App). HasMatchesOf a words c.in-Ok-try_get_matches_from.matches) app read.matches in
+    c.in-Some.ensures.named words (record { taken = taken; subcommand = (asked refl).1 })
