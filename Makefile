@@ -1,7 +1,8 @@
 # make          proves what the program needs and builds build/braildesk
-# make demo     shows the main job on a sample, by the sources as they are, without proofs
-# make test     the gate: proves from nothing, tries the must-fail edits, runs the tests and the stored run, and
-#               compares files with sqlite3, which has to be installed
+# make demo     shows a small book made and exported, by the sources as they are, without proofs
+# make test     the gate: proves from nothing, tries the must-fail edits, runs the tests and the stored run, compares files
+#               with sqlite3, which has to be installed, runs the tutorial and the sample's client by the built program, and
+#               kills sessions of it
 # make attacks  tries the wrong bodies that the gate leaves out, and those that only a test sees
 # make bench    measures speed
 # make install  copies the program to $(DESTDIR)$(PREFIX)/bin, and its manual page to $(DESTDIR)$(PREFIX)/share/man/man1
@@ -12,7 +13,7 @@ PROGRAM := build/braildesk
 SOURCES := crates.txt HANDLES $(shell find crates -type f \( -path '*/src/*' -o -path '*/specs/*' -o -path '*/proofs/*' \) -not -path '*/out/*')
 
 # the crates that the program stands on, each after those below it
-PARTS := cell_core louis_table louis_translate desk_ends desk_words braildesk
+PARTS := cell_core louis_table louis_translate desk_book sql_tables desk_store desk_ends desk_line desk_brf desk_session desk_words braildesk
 
 .PHONY: all demo test attacks bench install clean
 
@@ -24,7 +25,7 @@ need_rt = $(if $(shell command -v '$(RT)' 2> /dev/null),,$(error the command '$(
 $(PROGRAM): $(SOURCES)
 	$(need_rt)
 	@mkdir -p $(@D)
-	@echo 'Proving what the program needs. From nothing this takes some ten minutes; a crate that is unchanged takes seconds.'
+	@echo 'Proving what the program needs. From nothing this takes an hour or more; a crate that is unchanged takes seconds.'
 	@set -e; count=0; for part in $(PARTS); do \
 	    count=$$((count + 1)); echo "[$$count of $(words $(PARTS))] $$part"; \
 	    (cd crates/$$part && $(RT) check > '$(CURDIR)/build/log' 2>&1) || { cat build/log; exit 1; }; \
@@ -37,25 +38,19 @@ $(PROGRAM): $(SOURCES)
 
 demo:
 	$(need_rt)
-	@mkdir -p build
-	@echo 'This runs the sources as they are, without proofs, and takes about half a minute.'
+	@echo 'This runs the sources as they are, without proofs. The build takes some minutes.'
 	@echo "'make' proves what the program needs, and builds $(PROGRAM)."
-	@echo
-	@echo '$$ head -n 12 sample/plain.utb    # the first lines of a table'
-	@head -n 12 sample/plain.utb
-	@echo
-	@echo '$$ cat sample/print.txt    # print'
-	@cat sample/print.txt
-	@echo
-	@echo '$$ braildesk translate sample/plain.utb < sample/print.txt'
-	@cd crates/braildesk && $(RT) try -- translate '$(CURDIR)/sample/plain.utb' < '$(CURDIR)/sample/print.txt' \
-	    2> '$(CURDIR)/build/log' || { cat '$(CURDIR)/build/log' >&2; exit 1; }
-	@rm build/log
+	@RT='$(RT)' sample/demo.sh
 
 test:
 	$(need_rt)
 	$(RT) ci
 	RT='$(RT)' tests/sqlite3.sh
+	@mkdir -p $(dir $(PROGRAM))
+	@cp crates/braildesk/out/braildesk $(PROGRAM)
+	tests/tutorial.sh $(PROGRAM)
+	tests/client.sh $(PROGRAM)
+	tests/kill.sh
 
 attacks:
 	$(need_rt)
@@ -69,6 +64,7 @@ bench: $(PROGRAM)
 	bench/requests.sh
 	bench/pages.sh
 	bench/rows.sh
+	bench/session.sh
 	bench/rebuild.sh
 	bench/keep.sh
 

@@ -1,0 +1,11 @@
+#!/bin/bash
+# Kills sessions of the program at random moments, or lets their files grow no further, and opens their book again: it
+# has to be the one after a first part of what was sent, with all that was acknowledged and at most one command more.
+#   tests/kill.sh     KILLS (60): how many sessions, about one a second; SEED: of the first, by chance; PROGRAM: the
+#                     program (build/braildesk)
+set -eu
+cd "$(dirname "$0")/.."
+program=${PROGRAM:-build/braildesk}
+[ -x "$program" ] || { echo "tests/kill.sh: $program is missing: make builds it" >&2; exit 1; }
+command -v python3 > /dev/null || { echo 'tests/kill.sh: left out, since python3 is missing'; exit 0; }
+exec python3 tests/kill.py "$program" --kills "${KILLS:-60}" ${SEED:+--seed "$SEED"}

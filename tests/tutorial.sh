@@ -1,0 +1,61 @@
+#!/bin/bash
+# Runs the commands that README.md and docs/TUTORIAL.md show, and compares what they print with what stands there, so that
+# neither goes stale; and compares the volumes of the sample book with those in sample/. The commands are those of the blocks
+# fenced by ```console: a line that begins with '$ ' begins one, lines that begin with '> ' go on with it, and the lines after
+# it are what it prints.
+#   tests/tutorial.sh PROGRAM
+# Each document is run by one shell in a folder of its own, which has the files of sample/ and finds PROGRAM as braildesk.
+set -eu
+program=$(realpath "${1:?the path of the program is missing}")
+cd "$(dirname "$0")/.."
+scratch=$(mktemp -d); trap 'rm -rf "$scratch"' EXIT
+mkdir "$scratch/bin" "$scratch/found"
+ln -s "$program" "$scratch/bin/braildesk"
+export PATH="$scratch/bin:$PATH" LC_ALL=C.UTF-8
+
+# Prints a document with what its commands print now.
+replay() { # DOCUMENT
+    local line command='' fenced=
+    run() {
+        [ -z "$command" ] || eval "$command" 2>&1 || true
+        command=
+    }
+    while IFS= read -r line <&4; do
+        case $fenced$line in
+            '```console') fenced=yes; printf '%s\n' "$line" ;;
+            'yes```') run; fenced=; printf '%s\n' "$line" ;;
+            'yes$ '*) run; command=${line#'$ '}; printf '%s\n' "$line" ;;
+            'yes> '*) command+=$'\n'${line#'> '}; printf '%s\n' "$line" ;;
+            yes*) ;; # what the command printed when the document was written
+            *) printf '%s\n' "$line" ;;
+        esac
+    done 4< "$1"
+}
+
+different=0
+for document in README.md docs/TUTORIAL.md; do
+    name=$(basename "$document")
+    count=$(grep -c '^\$ ' "$document")
+    mkdir "$scratch/$name"
+    cp sample/* "$scratch/$name"
+    original=$PWD/$document
+    (cd "$scratch/$name" && replay "$original") > "$scratch/found/$name" < /dev/null
+    if diff "$document" "$scratch/found/$name"; then
+        echo "ok  the $count commands of $document"
+    else
+        echo "tests/tutorial.sh: $document shows something else than the program (< shown, > printed)" >&2
+        different=1
+    fi
+done
+
+book=$scratch/book.braildesk
+braildesk new "$book" > /dev/null
+braildesk session "$book" < sample/book.txt > /dev/null
+for volume in 1 2; do
+    if braildesk export "$book" $volume --width 30 --lines 10 | cmp - sample/book-$volume.brf; then
+        echo "ok  volume $volume of the sample book"
+    else
+        different=1
+    fi
+done
+exit $different
