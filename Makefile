@@ -12,9 +12,9 @@ RT ?= rt
 PROGRAM := build/braildesk
 SOURCES := crates.txt HANDLES $(shell find crates -type f \( -path '*/src/*' -o -path '*/specs/*' -o -path '*/proofs/*' \) -not -path '*/out/*')
 
-# How many checks the gate runs side by side: one a processor, where each has 4 GB. Unless told, rt reckons with up to 13 GB for
-# one, of which none takes 4, and lets processors wait.
-JOBS ?= $(shell awk -v n="$$(nproc)" '/^MemAvailable/ { m = int($$2 / 4000000); print m < 1 ? 1 : m < n ? m : n }' /proc/meminfo)
+# How many checks the gate runs side by side: one a processor, where each has 5 GB. Unless told, rt reckons with up to 13 GB for
+# one, of which few take 4 and none takes 7, and lets processors wait.
+JOBS ?= $(shell awk -v n="$$(nproc)" '/^MemAvailable/ { m = int($$2 / 5000000); print m < 1 ? 1 : m < n ? m : n }' /proc/meminfo)
 
 # the crates that the program stands on, each after those below it
 PARTS := cell_core louis_table louis_translate desk_book sql_tables desk_store desk_ends desk_line desk_brf desk_session desk_words braildesk
