@@ -21,6 +21,3 @@ pub mod laws;
 pub use cell::Cell;
 pub use cells::Cells;
 pub use dots::{DotsFault, MOST_CELLS, read_dots};
-
-#[cfg(test)]
-mod tests;

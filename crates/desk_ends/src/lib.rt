@@ -22,6 +22,3 @@ pub use buffered::Buffered;
 pub use cells::{put_cells, send_block};
 pub use ends::{Failed, Memory, Sink, Source};
 pub use texts::{send, send_parts};
-
-#[cfg(test)]
-mod tests;

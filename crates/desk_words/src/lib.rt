@@ -21,6 +21,3 @@ mod reading;
 pub use action::{Action, action_of};
 pub use command::whole_command;
 pub use reading::{Reading, read_words};
-
-#[cfg(test)]
-mod tests;

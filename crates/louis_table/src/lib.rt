@@ -37,6 +37,3 @@ pub use line::{MOST_RULE_CHARACTERS, MOST_SET_CHARACTERS};
 pub use read::{MOST_LINE_CHARACTERS, MOST_LINES};
 pub use rule::{Characters, Rule, RuleKind};
 pub use table::Table;
-
-#[cfg(test)]
-mod tests;

@@ -49,6 +49,3 @@ pub use print::{Fault, is_defined, undefined_place};
 pub use rule_book::RuleBook;
 pub use rule_index::RuleIndex;
 pub use translation::{Part, Translation, translate, translate_string};
-
-#[cfg(test)]
-mod tests;

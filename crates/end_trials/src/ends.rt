@@ -1,8 +1,8 @@
 //! What is read, sent and flushed by ends over memory and by writers of std.
-use super::{
+use cell_core::Cell;
+use desk_ends::{
     Block, Buffered, Failed, Memory, Sink, Source, put_cells, send, send_block, send_parts,
 };
-use cell_core::Cell;
 use std::alloc::{AllocError, Global};
 use std::io::{self, Error, ErrorKind, Read, Write};
 use std::process::Abort;

@@ -1,5 +1,5 @@
 //! Both kinds of rule book by a table of many rules.
-use super::{Asked, Kind, text_answer};
+use crate::prints::{Asked, Kind, text_answer};
 use cell_core::Cell;
 use louis_table::EN;
 use std::alloc::{AllocError, Global};

@@ -1,6 +1,6 @@
 //! Words: what they ask for, why they are refused, and the help that they ask for.
-use crate::{Action, Reading, action_of, read_words, whole_command};
 use clap::error::ErrorKind;
+use desk_words::{Action, Reading, action_of, read_words, whole_command};
 use std::alloc::Global;
 use std::process::Abort;
 use std::test::Fail;

@@ -1,5 +1,5 @@
 //! Values from outside: the examples of the dots operand, and characters of Unicode.
-use super::{Cell, Cells, DotsFault, read_dots};
+use cell_core::{Cell, Cells, DotsFault, read_dots};
 use std::test::Fail;
 
 /// Twenty cells, the most that an operand may have.

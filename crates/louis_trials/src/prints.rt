@@ -1,16 +1,13 @@
 //! Prints, and the braille that tables give for them.
-use super::print::defined_characters;
-use super::{
-    Choice, Choices, Fault, Part, PlainRules, RuleBook, RuleIndex, Translation, is_defined,
-    translate, translate_string,
-};
 use cell_core::Cell;
 use louis_table::{EN, Table};
+use louis_translate::{
+    Choice, Choices, Fault, Part, PlainRules, RuleBook, RuleIndex, Translation, is_defined,
+    translate, translate_string, undefined_place,
+};
 use std::alloc::{AllocError, Global};
 use std::process::Abort;
 use std::test::Fail;
-
-mod many_rules;
 
 /// Rules that stand behind the lines of the supplied table.
 const RULES: &str =
@@ -25,7 +22,7 @@ const BARE: &str = "uplow Aa 1\nuplow Bb 12\ndigit 1 2\nspace \\s 0\n";
 
 /// What is asked of a print.
 #[derive(Clone, Copy)]
-enum Asked {
+pub(crate) enum Asked {
     /// Its cells as characters, or what is told of its fault.
     Cells,
     /// The output place of each character and the print place of each cell, as `Debug` writes them.
@@ -256,8 +253,11 @@ fn room_text<B: RuleBook>(
 
 /// The choices of a print of defined characters.
 fn choices_of<B: RuleBook>(alloc: Global, book: &B, print: &str) -> Result<Vec<Choice>, Fail> {
-    let print = defined_characters(alloc, book.table(), print)?;
-    Ok(Choices::new(book, &print).collect(alloc)?)
+    let print: Vec<char> = print.chars().collect(alloc)?;
+    if let Some(place) = undefined_place(book.table(), print.as_slice()) {
+        return Err(Fail::from(Fault::Undefined { place }));
+    }
+    Ok(Choices::new(book, print.as_slice()).collect(alloc)?)
 }
 
 /// The answer for choices.
@@ -301,7 +301,7 @@ fn answer<B: RuleBook>(alloc: Global, book: &B, asked: Asked, print: &str) -> Re
 
 /// A kind of rule book.
 #[derive(Clone, Copy)]
-enum Kind {
+pub(crate) enum Kind {
     Plain,
     Index,
 }
@@ -319,7 +319,7 @@ fn index_answer(alloc: Global, table: Table, asked: Asked, print: &str) -> Resul
 }
 
 /// What a rule book of the table in a text answers.
-fn text_answer(
+pub(crate) fn text_answer(
     alloc: Global,
     kind: Kind,
     text: &str,

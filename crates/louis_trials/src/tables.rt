@@ -3,8 +3,8 @@
 //! The examples stand in texts, one to a row, since the proof of a test with long arrays takes minutes: what must come
 //! out, ` | `, and the table text, which is that of English where the row has none. In that text a pilcrow is a line
 //! feed, and `{x×3}` is `xxx`.
-use super::{EN, ReadFault, Rule, Table};
 use cell_core::Cell;
+use louis_table::{EN, ReadFault, Rule, Table};
 use std::alloc::{AllocError, Global};
 use std::iter;
 use std::process::Abort;
