@@ -204,7 +204,11 @@ const LONE: &[Row] = &[
 
 /// The cells as characters.
 fn shown(alloc: Global, cells: &[Cell]) -> Result<String, AllocError> {
-    cells.iter().map(|cell| cell.to_unicode()).collect(alloc)
+    let mut text = String::new(alloc);
+    for cell in cells {
+        text.push(cell.to_unicode())?;
+    }
+    Ok(text)
 }
 
 /// The answer for cells.
