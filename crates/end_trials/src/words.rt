@@ -1,5 +1,6 @@
 //! Words: what they ask for, why they are refused, and the help that they ask for.
 use clap::error::ErrorKind;
+use clap::{ArgMatches, Error};
 use desk_words::{Action, Reading, action_of, read_words, whole_command};
 use std::alloc::Global;
 use std::process::Abort;
@@ -162,35 +163,62 @@ const HELP: &[(&[&str], &str, &str)] = &[
     ),
 ];
 
-#[test]
-fn names_each_action(rt: HostRuntime) -> Result<(), Fail> {
-    for (words, action) in ACTIONS {
-        let matches = whole_command(rt.alloc())?.try_get_matches_from(words)?;
-        assert_eq!(&rt; action_of(&matches), Some(*action));
-    }
+/// Asserts which action matches ask for.
+fn assert_asked(rt: &impl Abort, matches: &ArgMatches, action: Action) {
+    assert_eq!(rt; action_of(matches), Some(action));
+}
+
+/// Asserts that words are taken, and which action they name. It alone owns matches, since the proof of a function that
+/// does is long.
+fn assert_action(
+    rt: &impl Abort,
+    alloc: Global,
+    words: &'static [&'static str],
+    action: Action,
+) -> Result<(), Fail> {
+    let matches = whole_command(alloc)?.try_get_matches_from(words)?;
+    assert_asked(rt, &matches, action);
     Ok(())
 }
 
 #[test]
-fn reads_the_numbers_of_an_export(rt: HostRuntime) -> Result<(), Fail> {
-    for (words, volume, width, lines) in EXPORTS {
-        let matches = whole_command(rt.alloc())?.try_get_matches_from(words)?;
-        let action = Action::Export {
-            file: "b",
-            volume: *volume,
-            width: *width,
-            lines: *lines,
-        };
-        assert_eq!(&rt; action_of(&matches), Some(action));
+fn names_each_action(rt: HostRuntime) -> Result<(), Fail> {
+    for (words, action) in ACTIONS {
+        assert_action(&rt, rt.alloc(), words, *action)?;
     }
     Ok(())
+}
+
+/// Asserts which volume the words of an export name, and how large its pages are.
+fn assert_export(rt: &impl Abort, alloc: Global, export: &Export) -> Result<(), Fail> {
+    let (words, volume, width, lines) = *export;
+    let action = Action::Export {
+        file: "b",
+        volume,
+        width,
+        lines,
+    };
+    assert_action(rt, alloc, words, action)
+}
+
+#[test]
+fn reads_the_numbers_of_an_export(rt: HostRuntime) -> Result<(), Fail> {
+    for export in EXPORTS {
+        assert_export(&rt, rt.alloc(), export)?;
+    }
+    Ok(())
+}
+
+/// The kind of an error, and its text.
+fn told(alloc: Global, error: &Error) -> Result<(ErrorKind, String), Fail> {
+    Ok((error.kind(), format!(in alloc; "{error}")?))
 }
 
 /// The kind of the error that the words make, and its text.
 fn error_of(alloc: Global, words: &'static [&'static str]) -> Result<(ErrorKind, String), Fail> {
     match whole_command(alloc)?.try_get_matches_from(words) {
         Ok(_) => Err(Fail::from("the words are taken")),
-        Err(error) => Ok((error.kind(), format!(in alloc; "{error}")?)),
+        Err(error) => told(alloc, &error),
     }
 }
 
