@@ -1,8 +1,8 @@
 # make          proves what the program needs and builds build/braildesk
 # make demo     shows a small book made and exported, by the sources as they are, without proofs
 # make test     the gate: proves from nothing, tries the must-fail edits, runs the tests and the stored run, compares files
-#               with sqlite3, which has to be installed, runs the tutorial and the sample's client by the built program, and
-#               kills sessions of it
+#               with sqlite3, which has to be installed, runs the tutorial, the sample's client and rows of requests and words
+#               by the built program, and kills sessions of it
 # make attacks  tries the wrong bodies that the gate leaves out, and those that only a test sees
 # make bench    measures speed
 # make install  copies the program to $(DESTDIR)$(PREFIX)/bin, and its manual page to $(DESTDIR)$(PREFIX)/share/man/man1
@@ -54,6 +54,7 @@ test:
 	@cp crates/braildesk/out/braildesk $(PROGRAM)
 	tests/tutorial.sh $(PROGRAM)
 	tests/client.sh $(PROGRAM)
+	tests/rows.sh
 	tests/kill.sh
 
 attacks:
