@@ -1,5 +1,5 @@
 # make          proves what the program needs and builds build/braildesk
-# make demo     shows a small book made and exported, by the sources as they are, without proofs
+# make demo     shows a small book typed and exported, by the sources as they are, without proofs, with the book in memory
 # make test     the gate: proves from nothing, tries the must-fail edits, runs the tests and the stored run, compares files
 #               with sqlite3, which has to be installed, runs the tutorial, the sample's client and rows of requests and words
 #               by the built program, and kills sessions of it
@@ -42,8 +42,9 @@ $(PROGRAM): $(SOURCES)
 
 demo:
 	$(need_rt)
-	@echo 'This runs the sources as they are, without proofs. The build takes some minutes.'
-	@echo "'make' proves what the program needs, and builds $(PROGRAM)."
+	@echo 'This runs the sources as they are, with checks as they run. It proves nothing. The build takes a minute or two.'
+	@echo 'The book stands in memory here: the requests, replies, pages and braille are those of the program, but no file is kept.'
+	@echo "'make' proves what the program needs, and builds $(PROGRAM), which keeps books in files."
 	@RT='$(RT)' sample/demo.sh
 
 test:
