@@ -1,8 +1,8 @@
 # make          proves what the program needs and builds build/braildesk
-# make demo     shows a small book made and exported, by the sources as they are, without proofs
+# make demo     shows a small book typed and exported, by the sources as they are, without proofs, with the book in memory
 # make test     the gate: proves from nothing, tries the must-fail edits, runs the tests and the stored run, compares files
-#               with sqlite3, which has to be installed, runs the tutorial and the sample's client by the built program, and
-#               kills sessions of it
+#               with sqlite3, which has to be installed, runs the tutorial, the sample's client and rows of requests and words
+#               by the built program, and kills sessions of it
 # make attacks  tries the wrong bodies that the gate leaves out, and those that only a test sees
 # make bench    measures speed
 # make install  copies the program to $(DESTDIR)$(PREFIX)/bin, and its manual page to $(DESTDIR)$(PREFIX)/share/man/man1
@@ -42,8 +42,9 @@ $(PROGRAM): $(SOURCES)
 
 demo:
 	$(need_rt)
-	@echo 'This runs the sources as they are, without proofs. The build takes some minutes.'
-	@echo "'make' proves what the program needs, and builds $(PROGRAM)."
+	@echo 'This runs the sources as they are, with checks as they run. It proves nothing. The build takes a minute or two.'
+	@echo 'The book stands in memory here: the requests, replies, pages and braille are those of the program, but no file is kept.'
+	@echo "'make' proves what the program needs, and builds $(PROGRAM), which keeps books in files."
 	@RT='$(RT)' sample/demo.sh
 
 test:
@@ -54,6 +55,7 @@ test:
 	@cp crates/braildesk/out/braildesk $(PROGRAM)
 	tests/tutorial.sh $(PROGRAM)
 	tests/client.sh $(PROGRAM)
+	tests/rows.sh
 	tests/kill.sh
 
 attacks:

@@ -9,37 +9,28 @@ line before that begins with a bar and a blank.
 import subprocess
 import sys
 
-
-class Session:
-    """A session with the book in a file, which has to be there."""
-
-    def __init__(self, program, path):
-        self.process = subprocess.Popen([program, "session", path], stdin=subprocess.PIPE,
-                                        stdout=subprocess.PIPE, encoding="utf-8")
-
-    def ask(self, request):
-        """The lines that a request shows, and the words of the line that ends its reply."""
-        try:
-            self.process.stdin.write(request + "\n")
-            self.process.stdin.flush()
-        except BrokenPipeError:
-            sys.exit(self.process.wait())
-        shown = []
-        while line := self.process.stdout.readline().rstrip("\n"):
-            if not line.startswith("| "):
-                return shown, line.split(" ")
-            shown.append(line[2:])
-        sys.exit(self.process.wait())
-
-    def close(self):
-        """Ends the session, and returns the program's exit status."""
-        self.process.stdin.close()
-        return self.process.wait()
+program, book = sys.argv[1:]
+session = subprocess.Popen([program, "session", book], stdin=subprocess.PIPE,
+                           stdout=subprocess.PIPE, encoding="utf-8")
 
 
-session = Session(sys.argv[1], sys.argv[2])
-session.ask("supply en")
-for line in sys.stdin:
-    _, ending = session.ask("type end en " + line.rstrip("\n"))
-    print(*session.ask("braille " + ending[2])[0] if ending[0] == "ok" else ending)
-sys.exit(session.close())
+def ask(request):
+    """The lines that a request shows, and the words of the line that ends its reply."""
+    try:
+        print(request, file=session.stdin, flush=True)
+    except BrokenPipeError:
+        sys.exit(session.wait())
+    shown = []
+    while line := session.stdout.readline().rstrip("\n"):
+        if not line.startswith("| "):
+            return shown, line.split(" ")
+        shown.append(line[2:])
+    sys.exit(session.wait())
+
+
+ask("supply en")
+for text in sys.stdin:
+    _, ending = ask("type end en " + text.rstrip("\n"))
+    print(*ask("braille " + ending[2])[0] if ending[0] == "ok" else ending)
+session.stdin.close()
+sys.exit(session.wait())
