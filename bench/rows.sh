@@ -35,6 +35,14 @@ shell_lines() { # COUNT
 }
 new() { rm -f "$scratch"/put.db*; sqlite3 "$scratch/put.db" < "$scratch/schema"; }
 none() { rm -f "$scratch"/put.db*; }
+select='SELECT id, place, tab, original, print, style, volume, struck FROM para ORDER BY id;'
+here_read() { "$program" read "$scratch/put.db" "$1"; } # TIMES
+c_read() { "$scratch/rows" read "$scratch/put.db" "$1"; }
+shell_read() {
+    local k
+    for ((k = 0; k < $1; k++)); do echo "$select"; done |
+        sqlite3 -batch -bail -init /dev/null "$scratch/put.db"
+}
 shell_put() {
     sqlite3 -batch -bail -init /dev/null -cmd 'PRAGMA journal_mode = WAL' -cmd 'PRAGMA synchronous = FULL' "$scratch/put.db" < "$scratch/lines"
 }
@@ -61,13 +69,14 @@ for count in 100 1000 10000; do
         "$(rows_a_second "$count" "$shell") by the shell"
     [ "$("$scratch/rows" read "$scratch/put.db" 1)" = "$count" ] || { echo 'rows are missing' >&2; exit 1; }
     [ "$("$program" read "$scratch/put.db" 1)" = "$count" ] || { echo 'rows are missing' >&2; exit 1; }
-    for by in "$program" "$scratch/rows"; do
-        once=$(best_of true "$by" read "$scratch/put.db" 1)
-        often=$(best_of true "$by" read "$scratch/put.db" 21)
+    for read in here_read c_read shell_read; do
+        once=$(best_of true "$read" 1)
+        often=$(best_of true "$read" 21)
         awk -v n="$count" -v once="$once" -v often="$often" 'BEGIN { printf "%.0f\n", (often > once) ? 20 * n / (often - once) : 0 }'
     done > "$scratch/reads"
     here=$((($(instructions "$program" read "$scratch/put.db" 21) - $(instructions "$program" read "$scratch/put.db" 1)) / (20 * count)))
     there=$((($(instructions "$scratch/rows" read "$scratch/put.db" 21) - $(instructions "$scratch/rows" read "$scratch/put.db" 1)) / (20 * count)))
-    echo "read $count: $(sed -n 1p "$scratch/reads") rows a second here, $(sed -n 2p "$scratch/reads") in C;" \
+    echo "read $count: $(sed -n 1p "$scratch/reads") rows a second here, $(sed -n 2p "$scratch/reads") in C," \
+        "$(sed -n 3p "$scratch/reads") by the shell;" \
         "$here and $there instructions a row"
 done
