@@ -1,26 +1,10 @@
 //! The program `braildesk`: its words, its standard ends and its exit status.
 //!
-//! `new`, `session`, `export` and `check` are about the book in a file, and `translate` about lines of print.
+//! What it does with them is `desk_program`'s.
 #![tactic(auto)]
 
-mod answer;
-mod answerer;
-mod books;
-mod braille;
-mod fault;
-mod line;
-mod print;
-mod program;
-mod shelf;
-mod stop;
-mod table_file;
-#[cfg(test)]
-mod tests;
-mod translate;
-
 use desk_ends::Buffered;
-use fault::Fault;
-use program::{program as run_program, refuse, refuse_words};
+use desk_program::{Fault, refuse, refuse_words, run};
 use std::alloc::AllocError;
 use std::env::FillError;
 use std::io::Write;
@@ -68,7 +52,7 @@ fn start<E: Write>(rt: &HostRuntime, errors: &mut E) -> Result<u8, Fault> {
         return Ok(refuse_words(errors, NOT_TEXT));
     };
     let mut output = Buffered::new(rt.alloc(), OUTPUT_BYTES, rt.stdout())?;
-    let status = run_program(rt, texts.as_slice(), &mut rt.stdin(), &mut output, errors);
+    let status = run(rt, texts.as_slice(), &mut rt.stdin(), &mut output, errors);
     Ok(status)
 }
 

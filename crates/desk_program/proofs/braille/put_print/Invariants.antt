@@ -1,0 +1,13 @@
+use Rattle.std.proofs.Common.{◌++◌, List}
+use Rattle.louis_translate.specs.declared.choices.Choice.{Choice}
+use Rattle.louis_translate.specs.Braille.{braille}
+use Rattle.louis_translate.specs.Tiling.{Tiles}
+use Rattle.desk_ends.specs.Cells.{text_of}
+use Rattle.desk_program.proofs.Putting.{Putting}
+use Rattle.desk_program.proofs.braille.put_print.Given as goal
+
+abbrev pub invariant-loop-piece : goal.invariant-loop-piece
+invariant-loop-piece g l =
+    let meaning = g.B.RuleBook.meaning l.book in
+    (choices : List Choice) → Tiles meaning l.print choices
+    → Putting l.piece-iterator (g.K.Sink.contents l.initial.sink) (g.K.Sink.contents l.sink) l.block (l.initial.block ++ text_of (braille meaning l.print choices))

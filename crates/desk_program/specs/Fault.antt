@@ -1,0 +1,117 @@
+-- When a fault is told, and what is told of it.
+use Rattle.std.specs.Prelude.{◌≡◌, ◌≢◌, ℕ, ◌<◌, ◌⊎◌, ◌++◌, ◌∷◌, [], Bool, List, length, codes, decimal}
+use Rattle.std.specs.Fmt.{signed_decimal}
+use Rattle.std.specs.declared.io.ErrorKind.{ErrorKind}
+use Rattle.std.specs.declared.io.ErrorKind.TheVariants as io
+use Rattle.desk_book.specs.Damage.{table_number}
+use Rattle.sqlite.specs.declared.error.Error.{Error as DatabaseError}
+use Rattle.sqlite.specs.declared.error.Error.TheVariants.{SqliteFailure}
+use Rattle.sqlite.specs.declared.error.ErrorCode.TheVariants.{OutOfMemory}
+use Rattle.louis_table.specs.declared.en.TheConstants.{EN}
+use Rattle.louis_table.specs.Table.{Bad}
+use Rattle.desk_program.specs.declared.fault.Fault.{Fault}
+use Rattle.desk_program.specs.declared.fault.Fault.TheVariants as faults
+use Rattle.desk_program.specs.Shelf.{Shelved, unknown, missing, holds, IsRead, MayConnect, most_file_bytes}
+
+-- ---- the fault of a text
+
+-- a text is refused as a table by its own line and cause, or for want of memory
+abbrev pub IsFaultOf : List ℕ → Fault → Type 0
+IsFaultOf text (faults.Table fault) = Bad text fault.line fault.cause
+IsFaultOf text faults.NoMemory = Unit {0}
+IsFaultOf text faults.NotABook = ⊥
+IsFaultOf text (faults.Damaged table id) = ⊥
+IsFaultOf text faults.NewerFormat = ⊥
+IsFaultOf text (faults.NotSixDots paragraph cell) = ⊥
+IsFaultOf text faults.NoVolume = ⊥
+IsFaultOf text faults.BadLayout = ⊥
+IsFaultOf text faults.File = ⊥
+IsFaultOf text (faults.Taken version) = ⊥
+
+-- ---- the fault of a file
+
+-- a file can't be opened or read, or is too large, or there is no memory for it; one that is missing
+-- is no want of memory
+abbrev pub IsOfFile : Type 0 → Shelved → Fault → Type 0
+IsOfFile CanFail shelved (faults.Table fault) = ⊥
+IsOfFile CanFail unknown faults.NoMemory = Unit {0}
+IsOfFile CanFail missing faults.NoMemory = ⊥
+IsOfFile CanFail (holds bytes) faults.NoMemory = Unit {0}
+IsOfFile CanFail shelved faults.NotABook = ⊥
+IsOfFile CanFail shelved (faults.Damaged table id) = ⊥
+IsOfFile CanFail shelved faults.NewerFormat = ⊥
+IsOfFile CanFail shelved (faults.NotSixDots paragraph cell) = ⊥
+IsOfFile CanFail shelved faults.NoVolume = ⊥
+IsOfFile CanFail shelved faults.BadLayout = ⊥
+IsOfFile CanFail unknown faults.File = Unit {0}
+IsOfFile CanFail missing faults.File = Unit {0}
+IsOfFile CanFail (holds bytes) faults.File = CanFail ⊎ (most_file_bytes < length bytes)
+IsOfFile CanFail shelved (faults.Taken version) = ⊥
+
+-- an error of the system is want of memory where that is its kind, and else the file's
+abbrev pub IsIoFault : ErrorKind → Fault → Type 0
+IsIoFault kind fault =
+    ((kind ≡ io.OutOfMemory) × (fault ≡ faults.NoMemory))
+    ⊎ ((kind ≢ io.OutOfMemory) × (fault ≡ faults.File))
+
+-- ---- the fault of a database
+
+-- no connection is made: the file isn't there and none is to be made, it can't be opened or is no database, or there is no memory
+-- for it, which is never told of one that isn't there
+abbrev pub IsOfDatabase : Type 0 → Shelved → Bool → Fault → Type 0
+IsOfDatabase CanFail shelved make (faults.Table fault) = ⊥
+IsOfDatabase CanFail shelved make faults.NoMemory = MayConnect make shelved
+IsOfDatabase CanFail shelved make faults.NotABook = ⊥
+IsOfDatabase CanFail shelved make (faults.Damaged table id) = ⊥
+IsOfDatabase CanFail shelved make faults.NewerFormat = ⊥
+IsOfDatabase CanFail shelved make (faults.NotSixDots paragraph cell) = ⊥
+IsOfDatabase CanFail shelved make faults.NoVolume = ⊥
+IsOfDatabase CanFail shelved make faults.BadLayout = ⊥
+IsOfDatabase CanFail shelved make faults.File = CanFail ⊎ (¬ MayConnect make shelved)
+IsOfDatabase CanFail shelved make (faults.Taken version) = ⊥
+
+-- an error of the database is want of memory where it says so, and else the file's
+abbrev pub IsDatabaseFault : DatabaseError → Fault → Type 0
+IsDatabaseFault error fault =
+    ((error ≡ SqliteFailure OutOfMemory) × (fault ≡ faults.NoMemory))
+    ⊎ ((error ≢ SqliteFailure OutOfMemory) × (fault ≡ faults.File))
+
+-- ---- the table that a word names
+
+-- the text of the table: the supplied one's, or all of the file at this path
+pub data TextAt (shelf : List ℕ → Shelved) (path text : List ℕ) : Type 0 where
+  supplied : path ≡ codes "@en" → text ≡ EN.now → TextAt shelf path text
+  in_file : path ≢ codes "@en" → IsRead (shelf path) text → TextAt shelf path text
+
+-- the fault of the table that the word names
+pub data FaultAt (CanFail : Type 0) (shelf : List ℕ → Shelved) (path : List ℕ) (fault : Fault)
+    : Type 0 where
+  of_text : (text : List ℕ) → TextAt shelf path text → IsFaultOf text fault
+      → FaultAt CanFail shelf path fault
+  of_file : path ≢ codes "@en" → IsOfFile CanFail (shelf path) fault
+      → FaultAt CanFail shelf path fault
+
+-- ---- what is told
+
+-- a text with a detail behind it
+abbrev pub with_detail : List ℕ → List ℕ → List ℕ
+with_detail text detail = text ++ 32 ∷ detail
+
+-- the number and the details of the fault
+abbrev pub fault_text : Fault → List ℕ
+fault_text (faults.Table fault) = with_detail (with_detail (codes "no 8") (decimal fault.line)) (decimal fault.cause)
+fault_text faults.NoMemory = codes "no 90"
+fault_text faults.NotABook = codes "no 92"
+fault_text (faults.Damaged table id) =
+    with_detail (with_detail (codes "no 93") (decimal (table_number table))) (signed_decimal id)
+fault_text faults.NewerFormat = codes "no 94"
+fault_text (faults.NotSixDots paragraph cell) =
+    with_detail (with_detail (codes "no 95") (decimal paragraph)) (decimal cell)
+fault_text faults.NoVolume = codes "no 96"
+fault_text faults.BadLayout = codes "no 97"
+fault_text faults.File = codes "no 98"
+fault_text (faults.Taken version) = with_detail (codes "no 99") (decimal version)
+
+-- the line that is told
+abbrev pub fault_line : Fault → List ℕ
+fault_line fault = codes "braildesk: " ++ fault_text fault ++ 10 ∷ []

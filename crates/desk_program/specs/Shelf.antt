@@ -1,0 +1,36 @@
+-- What stands at a path, as far as that is known.
+use Rattle.std.specs.Prelude.{◌≡◌, ℕ, ◌≤◌, Bool, true, List, length, Option, Some, None}
+use Rattle.desk_program.specs.declared.table_file.TheConstants.{MOST_FILE_BYTES}
+
+-- the bytes that a table file may have
+abbrev pub most_file_bytes : ℕ
+most_file_bytes = MOST_FILE_BYTES
+
+-- nothing is known, no file, or a file with these bytes
+pub data Shelved : Type 0 where
+  unknown : Shelved
+  missing : Shelved
+  holds : List ℕ → Shelved
+
+-- what is left in a file that was opened
+abbrev pub Opens : Shelved → Option (List ℕ) → Type 0
+Opens unknown left = Unit {0}
+Opens missing left = ⊥
+Opens (holds bytes) left = left ≡ Some bytes
+
+-- what was read as a whole file is all of it, and not too much
+abbrev pub IsRead : Shelved → List ℕ → Type 0
+IsRead unknown text = length text ≤ most_file_bytes
+IsRead missing text = ⊥
+IsRead (holds bytes) text = (text ≡ bytes) × (length bytes ≤ most_file_bytes)
+
+-- what is left in a source, as a file of its own
+abbrev pub left_in : Option (List ℕ) → Shelved
+left_in None = unknown
+left_in (Some bytes) = holds bytes
+
+-- a database at a path may be connected to: where no file is there, only if one is to be made
+abbrev pub MayConnect : Bool → Shelved → Type 0
+MayConnect make unknown = Unit {0}
+MayConnect make missing = make ≡ true
+MayConnect make (holds bytes) = Unit {0}
