@@ -1,10 +1,13 @@
 //! Ends that fail in a session.
 
 use super::session_rows::{Row, replies, requests, rows};
-use super::sessions::{MARKED, altered, opened};
+use super::sessions::{MARKED, opened};
+use super::tasks::{run_all, store_over};
+use super::work::{Work, in_memory};
 use desk_ends::{Memory, Source};
 use desk_session::{Ended, serve};
-use sqlite::Connection;
+use desk_store::Store;
+use sqlite::{Alter, Connection};
 use std::alloc::Global;
 use std::io::{self, Error, ErrorKind, Read, Write};
 use std::process::Abort;
@@ -67,26 +70,65 @@ fn word(ended: Ended) -> &'static str {
     }
 }
 
-/// What a session writes, how it ends, the version of the book that it gives back, and that of the book in its file. These
-/// statements run in the file before.
+/// The version of the book in a database.
+fn kept<S: Alter + Drop>(alloc: Global, conn: Connection<S>) -> Result<(u64, Connection<S>), Fail> {
+    let (store, book) = opened(alloc, conn)?;
+    Ok((book.version(), store.release()))
+}
+
+/// The store of a database in which these statements ran besides.
+fn altered<S: Alter + Drop>(store: Store<S>, sql: &str) -> Result<Store<S>, Fail> {
+    let mut conn = store.release();
+    run_all(&mut conn, sql)?;
+    store_over(conn)
+}
+
+/// Answers the requests of a source to a sink. The book is opened before these statements run. The
+/// answer is what is written, how the session ends, the version of the book that it gives back, and
+/// that of the book in its file.
+#[derive(Drop)]
+struct Answering<'a, R: Source> {
+    source: &'a mut R,
+    sink: Room,
+    further: &'a str,
+}
+
+impl<R: Source> Work for Answering<'_, R> {
+    type Given = String;
+
+    fn carry_out<S: Alter + Drop>(
+        self,
+        alloc: Global,
+        conn: Connection<S>,
+    ) -> Result<(String, Connection<S>), Fail> {
+        let Answering {
+            source,
+            mut sink,
+            further,
+        } = self;
+        let (store, book) = opened(alloc, conn)?;
+        let mut store = altered(store, further)?;
+        let (ended, book) = serve(alloc, source, &mut sink, &mut store, book);
+        let (how, given) = (word(ended), book.version());
+        let (kept, conn) = kept(alloc, store.release())?;
+        let written = String::from_utf8(sink.taken)?;
+        Ok((format!(in alloc; "{written}{how} {given} {kept}")?, conn))
+    }
+}
+
+/// What comes of a session over a new database.
 fn session<R: Source>(
     alloc: Global,
     source: &mut R,
     sink: Room,
     further: &str,
 ) -> Result<String, Fail> {
-    let (store, book) = opened(alloc, Connection::open_in_memory(alloc)?)?;
-    let mut store = altered(store, further)?;
-    let mut sink = sink;
-    let (ended, book) = serve(alloc, source, &mut sink, &mut store, book);
-    let (_, kept) = opened(alloc, store.release())?;
-    let written = String::from_utf8(sink.taken)?;
-    Ok(format!(in alloc;
-        "{written}{} {} {}",
-        word(ended),
-        book.version(),
-        kept.version()
-    )?)
+    let work = Answering {
+        source,
+        sink,
+        further,
+    };
+    in_memory(alloc, work)
 }
 
 /// What is wanted of a session that gave the commands of these rows.

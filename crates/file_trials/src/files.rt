@@ -5,11 +5,11 @@
 //! A number sign is the table of the histories in the format of the file: its name in a statement,
 //! and else its number.
 
-use super::tables::judge;
-use super::tasks::{Task, carry_out, open_book, rows};
+use super::tasks::{Task, open_book, rows};
+use super::work::{Work, in_memory};
 use desk_book::Book;
 use desk_store::OpenFault;
-use sqlite::{Connection, MemStore};
+use sqlite::{Alter, Connection};
 use std::alloc::{AllocError, Global};
 use std::process::Abort;
 use std::test::Fail;
@@ -160,27 +160,68 @@ fn told(alloc: Global, answer: Result<Book, OpenFault>) -> Result<String, AllocE
     }
 }
 
-/// A file in memory in which these tasks were done and these statements ran.
-fn file(alloc: Global, tasks: &[Task<'_>], further: &str) -> Result<Connection<MemStore>, Fail> {
-    let mut conn = Connection::open_in_memory(alloc)?;
+/// Does these tasks in turn, and then these statements run.
+fn prepared<S: Alter + Drop>(
+    alloc: Global,
+    mut conn: Connection<S>,
+    tasks: &[Task<'_>],
+    further: &str,
+) -> Result<Connection<S>, Fail> {
     for task in tasks {
-        let (_, next) = carry_out(alloc, conn, *task)?;
+        let (_, next) = task.carry_out(alloc, conn)?;
         conn = next;
     }
-    conn.execute_batch(further)?;
+    let (_, conn) = Task::Run(further).carry_out(alloc, conn)?;
     Ok(conn)
 }
 
-/// What is told of a file. Where it is refused, it has to have the rows that it had.
-fn judged(alloc: Global, mut conn: Connection<MemStore>, make: bool) -> Result<String, Fail> {
-    let before = rows(alloc, &mut conn)?;
-    let answer = open_book(alloc, &mut conn, make)?;
+/// What is told of a file, and whether it is refused.
+fn answer<S: Alter>(
+    alloc: Global,
+    conn: &mut Connection<S>,
+    make: bool,
+) -> Result<(String, bool), Fail> {
+    let answer = open_book(alloc, conn, make)?;
     let refused = answer.is_err();
-    let mut told = told(alloc, answer)?;
-    if refused && rows(alloc, &mut conn)?.as_str() != before.as_str() {
+    Ok((told(alloc, answer)?, refused))
+}
+
+/// What is told of a file. Where it is refused, it has to have the rows that it had.
+fn told_of<S: Alter>(alloc: Global, conn: &mut Connection<S>, make: bool) -> Result<String, Fail> {
+    let before = rows(alloc, conn)?;
+    let (mut told, refused) = answer(alloc, conn, make)?;
+    if refused && rows(alloc, conn)?.as_str() != before.as_str() {
         told.push_str(", and written to")?;
     }
     Ok(told)
+}
+
+/// Does these tasks, after which these statements run, and opens the book. The answer is what is
+/// told then.
+#[derive(Clone, Copy)]
+struct Judged<'a> {
+    start: &'a [Task<'a>],
+    further: &'a str,
+    make: bool,
+}
+
+impl Work for Judged<'_> {
+    type Given = String;
+
+    fn carry_out<S: Alter + Drop>(
+        self,
+        alloc: Global,
+        conn: Connection<S>,
+    ) -> Result<(String, Connection<S>), Fail> {
+        let mut conn = prepared(alloc, conn, self.start, self.further)?;
+        let told = told_of(alloc, &mut conn, self.make)?;
+        Ok((told, conn))
+    }
+}
+
+/// Compares what came of a file after these statements.
+fn compare(rt: &impl Abort, given: &str, wanted: &str, further: &str) {
+    assert_eq!(rt; given, wanted, "{further}");
 }
 
 /// Compares what is told of a file after the statements of these cases.
@@ -189,9 +230,17 @@ fn judge_cases(rt: &impl Abort, alloc: Global, case: &Case<'_>, lines: &str) -> 
         let (wanted, further) = line.split_once(" | ").unwrap_or((line, ""));
         let wanted = wanted.replace(alloc, '#', case.number)?;
         let further = further.replace(alloc, '#', case.histories)?;
-        let conn = file(alloc, case.start, further.as_str())?;
-        let told = judged(alloc, conn, case.make)?;
-        assert_eq!(rt; told.as_str(), wanted.as_str(), "{}", further);
+        let work = Judged {
+            start: case.start,
+            further: further.as_str(),
+            make: case.make,
+        };
+        compare(
+            rt,
+            in_memory(alloc, work)?.as_str(),
+            wanted.as_str(),
+            further.as_str(),
+        );
     }
     Ok(())
 }
@@ -255,6 +304,36 @@ fn new_files_are_judged(rt: HostRuntime) -> Result<(), Fail> {
     judge_new(&rt, rt.alloc(), &[], false, "no book")
 }
 
+/// The rows of a file once its book is opened.
+fn opened_rows<S: Alter>(alloc: Global, conn: &mut Connection<S>) -> Result<String, Fail> {
+    if open_book(alloc, conn, false)?.is_err() {
+        return Err("the file is refused".into());
+    }
+    rows(alloc, conn)
+}
+
+/// Does these tasks, after which these statements run, and opens the book, which has to be there.
+/// The answer is the rows of the file then.
+#[derive(Clone, Copy)]
+struct Opened<'a> {
+    start: &'a [Task<'a>],
+    further: &'a str,
+}
+
+impl Work for Opened<'_> {
+    type Given = String;
+
+    fn carry_out<S: Alter + Drop>(
+        self,
+        alloc: Global,
+        conn: Connection<S>,
+    ) -> Result<(String, Connection<S>), Fail> {
+        let mut conn = prepared(alloc, conn, self.start, self.further)?;
+        let rows = opened_rows(alloc, &mut conn)?;
+        Ok((rows, conn))
+    }
+}
+
 /// Compares the rows of a file after these statements, once its book is opened.
 fn judge_opened(
     rt: &impl Abort,
@@ -263,11 +342,8 @@ fn judge_opened(
     further: &str,
     wanted: &str,
 ) -> Result<(), Fail> {
-    let mut conn = file(alloc, start, further)?;
-    if open_book(alloc, &mut conn, false)?.is_err() {
-        return Err("the file is refused".into());
-    }
-    judge(rt, rows(alloc, &mut conn)?.as_str(), wanted);
+    let given = in_memory(alloc, Opened { start, further })?;
+    compare(rt, given.as_str(), wanted, further);
     Ok(())
 }
 

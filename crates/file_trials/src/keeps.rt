@@ -1,11 +1,12 @@
 //! Changes that are kept in a file.
 
 use super::commands::read_commands;
-use super::lines::list;
 use super::tables::judge;
+use super::tasks::{make, rows, run_all, store_over};
+use super::work::{Work, in_memory};
 use desk_book::{Book, Command};
-use desk_store::{Lost, Store, make_tables};
-use sqlite::{Connection, MemStore};
+use desk_store::Store;
+use sqlite::{Alter, Connection};
 use std::alloc::Global;
 use std::test::Fail;
 
@@ -26,53 +27,68 @@ mark 1 1 0 1 look 1 0
 cache 1 B
 ";
 
-/// A store over a new file, where these statements ran.
-fn store(alloc: Global, further: &str) -> Result<Store<MemStore>, Fail> {
-    let mut conn = Connection::open_in_memory(alloc)?;
-    make_tables(&mut conn)?;
-    conn.execute_batch(further)?;
-    if conn.is_autocommit() {
-        Ok(Store::over(conn))
-    } else {
-        Err("in a transaction".into())
-    }
-}
-
-/// Plans a command, keeps the change and gives the next book.
-fn keep(
+/// Plans a command, keeps the change and gives the next book. The answer is whether it was kept.
+fn keep<S: Alter>(
     alloc: Global,
-    store: &mut Store<MemStore>,
+    store: &mut Store<S>,
     book: Book,
     command: &Command,
-) -> Result<(Result<(), Lost>, Book), Fail> {
+) -> Result<(bool, Book), Fail> {
     match book.plan(alloc, command, None) {
         Ok(change) => {
-            let answer = store.keep(alloc, &book, &change);
-            Ok((answer, book.settle(change)))
+            let kept = store.keep(alloc, &book, &change).is_ok();
+            Ok((kept, book.settle(change)))
         }
         Err(_) => Err("refused".into()),
     }
 }
 
-/// Whether each of the commands was kept, as a letter each, and the rows that the file then holds.
-fn keep_all(alloc: Global, mut store: Store<MemStore>) -> Result<String, Fail> {
-    let mut book = Book::new(alloc)?;
+/// Whether each of the commands is kept, as a letter each.
+fn keep_each<S: Alter>(alloc: Global, store: &mut Store<S>) -> Result<String, Fail> {
+    let commands = read_commands(alloc, COMMANDS)?;
     let mut answers = String::new(alloc);
-    for command in &read_commands(alloc, COMMANDS)? {
-        let (answer, next) = keep(alloc, &mut store, book, command)?;
-        answers.push(if answer.is_ok() { 'k' } else { 'l' })?;
+    let mut book = Book::new(alloc)?;
+    for command in &commands {
+        let (kept, next) = keep(alloc, store, book, command)?;
         book = next;
+        answers.push(if kept { 'k' } else { 'l' })?;
     }
-    let mut conn = store.release();
-    answers.push('\n')?;
-    let rows = list(alloc, &mut conn).ok_or("the rows can't be listed")?;
-    answers.push_str(rows.as_str())?;
     Ok(answers)
+}
+
+/// A store over a database in which the tables are made and these statements ran.
+fn store<S: Alter + Drop>(mut conn: Connection<S>, further: &str) -> Result<Store<S>, Fail> {
+    if !make(&mut conn)? {
+        return Err("the tables can't be made".into());
+    }
+    run_all(&mut conn, further)?;
+    store_over(conn)
+}
+
+/// Keeps the changes of the commands in a new file, where these statements ran. The answer is
+/// whether each of the commands was kept, as a letter each, and the rows that the file then holds.
+#[derive(Clone, Copy)]
+struct Keeping<'a>(&'a str);
+
+impl Work for Keeping<'_> {
+    type Given = String;
+
+    fn carry_out<S: Alter + Drop>(
+        self,
+        alloc: Global,
+        conn: Connection<S>,
+    ) -> Result<(String, Connection<S>), Fail> {
+        let mut store = store(conn, self.0)?;
+        let answers = keep_each(alloc, &mut store)?;
+        let mut conn = store.release();
+        let rows = rows(alloc, &mut conn)?;
+        Ok((format!(in alloc; "{answers}\n{rows}")?, conn))
+    }
 }
 
 #[test]
 fn changes_are_kept(rt: HostRuntime) -> Result<(), Fail> {
-    let given = keep_all(rt.alloc(), store(rt.alloc(), "")?)?;
+    let given = in_memory(rt.alloc(), Keeping(""))?;
     let wanted = format!(in rt.alloc(); "kkkk\n{KEPT}")?;
     judge(&rt, given.as_str(), wanted.as_str());
     Ok(())
@@ -80,7 +96,7 @@ fn changes_are_kept(rt: HostRuntime) -> Result<(), Fail> {
 
 #[test]
 fn nothing_is_kept_after_a_loss(rt: HostRuntime) -> Result<(), Fail> {
-    let given = keep_all(rt.alloc(), store(rt.alloc(), "DROP TABLE cache")?)?;
+    let given = in_memory(rt.alloc(), Keeping("DROP TABLE cache"))?;
     judge(
         &rt,
         given.as_str(),

@@ -27,3 +27,5 @@ mod stops;
 mod tables;
 #[cfg(test)]
 mod tasks;
+#[cfg(test)]
+mod work;

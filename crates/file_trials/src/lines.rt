@@ -10,8 +10,8 @@ use desk_book::rows::{
     BookRow, CacheRow, CorrRow, MarkRow, NamedCorrRow, ParaRow, Put, StoredTab, TabRow,
 };
 use desk_store::{
-    has_table, read_books, read_caches, read_corrs, read_marks, read_named_corrs, read_paras,
-    read_tabs,
+    Fault, has_table, read_books, read_caches, read_corrs, read_marks, read_named_corrs,
+    read_paras, read_tabs,
 };
 use sqlite::{Alter, Connection};
 use std::alloc::Global;
@@ -314,7 +314,13 @@ pub(crate) fn puts<'a>(alloc: Global, lines: &'a [Line]) -> Result<Vec<Put<'a>>,
 }
 
 /// A row that is listed.
-trait Listed {
+trait Listed: Sized + Drop {
+    /// The table that it stands in.
+    const TABLE: FileTable;
+
+    /// The rows of that table.
+    fn read<S: Alter>(alloc: Global, conn: &mut Connection<S>) -> Result<Vec<Self>, Fault>;
+
     /// Adds its line.
     fn add(&self, text: &mut String) -> fmt::Result;
 }
@@ -330,6 +336,12 @@ fn written_bytes(bytes: &[u8]) -> &str {
 }
 
 impl Listed for BookRow {
+    const TABLE: FileTable = FileTable::Book;
+
+    fn read<S: Alter>(alloc: Global, conn: &mut Connection<S>) -> Result<Vec<Self>, Fault> {
+        read_books(alloc, conn)
+    }
+
     fn add(&self, text: &mut String) -> fmt::Result {
         writeln!(text, "book {} {} {}", self.id, self.format, self.version)?;
         Ok(())
@@ -338,6 +350,12 @@ impl Listed for BookRow {
 
 /// The rowid stands before the columns.
 impl Listed for StoredTab {
+    const TABLE: FileTable = FileTable::Tab;
+
+    fn read<S: Alter>(alloc: Global, conn: &mut Connection<S>) -> Result<Vec<Self>, Fault> {
+        read_tabs(alloc, conn)
+    }
+
     fn add(&self, text: &mut String) -> fmt::Result {
         let name = written(self.row.name.as_str());
         let body = written_bytes(self.row.body.as_slice());
@@ -347,6 +365,12 @@ impl Listed for StoredTab {
 }
 
 impl Listed for ParaRow {
+    const TABLE: FileTable = FileTable::Para;
+
+    fn read<S: Alter>(alloc: Global, conn: &mut Connection<S>) -> Result<Vec<Self>, Fault> {
+        read_paras(alloc, conn)
+    }
+
     fn add(&self, text: &mut String) -> fmt::Result {
         let tab = written(self.tab.as_str());
         let original = written(self.original.as_str());
@@ -362,6 +386,12 @@ impl Listed for ParaRow {
 }
 
 impl Listed for CorrRow {
+    const TABLE: FileTable = FileTable::Corr;
+
+    fn read<S: Alter>(alloc: Global, conn: &mut Connection<S>) -> Result<Vec<Self>, Fault> {
+        read_corrs(alloc, conn)
+    }
+
     fn add(&self, text: &mut String) -> fmt::Result {
         let body = written(self.body.as_str());
         write!(text, "older {} {} {}", self.para, self.seq, self.kind)?;
@@ -371,6 +401,12 @@ impl Listed for CorrRow {
 }
 
 impl Listed for NamedCorrRow {
+    const TABLE: FileTable = FileTable::NamedCorr;
+
+    fn read<S: Alter>(alloc: Global, conn: &mut Connection<S>) -> Result<Vec<Self>, Fault> {
+        read_named_corrs(alloc, conn)
+    }
+
     fn add(&self, text: &mut String) -> fmt::Result {
         let row = &self.entry;
         let body = written(row.body.as_str());
@@ -382,6 +418,12 @@ impl Listed for NamedCorrRow {
 }
 
 impl Listed for CacheRow {
+    const TABLE: FileTable = FileTable::Cache;
+
+    fn read<S: Alter>(alloc: Global, conn: &mut Connection<S>) -> Result<Vec<Self>, Fault> {
+        read_caches(alloc, conn)
+    }
+
     fn add(&self, text: &mut String) -> fmt::Result {
         let cells = written_bytes(self.cells.as_slice());
         writeln!(text, "cache {} {cells}", self.para)?;
@@ -390,6 +432,12 @@ impl Listed for CacheRow {
 }
 
 impl Listed for MarkRow {
+    const TABLE: FileTable = FileTable::Mark;
+
+    fn read<S: Alter>(alloc: Global, conn: &mut Connection<S>) -> Result<Vec<Self>, Fault> {
+        read_marks(alloc, conn)
+    }
+
     fn add(&self, text: &mut String) -> fmt::Result {
         let note = written(self.note.as_str());
         write!(
@@ -410,43 +458,30 @@ fn add_rows<T: Listed>(text: &mut String, rows: &[T]) -> fmt::Result {
     Ok(())
 }
 
-/// Adds the lines of rows that were read, or one that says that they weren't.
-fn add_read<T: Listed + Drop>(text: &mut String, rows: Option<Vec<T>>) -> Option<()> {
-    match rows {
-        Some(rows) => add_rows(text, rows.as_slice()).ok(),
-        None => text.push_str("not read\n").ok(),
+/// Adds the rows of a table, where it is there, or a line that says that they couldn't be read.
+fn add_table<T: Listed, S: Alter>(
+    alloc: Global,
+    conn: &mut Connection<S>,
+    text: &mut String,
+) -> Option<()> {
+    if !has_table(conn, T::TABLE) {
+        return Some(());
+    }
+    match T::read(alloc, conn) {
+        Ok(rows) => add_rows(text, rows.as_slice()).ok(),
+        Err(_) => text.push_str("not read\n").ok(),
     }
 }
 
-/// Adds the rows of the tables before the histories, where these are there.
-fn add_first<S: Alter>(alloc: Global, conn: &mut Connection<S>, text: &mut String) -> Option<()> {
-    if has_table(conn, FileTable::Book) {
-        add_read(text, read_books(alloc, conn).ok())?;
-    }
-    if has_table(conn, FileTable::Tab) {
-        add_read(text, read_tabs(alloc, conn).ok())?;
-    }
-    if has_table(conn, FileTable::Para) {
-        add_read(text, read_paras(alloc, conn).ok())?;
-    }
-    Some(())
-}
-
-/// Adds the rows of the others, where these are there; those of an older table of histories stand last.
-fn add_others<S: Alter>(alloc: Global, conn: &mut Connection<S>, text: &mut String) -> Option<()> {
-    if has_table(conn, FileTable::NamedCorr) {
-        add_read(text, read_named_corrs(alloc, conn).ok())?;
-    }
-    if has_table(conn, FileTable::Mark) {
-        add_read(text, read_marks(alloc, conn).ok())?;
-    }
-    if has_table(conn, FileTable::Cache) {
-        add_read(text, read_caches(alloc, conn).ok())?;
-    }
-    if has_table(conn, FileTable::Corr) {
-        add_read(text, read_corrs(alloc, conn).ok())?;
-    }
-    Some(())
+/// Adds the rows of the tables of a book; those of an older table of histories stand last.
+fn add_tables<S: Alter>(alloc: Global, conn: &mut Connection<S>, text: &mut String) -> Option<()> {
+    add_table::<BookRow, S>(alloc, conn, text)?;
+    add_table::<StoredTab, S>(alloc, conn, text)?;
+    add_table::<ParaRow, S>(alloc, conn, text)?;
+    add_table::<NamedCorrRow, S>(alloc, conn, text)?;
+    add_table::<MarkRow, S>(alloc, conn, text)?;
+    add_table::<CacheRow, S>(alloc, conn, text)?;
+    add_table::<CorrRow, S>(alloc, conn, text)
 }
 
 /// The paragraphs and words of the notes, with 0 for no paragraph.
@@ -455,8 +490,11 @@ fn notes<S: Alter>(conn: &mut Connection<S>) -> Option<String> {
     conn.query_row(listed, &[]).ok()?.get(0).ok()
 }
 
-/// Adds the rows of the table that stands beside these.
+/// Adds the rows of the table that stands beside these, where it is there.
 fn add_notes<S: Alter>(conn: &mut Connection<S>, text: &mut String) -> Option<()> {
+    if conn.schema().table_named(b"note").is_none() {
+        return Some(());
+    }
     let notes = notes(conn)?;
     writeln!(text, "note {notes}").ok()
 }
@@ -464,10 +502,7 @@ fn add_notes<S: Alter>(conn: &mut Connection<S>, text: &mut String) -> Option<()
 /// All rows of a file: those of its tables, where there is one of these, and the notes, where they are there.
 pub(crate) fn list<S: Alter>(alloc: Global, conn: &mut Connection<S>) -> Option<String> {
     let mut text = String::new(alloc);
-    add_first(alloc, conn, &mut text)?;
-    add_others(alloc, conn, &mut text)?;
-    if conn.schema().table_named(b"note").is_some() {
-        add_notes(conn, &mut text)?;
-    }
+    add_tables(alloc, conn, &mut text)?;
+    add_notes(conn, &mut text)?;
     Some(text)
 }

@@ -5,13 +5,15 @@
 //! sync stays or is lost, the files are then opened again, and the book in them has to be the one after the commands that
 //! were acknowledged, or the one after the command that was lost.
 
-use super::disks::{Bytes, Left, Stopped, close, is_stopped, open, stopped_after, whole};
+use super::disks::{Bytes, Left, Stopped, is_stopped, stopped_after, whole};
 use super::session_rows::{Row, replies, requests, rows};
 use super::sessions::{CORRECTED, JOINED, MARKED, OLDER};
+use super::tasks::{Task, after as task_after, open_book, store_over};
+use super::work::{Work, in_files};
 use desk_book::Book;
 use desk_session::{Ended, serve};
 use desk_store::Store;
-use sqlite::{Connection, FileStore, Files};
+use sqlite::{Alter, Connection, Files};
 use sqlite_disk::{Fuse, Memory};
 use std::alloc::Global;
 use std::test::Fail;
@@ -53,52 +55,56 @@ struct Case {
     books: Vec<Vec<u8>>,
 }
 
-/// Opens the book in a database, or makes it there.
-fn open_book(
-    alloc: Global,
-    conn: Connection<FileStore<Fuse<Memory>>>,
-) -> Result<(Store<FileStore<Fuse<Memory>>>, Book), Files<Fuse<Memory>>> {
-    let mut conn = conn;
-    if !conn.is_autocommit() {
-        return Err(close(conn).1);
-    }
-    conn.set_step_limit(None);
-    match Store::open_on(alloc, &mut conn, true) {
-        Ok(book) => Ok((Store::over(conn), book)),
-        Err(_) => Err(close(conn).1),
-    }
-}
-
 /// Answers requests, and one more after a loss.
-fn answer(
+fn answer<S: Alter + Drop>(
     alloc: Global,
-    store: Store<FileStore<Fuse<Memory>>>,
+    store: Store<S>,
     book: Book,
     requests: &[u8],
-) -> Outcome {
+    replies: &mut Vec<u8>,
+) -> (Ended, Connection<S>) {
     let mut store = store;
-    let mut replies = Vec::new(alloc);
-    let (ended, book) = serve(alloc, &mut { requests }, &mut replies, &mut store, book);
+    let (ended, book) = serve(alloc, &mut { requests }, replies, &mut store, book);
     if ended == Ended::Lost {
-        let _ = serve(alloc, &mut { LATER }, &mut replies, &mut store, book);
+        let _ = serve(alloc, &mut { LATER }, replies, &mut store, book);
     }
-    Outcome {
-        replies,
-        ended: Some(ended),
-        files: close(store.release()).1,
+    (ended, store.release())
+}
+
+/// Opens the book in a database, or makes it there, and answers requests. The answer is the
+/// replies, and where a book was opened, how the session ended.
+#[derive(Clone, Copy)]
+struct Session<'a>(&'a [u8]);
+
+impl Work for Session<'_> {
+    type Given = (Vec<u8>, Option<Ended>);
+
+    fn carry_out<S: Alter + Drop>(
+        self,
+        alloc: Global,
+        mut conn: Connection<S>,
+    ) -> Result<((Vec<u8>, Option<Ended>), Connection<S>), Fail> {
+        let mut replies = Vec::new(alloc);
+        match open_book(alloc, &mut conn, true)? {
+            Ok(book) => {
+                let store = store_over(conn)?;
+                let (ended, conn) = answer(alloc, store, book, self.0, &mut replies);
+                Ok(((replies, Some(ended)), conn))
+            }
+            Err(_) => Ok(((replies, None), conn)),
+        }
     }
 }
 
 /// Opens the files and the book in them, answers requests and closes the files.
-fn run(alloc: Global, files: Files<Fuse<Memory>>, requests: &[u8]) -> Outcome {
-    match open(alloc, files).and_then(|conn| open_book(alloc, conn)) {
-        Ok((store, book)) => answer(alloc, store, book, requests),
-        Err(files) => Outcome {
-            replies: Vec::new(alloc),
-            ended: None,
-            files,
-        },
-    }
+fn run(alloc: Global, files: Files<Fuse<Memory>>, requests: &[u8]) -> Result<Outcome, Fail> {
+    let worked = in_files(alloc, files, Session(requests))?;
+    let (replies, ended) = worked.given.unwrap_or((Vec::new(alloc), None));
+    Ok(Outcome {
+        replies,
+        ended,
+        files: worked.files,
+    })
 }
 
 /// The replies of a session in which no file is stopped, and what the files hold then.
@@ -109,7 +115,7 @@ fn unstopped(
     requests: &[u8],
 ) -> Result<(Vec<u8>, Bytes), Fail> {
     let files = whole(alloc, log, db)?;
-    let outcome = run(alloc, files, requests);
+    let outcome = run(alloc, files, requests)?;
     if outcome.ended != Some(Ended::Done) {
         return Err("a session failed with no stop".into());
     }
@@ -231,7 +237,7 @@ fn look_again(
 /// Stops one of the files after so many calls. The answer is whether it was stopped.
 fn stop(alloc: Global, case: &Case, stopped: Stopped, calls: u64) -> Result<bool, Fail> {
     let files = stopped_after(alloc, &case.start, stopped, calls)?;
-    let mut outcome = run(alloc, files, case.requests.as_slice());
+    let mut outcome = run(alloc, files, case.requests.as_slice())?;
     let was_stopped = is_stopped(&mut outcome.files, stopped);
     if outcome.ended != Some(Ended::Done) && !was_stopped {
         return Err("a session failed with no stop".into());
@@ -265,19 +271,6 @@ fn stop_everywhere(alloc: Global, case: &Case) -> Result<(), Fail> {
 fn after(alloc: Global, requests: &[u8]) -> Result<Bytes, Fail> {
     let (_, files) = unstopped(alloc, &[], &[], requests)?;
     Ok(files)
-}
-
-/// The same files after these statements.
-fn altered(alloc: Global, start: &Bytes, sql: &str) -> Result<Bytes, Fail> {
-    let files = whole(alloc, start.log.as_slice(), start.db.as_slice())?;
-    match open(alloc, files) {
-        Ok(conn) => {
-            let mut conn = conn;
-            conn.execute_batch(sql)?;
-            Bytes::of(alloc, &close(conn).1)
-        }
-        Err(_) => Err("the files can't be opened".into()),
-    }
 }
 
 /// The supplied table with rules, under the name `t`, and many paragraphs in it.
@@ -328,7 +321,7 @@ fn a_stop_while_an_older_file_is_opened(rt: HostRuntime) -> Result<(), Fail> {
     let alloc = rt.alloc();
     let corrected = after(alloc, requests(alloc, &rows(alloc, CORRECTED)?)?.as_slice())?;
     for sql in [OLDER, "DROP TABLE cache"] {
-        let start = altered(alloc, &corrected, sql)?;
+        let start = task_after(alloc, &corrected, Task::Run(sql))?;
         let rows = rows(alloc, "correct-by Ann 1 4 3 dog => ok 5 3")?;
         stop_everywhere(alloc, &Case::new(alloc, start, rows, ASKED)?)?;
     }

@@ -1,11 +1,13 @@
 //! Sessions over memory, worked out by hand from the language of requests and the rules of books.
 
 use super::session_rows::{replies, requests, rows};
+use super::tasks::run_all;
+use super::work::{Work, in_memory};
 use desk_book::Book;
 use desk_ends::Memory;
 use desk_session::{Ended, run, serve};
 use desk_store::Store;
-use sqlite::{Connection, MemStore, params};
+use sqlite::{Alter, Connection};
 use std::alloc::Global;
 use std::process::Abort;
 use std::test::Fail;
@@ -171,11 +173,10 @@ const CUT: [(&[u8], &str); 3] = [
 ];
 
 /// The book in a database, opened or made there.
-pub(crate) fn opened(
+pub(crate) fn opened<S: Alter + Drop>(
     alloc: Global,
-    conn: Connection<MemStore>,
-) -> Result<(Store<MemStore>, Book), Fail> {
-    let mut conn = conn;
+    mut conn: Connection<S>,
+) -> Result<(Store<S>, Book), Fail> {
     if !conn.is_autocommit() {
         return Err("in a transaction".into());
     }
@@ -183,63 +184,124 @@ pub(crate) fn opened(
     Ok(Store::adopt(alloc, conn, true)?)
 }
 
-/// The store of a database in which these statements ran besides.
-pub(crate) fn altered(store: Store<MemStore>, sql: &str) -> Result<Store<MemStore>, Fail> {
-    let mut conn = store.release();
-    conn.execute_batch(sql)?;
-    if conn.is_autocommit() {
-        Ok(Store::over(conn))
+/// Answers these requests, which a session over the database has to do to their end.
+fn answer<S: Alter + Drop>(
+    alloc: Global,
+    conn: Connection<S>,
+    requests: &[u8],
+    replies: &mut Vec<u8>,
+) -> Result<Connection<S>, Fail> {
+    let (mut store, book) = opened(alloc, conn)?;
+    let (ended, _) = serve(alloc, &mut Memory(requests), replies, &mut store, book);
+    if ended == Ended::Done {
+        Ok(store.release())
     } else {
-        Err("in a transaction".into())
+        Err("a session isn't done".into())
     }
 }
 
-/// Whether a session over this database is done, and gives these replies. The answer is the database.
-fn judge(
-    rt: &impl Abort,
-    alloc: Global,
-    conn: Connection<MemStore>,
-    requests: &[u8],
-    wanted: &[u8],
-) -> Result<Connection<MemStore>, Fail> {
-    let (store, book) = opened(alloc, conn)?;
-    let mut store = store;
-    let mut given = Vec::new(alloc);
-    let (ended, _) = serve(alloc, &mut Memory(requests), &mut given, &mut store, book);
-    assert_eq!(rt; ended, Ended::Done);
-    assert_eq!(rt; str::from_utf8(given.as_slice()), str::from_utf8(wanted));
-    Ok(store.release())
+/// The number that a query answers.
+fn counted<S: Alter>(conn: &mut Connection<S>, sql: &str) -> Result<i64, Fail> {
+    Ok(conn.query_row(sql, &[])?.get(0)?)
 }
 
-/// Whether a session over this database gives the replies of these rows. The answer is the database.
-fn judge_rows(
-    rt: &impl Abort,
-    alloc: Global,
-    conn: Connection<MemStore>,
-    text: &str,
-) -> Result<Connection<MemStore>, Fail> {
-    let rows = rows(alloc, text)?;
-    let (requests, replies) = (requests(alloc, &rows)?, replies(alloc, &rows)?);
-    judge(rt, alloc, conn, requests.as_slice(), replies.as_slice())
+/// Sessions over one database: the first requests are answered, statements run, the others are
+/// answered, and a query answers a number. The answer is all replies, and the number.
+#[derive(Clone, Copy)]
+struct Twice<'a> {
+    first: &'a [u8],
+    sql: &'a str,
+    others: &'a [u8],
+    counts: &'a str,
+}
+
+impl Work for Twice<'_> {
+    type Given = (Vec<u8>, i64);
+
+    fn carry_out<S: Alter + Drop>(
+        self,
+        alloc: Global,
+        conn: Connection<S>,
+    ) -> Result<((Vec<u8>, i64), Connection<S>), Fail> {
+        let mut replies = Vec::new(alloc);
+        let mut conn = answer(alloc, conn, self.first, &mut replies)?;
+        run_all(&mut conn, self.sql)?;
+        let mut conn = answer(alloc, conn, self.others, &mut replies)?;
+        let count = counted(&mut conn, self.counts)?;
+        Ok(((replies, count), conn))
+    }
+}
+
+/// Answers requests over a new database. The answer is the replies.
+#[derive(Clone, Copy)]
+struct Session<'a>(&'a [u8]);
+
+impl Work for Session<'_> {
+    type Given = Vec<u8>;
+
+    fn carry_out<S: Alter + Drop>(
+        self,
+        alloc: Global,
+        conn: Connection<S>,
+    ) -> Result<(Vec<u8>, Connection<S>), Fail> {
+        let mut replies = Vec::new(alloc);
+        let conn = answer(alloc, conn, self.0, &mut replies)?;
+        Ok((replies, conn))
+    }
+}
+
+/// Compares the replies of sessions.
+fn compare(rt: &impl Abort, given: &[u8], wanted: &[u8]) {
+    assert_eq!(rt; str::from_utf8(given), str::from_utf8(wanted));
+}
+
+/// Compares what a session over a new database replies to these requests.
+fn judge(rt: &impl Abort, alloc: Global, requests: &[u8], wanted: &[u8]) -> Result<(), Fail> {
+    let given = in_memory(alloc, Session(requests))?;
+    compare(rt, given.as_slice(), wanted);
+    Ok(())
 }
 
 #[test]
 fn sessions_are_answered(rt: HostRuntime) -> Result<(), Fail> {
     let alloc = rt.alloc();
     for text in SESSIONS {
-        judge_rows(&rt, alloc, Connection::open_in_memory(alloc)?, text)?;
+        let rows = rows(alloc, text)?;
+        let (requests, replies) = (requests(alloc, &rows)?, replies(alloc, &rows)?);
+        judge(&rt, alloc, requests.as_slice(), replies.as_slice())?;
     }
     Ok(())
 }
 
+/// Compares what sessions over one database reply to the rows of two texts, between which
+/// statements run, and answers the number of a query.
+fn judge_again(
+    rt: &impl Abort,
+    alloc: Global,
+    before: &str,
+    sql: &str,
+    after: &str,
+    counts: &str,
+) -> Result<i64, Fail> {
+    let (before, after) = (rows(alloc, before)?, rows(alloc, after)?);
+    let (first, others) = (requests(alloc, &before)?, requests(alloc, &after)?);
+    let mut wanted = replies(alloc, &before)?;
+    wanted.extend_from_slice(replies(alloc, &after)?.as_slice())?;
+    let work = Twice {
+        first: first.as_slice(),
+        sql,
+        others: others.as_slice(),
+        counts,
+    };
+    let (given, count) = in_memory(alloc, work)?;
+    compare(rt, given.as_slice(), wanted.as_slice());
+    Ok(count)
+}
+
 #[test]
 fn sessions_over_files_that_are_opened_again_are_answered(rt: HostRuntime) -> Result<(), Fail> {
-    let alloc = rt.alloc();
     for (before, sql, after, counts, count) in AGAIN {
-        let mut conn = judge_rows(&rt, alloc, Connection::open_in_memory(alloc)?, before)?;
-        conn.execute_batch(sql)?;
-        let mut conn = judge_rows(&rt, alloc, conn, after)?;
-        let found: i64 = conn.query_row(counts, params![])?.get(0)?;
+        let found = judge_again(&rt, rt.alloc(), before, sql, after, counts)?;
         assert_eq!(&rt; found, count);
     }
     Ok(())
@@ -247,21 +309,24 @@ fn sessions_over_files_that_are_opened_again_are_answered(rt: HostRuntime) -> Re
 
 #[test]
 fn requests_that_the_end_cuts_are_answered(rt: HostRuntime) -> Result<(), Fail> {
-    let alloc = rt.alloc();
     for (requests, wanted) in CUT {
-        let conn = Connection::open_in_memory(alloc)?;
-        judge(&rt, alloc, conn, requests, wanted.as_bytes())?;
+        judge(&rt, rt.alloc(), requests, wanted.as_bytes())?;
     }
     Ok(())
 }
 
-#[test]
-fn a_session_lets_go_of_its_book(rt: HostRuntime) -> Result<(), Fail> {
-    let alloc = rt.alloc();
+/// How a session ends that lets go of its book, and its replies.
+fn let_go(alloc: Global) -> Result<(Ended, Vec<u8>), Fail> {
     let (store, book) = opened(alloc, Connection::open_in_memory(alloc)?)?;
     let mut given = Vec::new(alloc);
     let ended = run(alloc, &mut Memory(b"supply en"), &mut given, store, book);
+    Ok((ended, given))
+}
+
+#[test]
+fn a_session_lets_go_of_its_book(rt: HostRuntime) -> Result<(), Fail> {
+    let (ended, given) = let_go(rt.alloc())?;
     assert_eq!(&rt; ended, Ended::Done);
-    assert_eq!(&rt; str::from_utf8(given.as_slice()), Ok("ok 1\n"));
+    compare(&rt, given.as_slice(), b"ok 1\n");
     Ok(())
 }

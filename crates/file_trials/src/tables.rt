@@ -1,9 +1,9 @@
-ghost use Rattle.std.specs.Prelude.{◌≡◌, false, OnOk};
-
-use super::lines::{list, puts, read_lines};
+use super::lines::{puts, read_lines};
+use super::tasks::{make, rows, run_all};
+use super::work::{Work, in_memory};
 use desk_book::rows::Put;
-use desk_store::{Fault, make_tables, read_books, read_paras, reopen_after_write, write};
-use sqlite::{Connection, Error, MemStore};
+use desk_store::{Fault, read_books, read_paras, reopen_after_write, write};
+use sqlite::{Alter, Connection, MemStore};
 use std::alloc::Global;
 use std::process::Abort;
 use std::test::Fail;
@@ -22,53 +22,57 @@ pub(crate) fn judge(rt: &impl Abort, given: &str, wanted: &str) {
     assert_eq!(rt; given, wanted);
 }
 
-/// Runs statements that leave no transaction open.
-fn run_all(conn: &mut Connection<MemStore>, sql: &str) -> Result<(), Fail>
-    ensures { OnOk result (conn.new.in_transaction ≡ false) }
-{
-    conn.execute_batch(sql)?;
-    if conn.is_autocommit() {
-        Ok(())
-    } else {
-        Err("in a transaction".into())
-    }
-}
-
 /// Makes the tables, beside the table of notes, and runs further statements.
-fn make(conn: &mut Connection<MemStore>, further: &str) -> Result<(), Fail>
-    ensures { OnOk result (conn.new.in_transaction ≡ false) }
-{
+fn prepare<S: Alter>(conn: &mut Connection<S>, further: &str) -> Result<(), Fail> {
     run_all(conn, NOTES)?;
-    make_tables(conn)?;
+    if !make(conn)? {
+        return Err("the tables can't be made".into());
+    }
     run_all(conn, further)
 }
 
-/// All rows, where the puts before were told to be made.
-fn list_after(
-    alloc: Global,
-    conn: &mut Connection<MemStore>,
-    answer: Result<(), Error>,
-) -> Result<String, Fail> {
-    answer?;
-    Ok(list(alloc, conn).ok_or("the rows can't be listed")?)
+/// Puts these. The answer is whether they were told to be put.
+fn put<S: Alter>(alloc: Global, conn: &mut Connection<S>, puts: &[Put<'_>]) -> Result<bool, Fail> {
+    if !conn.is_autocommit() {
+        return Err("in a transaction".into());
+    }
+    Ok(write(alloc, conn, puts.iter().copied()).is_ok())
 }
 
 /// Makes the tables, runs further statements and puts these.
-fn make_and_put(
+fn put_after<S: Alter>(
     alloc: Global,
-    conn: &mut Connection<MemStore>,
+    conn: &mut Connection<S>,
     further: &str,
     puts: &[Put<'_>],
-) -> Result<String, Fail> {
-    make(conn, further)?;
-    let answer = write(alloc, conn, puts.iter().copied());
-    list_after(alloc, conn, answer)
+) -> Result<(), Fail> {
+    prepare(conn, further)?;
+    if put(alloc, conn, puts)? {
+        Ok(())
+    } else {
+        Err("the rows aren't put".into())
+    }
 }
 
-/// The rows of a new file in which these were put after further statements.
-fn shown_after(alloc: Global, further: &str, puts: &[Put<'_>]) -> Result<String, Fail> {
-    let mut conn = Connection::open_in_memory(alloc)?;
-    make_and_put(alloc, &mut conn, further, puts)
+/// Puts these after further statements. The answer is all rows.
+#[derive(Clone, Copy)]
+struct Putting<'a> {
+    further: &'a str,
+    puts: &'a [Put<'a>],
+}
+
+impl Work for Putting<'_> {
+    type Given = String;
+
+    fn carry_out<S: Alter + Drop>(
+        self,
+        alloc: Global,
+        mut conn: Connection<S>,
+    ) -> Result<(String, Connection<S>), Fail> {
+        put_after(alloc, &mut conn, self.further, self.puts)?;
+        let rows = rows(alloc, &mut conn)?;
+        Ok((rows, conn))
+    }
 }
 
 /// Compares the rows of a new file, in which those of a text are put after further statements.
@@ -81,7 +85,11 @@ fn judge_puts(
 ) -> Result<(), Fail> {
     let lines = read_lines(alloc, rows)?;
     let puts = puts(alloc, &lines)?;
-    judge(rt, shown_after(alloc, further, &puts)?.as_str(), wanted);
+    let work = Putting {
+        further,
+        puts: puts.as_slice(),
+    };
+    judge(rt, in_memory(alloc, work)?.as_str(), wanted);
     Ok(())
 }
 
@@ -208,28 +216,28 @@ note 0 apart
     )
 }
 
-/// Makes the tables, puts an entry, and is refused to put it again with a version.
-fn put_twice(
-    alloc: Global,
-    conn: &mut Connection<MemStore>,
-    entry: &[Put<'_>],
-    again: &[Put<'_>],
-) -> Result<String, Fail> {
-    make(conn, "")?;
-    write(alloc, conn, entry.iter().copied())?;
-    if write(alloc, conn, again.iter().copied()).is_ok() {
-        return Err("the entry was put again".into());
-    }
-    list_after(alloc, conn, Ok(()))
+/// Puts an entry, and is refused to put it again with a version. The answer is all rows.
+#[derive(Clone, Copy)]
+struct Again<'a> {
+    entry: &'a [Put<'a>],
+    again: &'a [Put<'a>],
 }
 
-fn shown_after_refusal(
-    alloc: Global,
-    entry: &[Put<'_>],
-    again: &[Put<'_>],
-) -> Result<String, Fail> {
-    let mut conn = Connection::open_in_memory(alloc)?;
-    put_twice(alloc, &mut conn, entry, again)
+impl Work for Again<'_> {
+    type Given = String;
+
+    fn carry_out<S: Alter + Drop>(
+        self,
+        alloc: Global,
+        mut conn: Connection<S>,
+    ) -> Result<(String, Connection<S>), Fail> {
+        put_after(alloc, &mut conn, "", self.entry)?;
+        if put(alloc, &mut conn, self.again)? {
+            return Err("the entry was put again".into());
+        }
+        let rows = rows(alloc, &mut conn)?;
+        Ok((rows, conn))
+    }
 }
 
 /// Compares the rows of a new file, in which those of a text are put, and others are refused.
@@ -243,11 +251,11 @@ fn judge_refusal(
     let lines = read_lines(alloc, rows)?;
     let others = read_lines(alloc, others)?;
     let (puts, others) = (puts(alloc, &lines)?, puts(alloc, &others)?);
-    judge(
-        rt,
-        shown_after_refusal(alloc, &puts, &others)?.as_str(),
-        wanted,
-    );
+    let work = Again {
+        entry: puts.as_slice(),
+        again: others.as_slice(),
+    };
+    judge(rt, in_memory(alloc, work)?.as_str(), wanted);
     Ok(())
 }
 
@@ -281,27 +289,31 @@ fn a_missing_table_is_refused(rt: HostRuntime) -> Result<(), Fail> {
     Ok(())
 }
 
-/// Puts these, has the store crash and lists what is left.
-fn list_after_crash(
+/// Puts these, and has the store crash and open again. The answer is whether they were told to be
+/// put, and the database.
+fn put_and_crash(
     alloc: Global,
     conn: Connection<MemStore>,
     puts: &[Put<'_>],
-) -> Result<String, Fail>
-    requires { conn.in_transaction ≡ false }
-{
-    let (answer, mut again) = reopen_after_write(alloc, conn, puts.iter().copied()).map_err(|(
-        fault,
-        _,
-    )| fault)?;
-    list_after(alloc, &mut again, answer)
+) -> Result<(bool, Connection<MemStore>), Fail> {
+    if !conn.is_autocommit() {
+        return Err("in a transaction".into());
+    }
+    match reopen_after_write(alloc, conn, puts.iter().copied()) {
+        Ok((answer, again)) => Ok((answer.is_ok(), again)),
+        Err((fault, _)) => Err(fault.into()),
+    }
 }
 
+/// The rows that are left where the store crashes after these were put.
 fn shown_after_crash(alloc: Global, puts: &[Put<'_>]) -> Result<String, Fail> {
     let mut conn = Connection::open_in_memory(alloc)?;
-    match make(&mut conn, "") {
-        Ok(()) => list_after_crash(alloc, conn, puts),
-        Err(fail) => Err(fail),
+    prepare(&mut conn, "")?;
+    let (put, mut again) = put_and_crash(alloc, conn, puts)?;
+    if !put {
+        return Err("the rows aren't put".into());
     }
+    rows(alloc, &mut again)
 }
 
 /// Compares the rows that a crash leaves after those of a text were put.
@@ -328,27 +340,40 @@ note 0 apart
     )
 }
 
-/// Makes the tables where a view has the name of one. The answer is whether they were made, how the books are then read, and what the
-/// view shows.
-fn make_beside_view(
-    alloc: Global,
-    conn: &mut Connection<MemStore>,
-) -> Result<(bool, Option<Fault>, i64), Fail> {
-    run_all(conn, "CREATE VIEW Mark AS SELECT 1 AS one;")?;
-    let made = make_tables(conn).is_ok();
-    let fault = read_books(alloc, conn).err();
-    let one = conn.query_row("SELECT one FROM mark", &[])?.get(0)?;
-    Ok((made, fault, one))
+/// How the books of a file are read.
+fn fault_of_books<S: Alter>(alloc: Global, conn: &mut Connection<S>) -> Option<Fault> {
+    read_books(alloc, conn).err()
 }
 
-fn made_beside_view(alloc: Global) -> Result<(bool, Option<Fault>, i64), Fail> {
-    let mut conn = Connection::open_in_memory(alloc)?;
-    make_beside_view(alloc, &mut conn)
+/// What the view shows.
+fn viewed<S: Alter>(conn: &mut Connection<S>) -> Result<i64, Fail> {
+    Ok(conn.query_row("SELECT one FROM mark", &[])?.get(0)?)
+}
+
+/// Makes the tables where a view has the name of one. The answer is whether they were made, how
+/// the books are then read, and what the view shows.
+#[derive(Clone, Copy)]
+struct BesideView;
+
+impl Work for BesideView {
+    type Given = (bool, Option<Fault>, i64);
+
+    fn carry_out<S: Alter + Drop>(
+        self,
+        alloc: Global,
+        mut conn: Connection<S>,
+    ) -> Result<((bool, Option<Fault>, i64), Connection<S>), Fail> {
+        run_all(&mut conn, "CREATE VIEW Mark AS SELECT 1 AS one;")?;
+        let made = make(&mut conn)?;
+        let fault = fault_of_books(alloc, &mut conn);
+        let one = viewed(&mut conn)?;
+        Ok(((made, fault, one), conn))
+    }
 }
 
 #[test]
 fn a_taken_name_is_refused_and_kept(rt: HostRuntime) -> Result<(), Fail> {
-    let answer = made_beside_view(rt.alloc())?;
+    let answer = in_memory(rt.alloc(), BesideView)?;
     assert!(rt; answer == (false, Some(Fault::Refused), 1));
     Ok(())
 }

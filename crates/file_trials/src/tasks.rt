@@ -1,12 +1,12 @@
-//! What is done with a database in memory: statements, the opening of a book, and changes that are
-//! kept.
+//! What is done with a database: statements, the opening of a book, and changes that are kept.
 
-use super::disks::{Bytes, close, open, whole};
+use super::disks::{Bytes, whole};
 use super::lines::list;
+use super::work::{Work, Worked, in_files};
 use desk_book::{Book, Command};
 use desk_store::{OpenFault, Store, make_tables};
 use sqlite::types::ToSql;
-use sqlite::{Alter, Connection, FileStore, Files};
+use sqlite::{Alter, Connection, Files};
 use sqlite_disk::{Disk, Fuse, Memory};
 use std::alloc::Global;
 use std::test::Fail;
@@ -53,6 +53,25 @@ pub(crate) struct Progress {
     pub(crate) closed: bool,
 }
 
+/// Runs statements.
+pub(crate) fn run_all<S: Alter>(conn: &mut Connection<S>, sql: &str) -> Result<(), Fail> {
+    Ok(conn.execute_batch(sql)?)
+}
+
+/// Puts a table with this text under the name `t`. The answer is how many rows were put.
+fn put_table<S: Alter>(conn: &mut Connection<S>, text: &str) -> Result<usize, Fail> {
+    let body = text.as_bytes();
+    Ok(conn.execute("INSERT INTO tab VALUES ('t', ?1)", &[body.to_sql()])?)
+}
+
+/// Makes the tables of a new book. The answer is whether they were made.
+pub(crate) fn make<S: Alter>(conn: &mut Connection<S>) -> Result<bool, Fail> {
+    if !conn.is_autocommit() {
+        return Err("in a transaction".into());
+    }
+    Ok(make_tables(conn).is_ok())
+}
+
 /// Opens the book of a file on which no transaction is open.
 pub(crate) fn open_book<S: Alter>(
     alloc: Global,
@@ -77,6 +96,20 @@ pub(crate) fn open_sound<S: Alter>(
         Ok(book) => Ok(Some(book)),
         Err(OpenFault::Lost) => Ok(None),
         Err(_) => Err("a sound file is refused".into()),
+    }
+}
+
+/// Whether the book of a file is opened, or made where none is there.
+fn is_opened<S: Alter>(alloc: Global, conn: &mut Connection<S>) -> Result<bool, Fail> {
+    Ok(open_sound(alloc, conn, true)?.is_some())
+}
+
+/// The store of a database on which no transaction is open.
+pub(crate) fn store_over<S: Alter + Drop>(conn: Connection<S>) -> Result<Store<S>, Fail> {
+    if conn.is_autocommit() {
+        Ok(Store::over(conn))
+    } else {
+        Err("in a transaction".into())
     }
 }
 
@@ -117,62 +150,63 @@ fn keep_each<S: Alter>(
     Ok(kept)
 }
 
+/// Keeps what commands change of the book in a database, and answers how many were kept.
+fn keep_over<S: Alter + Drop>(
+    alloc: Global,
+    conn: Connection<S>,
+    book: Book,
+    commands: &[Command],
+) -> Result<(usize, Connection<S>), Fail> {
+    let mut store = store_over(conn)?;
+    let kept = keep_each(alloc, &mut store, book, commands)?;
+    Ok((kept, store.release()))
+}
+
 /// Opens the book and keeps what commands change. The answer is how many were kept.
 fn open_and_keep<S: Alter + Drop>(
     alloc: Global,
     mut conn: Connection<S>,
     commands: &[Command],
 ) -> Result<(usize, Connection<S>), Fail> {
-    let Some(book) = open_sound(alloc, &mut conn, false)? else {
-        return Ok((0, conn));
-    };
-    if !conn.is_autocommit() {
-        return Err("in a transaction".into());
+    match open_sound(alloc, &mut conn, false)? {
+        Some(book) => keep_over(alloc, conn, book, commands),
+        None => Ok((0, conn)),
     }
-    let mut store = Store::over(conn);
-    let kept = keep_each(alloc, &mut store, book, commands)?;
-    Ok((kept, store.release()))
 }
 
-/// Makes the file of a new book. The answer is whether it was made.
-fn make<S: Alter>(conn: &mut Connection<S>) -> Result<bool, Fail> {
-    if !conn.is_autocommit() {
-        return Err("in a transaction".into());
-    }
-    Ok(make_tables(conn).is_ok())
-}
-
-/// Does a task, and answers how many of its steps were told to be done.
-pub(crate) fn carry_out<S: Alter + Drop>(
+/// Does a task that keeps no changes. The answer is whether it was told to be done.
+fn is_done<S: Alter>(
     alloc: Global,
-    mut conn: Connection<S>,
+    conn: &mut Connection<S>,
     task: Task<'_>,
-) -> Result<(usize, Connection<S>), Fail> {
-    let done = match task {
+) -> Result<bool, Fail> {
+    match task {
         Task::Run(sql) => {
-            conn.execute_batch(sql)?;
-            true
+            run_all(conn, sql)?;
+            Ok(true)
         }
-        Task::Table(text) => {
-            let body = text.as_bytes();
-            conn.execute("INSERT INTO tab VALUES ('t', ?1)", &[body.to_sql()])? == 1
-        }
-        Task::Make => make(&mut conn)?,
-        Task::Open => open_sound(alloc, &mut conn, true)?.is_some(),
-        Task::Keep(commands) => return open_and_keep(alloc, conn, commands),
-    };
-    Ok((usize::from(done), conn))
+        Task::Table(text) => Ok(put_table(conn, text)? == 1),
+        Task::Make => make(conn),
+        Task::Open => is_opened(alloc, conn),
+        Task::Keep(_) => Ok(false),
+    }
 }
 
-/// Does a task and closes the files.
-fn carry_out_and_close<D: Disk + Drop>(
-    alloc: Global,
-    conn: Connection<FileStore<D>>,
-    task: Task<'_>,
-) -> Result<(Progress, Files<D>), Fail> {
-    let (steps, conn) = carry_out(alloc, conn, task)?;
-    let (closed, files) = close(conn);
-    Ok((Progress { steps, closed }, files))
+/// Its answer is how many of its steps were told to be done.
+impl Work for Task<'_> {
+    type Given = usize;
+
+    fn carry_out<S: Alter + Drop>(
+        self,
+        alloc: Global,
+        mut conn: Connection<S>,
+    ) -> Result<(usize, Connection<S>), Fail> {
+        if let Task::Keep(commands) = self {
+            return open_and_keep(alloc, conn, commands);
+        }
+        let done = is_done(alloc, &mut conn, self)?;
+        Ok((usize::from(done), conn))
+    }
 }
 
 /// Opens the files, does a task and closes the files.
@@ -181,16 +215,13 @@ pub(crate) fn run<D: Disk + Drop>(
     files: Files<D>,
     task: Task<'_>,
 ) -> Result<(Progress, Files<D>), Fail> {
-    match open(alloc, files) {
-        Ok(conn) => carry_out_and_close(alloc, conn, task),
-        Err(files) => Ok((
-            Progress {
-                steps: 0,
-                closed: false,
-            },
-            files,
-        )),
-    }
+    let Worked {
+        given,
+        closed,
+        files,
+    } = in_files(alloc, files, task)?;
+    let steps = given.unwrap_or(0);
+    Ok((Progress { steps, closed }, files))
 }
 
 /// What files hold after a task that nothing stops.
@@ -233,24 +264,50 @@ pub(crate) fn rows<S: Alter>(alloc: Global, conn: &mut Connection<S>) -> Result<
     Ok(list(alloc, conn).ok_or("the rows can't be listed")?)
 }
 
-/// What a connection shows, whose book is then opened or made.
-fn show<S: Alter + Drop>(alloc: Global, mut conn: Connection<S>) -> Result<View, Fail> {
-    let before = rows(alloc, &mut conn)?;
-    let Some(book) = open_sound(alloc, &mut conn, true)? else {
-        return Err("the store failed with no stop".into());
-    };
+/// The braille of the book of a file, which is opened or made.
+fn opened_braille<S: Alter>(alloc: Global, conn: &mut Connection<S>) -> Result<String, Fail> {
+    match open_sound(alloc, conn, true)? {
+        Some(book) => braille(alloc, &book),
+        None => Err("the store failed with no stop".into()),
+    }
+}
+
+/// What a database shows, whose book is then opened or made.
+fn show<S: Alter>(alloc: Global, conn: &mut Connection<S>) -> Result<View, Fail> {
+    let before = rows(alloc, conn)?;
+    let braille = opened_braille(alloc, conn)?;
+    let opened = rows(alloc, conn)?;
     Ok(View {
         rows: before,
-        opened: rows(alloc, &mut conn)?,
-        braille: braille(alloc, &book)?,
+        opened,
+        braille,
     })
+}
+
+/// Looks at what a database shows.
+#[derive(Clone, Copy)]
+struct Look;
+
+impl Work for Look {
+    type Given = View;
+
+    fn carry_out<S: Alter + Drop>(
+        self,
+        alloc: Global,
+        mut conn: Connection<S>,
+    ) -> Result<(View, Connection<S>), Fail> {
+        let view = show(alloc, &mut conn)?;
+        Ok((view, conn))
+    }
 }
 
 /// What files with these bytes show.
 pub(crate) fn shown(alloc: Global, log: &[u8], db: &[u8]) -> Result<View, Fail> {
     let files: Files<Fuse<Memory>> = whole(alloc, log, db)?;
-    match open(alloc, files) {
-        Ok(conn) => show(alloc, conn),
-        Err(_) => Err("the files can't be opened again".into()),
-    }
+    let Worked {
+        given,
+        closed: _,
+        files: _,
+    } = in_files(alloc, files, Look)?;
+    Ok(given.ok_or("the files can't be opened again")?)
 }
