@@ -847,7 +847,7 @@ ok 9007199254740992 | volume 1 on
 9007199254740992 | version
 no 16 9007199254740992 | @1 strike 1
 no 15 5 | @9007199254740992 strike 1
-no 17 | table T17 foo
+no 17 | table Bad foo
 no 15 1 | table t17 foo
 no 15 1 | table t17
 no 15 5 | table en SMALL

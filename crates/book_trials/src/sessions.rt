@@ -899,8 +899,8 @@ ok 15 | table t15
 ok 16 | table t16
 no 15 1 | table t17
 no 15 1 | table t17 foo
-no 17 | table T17 foo
-no 17 | table T17
+no 17 | table Bad foo
+no 17 | table Bad
 no 8 1 1 | table t16 foo
 ok 17 | table t16 SMALL
 ok 18 1 | type end en ab
