@@ -96,17 +96,19 @@ fn judge(rt: &impl Abort, row: &str, given: &[u8], wanted: &[u8]) {
     assert_eq!(rt; given, wanted, "{row}");
 }
 
+/// Compares what is replied to a row's request.
+fn judge_row(rt: &impl Abort, alloc: Global, book: &mut Book, row: &str) -> Result<(), Fail> {
+    let (request, wanted) = row.split_once(" => ").unwrap_or((row, ""));
+    let wanted = bytes_of(alloc, wanted)?;
+    let given = reply(alloc, book, bytes_of(alloc, request)?.as_slice())?;
+    judge(rt, row, given.as_slice(), wanted.as_slice());
+    Ok(())
+}
+
 /// Compares what is replied to each row's request.
 fn judge_rows(rt: &impl Abort, alloc: Global, book: &mut Book, rows: &str) -> Result<(), Fail> {
     for row in rows.split('\n') {
-        let (request, wanted) = row.split_once(" => ").unwrap_or((row, ""));
-        let given = reply(alloc, book, bytes_of(alloc, request)?.as_slice())?;
-        judge(
-            rt,
-            row,
-            given.as_slice(),
-            bytes_of(alloc, wanted)?.as_slice(),
-        );
+        judge_row(rt, alloc, book, row)?;
     }
     Ok(())
 }
@@ -841,10 +843,15 @@ supply q¶ => no 15 1¶",
     )
 }
 
+/// What is replied to an answer on a new book.
+fn replied_anew(alloc: Global, answer: &Answer) -> Result<Vec<u8>, Fail> {
+    let book = Book::new(alloc)?;
+    replied(alloc, &book, answer)
+}
+
 /// Compares what is replied to an answer on a new book.
 fn judge_answer(rt: &impl Abort, alloc: Global, answer: &Answer, wanted: &str) -> Result<(), Fail> {
-    let book = Book::new(alloc)?;
-    let given = replied(alloc, &book, answer)?;
+    let given = replied_anew(alloc, answer)?;
     judge(rt, wanted, given.as_slice(), wanted.as_bytes());
     Ok(())
 }
@@ -930,13 +937,18 @@ fn judge_breaks(rt: &impl Abort, alloc: Global, book: &Book, answer: &Answer) ->
     Ok(())
 }
 
+/// Judges that the braille of a long paragraph is broken off where a write fails.
+fn judge_long_reply(rt: &impl Abort, alloc: Global, book: &mut Book) -> Result<(), Fail> {
+    let rows = "supply en¶ => ok 1¶\ntype end en {aA×1400}¶ => ok 2 1¶";
+    judge_rows(rt, alloc, book, rows)?;
+    let query = Query::Braille { paragraph: 1 };
+    judge_breaks(rt, alloc, book, &Answer::Asked(query))
+}
+
 #[test]
 fn a_reply_is_broken_off(rt: HostRuntime) -> Result<(), Fail> {
     let mut book = Book::new(rt.alloc())?;
-    let rows = "supply en¶ => ok 1¶\ntype end en {aA×1400}¶ => ok 2 1¶";
-    judge_rows(&rt, rt.alloc(), &mut book, rows)?;
-    let query = Query::Braille { paragraph: 1 };
-    judge_breaks(&rt, rt.alloc(), &book, &Answer::Asked(query))
+    judge_long_reply(&rt, rt.alloc(), &mut book)
 }
 
 #[test]

@@ -4,7 +4,7 @@
 //! `h` for body or heading, `v` where it begins a volume, `x` where it is struck, `7` where its table gives the letter a
 //! the dots 1 and 7. The answer is the number of pages and the bytes, where `|` stands for CR LF, `^` for a form feed, and
 //! `{a×3}` for `aaa`; or the number of a fault.
-use desk_book::{Anchor, Book, Bytes, Command, Style, Text};
+use desk_book::{Anchor, Book, Bytes, Command, Refusal, Style, Text};
 use desk_brf::{ExportFault, Layout, export};
 use louis_table::EN;
 use std::alloc::{AllocError, Global};
@@ -77,68 +77,85 @@ fn bytes_of(alloc: Global, written: &str) -> Result<Vec<u8>, Fail> {
     Ok(bytes)
 }
 
+/// The book after a command that it accepts.
+fn after(alloc: Global, book: Book, command: &Command) -> Result<Book, Refusal> {
+    match book.plan(alloc, command, None) {
+        Ok(change) => Ok(book.settle(change)),
+        Err(refusal) => Err(refusal),
+    }
+}
+
 /// Carries out a command that the book accepts.
 fn carry_out(alloc: Global, book: &mut Book, command: &Command) -> Result<(), Fail> {
     let old = mem::replace(book, Book::new(alloc)?);
-    let change = old.plan(alloc, command, None)?;
-    *book = old.settle(change);
+    *book = after(alloc, old, command)?;
     Ok(())
 }
 
 /// The command that adds a table.
-fn table(alloc: Global, name: &str, text: &str) -> Result<Command, Fail> {
-    let text = Bytes::from_vec(Vec::from_slice(alloc, text.as_bytes())?);
-    let name = Text::from_string(String::from_str(alloc, name)?);
-    Ok(Command::Table { name, text })
+fn table(name: String, text: String) -> Command {
+    Command::Table {
+        name: Text::from_string(name),
+        text: Bytes::from_vec(text.into_bytes()),
+    }
+}
+
+/// Adds a table.
+fn supply(alloc: Global, book: &mut Book, name: &str, text: &str) -> Result<(), Fail> {
+    let text = String::from_str(alloc, text)?;
+    let command = table(String::from_str(alloc, name)?, text);
+    carry_out(alloc, book, &command)
 }
 
 /// The command that types a paragraph after the others.
-fn type_in(alloc: Global, flags: &str, written: &str) -> Result<Command, Fail> {
-    let name = if flags.contains('7') { "seven" } else { "en" };
-    let table = Text::from_string(String::from_str(alloc, name)?);
-    let text = Text::from_string(text_of(alloc, written)?);
-    let after = Anchor::End;
-    Ok(Command::TypeIn { after, table, text })
+fn type_in(table: String, text: String) -> Command {
+    Command::TypeIn {
+        after: Anchor::End,
+        table: Text::from_string(table),
+        text: Text::from_string(text),
+    }
 }
 
-/// The commands that give a paragraph what its flags say.
-fn commands(paragraph: u64, flags: &str) -> [Option<Command>; 3] {
+/// Types a paragraph after the others.
+fn type_text(alloc: Global, book: &mut Book, flags: &str, written: &str) -> Result<(), Fail> {
+    let name = if flags.contains('7') { "seven" } else { "en" };
+    let text = text_of(alloc, written)?;
+    let command = type_in(String::from_str(alloc, name)?, text);
+    carry_out(alloc, book, &command)
+}
+
+/// Gives a paragraph what a flag says.
+fn flag(alloc: Global, book: &mut Book, paragraph: u64, flag: char) -> Result<(), Fail> {
     let style = Style::Heading;
-    [
-        flags
-            .contains('h')
-            .then_some(Command::Style { paragraph, style }),
-        flags.contains('v').then_some(Command::Volume {
-            paragraph,
-            begins: true,
-        }),
-        flags.contains('x').then_some(Command::Strike { paragraph }),
-    ]
+    let begins = true;
+    match flag {
+        'h' => carry_out(alloc, book, &Command::Style { paragraph, style }),
+        'v' => carry_out(alloc, book, &Command::Volume { paragraph, begins }),
+        'x' => carry_out(alloc, book, &Command::Strike { paragraph }),
+        _ => Ok(()),
+    }
 }
 
 /// Types a paragraph, and gives it what its flags say.
 fn add(alloc: Global, book: &mut Book, id: u64, written: &str) -> Result<(), Fail> {
     let (flags, text) = cut(written, " ");
-    carry_out(alloc, book, &type_in(alloc, flags, text)?)?;
-    for command in commands(id, flags) {
-        if let Some(command) = command {
-            carry_out(alloc, book, &command)?;
-        }
+    type_text(alloc, book, flags, text)?;
+    for each in flags.chars() {
+        flag(alloc, book, id, each)?;
     }
     Ok(())
 }
 
-/// The book of a row's paragraphs.
-fn book_of(alloc: Global, written: &str) -> Result<Book, Fail> {
-    let mut book = Book::new(alloc)?;
-    carry_out(alloc, &mut book, &table(alloc, "en", EN)?)?;
-    carry_out(alloc, &mut book, &table(alloc, "seven", SEVEN)?)?;
+/// Gives a new book its tables and the paragraphs of a row.
+fn fill(alloc: Global, book: &mut Book, written: &str) -> Result<(), Fail> {
+    supply(alloc, book, "en", EN)?;
+    supply(alloc, book, "seven", SEVEN)?;
     let mut id: u64 = 1;
     for paragraph in written.split(" / ") {
-        add(alloc, &mut book, id, paragraph)?;
+        add(alloc, book, id, paragraph)?;
         id = id.saturating_add(1);
     }
-    Ok(book)
+    Ok(())
 }
 
 /// The answer of an export, as rows have it.
@@ -153,21 +170,58 @@ fn answer(alloc: Global, exported: Result<u64, ExportFault>) -> Result<String, A
     }
 }
 
-/// Compares what a row's export answers and writes.
-fn judge(rt: &impl Abort, alloc: Global, row: &str, room: usize) -> Result<(), Fail> {
-    let (asked, wanted) = cut(row, " => ");
+/// The layout that a row names.
+fn layout(width: &str, lines: &str) -> Result<Layout, Fail> {
+    Ok(Layout::new(width.parse()?, lines.parse()?)?)
+}
+
+/// Gives a new book a row's paragraphs, and exports the volume that the row asks for.
+fn exported(
+    alloc: Global,
+    book: &mut Book,
+    asked: &str,
+    sink: &mut Limited,
+) -> Result<Result<u64, ExportFault>, Fail> {
     let (width, asked) = cut(asked, " ");
     let (lines, asked) = cut(asked, " ");
     let (volume, paragraphs) = cut(asked, " ");
-    let book = book_of(alloc, paragraphs)?;
-    let layout = Layout::new(width.parse()?, lines.parse()?)?;
-    let mut sink = Limited::new(alloc, room);
-    let exported = export(&book, &layout, volume.parse()?, &mut sink);
+    let layout = layout(width, lines)?;
+    let volume = volume.parse()?;
+    fill(alloc, book, paragraphs)?;
+    Ok(export(book, &layout, volume, sink))
+}
+
+/// What a sink takes of the volume that a row asks for, and how the export ends.
+fn sent(alloc: Global, asked: &str, sink: &mut Limited) -> Result<Result<u64, ExportFault>, Fail> {
+    let mut book = Book::new(alloc)?;
+    exported(alloc, &mut book, asked, sink)
+}
+
+/// Compares texts.
+fn judge_text(rt: &impl Abort, row: &str, given: &str, wanted: &str) {
+    assert_eq!(rt; given, wanted, "{row}");
+}
+
+/// Compares bytes.
+fn judge_bytes(rt: &impl Abort, row: &str, given: &[u8], wanted: &[u8]) {
+    assert_eq!(rt; given, wanted, "{row}");
+}
+
+/// Compares what a row's export answers and writes.
+fn judge_row(rt: &impl Abort, alloc: Global, row: &str, sink: &mut Limited) -> Result<(), Fail> {
+    let (asked, wanted) = cut(row, " => ");
     let (number, written) = cut(wanted, ": ");
-    assert_eq!(rt; answer(alloc, exported)?.as_str(), number, "{row}");
+    let exported = sent(alloc, asked, sink)?;
+    judge_text(rt, row, answer(alloc, exported)?.as_str(), number);
     let bytes = bytes_of(alloc, written)?;
-    assert_eq!(rt; sink.bytes.as_slice(), bytes.as_slice(), "{row}");
+    judge_bytes(rt, row, sink.bytes.as_slice(), bytes.as_slice());
     Ok(())
+}
+
+/// Compares what the export of a row answers and writes to a sink with room for all.
+fn judge(rt: &impl Abort, alloc: Global, row: &str) -> Result<(), Fail> {
+    let mut sink = Limited::new(alloc, usize::MAX);
+    judge_row(rt, alloc, row, &mut sink)
 }
 
 #[test]
@@ -204,44 +258,63 @@ fn exports_volumes(rt: HostRuntime) -> Result<(), Fail> {
         10 5 1 b abcd efg => 1:   ABCD EFG||||        #A|^\n\
         10 5 1 b abcd efgh => 1:   ABCD|EFGH|||        #A|^";
     for row in rows.split('\n') {
-        judge(&rt, rt.alloc(), row, usize::MAX)?;
+        judge(&rt, rt.alloc(), row)?;
+    }
+    Ok(())
+}
+
+/// Judges how the page of a row ends in a volume.
+fn judge_page(rt: &impl Abort, alloc: Global, volume: &[u8], row: &str) -> Result<(), Fail> {
+    let (page, written) = cut(row, " ");
+    let end = bytes_of(alloc, written)?;
+    let page = volume.split(|byte| *byte == 0x0C).nth(page.parse()?);
+    assert!(rt;
+        page.is_some_and(|page| page.ends_with(end.as_slice())),
+        "{row}"
+    );
+    Ok(())
+}
+
+/// Judges the numbers of pages in a volume of a hundred.
+fn judge_numbers(rt: &impl Abort, alloc: Global, sink: &mut Limited) -> Result<(), Fail> {
+    let exported = sent(alloc, "10 5 1 b {abcdefg ×400}", sink)?;
+    judge_text(rt, "pages", answer(alloc, exported)?.as_str(), "100");
+    for row in "8 |        #I|\n9 |       #AJ|\n98 |       #II|\n99 |      #AJJ|".split('\n') {
+        judge_page(rt, alloc, sink.bytes.as_slice(), row)?;
     }
     Ok(())
 }
 
 #[test]
 fn numbers_pages(rt: HostRuntime) -> Result<(), Fail> {
-    let book = book_of(rt.alloc(), "b {abcdefg ×400}")?;
-    let layout = Layout::new(10, 5)?;
     let mut sink = Limited::new(rt.alloc(), usize::MAX);
-    assert_eq!(&rt; export(&book, &layout, 1, &mut sink).ok(), Some(100));
-    for (page, number) in [
-        (8, "\r\n        #I\r\n"),
-        (9, "\r\n       #AJ\r\n"),
-        (98, "\r\n       #II\r\n"),
-        (99, "\r\n      #AJJ\r\n"),
-    ] {
-        let text = sink.bytes.split(|byte| *byte == 0x0C).nth(page);
-        assert!(&rt;
-            text.is_some_and(|page| page.ends_with(number.as_bytes())),
-            "{page}"
-        );
+    judge_numbers(&rt, rt.alloc(), &mut sink)
+}
+
+/// Judges what a sink takes of a volume for all of which it has no room.
+fn judge_cut(rt: &impl Abort, book: &Book, layout: &Layout, sink: &mut Limited, wanted: &[u8]) {
+    let exported = export(book, layout, 1, sink);
+    assert_eq!(rt; exported, Err(ExportFault::Write), "{}", wanted.len());
+    judge_bytes(rt, "a write failed", sink.bytes.as_slice(), wanted);
+}
+
+/// Judges what sinks take of a volume, with room for each number of bytes below all.
+fn judge_cuts(rt: &impl Abort, alloc: Global, book: &mut Book) -> Result<(), Fail> {
+    fill(alloc, book, "b a / b b / b c / h d")?;
+    let layout = Layout::new(10, 5)?;
+    let whole = bytes_of(alloc, "  A|  B|  C||        #A|^    D||||        #B|^")?;
+    let whole = whole.as_slice();
+    for room in 0..whole.len() {
+        let mut sink = Limited::new(alloc, room);
+        judge_cut(rt, book, &layout, &mut sink, &whole[..room]);
     }
     Ok(())
 }
 
 #[test]
 fn begins_until_a_write_fails(rt: HostRuntime) -> Result<(), Fail> {
-    let book = book_of(rt.alloc(), "b a / b b / b c / h d")?;
-    let layout = Layout::new(10, 5)?;
-    let whole = bytes_of(rt.alloc(), "  A|  B|  C||        #A|^    D||||        #B|^")?;
-    for room in 0..whole.len() {
-        let mut sink = Limited::new(rt.alloc(), room);
-        let exported = export(&book, &layout, 1, &mut sink);
-        assert_eq!(&rt; exported, Err(ExportFault::Write), "{room}");
-        assert_eq!(&rt; sink.bytes.as_slice(), &whole[..room], "{room}");
-    }
-    Ok(())
+    let mut book = Book::new(rt.alloc())?;
+    judge_cuts(&rt, rt.alloc(), &mut book)
 }
 
 #[test]

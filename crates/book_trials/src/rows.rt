@@ -3,13 +3,14 @@
 //! The rows stand in texts, one to a line: the name of a table and the columns behind it, apart by one blank, where `_` is a text with no
 //! character and a mask of a cell is a number. In a text a pilcrow is a line feed, a section sign a carriage return, a currency sign
 //! U+0000, an open box a blank, and `{a×3}` is `aaa`. A case changes the rows of one book: what begins with `-` takes out the rows that
-//! begin so, the rest are further rows. Its answer is the number of the table and the id that are told, or `ok`.
+//! begin so, and the rest are further rows; `each FIRST LAST` before a row makes one for each number of that range, where `#` is the
+//! number and `%` falls while it grows. Its answer is the number of the table and the id that are told, or `ok`.
 use super::sessions::{judge, judge_rows, text_of};
 use desk_book::Book;
 use desk_book::parts::{EntryRows, FileTable, Parts, PartsFault};
 use desk_book::rows::{CacheRow, CorrRow, MarkRow, NamedCorrRow, ParaRow, StoredTab, TabRow};
 use louis_table::EN;
-use std::alloc::Global;
+use std::alloc::{AllocError, Global};
 use std::process::Abort;
 use std::test::Fail;
 
@@ -97,41 +98,45 @@ mark 2 1 3 4 x 0 1";
 
 /// What the file of a book has.
 #[derive(Clone, Copy)]
-enum Form {
-    /// The first format, whose entries have no names, without the braille.
-    First,
-    /// The first format, with the braille.
-    FirstWithCells,
-    /// The second format, without the braille.
-    Second,
-    /// The second format, with the braille.
-    SecondWithCells,
+struct Form {
+    /// Whether the entries have names: so in the second format, and not in the first.
+    has_names: bool,
+    /// Whether the file has the braille.
+    has_cells: bool,
 }
+
+/// The first format without the braille.
+const FIRST: Form = Form {
+    has_names: false,
+    has_cells: false,
+};
+
+/// The first format with the braille.
+const FIRST_WITH_CELLS: Form = Form {
+    has_names: false,
+    has_cells: true,
+};
+
+/// The second format without the braille.
+const SECOND: Form = Form {
+    has_names: true,
+    has_cells: false,
+};
+
+/// The second format with the braille.
+const SECOND_WITH_CELLS: Form = Form {
+    has_names: true,
+    has_cells: true,
+};
 
 /// The forms of a file.
-const FORMS: [Form; 4] = [
-    Form::First,
-    Form::FirstWithCells,
-    Form::Second,
-    Form::SecondWithCells,
-];
+const FORMS: [Form; 4] = [FIRST, FIRST_WITH_CELLS, SECOND, SECOND_WITH_CELLS];
 
 /// The forms of a file that has the braille.
-const WITH_CELLS: [Form; 2] = [Form::FirstWithCells, Form::SecondWithCells];
+const WITH_CELLS: [Form; 2] = [FIRST_WITH_CELLS, SECOND_WITH_CELLS];
 
 /// The forms of a file of the second format.
-const NAMED: [Form; 2] = [Form::Second, Form::SecondWithCells];
-
-/// The rows of a book, table by table.
-#[derive(Drop)]
-struct Rows {
-    version: i64,
-    tabs: Vec<StoredTab>,
-    paras: Vec<ParaRow>,
-    entries: Vec<NamedCorrRow>,
-    marks: Vec<MarkRow>,
-    caches: Vec<CacheRow>,
-}
+const NAMED: [Form; 2] = [SECOND, SECOND_WITH_CELLS];
 
 /// The word at an index of a line, from 0.
 fn word(line: &str, at: usize) -> &str {
@@ -183,16 +188,20 @@ fn para(alloc: Global, line: &str) -> Result<ParaRow, Fail> {
     })
 }
 
-fn entry(alloc: Global, line: &str) -> Result<NamedCorrRow, Fail> {
+fn entry(alloc: Global, line: &str) -> Result<CorrRow, Fail> {
+    Ok(CorrRow {
+        para: number(line, 1),
+        seq: number(line, 2),
+        kind: number(line, 3),
+        start: number(line, 4),
+        len: number(line, 5),
+        body: text(alloc, line, 6)?,
+    })
+}
+
+fn named_entry(alloc: Global, line: &str) -> Result<NamedCorrRow, Fail> {
     Ok(NamedCorrRow {
-        entry: CorrRow {
-            para: number(line, 1),
-            seq: number(line, 2),
-            kind: number(line, 3),
-            start: number(line, 4),
-            len: number(line, 5),
-            body: text(alloc, line, 6)?,
-        },
+        entry: entry(alloc, line)?,
         who: text(alloc, line, 7)?,
     })
 }
@@ -222,63 +231,79 @@ fn cache(alloc: Global, line: &str) -> Result<CacheRow, Fail> {
     })
 }
 
-impl Rows {
-    /// Adds the row of a line.
-    fn add(&mut self, alloc: Global, line: &str) -> Result<(), Fail> {
-        match word(line, 0) {
-            "version" => self.version = number(line, 1),
-            "tab" => {
-                let rowid = self.tabs.len() as i64 - 1;
-                self.tabs.push(tab(alloc, line, rowid)?)?;
-            }
-            "para" => self.paras.push(para(alloc, line)?)?,
-            "entry" => self.entries.push(entry(alloc, line)?)?,
-            "mark" => self.marks.push(mark(alloc, line)?)?,
-            "cache" => self.caches.push(cache(alloc, line)?)?,
-            _ => {}
-        }
-        Ok(())
-    }
-
-    /// What a file of this form holds.
-    fn parts(self, alloc: Global, form: Form) -> Result<Parts, Fail> {
-        let (named, cells) = match form {
-            Form::First => (false, false),
-            Form::FirstWithCells => (false, true),
-            Form::Second => (true, false),
-            Form::SecondWithCells => (true, true),
-        };
-        let Rows {
-            version,
-            tabs,
-            paras,
-            entries,
-            marks,
-            caches,
-        } = self;
-        let entries = if named {
-            EntryRows::Named(entries)
-        } else {
-            EntryRows::Unnamed(unnamed(alloc, entries)?)
-        };
-        Ok(Parts {
-            version,
-            tabs,
-            paras,
-            entries,
-            marks,
-            cache: if cells { Some(caches) } else { None },
-        })
-    }
+/// Adds the row of a table.
+fn add_tab(alloc: Global, tabs: &mut Vec<StoredTab>, line: &str) -> Result<(), Fail> {
+    let rowid = tabs.len() as i64 - 1;
+    tabs.push(tab(alloc, line, rowid)?)?;
+    Ok(())
 }
 
-/// The entries without their names.
-fn unnamed(alloc: Global, named: Vec<NamedCorrRow>) -> Result<Vec<CorrRow>, Fail> {
-    let mut entries = Vec::new(alloc);
-    for row in named {
-        entries.push(row.entry)?;
+/// Adds the row of an entry, in the format of the others.
+fn add_entry(alloc: Global, entries: &mut EntryRows, line: &str) -> Result<(), Fail> {
+    match entries {
+        EntryRows::Unnamed(rows) => rows.push(entry(alloc, line)?)?,
+        EntryRows::Named(rows) => rows.push(named_entry(alloc, line)?)?,
     }
-    Ok(entries)
+    Ok(())
+}
+
+/// Adds the braille of a paragraph where the file has it.
+fn add_cache(alloc: Global, rows: &mut Option<Vec<CacheRow>>, line: &str) -> Result<(), Fail> {
+    match rows {
+        Some(rows) => rows.push(cache(alloc, line)?)?,
+        None => {}
+    }
+    Ok(())
+}
+
+/// Adds the row of a line.
+fn add(alloc: Global, parts: &mut Parts, line: &str) -> Result<(), Fail> {
+    match word(line, 0) {
+        "version" => parts.version = number(line, 1),
+        "tab" => add_tab(alloc, &mut parts.tabs, line)?,
+        "para" => parts.paras.push(para(alloc, line)?)?,
+        "entry" => add_entry(alloc, &mut parts.entries, line)?,
+        "mark" => parts.marks.push(mark(alloc, line)?)?,
+        "cache" => add_cache(alloc, &mut parts.cache, line)?,
+        _ => {}
+    }
+    Ok(())
+}
+
+/// Adds the row of a line in which `#` is a number, and `%` one of the same range that falls while the number grows.
+fn add_numbered(
+    alloc: Global,
+    parts: &mut Parts,
+    line: &str,
+    number: i64,
+    falling: i64,
+) -> Result<(), Fail> {
+    let number = format!(in alloc; "{number}")?;
+    let falling = format!(in alloc; "{falling}")?;
+    let line = line.replace(alloc, "#", number.as_str())?;
+    let line = line.as_str().replace(alloc, "%", falling.as_str())?;
+    add(alloc, parts, line.as_str())
+}
+
+/// Adds a row for each number of a range.
+fn add_each(alloc: Global, parts: &mut Parts, change: &str) -> Result<(), Fail> {
+    let (first, rest) = change.split_once(' ').unwrap_or((change, ""));
+    let (last, line) = rest.split_once(' ').unwrap_or((rest, ""));
+    let first: i64 = first.parse()?;
+    let last: i64 = last.parse()?;
+    for number in first..=last {
+        let falling = first.saturating_add(last).saturating_sub(number);
+        add_numbered(alloc, parts, line, number, falling)?;
+    }
+    Ok(())
+}
+
+/// Adds the further rows of a change.
+fn add_change(alloc: Global, parts: &mut Parts, change: &str) -> Result<(), Fail> {
+    match change.strip_prefix("each ") {
+        Some(rest) => add_each(alloc, parts, rest),
+        None => add(alloc, parts, change),
+    }
 }
 
 /// Whether a change takes out the row of a line.
@@ -293,46 +318,72 @@ fn is_taken_out(line: &str, changes: &str) -> bool {
     false
 }
 
-/// The rows of the first book with these changes.
-fn rows_with(alloc: Global, changes: &str) -> Result<Rows, Fail> {
-    changed(alloc, ROWS, changes)
-}
-
-/// Rows with these changes.
-fn changed(alloc: Global, lines: &str, changes: &str) -> Result<Rows, Fail> {
-    let mut rows = Rows {
-        version: 0,
-        tabs: Vec::new(alloc),
-        paras: Vec::new(alloc),
-        entries: Vec::new(alloc),
-        marks: Vec::new(alloc),
-        caches: Vec::new(alloc),
-    };
+/// Adds the rows of lines with these changes.
+fn add_all(alloc: Global, parts: &mut Parts, lines: &str, changes: &str) -> Result<(), Fail> {
     for line in lines.split('\n') {
         if !is_taken_out(line, changes) {
-            rows.add(alloc, line)?;
+            add(alloc, parts, line)?;
         }
     }
     for change in changes.split(';') {
-        rows.add(alloc, change)?;
+        add_change(alloc, parts, change)?;
     }
-    Ok(rows)
+    Ok(())
+}
+
+/// What a file of this form holds that has no row.
+fn empty(alloc: Global, form: Form) -> Parts {
+    let entries = if form.has_names {
+        EntryRows::Named(Vec::new(alloc))
+    } else {
+        EntryRows::Unnamed(Vec::new(alloc))
+    };
+    Parts {
+        version: 0,
+        tabs: Vec::new(alloc),
+        paras: Vec::new(alloc),
+        entries,
+        marks: Vec::new(alloc),
+        cache: form.has_cells.then_some(Vec::new(alloc)),
+    }
+}
+
+/// What a file of this form holds that has these lines with these changes.
+fn parts_of(alloc: Global, form: Form, lines: &str, changes: &str) -> Result<Parts, Fail> {
+    let mut parts = empty(alloc, form);
+    match add_all(alloc, &mut parts, lines, changes) {
+        Ok(()) => Ok(parts),
+        Err(fail) => Err(fail),
+    }
 }
 
 /// What is told of rows, in which the table of entries has the number 4 in either format.
-fn told(alloc: Global, parts: Parts) -> Result<String, Fail> {
-    let told = match Book::rebuild(alloc, parts) {
-        Ok(_) => String::from_str(alloc, "ok")?,
-        Err(
+fn told(alloc: Global, fault: Option<PartsFault>) -> Result<String, AllocError> {
+    match fault {
+        None => String::from_str(alloc, "ok"),
+        Some(
             PartsFault::Damaged {
                 table: FileTable::NamedCorr,
                 id,
             },
-        ) => format!(in alloc; "4 {id}")?,
-        Err(PartsFault::Damaged { table, id }) => format!(in alloc; "{} {id}", table.number())?,
-        Err(PartsFault::NoMemory) => String::from_str(alloc, "no memory")?,
-    };
-    Ok(told)
+        ) => format!(in alloc; "4 {id}"),
+        Some(PartsFault::Damaged { table, id }) => format!(in alloc; "{} {id}", table.number()),
+        Some(PartsFault::NoMemory) => String::from_str(alloc, "no memory"),
+    }
+}
+
+/// Compares what is told of a case of a book in a form.
+fn judge_case(
+    rt: &impl Abort,
+    alloc: Global,
+    book: &str,
+    form: Form,
+    case: &str,
+) -> Result<(), Fail> {
+    let (wanted, changes) = case.split_once(" | ").unwrap_or((case, ""));
+    let fault = Book::rebuild(alloc, parts_of(alloc, form, book, changes)?).err();
+    judge(rt, case, told(alloc, fault)?.as_str(), wanted);
+    Ok(())
 }
 
 /// Compares what is told of the cases of a book in these forms.
@@ -344,28 +395,32 @@ fn judge_cases(
     cases: &str,
 ) -> Result<(), Fail> {
     for case in cases.split('\n') {
-        let (wanted, changes) = case.split_once(" | ").unwrap_or((case, ""));
         for form in forms {
-            let parts = changed(alloc, book, changes)?.parts(alloc, *form)?;
-            judge(rt, case, told(alloc, parts)?.as_str(), wanted);
+            judge_case(rt, alloc, book, *form, case)?;
         }
     }
     Ok(())
 }
 
+/// Compares the answers of a session that begins with the book of these rows.
+fn judge_from(
+    rt: &impl Abort,
+    alloc: Global,
+    form: Form,
+    rows: &str,
+    answers: &str,
+) -> Result<(), Fail> {
+    let mut book = Book::rebuild(alloc, parts_of(alloc, form, rows, "")?)?;
+    judge_rows(rt, alloc, &mut book, answers)
+}
+
 #[test]
 fn rows_make_their_book(rt: HostRuntime) -> Result<(), Fail> {
-    let alloc = rt.alloc();
-    let parts = rows_with(alloc, "")?.parts(alloc, Form::SecondWithCells)?;
-    let book = Book::rebuild(alloc, parts).ok();
-    assert!(rt; book.is_some());
-    let Some(mut book) = book else {
-        return Ok(());
-    };
-    judge_rows(
+    judge_from(
         &rt,
-        alloc,
-        &mut book,
+        rt.alloc(),
+        SECOND_WITH_CELLS,
+        ROWS,
         "\
 9 | version
 2 t heading volume live 4, 1 t body - live 2, 3 t body - struck 1,  | list
@@ -658,112 +713,32 @@ fn the_first_of_two_damages_is_told(rt: HostRuntime) -> Result<(), Fail> {
     )
 }
 
-impl Rows {
-    /// Adds paragraphs with these ids in reverse order, and their braille.
-    fn add_paras(&mut self, alloc: Global, first: i64, last: i64) -> Result<(), Fail> {
-        for id in first..=last {
-            self.paras.push(ParaRow {
-                id,
-                place: first.saturating_add(last).saturating_sub(id),
-                tab: String::from_str(alloc, "t")?,
-                original: String::from_str(alloc, "a")?,
-                print: String::from_str(alloc, "a")?,
-                style: 0,
-                volume: 0,
-                struck: 0,
-            })?;
-            self.caches.push(CacheRow {
-                para: id,
-                cells: vec![in alloc; 1u8]?,
-            })?;
-        }
-        Ok(())
-    }
-
-    /// Adds corrections of a paragraph that change nothing, with these numbers.
-    fn add_entries(&mut self, alloc: Global, para: i64, first: i64, last: i64) -> Result<(), Fail> {
-        for seq in first..=last {
-            self.entries.push(NamedCorrRow {
-                entry: CorrRow {
-                    para,
-                    seq,
-                    kind: 0,
-                    start: 0,
-                    len: 0,
-                    body: String::new(alloc),
-                },
-                who: String::new(alloc),
-            })?;
-        }
-        Ok(())
-    }
-
-    /// Adds marks of the second paragraph with these ids.
-    fn add_marks(&mut self, alloc: Global, first: i64, last: i64) -> Result<(), Fail> {
-        for id in first..=last {
-            self.marks.push(MarkRow {
-                id,
-                para: 2,
-                start: 0,
-                stop: 1,
-                note: String::new(alloc),
-                touched: 0,
-                resolved: 0,
-            })?;
-        }
-        Ok(())
-    }
-}
-
-/// Compares what is told of rows in the second format with their braille.
-fn judge_told(rt: &impl Abort, alloc: Global, rows: Rows, wanted: &str) -> Result<(), Fail> {
-    let parts = rows.parts(alloc, Form::SecondWithCells)?;
-    judge(rt, wanted, told(alloc, parts)?.as_str(), wanted);
-    Ok(())
-}
-
 #[test]
-fn a_file_has_20000_paragraphs(rt: HostRuntime) -> Result<(), Fail> {
-    let mut rows = rows_with(rt.alloc(), "")?;
-    rows.add_paras(rt.alloc(), 4, 20_000)?;
-    judge_told(&rt, rt.alloc(), rows, "ok")?;
-    let mut rows = rows_with(rt.alloc(), "")?;
-    rows.add_paras(rt.alloc(), 4, 20_001)?;
-    judge_told(&rt, rt.alloc(), rows, "3 20001")
-}
-
-#[test]
-fn a_history_in_a_file_has_10000_entries(rt: HostRuntime) -> Result<(), Fail> {
-    let mut rows = rows_with(rt.alloc(), "")?;
-    rows.add_entries(rt.alloc(), 3, 1, 10_000)?;
-    judge_told(&rt, rt.alloc(), rows, "ok")?;
-    let mut rows = rows_with(rt.alloc(), "")?;
-    rows.add_entries(rt.alloc(), 3, 1, 10_001)?;
-    judge_told(&rt, rt.alloc(), rows, "4 3")
+fn a_file_has_as_many_rows_as_a_book(rt: HostRuntime) -> Result<(), Fail> {
+    judge_cases(
+        &rt,
+        rt.alloc(),
+        ROWS,
+        &[SECOND_WITH_CELLS],
+        "\
+ok | each 4 20000 para # % t a a 0 0 0;each 4 20000 cache # 1
+3 20001 | each 4 20001 para # % t a a 0 0 0;each 4 20001 cache # 1
+ok | each 1 10000 entry 3 # 0 0 0 _ _
+4 3 | each 1 10001 entry 3 # 0 0 0 _ _
+ok | each 3 100000 mark # 2 0 1 _ 0 0
+5 100001 | each 3 100001 mark # 2 0 1 _ 0 0",
+    )
 }
 
 #[test]
 fn a_print_at_its_limit_has_10000_entries(rt: HostRuntime) -> Result<(), Fail> {
-    let mut rows = rows_with(rt.alloc(), "para 4 4 t {a×4000} {a×4000} 0 0 0")?;
-    rows.add_entries(rt.alloc(), 4, 1, 10_000)?;
-    let parts = rows.parts(rt.alloc(), Form::Second)?;
-    judge(
+    judge_cases(
         &rt,
-        "10,000 entries",
-        told(rt.alloc(), parts)?.as_str(),
-        "ok",
-    );
-    Ok(())
-}
-
-#[test]
-fn a_file_has_100000_marks(rt: HostRuntime) -> Result<(), Fail> {
-    let mut rows = rows_with(rt.alloc(), "")?;
-    rows.add_marks(rt.alloc(), 3, 100_000)?;
-    judge_told(&rt, rt.alloc(), rows, "ok")?;
-    let mut rows = rows_with(rt.alloc(), "")?;
-    rows.add_marks(rt.alloc(), 3, 100_001)?;
-    judge_told(&rt, rt.alloc(), rows, "5 100001")
+        rt.alloc(),
+        ROWS,
+        &[SECOND],
+        "ok | para 4 4 t {a×4000} {a×4000} 0 0 0;each 1 10000 entry 4 # 0 0 0 _ _",
+    )
 }
 
 #[test]
@@ -801,17 +776,11 @@ ok
 
 #[test]
 fn rows_make_the_book_of_a_mark_that_moved(rt: HostRuntime) -> Result<(), Fail> {
-    let alloc = rt.alloc();
-    let parts = changed(alloc, MARKED, "")?.parts(alloc, Form::FirstWithCells)?;
-    let book = Book::rebuild(alloc, parts).ok();
-    assert!(rt; book.is_some());
-    let Some(mut book) = book else {
-        return Ok(());
-    };
-    judge_rows(
+    judge_from(
         &rt,
-        alloc,
-        &mut book,
+        rt.alloc(),
+        FIRST_WITH_CELLS,
+        MARKED,
         "\
 8 | version
 The xcats | print 1
@@ -822,22 +791,12 @@ ok 9 5 | correct-by Ann 1 4 3 dog",
     )
 }
 
-/// Compares the answers of a session that begins with the book of these rows.
-fn judge_from(rt: &impl Abort, alloc: Global, rows: &str, answers: &str) -> Result<(), Fail> {
-    let parts = changed(alloc, rows, "")?.parts(alloc, Form::Second)?;
-    let book = Book::rebuild(alloc, parts).ok();
-    assert!(rt; book.is_some());
-    let Some(mut book) = book else {
-        return Ok(());
-    };
-    judge_rows(rt, alloc, &mut book, answers)
-}
-
 #[test]
 fn one_version_is_left_for_tables_and_paragraphs(rt: HostRuntime) -> Result<(), Fail> {
     judge_from(
         &rt,
         rt.alloc(),
+        SECOND,
         LAST_VERSION,
         "\
 9007199254740991 | version
@@ -847,7 +806,7 @@ ok 9007199254740992 | volume 1 on
 9007199254740992 | version
 no 16 9007199254740992 | @1 strike 1
 no 15 5 | @9007199254740992 strike 1
-no 17 | table T17 foo
+no 17 | table Bad foo
 no 15 1 | table t17 foo
 no 15 1 | table t17
 no 15 5 | table en SMALL
@@ -885,6 +844,7 @@ fn one_version_is_left_for_an_undo(rt: HostRuntime) -> Result<(), Fail> {
     judge_from(
         &rt,
         rt.alloc(),
+        SECOND,
         LONG_PRINT,
         "\
 ok 9007199254740992 3 | undo 1
@@ -899,6 +859,7 @@ fn one_version_is_left_for_corrections_and_marks(rt: HostRuntime) -> Result<(), 
     judge_from(
         &rt,
         rt.alloc(),
+        SECOND,
         MARKED_AND_CORRECTED,
         "\
 ok 9007199254740992 | style 1 heading

@@ -494,18 +494,37 @@ fn expected(request: &str) -> (Option<u64>, &str) {
     }
 }
 
+/// What a command would put, where a row asks for one.
+fn puts_answer(alloc: Global, book: &Book, command: Option<Command>) -> Result<String, AllocError> {
+    match command {
+        Some(command) => puts_shown(alloc, book, &command),
+        None => String::from_str(alloc, "what?"),
+    }
+}
+
+/// What is answered to a command, or to what else a row asks.
+fn command_answer(
+    alloc: Global,
+    book: &mut Book,
+    request: &str,
+    command: Option<Command>,
+    expect: Option<u64>,
+) -> Result<String, AllocError> {
+    match command {
+        Some(command) => carry_out(alloc, book, &command, expect),
+        None => shown(alloc, book, request),
+    }
+}
+
 /// What is answered to a request.
 fn answer(alloc: Global, book: &mut Book, request: &str) -> Result<String, Fail> {
     let (expect, request) = expected(request);
-    if let Some(rest) = request.strip_prefix("puts ") {
-        return match command(alloc, rest)? {
-            Some(command) => Ok(puts_shown(alloc, book, &command)?),
-            None => Ok(String::from_str(alloc, "what?")?),
-        };
-    }
-    match command(alloc, request)? {
-        Some(command) => Ok(carry_out(alloc, book, &command, expect)?),
-        None => Ok(shown(alloc, book, request)?),
+    match request.strip_prefix("puts ") {
+        Some(rest) => Ok(puts_answer(alloc, book, command(alloc, rest)?)?),
+        None => {
+            let command = command(alloc, request)?;
+            Ok(command_answer(alloc, book, request, command, expect)?)
+        }
     }
 }
 
@@ -527,6 +546,14 @@ pub(crate) fn judge(rt: &impl Abort, row: &str, given: &str, wanted: &str) {
     assert_eq!(rt; given, wanted, "{row}");
 }
 
+/// Compares what is answered to a row's request.
+fn judge_row(rt: &impl Abort, alloc: Global, book: &mut Book, row: &str) -> Result<(), Fail> {
+    let (wanted, request) = row.split_once(" | ").unwrap_or((row, ""));
+    let given = last_answer(alloc, book, request)?;
+    judge(rt, row, given.as_str(), wanted);
+    Ok(())
+}
+
 /// Compares what is answered to each row's request.
 pub(crate) fn judge_rows(
     rt: &impl Abort,
@@ -535,8 +562,7 @@ pub(crate) fn judge_rows(
     rows: &str,
 ) -> Result<(), Fail> {
     for row in rows.split('\n') {
-        let (wanted, request) = row.split_once(" | ").unwrap_or((row, ""));
-        judge(rt, row, last_answer(alloc, book, request)?.as_str(), wanted);
+        judge_row(rt, alloc, book, row)?;
     }
     Ok(())
 }
@@ -899,8 +925,8 @@ ok 15 | table t15
 ok 16 | table t16
 no 15 1 | table t17
 no 15 1 | table t17 foo
-no 17 | table T17 foo
-no 17 | table T17
+no 17 | table Bad foo
+no 17 | table Bad
 no 8 1 1 | table t16 foo
 ok 17 | table t16 SMALL
 ok 18 1 | type end en ab
