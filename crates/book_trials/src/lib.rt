@@ -4,6 +4,8 @@
 #![tactic(auto)]
 
 #[cfg(test)]
+mod commands;
+#[cfg(test)]
 mod lines;
 #[cfg(test)]
 mod pages;
@@ -11,3 +13,5 @@ mod pages;
 mod rows;
 #[cfg(test)]
 mod sessions;
+#[cfg(test)]
+mod written;

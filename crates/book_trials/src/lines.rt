@@ -1,27 +1,17 @@
 //! Requests and their replies, worked out by hand from their grammar and the rules of books.
 //!
 //! The rows stand in texts, one request to a row, since the proof of a test with long arrays takes minutes: the request,
-//! ` => `, and the reply. In both a pilcrow is a line feed, `←` a carriage return, `␀` U+0000, `~` the byte FF, and `{a×3}`
-//! is `aaa`.
+//! ` => `, and the reply. In both `~` is the byte FF, and the rest is as `written.rt` says.
 ghost use Rattle.std.specs.Prelude.{Some};
 
+use super::commands::carry_out;
+use super::written::text_of;
 use desk_book::{Book, Command, Limit, Refusal};
 use desk_line::{Answer, Fault, Query, Request, lines_after, read_request, write_reply};
 use std::alloc::{AllocError, Global};
 use std::io::{self, Error, ErrorKind, Write};
 use std::process::Abort;
 use std::test::Fail;
-use std::{iter, mem};
-
-/// The character that a row writes.
-fn character(written: char) -> char {
-    match written {
-        '¶' => '\n',
-        '←' => '\r',
-        '␀' => '\0',
-        other => other,
-    }
-}
 
 /// The byte that a row writes.
 fn byte(written: u8) -> u8 {
@@ -33,45 +23,27 @@ fn byte(written: u8) -> u8 {
 
 /// The bytes that a row writes.
 fn bytes_of(alloc: Global, written: &str) -> Result<Vec<u8>, Fail> {
-    let mut text = String::new(alloc);
-    for part in written.split('}') {
-        let (plain, repeated) = part.split_once('{').unwrap_or((part, ""));
-        let (piece, count) = repeated.split_once('×').unwrap_or((repeated, "0"));
-        text.push_str(plain)?;
-        text.extend(iter::repeat_n(piece, count.parse()?))?;
-    }
-    let text: String = text.chars().map(|c| character(c)).collect(alloc)?;
+    let text = text_of(alloc, written)?;
     Ok(text.bytes().map(|b| byte(b)).collect(alloc)?)
 }
 
-/// The book after a command, and what became of it.
-fn after(alloc: Global, book: Book, command: &Command, expect: Option<u64>) -> (Book, Answer) {
-    match book.plan(alloc, command, expect) {
-        Ok(change) => {
-            let number = change.number();
-            (book.settle(change), Answer::Done { number })
-        }
-        Err(refusal) => (book, Answer::Refused(refusal)),
-    }
-}
-
-/// Carries out a command.
-fn carry_out(
+/// What becomes of a command.
+fn done(
     alloc: Global,
     book: &mut Book,
     command: &Command,
     expect: Option<u64>,
 ) -> Result<Answer, AllocError> {
-    let old = mem::replace(book, Book::new(alloc)?);
-    let (new, answer) = after(alloc, old, command, expect);
-    *book = new;
-    Ok(answer)
+    match carry_out(alloc, book, command, expect)? {
+        Ok(number) => Ok(Answer::Done { number }),
+        Err(refusal) => Ok(Answer::Refused(refusal)),
+    }
 }
 
 /// What becomes of a request.
 fn answer(alloc: Global, book: &mut Book, request: &[u8]) -> Result<Answer, AllocError> {
     match read_request(alloc, request) {
-        Ok(Request::Do { command, expect }) => carry_out(alloc, book, &command, expect),
+        Ok(Request::Do { command, expect }) => done(alloc, book, &command, expect),
         Ok(Request::Ask(query)) => Ok(Answer::Asked(query)),
         Err(Fault::Syntax) => Ok(Answer::Syntax),
         Err(Fault::NoMemory) => Ok(Answer::NoMemory),
@@ -96,11 +68,17 @@ fn judge(rt: &impl Abort, row: &str, given: &[u8], wanted: &[u8]) {
     assert_eq!(rt; given, wanted, "{row}");
 }
 
+/// What is replied to a request that a row writes.
+fn replied_to(alloc: Global, book: &mut Book, written: &str) -> Result<Vec<u8>, Fail> {
+    let request = bytes_of(alloc, written)?;
+    reply(alloc, book, request.as_slice())
+}
+
 /// Compares what is replied to a row's request.
 fn judge_row(rt: &impl Abort, alloc: Global, book: &mut Book, row: &str) -> Result<(), Fail> {
     let (request, wanted) = row.split_once(" => ").unwrap_or((row, ""));
     let wanted = bytes_of(alloc, wanted)?;
-    let given = reply(alloc, book, bytes_of(alloc, request)?.as_slice())?;
+    let given = replied_to(alloc, book, request)?;
     judge(rt, row, given.as_slice(), wanted.as_slice());
     Ok(())
 }
@@ -951,18 +929,39 @@ fn a_reply_is_broken_off(rt: HostRuntime) -> Result<(), Fail> {
     judge_long_reply(&rt, rt.alloc(), &mut book)
 }
 
-#[test]
-fn lines(rt: HostRuntime) -> Result<(), Fail> {
-    assert_eq!(rt; lines_after(b"table en 58"), 58);
-    assert_eq!(rt; lines_after(b"@7 table en 20000"), 20000);
-    assert_eq!(rt; lines_after(b"table en 20001"), 0);
-    assert_eq!(rt; lines_after(b"table en 9007199254740992"), 0);
-    assert_eq!(rt; lines_after(b"table en 0000000000000058"), 58);
-    assert_eq!(rt; lines_after(b"table en 00000000000000058"), 0);
-    assert_eq!(rt; lines_after(b"table en 58\n"), 0);
-    assert_eq!(rt; lines_after(b"table en 58\r"), 0);
-    assert_eq!(rt; lines_after(b"table \xFF 58"), 0);
-    assert_eq!(rt; lines_after(b"version"), 0);
-    assert_eq!(rt; lines_after(b""), 0);
+/// Compares how many lines a row's head line asks for after it.
+fn judge_lines(rt: &impl Abort, alloc: Global, row: &str) -> Result<(), Fail> {
+    let (head, wanted) = row.split_once(" => ").unwrap_or((row, ""));
+    let wanted = wanted.parse()?;
+    let given = lines_after(bytes_of(alloc, head)?.as_slice());
+    assert_eq!(rt; given, wanted, "{row}");
     Ok(())
+}
+
+/// Compares how many lines the head lines of rows ask for.
+fn judge_each_lines(rt: &impl Abort, alloc: Global, rows: &str) -> Result<(), Fail> {
+    for row in rows.split('\n') {
+        judge_lines(rt, alloc, row)?;
+    }
+    Ok(())
+}
+
+#[test]
+fn head_lines_say_how_many_lines_follow(rt: HostRuntime) -> Result<(), Fail> {
+    judge_each_lines(
+        &rt,
+        rt.alloc(),
+        "\
+table en 58 => 58
+@7 table en 20000 => 20000
+table en 20001 => 0
+table en 9007199254740992 => 0
+table en 0000000000000058 => 58
+table en 00000000000000058 => 0
+table en 58¶ => 0
+table en 58← => 0
+table ~ 58 => 0
+version => 0
+ => 0",
+    )
 }

@@ -4,14 +4,15 @@
 //! `h` for body or heading, `v` where it begins a volume, `x` where it is struck, `7` where its table gives the letter a
 //! the dots 1 and 7. The answer is the number of pages and the bytes, where `|` stands for CR LF, `^` for a form feed, and
 //! `{a×3}` for `aaa`; or the number of a fault.
-use desk_book::{Anchor, Book, Bytes, Command, Refusal, Style, Text};
+use super::commands::carry_out;
+use super::written::text_of;
+use desk_book::{Anchor, Book, Bytes, Command, Style, Text};
 use desk_brf::{ExportFault, Layout, export};
 use louis_table::EN;
 use std::alloc::{AllocError, Global};
 use std::io::{self, Error, ErrorKind, Write};
 use std::process::Abort;
 use std::test::Fail;
-use std::{iter, mem};
 
 const SEVEN: &str = "letter a 17\n";
 
@@ -51,18 +52,6 @@ fn cut<'a>(line: &'a str, separator: &str) -> (&'a str, &'a str) {
     line.split_once(separator).unwrap_or((line, ""))
 }
 
-/// The text that a row writes.
-fn text_of(alloc: Global, written: &str) -> Result<String, Fail> {
-    let mut text = String::new(alloc);
-    for part in written.split('}') {
-        let (plain, repeated) = cut(part, "{");
-        let (piece, count) = repeated.split_once('×').unwrap_or((repeated, "0"));
-        text.push_str(plain)?;
-        text.extend(iter::repeat_n(piece, count.parse()?))?;
-    }
-    Ok(text)
-}
-
 /// The bytes that a row writes.
 fn bytes_of(alloc: Global, written: &str) -> Result<Vec<u8>, Fail> {
     let text = text_of(alloc, written)?;
@@ -77,18 +66,9 @@ fn bytes_of(alloc: Global, written: &str) -> Result<Vec<u8>, Fail> {
     Ok(bytes)
 }
 
-/// The book after a command that it accepts.
-fn after(alloc: Global, book: Book, command: &Command) -> Result<Book, Refusal> {
-    match book.plan(alloc, command, None) {
-        Ok(change) => Ok(book.settle(change)),
-        Err(refusal) => Err(refusal),
-    }
-}
-
 /// Carries out a command that the book accepts.
-fn carry_out(alloc: Global, book: &mut Book, command: &Command) -> Result<(), Fail> {
-    let old = mem::replace(book, Book::new(alloc)?);
-    *book = after(alloc, old, command)?;
+fn give(alloc: Global, book: &mut Book, command: &Command) -> Result<(), Fail> {
+    carry_out(alloc, book, command, None)??;
     Ok(())
 }
 
@@ -104,7 +84,7 @@ fn table(name: String, text: String) -> Command {
 fn supply(alloc: Global, book: &mut Book, name: &str, text: &str) -> Result<(), Fail> {
     let text = String::from_str(alloc, text)?;
     let command = table(String::from_str(alloc, name)?, text);
-    carry_out(alloc, book, &command)
+    give(alloc, book, &command)
 }
 
 /// The command that types a paragraph after the others.
@@ -121,7 +101,7 @@ fn type_text(alloc: Global, book: &mut Book, flags: &str, written: &str) -> Resu
     let name = if flags.contains('7') { "seven" } else { "en" };
     let text = text_of(alloc, written)?;
     let command = type_in(String::from_str(alloc, name)?, text);
-    carry_out(alloc, book, &command)
+    give(alloc, book, &command)
 }
 
 /// Gives a paragraph what a flag says.
@@ -129,9 +109,9 @@ fn flag(alloc: Global, book: &mut Book, paragraph: u64, flag: char) -> Result<()
     let style = Style::Heading;
     let begins = true;
     match flag {
-        'h' => carry_out(alloc, book, &Command::Style { paragraph, style }),
-        'v' => carry_out(alloc, book, &Command::Volume { paragraph, begins }),
-        'x' => carry_out(alloc, book, &Command::Strike { paragraph }),
+        'h' => give(alloc, book, &Command::Style { paragraph, style }),
+        'v' => give(alloc, book, &Command::Volume { paragraph, begins }),
+        'x' => give(alloc, book, &Command::Strike { paragraph }),
         _ => Ok(()),
     }
 }
@@ -224,9 +204,20 @@ fn judge(rt: &impl Abort, alloc: Global, row: &str) -> Result<(), Fail> {
     judge_row(rt, alloc, row, &mut sink)
 }
 
+/// Compares what the exports of rows answer and write.
+fn judge_rows(rt: &impl Abort, alloc: Global, rows: &str) -> Result<(), Fail> {
+    for row in rows.split('\n') {
+        judge(rt, alloc, row)?;
+    }
+    Ok(())
+}
+
 #[test]
 fn exports_volumes(rt: HostRuntime) -> Result<(), Fail> {
-    let rows = "\
+    judge_rows(
+        &rt,
+        rt.alloc(),
+        "\
         10 5 1 b => 0\n\
         10 5 1 b   => 0\n\
         10 5 1 b The cat sat => 1:   ,THE CAT|SAT|||        #A|^\n\
@@ -256,22 +247,29 @@ fn exports_volumes(rt: HostRuntime) -> Result<(), Fail> {
         10 5 1 h abcdefghijkl m => 1:     ABCDEF|    GHIJKL|    M||        #A|^\n\
         10 5 1 b abc  def  => 1:   ABC DEF||||        #A|^\n\
         10 5 1 b abcd efg => 1:   ABCD EFG||||        #A|^\n\
-        10 5 1 b abcd efgh => 1:   ABCD|EFGH|||        #A|^";
-    for row in rows.split('\n') {
-        judge(&rt, rt.alloc(), row)?;
-    }
-    Ok(())
+        10 5 1 b abcd efgh => 1:   ABCD|EFGH|||        #A|^",
+    )
+}
+
+/// A page of a volume, from 0.
+fn page_of(volume: &[u8], page: usize) -> &[u8] {
+    volume.split(|byte| *byte == 0x0C).nth(page).unwrap_or(&[])
 }
 
 /// Judges how the page of a row ends in a volume.
 fn judge_page(rt: &impl Abort, alloc: Global, volume: &[u8], row: &str) -> Result<(), Fail> {
     let (page, written) = cut(row, " ");
     let end = bytes_of(alloc, written)?;
-    let page = volume.split(|byte| *byte == 0x0C).nth(page.parse()?);
-    assert!(rt;
-        page.is_some_and(|page| page.ends_with(end.as_slice())),
-        "{row}"
-    );
+    let page = page_of(volume, page.parse()?);
+    assert!(rt; page.ends_with(end.as_slice()), "{row}");
+    Ok(())
+}
+
+/// Judges how the pages of rows end in a volume.
+fn judge_pages(rt: &impl Abort, alloc: Global, volume: &[u8], rows: &str) -> Result<(), Fail> {
+    for row in rows.split('\n') {
+        judge_page(rt, alloc, volume, row)?;
+    }
     Ok(())
 }
 
@@ -279,10 +277,12 @@ fn judge_page(rt: &impl Abort, alloc: Global, volume: &[u8], row: &str) -> Resul
 fn judge_numbers(rt: &impl Abort, alloc: Global, sink: &mut Limited) -> Result<(), Fail> {
     let exported = sent(alloc, "10 5 1 b {abcdefg ×400}", sink)?;
     judge_text(rt, "pages", answer(alloc, exported)?.as_str(), "100");
-    for row in "8 |        #I|\n9 |       #AJ|\n98 |       #II|\n99 |      #AJJ|".split('\n') {
-        judge_page(rt, alloc, sink.bytes.as_slice(), row)?;
-    }
-    Ok(())
+    judge_pages(
+        rt,
+        alloc,
+        sink.bytes.as_slice(),
+        "8 |        #I|\n9 |       #AJ|\n98 |       #II|\n99 |      #AJJ|",
+    )
 }
 
 #[test]

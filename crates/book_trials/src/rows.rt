@@ -1,11 +1,12 @@
 //! Books made of rows, and what is told of rows that show none.
 //!
 //! The rows stand in texts, one to a line: the name of a table and the columns behind it, apart by one blank, where `_` is a text with no
-//! character and a mask of a cell is a number. In a text a pilcrow is a line feed, a section sign a carriage return, a currency sign
-//! U+0000, an open box a blank, and `{a×3}` is `aaa`. A case changes the rows of one book: what begins with `-` takes out the rows that
-//! begin so, and the rest are further rows; `each FIRST LAST` before a row makes one for each number of that range, where `#` is the
-//! number and `%` falls while it grows. Its answer is the number of the table and the id that are told, or `ok`.
-use super::sessions::{judge, judge_rows, text_of};
+//! character and a mask of a cell is a number; other texts are as `written.rt` says. A case changes the rows of one book: what begins
+//! with `-` takes out the rows that begin so, and the rest are further rows; `each FIRST LAST` before a row makes one for each number
+//! of that range, where `#` is the number and `%` falls while it grows. Its answer is the number of the table and the id that are
+//! told, or `ok`.
+use super::sessions::{judge, judge_rows};
+use super::written::text_of;
 use desk_book::Book;
 use desk_book::parts::{EntryRows, FileTable, Parts, PartsFault};
 use desk_book::rows::{CacheRow, CorrRow, MarkRow, NamedCorrRow, ParaRow, StoredTab, TabRow};
@@ -156,13 +157,7 @@ fn text(alloc: Global, line: &str, at: usize) -> Result<String, Fail> {
         "SMALL" => SMALL,
         other => other,
     };
-    let text = text_of(alloc, written)?;
-    let characters = text.chars().map(|c| match c {
-        '§' => '\r',
-        '¤' => '\0',
-        other => other,
-    });
-    Ok(characters.collect(alloc)?)
+    text_of(alloc, written)
 }
 
 fn tab(alloc: Global, line: &str, rowid: i64) -> Result<StoredTab, Fail> {
@@ -218,13 +213,25 @@ fn mark(alloc: Global, line: &str) -> Result<MarkRow, Fail> {
     })
 }
 
+/// Adds the cell of a mask, or none where there is none.
+fn add_cell(cells: &mut Vec<u8>, mask: &str) -> Result<(), Fail> {
+    if mask != "_" {
+        cells.push(mask.parse::<u8>()?)?;
+    }
+    Ok(())
+}
+
+/// Adds the cells of masks.
+fn add_cells(cells: &mut Vec<u8>, masks: &str) -> Result<(), Fail> {
+    for mask in masks.split(',') {
+        add_cell(cells, mask)?;
+    }
+    Ok(())
+}
+
 fn cache(alloc: Global, line: &str) -> Result<CacheRow, Fail> {
     let mut cells = Vec::new(alloc);
-    for mask in word(line, 2).split(',') {
-        if mask != "_" {
-            cells.push(mask.parse::<u8>()?)?;
-        }
-    }
+    add_cells(&mut cells, word(line, 2))?;
     Ok(CacheRow {
         para: number(line, 1),
         cells,
@@ -270,6 +277,12 @@ fn add(alloc: Global, parts: &mut Parts, line: &str) -> Result<(), Fail> {
     Ok(())
 }
 
+/// A line with a number in place of a character.
+fn numbered(alloc: Global, line: &str, sign: &str, number: i64) -> Result<String, AllocError> {
+    let number = format!(in alloc; "{number}")?;
+    line.replace(alloc, sign, number.as_str())
+}
+
 /// Adds the row of a line in which `#` is a number, and `%` one of the same range that falls while the number grows.
 fn add_numbered(
     alloc: Global,
@@ -278,10 +291,8 @@ fn add_numbered(
     number: i64,
     falling: i64,
 ) -> Result<(), Fail> {
-    let number = format!(in alloc; "{number}")?;
-    let falling = format!(in alloc; "{falling}")?;
-    let line = line.replace(alloc, "#", number.as_str())?;
-    let line = line.as_str().replace(alloc, "%", falling.as_str())?;
+    let line = numbered(alloc, line, "#", number)?;
+    let line = numbered(alloc, line.as_str(), "%", falling)?;
     add(alloc, parts, line.as_str())
 }
 
@@ -386,6 +397,20 @@ fn judge_case(
     Ok(())
 }
 
+/// Compares what is told of a case of a book in these forms.
+fn judge_forms(
+    rt: &impl Abort,
+    alloc: Global,
+    book: &str,
+    forms: &[Form],
+    case: &str,
+) -> Result<(), Fail> {
+    for form in forms {
+        judge_case(rt, alloc, book, *form, case)?;
+    }
+    Ok(())
+}
+
 /// Compares what is told of the cases of a book in these forms.
 fn judge_cases(
     rt: &impl Abort,
@@ -395,9 +420,7 @@ fn judge_cases(
     cases: &str,
 ) -> Result<(), Fail> {
     for case in cases.split('\n') {
-        for form in forms {
-            judge_case(rt, alloc, book, *form, case)?;
-        }
+        judge_forms(rt, alloc, book, forms, case)?;
     }
     Ok(())
 }
@@ -492,11 +515,11 @@ ok | tab u0 SMALL;tab u1 SMALL;tab u2 SMALL;tab u3 SMALL;tab u4 SMALL;tab u5 SMA
 3 1 | -para 1;para 1 2 t {a×4001} ab 0 0 0
 3 1 | -para 1;para 1 2 t ab {a×4001} 0 0 0
 3 1 | -para 1;para 1 2 t a¶b ab 0 0 0
-3 1 | -para 1;para 1 2 t a§b ab 0 0 0
-3 1 | -para 1;para 1 2 t a¤b ab 0 0 0
+3 1 | -para 1;para 1 2 t a←b ab 0 0 0
+3 1 | -para 1;para 1 2 t a␀b ab 0 0 0
 3 1 | -para 1;para 1 2 t ab a¶b 0 0 0
-3 1 | -para 1;para 1 2 t ab a§b 0 0 0
-3 1 | -para 1;para 1 2 t ab a¤b 0 0 0
+3 1 | -para 1;para 1 2 t ab a←b 0 0 0
+3 1 | -para 1;para 1 2 t ab a␀b 0 0 0
 3 1 | -para 1;para 1 2 t ab a~ 0 0 0
 3 3 | -para 3;para 3 3 t b~ b~ 0 0 1
 3 1 | -para 1;para 1 2 t ab ab 2 0 0
@@ -551,8 +574,8 @@ ok | -cache 1;cache 1 1,3;-para 1;para 1 2 t ab ab 1 1 1
 4 2 | -entry 2 1;entry 2 1 0 0 -9223372036854775808 a Ann
 4 2 | -entry 2 1;entry 2 1 0 -1 1 a Ann
 4 2 | -entry 2 2;entry 2 2 0 1 3 a¶ _
-4 2 | -entry 2 2;entry 2 2 0 1 3 a§ _
-4 2 | -entry 2 2;entry 2 2 0 1 3 a¤ _
+4 2 | -entry 2 2;entry 2 2 0 1 3 a← _
+4 2 | -entry 2 2;entry 2 2 0 1 3 a␀ _
 4 2 | -entry 2 2;entry 2 2 0 1 3 {b×4000} _
 ok | -entry 2 2;entry 2 2 0 1 3 {b×3999} _
 ok | -entry 2 2;entry 2 2 0 1 3 ~ _
@@ -601,8 +624,8 @@ ok | -mark 1;mark 1 2 0 0 look 1 1
 5 1 | -mark 1;mark 1 2 0 4 {x×501} 0 0
 ok | -mark 1;mark 1 2 0 4 {x×500} 0 0
 5 1 | -mark 1;mark 1 2 0 4 a¶ 0 0
-5 1 | -mark 1;mark 1 2 0 4 a§ 0 0
-5 1 | -mark 1;mark 1 2 0 4 a¤ 0 0
+5 1 | -mark 1;mark 1 2 0 4 a← 0 0
+5 1 | -mark 1;mark 1 2 0 4 a␀ 0 0
 5 1 | -mark 1;mark 1 2 0 4 look 2 0
 5 1 | -mark 1;mark 1 2 0 4 look 0 2
 5 1 | -mark 1;mark 1 2 0 4 look -1 0
@@ -624,8 +647,8 @@ fn names_and_cells_are_judged_where_they_are(rt: HostRuntime) -> Result<(), Fail
         "\
 4 2 | -entry 2 1;entry 2 1 0 0 0 a A␣B
 4 2 | -entry 2 1;entry 2 1 0 0 0 a A¶B
-4 2 | -entry 2 1;entry 2 1 0 0 0 a A§B
-4 2 | -entry 2 1;entry 2 1 0 0 0 a A¤B
+4 2 | -entry 2 1;entry 2 1 0 0 0 a A←B
+4 2 | -entry 2 1;entry 2 1 0 0 0 a A␀B
 4 2 | -entry 2 1;entry 2 1 0 0 0 a {A×41}
 ok | -entry 2 1;entry 2 1 0 0 0 a {A×40}
 4 2 | -entry 2 3;entry 2 3 1 2 0 _ Ann",

@@ -3,7 +3,9 @@
 //! The sessions stand in texts, one request to a row, since the proof of a test with long arrays takes minutes: the
 //! answer, ` | `, and the request. A request that begins with `@V` expects version V, and `again N` makes a request N times,
 //! whose last answer counts; `puts` before a command asks what it would put into the rows of a file, and `fill` what fills
-//! new tables of it. In a text a pilcrow is a line feed, an open box a blank, and `{a×3}` is `aaa`.
+//! new tables of it. Texts are as `written.rt` says.
+use super::commands::carry_out;
+use super::written::text_of;
 use cell_core::Cell;
 use desk_book::rows::Put;
 use desk_book::{
@@ -14,7 +16,6 @@ use louis_table::EN;
 use std::alloc::{AllocError, Global};
 use std::process::Abort;
 use std::test::Fail;
-use std::{iter, mem};
 
 /// Defines the space and the letters a, b, c and é.
 const SMALL: &str = "space \\s 0\nletter a 1\nletter b 12\nletter c 14\nletter \\x00E9 123456\n";
@@ -44,23 +45,6 @@ fn style(word: &str) -> Style {
         "heading" => Style::Heading,
         _ => Style::Body,
     }
-}
-
-/// The text that a row writes.
-pub(crate) fn text_of(alloc: Global, written: &str) -> Result<String, Fail> {
-    let mut text = String::new(alloc);
-    for part in written.split('}') {
-        let (plain, repeated) = part.split_once('{').unwrap_or((part, ""));
-        let (piece, count) = repeated.split_once('×').unwrap_or((repeated, "0"));
-        text.push_str(plain)?;
-        text.extend(iter::repeat_n(piece, count.parse()?))?;
-    }
-    let characters = text.chars().map(|c| match c {
-        '¶' => '\n',
-        '␣' => ' ',
-        other => other,
-    });
-    Ok(characters.collect(alloc)?)
 }
 
 /// The text that a row writes, as one that is typed.
@@ -213,33 +197,14 @@ fn done(alloc: Global, version: u64, number: Option<u64>) -> Result<String, Allo
     }
 }
 
-/// The book after a command, and what is answered.
-fn after(
-    alloc: Global,
-    book: Book,
-    command: &Command,
-    expect: Option<u64>,
-) -> (Book, Result<Option<u64>, Refusal>) {
-    match book.plan(alloc, command, expect) {
-        Ok(change) => {
-            let number = change.number();
-            (book.settle(change), Ok(number))
-        }
-        Err(refusal) => (book, Err(refusal)),
-    }
-}
-
-/// Carries out a command.
-fn carry_out(
+/// Carries out a command, and tells what became of it.
+fn outcome(
     alloc: Global,
     book: &mut Book,
     command: &Command,
     expect: Option<u64>,
 ) -> Result<String, AllocError> {
-    let old = mem::replace(book, Book::new(alloc)?);
-    let (new, answer) = after(alloc, old, command, expect);
-    *book = new;
-    match answer {
+    match carry_out(alloc, book, command, expect)? {
         Ok(number) => done(alloc, book.version(), number),
         Err(refusal) => refused(alloc, refusal),
     }
@@ -288,20 +253,32 @@ fn item_shown(alloc: Global, item: &Listed) -> Result<String, AllocError> {
     )
 }
 
+/// Adds a paragraph to a text.
+fn add_item(alloc: Global, text: &mut String, item: &Listed) -> Result<(), AllocError> {
+    let shown = item_shown(alloc, item)?;
+    text.push_str(shown.as_str())
+}
+
 /// The list of a book's paragraphs.
 fn list_shown(alloc: Global, book: &Book) -> Result<String, AllocError> {
     let mut list = String::new(alloc);
     for item in book.list() {
-        list.push_str(item_shown(alloc, &item)?.as_str())?;
+        add_item(alloc, &mut list, &item)?;
     }
     Ok(list)
+}
+
+/// Adds an id to a text.
+fn add_id(alloc: Global, text: &mut String, id: u64) -> Result<(), AllocError> {
+    let shown = format!(in alloc; "{id} ")?;
+    text.push_str(shown.as_str())
 }
 
 /// The ids in the order of the book.
 fn order_shown(alloc: Global, book: &Book) -> Result<String, AllocError> {
     let mut order = String::new(alloc);
     for item in book.list() {
-        order.push_str(format!(in alloc; "{} ", item.id)?.as_str())?;
+        add_id(alloc, &mut order, item.id)?;
     }
     Ok(order)
 }
@@ -320,11 +297,17 @@ fn entry_shown(alloc: Global, item: &HistoryItem) -> Result<String, AllocError> 
     }
 }
 
+/// Adds an entry to a text.
+fn add_entry(alloc: Global, text: &mut String, item: &HistoryItem) -> Result<(), AllocError> {
+    let shown = entry_shown(alloc, item)?;
+    text.push_str(shown.as_str())
+}
+
 /// The entries of a history.
 fn entries_shown(alloc: Global, entries: History) -> Result<String, AllocError> {
     let mut history = String::new(alloc);
     for item in entries {
-        history.push_str(entry_shown(alloc, &item)?.as_str())?;
+        add_entry(alloc, &mut history, &item)?;
     }
     Ok(history)
 }
@@ -347,11 +330,17 @@ fn mark_shown(alloc: Global, item: &MarkItem) -> Result<String, AllocError> {
     )
 }
 
+/// Adds a mark to a text.
+fn add_mark(alloc: Global, text: &mut String, item: &MarkItem) -> Result<(), AllocError> {
+    let shown = mark_shown(alloc, item)?;
+    text.push_str(shown.as_str())
+}
+
 /// Marks, one after the other.
 fn each_mark_shown(alloc: Global, items: ParagraphMarks) -> Result<String, AllocError> {
     let mut marks = String::new(alloc);
     for item in items {
-        marks.push_str(mark_shown(alloc, &item)?.as_str())?;
+        add_mark(alloc, &mut marks, &item)?;
     }
     Ok(marks)
 }
@@ -429,11 +418,17 @@ fn put_shown(alloc: Global, put: &Put) -> Result<String, AllocError> {
     }
 }
 
+/// Adds what is put to a text.
+fn add_put(alloc: Global, text: &mut String, put: &Put) -> Result<(), AllocError> {
+    let shown = put_shown(alloc, put)?;
+    text.push_str(shown.as_str())
+}
+
 /// What is put, in order.
 fn each_put_shown(alloc: Global, items: Puts) -> Result<String, AllocError> {
     let mut puts = String::new(alloc);
     for item in items {
-        puts.push_str(put_shown(alloc, &item)?.as_str())?;
+        add_put(alloc, &mut puts, &item)?;
     }
     Ok(puts)
 }
@@ -442,7 +437,7 @@ fn each_put_shown(alloc: Global, items: Puts) -> Result<String, AllocError> {
 fn filling_shown(alloc: Global, items: Filling) -> Result<String, AllocError> {
     let mut puts = String::new(alloc);
     for item in items {
-        puts.push_str(put_shown(alloc, &item)?.as_str())?;
+        add_put(alloc, &mut puts, &item)?;
     }
     Ok(puts)
 }
@@ -511,7 +506,7 @@ fn command_answer(
     expect: Option<u64>,
 ) -> Result<String, AllocError> {
     match command {
-        Some(command) => carry_out(alloc, book, &command, expect),
+        Some(command) => outcome(alloc, book, &command, expect),
         None => shown(alloc, book, request),
     }
 }
