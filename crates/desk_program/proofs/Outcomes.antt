@@ -1,8 +1,9 @@
--- Where no book or no table is found, and where a session ends early.
+-- Where no book or no table is found, where a session ends early, and what a refusal leaves.
 use Rattle.std.proofs.Common.{◌≡◌, ◌⊎◌, ℕ, Bool, true, false, List, refl, ap, subst, inl, inr}
 use Rattle.std.specs.Prelude.{IsErrAnd, MatchResult, Result, Ok, Err}
 use Rattle.sqlite_trees.specs.View.{IsRolledBack}
 use Rattle.sqlite.specs.Held.{Held, state}
+use Rattle.desk_book.specs.Book.{Book}
 use Rattle.desk_brf.specs.Layout.{Layout}
 use Rattle.desk_ends.specs.declared.ends.Sink.{Ghosts as Sink}
 use Rattle.desk_ends.specs.declared.ends.Source.{Ghosts as Source}
@@ -10,11 +11,14 @@ use Rattle.desk_session.specs.declared.session.Ended.{Ended}
 use Rattle.desk_session.specs.declared.session.Ended.TheVariants as ended
 use Rattle.desk_store.specs.Opened.{IsRefusedWith}
 use Rattle.desk_store.specs.declared.fault.OpenFault.{OpenFault}
-use Rattle.desk_program.specs.Books.{Checks, Closed, ExportsFrom, FindsNone, Holds, Makes, Outcome, Place, after_session, stop_of}
+use Rattle.desk_words.specs.declared.action.Action.{Action}
+use Rattle.desk_words.specs.declared.action.Action.TheVariants.{New, Session, Export, Translate, Check}
+use Rattle.desk_program.specs.Books.{Checks, Closed, Exports, ExportsFrom, FindsNone, Holds, Makes, Outcome, Place, after_session, stop_of}
 use Rattle.desk_program.specs.Fault.{FaultAt}
-use Rattle.desk_program.specs.Program.{Translates}
+use Rattle.desk_program.specs.Program.{CarriesOut, Files, Translates, place_of}
 use Rattle.desk_program.specs.Shelf.{Shelved}
 use Rattle.desk_program.specs.declared.fault.Fault.{Fault}
+use Rattle.desk_program.specs.declared.fault.Fault.TheVariants as faults
 use Rattle.desk_program.specs.declared.stop.Stop.{Stop}
 use Rattle.desk_program.specs.declared.stop.Stop.TheVariants.{Refused, Ends}
 
@@ -70,3 +74,66 @@ Translates-refused CanFail shelf source old_source sink old path (Err stop) faul
 -- a session whose source or sink failed
 pub after_session-ends : (how : Ended) → (how ≡ ended.Input) ⊎ (how ≡ ended.Output) → Err Ends ≡ after_session how
 after_session-ends how is = elim is [ inl input ↦ rw input refl | inr output ↦ rw output refl ]
+
+-- ---- what a refusal leaves
+
+module _ {K : Type 0} (sink : Sink K) (old new : K) where
+  Exports-refused : (book : Book) (layout : Layout) (number : ℕ) (fault : Fault)
+      → Exports sink old new book layout number (Err (Refused fault)) → new ≡ old
+  Exports-refused book layout number (faults.Table fault) exports = absurd exports
+  Exports-refused book layout number faults.NoMemory exports = absurd exports
+  Exports-refused book layout number faults.NotABook exports = absurd exports
+  Exports-refused book layout number (faults.Damaged table id) exports = absurd exports
+  Exports-refused book layout number faults.NewerFormat exports = absurd exports
+  Exports-refused book layout number (faults.NotSixDots paragraph cell) exports = exports.0
+  Exports-refused book layout number faults.NoVolume exports = exports.0
+  Exports-refused book layout number faults.BadLayout exports = absurd exports
+  Exports-refused book layout number faults.File exports = absurd exports
+  Exports-refused book layout number (faults.Taken version) exports = absurd exports
+
+  module _ {D : Type 0} (at : Place D) (fault : Fault) where
+    Makes-refused : Makes at sink old new (Err (Refused fault)) → new ≡ old
+    Makes-refused (Makes.none stop none same is) = same
+    Makes-refused (Makes.taken book finds some same is) = same
+    Makes-refused (Makes.made book finds empty says) = absurd says
+
+    Checks-refused : Checks at sink old new (Err (Refused fault)) → new ≡ old
+    Checks-refused (Checks.none stop none same is) = same
+    Checks-refused (Checks.found book finds says) = absurd says
+
+    ExportsFrom-refused : (layout : Layout) (number : ℕ)
+        → ExportsFrom at sink old new layout number (Err (Refused fault)) → new ≡ old
+    ExportsFrom-refused layout number (ExportsFrom.none stop none same is) = same
+    ExportsFrom-refused layout number (ExportsFrom.found book finds exports) =
+        Exports-refused book layout number fault exports
+
+    Holds-refused : {S : Type 0} (source : Source S) (old_source new_source : S)
+        → Holds at source old_source new_source sink old new (Err (Refused fault))
+        → (new_source ≡ old_source) × (new ≡ old)
+    Holds-refused source old_source new_source (Holds.none stop none same_source same is) = (same_source, same)
+    Holds-refused source old_source new_source (Holds.held book last opened left how opens served closed is) =
+        absurd (ends how is)
+      where
+        ends : (how : Ended) → Err (Refused fault) ≡ after_session how → ⊥
+        ends ended.Done e = cc
+        ends ended.Input e = cc
+        ends ended.Output e = cc
+        ends ended.Lost e = cc
+
+-- an action that is refused reads and writes nothing
+pub CarriesOut-refused : {D S K : Type 0} (files : Files D) (source : Source S) (old_source new_source : S)
+    (sink : Sink K) (old new : K) (action : Action) (fault : Fault)
+    → CarriesOut files source old_source new_source sink old new action (Err (Refused fault))
+    → (new_source ≡ old_source) × (new ≡ old)
+CarriesOut-refused files source old_source new_source sink old new (New path) fault carried =
+    (carried.1, Makes-refused sink old new (place_of files path.now) fault carried.0)
+CarriesOut-refused files source old_source new_source sink old new (Session path) fault carried =
+    Holds-refused sink old new (place_of files path.now) fault source old_source new_source carried
+CarriesOut-refused files source old_source new_source sink old new (Export path volume width lines) fault carried =
+    elim carried.1 [
+      | inl bad ↦ (carried.0, bad.1)
+      | inr it ↦ (carried.0, ExportsFrom-refused sink old new (place_of files path.now) fault _ volume it.1)
+    ]
+CarriesOut-refused files source old_source new_source sink old new (Translate path) fault carried = (carried.1, carried.2)
+CarriesOut-refused files source old_source new_source sink old new (Check path) fault carried =
+    (carried.1, Checks-refused sink old new (place_of files path.now) fault carried.0)

@@ -22,6 +22,7 @@ use Rattle.desk_store.specs.declared.fault.OpenFault.{OpenFault}
 use Rattle.desk_store.specs.declared.fault.OpenFault.TheVariants as opening
 use Rattle.desk_program.specs.Fault.{IsOfDatabase}
 use Rattle.desk_program.specs.Shelf.{Shelved}
+use Rattle.desk_program.specs.declared.shelf.Shelf.{Ghosts as Shelf}
 use Rattle.desk_program.specs.declared.fault.Fault.{Fault}
 use Rattle.desk_program.specs.declared.fault.Fault.TheVariants as faults
 use Rattle.desk_program.specs.declared.stop.Stop.{Stop}
@@ -68,6 +69,12 @@ pub record Place (D : Type 0) : Type 1 where
 abbrev pub place : {D : Type 0} → Database D → (Bool → Held D → Type 0) → (D → Type 0) → Type 0 → Shelved → Place D
 place store Connects Closes CanFail shelved =
     record { store = store; Connects = Connects; Closes = Closes; Refuses = IsOfDatabase CanFail shelved }
+
+-- by a shelf, the connections of a desk and what it closes
+abbrev pub place_at : {F File D : Type 0} → Shelf F File → Database D → (F → List ℕ → Bool → Held D → Type 0)
+    → (F → D → Type 0) → F → List ℕ → Place D
+place_at shelf store Connects Closes desk path =
+    place store (Connects desk path) (Closes desk) shelf.can_fail (shelf.at desk path)
 
 -- a connection was made, and this book was opened on it, or made; that is what it came to
 pub record Opening {D : Type 0} (at : Place D) (make : Bool) (last : Held D) (book : Book) : Type 0 where

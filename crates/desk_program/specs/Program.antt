@@ -20,6 +20,7 @@ use Rattle.desk_program.specs.Books.{Checks, ExportsFrom, Holds, Makes, Outcome,
 use Rattle.desk_program.specs.Fault.{TextAt, FaultAt}
 use Rattle.desk_program.specs.Run.{AnswersAll, RanShort}
 use Rattle.desk_program.specs.Shelf.{Shelved}
+use Rattle.desk_program.specs.declared.shelf.Shelf.{Ghosts as Shelf}
 
 -- ---- the words
 
@@ -70,15 +71,16 @@ pub record Files (D : Type 0) : Type 1 where
   pub Connects : List ℕ → Bool → Held D → Type 0
   pub Closes : D → Type 0
 
-abbrev pub files : {D : Type 0} → (List ℕ → Shelved) → Type 0 → Type 0 → Database D
-    → (List ℕ → Bool → Held D → Type 0) → (D → Type 0) → Files D
-files at OpenFails ReadFails store Connects Closes = record {
-  at = at;
-  OpenFails = OpenFails;
-  ReadFails = ReadFails;
+-- by a shelf, the connections of a desk and what it closes
+abbrev pub files_of : {F File D : Type 0} → Shelf F File → Source File → Database D
+    → (F → List ℕ → Bool → Held D → Type 0) → (F → D → Type 0) → F → Files D
+files_of shelf file store Connects Closes desk = record {
+  at = shelf.at desk;
+  OpenFails = shelf.can_fail;
+  ReadFails = file.can_fail;
   store = store;
-  Connects = Connects;
-  Closes = Closes;
+  Connects = Connects desk;
+  Closes = Closes desk;
 }
 
 abbrev pub place_of : {D : Type 0} → Files D → List ℕ → Place D

@@ -1,5 +1,5 @@
 //! What the program does with the book in a file.
-ghost use Rattle.desk_program.specs.Books.{Checks, Exports, ExportsFrom, Finds, FindsNone, Holds, Makes, Opening, Says, place, version_line};
+ghost use Rattle.desk_program.specs.Books.{Checks, Exports, ExportsFrom, Finds, FindsNone, Holds, Makes, Opening, Says, place_at, version_line};
 ghost use Rattle.std.specs.Prelude.{MatchResult};
 
 use super::fault::Fault;
@@ -21,12 +21,10 @@ fn open_store<F: Databases + AllocGlobal>(
 ) -> Result<(Store<F::Database>, Book), Stop>
     ensures { MatchResult result
         (λ it. Opening
-        (place F.Database.Store (F.connects rt.now path.now) (F.closes rt.now)
-        F.Shelf.can_fail (F.Shelf.at rt.now path.now))
+        (place_at F.Shelf F.Database.Store F.connects F.closes rt.now path.now)
         make it.0.connection it.1)
         (FindsNone
-        (place F.Database.Store (F.connects rt.now path.now) (F.closes rt.now)
-        F.Shelf.can_fail (F.Shelf.at rt.now path.now))
+        (place_at F.Shelf F.Database.Store F.connects F.closes rt.now path.now)
         make) }
 {
     let connection = rt.connect(path, make)?;
@@ -37,12 +35,10 @@ fn open_store<F: Databases + AllocGlobal>(
 fn read_book<F: Databases + AllocGlobal>(rt: &F, path: &str, make: bool) -> Result<Book, Stop>
     ensures { MatchResult result
         (Finds
-        (place F.Database.Store (F.connects rt.now path.now) (F.closes rt.now)
-        F.Shelf.can_fail (F.Shelf.at rt.now path.now))
+        (place_at F.Shelf F.Database.Store F.connects F.closes rt.now path.now)
         make)
         (FindsNone
-        (place F.Database.Store (F.connects rt.now path.now) (F.closes rt.now)
-        F.Shelf.can_fail (F.Shelf.at rt.now path.now))
+        (place_at F.Shelf F.Database.Store F.connects F.closes rt.now path.now)
         make) }
 {
     let (store, book) = open_store(rt, path, make)?;
@@ -57,8 +53,7 @@ pub fn make_book<F: Databases + AllocGlobal, K: Sink>(
     sink: &mut K,
 ) -> Result<(), Stop>
     ensures { Makes
-        (place F.Database.Store (F.connects rt.now path.now) (F.closes rt.now)
-        F.Shelf.can_fail (F.Shelf.at rt.now path.now))
+        (place_at F.Shelf F.Database.Store F.connects F.closes rt.now path.now)
         K.Sink sink.old sink.new result }
 {
     let version = read_book(rt, path, true)?.version();
@@ -75,8 +70,7 @@ pub fn check_book<F: Databases + AllocGlobal, K: Sink>(
     sink: &mut K,
 ) -> Result<(), Stop>
     ensures { Checks
-        (place F.Database.Store (F.connects rt.now path.now) (F.closes rt.now)
-        F.Shelf.can_fail (F.Shelf.at rt.now path.now))
+        (place_at F.Shelf F.Database.Store F.connects F.closes rt.now path.now)
         K.Sink sink.old sink.new result }
 {
     let version = read_book(rt, path, false)?.version();
@@ -91,8 +85,7 @@ pub fn hold_session<F: Databases + AllocGlobal, S: Source, K: Sink>(
     sink: &mut K,
 ) -> Result<(), Stop>
     ensures { Holds
-        (place F.Database.Store (F.connects rt.now path.now) (F.closes rt.now)
-        F.Shelf.can_fail (F.Shelf.at rt.now path.now))
+        (place_at F.Shelf F.Database.Store F.connects F.closes rt.now path.now)
         S.Source source.old source.new K.Sink sink.old sink.new result }
 {
     let (mut store, book) = open_store(rt, path, false)?;
@@ -114,8 +107,7 @@ pub fn export_from<F: Databases + AllocGlobal, K: Sink>(
     sink: &mut K,
 ) -> Result<(), Stop>
     ensures { ExportsFrom
-        (place F.Database.Store (F.connects rt.now path.now) (F.closes rt.now)
-        F.Shelf.can_fail (F.Shelf.at rt.now path.now))
+        (place_at F.Shelf F.Database.Store F.connects F.closes rt.now path.now)
         K.Sink sink.old sink.new layout.now volume result }
 {
     let book = read_book(rt, path, false)?;

@@ -1,13 +1,13 @@
 //! What the program does with its words and its ends.
 ghost use Rattle.desk_program.specs.Books.{Says};
 ghost use Rattle.desk_program.specs.Fault.{fault_line};
-ghost use Rattle.desk_program.specs.Program.{CarriesOut, Does, IsFailure, Tells, Translates, files, texts_of};
+ghost use Rattle.desk_program.specs.Program.{CarriesOut, Does, IsFailure, Tells, Translates, files_of, texts_of};
 ghost use Rattle.desk_program.specs.declared.fault.Fault.TheVariants.{NoMemory};
 ghost use Rattle.desk_program.specs.declared.stop.Stop.TheVariants.{Refused};
 ghost use Rattle.desk_ends.specs.Sent.{Sends};
 ghost use Rattle.desk_words.specs.Commands.{whole};
 ghost use Rattle.desk_words.specs.Reading.{AreRefused};
-ghost use Rattle.std.specs.Prelude.{Err, IfErr, List, Ok, [], codes, is_ok, ◌++◌, ◌∷◌, ◌≡◌, ◌≢◌, ◌≤◌, ◌⊎◌, ℕ};
+ghost use Rattle.std.specs.Prelude.{Err, List, Ok, [], codes, is_ok, ◌++◌, ◌∷◌, ◌≡◌, ◌≢◌, ◌≤◌, ◌⊎◌, ℕ};
 
 use super::books::{check_book, export_from, hold_session, make_book};
 use super::fault::Fault;
@@ -53,19 +53,16 @@ pub fn run<'a, F: Databases + AllocGlobal, S: Source, K: Sink, E: Sink>(
 
     // What the words ask for is carried out, or something fails in it, which the status alone tells.
     ensures done { result ≡ DONE → Does
-        (files (F.Shelf.at rt.now) F.Shelf.can_fail F.File.can_fail F.Database.Store
-        (F.connects rt.now) (F.closes rt.now))
+        (files_of F.Shelf F.File.Source F.Database.Store F.connects F.closes rt.now)
         S.Source source.old source.new K.Sink sink.old sink.new (texts_of words.now) (Ok tt) }
     ensures failed { result ≡ FAILED → (stop : Stop) × IsFailure stop × Does
-        (files (F.Shelf.at rt.now) F.Shelf.can_fail F.File.can_fail F.Database.Store
-        (F.connects rt.now) (F.closes rt.now))
+        (files_of F.Shelf F.File.Source F.Database.Store F.connects F.closes rt.now)
         S.Source source.old source.new K.Sink sink.old sink.new (texts_of words.now) (Err stop) }
     ensures silent { (result ≡ DONE) ⊎ (result ≡ FAILED) → errors.new ≡ errors.old }
 
     // It is refused, or there is no memory for the words: one line tells the fault.
     ensures refused { result ≡ REFUSED → (fault : Fault) × ((fault ≡ NoMemory) ⊎ Does
-        (files (F.Shelf.at rt.now) F.Shelf.can_fail F.File.can_fail F.Database.Store
-        (F.connects rt.now) (F.closes rt.now))
+        (files_of F.Shelf F.File.Source F.Database.Store F.connects F.closes rt.now)
         S.Source source.old source.new K.Sink sink.old sink.new (texts_of words.now) (Err (Refused fault)))
         × Tells E.Sink errors.old errors.new (fault_line fault) }
     ensures untouched { (result ≡ OTHER_WORDS) ⊎ (result ≡ REFUSED)
@@ -86,12 +83,9 @@ fn carry_out<F: Databases + AllocGlobal, S: Source, K: Sink>(
     source: &mut S,
     sink: &mut K,
 ) -> Result<(), Stop>
-    ensures carried_out { CarriesOut
-        (files (F.Shelf.at rt.now) F.Shelf.can_fail F.File.can_fail F.Database.Store
-        (F.connects rt.now) (F.closes rt.now))
+    ensures { CarriesOut
+        (files_of F.Shelf F.File.Source F.Database.Store F.connects F.closes rt.now)
         S.Source source.old source.new K.Sink sink.old sink.new action.entry result }
-    ensures untouched { IfErr result (λ stop. ¬ IsFailure stop
-        → (source.new ≡ source.old) × (sink.new ≡ sink.old)) }
 {
     match action {
         Action::New { file } => make_book(rt, file, sink),
