@@ -1,8 +1,8 @@
 # make          proves what the program needs and builds build/braildesk
 # make demo     shows a small book typed and exported, by the sources as they are, without proofs, with the book in memory
-# make test     the gate: proves from nothing, tries the must-fail edits, runs the tests and the stored run, compares files
-#               with sqlite3, which has to be installed, runs the tutorial, the sample's client and rows of requests and words
-#               by the built program, and kills sessions of it
+# make test     the gate: proves from nothing, tries the must-fail edits and runs the stored run; then it runs the tests,
+#               compares files with sqlite3, which has to be installed, runs the tutorial, the sample's client and rows of
+#               requests and words by the built program, and kills sessions of it
 # make attacks  tries the wrong bodies that the gate leaves out, and those that only a test sees
 # make bench    measures speed
 # make install  copies the program to $(DESTDIR)$(PREFIX)/bin, and its manual page to $(DESTDIR)$(PREFIX)/share/man/man1
@@ -19,7 +19,7 @@ JOBS ?= $(shell awk -v n="$$(nproc)" '/^MemAvailable/ { m = int($$2 / 5000000); 
 # the crates that the program stands on, each after those below it
 PARTS := cell_core louis_table louis_translate desk_book sql_tables desk_store desk_ends desk_line desk_brf desk_session desk_words desk_program braildesk
 
-.PHONY: all demo test attacks bench install clean
+.PHONY: all demo test trials files runs attacks bench install clean
 
 all: $(PROGRAM)
 
@@ -50,9 +50,16 @@ demo:
 test:
 	$(need_rt)
 	RT_JOBS=$(JOBS) $(RT) ci
-	RT='$(RT)' tests/sqlite3.sh
 	@mkdir -p $(dir $(PROGRAM))
 	@cp crates/braildesk/out/braildesk $(PROGRAM)
+	$(MAKE) --no-print-directory -j $(JOBS) trials files runs
+
+# what the gate runs once all is proved; the tests stop files at each 23rd of their calls
+trials:
+	RT='$(RT)' EVERY=23 tests/trials.sh
+files:
+	RT='$(RT)' tests/sqlite3.sh
+runs:
 	tests/tutorial.sh $(PROGRAM)
 	tests/client.sh $(PROGRAM)
 	tests/rows.sh

@@ -1,8 +1,7 @@
 #!/bin/bash
 # Tries the edits in crates/NAME/attacks, which the gate doesn't: wrong bodies that the prover has to refuse, beside those
-# of must-fail. An edit with a line 'test: TEST' is one that no contract rules out: with it the crate's tests are run
-# unproved, and that test has to fail; with 'test: CRATE TEST' those of that crate. It works on a copy, and takes some
-# minutes for each crate that has some.
+# of must-fail. An edit with a line 'test: PART TEST' is one that no contract rules out: with it that part of tests/trials
+# is run, and that test has to fail. It works on a copy, and takes some minutes for each crate that has some.
 #   tests/attacks.sh [NAME..]
 set -eu
 cd "$(dirname "$0")/.."
@@ -32,24 +31,22 @@ apply() {
 
 # Says whether the edit's test fails with it, and undoes it.
 test_sees() {
-    local edit=$1 crate test sources
-    read -r crate test < <(sed -n 's/^test: //p' "$edit")
-    if [ -z "$test" ]; then
-        test=$crate
-        crate=$(basename "$PWD")
-    fi
+    local edit=$1 part test sources beside
+    read -r part test < <(sed -n 's/^test: //p' "$edit")
     sources=$(mktemp -d "$scratch/sources.XXXXXX")
+    beside=$(mktemp -d "$scratch/beside.XXXXXX")
     cp -r src/. "$sources"
     if ! apply "$edit"; then
         echo "$edit cannot be applied"
         return 1
     fi
-    (cd "../$crate" && "$rt" try --test) > "$sources/log" 2>&1 || true
-    rm -r src && cp -r "$sources" src && rm src/log
-    if grep -qF "test $test ... FAILED" "$sources/log"; then
+    ../../tests/beside.sh "$beside" "$part"
+    (cd "$beside/crates/trials" && "$rt" try --test --seconds 900) > "$beside/log" 2>&1 || true
+    rm -r src && cp -r "$sources" src
+    if grep -qF "test ${part}::$test ... FAILED" "$beside/log"; then
         echo "$edit: $test fails"
     else
-        cat "$sources/log"
+        cat "$beside/log"
         echo "$edit: $test doesn't fail"
         return 1
     fi

@@ -59,20 +59,23 @@ class Rows:
             self.wrong.append(f"{name}:\n    wanted {cut(wanted)}\n    found  {cut(found)}")
 
     def sessions(self, path):
-        """Each group of rows is a session over a copy of the book."""
-        group = []
+        """Each group of rows is a session over a copy of a book."""
+        group, base = [], "book"
         for at, line in [*lines_of(path), (0, "")]:
-            if line:
+            if line.startswith("over "):
+                base = line.removeprefix("over ")
+            elif line:
                 request, is_row, reply = line.partition(" => ")
                 if not is_row:
                     sys.exit(f"{path}:{at}: a row has no reply")
                 group.append((at, request, bytes_of(reply + "¶")))
             elif group:
-                self.session(path, group)
-                group = []
+                if base not in self.unmade:
+                    self.session(path, group, base)
+                group, base = [], "book"
 
-    def session(self, path, group):
-        shutil.copy(self.folder / "book", self.folder / "copied")
+    def session(self, path, group, base):
+        shutil.copy(self.folder / base, self.folder / "copied")
         given = b"".join(bytes_of(request.removesuffix("∎") + "¶" * (not request.endswith("∎"))) for _, request, _ in group)
         status, replies, errors = self.run(["session", "copied"], given)
         for at, request, reply in group:

@@ -1,0 +1,24 @@
+#!/bin/bash
+# Runs the tests of tests/trials, unproved and with checks as they run, over the sources as they are.
+#   tests/trials.sh [PART..]     EVERY (1): at every how many of their calls files are stopped; RT: the toolchain's command
+# They are built as one crate in a scratch folder, beside those that they test.
+set -eu
+cd "$(dirname "$0")/.."
+rt=${RT:-rt}
+parts=("$@")
+[ ${#parts[@]} -gt 0 ] || mapfile -t parts < <(sed -n 's/^\([a-z]*\):.*/\1/p' tests/trials/crates)
+scratch=$(mktemp -d); trap 'rm -rf "$scratch"' EXIT
+tests/beside.sh "$scratch" "${parts[@]}"
+if [[ " ${parts[*]} " = *' file '* ]]; then
+    sed -i "s/EVERY: u64 = 1;/EVERY: u64 = ${EVERY:-1};/" "$scratch/crates/trials/src/file/disks.rt"
+    grep -q "EVERY: u64 = ${EVERY:-1};" "$scratch/crates/trials/src/file/disks.rt"
+fi
+status=0
+(cd "$scratch/crates/trials" && "$rt" try --test --seconds 900) > "$scratch/log" 2>&1 || status=$?
+passed=$(grep -c '^test .* \.\.\. ok$' "$scratch/log" || true)
+[ "$status" -eq 0 ] && [ "$passed" -gt 0 ] && [ "$(sed -n 's/^tests: //p' "$scratch/log")" = "$passed" ] || {
+    cat "$scratch/log" >&2
+    echo 'tests/trials.sh: a test failed' >&2
+    exit 1
+}
+echo "ok  $passed tests of ${parts[*]}, unproved"
