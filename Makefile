@@ -54,7 +54,7 @@ test:
 	@cp crates/braildesk/out/braildesk $(PROGRAM)
 	$(MAKE) --no-print-directory -j $(JOBS) trials files runs
 
-# what the gate runs once all is proved; the tests stop files at each 23rd of their calls
+# what the gate runs once all is proved; the tests stop files at each 23rd of their calls, and tests/stops.sh at each
 trials:
 	RT='$(RT)' EVERY=23 tests/trials.sh
 files:
@@ -63,6 +63,7 @@ runs:
 	tests/tutorial.sh $(PROGRAM)
 	tests/client.sh $(PROGRAM)
 	tests/rows.sh
+	tests/stops.sh
 	tests/kill.sh
 
 attacks:
