@@ -1,9 +1,11 @@
-"""Sessions in which one growth of memory is refused, each in turn.
+"""Runs in which one growth of memory is refused, each in turn: sessions over a new book and over one that is brought to the second
+format, and the making of a book.
 
 The command that found no memory is answered `no 90` and changes nothing: the other requests are answered as by a session
 that was never sent it, and the file holds the same book. Or the growth was needed while a command was kept: it is answered
 `no 91`, the session ends with status 3, and the file holds the book from before it or the one after. Or the book isn't
-opened: that is fault 90, or the file failed, and it is as it was. No query is answered `no 90`.
+opened: that is fault 90, or the file failed, and it is as it was. No query is answered `no 90`. A book that wasn't made is made
+when it is tried again.
 """
 
 import argparse
@@ -14,6 +16,9 @@ import shutil
 import subprocess
 import sys
 import tempfile
+
+from kill import is_accepted
+from stops import FIRST_FORMAT, NO_BRAILLE
 
 MOST_SECONDS = 60
 
@@ -90,16 +95,22 @@ def replies_of(output):
     return replies
 
 
-class Sweep:
-    """Sessions over copies of the file of a new book."""
+def new(program, path, **settings):
+    return subprocess.run([program, "new", path], capture_output=True, timeout=MOST_SECONDS, env={**os.environ, **settings})
 
-    def __init__(self, program, shim, folder):
-        self.program, self.shim, self.folder = program, shim, folder
-        self.start = folder / "start.db"
-        made = subprocess.run([program, "new", self.start], capture_output=True, timeout=MOST_SECONDS)
-        if made.stdout != b"ok 0\n":
-            raise Wrong(f"new: {made}")
-        self.requests = requests_of(REQUESTS)
+
+def make(program, path):
+    made = new(program, path)
+    if (made.returncode, made.stdout) != (0, b"ok 0\n"):
+        raise Wrong(f"new: {made}")
+
+
+class Sweep:
+    """Sessions over copies of the file of a book."""
+
+    def __init__(self, program, shim, folder, start, requests):
+        self.program, self.shim, self.folder, self.start = program, shim, folder, start
+        self.requests = requests_of(requests)
         self.whole = self.session("whole", self.requests)
         # what is replied without each of the requests, and the book then
         self.without = [
@@ -188,6 +199,57 @@ class Sweep:
         return "no memory"
 
 
+class Makings:
+    """The making of books."""
+
+    def __init__(self, program, shim, folder):
+        self.program, self.shim, self.folder = program, shim, folder
+
+    def growths(self):
+        counted = self.folder / "counted"
+        new(self.program, self.folder / "counting.db", LD_PRELOAD=self.shim, COUNTED=str(counted))
+        return int(counted.read_text())
+
+    def refuse(self, number):
+        path = self.folder / f"new{number}.db"
+        done = new(self.program, path, LD_PRELOAD=self.shim, REFUSED=str(number))
+        told = {(0, b"ok 0\n", b""): "not noticed", (2, b"", b"braildesk: no 90\n"): "not made", (3, b"", b""): "failed"}
+        end = told.get((done.returncode, done.stdout, done.stderr))
+        if end is None:
+            raise Wrong(f"REFUSED={number}: {done}")
+        make(self.program, path)
+        for file in self.folder.glob(f"{path.name}*"):
+            file.unlink()
+        return end
+
+
+def sweeps(program, shim, folder):
+    """What is refused memory, with its name."""
+    yield "making a book", Makings(program, shim, folder)
+    start = folder / "start.db"
+    make(program, start)
+    yield "requests of all kinds", Sweep(program, shim, folder, start, REQUESTS)
+    if not shutil.which("sqlite3"):
+        print("tests/memory.sh: no older file is opened, since sqlite3 is missing")
+        return
+    older = folder / "older.db"
+    make(program, older)
+    done = subprocess.run([program, "session", older], input=REQUESTS.encode(), capture_output=True, timeout=MOST_SECONDS)
+    if not any(map(is_accepted, replies_of(done.stdout))):
+        raise Wrong(f"the older file: {done}")
+    subprocess.run(["sqlite3", older, FIRST_FORMAT + NO_BRAILLE], check=True)
+    yield "bringing a book to the second format", Sweep(program, shim, folder, older, "history 1\nundo 1\nversion\n")
+
+
+def refused(sweep, every):
+    """How many growths came to which end."""
+    ends = {}
+    with concurrent.futures.ThreadPoolExecutor(os.cpu_count()) as pool:
+        for end in pool.map(sweep.refuse, range(1, sweep.growths() + 1, every)):
+            ends[end] = ends.get(end, 0) + 1
+    return ends
+
+
 def main():
     words = argparse.ArgumentParser()
     words.add_argument("program")
@@ -196,19 +258,15 @@ def main():
     asked = words.parse_args()
     room = "/dev/shm" if os.access("/dev/shm", os.W_OK) else None
     folder = pathlib.Path(tempfile.mkdtemp(dir=room))
-    ends = {}
     try:
-        sweep = Sweep(os.path.abspath(asked.program), os.path.abspath(asked.shim), folder)
-        growths = range(1, sweep.growths() + 1, asked.every)
-        with concurrent.futures.ThreadPoolExecutor(os.cpu_count()) as pool:
-            for end in pool.map(sweep.refuse, growths):
-                ends[end] = ends.get(end, 0) + 1
+        for name, sweep in sweeps(os.path.abspath(asked.program), os.path.abspath(asked.shim), folder):
+            ends = refused(sweep, asked.every)
+            print(f"ok  {name}, {sum(ends.values())} growths refused: " + ", ".join(f"{end} {count}" for end, count in ends.items()))
     except (Wrong, subprocess.TimeoutExpired) as wrong:
         print(f"tests/memory.sh: {wrong}", file=sys.stderr)
         sys.exit(1)
     finally:
         shutil.rmtree(folder)
-    print(f"ok  {sum(ends.values())} growths refused: " + ", ".join(f"{end} {count}" for end, count in ends.items()))
 
 
 main()

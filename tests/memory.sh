@@ -1,6 +1,6 @@
 #!/bin/bash
-# Refuses each growth of memory in turn in a session of the program over requests of all kinds, by a small library that
-# is loaded before it.
+# Refuses each growth of memory in turn while the program makes a book, in a session over requests of all kinds and in one
+# over an older file, by a small library that is loaded before it.
 #   tests/memory.sh     EVERY (1): every how many growths one is refused; PROGRAM: the program (build/braildesk)
 set -eu
 cd "$(dirname "$0")/.."
@@ -11,4 +11,4 @@ for tool in python3 cc; do
 done
 scratch=$(mktemp -d); trap 'rm -rf "$scratch"' EXIT
 cc -O2 -shared -fPIC -o "$scratch/memory.so" tests/memory.c
-python3 tests/memory.py "$program" "$scratch/memory.so" --every "${EVERY:-1}"
+python3 -B tests/memory.py "$program" "$scratch/memory.so" --every "${EVERY:-1}"
