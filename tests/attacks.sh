@@ -40,7 +40,7 @@ test_sees() {
         echo "$edit cannot be applied"
         return 1
     fi
-    ../../tests/beside.sh "$beside" "$part"
+    EVERY=1000 ../../tests/beside.sh "$beside" "$part"
     (cd "$beside/crates/trials" && "$rt" try --test --seconds 900) > "$beside/log" 2>&1 || true
     rm -r src && cp -r "$sources" src
     if grep -qF "test ${part}::$test ... FAILED" "$beside/log"; then

@@ -1,6 +1,6 @@
 #!/bin/bash
 # Copies the crates into a folder, with a crate `trials` beside them that has parts of tests/trials.
-#   tests/beside.sh FOLDER PART..
+#   tests/beside.sh FOLDER PART..     EVERY (1): at every how many of their calls the files of tests are stopped
 set -eu
 cd "$(dirname "$0")/.."
 folder=$1
@@ -12,6 +12,8 @@ for part in "$@"; do
     printf '#[cfg(test)]\nmod %s;\n' "$part"
 done > "$folder/crates/trials/src/lib.rt"
 find "$folder/crates/trials" -name '*.rattle' | while read -r file; do mv "$file" "${file%.rattle}.rt"; done
+disks=$folder/crates/trials/src/file/disks.rt
+[ ! -e "$disks" ] || sed -i "s/EVERY: u64 = 1;/EVERY: u64 = ${EVERY:-1};/" "$disks"
 {
     cat crates.txt
     printf 'trials:'

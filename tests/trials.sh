@@ -9,10 +9,6 @@ parts=("$@")
 [ ${#parts[@]} -gt 0 ] || mapfile -t parts < <(sed -n 's/^\([a-z]*\):.*/\1/p' tests/trials/crates)
 scratch=$(mktemp -d); trap 'rm -rf "$scratch"' EXIT
 tests/beside.sh "$scratch" "${parts[@]}"
-if [[ " ${parts[*]} " = *' file '* ]]; then
-    sed -i "s/EVERY: u64 = 1;/EVERY: u64 = ${EVERY:-1};/" "$scratch/crates/trials/src/file/disks.rt"
-    grep -q "EVERY: u64 = ${EVERY:-1};" "$scratch/crates/trials/src/file/disks.rt"
-fi
 status=0
 (cd "$scratch/crates/trials" && "$rt" try --test --seconds 900) > "$scratch/log" 2>&1 || status=$?
 passed=$(grep -c '^test .* \.\.\. ok$' "$scratch/log" || true)
