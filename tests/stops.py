@@ -114,9 +114,11 @@ class Stops:
         for stop in range(1, len(calls) + 1):
             for torn in (False, True)[: 1 + (calls[stop - 1] == "w")]:
                 output, status, _ = self.run(start, words, requests, stop, torn)
-                if status not in (0, 2, 3):
-                    raise Wrong(f"{name}: where call {stop} is stopped, the program ended with {status}")
-                acknowledged = sum(map(is_accepted, replies_of(output)))
+                replies = replies_of(output)
+                # a loss is told once, and ends the session
+                if status not in (0, 2, 3) or b"no 91\n" in replies[:-1] or replies[-1:] == [b"no 91\n"] and status != 3:
+                    raise Wrong(f"{name}: where call {stop} is stopped, the program ended with {status} after {replies[-2:]}")
+                acknowledged = sum(map(is_accepted, replies))
                 for both in self.left():
                     if both not in seen:
                         seen[both] = self.asked(Files(*both), words, asked)
