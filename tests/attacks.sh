@@ -41,7 +41,7 @@ test_sees() {
         return 1
     fi
     EVERY=1000 ../../tests/beside.sh "$beside" "$part"
-    (cd "$beside/crates/trials" && "$rt" try --test --seconds 900) > "$beside/log" 2>&1 || true
+    (cd "$beside/crates/trials" && "$rt" try --test --seconds 3000) > "$beside/log" 2>&1 || true
     rm -r src && cp -r "$sources" src
     if grep -qF "test ${part}::$test ... FAILED" "$beside/log"; then
         echo "$edit: $test fails"

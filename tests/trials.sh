@@ -10,7 +10,7 @@ parts=("$@")
 scratch=$(mktemp -d); trap 'rm -rf "$scratch"' EXIT
 tests/beside.sh "$scratch" "${parts[@]}"
 status=0
-(cd "$scratch/crates/trials" && "$rt" try --test --seconds 900) > "$scratch/log" 2>&1 || status=$?
+(cd "$scratch/crates/trials" && "$rt" try --test --seconds 3000) > "$scratch/log" 2>&1 || status=$?
 passed=$(grep -c '^test .* \.\.\. ok$' "$scratch/log" || true)
 [ "$status" -eq 0 ] && [ "$passed" -gt 0 ] && [ "$(sed -n 's/^tests: //p' "$scratch/log")" = "$passed" ] || {
     cat "$scratch/log" >&2
