@@ -20,9 +20,7 @@ ghost use Rattle.desk_store.specs.States.{Shows};
 ghost use Rattle.desk_store.specs.Tables.{is_there, which};
 
 use crate::fault::{Fault, OpenFault};
-use crate::read::{
-    read_books, read_caches, read_corrs, read_marks, read_named_corrs, read_paras, read_tabs,
-};
+use crate::read::{read_rows, read_tabs};
 use crate::table::has_table;
 use desk_book::MOST_VERSION;
 use desk_book::parts::{EntryRows, FileTable, Parts};
@@ -133,11 +131,11 @@ fn read_entries<S: Alter>(
 {
     match format {
         FileFormat::Unnamed => {
-            let entries = read_corrs(alloc, conn)?;
+            let entries = read_rows(alloc, conn)?;
             Ok(EntryRows::Unnamed(entries))
         }
         FileFormat::Named => {
-            let entries = read_named_corrs(alloc, conn)?;
+            let entries = read_rows(alloc, conn)?;
             Ok(EntryRows::Named(entries))
         }
     }
@@ -168,7 +166,7 @@ fn read_cells<S: Alter>(
     if !has_table(conn, FileTable::Cache) {
         return Ok(None);
     }
-    let cells = read_caches(alloc, conn)?;
+    let cells = read_rows(alloc, conn)?;
     Ok(Some(cells))
 }
 
@@ -201,9 +199,9 @@ fn read_rest<S: Alter>(
     ensures survives { Survives (state S.Store conn.old) (state S.Store conn.new) (λ _. ⊥) }
 {
     let tabs = read_tabs(alloc, conn)?;
-    let paras = read_paras(alloc, conn)?;
+    let paras = read_rows(alloc, conn)?;
     let entries = read_entries(alloc, conn, format)?;
-    let marks = read_marks(alloc, conn)?;
+    let marks = read_rows(alloc, conn)?;
     let cache = read_cells(alloc, conn, format)?;
     Ok(Parts {
         version,
@@ -250,7 +248,7 @@ pub(crate) fn read_parts<S: Alter>(
     if !has_table(conn, FileTable::Book) {
         return Err(OpenFault::NotABook);
     }
-    let books = read_books(alloc, conn)?;
+    let books = read_rows(alloc, conn)?;
     let book = judge_book(&books)?;
     let format = format_of(&book);
     if !has_tables(conn, format) {

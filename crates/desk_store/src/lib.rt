@@ -21,9 +21,7 @@ pub use crash::{reopen, reopen_after_write};
 pub use fault::{Fault, OpenFault};
 pub use make::make_tables;
 pub use open::open_file;
-pub use read::{
-    read_books, read_caches, read_corrs, read_marks, read_named_corrs, read_paras, read_tabs,
-};
+pub use read::{read_rows, read_tabs};
 pub use store::{Lost, Store};
 pub use table::{has_table, table_name};
 pub use transaction::{write, write_with_tables};

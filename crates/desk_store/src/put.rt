@@ -67,14 +67,14 @@ pub(crate) fn put_book<S: Alter>(tx: &mut Transaction<'_, S>, row: &BookRow) -> 
 
 /// Puts a row by its key, or sets columns of the row with a key, if it is there. Where a history has an entry of that number, the
 /// database refuses it.
-fn put<S: Alter>(alloc: Global, tx: &mut Transaction<'_, S>, put: &Put<'_>) -> Result<(), Error>
+fn put<S: Alter>(alloc: Global, tx: &mut Transaction<'_, S>, put: Put<'_>) -> Result<(), Error>
     ensures same_reference { tx.new.conn.ghost_name ≡ tx.old.conn.ghost_name }
     ensures put { HasCleanDisk (seen S.Store tx.new)
-        → IsPut result (put_of put.now) (seen S.Store tx.old) (seen S.Store tx.new) }
+        → IsPut result (put_of put.entry) (seen S.Store tx.old) (seen S.Store tx.new) }
     ensures survives { Survives (seen S.Store tx.old) (seen S.Store tx.new) (λ _. ⊥) }
 {
     match put {
-        Put::Book(row) => put_book(tx, row),
+        Put::Book(row) => put_book(tx, &row),
         Put::Tab { name, body } => run(tx, PUT_TAB, &[name.to_sql(), body.to_sql()]),
         Put::Para {
             id,
@@ -200,7 +200,7 @@ pub(crate) fn put_all<'a, S: Alter, I: Iterator<Item = Put<'a>> + Drop>(
     ensures survives { Survives (seen S.Store tx.old) (seen S.Store tx.new) (λ _. ⊥) }
 {
     for one in puts {
-        put(alloc, tx, &one)?;
+        put(alloc, tx, one)?;
     }
     Ok(())
 }

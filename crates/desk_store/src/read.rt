@@ -14,14 +14,14 @@ ghost use Rattle.sqlite.specs.Held.{state};
 ghost use Rattle.sqlite.specs.State.{HasCleanDisk, CommitsShowing, FailsToQuery, Shown, Survives};
 ghost use Rattle.sql_tables.specs.Kinds.{HasKinds};
 ghost use Rattle.desk_store.specs.Asked.{AnswersRows, AnyRows, asked, given};
-ghost use Rattle.desk_store.specs.Described.{books, caches, corrs, marks, named_corrs, paras, tabs};
+ghost use Rattle.desk_store.specs.Described.{tabs};
 ghost use Rattle.desk_store.specs.Fault.{IsToldAs};
 ghost use Rattle.desk_store.specs.Rows.{own, shown};
 ghost use Rattle.desk_store.specs.Whole.{HaveOwnRowids, IsUtf8Row};
 
 use crate::fault::Fault;
 use crate::row::TableRow;
-use desk_book::rows::{BookRow, CacheRow, CorrRow, MarkRow, NamedCorrRow, ParaRow, StoredTab};
+use desk_book::rows::StoredTab;
 use sqlite::{Alter, Connection, Row};
 use std::alloc::{AllocError, Global};
 use std::collections::BTreeSet;
@@ -64,8 +64,12 @@ fn all_of<T: TableRow>(alloc: Global, rows: &[Row]) -> Result<Vec<T>, Fault>
     Ok(all)
 }
 
-/// The rows of a table, in order.
-fn read_all<T: TableRow, S: Alter>(alloc: Global, conn: &mut Connection<S>) -> Result<Vec<T>, Fault>
+/// The rows of one type, in the order of their keys: those of `book` and `mark` and the paragraphs by their ids, the cells by their
+/// paragraphs, the entries of histories by their paragraphs and numbers, and braille tables by the bytes of their names.
+pub fn read_rows<T: TableRow, S: Alter>(
+    alloc: Global,
+    conn: &mut Connection<S>,
+) -> Result<Vec<T>, Fault>
     ensures answers { HasCleanDisk (state S.Store conn.new)
         → AnswersRows result (λ xs. xs.items) T.which T.view AnyRows (state S.Store conn.old)
         (state S.Store conn.new) }
@@ -74,17 +78,6 @@ fn read_all<T: TableRow, S: Alter>(alloc: Global, conn: &mut Connection<S>) -> R
 {
     let rows = ask(conn, T::query())?;
     all_of(alloc, &rows)
-}
-
-/// The rows of `book`, in order of their ids.
-pub fn read_books<S: Alter>(alloc: Global, conn: &mut Connection<S>) -> Result<Vec<BookRow>, Fault>
-    ensures answers { HasCleanDisk (state S.Store conn.new)
-        → AnswersRows result (λ xs. xs.items) books (λ x. x) AnyRows (state S.Store conn.old)
-        (state S.Store conn.new) }
-    ensures mode { conn.old.in_transaction ≡ false → conn.new.in_transaction ≡ false }
-    ensures survives { Survives (state S.Store conn.old) (state S.Store conn.new) (λ _. ⊥) }
-{
-    read_all(alloc, conn)
 }
 
 /// Whether no two braille tables have the same rowid.
@@ -110,71 +103,10 @@ pub fn read_tabs<S: Alter>(alloc: Global, conn: &mut Connection<S>) -> Result<Ve
     ensures mode { conn.old.in_transaction ≡ false → conn.new.in_transaction ≡ false }
     ensures survives { Survives (state S.Store conn.old) (state S.Store conn.new) (λ _. ⊥) }
 {
-    let tabs = read_all(alloc, conn)?;
+    let tabs = read_rows(alloc, conn)?;
     match have_own_rowids(alloc, &tabs) {
         Ok(true) => Ok(tabs),
         Ok(false) => Err(Fault::Refused),
         Err(_) => Err(Fault::NoMemory),
     }
-}
-
-/// The paragraphs, in order of their ids.
-pub fn read_paras<S: Alter>(alloc: Global, conn: &mut Connection<S>) -> Result<Vec<ParaRow>, Fault>
-    ensures answers { HasCleanDisk (state S.Store conn.new)
-        → AnswersRows result (λ xs. xs.items) paras (λ x. x) AnyRows (state S.Store conn.old)
-        (state S.Store conn.new) }
-    ensures mode { conn.old.in_transaction ≡ false → conn.new.in_transaction ≡ false }
-    ensures survives { Survives (state S.Store conn.old) (state S.Store conn.new) (λ _. ⊥) }
-{
-    read_all(alloc, conn)
-}
-
-/// The entries of the histories, in order of their paragraphs and numbers.
-pub fn read_corrs<S: Alter>(alloc: Global, conn: &mut Connection<S>) -> Result<Vec<CorrRow>, Fault>
-    ensures answers { HasCleanDisk (state S.Store conn.new)
-        → AnswersRows result (λ xs. xs.items) corrs (λ x. x) AnyRows (state S.Store conn.old)
-        (state S.Store conn.new) }
-    ensures mode { conn.old.in_transaction ≡ false → conn.new.in_transaction ≡ false }
-    ensures survives { Survives (state S.Store conn.old) (state S.Store conn.new) (λ _. ⊥) }
-{
-    read_all(alloc, conn)
-}
-
-/// The marks, in order of their ids.
-pub fn read_marks<S: Alter>(alloc: Global, conn: &mut Connection<S>) -> Result<Vec<MarkRow>, Fault>
-    ensures answers { HasCleanDisk (state S.Store conn.new)
-        → AnswersRows result (λ xs. xs.items) marks (λ x. x) AnyRows (state S.Store conn.old)
-        (state S.Store conn.new) }
-    ensures mode { conn.old.in_transaction ≡ false → conn.new.in_transaction ≡ false }
-    ensures survives { Survives (state S.Store conn.old) (state S.Store conn.new) (λ _. ⊥) }
-{
-    read_all(alloc, conn)
-}
-
-/// The cells of the paragraphs, in order of these.
-pub fn read_caches<S: Alter>(
-    alloc: Global,
-    conn: &mut Connection<S>,
-) -> Result<Vec<CacheRow>, Fault>
-    ensures answers { HasCleanDisk (state S.Store conn.new)
-        → AnswersRows result (λ xs. xs.items) caches (λ x. x) AnyRows (state S.Store conn.old)
-        (state S.Store conn.new) }
-    ensures mode { conn.old.in_transaction ≡ false → conn.new.in_transaction ≡ false }
-    ensures survives { Survives (state S.Store conn.old) (state S.Store conn.new) (λ _. ⊥) }
-{
-    read_all(alloc, conn)
-}
-
-/// The entries of the histories with who made them, in order of their paragraphs and numbers.
-pub fn read_named_corrs<S: Alter>(
-    alloc: Global,
-    conn: &mut Connection<S>,
-) -> Result<Vec<NamedCorrRow>, Fault>
-    ensures answers { HasCleanDisk (state S.Store conn.new)
-        → AnswersRows result (λ xs. xs.items) named_corrs (λ x. x) AnyRows (state S.Store conn.old)
-        (state S.Store conn.new) }
-    ensures mode { conn.old.in_transaction ≡ false → conn.new.in_transaction ≡ false }
-    ensures survives { Survives (state S.Store conn.old) (state S.Store conn.new) (λ _. ⊥) }
-{
-    read_all(alloc, conn)
 }

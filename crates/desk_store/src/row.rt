@@ -32,7 +32,7 @@ fn value<T: FromSql>(row: &Row, at: usize) -> Result<T, Fault>
 }
 
 /// A row of one of the tables, as its query shows it.
-pub(crate) trait TableRow: Drop {
+pub trait TableRow: Drop {
     /// Its table.
     ghost which: { Which };
     /// The row as the query shows it.

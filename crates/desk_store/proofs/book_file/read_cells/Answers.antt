@@ -16,7 +16,7 @@ use Rattle.desk_store.proofs.book_file.read_cells.Goals as goal
 pub returns-in_err-cells-clause-refused : goal.returns-in_err-cells-clause-refused
 returns-in_err-cells-clause-refused g c clean =
     let old = state g.S.Store c.args.conn.now in
-    let new = state g.S.Store c.read_caches.new.conn in
+    let new = state g.S.Store c.read_rows.new.conn in
     let p = err_from_is_err_and c.from_residual.result c.from_residual.ensures.1 in
     let f = format_read c.args.format in
     let there : is_there old.now.schema caches ≡ true = sym c.has_table.ensures ∙ c.if-not-has_table.false in
@@ -27,7 +27,7 @@ returns-in_err-cells-clause-refused g c clean =
 pub returns-clause-gives : goal.returns-clause-gives
 returns-clause-gives g c clean l file of was =
     let old = state g.S.Store c.args.conn.now in
-    let new = state g.S.Store c.read_caches.new.conn in
+    let new = state g.S.Store c.read_rows.new.conn in
     let f = format_read c.args.format in
     let there : is_there old.now.schema caches ≡ true = sym c.has_table.ensures ∙ c.if-not-has_table.false in
     let has : l.has caches ≡ true = has_caches f l of ∙ ap (λ (s : Schema). is_there s caches) (sym was.schema) ∙ there in
@@ -36,7 +36,7 @@ returns-clause-gives g c clean l file of was =
 pub returns-in_err-cells-clause-answered : goal.returns-in_err-cells-clause-answered
 returns-in_err-cells-clause-answered g c clean unlimited =
     let old = state g.S.Store c.args.conn.now in
-    let new = state g.S.Store c.read_caches.new.conn in
+    let new = state g.S.Store c.read_rows.new.conn in
     let p = err_from_is_err_and c.from_residual.result c.from_residual.ensures.1 in
     let f = format_read c.args.format in
     let there : is_there old.now.schema caches ≡ true = sym c.has_table.ensures ∙ c.if-not-has_table.false in
@@ -48,6 +48,6 @@ returns-in_err-cells-clause-answered g c clean unlimited =
 pub returns-clause-rows : goal.returns-clause-rows
 returns-clause-rows g c clean =
     let old = state g.S.Store c.args.conn.now in
-    let new = state g.S.Store c.read_caches.new.conn in
+    let new = state g.S.Store c.read_rows.new.conn in
     let there : is_there old.now.schema caches ≡ true = sym c.has_table.ensures ∙ c.if-not-has_table.false in
     (there, rows_before caches (λ xs. xs.items) AnyRows old old new (same_state old) c.in_ok-cells.cells (λ apart. apart) (c.in_ok-cells.ensures.answers clean))

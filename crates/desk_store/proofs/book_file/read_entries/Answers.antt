@@ -12,7 +12,7 @@ use Rattle.desk_store.proofs.book_file.read_entries.Goals as goal
 pub returns-in_err-entries-in-Unnamed-clause-refused : goal.returns-in_err-entries-in-Unnamed-clause-refused
 returns-in_err-entries-in-Unnamed-clause-refused g c clean =
     let old = state g.S.Store c.args.conn.now in
-    let new = state g.S.Store c.read_corrs.new.conn in
+    let new = state g.S.Store c.read_rows.new.conn in
     let p = err_from_is_err_and c.from_residual.result c.from_residual.ensures.1 in
     rw (p.1, p.2, c.in-Unnamed.is)
     (never_refused_of (λ xs. xs.items) corrs (λ x. x) AnyRows old old new (same_state old) refl unnamed c.in_err-entries-in-Unnamed.field-0.0 refl (c.in_err-entries-in-Unnamed.ensures.answers clean) (any_apart corrs (shown corrs) old))
@@ -20,7 +20,7 @@ returns-in_err-entries-in-Unnamed-clause-refused g c clean =
 pub returns-in_err-entries-in-Named-clause-refused : goal.returns-in_err-entries-in-Named-clause-refused
 returns-in_err-entries-in-Named-clause-refused g c clean =
     let old = state g.S.Store c.args.conn.now in
-    let new = state g.S.Store c.read_named_corrs.new.conn in
+    let new = state g.S.Store c.read_rows-in-Named.new.conn in
     let p = err_from_is_err_and c.from_residual-in_err-entries-in-Named.result c.from_residual-in_err-entries-in-Named.ensures.1 in
     rw (p.1, p.2, c.in-Named.is)
     (never_refused_of (λ xs. xs.items) named_corrs (λ x. x) AnyRows old old new (same_state old) refl named c.in_err-entries-in-Named.field-0.0 refl (c.in_err-entries-in-Named.ensures.answers clean) (any_apart named_corrs (shown named_corrs) old))
@@ -28,21 +28,21 @@ returns-in_err-entries-in-Named-clause-refused g c clean =
 pub returns-in_ok-entries-in-Unnamed-clause-gives : goal.returns-in_ok-entries-in-Unnamed-clause-gives
 returns-in_ok-entries-in-Unnamed-clause-gives g c clean =
     let old = state g.S.Store c.args.conn.now in
-    let new = state g.S.Store c.read_corrs.new.conn in
+    let new = state g.S.Store c.read_rows.new.conn in
     rw c.in-Unnamed.is (λ l file of was. rw (of named_corrs).1
     (as_listed _ _ (read_of (λ xs. xs.items) corrs (λ x. x) AnyRows old old new (same_state old) refl c.in_ok-entries-in-Unnamed.entries (c.in_ok-entries-in-Unnamed.ensures.answers clean) l file (has_needed unnamed l corrs of refl) was)))
 
 pub returns-in_ok-entries-in-Named-clause-gives : goal.returns-in_ok-entries-in-Named-clause-gives
 returns-in_ok-entries-in-Named-clause-gives g c clean =
     let old = state g.S.Store c.args.conn.now in
-    let new = state g.S.Store c.read_named_corrs.new.conn in
+    let new = state g.S.Store c.read_rows-in-Named.new.conn in
     rw c.in-Named.is (λ l file of was. rw (of named_corrs).1
     (as_listed _ _ (read_of (λ xs. xs.items) named_corrs (λ x. x) AnyRows old old new (same_state old) refl c.in_ok-entries-in-Named.entries (c.in_ok-entries-in-Named.ensures.answers clean) l file (has_needed named l named_corrs of refl) was)))
 
 pub returns-in_err-entries-in-Unnamed-clause-answered : goal.returns-in_err-entries-in-Unnamed-clause-answered
 returns-in_err-entries-in-Unnamed-clause-answered g c clean unlimited =
     let old = state g.S.Store c.args.conn.now in
-    let new = state g.S.Store c.read_corrs.new.conn in
+    let new = state g.S.Store c.read_rows.new.conn in
     let p = err_from_is_err_and c.from_residual.result c.from_residual.ensures.1 in
     rw (p.1, p.2, c.in-Unnamed.is)
     (λ is can. never_refused_any corrs (λ xs. xs.items) AnyRows old old new (same_state old) c.in_err-entries-in-Unnamed.field-0.0 (λ xs apart. apart) (c.in_err-entries-in-Unnamed.ensures.answers clean) unlimited (can corrs tt) is)
@@ -50,7 +50,7 @@ returns-in_err-entries-in-Unnamed-clause-answered g c clean unlimited =
 pub returns-in_err-entries-in-Named-clause-answered : goal.returns-in_err-entries-in-Named-clause-answered
 returns-in_err-entries-in-Named-clause-answered g c clean unlimited =
     let old = state g.S.Store c.args.conn.now in
-    let new = state g.S.Store c.read_named_corrs.new.conn in
+    let new = state g.S.Store c.read_rows-in-Named.new.conn in
     let p = err_from_is_err_and c.from_residual-in_err-entries-in-Named.result c.from_residual-in_err-entries-in-Named.ensures.1 in
     rw (p.1, p.2, c.in-Named.is)
     (λ is can. never_refused_any named_corrs (λ xs. xs.items) AnyRows old old new (same_state old) c.in_err-entries-in-Named.field-0.0 (λ xs apart. apart) (c.in_err-entries-in-Named.ensures.answers clean) unlimited (can named_corrs tt) is)
@@ -58,25 +58,25 @@ returns-in_err-entries-in-Named-clause-answered g c clean unlimited =
 pub returns-in_ok-entries-in-Unnamed-clause-rows : goal.returns-in_ok-entries-in-Unnamed-clause-rows
 returns-in_ok-entries-in-Unnamed-clause-rows g c clean =
     let old = state g.S.Store c.args.conn.now in
-    let new = state g.S.Store c.read_corrs.new.conn in
+    let new = state g.S.Store c.read_rows.new.conn in
     rows_before corrs (λ xs. xs.items) AnyRows old old new (same_state old) c.in_ok-entries-in-Unnamed.entries (λ apart. apart) (c.in_ok-entries-in-Unnamed.ensures.answers clean)
 
 pub returns-in_ok-entries-in-Named-clause-rows : goal.returns-in_ok-entries-in-Named-clause-rows
 returns-in_ok-entries-in-Named-clause-rows g c clean =
     let old = state g.S.Store c.args.conn.now in
-    let new = state g.S.Store c.read_named_corrs.new.conn in
+    let new = state g.S.Store c.read_rows-in-Named.new.conn in
     rows_before named_corrs (λ xs. xs.items) AnyRows old old new (same_state old) c.in_ok-entries-in-Named.entries (λ apart. apart) (c.in_ok-entries-in-Named.ensures.answers clean)
 
 pub returns-in_ok-entries-in-Unnamed-clause-readable : goal.returns-in_ok-entries-in-Unnamed-clause-readable
 returns-in_ok-entries-in-Unnamed-clause-readable g c clean =
     let old = state g.S.Store c.args.conn.now in
-    let new = state g.S.Store c.read_corrs.new.conn in
+    let new = state g.S.Store c.read_rows.new.conn in
     rw c.in-Unnamed.is (λ l file of was.
     texts_of corrs (λ xs. xs.items) AnyRows old new c.in_ok-entries-in-Unnamed.entries (c.in_ok-entries-in-Unnamed.ensures.answers clean) l file (of corrs).1 was)
 
 pub returns-in_ok-entries-in-Named-clause-readable : goal.returns-in_ok-entries-in-Named-clause-readable
 returns-in_ok-entries-in-Named-clause-readable g c clean =
     let old = state g.S.Store c.args.conn.now in
-    let new = state g.S.Store c.read_named_corrs.new.conn in
+    let new = state g.S.Store c.read_rows-in-Named.new.conn in
     rw c.in-Named.is (λ l file of was.
     texts_of named_corrs (λ xs. xs.items) AnyRows old new c.in_ok-entries-in-Named.entries (c.in_ok-entries-in-Named.ensures.answers clean) l file (of named_corrs).1 was)

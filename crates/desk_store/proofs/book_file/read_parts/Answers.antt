@@ -18,7 +18,7 @@ use Rattle.desk_store.proofs.book_file.read_parts.Goals as goal
 pub returns-in_err-books-clause-unrefused : goal.returns-in_err-books-clause-unrefused
 returns-in_err-books-clause-unrefused g c clean book shows =
     let old = state g.S.Store c.args.conn.now in
-    let new = state g.S.Store c.read_books.new.conn in
+    let new = state g.S.Store c.read_rows.new.conn in
     let p = err_from_is_err_and c.from_residual.result c.from_residual.ensures.1 in
     rw (p.1, p.2)
     (λ is. books_answered (λ xs. xs.items) _ c.in_err-books.field-0.0 old new (c.in_err-books.ensures.answers clean) c.requires.unlimited shows.answer (refusal_is _ is))
@@ -26,7 +26,7 @@ returns-in_err-books-clause-unrefused g c clean book shows =
 pub returns-in_err-book-clause-unrefused : goal.returns-in_err-book-clause-unrefused
 returns-in_err-book-clause-unrefused g c clean book shows =
     let old = state g.S.Store c.args.conn.now in
-    let mid = state g.S.Store c.read_books.new.conn in
+    let mid = state g.S.Store c.read_rows.new.conn in
     let rows = c.in_ok-books.books.items in
     let are = books_in (λ xs. xs.items) c.in_ok-books.books old mid (c.in_ok-books.ensures.answers clean) in
     let p = err_from_is_err_and c.from_residual-in_err-book.result c.from_residual-in_err-book.ensures.1 in
@@ -46,7 +46,7 @@ returns-in_err-book-clause-told g c clean l file those was =
 pub returns-then-not-has_tables-clause-unrefused : goal.returns-then-not-has_tables-clause-unrefused
 returns-then-not-has_tables-clause-unrefused g c clean book shows =
     let old = state g.S.Store c.args.conn.now in
-    let mid = state g.S.Store c.read_books.new.conn in
+    let mid = state g.S.Store c.read_rows.new.conn in
     let rows = c.in_ok-books.books.items in
     let row = c.in_ok-book.book in
     let it = judged (λ xs. xs.items) c.in_ok-books.books old mid c.deref.result.now row (sym c.has_table.ensures ∙ c.if-not-has_table.false) (c.in_ok-books.ensures.answers clean) c.deref.ensures.value c.in_ok-book.ensures.book in
@@ -57,7 +57,7 @@ returns-then-not-has_tables-clause-unrefused g c clean book shows =
 pub returns-then-not-has_tables-clause-told : goal.returns-then-not-has_tables-clause-told
 returns-then-not-has_tables-clause-told g c clean l file those was =
     let old = state g.S.Store c.args.conn.now in
-    let mid = state g.S.Store c.read_books.new.conn in
+    let mid = state g.S.Store c.read_rows.new.conn in
     let row = c.in_ok-book.book in
     let it = judged (λ xs. xs.items) c.in_ok-books.books old mid c.deref.result.now row (sym c.has_table.ensures ∙ c.if-not-has_table.false) (c.in_ok-books.ensures.answers clean) c.deref.ensures.value c.in_ok-book.ensures.book in
     let none : has_tables (format_in row.format) old.now.schema ≡ false = tables_there it (format_read c.format_of-format.result) c.has_tables.result false c.has_tables.ensures c.format_of-format.ensures c.if-not-has_tables.true in
@@ -66,7 +66,7 @@ returns-then-not-has_tables-clause-told g c clean l file those was =
 pub returns-in_err-parts-clause-unrefused : goal.returns-in_err-parts-clause-unrefused
 returns-in_err-parts-clause-unrefused g c clean book shows =
     let old = state g.S.Store c.args.conn.now in
-    let mid = state g.S.Store c.read_books.new.conn in
+    let mid = state g.S.Store c.read_rows.new.conn in
     let rows = c.in_ok-books.books.items in
     let row = c.in_ok-book.book in
     let early : HasCleanDisk mid = omega (arith, clean, c.read_rest.ensures.survives.clean) in
@@ -74,12 +74,12 @@ returns-in_err-parts-clause-unrefused g c clean book shows =
     let kept = kept_by_row old book shows rows it.are row it.is ∙ sym c.format_of-format.ensures in
     let can = can_all_still old mid it.so_far (format_read c.format_of-format.result) (subst (λ (f : Format). CanAllAnswer f old) kept shows.answer) in
     let p = err_from_is_err_and c.from_residual-in_err-parts.result c.from_residual-in_err-parts.ensures.1 in
-    rw (p.1, p.2) (λ refusal. c.in_err-parts.ensures.answered clean (c.read_books.ensures.survives.limit ∙ c.requires.unlimited) (refusal_is _ refusal) can)
+    rw (p.1, p.2) (λ refusal. c.in_err-parts.ensures.answered clean (c.read_rows.ensures.survives.limit ∙ c.requires.unlimited) (refusal_is _ refusal) can)
 
 pub returns-in_err-parts-clause-told : goal.returns-in_err-parts-clause-told
 returns-in_err-parts-clause-told g c clean l file those was =
     let old = state g.S.Store c.args.conn.now in
-    let mid = state g.S.Store c.read_books.new.conn in
+    let mid = state g.S.Store c.read_rows.new.conn in
     let row = c.in_ok-book.book in
     let early : HasCleanDisk mid = omega (arith, clean, c.read_rest.ensures.survives.clean) in
     let it = judged (λ xs. xs.items) c.in_ok-books.books old mid c.deref.result.now row (sym c.has_table.ensures ∙ c.if-not-has_table.false) (c.in_ok-books.ensures.answers early) c.deref.ensures.value c.in_ok-book.ensures.book in
@@ -88,12 +88,12 @@ returns-in_err-parts-clause-told g c clean l file those was =
     (read_told l file c.in_err-parts.field-0.0 (λ refused.
     lacks_readable it l file those was c.requires.unlimited (λ readable.
     (c.in_err-parts.ensures.refused clean refused).1
-    (readable_still old mid it.so_far (format_read c.format_of-format.result) c.read_books.ensures.survives.limit (subst (λ (f : Format). ShowsReadable f old) (sym c.format_of-format.ensures) readable)))))
+    (readable_still old mid it.so_far (format_read c.format_of-format.result) c.read_rows.ensures.survives.limit (subst (λ (f : Format). ShowsReadable f old) (sym c.format_of-format.ensures) readable)))))
 
 pub returns-in_err-parts-clause-refused : goal.returns-in_err-parts-clause-refused
 returns-in_err-parts-clause-refused g c clean =
     let old = state g.S.Store c.args.conn.now in
-    let mid = state g.S.Store c.read_books.new.conn in
+    let mid = state g.S.Store c.read_rows.new.conn in
     let new = state g.S.Store c.read_rest.new.conn in
     let early : HasCleanDisk mid = omega (arith, clean, c.read_rest.ensures.survives.clean) in
     let so_far : Stays old mid = stays_read (λ xs. xs.items) books (λ x. x) AnyRows old mid c.in_ok-books.books (c.in_ok-books.ensures.answers early) in
@@ -103,7 +103,7 @@ returns-in_err-parts-clause-refused g c clean =
 pub returns-clause-found : goal.returns-clause-found
 returns-clause-found g c clean =
     let old = state g.S.Store c.args.conn.now in
-    let mid = state g.S.Store c.read_books.new.conn in
+    let mid = state g.S.Store c.read_rows.new.conn in
     let row = c.in_ok-book.book in
     let early : HasCleanDisk mid = omega (arith, clean, c.read_rest.ensures.survives.clean) in
     let it = judged (λ xs. xs.items) c.in_ok-books.books old mid c.deref.result.now row (sym c.has_table.ensures ∙ c.if-not-has_table.false) (c.in_ok-books.ensures.answers early) c.deref.ensures.value c.in_ok-book.ensures.book in
@@ -116,7 +116,7 @@ returns-clause-found g c clean =
 pub returns-clause-read : goal.returns-clause-read
 returns-clause-read g c clean format l file of was =
     let old = state g.S.Store c.args.conn.now in
-    let mid = state g.S.Store c.read_books.new.conn in
+    let mid = state g.S.Store c.read_rows.new.conn in
     let row = c.in_ok-book.book in
     let early : HasCleanDisk mid = omega (arith, clean, c.read_rest.ensures.survives.clean) in
     let it = judged (λ xs. xs.items) c.in_ok-books.books old mid c.deref.result.now row (sym c.has_table.ensures ∙ c.if-not-has_table.false) (c.in_ok-books.ensures.answers early) c.deref.ensures.value c.in_ok-book.ensures.book in
@@ -133,11 +133,11 @@ returns-clause-read g c clean format l file of was =
 pub returns-clause-unchanged : goal.returns-clause-unchanged
 returns-clause-unchanged g c clean =
     let old = state g.S.Store c.args.conn.now in
-    let mid = state g.S.Store c.read_books.new.conn in
+    let mid = state g.S.Store c.read_rows.new.conn in
     let new = state g.S.Store c.read_rest.new.conn in
     let early : HasCleanDisk mid = omega (arith, clean, c.read_rest.ensures.survives.clean) in
     stays_then old mid new (stays_read (λ xs. xs.items) books (λ x. x) AnyRows old mid c.in_ok-books.books (c.in_ok-books.ensures.answers early)) (c.in_ok-parts.ensures.unchanged clean)
 
 pub returns-clause-survives : goal.returns-clause-survives
 returns-clause-survives g c =
-    survive_both (state g.S.Store c.args.conn.now) (state g.S.Store c.read_books.new.conn) (state g.S.Store c.read_rest.new.conn) c.read_books.ensures.survives c.read_rest.ensures.survives
+    survive_both (state g.S.Store c.args.conn.now) (state g.S.Store c.read_rows.new.conn) (state g.S.Store c.read_rest.new.conn) c.read_rows.ensures.survives c.read_rest.ensures.survives

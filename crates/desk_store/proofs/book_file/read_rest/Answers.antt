@@ -25,10 +25,10 @@ pub returns-in_err-paras-clause-refused : goal.returns-in_err-paras-clause-refus
 returns-in_err-paras-clause-refused g c clean =
     let old = state g.S.Store c.args.conn.now in
     let one = state g.S.Store c.read_tabs.new.conn in
-    let new = state g.S.Store c.read_paras.new.conn in
+    let new = state g.S.Store c.read_rows.new.conn in
     let p = err_from_is_err_and c.from_residual-in_err-paras.result c.from_residual-in_err-paras.ensures.1 in
     let f = format_read c.args.format in
-    let early : HasCleanDisk one = omega (arith, c.read_paras.ensures.survives.clean) in
+    let early : HasCleanDisk one = omega (arith, c.read_rows.ensures.survives.clean) in
     let so_far : Stays old one = stays_read (λ xs. xs.items) tabs (λ x. x) HaveOwnRowids old one c.in_ok-tabs.tabs (c.in_ok-tabs.ensures.answers early) in
     rw (p.1, p.2)
     (never_refused_of (λ xs. xs.items) paras (λ x. x) AnyRows old one new so_far c.read_tabs.ensures.survives.limit f c.in_err-paras.field-0.0 (needs_paras f) (c.in_err-paras.ensures.answers clean) (any_apart paras (shown paras) one))
@@ -37,19 +37,19 @@ pub returns-in_err-marks-clause-refused : goal.returns-in_err-marks-clause-refus
 returns-in_err-marks-clause-refused g c clean =
     let old = state g.S.Store c.args.conn.now in
     let one = state g.S.Store c.read_tabs.new.conn in
-    let two = state g.S.Store c.read_paras.new.conn in
+    let two = state g.S.Store c.read_rows.new.conn in
     let three = state g.S.Store c.read_entries.new.conn in
-    let new = state g.S.Store c.read_marks.new.conn in
+    let new = state g.S.Store c.read_rows-2.new.conn in
     let p = err_from_is_err_and c.from_residual-in_err-marks.result c.from_residual-in_err-marks.ensures.1 in
     let f = format_read c.args.format in
-    let third : HasCleanDisk three = omega (arith, c.read_marks.ensures.survives.clean) in
+    let third : HasCleanDisk three = omega (arith, c.read_rows-2.ensures.survives.clean) in
     let second : HasCleanDisk two = omega (arith, third, c.read_entries.ensures.survives.clean) in
-    let first : HasCleanDisk one = omega (arith, second, c.read_paras.ensures.survives.clean) in
+    let first : HasCleanDisk one = omega (arith, second, c.read_rows.ensures.survives.clean) in
     let so_far : Stays old two =
     stays_then old one two
     (stays_read (λ xs. xs.items) tabs (λ x. x) HaveOwnRowids old one c.in_ok-tabs.tabs (c.in_ok-tabs.ensures.answers first))
     (stays_read (λ xs. xs.items) paras (λ x. x) AnyRows one two c.in_ok-paras.paras (c.in_ok-paras.ensures.answers second)) in
-    let limit = c.read_entries.ensures.survives.limit ∙ c.read_paras.ensures.survives.limit ∙ c.read_tabs.ensures.survives.limit in
+    let limit = c.read_entries.ensures.survives.limit ∙ c.read_rows.ensures.survives.limit ∙ c.read_tabs.ensures.survives.limit in
     rw (p.1, p.2)
     (never_refused_of (λ xs. xs.items) marks (λ x. x) AnyRows old three new (stays_then old two three so_far (c.in_ok-entries.ensures.unchanged third)) limit f c.in_err-marks.field-0.0 (needs_marks f) (c.in_err-marks.ensures.answers clean) (any_apart marks (shown marks) three))
 
@@ -57,14 +57,14 @@ pub returns-clause-gives : goal.returns-clause-gives
 returns-clause-gives g c clean l file of was =
     let old = state g.S.Store c.args.conn.now in
     let one = state g.S.Store c.read_tabs.new.conn in
-    let two = state g.S.Store c.read_paras.new.conn in
+    let two = state g.S.Store c.read_rows.new.conn in
     let three = state g.S.Store c.read_entries.new.conn in
-    let four = state g.S.Store c.read_marks.new.conn in
+    let four = state g.S.Store c.read_rows-2.new.conn in
     let f = format_read c.args.format in
     let fourth : HasCleanDisk four = omega (arith, clean, c.read_cells.ensures.survives.clean) in
-    let third : HasCleanDisk three = omega (arith, fourth, c.read_marks.ensures.survives.clean) in
+    let third : HasCleanDisk three = omega (arith, fourth, c.read_rows-2.ensures.survives.clean) in
     let second : HasCleanDisk two = omega (arith, third, c.read_entries.ensures.survives.clean) in
-    let first : HasCleanDisk one = omega (arith, second, c.read_paras.ensures.survives.clean) in
+    let first : HasCleanDisk one = omega (arith, second, c.read_rows.ensures.survives.clean) in
     let to_one : Stays old one = stays_read (λ xs. xs.items) tabs (λ x. x) HaveOwnRowids old one c.in_ok-tabs.tabs (c.in_ok-tabs.ensures.answers first) in
     let to_two : Stays old two = stays_then old one two to_one (stays_read (λ xs. xs.items) paras (λ x. x) AnyRows one two c.in_ok-paras.paras (c.in_ok-paras.ensures.answers second)) in
     let to_three : Stays old three = stays_then old two three to_two (c.in_ok-entries.ensures.unchanged third) in
@@ -91,9 +91,9 @@ pub returns-in_err-paras-clause-answered : goal.returns-in_err-paras-clause-answ
 returns-in_err-paras-clause-answered g c clean unlimited =
     let old = state g.S.Store c.args.conn.now in
     let one = state g.S.Store c.read_tabs.new.conn in
-    let new = state g.S.Store c.read_paras.new.conn in
+    let new = state g.S.Store c.read_rows.new.conn in
     let f = format_read c.args.format in
-    let first : HasCleanDisk one = omega (arith, clean, c.read_paras.ensures.survives.clean) in
+    let first : HasCleanDisk one = omega (arith, clean, c.read_rows.ensures.survives.clean) in
     let to_one : Stays old one = stays_read (λ xs. xs.items) tabs (λ x. x) HaveOwnRowids old one c.in_ok-tabs.tabs (c.in_ok-tabs.ensures.answers first) in
     let p = err_from_is_err_and c.from_residual-in_err-paras.result c.from_residual-in_err-paras.ensures.1 in
     rw (p.1, p.2)
@@ -103,86 +103,86 @@ pub returns-in_err-marks-clause-answered : goal.returns-in_err-marks-clause-answ
 returns-in_err-marks-clause-answered g c clean unlimited =
     let old = state g.S.Store c.args.conn.now in
     let one = state g.S.Store c.read_tabs.new.conn in
-    let two = state g.S.Store c.read_paras.new.conn in
+    let two = state g.S.Store c.read_rows.new.conn in
     let three = state g.S.Store c.read_entries.new.conn in
-    let new = state g.S.Store c.read_marks.new.conn in
+    let new = state g.S.Store c.read_rows-2.new.conn in
     let f = format_read c.args.format in
-    let third : HasCleanDisk three = omega (arith, clean, c.read_marks.ensures.survives.clean) in
+    let third : HasCleanDisk three = omega (arith, clean, c.read_rows-2.ensures.survives.clean) in
     let second : HasCleanDisk two = omega (arith, third, c.read_entries.ensures.survives.clean) in
-    let first : HasCleanDisk one = omega (arith, second, c.read_paras.ensures.survives.clean) in
+    let first : HasCleanDisk one = omega (arith, second, c.read_rows.ensures.survives.clean) in
     let to_one : Stays old one = stays_read (λ xs. xs.items) tabs (λ x. x) HaveOwnRowids old one c.in_ok-tabs.tabs (c.in_ok-tabs.ensures.answers first) in
     let to_two : Stays old two = stays_then old one two to_one (stays_read (λ xs. xs.items) paras (λ x. x) AnyRows one two c.in_ok-paras.paras (c.in_ok-paras.ensures.answers second)) in
     let to_three : Stays old three = stays_then old two three to_two (c.in_ok-entries.ensures.unchanged third) in
     let p = err_from_is_err_and c.from_residual-in_err-marks.result c.from_residual-in_err-marks.ensures.1 in
     rw (p.1, p.2)
-    (never_refused_needed marks (λ xs. xs.items) AnyRows old three new to_three f c.in_err-marks.field-0.0 (needs_marks f) (λ xs apart. apart) (c.in_err-marks.ensures.answers clean) (c.read_entries.ensures.survives.limit ∙ c.read_paras.ensures.survives.limit ∙ c.read_tabs.ensures.survives.limit ∙ unlimited))
+    (never_refused_needed marks (λ xs. xs.items) AnyRows old three new to_three f c.in_err-marks.field-0.0 (needs_marks f) (λ xs apart. apart) (c.in_err-marks.ensures.answers clean) (c.read_entries.ensures.survives.limit ∙ c.read_rows.ensures.survives.limit ∙ c.read_tabs.ensures.survives.limit ∙ unlimited))
 
 pub returns-in_err-entries-clause-answered : goal.returns-in_err-entries-clause-answered
 returns-in_err-entries-clause-answered g c clean unlimited =
     let old = state g.S.Store c.args.conn.now in
     let one = state g.S.Store c.read_tabs.new.conn in
-    let two = state g.S.Store c.read_paras.new.conn in
+    let two = state g.S.Store c.read_rows.new.conn in
     let new = state g.S.Store c.read_entries.new.conn in
     let f = format_read c.args.format in
     let second : HasCleanDisk two = omega (arith, clean, c.read_entries.ensures.survives.clean) in
-    let first : HasCleanDisk one = omega (arith, second, c.read_paras.ensures.survives.clean) in
+    let first : HasCleanDisk one = omega (arith, second, c.read_rows.ensures.survives.clean) in
     let to_one : Stays old one = stays_read (λ xs. xs.items) tabs (λ x. x) HaveOwnRowids old one c.in_ok-tabs.tabs (c.in_ok-tabs.ensures.answers first) in
     let to_two : Stays old two = stays_then old one two to_one (stays_read (λ xs. xs.items) paras (λ x. x) AnyRows one two c.in_ok-paras.paras (c.in_ok-paras.ensures.answers second)) in
     let p = err_from_is_err_and c.from_residual-in_err-entries.result c.from_residual-in_err-entries.ensures.1 in
     rw (p.1, p.2)
-    (λ is can. c.in_err-entries.ensures.answered clean (c.read_paras.ensures.survives.limit ∙ c.read_tabs.ensures.survives.limit ∙ unlimited) is (can_all_still old two to_two f can))
+    (λ is can. c.in_err-entries.ensures.answered clean (c.read_rows.ensures.survives.limit ∙ c.read_tabs.ensures.survives.limit ∙ unlimited) is (can_all_still old two to_two f can))
 
 pub returns-in_err-cache-clause-answered : goal.returns-in_err-cache-clause-answered
 returns-in_err-cache-clause-answered g c clean unlimited =
     let old = state g.S.Store c.args.conn.now in
     let one = state g.S.Store c.read_tabs.new.conn in
-    let two = state g.S.Store c.read_paras.new.conn in
+    let two = state g.S.Store c.read_rows.new.conn in
     let three = state g.S.Store c.read_entries.new.conn in
-    let four = state g.S.Store c.read_marks.new.conn in
+    let four = state g.S.Store c.read_rows-2.new.conn in
     let new = state g.S.Store c.read_cells.new.conn in
     let f = format_read c.args.format in
     let fourth : HasCleanDisk four = omega (arith, clean, c.read_cells.ensures.survives.clean) in
-    let third : HasCleanDisk three = omega (arith, fourth, c.read_marks.ensures.survives.clean) in
+    let third : HasCleanDisk three = omega (arith, fourth, c.read_rows-2.ensures.survives.clean) in
     let second : HasCleanDisk two = omega (arith, third, c.read_entries.ensures.survives.clean) in
-    let first : HasCleanDisk one = omega (arith, second, c.read_paras.ensures.survives.clean) in
+    let first : HasCleanDisk one = omega (arith, second, c.read_rows.ensures.survives.clean) in
     let to_one : Stays old one = stays_read (λ xs. xs.items) tabs (λ x. x) HaveOwnRowids old one c.in_ok-tabs.tabs (c.in_ok-tabs.ensures.answers first) in
     let to_two : Stays old two = stays_then old one two to_one (stays_read (λ xs. xs.items) paras (λ x. x) AnyRows one two c.in_ok-paras.paras (c.in_ok-paras.ensures.answers second)) in
     let to_three : Stays old three = stays_then old two three to_two (c.in_ok-entries.ensures.unchanged third) in
     let to_four : Stays old four = stays_then old three four to_three (stays_read (λ xs. xs.items) marks (λ x. x) AnyRows three four c.in_ok-marks.marks (c.in_ok-marks.ensures.answers fourth)) in
     let p = err_from_is_err_and c.from_residual-in_err-cache.result c.from_residual-in_err-cache.ensures.1 in
     rw (p.1, p.2)
-    (λ is can. c.in_err-cache.ensures.answered clean (c.read_marks.ensures.survives.limit ∙ c.read_entries.ensures.survives.limit ∙ c.read_paras.ensures.survives.limit ∙ c.read_tabs.ensures.survives.limit ∙ unlimited) is (can_all_still old four to_four f can))
+    (λ is can. c.in_err-cache.ensures.answered clean (c.read_rows-2.ensures.survives.limit ∙ c.read_entries.ensures.survives.limit ∙ c.read_rows.ensures.survives.limit ∙ c.read_tabs.ensures.survives.limit ∙ unlimited) is (can_all_still old four to_four f can))
 
 pub returns-in_err-entries-clause-refused : goal.returns-in_err-entries-clause-refused
 returns-in_err-entries-clause-refused g c clean =
     let old = state g.S.Store c.args.conn.now in
     let one = state g.S.Store c.read_tabs.new.conn in
-    let two = state g.S.Store c.read_paras.new.conn in
+    let two = state g.S.Store c.read_rows.new.conn in
     let new = state g.S.Store c.read_entries.new.conn in
     let f = format_read c.args.format in
     let second : HasCleanDisk two = omega (arith, clean, c.read_entries.ensures.survives.clean) in
-    let first : HasCleanDisk one = omega (arith, second, c.read_paras.ensures.survives.clean) in
+    let first : HasCleanDisk one = omega (arith, second, c.read_rows.ensures.survives.clean) in
     let to_one : Stays old one = stays_read (λ xs. xs.items) tabs (λ x. x) HaveOwnRowids old one c.in_ok-tabs.tabs (c.in_ok-tabs.ensures.answers first) in
     let to_two : Stays old two = stays_then old one two to_one (stays_read (λ xs. xs.items) paras (λ x. x) AnyRows one two c.in_ok-paras.paras (c.in_ok-paras.ensures.answers second)) in
     let p = err_from_is_err_and c.from_residual-in_err-entries.result c.from_residual-in_err-entries.ensures.1 in
     rw (p.1, p.2)
     (λ is.
     let none = c.in_err-entries.ensures.refused clean is in
-    (stays_then old two new to_two none.0, λ r. none.1 (readable_still old two to_two f (c.read_paras.ensures.survives.limit ∙ c.read_tabs.ensures.survives.limit) r)))
+    (stays_then old two new to_two none.0, λ r. none.1 (readable_still old two to_two f (c.read_rows.ensures.survives.limit ∙ c.read_tabs.ensures.survives.limit) r)))
 
 pub returns-clause-rows : goal.returns-clause-rows
 returns-clause-rows g c clean =
     let old = state g.S.Store c.args.conn.now in
     let one = state g.S.Store c.read_tabs.new.conn in
-    let two = state g.S.Store c.read_paras.new.conn in
+    let two = state g.S.Store c.read_rows.new.conn in
     let three = state g.S.Store c.read_entries.new.conn in
-    let four = state g.S.Store c.read_marks.new.conn in
+    let four = state g.S.Store c.read_rows-2.new.conn in
     let new = state g.S.Store c.read_cells.new.conn in
     let f = format_read c.args.format in
     let fourth : HasCleanDisk four = omega (arith, clean, c.read_cells.ensures.survives.clean) in
-    let third : HasCleanDisk three = omega (arith, fourth, c.read_marks.ensures.survives.clean) in
+    let third : HasCleanDisk three = omega (arith, fourth, c.read_rows-2.ensures.survives.clean) in
     let second : HasCleanDisk two = omega (arith, third, c.read_entries.ensures.survives.clean) in
-    let first : HasCleanDisk one = omega (arith, second, c.read_paras.ensures.survives.clean) in
+    let first : HasCleanDisk one = omega (arith, second, c.read_rows.ensures.survives.clean) in
     let to_one : Stays old one = stays_read (λ xs. xs.items) tabs (λ x. x) HaveOwnRowids old one c.in_ok-tabs.tabs (c.in_ok-tabs.ensures.answers first) in
     let to_two : Stays old two = stays_then old one two to_one (stays_read (λ xs. xs.items) paras (λ x. x) AnyRows one two c.in_ok-paras.paras (c.in_ok-paras.ensures.answers second)) in
     let to_three : Stays old three = stays_then old two three to_two (c.in_ok-entries.ensures.unchanged third) in
@@ -201,15 +201,15 @@ pub returns-clause-readable : goal.returns-clause-readable
 returns-clause-readable g c clean l file of was =
     let old = state g.S.Store c.args.conn.now in
     let one = state g.S.Store c.read_tabs.new.conn in
-    let two = state g.S.Store c.read_paras.new.conn in
+    let two = state g.S.Store c.read_rows.new.conn in
     let three = state g.S.Store c.read_entries.new.conn in
-    let four = state g.S.Store c.read_marks.new.conn in
+    let four = state g.S.Store c.read_rows-2.new.conn in
     let new = state g.S.Store c.read_cells.new.conn in
     let f = format_read c.args.format in
     let fourth : HasCleanDisk four = omega (arith, clean, c.read_cells.ensures.survives.clean) in
-    let third : HasCleanDisk three = omega (arith, fourth, c.read_marks.ensures.survives.clean) in
+    let third : HasCleanDisk three = omega (arith, fourth, c.read_rows-2.ensures.survives.clean) in
     let second : HasCleanDisk two = omega (arith, third, c.read_entries.ensures.survives.clean) in
-    let first : HasCleanDisk one = omega (arith, second, c.read_paras.ensures.survives.clean) in
+    let first : HasCleanDisk one = omega (arith, second, c.read_rows.ensures.survives.clean) in
     let to_one : Stays old one = stays_read (λ xs. xs.items) tabs (λ x. x) HaveOwnRowids old one c.in_ok-tabs.tabs (c.in_ok-tabs.ensures.answers first) in
     let to_two : Stays old two = stays_then old one two to_one (stays_read (λ xs. xs.items) paras (λ x. x) AnyRows one two c.in_ok-paras.paras (c.in_ok-paras.ensures.answers second)) in
     let to_three : Stays old three = stays_then old two three to_two (c.in_ok-entries.ensures.unchanged third) in

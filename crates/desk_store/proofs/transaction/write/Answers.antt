@@ -18,7 +18,7 @@ returns-clause-written g c clean =
     let last = c.put_all.new.tx.conn.now in
     let end = c.commit.new.self.0 in
     let same : end ≡ c.conn-2-1.given.0 = search rules in
-    let late : HasCleanDisk (state g.S.Store end) = search rules in
+    let late = subst (λ h. HasCleanDisk (state g.S.Store h)) (sym same) clean in
     let it = rw c.begin-tx.ensures.begun at c.in_ok-put_all.ensures.put (omega (arith, c.commit.ensures.survives.clean)) in
     let writes = writes_on g.S.Store old last (state g.S.Store end) it.0 it.2.0 (c.in_ok-commit.ensures.ok late).1.now_is in
     (it.0, it.1, subst (λ h. Writes it.0 (state g.S.Store old) (state g.S.Store h)) same writes)
@@ -29,7 +29,7 @@ returns-clause-ran g c clean =
     let last = c.put_all.new.tx.conn.now in
     let end = c.commit.new.self.0 in
     let same : end ≡ c.conn-2-1.given.0 = search rules in
-    let late : HasCleanDisk (state g.S.Store end) = search rules in
+    let late = subst (λ h. HasCleanDisk (state g.S.Store h)) (sym same) clean in
     let it = rw c.begin-tx.ensures.begun at c.in_ok-put_all.ensures.put (omega (arith, c.commit.ensures.survives.clean)) in
     (it.0, it.1, subst (λ h. AreRun g.S.Store (map statement it.0) old (state g.S.Store h)) same (last, it.2.1, (c.in_ok-commit.ensures.ok late).1.now_is))
 
@@ -67,7 +67,7 @@ pub returns-clause-settled : goal.returns-clause-settled
 returns-clause-settled g c clean =
     let end = c.commit.new.self.0 in
     let same : end ≡ c.conn-2-1.given.0 = search rules in
-    let late : HasCleanDisk (state g.S.Store end) = search rules in
+    let late = subst (λ h. HasCleanDisk (state g.S.Store h)) (sym same) clean in
     let done = (c.in_ok-commit.ensures.ok late).1 in
     let all : Leaves (λ db. db ≡ (state g.S.Store end).now.trees) (state g.S.Store end) = λ db left. g.met.S.Store.settled end.store db done.is_open left ∙ ap (λ (d : Database). d.trees) (done.committed_is ∙ sym done.now_is) in
     subst (λ h. Leaves (λ db. db ≡ (state g.S.Store h).now.trees) (state g.S.Store h)) same all
@@ -78,7 +78,7 @@ returns-in_err-put_all-clause-told g c clean =
     let last = c.put_all.new.tx.conn.now in
     let end = c.drop-tx.new.self.0 in
     let same : end ≡ c.conn-1.given.0 = search rules in
-    let late : HasCleanDisk (state g.S.Store end) = search rules in
+    let late = subst (λ h. HasCleanDisk (state g.S.Store h)) (sym same) clean in
     let early : HasCleanDisk (state g.S.Store last) = omega (arith, c.drop-tx.ensures.survives.clean) in
     let began = c.begin-tx.ensures.begun in
     let undone = subst (λ h. Survives (state g.S.Store last) (state g.S.Store h) (λ _. ⊥)) same c.drop-tx.ensures.survives in
@@ -90,7 +90,7 @@ returns-in_err-commit-clause-told g c clean =
     let last = c.put_all.new.tx.conn.now in
     let end = c.commit.new.self.0 in
     let same : end ≡ c.conn-2-1.given.0 = search rules in
-    let late : HasCleanDisk (state g.S.Store end) = search rules in
+    let late = subst (λ h. HasCleanDisk (state g.S.Store h)) (sym same) clean in
     let early : HasCleanDisk (state g.S.Store last) = omega (arith, c.commit.ensures.survives.clean) in
     let began = c.begin-tx.ensures.begun in
     let inside = (rw began at c.in_ok-put_all.ensures.inside early) refl in

@@ -8,7 +8,7 @@ use Rattle.desk_store.specs.Asked.{asked, given}
 use Rattle.desk_store.specs.Described.{described}
 use Rattle.desk_store.proofs.Answering.{answers, fails}
 use Rattle.desk_store.proofs.WholeReads.{reads_only}
-use Rattle.desk_store.proofs.read.read_all.Goals as goal
+use Rattle.desk_store.proofs.read.read_rows.Goals as goal
 
 pub returns-clause-answers : goal.returns-clause-answers
 returns-clause-answers g c clean =
