@@ -19,7 +19,7 @@ use Rattle.desk_book.specs.Print.{print_of}
 use Rattle.desk_book.specs.Rows.{Corr, Tab, Para, NamedCorr, Mark as MarkRow, Cached}
 use Rattle.desk_book.specs.Shows.{AreCached, IsCached, IsUnnamed, Shows, book_row_of, entry_row_of, entry_rows_of, mark_row_of, para_of, paras_of, tab_of}
 use Rattle.desk_book.specs.Sound.{IsSound, IsSoundEntry, IsSoundMark, IsSoundParagraph, IsSoundTable}
-use Rattle.desk_book.specs.Stored.{AreCharacters}
+use Rattle.desk_command.specs.Characters.{AreCharacters}
 use Rattle.desk_book.proofs.Permutations.{IsPermutation-same}
 use Rattle.desk_book.proofs.PrintCharacters.{HasText, print-all}
 use Rattle.desk_book.proofs.SoundBooks.{IsSoundTable-found}

@@ -5,11 +5,11 @@ use Rattle.louis_table.specs.Meaning.{Meaning}
 use Rattle.louis_translate.specs.Position.{AreDefined}
 use Rattle.desk_book.specs.declared.change.Effect.{Effect}
 use Rattle.desk_book.specs.declared.corrections.NewEntry.{NewEntry}
-use Rattle.desk_book.specs.declared.command.Command.{Command}
-use Rattle.desk_book.specs.declared.command.Command.TheVariants.{Correct}
+use Rattle.desk_command.specs.declared.command.Command.{Command}
+use Rattle.desk_command.specs.declared.command.Command.TheVariants.{Correct}
 use Rattle.desk_book.specs.declared.paragraphs.Paragraph.{Paragraph as KeptParagraph}
-use Rattle.desk_book.specs.declared.refusal.Refusal.{Refusal}
-use Rattle.desk_book.specs.declared.refusal.Refusal.TheVariants.{BadReader, BadSpan, NoMemory, TooLong}
+use Rattle.desk_command.specs.declared.refusal.Refusal.{Refusal}
+use Rattle.desk_command.specs.declared.refusal.Refusal.TheVariants.{BadReader, BadSpan, NoMemory, TooLong}
 use Rattle.desk_book.specs.Book.{Book, Corrects, Paragraph, Replacement, paragraph_of}
 use Rattle.desk_book.specs.Changes.{Does}
 use Rattle.desk_book.specs.Corrected.{HaltsEntry, IsEntered, IsUnfit}
@@ -23,7 +23,8 @@ use Rattle.desk_book.specs.Print.{print_of, replaced, with_entry}
 use Rattle.desk_book.specs.Refusals.{HasLongNote}
 use Rattle.desk_book.specs.Shown.{IsShown}
 use Rattle.desk_book.specs.Step.{next_with_entry, replacement_by}
-use Rattle.desk_book.specs.Stored.{AreCharacters, IsUnbarred, stored}
+use Rattle.desk_book.specs.Stored.{IsUnbarred, stored}
+use Rattle.desk_command.specs.Characters.{AreCharacters}
 use Rattle.desk_book.proofs.EntryPlanned.{ChangesPrint-entered, short-sound}
 use Rattle.desk_book.proofs.EntryPlanning.{entered, halted, past_fit, unfit}
 use Rattle.desk_book.proofs.HistoryLists.{corrected-corrects}

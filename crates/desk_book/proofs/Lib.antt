@@ -3,7 +3,6 @@ pub mod Arranging
 pub mod BookRows
 pub mod ByName
 pub mod CellPlaces
-pub mod CharacterLists
 pub mod CorrectPlanning
 pub mod Decisions
 pub mod EntryPlanned

@@ -7,13 +7,13 @@ use Rattle.louis_table.proofs.OneMeaning.{one_meaning}
 use Rattle.louis_translate.specs.Braille.{braille}
 use Rattle.louis_translate.specs.Tiling.{Tiles}
 use Rattle.louis_translate.proofs.Tilings.{one_cover}
-use Rattle.desk_book.specs.declared.command.Command.{Command}
-use Rattle.desk_book.specs.declared.command.Command.TheVariants.{Mark, Resolve}
+use Rattle.desk_command.specs.declared.command.Command.{Command}
+use Rattle.desk_command.specs.declared.command.Command.TheVariants.{Mark, Resolve}
 use Rattle.desk_book.specs.declared.marks.KeptMark.{KeptMark}
 use Rattle.desk_book.specs.declared.paragraphs.Paragraph.{Paragraph as KeptParagraph}
-use Rattle.desk_book.specs.declared.refusal.Limit.TheVariants.{Marks, Version}
-use Rattle.desk_book.specs.declared.refusal.Refusal.{Refusal}
-use Rattle.desk_book.specs.declared.refusal.Refusal.TheVariants.{BadSpan, Full, NoMark, NoMemory, Resolved, TooLong}
+use Rattle.desk_command.specs.declared.refusal.Limit.TheVariants.{Marks, Version}
+use Rattle.desk_command.specs.declared.refusal.Refusal.{Refusal}
+use Rattle.desk_command.specs.declared.refusal.Refusal.TheVariants.{BadSpan, Full, NoMark, NoMemory, Resolved, TooLong}
 use Rattle.desk_book.specs.Book.{Book, Mark as BookMark, Paragraph, mark_of, text_of}
 use Rattle.desk_book.specs.Corrected.{IsUnfit}
 use Rattle.desk_book.specs.Judging.{Passes}

@@ -12,8 +12,8 @@ use Rattle.std.proofs.lemmas.List.Elements.{Contains-append_left, Contains-appen
 use Rattle.std.proofs.lemmas.List.Sorted.{Contains-permutation, IsPermutation-sym}
 use Rattle.std.proofs.lemmas.Simd.{map-map}
 use Rattle.desk_book.specs.declared.rows.BookRow.{BookRow}
-use Rattle.desk_book.specs.declared.style.Style.{Style}
-use Rattle.desk_book.specs.declared.style.Style.TheVariants.{Body, Heading}
+use Rattle.desk_command.specs.declared.style.Style.{Style}
+use Rattle.desk_command.specs.declared.style.Style.TheVariants.{Body, Heading}
 use Rattle.desk_book.specs.Book.{Entry, Corrects, Undoes, Paragraph, Mark, Book}
 use Rattle.desk_book.specs.FileRows.{FileRows, entries_in, format_of, spelled_entry, spelled_mark, spelled_para, spelled_tab}
 use Rattle.desk_book.specs.Rows.{Tab, Para, NamedCorr, Mark as MarkRow}

@@ -9,9 +9,9 @@ use Rattle.louis_table.specs.Meaning.{Meaning}
 use Rattle.louis_table.specs.Table.{Bad, Means}
 use Rattle.louis_table.specs.declared.fault.TableFault.{TableFault}
 use Rattle.louis_translate.specs.Position.{IsFirstUndefined}
-use Rattle.desk_book.specs.declared.command.Command.{Command}
-use Rattle.desk_book.specs.declared.refusal.Refusal.{Refusal}
-use Rattle.desk_book.specs.declared.refusal.Refusal.TheVariants.{Moved, BadName, BadReader, BadText, NoParagraph, NoTable, NoMark, Struck, NotStruck, Resolved, BadSpan, NothingToUndo, TooLong, Full, BadTable, Undefined, Untranslatable, NoMemory}
+use Rattle.desk_command.specs.declared.command.Command.{Command}
+use Rattle.desk_command.specs.declared.refusal.Refusal.{Refusal}
+use Rattle.desk_command.specs.declared.refusal.Refusal.TheVariants.{Moved, BadName, BadReader, BadText, NoParagraph, NoTable, NoMark, Struck, NotStruck, Resolved, BadSpan, NothingToUndo, TooLong, Full, BadTable, Undefined, Untranslatable, NoMemory}
 use Rattle.desk_book.specs.Book.{Book, Paragraph, text_of}
 use Rattle.desk_book.specs.Planned.{DefinesUser}
 use Rattle.desk_book.specs.Print.{print_of}

@@ -16,7 +16,7 @@ use Rattle.desk_book.specs.Puts.{PutCache, SetTable, SetVersion, put_in}
 use Rattle.desk_book.specs.Rows.{Cached, Para}
 use Rattle.desk_book.specs.Shows.{AreCached, IsCached, paras_of}
 use Rattle.desk_book.specs.Sound.{IsSound}
-use Rattle.desk_book.specs.Stored.{AreCharacters}
+use Rattle.desk_command.specs.Characters.{AreCharacters}
 use Rattle.desk_book.specs.Step.{next_with_paragraphs, with_change, without_paragraph}
 use Rattle.desk_book.proofs.BookRows.{encoded-text, name-characters, spelled-encoded}
 use Rattle.desk_book.proofs.Members.{Contains-map}

@@ -11,7 +11,7 @@ use Rattle.std.proofs.lemmas.Bool.{cases_Bool, cond-true, cond-false, cond_both,
 use Rattle.std.proofs.lemmas.List.Elements.{All-contains_itself, All-head, All-tail, All-weaker}
 use Rattle.std.proofs.lemmas.List.FromFn.{length-range_with_len, get_or-range_with_len}
 use Rattle.std.proofs.lemmas.List.Sorted.{IsPermutation-refl}
-use Rattle.desk_book.specs.declared.style.Style.{Style}
+use Rattle.desk_command.specs.declared.style.Style.{Style}
 use Rattle.desk_book.specs.Book.{Book, Mark, Paragraph}
 use Rattle.desk_book.specs.ChangePuts.{LeadTo, row_number}
 use Rattle.desk_book.specs.FileRows.{HasParaTexts, HasMarkText, format_of, spelled_mark, spelled_para}

@@ -29,7 +29,7 @@ use Rattle.desk_book.specs.Rows.{Cached, NamedCorr, Para}
 use Rattle.desk_book.specs.Shows.{AreCached, IsCached, Shows, entry_row_of, entry_rows_of, flag_number, para_of, paras_of, style_number}
 use Rattle.desk_book.specs.Sound.{IsSound, IsSoundParagraph}
 use Rattle.desk_book.specs.Step.{next_id, next_with_paragraphs}
-use Rattle.desk_book.specs.Stored.{AreCharacters}
+use Rattle.desk_command.specs.Characters.{AreCharacters}
 use Rattle.desk_book.proofs.BookRows.{encoded-text, name-characters, spelled-encoded}
 use Rattle.desk_book.proofs.Members.{Contains-cases, Contains-here, Contains-behind, Contains-map, Contains-none}
 use Rattle.desk_book.proofs.ParagraphLists.{ids_of}

@@ -29,7 +29,7 @@ use Rattle.desk_book.specs.Rows.{Cached, Mark as MarkRow, NamedCorr, Para}
 use Rattle.desk_book.specs.Shows.{AreCached, IsCached, Shows, book_row_of, entry_row_of, entry_rows_of, flag_number, mark_row_of, para_of, paras_of}
 use Rattle.desk_book.specs.Sound.{IsSound, IsSoundEntry, IsSoundMark, IsSoundParagraph}
 use Rattle.desk_book.specs.Step.{moved_on, next_with_entry}
-use Rattle.desk_book.specs.Stored.{AreCharacters}
+use Rattle.desk_command.specs.Characters.{AreCharacters}
 use Rattle.desk_book.proofs.Arranging.{slice_get-push}
 use Rattle.desk_book.proofs.BookRows.{HasCharacters, encoded-text, entry-text, history-characters, spelled-encoded}
 use Rattle.desk_book.proofs.MarkSettled.{IsWithin-sound}

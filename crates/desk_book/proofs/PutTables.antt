@@ -22,7 +22,7 @@ use Rattle.desk_book.specs.Rows.{Cached, Tab}
 use Rattle.desk_book.specs.Shows.{IsCached, tab_of}
 use Rattle.desk_book.specs.Sound.{IsSound}
 use Rattle.desk_book.specs.Step.{next_with_tables}
-use Rattle.desk_book.specs.Stored.{AreCharacters}
+use Rattle.desk_command.specs.Characters.{AreCharacters}
 use Rattle.desk_book.proofs.BookRows.{encoded-text, name-characters, spelled-encoded}
 use Rattle.desk_book.proofs.PutAdditions.{All-put_in, IsPermutation-put_in}
 use Rattle.desk_book.proofs.PutLists.{text-bytes}

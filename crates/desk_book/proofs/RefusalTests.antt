@@ -9,10 +9,10 @@ use Rattle.louis_table.specs.Table.{Bad, Means}
 use Rattle.louis_translate.proofs.Tilings.{one_tiling}
 use Rattle.louis_translate.specs.Braille.{braille}
 use Rattle.louis_translate.specs.Position.{IsFirstUndefined}
-use Rattle.desk_book.specs.declared.command.Command.{Command}
-use Rattle.desk_book.specs.declared.command.Command.TheVariants.{Correct, Undo, Mark}
-use Rattle.desk_book.specs.declared.refusal.Limit.{Limit}
-use Rattle.desk_book.specs.declared.refusal.Limit.TheVariants.{Tables, Paragraphs, Entries, Marks, Version}
+use Rattle.desk_command.specs.declared.command.Command.{Command}
+use Rattle.desk_command.specs.declared.command.Command.TheVariants.{Correct, Undo, Mark}
+use Rattle.desk_command.specs.declared.refusal.Limit.{Limit}
+use Rattle.desk_command.specs.declared.refusal.Limit.TheVariants.{Tables, Paragraphs, Entries, Marks, Version}
 use Rattle.desk_book.specs.Book.{Book, Mark as BookMark, Paragraph, mark_of, paragraph_of, text_of}
 use Rattle.desk_book.specs.Limits.{most_entries, most_marks, most_name, most_note, most_paragraphs, most_print, most_proofreader, most_tables, most_version}
 use Rattle.desk_book.specs.Name.{IsProofreaderName, IsTableName, is_name_character, is_proofreader_character}

@@ -16,8 +16,8 @@ use Rattle.desk_book.specs.Print.{corrected}
 use Rattle.desk_book.specs.Rows.{NamedCorr}
 use Rattle.desk_book.specs.Shows.{entry_row_of, flag_number, style_number}
 use Rattle.desk_book.specs.Sound.{IsSoundEntry, IsSoundHistory}
-use Rattle.desk_book.specs.Stored.{AreCharacters}
-use Rattle.desk_book.proofs.CharacterLists.{AreCharacters-scalars}
+use Rattle.desk_command.specs.Characters.{AreCharacters}
+use Rattle.desk_command.proofs.CharacterLists.{AreCharacters-scalars}
 use Rattle.desk_book.proofs.KeptBooks.{Contains-there}
 use Rattle.desk_book.proofs.OneBook.{number, to_flag, to_style}
 use Rattle.desk_book.proofs.Stable.{le_from, natural, not_below}

@@ -26,12 +26,12 @@ use Rattle.desk_book.specs.declared.change.Effect.{Effect}
 use Rattle.desk_book.specs.declared.change.PrintChange.{PrintChange}
 use Rattle.desk_book.specs.declared.history.KeptEntry.{KeptEntry}
 use Rattle.desk_book.specs.declared.change.Effect.TheVariants.{AddTable}
-use Rattle.desk_book.specs.declared.command.Anchor.{Anchor}
-use Rattle.desk_book.specs.declared.command.Command.{Command}
-use Rattle.desk_book.specs.declared.command.Command.TheVariants.{Table, TypeIn, Retable, Move}
+use Rattle.desk_command.specs.declared.command.Anchor.{Anchor}
+use Rattle.desk_command.specs.declared.command.Command.{Command}
+use Rattle.desk_command.specs.declared.command.Command.TheVariants.{Table, TypeIn, Retable, Move}
 use Rattle.desk_book.specs.declared.marks.KeptMark.{KeptMark}
 use Rattle.desk_book.specs.declared.paragraphs.Paragraph.{Paragraph as KeptParagraph}
-use Rattle.desk_book.specs.declared.style.Style.{Style}
+use Rattle.desk_command.specs.declared.style.Style.{Style}
 use Rattle.desk_book.specs.declared.tables.BookTable.{BookTable}
 use Rattle.desk_book.specs.Book.{Book, Entry, Mark, Paragraph, text_of}
 use Rattle.desk_book.specs.Changes.{ChangesPrint, AreCellsOf, AreRenewed, AreCellsByTable, Carries, Change, IsKeptTyped, IsEffect, IsEffect-change_by, change_by}

@@ -17,8 +17,8 @@ use Rattle.std.proofs.lemmas.Simd.{map-map}
 use Rattle.std.proofs.lemmas.Str.{encodes-chars}
 use Rattle.std.proofs.Math.Utf8.{encodes}
 use Rattle.louis_table.specs.Table.{Means}
-use Rattle.desk_book.specs.declared.style.Style.{Style}
-use Rattle.desk_book.specs.declared.style.Style.TheVariants.{Body, Heading}
+use Rattle.desk_command.specs.declared.style.Style.{Style}
+use Rattle.desk_command.specs.declared.style.Style.TheVariants.{Body, Heading}
 use Rattle.desk_book.specs.Book.{Book}
 use Rattle.desk_book.specs.Damage.{IsDamagedBook, IsDamagedTab, IsFlag, IsSoundTabRow}
 use Rattle.desk_book.specs.FileRows.{EntryRows, FileRows, Named, Unnamed, format_of, spelled_tab}

@@ -10,9 +10,9 @@ use Rattle.std.proofs.lemmas.List.Sorted.{IsPermutation-refl}
 use Rattle.louis_table.specs.Meaning.{Meaning}
 use Rattle.louis_table.specs.Table.{Means}
 use Rattle.unicode_normalization.specs.Forms.{nfc}
-use Rattle.desk_book.specs.declared.command.Anchor.{Anchor}
-use Rattle.desk_book.specs.declared.command.Command.{Command}
-use Rattle.desk_book.specs.declared.command.Command.TheVariants.{Table, TypeIn, Correct, Undo, Mark, Resolve, Strike, Restore, Style, Volume, Retable, Move}
+use Rattle.desk_command.specs.declared.command.Anchor.{Anchor}
+use Rattle.desk_command.specs.declared.command.Command.{Command}
+use Rattle.desk_command.specs.declared.command.Command.TheVariants.{Table, TypeIn, Correct, Undo, Mark, Resolve, Strike, Restore, Style, Volume, Retable, Move}
 use Rattle.desk_book.specs.After.{After}
 use Rattle.std.specs.List.{range_with_len}
 use Rattle.std.specs.Option.{option_and_then}
@@ -21,7 +21,7 @@ use Rattle.std.proofs.lemmas.List.{length-append, map-append}
 use Rattle.std.proofs.lemmas.List.Elements.{All-push}
 use Rattle.louis_translate.specs.Braille.{braille}
 use Rattle.louis_translate.specs.Position.{AreDefined}
-use Rattle.desk_book.specs.declared.refusal.Refusal.TheVariants.{BadSpan}
+use Rattle.desk_command.specs.declared.refusal.Refusal.TheVariants.{BadSpan}
 use Rattle.desk_book.specs.Book.{Book, Corrects, Mark as BookMark, Paragraph, Replacement, Undoes, text_of, empty_book}
 use Rattle.desk_book.specs.Marks.{mark_moved, mark_moved_back}
 use Rattle.desk_book.specs.Print.{corrected, print_of, print_undone, replaced, with_entry}
@@ -34,7 +34,8 @@ use Rattle.desk_book.specs.Refusals.{IsAccepted, paragraph_before}
 use Rattle.desk_book.specs.Limits.{most_tables, most_print}
 use Rattle.desk_book.specs.Sound.{IsSoundHistory, IsSoundTable, IsSoundParagraph, IsSoundMark, IsSound}
 use Rattle.desk_book.specs.Step.{typed, with_change, with_paragraph, with_move, next_id, IsNewest, new_mark, next_mark, next_with_entry, next_with_marks, next_with_paragraphs, next_with_tables, replacement_by, HasCharacters, Makes}
-use Rattle.desk_book.specs.Stored.{is_barred, AreCharacters, IsClean, IsUnbarred, stored}
+use Rattle.desk_book.specs.Stored.{is_barred, IsClean, IsUnbarred, stored}
+use Rattle.desk_command.specs.Characters.{AreCharacters}
 use Rattle.desk_book.proofs.Accepted.{given_proofreader, given_unbarred, room_for_entry, room_for_mark, short_note, room_for_version, named_paragraph, named_table, shown_defined, short_print, room_for_paragraph, given_name, given_meaning, room_for_table, users_defined}
 use Rattle.desk_book.proofs.FirstUndefined.{DefinesUser}
 use Rattle.desk_book.proofs.Members.{Contains-here, Contains-behind, Contains-map}

@@ -8,13 +8,13 @@ use Rattle.louis_table.specs.Meaning.{Meaning}
 use Rattle.louis_translate.specs.Position.{AreDefined}
 use Rattle.desk_book.specs.declared.change.Effect.{Effect}
 use Rattle.desk_book.specs.declared.corrections.NewEntry.{NewEntry}
-use Rattle.desk_book.specs.declared.command.Command.{Command}
-use Rattle.desk_book.specs.declared.command.Command.TheVariants.{Undo}
+use Rattle.desk_command.specs.declared.command.Command.{Command}
+use Rattle.desk_command.specs.declared.command.Command.TheVariants.{Undo}
 use Rattle.desk_book.specs.declared.history.Correction.{Correction}
 use Rattle.desk_book.specs.declared.history.KeptEntry.TheVariants.{Corrects as KeptCorrects, Undoes as KeptUndoes}
 use Rattle.desk_book.specs.declared.paragraphs.Paragraph.{Paragraph as KeptParagraph}
-use Rattle.desk_book.specs.declared.refusal.Refusal.{Refusal}
-use Rattle.desk_book.specs.declared.refusal.Refusal.TheVariants.{NoMemory, NothingToUndo}
+use Rattle.desk_command.specs.declared.refusal.Refusal.{Refusal}
+use Rattle.desk_command.specs.declared.refusal.Refusal.TheVariants.{NoMemory, NothingToUndo}
 use Rattle.desk_book.specs.Book.{Book, Corrects, Entry, Undoes, Paragraph, Replacement, paragraph_of}
 use Rattle.desk_book.specs.Changes.{Does}
 use Rattle.desk_book.specs.Corrected.{HaltsEntry, IsEntered, IsUnfit, replaced_by}

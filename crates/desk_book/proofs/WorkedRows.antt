@@ -14,14 +14,14 @@ use Rattle.louis_table.specs.Table.{Defines, Means}
 use Rattle.louis_table.proofs.OneMeaning.{LinesMean-Means}
 use Rattle.louis_table.proofs.ReadingLaws.{Reached-all, Reached-more, Reached-none}
 use Rattle.louis_translate.specs.Position.{IsFirstUndefined}
-use Rattle.desk_book.specs.declared.command.Command.{Command}
+use Rattle.desk_command.specs.declared.command.Command.{Command}
 use Rattle.desk_book.specs.declared.history.KeptEntry.TheVariants as kept
 use Rattle.desk_book.specs.declared.paragraphs.Paragraph.{Paragraph as KeptParagraph}
-use Rattle.desk_book.specs.declared.refusal.Limit.TheVariants.{Tables, Paragraphs, Entries, Marks, Version}
-use Rattle.desk_book.specs.declared.refusal.Refusal.{Refusal}
-use Rattle.desk_book.specs.declared.refusal.Refusal.TheVariants.{Moved, BadName, BadReader, BadText, NoParagraph, NoTable, NoMark, Struck, NotStruck, Resolved, BadSpan, NothingToUndo, TooLong, Full, BadTable, Undefined, Untranslatable, NoMemory}
-use Rattle.desk_book.specs.declared.command.Command.TheVariants.{Correct, Undo, Strike, Restore}
-use Rattle.desk_book.specs.declared.style.Style.TheVariants.{Body}
+use Rattle.desk_command.specs.declared.refusal.Limit.TheVariants.{Tables, Paragraphs, Entries, Marks, Version}
+use Rattle.desk_command.specs.declared.refusal.Refusal.{Refusal}
+use Rattle.desk_command.specs.declared.refusal.Refusal.TheVariants.{Moved, BadName, BadReader, BadText, NoParagraph, NoTable, NoMark, Struck, NotStruck, Resolved, BadSpan, NothingToUndo, TooLong, Full, BadTable, Undefined, Untranslatable, NoMemory}
+use Rattle.desk_command.specs.declared.command.Command.TheVariants.{Correct, Undo, Strike, Restore}
+use Rattle.desk_command.specs.declared.style.Style.TheVariants.{Body}
 use Rattle.desk_book.specs.Book.{Book, Paragraph, Replacement, Entry, Corrects, Undoes, Mark}
 use Rattle.desk_book.specs.Print.{corrected, newest, stack}
 use Rattle.desk_book.specs.Marks.{mark_moved, mark_moved_back}
@@ -29,7 +29,8 @@ use Rattle.desk_book.specs.Judging.{Passes}
 use Rattle.desk_book.specs.Kept.{paragraph_kept}
 use Rattle.desk_book.specs.Name.{IsProofreaderName, is_proofreader_character}
 use Rattle.desk_book.specs.Planned.{IsTurnedDown}
-use Rattle.desk_book.specs.Refusals.{IsRefused, code_of, print_to_translate, turn}
+use Rattle.desk_book.specs.Refusals.{IsRefused, print_to_translate, turn}
+use Rattle.desk_command.specs.Numbers.{code_of}
 use Rattle.desk_book.specs.Step.{Makes, number_of}
 use Rattle.desk_book.specs.Stored.{IsUnbarred, is_barred}
 use Rattle.desk_book.proofs.CorrectPlanning.{past_proofreader}

@@ -8,15 +8,15 @@ use Rattle.desk_book.specs.declared.change.PrintChange.{PrintChange}
 use Rattle.desk_book.specs.declared.corrections.NewEntry.{NewEntry}
 use Rattle.desk_book.specs.declared.history.Correction.{Correction}
 use Rattle.desk_book.specs.declared.paragraphs.Paragraph.{Paragraph as KeptParagraph}
-use Rattle.desk_book.specs.declared.refusal.Limit.TheVariants.{Entries, Version}
-use Rattle.desk_book.specs.declared.refusal.Refusal.{Refusal}
-use Rattle.desk_book.specs.declared.refusal.Refusal.TheVariants.{Full, NoMemory, NoParagraph, Struck, TooLong, Undefined}
+use Rattle.desk_command.specs.declared.refusal.Limit.TheVariants.{Entries, Version}
+use Rattle.desk_command.specs.declared.refusal.Refusal.{Refusal}
+use Rattle.desk_command.specs.declared.refusal.Refusal.TheVariants.{Full, NoMemory, NoParagraph, Struck, TooLong, Undefined}
 use Rattle.desk_book.specs.Book.{Book, Paragraph, paragraph_of}
 use Rattle.desk_book.specs.Changes.{AreCellsOf}
 use Rattle.desk_book.specs.Limits.{most_entries, most_print, most_version}
 use Rattle.desk_book.specs.Print.{replaced}
 use Rattle.desk_book.specs.Room.{Suffices}
-use Rattle.desk_book.specs.Stored.{AreCharacters}
+use Rattle.desk_command.specs.Characters.{AreCharacters}
 
 -- the print with a text in place of so many characters from a place on
 abbrev pub replaced_by : (start count : ℕ) (text print : List ℕ) → List ℕ

@@ -14,7 +14,7 @@ use Rattle.desk_book.specs.Limits.{most_entries, most_print}
 use Rattle.desk_book.specs.Print.{corrected}
 use Rattle.desk_book.specs.Rows.{NamedCorr}
 use Rattle.desk_book.specs.Sound.{AreSoundEntries, IsSoundEntry}
-use Rattle.desk_book.specs.Stored.{AreCharacters}
+use Rattle.desk_command.specs.Characters.{AreCharacters}
 
 -- ---- one row
 

@@ -5,11 +5,11 @@ use Rattle.louis_table.specs.Meaning.{Meaning}
 use Rattle.louis_table.specs.Table.{Means}
 use Rattle.louis_translate.specs.Position.{AreDefined, IsFirstUndefined}
 use Rattle.desk_book.specs.declared.change.Effect.{Effect}
-use Rattle.desk_book.specs.declared.command.Command.{Command}
-use Rattle.desk_book.specs.declared.refusal.Refusal.{Refusal}
-use Rattle.desk_book.specs.declared.refusal.Refusal.TheVariants.{NoMemory}
+use Rattle.desk_command.specs.declared.command.Command.{Command}
+use Rattle.desk_command.specs.declared.refusal.Refusal.{Refusal}
+use Rattle.desk_command.specs.declared.refusal.Refusal.TheVariants.{NoMemory}
 use Rattle.desk_book.specs.declared.paragraphs.Paragraph.{Paragraph as KeptParagraph}
-use Rattle.desk_book.specs.declared.style.Style.TheVariants.{Body}
+use Rattle.desk_command.specs.declared.style.Style.TheVariants.{Body}
 use Rattle.desk_book.specs.declared.tables.BookTable.{BookTable}
 use Rattle.desk_book.specs.Book.{Book, Paragraph, paragraph_of, text_of}
 use Rattle.desk_book.specs.Changes.{AreCellsOf, Does}
@@ -18,7 +18,7 @@ use Rattle.desk_book.specs.Kept.{paragraph_kept}
 use Rattle.desk_book.specs.Print.{print_of}
 use Rattle.desk_book.specs.Refusals.{IsAccepted, IsRefused}
 use Rattle.desk_book.specs.Step.{HasCharacters, Makes}
-use Rattle.desk_book.specs.Stored.{AreCharacters}
+use Rattle.desk_command.specs.Characters.{AreCharacters}
 
 -- the command is accepted, the effect is what it does, and what it puts into the book is of characters
 abbrev pub IsPlanned : Book → Command → Effect → Type 0

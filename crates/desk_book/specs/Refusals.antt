@@ -6,14 +6,14 @@ use Rattle.louis_table.specs.Meaning.{Meaning}
 use Rattle.louis_table.specs.Table.{Means, Bad}
 use Rattle.louis_table.specs.declared.fault.TableFault.{TableFault}
 use Rattle.louis_translate.specs.Position.{AreDefined, IsFirstUndefined}
-use Rattle.desk_book.specs.declared.command.Anchor.{Anchor}
-use Rattle.desk_book.specs.declared.command.Anchor.TheVariants.{Front, End, Para}
-use Rattle.desk_book.specs.declared.command.Command.{Command}
-use Rattle.desk_book.specs.declared.command.Command.TheVariants.{Table, TypeIn, Correct, Undo, Mark, Resolve, Strike, Restore, Style, Volume, Retable, Move}
-use Rattle.desk_book.specs.declared.refusal.Limit.{Limit}
-use Rattle.desk_book.specs.declared.refusal.Limit.TheVariants.{Tables, Paragraphs, Entries, Marks, Version}
-use Rattle.desk_book.specs.declared.refusal.Refusal.{Refusal}
-use Rattle.desk_book.specs.declared.refusal.Refusal.TheVariants.{Moved, BadName, BadReader, BadText, NoParagraph, NoTable, NoMark, Struck, NotStruck, Resolved, BadSpan, NothingToUndo, TooLong, Full, BadTable, Undefined, Untranslatable, NoMemory}
+use Rattle.desk_command.specs.declared.command.Anchor.{Anchor}
+use Rattle.desk_command.specs.declared.command.Anchor.TheVariants.{Front, End, Para}
+use Rattle.desk_command.specs.declared.command.Command.{Command}
+use Rattle.desk_command.specs.declared.command.Command.TheVariants.{Table, TypeIn, Correct, Undo, Mark, Resolve, Strike, Restore, Style, Volume, Retable, Move}
+use Rattle.desk_command.specs.declared.refusal.Limit.{Limit}
+use Rattle.desk_command.specs.declared.refusal.Limit.TheVariants.{Tables, Paragraphs, Entries, Marks, Version}
+use Rattle.desk_command.specs.declared.refusal.Refusal.{Refusal}
+use Rattle.desk_command.specs.declared.refusal.Refusal.TheVariants.{Moved, BadName, BadReader, BadText, NoParagraph, NoTable, NoMark, Struck, NotStruck, Resolved, BadSpan, NothingToUndo, TooLong, Full, BadTable, Undefined, Untranslatable, NoMemory}
 use Rattle.desk_book.specs.Book.{Book, Paragraph, Mark as BookMark, text_of, paragraph_of, mark_of}
 use Rattle.desk_book.specs.Print.{newest, print_of, print_undone, replaced}
 use Rattle.desk_book.specs.Limits.{most_entries, most_marks, most_note, most_version, most_tables, most_paragraphs, most_print}
@@ -469,14 +469,6 @@ Holds book expect command (Undefined place) = IsUndefined book command place
 Holds book expect command (Untranslatable id place) = IsUntranslatable book command id place
 Holds book expect command NoMemory = ⊥
 
--- the number of a limit
-abbrev pub limit_number : Limit → ℕ
-limit_number Tables = 1
-limit_number Paragraphs = 2
-limit_number Entries = 3
-limit_number Marks = 4
-limit_number Version = 5
-
 -- the order in which refusals are told, with gaps for others
 abbrev pub turn : Refusal → ℕ
 turn (Moved version) = 0
@@ -506,24 +498,3 @@ pub record IsRefused (book : Book) (expect : Option ℕ) (command : Command) (re
 -- no refusal holds
 abbrev pub IsAccepted : Book → Option ℕ → Command → Type 0
 IsAccepted book expect command = (refusal : Refusal) → ¬ Holds book expect command refusal
-
--- the number that stands for a refusal in a reply
-abbrev pub code_of : Refusal → ℕ
-code_of (Moved version) = 16
-code_of BadName = 17
-code_of BadReader = 18
-code_of (BadText place) = 6
-code_of NoParagraph = 2
-code_of NoTable = 3
-code_of NoMark = 4
-code_of Struck = 11
-code_of NotStruck = 12
-code_of Resolved = 13
-code_of BadSpan = 5
-code_of NothingToUndo = 10
-code_of TooLong = 14
-code_of (Full limit) = 15
-code_of (BadTable fault) = 8
-code_of (Undefined place) = 7
-code_of (Untranslatable id place) = 9
-code_of NoMemory = 90

@@ -10,7 +10,8 @@ use Rattle.louis_translate.specs.Position.{AreDefined}
 use Rattle.desk_book.specs.Book.{Entry, Corrects, Undoes, Paragraph, Mark, Book, text_of, paragraph_of}
 use Rattle.desk_book.specs.Print.{corrected, newest, print_of}
 use Rattle.desk_book.specs.Limits.{most_entries, most_marks, most_note, most_paragraphs, most_print, most_tables, most_version}
-use Rattle.desk_book.specs.Stored.{AreCharacters, IsClean}
+use Rattle.desk_book.specs.Stored.{IsClean}
+use Rattle.desk_command.specs.Characters.{AreCharacters}
 use Rattle.desk_book.specs.Name.{IsProofreaderName, IsTableName}
 
 -- ---- histories

@@ -8,10 +8,6 @@ use Rattle.unicode_normalization.specs.Forms.{nfc}
 abbrev pub is_barred : ℕ → Bool
 is_barred character = character == 10 || character == 13 || character == 0
 
--- each code is that of a character, a Unicode scalar value
-abbrev pub AreCharacters : List ℕ → Type 0
-AreCharacters = All IsScalar
-
 -- the text holds no barred character
 abbrev pub IsUnbarred : List ℕ → Type 0
 IsUnbarred text = All (λ character. is_barred character ≡ false) text

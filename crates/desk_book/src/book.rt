@@ -6,9 +6,9 @@ ghost use Rattle.std.specs.Prelude.{◌≡◌, None, Some, IfErr, IfOk, Err};
 
 use super::marks::Marks;
 use super::paragraphs::{Paragraph, Paragraphs};
-use super::refusal::Refusal;
 use super::tables::Tables;
 use cell_core::Cell;
+use desk_command::Refusal;
 use std::alloc::{AllocError, Global};
 use std::marker::Model;
 

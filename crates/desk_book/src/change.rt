@@ -5,10 +5,9 @@ use super::history::KeptEntry;
 use super::items::Room;
 use super::marks::KeptMark;
 use super::paragraphs::{Order, Paragraph};
-use super::style::Style;
 use super::tables::{BoxedTable, TablesRoom};
-use super::text::Text;
 use cell_core::Cells;
+use desk_command::{Style, Text};
 use louis_table::Characters;
 use std::marker::Model;
 

@@ -9,14 +9,12 @@ ghost use Rattle.std.specs.Prelude.{◌≡◌, ◌+◌, ◌<◌, ◌≤◌, fals
 use super::book::Book;
 use super::braille::cells_of;
 use super::change::{Effect, PrintChange};
-use super::command::Command;
 use super::history::{Correction, KeptEntry, newest};
 use super::limits::MOST_ENTRIES;
 use super::paragraphs::Paragraph;
 use super::plan::{check_length, check_print, check_text, copy, text_of_print};
-use super::refusal::{Limit, Refusal};
 use super::stored::{count_of, is_proofreader_name, stored};
-use super::text::Text;
+use desk_command::{Command, Limit, Refusal, Text};
 use louis_table::Characters;
 use louis_translate::RuleIndex;
 use std::alloc::{AllocError, Global};

@@ -4,11 +4,11 @@ ghost use Rattle.desk_book.specs.Sound.{AreSoundEntries};
 ghost use Rattle.desk_book.specs.Print.{newest as newest_lem};
 ghost use Rattle.std.specs.Prelude.{◌≡◌, IfNone, IfSome, None};
 
-use super::text::Text;
+use desk_command::Text;
 use louis_table::Characters;
 
 /// A correction of a paragraph.
-#[derive(Debug, Drop)]
+#[derive(Drop)]
 pub(crate) struct Correction {
     /// The place at which it begins, from 0.
     pub(crate) start: usize,
@@ -21,7 +21,7 @@ pub(crate) struct Correction {
 }
 
 /// An entry of a history, as it is kept.
-#[derive(Debug, Drop)]
+#[derive(Drop)]
 pub(crate) enum KeptEntry {
     /// A correction.
     Corrects(Correction),

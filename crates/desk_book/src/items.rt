@@ -7,7 +7,6 @@ use std::alloc::{AllocError, Global};
 use std::marker::Model;
 
 /// A list with room to spare. Contracts see its items alone: how much room there is follows from their number.
-#[derive(Debug)]
 pub(crate) struct Items<T> {
     pub(crate) items: Vec<T>,
     // what the room is at least
@@ -32,7 +31,7 @@ impl<T: Drop> Drop for Items<T> {
 }
 
 /// Room for a list that is longer by one, where the list itself has none. Contracts see how much it is.
-#[derive(Debug, Drop)]
+#[derive(Drop)]
 pub(crate) struct Room<T> {
     items: Option<Vec<T>>,
 }

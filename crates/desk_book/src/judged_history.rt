@@ -15,7 +15,7 @@ use super::paragraphs::Paragraph;
 use super::parts::RowsFault;
 use super::rows::{CorrRow, NamedCorrRow};
 use super::stored::{count_of, first_barred, is_proofreader_name};
-use super::text::Text;
+use desk_command::Text;
 use louis_table::Characters;
 use std::alloc::{AllocError, Global};
 

@@ -15,7 +15,7 @@ use super::paragraphs::Paragraph;
 use super::parts::{RowsFault, flag_of};
 use super::rows::MarkRow;
 use super::stored::{count_of, first_barred};
-use super::text::Text;
+use desk_command::Text;
 use std::alloc::{AllocError, Global};
 
 /// Whether a text may be a note.

@@ -2,7 +2,7 @@
 ghost use Rattle.desk_book.specs.After.{After};
 ghost use Rattle.desk_book.specs.Book.{Book, empty_book};
 ghost use Rattle.desk_book.specs.Damage.{HasItsTables, IsDamaged, IsFirstDamage};
-ghost use Rattle.desk_book.specs.declared.command.Command.{Command};
+ghost use Rattle.desk_command.specs.declared.command.Command.{Command};
 ghost use Rattle.desk_book.specs.declared.filling.NewTables.{NewTables};
 ghost use Rattle.desk_book.specs.declared.parts.FileTable.{FileTable};
 ghost use Rattle.desk_book.specs.FileRows.{AreTexts, FileRows, table_of};

@@ -6,7 +6,8 @@
 //! the two.
 //!
 //! ```rust
-//! use desk_book::{Anchor, Book, Command, Text, Bytes};
+//! use desk_book::Book;
+//! use desk_command::Command;
 //!
 //! let book = Book::new(alloc)?;
 //! let command = Command::Table { name, text };
@@ -21,7 +22,6 @@
 mod book;
 mod braille;
 mod change;
-mod command;
 mod corrections;
 mod filling;
 mod history;
@@ -44,24 +44,17 @@ mod plan;
 mod puts;
 mod queries;
 mod rebuild;
-mod refusal;
 pub mod rows;
 mod settle;
 mod stored;
-mod style;
 mod tables;
-mod text;
 mod told;
 
 pub use book::Book;
 pub use change::Change;
-pub use command::{Anchor, Command};
 pub use filling::{Filling, NewTables};
 pub use limits::MOST_VERSION;
 pub use list::{List, Listed};
 pub use paragraph_marks::{MarkItem, ParagraphMarks};
 pub use puts::Puts;
-pub use refusal::{Limit, Refusal};
-pub use style::Style;
-pub use text::{Bytes, Text};
 pub use told::{Done, History, HistoryItem};

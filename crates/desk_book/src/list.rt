@@ -1,6 +1,6 @@
 //! The list of a book's paragraphs.
 use super::paragraphs::Paragraphs;
-use super::style::Style;
+use desk_command::Style;
 use std::marker::Model;
 
 /// What the list of a book tells of a paragraph.

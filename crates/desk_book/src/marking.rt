@@ -8,13 +8,11 @@ ghost use Rattle.std.specs.Prelude.{◌≡◌, ◌+◌, ◌<◌, ◌≤◌, ◌�
 
 use super::book::Book;
 use super::change::Effect;
-use super::command::Command;
 use super::limits::{MOST_MARKS, MOST_NOTE};
 use super::marks::KeptMark;
 use super::plan::{check_text, copy};
-use super::refusal::{Limit, Refusal};
 use super::stored::count_of;
-use super::text::Text;
+use desk_command::{Command, Limit, Refusal, Text};
 use louis_translate::{RuleIndex, choice_of_cell};
 use std::alloc::Global;
 

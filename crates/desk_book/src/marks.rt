@@ -7,12 +7,11 @@ ghost use Rattle.std.specs.Option.{option_copied};
 ghost use Rattle.std.specs.Prelude.{◌≡◌, ◌+◌, ◌-◌, ◌<◌, ◌≤◌, ◌^◌, [], ◌∷◌, ◌++◌, ℕ, IfOk, None, length};
 
 use super::items::{Items, Room};
-use super::text::Text;
+use desk_command::Text;
 use std::alloc::{AllocError, Global};
 use std::marker::Model;
 
 /// A mark, as it is kept.
-#[derive(Debug)]
 pub(crate) struct KeptMark {
     /// The paragraph that it is put on.
     pub(crate) paragraph: u64,
@@ -43,7 +42,7 @@ impl Drop for KeptMark {
 }
 
 /// The places that a mark covers, and whether a correction has touched them.
-#[derive(Clone, Copy, Debug)]
+#[derive(Clone, Copy)]
 pub(crate) struct Span {
     /// The first place of the print that it covers, from 0.
     pub(crate) start: usize,

@@ -11,18 +11,15 @@ ghost use Rattle.std.specs.Option.{option_copied, option_map_or};
 ghost use Rattle.std.specs.Prelude.{◌≡◌, ◌+◌, ◌<◌, ◌≤◌, ◌^◌, [], ◌∷◌, ◌++◌, ℕ, IfNone, IfOk, IfSome, OnOk, Some, ◌==◌, length, map, nat_eq, not, option_map, slice_get};
 
 use super::change::PrintChange;
-use super::command::Anchor;
 use super::history::KeptEntry;
 use super::items::{Items, Room};
-use super::style::Style;
-use super::text::Text;
 use cell_core::Cells;
+use desk_command::{Anchor, Style, Text};
 use louis_table::Characters;
 use std::alloc::{AllocError, Global};
 use std::marker::Model;
 
 /// A paragraph of a book.
-#[derive(Debug)]
 pub(crate) struct Paragraph {
     /// The name of its table.
     pub(crate) table: Text,
@@ -84,7 +81,7 @@ pub(crate) fn renew(paragraphs: &mut [Paragraph], cells: Vec<Option<Cells>>)
 }
 
 /// The ids of paragraphs in an order.
-#[derive(Debug, Drop)]
+#[derive(Drop)]
 pub(crate) struct Order {
     ids: Vec<u64>,
 }

@@ -98,7 +98,7 @@ pub enum PartsFault {
 }
 
 /// Why the rows of one table were not taken.
-#[derive(Clone, Copy, Debug, PartialEq, Eq)]
+#[derive(Clone, Copy, PartialEq, Eq)]
 pub(crate) enum RowsFault {
     /// The smallest id of the damage in the table.
     Damaged(i64),

@@ -7,7 +7,8 @@ ghost use Rattle.desk_book.specs.Name.{IsTableName};
 ghost use Rattle.desk_book.specs.Planned.{AreNotAllThere, AreThere, DefinesUser, IsFirstUser, IsKeptFor, IsNewParagraph, IsPlanned, IsTableFor, IsTurnedDown};
 ghost use Rattle.desk_book.specs.Refusals.{IsAccepted, IsMoved, IsRefused, paragraph_before};
 ghost use Rattle.desk_book.specs.Step.{next_mark, number_of};
-ghost use Rattle.desk_book.specs.Stored.{AreCharacters, IsUnbarred, IsFirstBarred};
+ghost use Rattle.desk_book.specs.Stored.{IsUnbarred, IsFirstBarred};
+ghost use Rattle.desk_command.specs.Characters.{AreCharacters};
 ghost use Rattle.louis_table.specs.Table.{Bad, Means};
 ghost use Rattle.louis_translate.specs.Position.{AreDefined, IsFirstUndefined};
 ghost use Rattle.std.specs.Str.{chars};
@@ -17,30 +18,16 @@ ghost use Rattle.std.specs.Prelude.{◌≡◌, ◌≢◌, ◌↔◌, ◌⊎◌, 
 use super::book::Book;
 use super::braille::cells_of;
 use super::change::{Change, Effect};
-use super::command::{Anchor, Command};
 use super::items::Items;
 use super::limits::{MOST_PARAGRAPHS, MOST_PRINT, MOST_TABLES, MOST_VERSION};
 use super::paragraphs::Paragraph;
-use super::refusal::{Limit, Refusal};
 use super::stored::{first_barred, is_table_name, stored};
-use super::style::Style;
 use super::tables::{BookTable, BoxedTable, TablesRoom};
-use super::text::{Bytes, Text};
 use cell_core::Cells;
+use desk_command::{Anchor, Bytes, Command, Limit, Refusal, Style, Text};
 use louis_table::{Characters, ReadFault};
 use louis_translate::{RuleBook, RuleIndex, undefined_place};
 use std::alloc::{AllocError, Global};
-
-impl From<AllocError> for Refusal {
-    ghost use Rattle.desk_book.specs.declared.refusal.Refusal.{Refusal};
-    ghost use Rattle.desk_book.specs.declared.refusal.Refusal.TheVariants.{NoMemory};
-
-    ghost from_gives = { λ _ refusal. refusal ≡ NoMemory };
-
-    fn from(_: AllocError) -> Self {
-        Refusal::NoMemory
-    }
-}
 
 /// A copy of a text.
 pub(crate) fn copy(alloc: Global, text: &str) -> Result<Text, AllocError>

@@ -15,10 +15,9 @@ use super::marks::{KeptMark, Span};
 use super::paragraph_marks::ParagraphMarks;
 use super::paragraphs::{Order, Paragraph};
 use super::rows::Put;
-use super::style::Style;
 use super::tables::BoxedTable;
-use super::text::Text;
 use cell_core::Cells;
+use desk_command::{Style, Text};
 use std::marker::Model;
 
 /// A number of a book as one of a row. Each is far below the greatest of a row, which stands for any that is not.

@@ -12,9 +12,9 @@ use super::book::Book;
 use super::list::List;
 use super::paragraph_marks::ParagraphMarks;
 use super::paragraphs::Paragraph;
-use super::refusal::Refusal;
 use super::told::History;
 use cell_core::Cell;
+use desk_command::Refusal;
 use louis_translate::{RuleIndex, output_place, print_place};
 
 impl Book {

@@ -7,10 +7,9 @@ use super::change::{Change, Effect, PrintChange};
 use super::items::Room;
 use super::marks::KeptMark;
 use super::paragraphs::{Order, Paragraph};
-use super::style::Style;
 use super::tables::{BoxedTable, TablesRoom};
-use super::text::Text;
 use cell_core::Cells;
+use desk_command::{Style, Text};
 
 impl Book {
     /// The book at a version, with a new table.

@@ -9,8 +9,8 @@ use Rattle.desk_brf.specs.Laying.{LaysLine, PutsLines, page_end, written, AreLai
 use Rattle.desk_brf.specs.Pages.{ended}
 use Rattle.desk_brf.specs.Placing.{IsText, joined, first_indent, other_indent}
 use Rattle.desk_brf.specs.Words.{words}
-use Rattle.desk_book.specs.declared.style.Style.{Style}
-use Rattle.desk_book.specs.declared.style.Style.TheVariants.{Body, Heading}
+use Rattle.desk_command.specs.declared.style.Style.{Style}
+use Rattle.desk_command.specs.declared.style.Style.TheVariants.{Body, Heading}
 use Rattle.desk_brf.proofs.AsciiLemmas.{ascii-append, ascii-blanks}
 use Rattle.desk_brf.specs.Volume.{IsSixDot}
 use Rattle.desk_brf.proofs.ExistLemmas.{AreWords, placed-some}

@@ -12,7 +12,7 @@ use super::line::Line;
 use super::page::put_line;
 use super::word::{skip_blanks, word_len};
 use cell_core::Cell;
-use desk_book::Style;
+use desk_command::Style;
 use desk_ends::{Failed, Sink};
 
 /// The blanks before the first line of a paragraph.

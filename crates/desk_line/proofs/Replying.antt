@@ -7,10 +7,10 @@ use Rattle.std.proofs.lemmas.Bool.{both_ways, eqb-true}
 use Rattle.std.proofs.lemmas.List.{append-nil}
 use Rattle.std.proofs.lemmas.Str.{chars-nil}
 use Rattle.desk_line.specs.Fields.{joined}
-use Rattle.desk_book.specs.declared.refusal.Refusal.{Refusal}
-use Rattle.desk_book.specs.declared.refusal.Refusal.TheVariants as refusals
+use Rattle.desk_command.specs.declared.refusal.Refusal.{Refusal}
+use Rattle.desk_command.specs.declared.refusal.Refusal.TheVariants as refusals
 use Rattle.desk_book.specs.declared.told.Done.TheVariants.{Corrected, TookBack}
-use Rattle.desk_book.specs.Refusals.{code_of}
+use Rattle.desk_command.specs.Numbers.{code_of}
 use Rattle.desk_book.specs.Book.{Book, Entry, Corrects, Undoes, Mark, Paragraph, Replacement, paragraph_of}
 use Rattle.desk_book.specs.Print.{print_of}
 use Rattle.desk_book.specs.Told.{TellsOf}

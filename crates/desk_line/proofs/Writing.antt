@@ -16,13 +16,13 @@ use Rattle.std.proofs.lemmas.Str.{IsUtf8-append, IsUtf8-encode, IsUtf8-from_asci
 use Rattle.louis_table.specs.Lines.{lines_of}
 use Rattle.louis_table.specs.Table.{most_lines}
 use Rattle.louis_table.proofs.LineLaws.{pieces_of-line}
-use Rattle.desk_book.specs.declared.command.Anchor.{Anchor}
-use Rattle.desk_book.specs.declared.command.Anchor.TheVariants.{Front, End, Para}
-use Rattle.desk_book.specs.declared.command.Command.{Command}
-use Rattle.desk_book.specs.declared.command.Command.TheVariants as commands
-use Rattle.desk_book.specs.declared.style.Style.{Style}
-use Rattle.desk_book.specs.declared.style.Style.TheVariants.{Body, Heading}
-use Rattle.desk_book.specs.Stored.{AreCharacters}
+use Rattle.desk_command.specs.declared.command.Anchor.{Anchor}
+use Rattle.desk_command.specs.declared.command.Anchor.TheVariants.{Front, End, Para}
+use Rattle.desk_command.specs.declared.command.Command.{Command}
+use Rattle.desk_command.specs.declared.command.Command.TheVariants as commands
+use Rattle.desk_command.specs.declared.style.Style.{Style}
+use Rattle.desk_command.specs.declared.style.Style.TheVariants.{Body, Heading}
+use Rattle.desk_command.specs.Characters.{AreCharacters}
 use Rattle.desk_line.specs.declared.head.Head.{Head}
 use Rattle.desk_line.specs.declared.head.Head.TheVariants as heads
 use Rattle.desk_line.specs.declared.directive.Directive.{Directive}

@@ -1,8 +1,8 @@
 -- What becomes of a request, and what is replied to it.
 use Rattle.std.specs.Prelude.{◌≡◌, ℕ, List, Option}
-use Rattle.desk_book.specs.declared.command.Command.{Command}
-use Rattle.desk_book.specs.declared.refusal.Refusal.{Refusal}
-use Rattle.desk_book.specs.declared.refusal.Refusal.TheVariants as refusals
+use Rattle.desk_command.specs.declared.command.Command.{Command}
+use Rattle.desk_command.specs.declared.refusal.Refusal.{Refusal}
+use Rattle.desk_command.specs.declared.refusal.Refusal.TheVariants as refusals
 use Rattle.desk_book.specs.Book.{Book}
 use Rattle.desk_book.specs.Judging.{MayLackMemory}
 use Rattle.desk_book.specs.Refusals.{IsAccepted, IsRefused}

@@ -3,13 +3,13 @@ use Rattle.std.specs.Prelude.{◌≢◌, ℕ, ◌≤◌, Bool, true, false, List
 use Rattle.std.specs.List.{All, AllByRecursion}
 use Rattle.louis_table.specs.Lines.{lines_of}
 use Rattle.louis_table.specs.Table.{most_lines}
-use Rattle.desk_book.specs.declared.command.Anchor.{Anchor}
-use Rattle.desk_book.specs.declared.command.Anchor.TheVariants.{Front, End, Para}
-use Rattle.desk_book.specs.declared.command.Command.{Command}
-use Rattle.desk_book.specs.declared.command.Command.TheVariants.{Table, TypeIn, Correct, Undo, Mark, Resolve, Strike, Restore, Style, Volume, Retable, Move}
-use Rattle.desk_book.specs.declared.style.Style.{Style as ParagraphStyle}
-use Rattle.desk_book.specs.declared.style.Style.TheVariants.{Body, Heading}
-use Rattle.desk_book.specs.Stored.{AreCharacters}
+use Rattle.desk_command.specs.declared.command.Anchor.{Anchor}
+use Rattle.desk_command.specs.declared.command.Anchor.TheVariants.{Front, End, Para}
+use Rattle.desk_command.specs.declared.command.Command.{Command}
+use Rattle.desk_command.specs.declared.command.Command.TheVariants.{Table, TypeIn, Correct, Undo, Mark, Resolve, Strike, Restore, Style, Volume, Retable, Move}
+use Rattle.desk_command.specs.declared.style.Style.{Style as ParagraphStyle}
+use Rattle.desk_command.specs.declared.style.Style.TheVariants.{Body, Heading}
+use Rattle.desk_command.specs.Characters.{AreCharacters}
 use Rattle.desk_line.specs.declared.request.Query.{Query}
 use Rattle.desk_line.specs.declared.request.Query.TheVariants.{Print, Braille, History, Marks, WhereIs, Whence, Version}
 use Rattle.desk_line.specs.declared.request.Query.TheVariants as queries

@@ -1,6 +1,6 @@
 //! What became of a request.
 use super::request::Query;
-use desk_book::Refusal;
+use desk_command::Refusal;
 
 /// What became of a request, of which `write_reply` makes the text of the reply.
 #[derive(Clone, Copy, Debug, PartialEq, Eq)]

@@ -4,10 +4,10 @@ ghost use Rattle.std.specs.Prelude.{◌≡◌};
 
 use super::fields::{Field, Fields};
 use super::operand::{read_anchor, read_count, read_flag, read_name, read_number, read_style};
-use desk_book::{Anchor, Style};
+use desk_command::{Anchor, Style};
 
 /// A text for places of a paragraph: what is put in their place, or a note on them.
-#[derive(Debug, Drop)]
+#[derive(Drop)]
 pub(crate) struct SpanText<'a> {
     /// The paragraph.
     pub(crate) paragraph: u64,
@@ -20,7 +20,7 @@ pub(crate) struct SpanText<'a> {
 }
 
 /// A command as its head line gives it: of a table, its text is still to come.
-#[derive(Debug, Drop)]
+#[derive(Drop)]
 pub(crate) enum Directive<'a> {
     /// Adds or replaces a table, whose text are the next lines.
     Table {

@@ -7,7 +7,7 @@ ghost use Rattle.std.specs.Str.{bytes_eq};
 use std::marker::Model;
 
 /// A part of a head line. Contracts see its bytes.
-#[derive(Debug, Drop)]
+#[derive(Drop)]
 pub(crate) struct Field<'a> {
     text: &'a str,
 }
@@ -51,7 +51,7 @@ impl<'a> Field<'a> {
 }
 
 /// The fields of a line that are still to be read: what stands between its blanks. Contracts see their list.
-#[derive(Debug, Drop)]
+#[derive(Drop)]
 pub(crate) struct Fields<'a> {
     rest: Option<&'a str>,
 }

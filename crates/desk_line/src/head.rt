@@ -12,7 +12,7 @@ use super::query::read_query;
 use super::request::Query;
 
 /// What a head line says.
-#[derive(Debug, Drop)]
+#[derive(Drop)]
 pub(crate) enum Head<'a> {
     /// A command.
     Do {

@@ -7,7 +7,7 @@ ghost use Rattle.std.specs.Str.Parse.{digits_value};
 
 use super::fields::Field;
 use super::limits::{MOST_DIGITS, MOST_NUMBER};
-use desk_book::{Anchor, Style};
+use desk_command::{Anchor, Style};
 use louis_table::MOST_LINES;
 
 /// A name: one character or more.

@@ -14,7 +14,7 @@ use super::fields::Field;
 use super::head::{Head, block_lines, read_head};
 use super::limits::MOST_LINE_BYTES;
 use super::request::Request;
-use desk_book::{Anchor, Bytes, Command, Text};
+use desk_command::{Anchor, Bytes, Command, Text};
 use louis_table::EN;
 use std::alloc::{AllocError, Global};
 

@@ -9,7 +9,8 @@ use super::put::{finish, nothing_waiting, put_line};
 use super::request::Query;
 use super::shown::{put_braille, put_history, put_list, put_marks, put_place, put_print};
 use super::waiting::Waiting;
-use desk_book::{Book, Refusal};
+use desk_book::Book;
+use desk_command::Refusal;
 use desk_ends::Sink;
 
 /// Writes the reply to a request, by what became of it, on the book as it is then. It takes no memory.

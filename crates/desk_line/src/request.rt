@@ -1,5 +1,5 @@
 //! What is asked of a book.
-use desk_book::Command;
+use desk_command::Command;
 
 /// What is asked of a book. No query changes it or takes memory.
 #[derive(Clone, Copy, Debug, PartialEq, Eq)]

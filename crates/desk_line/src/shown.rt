@@ -12,7 +12,8 @@ ghost use Rattle.std.specs.Prelude.{decimal, map, ◌≡◌};
 use super::put::{put_bytes, put_cells, put_characters, put_fields};
 use super::waiting::Waiting;
 use cell_core::Cell;
-use desk_book::{Done, History, HistoryItem, List, Listed, MarkItem, ParagraphMarks, Style};
+use desk_book::{Done, History, HistoryItem, List, Listed, MarkItem, ParagraphMarks};
+use desk_command::Style;
 use desk_ends::Sink;
 use itoa::Buffer;
 

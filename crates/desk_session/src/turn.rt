@@ -7,7 +7,8 @@ ghost use Rattle.std.specs.Prelude.{IsTrue, List, is_ok, ◌≡◌, ◌↔◌, �
 
 use super::line::Line;
 use super::reader::Found;
-use desk_book::{Book, Command};
+use desk_book::Book;
+use desk_command::Command;
 use desk_ends::{Failed, Sink};
 use desk_line::{Answer, Fault, Request, read_request, write_reply};
 use desk_store::Store;

@@ -13,7 +13,7 @@ use Rattle.desk_book.specs.ChangePuts.{LeadTo}
 use Rattle.desk_book.specs.Changes.{Carries, Change}
 use Rattle.desk_book.specs.Puts.{LendsFirst, RowPut}
 use Rattle.desk_book.specs.Shows.{Shows as RowsShow}
-use Rattle.desk_book.specs.declared.command.Command.{Command}
+use Rattle.desk_command.specs.declared.command.Command.{Command}
 use Rattle.desk_store.specs.BookFile.{rows_of}
 use Rattle.desk_store.specs.Contents.{Contents}
 use Rattle.desk_store.specs.Failing.{FailsToPut, of_items}

@@ -1,8 +1,8 @@
 //! The commands that read the words.
 ghost use Rattle.clap.specs.Words.{app_of, rule_of, shape_of};
 ghost use Rattle.clap.specs.declared.builder.command.Command.TheViews.{out-Command};
-ghost use Rattle.desk_words.specs.Commands.{bare, export, on_file, operand, size, translate, whole, within};
-ghost use Rattle.std.specs.Prelude.{IfOk, codes, false, ◌≡◌};
+ghost use Rattle.desk_words.specs.Commands.{bare, export, on_file, operand, program, size, translate, whole, within};
+ghost use Rattle.std.specs.Prelude.{IfOk, [], codes, false, ◌∷◌, ◌≡◌};
 
 use super::help;
 use clap::{Arg, ArgAction, Command, value_parser};
@@ -12,12 +12,20 @@ use std::alloc::{AllocError, Global};
 pub fn whole_command<'a>(alloc: Global) -> Result<Command<'a>, AllocError>
     ensures { IfOk result (λ command. app_of command ≡ whole) }
 {
-    top_command(alloc, help::WHOLE)
-        .subcommand(file_command(alloc, "new", help::NEW_ABOUT, help::NEW)?)?
-        .subcommand(file_command(alloc, "session", help::SESSION_ABOUT, help::SESSION)?)?
+    keeping_command(alloc)?
         .subcommand(export_command(alloc)?)?
         .subcommand(translate_command(alloc)?)?
         .subcommand(file_command(alloc, "check", help::CHECK_ABOUT, help::CHECK)?)
+}
+
+/// The program with the actions that make a book's file and change the book in it.
+fn keeping_command<'a>(alloc: Global) -> Result<Command<'a>, AllocError>
+    ensures { IfOk result (λ command. app_of command ≡ program
+        (on_file (codes "new") ∷ on_file (codes "session") ∷ [])) }
+{
+    top_command(alloc, help::WHOLE)
+        .subcommand(file_command(alloc, "new", help::NEW_ABOUT, help::NEW)?)?
+        .subcommand(file_command(alloc, "session", help::SESSION_ABOUT, help::SESSION)?)
 }
 
 /// The program without its actions.

@@ -8,7 +8,8 @@ use Rattle.std.proofs.lemmas.Str.{chars_from_encodes}
 use Rattle.desk_book.specs.Corrected.{IsCorrection, replaced_by}
 use Rattle.desk_book.specs.Name.{IsProofreaderName}
 use Rattle.desk_book.specs.Rows.{Corr, NamedCorr}
-use Rattle.desk_book.specs.Stored.{AreCharacters, is_barred}
+use Rattle.desk_book.specs.Stored.{is_barred}
+use Rattle.desk_command.specs.Characters.{AreCharacters}
 use Rattle.desk_book.proofs.ReadEntries.{IsCorrecting-made, barred-some, piece, unbarred-none}
 use Rattle.desk_book.proofs.judged_history.correction.Goals as goal
 use Rattle.desk_book.proofs.judged_history.correction.Goals.{then-is_some-via-then-is_some, then-is_some-via-else-is_some+then-not-is_proofreader_name}

@@ -1,5 +1,5 @@
 use Rattle.std.proofs.Common.{◌≡◌, ◌++◌, take}
-use Rattle.desk_book.specs.declared.command.Anchor.TheVariants.{Para}
+use Rattle.desk_command.specs.declared.command.Anchor.TheVariants.{Para}
 use Rattle.desk_book.specs.Kept.{with_id}
 use Rattle.desk_book.proofs.paragraphs.put_behind.Given as goal
 

@@ -5,8 +5,6 @@ use Rattle.desk_words.proofs.command.whole_command.Goals as goal
 
 pub returns : goal.returns
 returns c =
-    let one = c.in_ok-subcommand.ensures.shape c.in_ok-file_command.ensures.local ∙ ap₂ with_subcommand c.top_command.ensures c.in_ok-file_command.ensures.shape in
-    let two = c.in_ok-subcommand-2.ensures.shape c.in_ok-file_command-2.ensures.local ∙ ap₂ with_subcommand one c.in_ok-file_command-2.ensures.shape in
-    let three = c.in_ok-subcommand-3.ensures.shape c.in_ok-export_command.ensures.local ∙ ap₂ with_subcommand two c.in_ok-export_command.ensures.shape in
-    let four = c.in_ok-subcommand-4.ensures.shape c.in_ok-translate_command.ensures.local ∙ ap₂ with_subcommand three c.in_ok-translate_command.ensures.shape in
-    IfOk-weaker c.subcommand-5.result _ _ (λ command h. h.shape c.in_ok-file_command-3.ensures.local ∙ ap₂ with_subcommand four c.in_ok-file_command-3.ensures.shape) c.subcommand-5.ensures
+    let one = c.in_ok-subcommand.ensures.shape c.in_ok-export_command.ensures.local ∙ ap₂ with_subcommand c.in_ok-keeping_command.ensures c.in_ok-export_command.ensures.shape in
+    let two = c.in_ok-subcommand-2.ensures.shape c.in_ok-translate_command.ensures.local ∙ ap₂ with_subcommand one c.in_ok-translate_command.ensures.shape in
+    IfOk-weaker c.subcommand-3.result _ _ (λ command h. h.shape c.in_ok-file_command.ensures.local ∙ ap₂ with_subcommand two c.in_ok-file_command.ensures.shape) c.subcommand-3.ensures

@@ -1,6 +1,6 @@
 use Rattle.std.proofs.Common.{None, sym, ap, subst, ◌∙◌}
 use Rattle.desk_book.specs.declared.change.Effect.TheVariants.{Reorder}
-use Rattle.desk_book.specs.declared.command.Command.{Command}
+use Rattle.desk_command.specs.declared.command.Command.{Command}
 use Rattle.desk_book.specs.Book.{Book}
 use Rattle.desk_book.specs.Changes.{IsEffect}
 use Rattle.desk_book.specs.Kept.{KeptParagraphs, IsKept, book_kept}

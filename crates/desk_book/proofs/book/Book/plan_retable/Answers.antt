@@ -2,10 +2,10 @@ use Rattle.std.proofs.Common.{◌≡◌, ℕ, ◌<◌, false, List, [], Some, No
 use Rattle.std.specs.Prelude.{option_map}
 use Rattle.std.proofs.lemmas.Result.{err_from_is_err_and}
 use Rattle.louis_translate.specs.Position.{AreDefined, IsFirstUndefined}
-use Rattle.desk_book.specs.declared.command.Command.TheVariants.{Retable}
+use Rattle.desk_command.specs.declared.command.Command.TheVariants.{Retable}
 use Rattle.desk_book.specs.declared.paragraphs.Paragraph.{Paragraph as KeptParagraph}
 use Rattle.desk_book.specs.declared.tables.BookTable.{BookTable}
-use Rattle.desk_book.specs.declared.refusal.Refusal.TheVariants.{Struck}
+use Rattle.desk_command.specs.declared.refusal.Refusal.TheVariants.{Struck}
 use Rattle.desk_book.specs.Book.{Book}
 use Rattle.desk_book.specs.Changes.{AreCellsOf}
 use Rattle.desk_book.specs.Judging.{Passes}

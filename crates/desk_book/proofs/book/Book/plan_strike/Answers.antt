@@ -1,8 +1,8 @@
 use Rattle.std.proofs.Common.{◌≡◌, ℕ, false, [], None, refl, ap}
 use Rattle.std.proofs.lemmas.Result.{err_from_is_err_and}
-use Rattle.desk_book.specs.declared.command.Command.TheVariants.{Strike}
+use Rattle.desk_command.specs.declared.command.Command.TheVariants.{Strike}
 use Rattle.desk_book.specs.declared.paragraphs.Paragraph.{Paragraph as KeptParagraph}
-use Rattle.desk_book.specs.declared.refusal.Refusal.TheVariants.{Struck}
+use Rattle.desk_command.specs.declared.refusal.Refusal.TheVariants.{Struck}
 use Rattle.desk_book.specs.Book.{Book}
 use Rattle.desk_book.specs.Judging.{Passes}
 use Rattle.desk_book.specs.Kept.{paragraph_kept}

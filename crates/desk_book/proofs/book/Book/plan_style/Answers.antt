@@ -1,6 +1,6 @@
 use Rattle.std.proofs.Common.{[], refl, ap}
 use Rattle.std.proofs.lemmas.Result.{err_from_is_err_and}
-use Rattle.desk_book.specs.declared.command.Command.TheVariants.{Style}
+use Rattle.desk_command.specs.declared.command.Command.TheVariants.{Style}
 use Rattle.desk_book.specs.Kept.{paragraph_kept}
 use Rattle.desk_book.specs.Step.{next_with_paragraphs}
 use Rattle.desk_book.proofs.Planning.{accepted_after, full_version, past_named, past_version, unnamed, with_change-same}

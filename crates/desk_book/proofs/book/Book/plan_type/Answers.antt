@@ -2,8 +2,8 @@ use Rattle.std.proofs.Common.{◌≡◌, ℕ, ◌<◌, ◌≤◌, List, None, le
 use Rattle.std.specs.List.{insert}
 use Rattle.std.proofs.lemmas.Result.{err_from_is_err_and}
 use Rattle.louis_translate.specs.Position.{AreDefined, IsFirstUndefined}
-use Rattle.desk_book.specs.declared.command.Anchor.{Anchor}
-use Rattle.desk_book.specs.declared.command.Command.TheVariants.{TypeIn}
+use Rattle.desk_command.specs.declared.command.Anchor.{Anchor}
+use Rattle.desk_command.specs.declared.command.Command.TheVariants.{TypeIn}
 use Rattle.desk_book.specs.declared.tables.BookTable.{BookTable}
 use Rattle.desk_book.specs.Book.{Book}
 use Rattle.desk_book.specs.Judging.{Passes}

@@ -1,7 +1,7 @@
 use Rattle.std.proofs.Common.{◌+◌, None, length, sym, ap, subst, ◌∙◌}
 use Rattle.std.specs.List.{insert}
 use Rattle.desk_book.specs.declared.change.Effect.TheVariants.{AddParagraph}
-use Rattle.desk_book.specs.declared.command.Command.{Command}
+use Rattle.desk_command.specs.declared.command.Command.{Command}
 use Rattle.desk_book.specs.Book.{Book}
 use Rattle.desk_book.specs.Changes.{IsEffect}
 use Rattle.desk_book.specs.Kept.{KeptParagraphs, IsKept, book_kept, ids}

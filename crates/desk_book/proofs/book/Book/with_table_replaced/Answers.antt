@@ -3,7 +3,7 @@ use Rattle.std.specs.Cmp.Lexicographic.{pointwise}
 use Rattle.std.specs.Map.{lookup}
 use Rattle.std.specs.Prelude.{IsSome, nat_eq}
 use Rattle.desk_book.specs.declared.change.Effect.TheVariants.{ReplaceTable}
-use Rattle.desk_book.specs.declared.command.Command.{Command}
+use Rattle.desk_command.specs.declared.command.Command.{Command}
 use Rattle.desk_book.specs.Book.{Book}
 use Rattle.desk_book.specs.Changes.{IsEffect}
 use Rattle.desk_book.specs.Kept.{KeptTables, KeptParagraphs, IsKept, book_kept, renewed, with_table}

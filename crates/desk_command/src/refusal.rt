@@ -1,8 +1,9 @@
 //! Why a command or a query is refused.
-ghost use Rattle.desk_book.specs.Refusals.{code_of, limit_number};
+ghost use Rattle.desk_command.specs.Numbers.{code_of, limit_number};
 ghost use Rattle.std.specs.Prelude.{◌≡◌};
 
 use louis_table::TableFault;
+use std::alloc::AllocError;
 use thiserror::Error;
 
 /// What a book holds at most: a command that would add to it is refused.
@@ -133,5 +134,15 @@ impl Refusal {
             Refusal::BadReader => 18,
             Refusal::NoMemory => 90,
         }
+    }
+}
+
+impl From<AllocError> for Refusal {
+    ghost use Rattle.desk_command.specs.declared.refusal.Refusal.TheVariants.{NoMemory};
+
+    ghost from_gives = { λ _ refusal. refusal ≡ NoMemory };
+
+    fn from(_: AllocError) -> Self {
+        Refusal::NoMemory
     }
 }

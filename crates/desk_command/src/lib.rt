@@ -1,0 +1,25 @@
+//! What is asked of a book, and why it is refused.
+//!
+//! A command has texts, which contracts see as the codes of their characters, and a table's text, which is bytes. A
+//! refusal is told by its number, and some with further numbers: a place, a paragraph or what is at its limit.
+//!
+//! ```rust
+//! use desk_command::{Anchor, Command, Refusal, Text};
+//!
+//! let print = Text::from_string(string);
+//! let command = Command::TypeIn { after: Anchor::End, table, text: print };
+//! assert_eq!(rt; Refusal::NoParagraph.code(), 2);
+//! ```
+//!
+//! When a command is refused, and what it does, is said by the book, in `desk_book`.
+#![tactic(auto)]
+
+mod command;
+mod refusal;
+mod style;
+mod text;
+
+pub use command::{Anchor, Command};
+pub use refusal::{Limit, Refusal};
+pub use style::Style;
+pub use text::{Bytes, Text};
