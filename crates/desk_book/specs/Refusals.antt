@@ -14,6 +14,7 @@ use Rattle.desk_command.specs.declared.refusal.Limit.{Limit}
 use Rattle.desk_command.specs.declared.refusal.Limit.TheVariants.{Tables, Paragraphs, Entries, Marks, Version}
 use Rattle.desk_command.specs.declared.refusal.Refusal.{Refusal}
 use Rattle.desk_command.specs.declared.refusal.Refusal.TheVariants.{Moved, BadName, BadReader, BadText, NoParagraph, NoTable, NoMark, Struck, NotStruck, Resolved, BadSpan, NothingToUndo, TooLong, Full, BadTable, Undefined, Untranslatable, NoMemory}
+use Rattle.desk_command.specs.Numbers.{limit_number}
 use Rattle.desk_book.specs.Book.{Book, Paragraph, Mark as BookMark, text_of, paragraph_of, mark_of}
 use Rattle.desk_book.specs.Print.{newest, print_of, print_undone, replaced}
 use Rattle.desk_book.specs.Limits.{most_entries, most_marks, most_note, most_version, most_tables, most_paragraphs, most_print}
