@@ -1,0 +1,5 @@
+use Rattle.std.proofs.Common.{rules}
+use Rattle.louis_table.proofs.table.Table.class.Goals as goal
+
+pub returns : goal.returns
+returns c = search rules
