@@ -1,4 +1,4 @@
-use Rattle.std.proofs.Common.{is_ok, ap, refl, sym, ◌∙◌, arith}
+use Rattle.std.proofs.Common.{rules, is_ok, ap, refl, sym, ◌∙◌, arith}
 use Rattle.std.proofs.lemmas.Result.{err_from_is_err_and}
 use Rattle.desk_brf.specs.Volumes.{volume_of}
 use Rattle.desk_brf.proofs.PageLemmas.{Pages-goes, Pages-stop, not_ok}
@@ -28,3 +28,6 @@ returns g c =
     let least = room.ensures.least in
     Pages-goes g.K.Sink.can_fail c.args.book.now c.args.layout.now (volume_of c.args.book.now c.args.volume) room.result room.ensures.lines (omega (arith, least)) _
     _ _ _ _ _ _ _ c.put_paragraphs.ensures.lines (ap is_ok c.in_ok-put_paragraphs.was) c.fill_page.ensures (sym (ap is_ok c.in_ok-fill_page.was)) refl
+
+pub put_paragraphs-requires-clause-none : goal.put_paragraphs-requires-clause-none
+put_paragraphs-requires-clause-none g c = search rules
