@@ -18,7 +18,7 @@ use Rattle.desk_line.specs.declared.request.Request.TheVariants.{Do}
 use Rattle.desk_line.specs.Request.{WholeRequests}
 use Rattle.desk_line.proofs.RequestLaws.{one-request}
 use Rattle.desk_store.specs.Books.{HoldsBook, IsKept}
-use Rattle.desk_store.specs.Layout.{Layout}
+use Rattle.desk_rows.specs.Layout.{Layout}
 use Rattle.desk_session.specs.declared.input.Input.{Input}
 use Rattle.desk_session.specs.declared.reader.Found.{Found}
 use Rattle.desk_session.specs.declared.session.Ended.{Ended}

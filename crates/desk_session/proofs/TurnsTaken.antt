@@ -26,7 +26,7 @@ use Rattle.desk_line.specs.Reply.{IsReplied}
 use Rattle.desk_line.specs.Request.{Reads, Tells}
 use Rattle.desk_line.proofs.RequestLaws.{text-asks}
 use Rattle.desk_store.specs.Books.{HasNewTables, IsKept, LeavesBook, LeavesEither, MayKeep}
-use Rattle.desk_store.specs.Layout.{Layout}
+use Rattle.desk_rows.specs.Layout.{Layout}
 use Rattle.desk_session.specs.Requests.{IsFaultOf}
 use Rattle.desk_session.specs.Turns.{SendsReply, TakesTurn, fault_answer}
 

@@ -12,7 +12,7 @@ use Rattle.desk_line.specs.Answered.{IsAnswered}
 use Rattle.desk_line.specs.Reply.{IsReply}
 use Rattle.desk_line.specs.Request.{Requests, WholeRequests}
 use Rattle.desk_store.specs.Books.{HasNewTables, HoldsBook, IsKept, ShowsBook}
-use Rattle.desk_store.specs.Layout.{Layout}
+use Rattle.desk_rows.specs.Layout.{Layout}
 use Rattle.desk_store.specs.Opened.{Stands}
 use Rattle.desk_session.specs.declared.input.TheConstants.{MOST_INPUT}
 use Rattle.desk_session.specs.declared.session.Ended.{Ended}

@@ -15,7 +15,7 @@ use Rattle.desk_line.specs.declared.fault.Fault.TheVariants as faults
 use Rattle.desk_line.specs.Answered.{IsAnswered}
 use Rattle.desk_line.specs.Reply.{IsReply}
 use Rattle.desk_store.specs.Books.{HasNewTables, IsKept, LeavesEither}
-use Rattle.desk_store.specs.Layout.{Layout}
+use Rattle.desk_rows.specs.Layout.{Layout}
 use Rattle.desk_session.specs.declared.reader.Found.{Found}
 use Rattle.desk_session.specs.declared.reader.Found.TheVariants as found
 use Rattle.desk_session.specs.Served.{IsPart}

@@ -14,21 +14,21 @@ use Rattle.sql_tables.specs.States.{HasAnswer}
 use Rattle.sql_tables.proofs.Quiet.{never_returns, reads}
 use Rattle.desk_book.specs.FileRows.{EntryRows, Named, Unnamed}
 use Rattle.desk_book.specs.Rows.{Cached}
-use Rattle.desk_store.specs.Asked.{AnswersRows, Gives, asked}
-use Rattle.desk_store.specs.Contents.{Contents}
-use Rattle.desk_store.specs.Described.{Which, books, tabs, paras, corrs, marks, caches, named_corrs}
+use Rattle.desk_rows.specs.Asked.{AnswersRows, Gives, asked}
+use Rattle.desk_rows.specs.Contents.{Contents}
+use Rattle.desk_rows.specs.Described.{Which, books, tabs, paras, corrs, marks, caches, named_corrs}
 use Rattle.desk_store.specs.Formats.{Format, IsOfFormat, Presence, named, needed, presence, unnamed}
 use Rattle.desk_store.specs.Found.{AreCellsIn, AreEntriesIn, AreRowsIn, AreToldApart, CanAllAnswer, CanAnswer, IsReadAs}
-use Rattle.desk_store.specs.Layout.{Layout}
+use Rattle.desk_rows.specs.Layout.{Layout}
 use Rattle.desk_store.specs.Opening.{AreEntriesReadable, CanAllBeRead, ShowsReadable, Stays}
-use Rattle.desk_store.specs.Rows.{RowOf, ShownOf, own, shown}
-use Rattle.desk_store.specs.States.{Shows}
-use Rattle.desk_store.specs.Tables.{is_there}
-use Rattle.desk_store.specs.Whole.{IsUtf8Row}
-use Rattle.desk_store.specs.declared.fault.Fault.{Fault}
-use Rattle.desk_store.specs.declared.fault.Fault.TheVariants.{Refused}
+use Rattle.desk_rows.specs.Rows.{RowOf, ShownOf, own, shown}
+use Rattle.desk_rows.specs.States.{Shows}
+use Rattle.desk_rows.specs.Tables.{is_there}
+use Rattle.desk_rows.specs.Whole.{IsUtf8Row}
+use Rattle.desk_rows.specs.declared.fault.Fault.{Fault}
+use Rattle.desk_rows.specs.declared.fault.Fault.TheVariants.{Refused}
 use Rattle.desk_store.proofs.Opened.{shows_still}
-use Rattle.desk_store.proofs.WholeReads.{reads_only}
+use Rattle.desk_rows.proofs.WholeReads.{reads_only}
 
 -- ---- a query
 

@@ -13,9 +13,9 @@ use Rattle.desk_book.specs.FileRows.{FileRows}
 use Rattle.desk_book.specs.Shows.{Shows as RowsShow}
 use Rattle.desk_store.specs.BookFile.{rows_of}
 use Rattle.desk_store.specs.Books.{HasNewTables, HoldsBook, HoldsKept, IsKept, LeavesBook, LeavesEither, MayKeep, ShowsBook}
-use Rattle.desk_store.specs.Contents.{Contents}
-use Rattle.desk_store.specs.Layout.{Layout}
-use Rattle.desk_store.specs.Puts.{HasThem, IsFileWith, Writes, puts_into, table_put}
+use Rattle.desk_rows.specs.Contents.{Contents}
+use Rattle.desk_rows.specs.Layout.{Layout}
+use Rattle.desk_rows.specs.Puts.{HasThem, IsFileWith, Writes, puts_into, table_put}
 use Rattle.desk_store.proofs.BookPuts.{all_put}
 
 -- ---- the tables of what is put

@@ -13,7 +13,7 @@ use Rattle.desk_book.specs.Rows.{Cached, Mark as MarkRow, Para}
 use Rattle.desk_book.specs.Shows.{Shows, mark_row_of, para_of, paras_of}
 use Rattle.desk_book.proofs.Numbering.{IsDistinct-numbers, IsDistinct-range}
 use Rattle.desk_store.specs.BookFile.{HaveOwnNumbers}
-use Rattle.desk_store.specs.Whole.{DifferBy}
+use Rattle.desk_rows.specs.Whole.{DifferBy}
 
 -- ---- numbers of a book as those of rows
 

@@ -1,25 +1,10 @@
 -- What is put into a file, as what is put into the rows of a book.
-use Rattle.std.proofs.Common.{◌≡◌, true, List, [], ◌∷◌, map, refl, sym, ap, ◌∙◌}
-use Rattle.std.specs.Iterator.{Drains}
-use Rattle.desk_book.specs.declared.rows.Put.{Put}
-use Rattle.desk_book.specs.Puts.{LendsFirst, RowPut, RowPuts, PutBook, PutTab, PutPara, PutMark, PutCache, PutEntry, SetPlace, SetFlags, SetTable, SetPrint, SetSpan, SetResolved, SetVersion, put_of, with_put, with_puts}
+use Rattle.std.proofs.Common.{◌≡◌, true, List, [], ◌∷◌, refl, ap, ◌∙◌}
+use Rattle.desk_book.specs.Puts.{RowPut, PutBook, PutTab, PutPara, PutMark, PutCache, PutEntry, SetPlace, SetFlags, SetTable, SetPrint, SetSpan, SetResolved, SetVersion, with_put, with_puts}
 use Rattle.desk_store.specs.BookFile.{rows_of}
-use Rattle.desk_store.specs.Contents.{Contents}
-use Rattle.desk_store.specs.Layout.{Layout}
-use Rattle.desk_store.specs.Puts.{HasThem, Lends, put_into, puts_into, table_put}
-
--- ---- what is lent
-
-drained : (puts : RowPuts) (lent : List Put) → Drains LendsFirst puts lent → map put_of lent ≡ puts
-drained puts [] d = sym (d.1.1 ∙ d.1.2.0)
-drained puts (p ∷ ps) d =
-    let rest = drained d.1.1.0 ps (d.0, (d.1.0, d.1.1.2, d.1.2)) in
-    ap (λ (xs : RowPuts). put_of p ∷ xs) rest ∙ sym d.1.1.1
-
-pub all_lent : (puts xs : RowPuts) → Lends LendsFirst puts xs → xs ≡ puts
-all_lent puts xs h = h.are ∙ drained puts h.lent h.drained
-
--- ---- what is put
+use Rattle.desk_rows.specs.Contents.{Contents}
+use Rattle.desk_rows.specs.Layout.{Layout}
+use Rattle.desk_rows.specs.Puts.{HasThem, put_into, puts_into, table_put}
 
 module _ (l : Layout) where
   one_put : (c : Contents) (it : RowPut) → l.has (table_put it) ≡ true → rows_of l (put_into c it) ≡ with_put it (rows_of l c)

@@ -10,13 +10,13 @@ use Rattle.desk_book.specs.SameRows.{AreSameRows, AreSameCaches, AreSameEntries}
 use Rattle.desk_book.proofs.FilledRows.{new-shown}
 use Rattle.desk_store.specs.BookFile.{rows_of}
 use Rattle.desk_store.specs.Books.{HasNewTables, HoldsBook, ShowsBook}
-use Rattle.desk_store.specs.Contents.{Contents}
-use Rattle.desk_store.specs.Described.{books, tabs, paras, marks, caches, named_corrs}
+use Rattle.desk_rows.specs.Contents.{Contents}
+use Rattle.desk_rows.specs.Described.{books, tabs, paras, marks, caches, named_corrs}
 use Rattle.desk_store.specs.Formats.{Format, IsOfFormat, unnamed, named}
-use Rattle.desk_store.specs.Layout.{Layout}
-use Rattle.desk_store.specs.Making.{IsMade, IsNew, first_contents, is_among, made}
+use Rattle.desk_rows.specs.Layout.{Layout}
+use Rattle.desk_rows.specs.Making.{IsMade, IsNew, first_contents, is_among, made}
 use Rattle.desk_store.specs.Opened.{completed, have_names, lacked, lacked_by, lacking, which_lacked}
-use Rattle.desk_store.specs.States.{Shows}
+use Rattle.desk_rows.specs.States.{Shows}
 
 -- ---- a new file
 

@@ -8,11 +8,11 @@ use Rattle.sqlite_schema.specs.declared.schema.Schema.{Schema}
 use Rattle.sqlite_schema.specs.declared.schema.Table.{Table}
 use Rattle.sql_tables.specs.Making.{first_created}
 use Rattle.sql_tables.specs.Tables.{counter}
-use Rattle.desk_store.specs.Described.{Which, books, tabs, paras, corrs, marks, caches, named_corrs, described, table_of}
+use Rattle.desk_rows.specs.Described.{Which, books, tabs, paras, corrs, marks, caches, named_corrs, described, table_of}
 use Rattle.desk_store.specs.Formats.{IsExact}
-use Rattle.desk_store.specs.Layout.{Layout}
-use Rattle.desk_store.specs.Making.{after, is_among, with_tables}
-use Rattle.desk_store.specs.Tables.{is_there}
+use Rattle.desk_rows.specs.Layout.{Layout}
+use Rattle.desk_rows.specs.Making.{after, is_among, with_tables}
+use Rattle.desk_rows.specs.Tables.{is_there}
 
 -- a search of a longer list finds what one of the list finds, or what was added
 found_with : {X : Type 0} (p : X → Bool) (xs : List X) (x : X) (i : ℕ) → is_some (position_from p i (xs ++ x ∷ [])) ≡ (p x || is_some (position_from p i xs))

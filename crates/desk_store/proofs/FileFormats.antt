@@ -1,11 +1,11 @@
 -- Which format a layout is of once tables are made.
 use Rattle.std.proofs.Common.{◌≡◌, Bool, true, false, if◌then◌else◌, ◌||◌, List, [], ◌∷◌, refl, sym, ◌∙◌, true≢false}
 use Rattle.sqlite_schema.specs.declared.schema.Schema.{Schema}
-use Rattle.desk_store.specs.Described.{Which, books, tabs, paras, corrs, marks, caches, named_corrs}
+use Rattle.desk_rows.specs.Described.{Which, books, tabs, paras, corrs, marks, caches, named_corrs}
 use Rattle.desk_store.specs.Formats.{Format, IsOfFormat, named, unnamed}
-use Rattle.desk_store.specs.Layout.{Layout}
-use Rattle.desk_store.specs.Making.{after, is_among, made, new_tables, with_tables}
-use Rattle.desk_store.specs.Tables.{is_there}
+use Rattle.desk_rows.specs.Layout.{Layout}
+use Rattle.desk_rows.specs.Making.{after, is_among, made, new_tables, with_tables}
+use Rattle.desk_rows.specs.Tables.{is_there}
 use Rattle.desk_store.proofs.Exact.{there_after}
 
 joined : (b has there : Bool) → has ≡ there → (if b then true else has) ≡ (b || there)

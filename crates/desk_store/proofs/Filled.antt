@@ -15,15 +15,15 @@ use Rattle.desk_book.specs.declared.filling.NewTables.{NewTables}
 use Rattle.desk_book.specs.declared.filling.NewTables.TheVariants.{Braille, Entries, EntriesAndBraille}
 use Rattle.desk_book.proofs.FilledRows.{filled-shown}
 use Rattle.desk_store.specs.BookFile.{rows_of}
-use Rattle.desk_store.specs.Contents.{Contents}
-use Rattle.desk_store.specs.Described.{Which, books, caches, corrs, named_corrs, described}
+use Rattle.desk_rows.specs.Contents.{Contents}
+use Rattle.desk_rows.specs.Described.{Which, books, caches, corrs, named_corrs, described}
 use Rattle.desk_store.specs.Formats.{Format, IsOfFormat, unnamed, named}
-use Rattle.desk_store.specs.Layout.{Layout}
-use Rattle.desk_store.specs.Making.{Differ, IsFileWithTables, IsGrown, WritesWithTables, with_none, with_tables}
+use Rattle.desk_rows.specs.Layout.{Layout}
+use Rattle.desk_rows.specs.Making.{Differ, IsFileWithTables, IsGrown, WritesWithTables, with_none, with_tables}
 use Rattle.desk_store.specs.Opened.{HasGained, HoldsWith, StandsAs, which_new}
-use Rattle.desk_store.specs.Puts.{HasThem, put_into, puts_into}
-use Rattle.desk_store.specs.States.{IsFile, Shows}
-use Rattle.desk_store.specs.Tables.{AreWritten, which}
+use Rattle.desk_rows.specs.Puts.{HasThem, put_into, puts_into}
+use Rattle.desk_rows.specs.States.{IsFile, Shows}
+use Rattle.desk_rows.specs.Tables.{AreWritten, which}
 use Rattle.desk_book.specs.declared.parts.FileTable.{FileTable}
 use Rattle.desk_store.proofs.BookPuts.{all_put}
 

@@ -3,14 +3,14 @@ use Rattle.std.proofs.Common.{◌≡◌, Bool, ◌&&◌, not, true, false, refl,
 use Rattle.sqlite_schema.specs.declared.schema.Schema.{Schema}
 use Rattle.sqlite.specs.State.{State}
 use Rattle.desk_book.specs.FileRows.{FileRows}
-use Rattle.desk_store.specs.Contents.{Contents}
-use Rattle.desk_store.specs.Described.{books, tabs, paras, corrs, marks, caches, named_corrs}
+use Rattle.desk_rows.specs.Contents.{Contents}
+use Rattle.desk_rows.specs.Described.{books, tabs, paras, corrs, marks, caches, named_corrs}
 use Rattle.desk_store.specs.Formats.{Format, HasThoseRead, IsExact, IsOfFormat, named, unnamed}
 use Rattle.desk_store.specs.Found.{AreFileRows, format_kept}
-use Rattle.desk_store.specs.Layout.{Layout}
+use Rattle.desk_rows.specs.Layout.{Layout}
 use Rattle.desk_store.specs.Opening.{has_tables}
-use Rattle.desk_store.specs.States.{Shows}
-use Rattle.desk_store.specs.Tables.{is_there}
+use Rattle.desk_rows.specs.States.{Shows}
+use Rattle.desk_rows.specs.Tables.{is_there}
 
 all_unnamed : (a b c d e : Bool) → ((a && b && c) && (d && not e)) ≡ true → (a ≡ true) × (b ≡ true) × (c ≡ true) × (d ≡ true) × (e ≡ false)
 all_unnamed false b c d e is = absurd (true≢false (sym is))

@@ -8,12 +8,12 @@ use Rattle.sqlite.specs.State.{State}
 use Rattle.sql_tables.specs.States.{IsSettled}
 use Rattle.desk_book.specs.Book.{Book}
 use Rattle.desk_store.specs.Books.{HoldsBook, LeavesBook}
-use Rattle.desk_store.specs.Contents.{Contents}
-use Rattle.desk_store.specs.Described.{Which}
-use Rattle.desk_store.specs.Layout.{IsOther, Layout}
-use Rattle.desk_store.specs.Making.{with_tables}
+use Rattle.desk_rows.specs.Contents.{Contents}
+use Rattle.desk_rows.specs.Described.{Which}
+use Rattle.desk_rows.specs.Layout.{IsOther, Layout}
+use Rattle.desk_rows.specs.Making.{with_tables}
 use Rattle.desk_store.specs.Opened.{HasGained, StandsAs}
-use Rattle.desk_store.specs.States.{Shows}
+use Rattle.desk_rows.specs.States.{Shows}
 
 own_rows : (tables : List Table) (rows : Trees) → KeepsRows tables rows rows
 own_rows [] rows = tt

@@ -18,24 +18,24 @@ use Rattle.desk_book.specs.declared.parts.FileTable.TheVariants as file
 use Rattle.desk_book.specs.declared.parts.Parts.{Parts}
 use Rattle.desk_book.specs.declared.rows.BookRow.{BookRow}
 use Rattle.desk_book.proofs.SoundEntryRows.{sound}
-use Rattle.desk_store.specs.Asked.{AnswersRows, AnyRows, asked}
+use Rattle.desk_rows.specs.Asked.{AnswersRows, AnyRows, asked}
 use Rattle.desk_store.specs.BookFile.{rows_of}
-use Rattle.desk_store.specs.Contents.{Contents}
-use Rattle.desk_store.specs.Described.{books, tabs, paras, corrs, marks, named_corrs}
+use Rattle.desk_rows.specs.Contents.{Contents}
+use Rattle.desk_rows.specs.Described.{books, tabs, paras, corrs, marks, named_corrs}
 use Rattle.desk_store.specs.Formats.{Format, HasThoseRead, IsOfFormat, IsPresent, Presence, foreign, named, needed, optional, presence, unnamed, unread}
 use Rattle.desk_store.specs.Found.{AreFileRows, AreOtherRows, AreRowsIn, CanAllAnswer, CanAnswer, RowsShowIn, format_kept}
-use Rattle.desk_store.specs.Layout.{Layout}
+use Rattle.desk_rows.specs.Layout.{Layout}
 use Rattle.desk_store.specs.Opened.{IsReadOf, LacksTables, TellsOfTables}
 use Rattle.desk_store.specs.Opening.{AreRead, CanAllBeRead, CanBeRead, IsBookRow, IsNewer, IsRefusal, ShowsReadable, Stays, TellsOfRow, format_in, has_tables, opened_as}
-use Rattle.desk_store.specs.States.{Shows}
-use Rattle.desk_store.specs.Tables.{is_there}
-use Rattle.desk_store.specs.declared.fault.Fault.{Fault}
-use Rattle.desk_store.specs.declared.fault.Fault.TheVariants as reading
+use Rattle.desk_rows.specs.States.{Shows}
+use Rattle.desk_rows.specs.Tables.{is_there}
+use Rattle.desk_rows.specs.declared.fault.Fault.{Fault}
+use Rattle.desk_rows.specs.declared.fault.Fault.TheVariants as reading
 use Rattle.desk_store.specs.declared.fault.OpenFault.{OpenFault}
 use Rattle.desk_store.specs.declared.fault.OpenFault.TheVariants.{NotABook, Damaged, NewerFormat, Lost, NoMemory}
 use Rattle.desk_store.proofs.AnyFile.{cells_before, entries_before, gives_before, shown_before}
 use Rattle.desk_store.proofs.Opened.{as_listed, same_state, stays_read}
-use Rattle.desk_store.proofs.WholeReads.{reads_only}
+use Rattle.desk_rows.proofs.WholeReads.{reads_only}
 
 -- ---- one row
 

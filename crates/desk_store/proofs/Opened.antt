@@ -5,20 +5,20 @@ use Rattle.sqlite_value.specs.Order.{Row}
 use Rattle.sqlite.specs.Effect.{Database}
 use Rattle.sqlite.specs.State.{IsUnchanged, State}
 use Rattle.sql_tables.specs.Rows.{Lists, picked}
-use Rattle.desk_store.specs.Asked.{AnswersRows, AnyRows}
-use Rattle.desk_store.specs.Contents.{Contents}
-use Rattle.desk_store.specs.Described.{Which, tabs, paras, marks, caches, described}
-use Rattle.desk_store.specs.Layout.{Layout}
+use Rattle.desk_rows.specs.Asked.{AnswersRows, AnyRows}
+use Rattle.desk_rows.specs.Contents.{Contents}
+use Rattle.desk_rows.specs.Described.{Which, tabs, paras, marks, caches, described}
+use Rattle.desk_rows.specs.Layout.{Layout}
 use Rattle.desk_store.specs.Formats.{Format, unnamed, named, Presence, needed, optional, presence, IsOfFormat, IsPresent}
 use Rattle.desk_store.specs.Opening.{CanBeRead, ShowsReadable, Stays}
-use Rattle.desk_store.specs.Tables.{is_there}
-use Rattle.desk_store.specs.Rows.{ShownOf, own, shown}
-use Rattle.desk_store.specs.States.{IsFile, Shows}
-use Rattle.desk_store.specs.Whole.{HaveOwnRowids, IsUtf8Row}
-use Rattle.desk_store.specs.declared.fault.Fault.{Fault}
-use Rattle.desk_store.specs.declared.fault.Fault.TheVariants.{Refused}
-use Rattle.desk_store.proofs.FileTexts.{readable_table}
-use Rattle.desk_store.proofs.WholeFile.{tabs_apart}
+use Rattle.desk_rows.specs.Tables.{is_there}
+use Rattle.desk_rows.specs.Rows.{ShownOf, own, shown}
+use Rattle.desk_rows.specs.States.{IsFile, Shows}
+use Rattle.desk_rows.specs.Whole.{HaveOwnRowids, IsUtf8Row}
+use Rattle.desk_rows.specs.declared.fault.Fault.{Fault}
+use Rattle.desk_rows.specs.declared.fault.Fault.TheVariants.{Refused}
+use Rattle.desk_rows.proofs.FileTexts.{readable_table}
+use Rattle.desk_rows.proofs.WholeFile.{tabs_apart}
 
 -- ---- a connection that stays as it was
 

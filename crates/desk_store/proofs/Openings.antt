@@ -23,19 +23,19 @@ use Rattle.desk_book.proofs.SameRows.{shown, turned}
 use Rattle.desk_book.proofs.SoundEntryRows.{sound}
 use Rattle.desk_store.specs.BookFile.{rows_of}
 use Rattle.desk_store.specs.Books.{HoldsBook, LeavesBook, ShowsBook}
-use Rattle.desk_store.specs.Contents.{Contents}
-use Rattle.desk_store.specs.Described.{Which, books, caches}
-use Rattle.desk_store.specs.Failing.{FailsToChange, of_first_row}
+use Rattle.desk_rows.specs.Contents.{Contents}
+use Rattle.desk_rows.specs.Described.{Which, books, caches}
+use Rattle.desk_rows.specs.Failing.{FailsToChange, of_first_row}
 use Rattle.desk_store.specs.Formats.{Format, HasThoseRead, IsOfFormat}
 use Rattle.desk_store.specs.Found.{AreFileRows, HasNone, RowsShowIn}
-use Rattle.desk_store.specs.Layout.{Layout}
-use Rattle.desk_store.specs.Making.{IsMade, IsNew, made, new_tables, with_tables}
+use Rattle.desk_rows.specs.Layout.{Layout}
+use Rattle.desk_rows.specs.Making.{IsMade, IsNew, made, new_tables, with_tables}
 use Rattle.desk_store.specs.Opened.{HasGained, HoldsEither, HoldsEmpty, HoldsNone, HoldsWith, IsMadeNew, IsReadOf, MayBring, Opens, Stands, StandsAs, TellsOf, TellsOfNone, TellsOfTables, lacked, lacked_by, which_lacked}
 use Rattle.desk_store.specs.Opening.{IsOpenedAs, IsRefusal, Stays, rebuilt_as}
-use Rattle.desk_store.specs.States.{IsFile, Shows}
-use Rattle.desk_store.specs.Tables.{is_there}
-use Rattle.desk_store.specs.Turns.{begun}
-use Rattle.desk_store.specs.declared.fault.Fault.TheVariants as fault
+use Rattle.desk_rows.specs.States.{IsFile, Shows}
+use Rattle.desk_rows.specs.Tables.{is_there}
+use Rattle.desk_rows.specs.Turns.{begun}
+use Rattle.desk_rows.specs.declared.fault.Fault.TheVariants as fault
 use Rattle.desk_store.specs.declared.fault.OpenFault.{OpenFault}
 use Rattle.desk_store.specs.declared.fault.OpenFault.TheVariants.{NotABook, Damaged, NewerFormat, Lost, NoMemory}
 use Rattle.desk_store.proofs.Completed.{completed_tables, lacked_rows, lacked_same, made_holds, new_shows, new_tables_there}

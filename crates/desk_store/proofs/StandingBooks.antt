@@ -16,15 +16,15 @@ use Rattle.desk_book.specs.declared.rows.BookRow.{BookRow}
 use Rattle.desk_book.proofs.OneBook.{one_book}
 use Rattle.desk_book.proofs.SoundEntryRows.{sound}
 use Rattle.desk_store.specs.BookFile.{rows_of}
-use Rattle.desk_store.specs.Contents.{Contents}
-use Rattle.desk_store.specs.Described.{books, corrs, named_corrs}
+use Rattle.desk_rows.specs.Contents.{Contents}
+use Rattle.desk_rows.specs.Described.{books, corrs, named_corrs}
 use Rattle.desk_store.specs.Formats.{Format, IsOfFormat, unnamed, named}
-use Rattle.desk_store.specs.Layout.{Layout}
+use Rattle.desk_rows.specs.Layout.{Layout}
 use Rattle.desk_store.specs.Found.{HasNone}
 use Rattle.desk_store.specs.Opened.{Opens, Stands, TellsOf}
-use Rattle.desk_store.specs.Tables.{is_there}
+use Rattle.desk_rows.specs.Tables.{is_there}
 use Rattle.desk_store.specs.Opening.{AreEntriesReadable, CanAllBeRead, IsRefusal, format_in}
-use Rattle.desk_store.specs.Whole.{IsUtf8Row}
+use Rattle.desk_rows.specs.Whole.{IsUtf8Row}
 use Rattle.desk_store.specs.declared.fault.OpenFault.{OpenFault}
 use Rattle.desk_store.specs.declared.fault.OpenFault.TheVariants.{NotABook, Damaged, NewerFormat, Lost, NoMemory}
 use Rattle.desk_store.proofs.AnyFile.{all_readable}

@@ -2,10 +2,10 @@
 use Rattle.std.specs.Prelude.{if◌then◌else◌, Some, None}
 use Rattle.std.specs.Option.{ForSome}
 use Rattle.desk_book.specs.FileRows.{FileRows, Named, Unnamed}
-use Rattle.desk_store.specs.Contents.{Contents}
-use Rattle.desk_store.specs.Described.{books, tabs, paras, corrs, marks, caches, named_corrs}
-use Rattle.desk_store.specs.Layout.{Layout}
-use Rattle.desk_store.specs.Whole.{DifferBy}
+use Rattle.desk_rows.specs.Contents.{Contents}
+use Rattle.desk_rows.specs.Described.{books, tabs, paras, corrs, marks, caches, named_corrs}
+use Rattle.desk_rows.specs.Layout.{Layout}
+use Rattle.desk_rows.specs.Whole.{DifferBy}
 
 -- The entries are those of `corr2` where the layout has it, and else those of `corr`; there are rows of `cache` where it has that.
 abbrev pub rows_of : Layout → Contents → FileRows

@@ -15,13 +15,13 @@ use Rattle.desk_book.specs.Puts.{LendsFirst, RowPut}
 use Rattle.desk_book.specs.Shows.{Shows as RowsShow}
 use Rattle.desk_command.specs.declared.command.Command.{Command}
 use Rattle.desk_store.specs.BookFile.{rows_of}
-use Rattle.desk_store.specs.Contents.{Contents}
-use Rattle.desk_store.specs.Failing.{FailsToPut, of_items}
-use Rattle.desk_store.specs.Fault.{CountsLoss}
-use Rattle.desk_store.specs.Layout.{Layout}
-use Rattle.desk_store.specs.Making.{new_tables}
-use Rattle.desk_store.specs.States.{IsFile, Shows}
-use Rattle.desk_store.specs.Turns.{begun}
+use Rattle.desk_rows.specs.Contents.{Contents}
+use Rattle.desk_rows.specs.Failing.{FailsToPut, of_items}
+use Rattle.desk_rows.specs.Fault.{CountsLoss}
+use Rattle.desk_rows.specs.Layout.{Layout}
+use Rattle.desk_rows.specs.Making.{new_tables}
+use Rattle.desk_rows.specs.States.{IsFile, Shows}
+use Rattle.desk_rows.specs.Turns.{begun}
 
 -- ---- the book of a file
 

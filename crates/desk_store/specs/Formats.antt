@@ -1,8 +1,8 @@
 -- The formats of a file, and which tables each has.
 use Rattle.std.specs.Prelude.{◌≡◌, ◌⊎◌, Bool, true, false, ⊤}
-use Rattle.desk_store.specs.Described.{Which, books, tabs, paras, corrs, marks, caches, named_corrs}
-use Rattle.desk_store.specs.Layout.{Layout}
-use Rattle.desk_store.specs.Tables.{is_there}
+use Rattle.desk_rows.specs.Described.{Which, books, tabs, paras, corrs, marks, caches, named_corrs}
+use Rattle.desk_rows.specs.Layout.{Layout}
+use Rattle.desk_rows.specs.Tables.{is_there}
 
 -- the layout has just those of our tables that the schema has by their names
 abbrev pub IsExact : Layout → Type 0

@@ -10,13 +10,13 @@ use Rattle.desk_book.specs.Book.{Book}
 use Rattle.desk_book.specs.FileRows.{EntryRows, FileRows, Named, Unnamed}
 use Rattle.desk_book.specs.Rows.{Cached, StoredTab}
 use Rattle.desk_book.specs.Shows.{Shows as RowsShow}
-use Rattle.desk_store.specs.Asked.{Gives, asked}
-use Rattle.desk_store.specs.Described.{Which, books, tabs, paras, corrs, marks, caches, named_corrs}
+use Rattle.desk_rows.specs.Asked.{Gives, asked}
+use Rattle.desk_rows.specs.Described.{Which, books, tabs, paras, corrs, marks, caches, named_corrs}
 use Rattle.desk_store.specs.Formats.{Format, Presence, needed, optional, foreign, unread, unnamed, named, presence}
 use Rattle.desk_store.specs.Opening.{has_tables}
-use Rattle.desk_store.specs.Rows.{ShownOf, shown}
-use Rattle.desk_store.specs.Tables.{is_there}
-use Rattle.desk_store.specs.Whole.{HaveOwnRowids}
+use Rattle.desk_rows.specs.Rows.{ShownOf, shown}
+use Rattle.desk_rows.specs.Tables.{is_there}
+use Rattle.desk_rows.specs.Whole.{HaveOwnRowids}
 
 -- ---- which tables are there
 

@@ -1,17 +1,4 @@
-pub mod Described
-pub mod Tables
-pub mod Rows
-pub mod Layout
 pub mod Formats
-pub mod Contents
-pub mod States
-pub mod Turns
-pub mod Puts
-pub mod Fault
-pub mod Asked
-pub mod Making
-pub mod Failing
-pub mod Whole
 pub mod BookFile
 pub mod Books
 pub mod Opening

@@ -22,20 +22,20 @@ use Rattle.desk_book.specs.declared.parts.FileTable.TheVariants.{Book as BookTab
 use Rattle.desk_book.specs.declared.rows.BookRow.{BookRow}
 use Rattle.desk_store.specs.BookFile.{rows_of}
 use Rattle.desk_store.specs.Books.{HasNewTables, HoldsBook, LeavesBook, ShowsBook}
-use Rattle.desk_store.specs.Contents.{Contents}
-use Rattle.desk_store.specs.Described.{Which, books, caches, corrs, named_corrs}
-use Rattle.desk_store.specs.Failing.{FailsToChange, of_first_row}
-use Rattle.desk_store.specs.Fault.{IsToldAs}
+use Rattle.desk_rows.specs.Contents.{Contents}
+use Rattle.desk_rows.specs.Described.{Which, books, caches, corrs, named_corrs}
+use Rattle.desk_rows.specs.Failing.{FailsToChange, of_first_row}
+use Rattle.desk_rows.specs.Fault.{IsToldAs}
 use Rattle.desk_store.specs.Formats.{Format, HasThoseRead, IsOfFormat}
 use Rattle.desk_store.specs.Found.{HasNone, RowsShowIn, ShowsIn}
-use Rattle.desk_store.specs.Layout.{Layout}
-use Rattle.desk_store.specs.Making.{IsMade, IsNew, made, new_tables, with_tables}
+use Rattle.desk_rows.specs.Layout.{Layout}
+use Rattle.desk_rows.specs.Making.{IsMade, IsNew, made, new_tables, with_tables}
 use Rattle.desk_store.specs.Opening.{CanAllBeRead, IsBookRow, IsNewer, IsRefusal, format_in}
-use Rattle.desk_store.specs.States.{IsFile, Shows}
-use Rattle.desk_store.specs.Tables.{is_there}
-use Rattle.desk_store.specs.Turns.{begun}
-use Rattle.desk_store.specs.declared.fault.Fault.{Fault}
-use Rattle.desk_store.specs.declared.fault.Fault.TheVariants as fault
+use Rattle.desk_rows.specs.States.{IsFile, Shows}
+use Rattle.desk_rows.specs.Tables.{is_there}
+use Rattle.desk_rows.specs.Turns.{begun}
+use Rattle.desk_rows.specs.declared.fault.Fault.{Fault}
+use Rattle.desk_rows.specs.declared.fault.Fault.TheVariants as fault
 use Rattle.desk_store.specs.declared.fault.OpenFault.{OpenFault}
 use Rattle.desk_store.specs.declared.fault.OpenFault.TheVariants.{NotABook, Damaged, NewerFormat, Lost, NoMemory}
 

@@ -15,18 +15,18 @@ use Rattle.desk_book.specs.declared.parts.PartsFault.{PartsFault}
 use Rattle.desk_book.specs.declared.parts.PartsFault.TheVariants as rebuilt
 use Rattle.desk_book.specs.declared.rows.BookRow.{BookRow}
 use Rattle.desk_store.specs.BookFile.{rows_of}
-use Rattle.desk_store.specs.Contents.{Contents}
-use Rattle.desk_store.specs.Described.{Which, tabs, paras, corrs, marks, named_corrs}
-use Rattle.desk_store.specs.Fault.{IsToldAs}
+use Rattle.desk_rows.specs.Contents.{Contents}
+use Rattle.desk_rows.specs.Described.{Which, tabs, paras, corrs, marks, named_corrs}
+use Rattle.desk_rows.specs.Fault.{IsToldAs}
 use Rattle.desk_store.specs.Formats.{Format, Presence, needed, optional, foreign, unread, unnamed, named, presence, IsOfFormat}
-use Rattle.desk_store.specs.Layout.{Layout}
-use Rattle.desk_store.specs.States.{Shows}
-use Rattle.desk_store.specs.Tables.{is_there}
-use Rattle.desk_store.specs.Whole.{IsUtf8Row}
+use Rattle.desk_rows.specs.Layout.{Layout}
+use Rattle.desk_rows.specs.States.{Shows}
+use Rattle.desk_rows.specs.Tables.{is_there}
+use Rattle.desk_rows.specs.Whole.{IsUtf8Row}
 use Rattle.desk_store.specs.declared.book_file.FileFormat.{FileFormat}
 use Rattle.desk_store.specs.declared.book_file.FileFormat.TheVariants as read
-use Rattle.desk_store.specs.declared.fault.Fault.{Fault}
-use Rattle.desk_store.specs.declared.fault.Fault.TheVariants as fault
+use Rattle.desk_rows.specs.declared.fault.Fault.{Fault}
+use Rattle.desk_rows.specs.declared.fault.Fault.TheVariants as fault
 use Rattle.desk_store.specs.declared.fault.OpenFault.{OpenFault}
 use Rattle.desk_store.specs.declared.fault.OpenFault.TheVariants.{NotABook, Damaged, NewerFormat, Lost, NoMemory}
 

@@ -10,21 +10,20 @@ ghost use Rattle.sqlite.specs.State.{HasCleanDisk, Survives};
 ghost use Rattle.desk_book.specs.Book.{Book};
 ghost use Rattle.desk_book.specs.Rebuilt.{entry_rows, rows_in};
 ghost use Rattle.desk_book.specs.SameRows.{AreSameCaches, AreSameEntries};
-ghost use Rattle.desk_store.specs.Contents.{Contents};
+ghost use Rattle.desk_rows.specs.Contents.{Contents};
 ghost use Rattle.desk_store.specs.Formats.{Format, HasThoseRead, IsOfFormat};
 ghost use Rattle.desk_store.specs.Found.{AreCellsIn, AreEntriesIn, AreFileRows, AreOtherRows, CanAllAnswer, RowsShowIn, format_kept};
-ghost use Rattle.desk_store.specs.Layout.{Layout};
+ghost use Rattle.desk_rows.specs.Layout.{Layout};
 ghost use Rattle.desk_store.specs.Opened.{IsReadOf, TellsOfTables};
 ghost use Rattle.desk_store.specs.Opening.{AreEntriesReadable, AreRead, CanAllBeRead, IsBookRow, IsRefusal, OfFile, ShowsReadable, Stays, TellsOfRow, format_in, format_read, has_tables};
-ghost use Rattle.desk_store.specs.States.{Shows};
-ghost use Rattle.desk_store.specs.Tables.{is_there, which};
+ghost use Rattle.desk_rows.specs.States.{Shows};
+ghost use Rattle.desk_rows.specs.Tables.{is_there, which};
 
-use crate::fault::{Fault, OpenFault};
-use crate::read::{read_rows, read_tabs};
-use crate::table::has_table;
+use crate::fault::OpenFault;
 use desk_book::MOST_VERSION;
 use desk_book::parts::{EntryRows, FileTable, Parts};
 use desk_book::rows::{BookRow, CacheRow};
+use desk_rows::{Fault, has_table, read_rows, read_tabs};
 use sqlite::{Alter, Connection};
 use std::alloc::Global;
 

@@ -1,44 +1,8 @@
-//! Why a file can't be opened, or its rows can't be read.
-
-ghost use Rattle.desk_store.specs.Fault.{IsToldAs};
+//! Why no book is opened from a file.
 
 use desk_book::parts::{FileTable, PartsFault};
-use sqlite::{Error as Failure, ErrorCode};
+use desk_rows::Fault;
 use thiserror::Error;
-
-/// Why a file can't be opened, or its rows can't be read.
-#[derive(Clone, Copy, Debug, Error, PartialEq, Eq)]
-pub enum Fault {
-    /// A growth was refused.
-    #[error("no memory")]
-    NoMemory,
-    /// The store failed: reading or writing, damage of the pages, size, or a shut database.
-    #[error("the store failed")]
-    Lost,
-    /// The statement or a value was refused for another cause: a missing table or column, a limit on steps, or a value of
-    /// another kind; or what was opened is no database.
-    #[error("the statement, a value or the file was refused")]
-    Refused,
-}
-
-impl Fault {
-    /// How an error of the database is told.
-    pub(crate) fn of(error: Failure) -> Fault
-        ensures { IsToldAs error result }
-    {
-        match error {
-            Failure::SqliteFailure(ErrorCode::OutOfMemory) => Fault::NoMemory,
-            Failure::SqliteFailure(
-                ErrorCode::SystemIoFailure
-                | ErrorCode::DatabaseCorrupt
-                | ErrorCode::DiskFull
-                | ErrorCode::Closed
-                | ErrorCode::TooBig,
-            ) => Fault::Lost,
-            _ => Fault::Refused,
-        }
-    }
-}
 
 /// Why no book is opened from a file.
 #[derive(Clone, Copy, Debug, Error, PartialEq, Eq)]

@@ -2,20 +2,20 @@
 
 ghost use Rattle.std.specs.Prelude.{◌≡◌, false, IfErr, OnOk, map};
 ghost use Rattle.desk_book.specs.Rebuilt.{rows_in};
-ghost use Rattle.desk_store.specs.Contents.{Contents};
-ghost use Rattle.desk_store.specs.Layout.{Layout};
+ghost use Rattle.desk_rows.specs.Contents.{Contents};
+ghost use Rattle.desk_rows.specs.Layout.{Layout};
 ghost use Rattle.desk_store.specs.Opened.{HasGained, HoldsWith, StandsAs, lacked_by, which_new};
 ghost use Rattle.desk_store.specs.Opening.{IsRefusal};
-ghost use Rattle.desk_store.specs.States.{Shows};
-ghost use Rattle.desk_store.specs.Tables.{which};
+ghost use Rattle.desk_rows.specs.States.{Shows};
+ghost use Rattle.desk_rows.specs.Tables.{which};
 ghost use Rattle.sql_tables.specs.States.{IsCommitted, IsSettled};
 ghost use Rattle.sqlite.specs.Held.{state};
 ghost use Rattle.sqlite.specs.State.{HasCleanDisk, Survives};
 
-use crate::fault::{Fault, OpenFault};
-use crate::transaction::write_with_tables;
+use crate::fault::OpenFault;
 use desk_book::parts::{EntryRows, FileTable, Parts};
 use desk_book::{Book, NewTables};
+use desk_rows::{Fault, write_with_tables};
 use sqlite::{Alter, Connection, Error};
 use std::alloc::Global;
 

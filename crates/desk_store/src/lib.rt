@@ -1,27 +1,16 @@
-//! The file of one book, as a SQLite database.
+//! The book of a file: opened, completed where the file is of an older form, or made; and its changes, kept one by one.
+//!
+//! `Store::open_on` and `Store::adopt` give the book that a file's rows show, or say why there is none, and `Store::keep` keeps a change
+//! before it is acknowledged. What statements do to rows is left to `desk_rows`, and what rows show to `desk_book`.
 #![tactic(auto)]
 
 mod book_file;
-mod crash;
 mod fault;
 mod fill;
 pub mod laws;
 mod make;
-mod open;
 mod opening;
-mod put;
-mod read;
-mod row;
 mod store;
-mod table;
-mod texts;
-mod transaction;
 
-pub use crash::{reopen, reopen_after_write};
-pub use fault::{Fault, OpenFault};
-pub use make::make_tables;
-pub use open::open_file;
-pub use read::{read_rows, read_tabs};
+pub use fault::OpenFault;
 pub use store::{Lost, Store};
-pub use table::{has_table, table_name};
-pub use transaction::{write, write_with_tables};

@@ -3,13 +3,13 @@
 ghost use Rattle.std.specs.Prelude.{◌≡◌, ◌⊎◌, Bool, None, false, true, IfErr, IfOk, IsTrue, Ok, OnOk};
 ghost use Rattle.desk_book.specs.Book.{Book as BookOf};
 ghost use Rattle.desk_store.specs.Books.{LeavesBook, shown_by};
-ghost use Rattle.desk_store.specs.Contents.{Contents};
+ghost use Rattle.desk_rows.specs.Contents.{Contents};
 ghost use Rattle.desk_store.specs.Found.{HasNone};
-ghost use Rattle.desk_store.specs.Layout.{Layout};
-ghost use Rattle.desk_store.specs.Making.{with_tables};
+ghost use Rattle.desk_rows.specs.Layout.{Layout};
+ghost use Rattle.desk_rows.specs.Making.{with_tables};
 ghost use Rattle.desk_store.specs.Opened.{HasGained, HoldsEither, HoldsEmpty, HoldsNone, HoldsWith, IsRefusedWith, MayBring, Opens, Stands, StandsAs, which_lacked};
 ghost use Rattle.desk_store.specs.Opening.{IsRefusal};
-ghost use Rattle.desk_store.specs.States.{Shows};
+ghost use Rattle.desk_rows.specs.States.{Shows};
 ghost use Rattle.sql_tables.specs.States.{Leaves};
 ghost use Rattle.sqlite.specs.Held.{Held, state};
 ghost use Rattle.sqlite.specs.State.{HasCleanDisk, Survives};

@@ -3,12 +3,12 @@
 ghost use Rattle.std.specs.Prelude.{◌≡◌, false, true, IfErr, IsErr, IsTrue, OnErr, OnOk};
 ghost use Rattle.desk_book.specs.Changes.{Carries};
 ghost use Rattle.desk_store.specs.Books.{FailsToKeep, HoldsKept, IsKept, LeavesBook, LeavesEither, MayKeep, shown_by};
-ghost use Rattle.desk_store.specs.Layout.{Layout};
+ghost use Rattle.desk_rows.specs.Layout.{Layout};
 ghost use Rattle.sqlite.specs.Held.{state};
 ghost use Rattle.sqlite.specs.State.{HasCleanDisk, Survives};
 
-use crate::transaction::write;
 use desk_book::{Book, Change};
+use desk_rows::write;
 use sqlite::{Alter, Connection, Error as DatabaseError};
 use std::alloc::Global;
 use std::marker::Model;

@@ -2,13 +2,13 @@ use Rattle.std.proofs.Common.{◌≡◌, true, ap, refl, sym, subst, ◌∙◌}
 use Rattle.std.proofs.lemmas.Result.{err_from_is_err_and}
 use Rattle.sqlite.specs.Held.{state}
 use Rattle.sqlite_schema.specs.declared.schema.Schema.{Schema}
-use Rattle.desk_store.specs.Asked.{AnyRows}
-use Rattle.desk_store.specs.Described.{caches}
+use Rattle.desk_rows.specs.Asked.{AnyRows}
+use Rattle.desk_rows.specs.Described.{caches}
 use Rattle.desk_store.specs.Formats.{Presence}
 use Rattle.desk_store.specs.Found.{IsReadAs}
 use Rattle.desk_store.specs.Opening.{format_read}
-use Rattle.desk_store.specs.Rows.{shown}
-use Rattle.desk_store.specs.Tables.{is_there}
+use Rattle.desk_rows.specs.Rows.{shown}
+use Rattle.desk_rows.specs.Tables.{is_there}
 use Rattle.desk_store.proofs.AnyFile.{never_refused_any, rows_before}
 use Rattle.desk_store.proofs.Opened.{any_apart, as_listed, has_caches, never_refused_optional, optional_caches, read_of, same_state}
 use Rattle.desk_store.proofs.book_file.read_cells.Goals as goal

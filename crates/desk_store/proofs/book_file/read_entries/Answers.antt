@@ -1,10 +1,10 @@
 use Rattle.std.proofs.Common.{refl}
 use Rattle.std.proofs.lemmas.Result.{err_from_is_err_and}
 use Rattle.sqlite.specs.Held.{state}
-use Rattle.desk_store.specs.Asked.{AnyRows}
-use Rattle.desk_store.specs.Described.{corrs, named_corrs}
+use Rattle.desk_rows.specs.Asked.{AnyRows}
+use Rattle.desk_rows.specs.Described.{corrs, named_corrs}
 use Rattle.desk_store.specs.Formats.{named, unnamed}
-use Rattle.desk_store.specs.Rows.{shown}
+use Rattle.desk_rows.specs.Rows.{shown}
 use Rattle.desk_store.proofs.AnyFile.{never_refused_any, rows_before, texts_of}
 use Rattle.desk_store.proofs.Opened.{any_apart, as_listed, has_needed, never_refused_of, read_of, same_state}
 use Rattle.desk_store.proofs.book_file.read_entries.Goals as goal

@@ -4,13 +4,13 @@ use Rattle.std.proofs.lemmas.Result.{err_from_is_err_and}
 use Rattle.sqlite.specs.Held.{state}
 use Rattle.sqlite.specs.State.{HasCleanDisk}
 use Rattle.desk_book.specs.declared.rows.BookRow.{BookRow}
-use Rattle.desk_store.specs.Asked.{AnyRows}
-use Rattle.desk_store.specs.Described.{books}
+use Rattle.desk_rows.specs.Asked.{AnyRows}
+use Rattle.desk_rows.specs.Described.{books}
 use Rattle.desk_store.specs.Formats.{Format, IsOfFormat}
 use Rattle.desk_store.specs.Found.{CanAllAnswer}
 use Rattle.desk_store.specs.Opening.{CanAllBeRead, ShowsReadable, Stays, TellsOfRow, format_in, format_read, has_tables}
 use Rattle.desk_store.proofs.AnyFile.{can_all_still, readable_still}
-use Rattle.desk_store.proofs.Committing.{survive_both}
+use Rattle.desk_rows.proofs.Committing.{survive_both}
 use Rattle.desk_store.proofs.JudgedTables.{books_answered, books_in, file_rows, has_books, has_its_tables, judged, kept_by_row, lacks_readable, lacks_tables, of_the_row, read_told, read_whole, refusal_is, row_is_sound, row_told, tables_there}
 use Rattle.desk_store.proofs.Opened.{as_listed, shows_still, stays_read, stays_then}
 use Rattle.desk_store.proofs.book_file.read_parts.Goals as goal

@@ -3,11 +3,11 @@ use Rattle.std.proofs.lemmas.Result.{err_from_is_err_and}
 use Rattle.sqlite.specs.Held.{state}
 use Rattle.sqlite.specs.State.{HasCleanDisk}
 use Rattle.desk_book.specs.Rebuilt.{entry_rows}
-use Rattle.desk_store.specs.Asked.{AnyRows}
-use Rattle.desk_store.specs.Described.{marks, paras, tabs}
+use Rattle.desk_rows.specs.Asked.{AnyRows}
+use Rattle.desk_rows.specs.Described.{marks, paras, tabs}
 use Rattle.desk_store.specs.Opening.{Stays, format_read}
-use Rattle.desk_store.specs.Rows.{shown}
-use Rattle.desk_store.specs.Whole.{HaveOwnRowids}
+use Rattle.desk_rows.specs.Rows.{shown}
+use Rattle.desk_rows.specs.Whole.{HaveOwnRowids}
 use Rattle.desk_store.proofs.AnyFile.{all_readable, can_all_still, cells_before, entries_before, never_refused_needed, readable_still, rows_before, texts_of}
 use Rattle.desk_store.proofs.Opened.{any_apart, as_listed, has_needed, needs_marks, needs_paras, needs_tabs, never_refused_of, own_rowids, same_state, shows_still, stays_read, stays_then}
 use Rattle.desk_store.proofs.book_file.read_rest.Goals as goal

@@ -2,9 +2,9 @@ use Rattle.std.proofs.Common.{List, map, refl, subst}
 use Rattle.sqlite.specs.Held.{state}
 use Rattle.sqlite.proofs.StateLemmas.{survives_weaker}
 use Rattle.desk_book.specs.Puts.{RowPut}
-use Rattle.desk_store.specs.Making.{IsFileWithTables, WritesWithTables}
-use Rattle.desk_store.specs.Tables.{which}
-use Rattle.desk_store.proofs.BookPuts.{all_lent}
+use Rattle.desk_rows.specs.Making.{IsFileWithTables, WritesWithTables}
+use Rattle.desk_rows.specs.Tables.{which}
+use Rattle.desk_rows.proofs.LentPuts.{all_lent}
 use Rattle.desk_store.proofs.Filled.{are_written, holds_gained, shows_gained}
 use Rattle.desk_store.proofs.fill.fill.Goals as goal
 

@@ -1,6 +1,6 @@
 use Rattle.sqlite.specs.Held.{state}
 use Rattle.desk_store.specs.Opened.{which_new}
-use Rattle.desk_store.proofs.Both.{on_ok_both}
+use Rattle.desk_rows.proofs.Both.{on_ok_both}
 use Rattle.desk_store.proofs.GainedTables.{gains_none, leaves_gained}
 use Rattle.desk_store.proofs.opening.complete.Goals as goal
 

@@ -6,11 +6,11 @@ use Rattle.sqlite.specs.State.{HasCleanDisk}
 use Rattle.desk_book.specs.Rebuilt.{rows_in}
 use Rattle.desk_book.specs.declared.filling.NewTables.{NewTables}
 use Rattle.desk_store.specs.Books.{LeavesBook}
-use Rattle.desk_store.specs.Contents.{Contents}
-use Rattle.desk_store.specs.Layout.{Layout}
-use Rattle.desk_store.specs.Making.{with_tables}
+use Rattle.desk_rows.specs.Contents.{Contents}
+use Rattle.desk_rows.specs.Layout.{Layout}
+use Rattle.desk_rows.specs.Making.{with_tables}
 use Rattle.desk_store.specs.Opened.{HasGained, StandsAs, which_lacked}
-use Rattle.desk_store.specs.States.{Shows}
+use Rattle.desk_rows.specs.States.{Shows}
 use Rattle.desk_store.proofs.Openings.{fills, opens, refuses, refuses_damaged, tells, tells_no_refusal}
 use Rattle.desk_store.proofs.opening.open_book.Goals as goal
 

@@ -2,10 +2,10 @@ use Rattle.std.proofs.Common.{List, subst}
 use Rattle.sqlite.specs.Held.{state}
 use Rattle.sqlite.proofs.StateLemmas.{survives_weaker}
 use Rattle.desk_book.specs.Puts.{RowPut}
-use Rattle.desk_store.specs.Puts.{IsFileWith, Writes}
+use Rattle.desk_rows.specs.Puts.{IsFileWith, Writes}
 use Rattle.desk_store.proofs.BookKeeps.{holds_next, is_kept}
-use Rattle.desk_store.proofs.BookPuts.{all_lent}
-use Rattle.desk_store.proofs.Both.{if_err_both, on_ok_both}
+use Rattle.desk_rows.proofs.LentPuts.{all_lent}
+use Rattle.desk_rows.proofs.Both.{if_err_both, on_ok_both}
 use Rattle.desk_store.proofs.store.put_change.Goals as goal
 
 pub returns-clause-kept : goal.returns-clause-kept

@@ -1,0 +1,57 @@
+-- How a read that fails is told.
+use Rattle.std.proofs.Common.{◌≡◌, ◌≢◌, ℕ, List, [], Ok, Err, Result, IfErr, refl, arith}
+use Rattle.std.specs.List.{AllByRecursion}
+use Rattle.sqlite_value.specs.declared.value.Value.{Value}
+use Rattle.sqlite_value.specs.Order.{Row}
+use Rattle.sqlite_trees.specs.declared.error.StoreError.TheVariants.{OutOfMemory}
+use Rattle.sqlite.specs.declared.error.Error.{Error}
+use Rattle.sqlite.specs.Reading.{IsReadError}
+use Rattle.sqlite.specs.State.{State, Shown, FailsToQuery, store_error}
+use Rattle.desk_rows.specs.Asked.{Asked, AnyRows, FailsAs, failed, unreadable, no_memory}
+use Rattle.desk_rows.specs.Fault.{IsToldAs}
+use Rattle.sql_tables.specs.Kinds.{HasKinds}
+use Rattle.desk_rows.specs.declared.fault.Fault.{Fault}
+use Rattle.desk_rows.specs.declared.fault.Fault.TheVariants.{NoMemory, Lost, Refused}
+use Rattle.std.proofs.Common.{inl, inr, true, sym, subst, ◌∙◌}
+use Rattle.sqlite_resolve.specs.Compile.{first}
+use Rattle.sqlite_trees.specs.declared.error.StoreError.{StoreError}
+use Rattle.sqlite.specs.State.{IsUnchanged}
+use Rattle.sql_tables.proofs.Quiet.{reads, refused_quietly}
+
+-- a value that isn't read is no failure of the store
+never_lost : (at : ℕ) (v : Value) (e : Error) → IsReadError at v e → ¬ IsToldAs e Lost
+never_lost at v e read told = grind arith
+
+-- a value that is readable is not read for want of memory alone
+pub value_kind : (P : Type 0) (at : ℕ) (v : Value) (e : Error) (fault : Fault) → IsReadError at v e → (e ≢ store_error OutOfMemory → ¬ P) → P → IsToldAs e fault → fault ≡ NoMemory
+value_kind P at v e NoMemory read unless p told = refl
+value_kind P at v e Lost read unless p told = absurd (never_lost at v e read told)
+value_kind P at v e Refused read unless p told = absurd (unless (told OutOfMemory) p)
+
+module _ {X : Type 0} (asked : Asked) (written : X → Row) (before after : State) where
+  pub fails_to_ask : (fault : Fault) → (e : Error) × FailsToQuery asked.text [] before after e × IsToldAs e fault → FailsAs asked written AnyRows before after fault
+  fails_to_ask fault (e, fails, told) = failed e fails told
+
+  pub fails_to_read : {A : Type 0} (rows : List Row) → Shown asked.text [] before after rows → (r : Result A Fault) → IfErr r (λ fault. fault ≢ Lost)
+      → (AllByRecursion (HasKinds asked.kinds) rows → IfErr r (λ fault. fault ≡ NoMemory)) → IfErr r (FailsAs asked written AnyRows before after)
+  fails_to_read rows shown (Ok a) not_lost kinds = tt
+  fails_to_read rows shown (Err NoMemory) not_lost kinds = no_memory rows shown refl
+  fails_to_read rows shown (Err Lost) not_lost kinds = absurd (not_lost refl)
+  fails_to_read rows shown (Err Refused) not_lost kinds = unreadable rows shown (λ all. absurd (let none = kinds all in cc)) refl
+
+-- where only the store makes a query fail, it is told as that
+pub never_refused : (text : List ℕ) (params : Row) (old new : State) (fault : Fault) → ((e : Error) → FailsToQuery text params old new e → (cause : StoreError) × (e ≡ store_error cause))
+    → (e : Error) × FailsToQuery text params old new e × IsToldAs e fault → fault ≢ Refused
+never_refused text params old new fault fails (e, fails_so, told) refused = let store = fails e fails_so in subst (IsToldAs e) refused told store.0 store.1
+
+-- want of memory is no refusal
+pub not_refused : {A : Type 0} (r : Result A Fault) → IfErr r (λ fault. fault ≡ NoMemory) → IfErr r (λ fault. fault ≢ Refused)
+not_refused (Ok a) none = tt
+not_refused (Err fault) none = λ refused. absurd (let both = sym none ∙ refused in cc)
+
+-- a fault of another cause than the store's is told of a file that is as it was
+pub refused_as_it_was : (text : List ℕ) (is : reads (first text) ≡ true) (params : Row) (old new : State) (fault : Fault) → (e : Error) × FailsToQuery text params old new e × IsToldAs e fault → fault ≡ Refused → IsUnchanged old new
+refused_as_it_was text is params old new fault (e, fails_so, told) refused = elim (refused_quietly text is params old new e fails_so) [
+  | inl store ↦ absurd (subst (IsToldAs e) refused told store.0 store.1)
+  | inr same ↦ same
+]

@@ -1,0 +1,15 @@
+-- What an iterator lends that lends the first of what is left.
+use Rattle.std.proofs.Common.{◌≡◌, List, [], ◌∷◌, map, sym, ap, ◌∙◌}
+use Rattle.std.specs.Iterator.{Drains}
+use Rattle.desk_book.specs.declared.rows.Put.{Put}
+use Rattle.desk_book.specs.Puts.{LendsFirst, RowPut, RowPuts, put_of}
+use Rattle.desk_rows.specs.Puts.{Lends}
+
+drained : (puts : RowPuts) (lent : List Put) → Drains LendsFirst puts lent → map put_of lent ≡ puts
+drained puts [] d = sym (d.1.1 ∙ d.1.2.0)
+drained puts (p ∷ ps) d =
+    let rest = drained d.1.1.0 ps (d.0, (d.1.0, d.1.1.2, d.1.2)) in
+    ap (λ (xs : RowPuts). put_of p ∷ xs) rest ∙ sym d.1.1.1
+
+pub all_lent : (puts xs : RowPuts) → Lends LendsFirst puts xs → xs ≡ puts
+all_lent puts xs h = h.are ∙ drained puts h.lent h.drained

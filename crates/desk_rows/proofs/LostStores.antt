@@ -1,0 +1,127 @@
+-- An error that is told as lost comes with a failure that the connection counts, or something was too big.
+use Rattle.std.proofs.Common.{◌≡◌, ◌≢◌, ◌⊎◌, inl, inr, ℕ, ◌≤◌, List, [], ◌∷◌, map, Option, arith, refl, sym, subst, ◌∙◌, true≢false}
+use Rattle.std.specs.Prelude.{⊤}
+use Rattle.sqlite_disk.specs.Disk.{MoreFaults}
+use Rattle.sqlite_trees.specs.Tree.{Trees}
+use Rattle.sqlite_trees.specs.declared.error.StoreError.{StoreError}
+use Rattle.sqlite_trees.specs.declared.error.StoreError.TheVariants.{OutOfMemory, Io, Corrupt, Full, Broken, Unstorable}
+use Rattle.sqlite_trees.specs.declared.store.Store.{Ghosts}
+use Rattle.sqlite.specs.declared.error.Error.{Error}
+use Rattle.sqlite.specs.Held.{Held, state}
+use Rattle.sqlite.specs.State.{HasCause, HasCleanDisk, State, Survives, store_error}
+use Rattle.desk_book.specs.declared.rows.Put.{Put}
+use Rattle.desk_book.specs.Puts.{RowPut, put_of}
+use Rattle.sql_tables.proofs.Failures.{IsCaused, answered, fails_so}
+use Rattle.sql_tables.proofs.Refusals.{not_of_store}
+use Rattle.desk_rows.specs.Described.{Which, books}
+use Rattle.desk_rows.specs.Failing.{FailsToChange, FailsToPut, Putting, after_tables, at_commit, at_put, at_table, of_first_row, of_items}
+use Rattle.desk_rows.specs.Fault.{CountsLoss}
+use Rattle.desk_rows.specs.Making.{creation, first_row}
+use Rattle.desk_rows.specs.Puts.{NotPut, row_put, statement}
+use Rattle.desk_rows.specs.Turns.{Failed, RunInTurn, Statement, Stops}
+
+-- ---- one error
+
+memory_alone : (cause : StoreError) → cause ≢ OutOfMemory → store_error cause ≢ store_error OutOfMemory
+memory_alone OutOfMemory other same = other refl
+memory_alone Io other same = absurd (cc)
+memory_alone Corrupt other same = absurd (cc)
+memory_alone Full other same = absurd (cc)
+memory_alone Broken other same = absurd (cc)
+memory_alone Unstorable other same = absurd (cc)
+
+caused : (old new : State) (e : Error) → IsCaused old new e → CountsLoss old new e
+caused old new e why is_open told = go why.0 why.1 why.2
+  where
+    go : (cause : StoreError) → e ≡ store_error cause → HasCause old new ⊤ cause → MoreFaults old.faults new.faults ⊎ (e ≡ store_error Unstorable)
+    go OutOfMemory same h = absurd (memory_alone told.0 told.1 (sym told.2 ∙ same))
+    go Io same h = inl h
+    go Corrupt same h = inl h
+    go Full same h = inl h
+    go Broken same h = absurd (true≢false (sym is_open ∙ h))
+    go Unstorable same h = inr same
+
+failed : (it : Statement) (old new : State) (e : Error) → Failed it old new e → CountsLoss old new e
+failed it old new e why is_open told = elim (answered it.text it.params old new e why) [
+  | inl plain ↦ absurd (not_of_store e told.0 plain told.2)
+  | inr cause ↦ caused old new e cause is_open told
+]
+
+not_put : (it : RowPut) (old new : State) (e : Error) → NotPut it old new e → CountsLoss old new e
+not_put it old new e (inl why) = failed (statement it) old new e why
+not_put it old new e (inr none) = λ is_open told. absurd (memory_alone told.0 told.1 (sym told.2 ∙ none.1))
+
+-- ---- in turn
+
+more_after : (a b c : ℕ) → a ≤ b → MoreFaults b c → MoreFaults a c
+more_after a b c up more = omega (arith, up, more)
+
+more_before : (a b c : ℕ) → MoreFaults a b → b ≤ c → MoreFaults a c
+more_before a b c more up = omega (arith, more, up)
+
+-- what is said once the disk is clean
+abbrev Loss : State → State → Error → Type 0
+Loss old new e = HasCleanDisk new → CountsLoss old new e
+
+-- failures are only ever added
+abbrev Goes : State → State → Type 0
+Goes old new = (HasCleanDisk new → HasCleanDisk old) × (old.faults ≤ new.faults)
+
+goes : (old new : State) (P : Trees → Type 0) → Survives old new P → Goes old new
+goes old new P ran = (λ clean. omega (arith, clean, ran.clean), ran.counts)
+
+goes_then : (a b c : State) → Goes a b → Goes b c → Goes a c
+goes_then a b c first later = (λ clean. first.0 (later.0 clean), omega (arith, first.1, later.1))
+
+later_loss : (a b c : State) (e : Error) (P : Trees → Type 0) → Survives a b P → Goes b c → Loss b c e → Loss a c e
+later_loss a b c e P first later loss clean is_open told = elim (first.closes (later.0 clean) is_open) [
+  | inl still ↦ elim (loss clean still told) [ inl more ↦ inl (more_after a.faults b.faults c.faults first.counts more) | inr big ↦ inr big ]
+  | inr more ↦ inl (more_before a.faults b.faults c.faults more later.1)
+]
+
+early_loss : (a b c : State) (e : Error) → Loss a b e → Goes b c → Loss a c e
+early_loss a b c e loss later clean is_open told = elim (loss (later.0 clean) is_open told) [
+  | inl more ↦ inl (more_before a.faults b.faults c.faults more later.1)
+  | inr big ↦ inr big
+]
+
+module _ {S : Type 0} (g : Ghosts S) where
+  in_turn : (its : List Statement) (old mid : Held S) (new : State) (e : Error) → RunInTurn g its old mid → Goes (state g mid) new → Loss (state g mid) new e → Goes (state g old) new × Loss (state g old) new e
+  in_turn [] old mid new e same left loss = subst (λ h. Goes (state g h) new × Loss (state g h) new e) same (left, loss)
+  in_turn (it ∷ its) old mid new e ran left loss =
+      let more = in_turn its ran.0 mid new e ran.3 left loss in (
+        goes_then (state g old) (state g ran.0) new (goes (state g old) (state g ran.0) _ ran.2) more.0,
+        later_loss (state g old) (state g ran.0) new e _ ran.2 more.0 more.1,
+      )
+
+  stops_lost : (done : List Statement) (Why : State → State → Error → Type 0) (old : Held S) (new : State) (e : Error) → ((a b : State) → Why a b e → CountsLoss a b e) → Stops g done Why old new e → Loss (state g old) new e
+  stops_lost done Why old new e lost stops =
+      (in_turn done old stops.before new e stops.ran (goes (state g stops.before) new _ stops.left) (λ clean. lost (state g stops.before) new stops.failed)).1
+
+  -- ---- a change
+
+  abbrev StopsLost : Putting S → Type 1
+  StopsLost putting = (old : Held S) (new : State) (e : Error) → putting.stops old new e → Loss (state g old) new e
+
+  pub items_lost : {I : Type 0} (gives : I → Option Put → I → Type 0) (it : I) → StopsLost (of_items g gives it)
+  items_lost gives it old new e stopped =
+      let next = put_of stopped.1 in
+      stops_lost (map statement (map put_of stopped.0)) (NotPut next) old new e (λ a b. not_put next a b e) stopped.4.stops
+
+  pub first_row_lost : StopsLost (of_first_row g)
+  first_row_lost old new e stopped clean = failed (row_put books first_row) (state g old) new e stopped
+
+  put_goes : (putting : Putting S) (old : Held S) (new : State) (e : Error) → FailsToPut g putting old new e → Goes (state g old) new
+  put_goes putting old new e (at_put last ran stopped left) = goes_then (state g old) (state g last) new (goes _ _ _ ran) (goes _ _ _ left)
+  put_goes putting old new e (at_commit last ran put left why) = goes_then (state g old) (state g last) new (goes _ _ _ ran) (goes _ _ _ left)
+
+  pub put_lost : (putting : Putting S) → StopsLost putting → (old : Held S) (new : State) (e : Error) → FailsToPut g putting old new e → Loss (state g old) new e
+  put_lost putting stops old new e (at_put last ran stopped left) = early_loss (state g old) (state g last) new e (stops old (state g last) e stopped) (goes _ _ _ left)
+  put_lost putting stops old new e (at_commit last ran put left why) =
+      later_loss (state g old) (state g last) new e _ ran (goes _ _ _ left) (λ clean. caused (state g last) new e (fails_so (state g last) new ⊥ e why))
+
+  pub change_lost : (ws : List Which) (putting : Putting S) → StopsLost putting → (old : Held S) (new : State) (e : Error) → FailsToChange g ws putting old new e → Loss (state g old) new e
+  change_lost ws putting stops old new e (at_table last stopped left) =
+      early_loss (state g old) (state g last) new e (stops_lost (map creation stopped.done) (Failed (creation stopped.next)) old (state g last) e (λ a b. failed (creation stopped.next) a b e) stopped.stops) (goes _ _ _ left)
+  change_lost ws putting stops old new e (after_tables made ran are why) =
+      later_loss (state g old) (state g made) new e _ ran (put_goes putting made new e why) (put_lost putting stops made new e why)

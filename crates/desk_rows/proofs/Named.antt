@@ -1,0 +1,206 @@
+-- What an upsert by the name makes of `tab`, whose rowid is hidden, in any schema that declares it so.
+use Rattle.std.proofs.Common.{◌≡◌, inl, inr, ℕ, ℤ, ◌≤◌, Bool, true, false, not, ◌&&◌, ◌||◌, ◌==◌, List, [], ◌∷◌, map, filter, find, length, Some, refl, sym, ap, subst, ◌∙◌, is_eq, IsPermutation, eq-eqb, eqb-true, bytes_eq, Ordering, Less, Equal, Greater, arith}
+use Rattle.std.proofs.lemmas.List.{length-map}
+use Rattle.std.specs.List.{AllByRecursion, list_any}
+use Rattle.std.specs.Cmp.{both_ways}
+use Rattle.std.proofs.lemmas.Bool.{and_from, and_parts, cases_Bool}
+use Rattle.std.proofs.lemmas.List.Sorted.{IsPermutation-sym, IsPermutation-trans, IsPermutation-cons, IsPermutation-map, length_permutation}
+use Rattle.std.proofs.lemmas.Map.Text.{is_eq-slice_cmp}
+use Rattle.std.proofs.lemmas.Slice.Eq.{bytes_eq-Decides}
+use Rattle.sqlite_value.specs.declared.keys.Collation.TheVariants.{Binary}
+use Rattle.sqlite_value.specs.declared.value.Value.TheVariants.{Int, Text}
+use Rattle.sqlite_value.specs.Keys.{first_key, plain}
+use Rattle.sqlite_value.specs.Order.{Row, column, value_cmp}
+use Rattle.sqlite_value.proofs.OrderLemmas.{value_cmp-Text}
+use Rattle.sqlite_trees.specs.Tree.{rowid, has_rowid, put_row, without_rowid}
+use Rattle.sqlite_trees.proofs.ListLemmas.{filter_all, filter_same, filter-map, IsPermutation-filter}
+use Rattle.sqlite_sql.specs.Ops.{binary, is_true, from_truth}
+use Rattle.sqlite_schema.specs.declared.schema.Index.{Index}
+use Rattle.sqlite_schema.specs.declared.schema.Schema.{Schema}
+use Rattle.sqlite_schema.specs.Rules.{agree, equal, guards}
+use Rattle.sqlite_resolve.specs.Given.{is_key_at}
+use Rattle.sqlite_rules.specs.Keys.{conflicts, shares}
+use Rattle.sqlite_rules.specs.Lists.{Has}
+use Rattle.sqlite_rules.proofs.TableLemmas.{none_to_drop}
+use Rattle.sqlite_rules.proofs.ListLemmas.{some_has, has_found}
+use Rattle.sqlite_catalog.specs.Listing.{automatic}
+use Rattle.sqlite_catalog.proofs.ListFacts.{find_within}
+use Rattle.desk_book.specs.Rows.{Tab}
+use Rattle.sql_tables.specs.Rows.{HaveRowids, Lists, put_in}
+use Rattle.sql_tables.specs.Tables.{IsDeclared}
+use Rattle.sql_tables.proofs.Declaring.{has_kept}
+use Rattle.sql_tables.proofs.RowLists.{only_row, has_own, lone, replaced, shows_one}
+use Rattle.sqlite_schema.specs.declared.schema.Table.{Table}
+use Rattle.sql_tables.specs.Rows.{picked}
+use Rattle.desk_rows.specs.Described.{tabs as tab_which, described, table_of}
+use Rattle.desk_rows.specs.Rows.{written}
+
+-- ---- the table, and a row of it as its columns and as its tree keeps it
+
+abbrev pub tab : ℕ → Table
+tab = table_of tab_which
+
+abbrev pub tab_row : Tab → Row
+tab_row = written tab_which
+
+abbrev pub tab_columns : Row → Row
+tab_columns = picked (described tab_which).own
+
+-- SQL takes two texts as equal where they are the same
+pub same_text : (a b : List ℕ) → is_eq (value_cmp (Text a) (Text b)) ≡ bytes_eq a b
+same_text a b = ap is_eq (value_cmp-Text a b) ∙ is_eq-slice_cmp a b
+
+equal_texts : (a b : List ℕ) → equal Binary (Text a) (Text b) ≡ bytes_eq a b
+unfolding binary
+equal_texts a b = go (value_cmp (Text a) (Text b)) (same_text a b)
+  where
+    go : (o : Ordering) → is_eq o ≡ bytes_eq a b → is_true (from_truth (Some (is_eq o))) ≡ bytes_eq a b
+    go Less e = e
+    go Equal e = e
+    go Greater e = e
+
+pub agrees_by_name : (r new : Row) (a b : List ℕ) → column r 1 ≡ Text a → column new 1 ≡ Text b → agree plain (1 ∷ []) r (1 ∷ []) new ≡ bytes_eq a b
+unfolding first_key
+agrees_by_name r new a b is is' = rw (is, is', equal_texts a b) (go (bytes_eq a b))
+  where
+    go : (x : Bool) → (x && true) ≡ x
+    go true = refl
+    go false = refl
+
+any_passes : {X : Type 0} (p : X → Bool) (xs : List X) (x : X) → Has xs x → p x ≡ true → list_any p xs ≡ true
+any_passes p [] x has passes = absurd has
+any_passes p (y ∷ ys) x (inl same) passes = let first : p y ≡ true = ap p (sym same) ∙ passes in rw first
+any_passes p (y ∷ ys) x (inr later) passes = go (p y) (any_passes p ys x later passes)
+  where
+    go : (b : Bool) → list_any p ys ≡ true → (b || list_any p ys) ≡ true
+    go true more = refl
+    go false more = more
+
+module _ (schema : Schema) (tree : ℕ) (d : IsDeclared schema (tab tree)) where
+  -- the index of the key
+  abbrev pub its_index : Index
+  its_index = automatic (tab tree) 0 (1 ∷ []) d.first
+
+  own : (tree == tree) ≡ true
+  own = eq-eqb tree tree refl
+
+  pub is_its_index : (i : Index) → Has schema.indexes i → i.is_unique ≡ true → i.table ≡ tree → i ≡ its_index
+  is_its_index i has unique on = go (subst (λ (is : List Index). Has is i) d.indexed (has_kept (λ (i : Index). guards i (tab tree)) schema.indexes i has (and_from i.is_unique (i.table == tree) unique (eq-eqb i.table tree on))))
+    where
+      go : Has (its_index ∷ []) i → i ≡ its_index
+      go (inl same) = same
+      go (inr none) = absurd none
+
+  pub key_index : find (is_key_at (tab tree) (1 ∷ [])) schema.indexes ≡ Some its_index
+  unfolding is_key_at
+  key_index = sym (find_within (is_key_at (tab tree) (1 ∷ [])) (λ (i : Index). guards i (tab tree)) schema.indexes (λ i has other. rw other)) ∙ ap (find (is_key_at (tab tree) (1 ∷ []))) d.indexed ∙ rw own
+
+  -- a row is in the way where it has the name
+  pub in_the_way : (r new : Row) (a b : List ℕ) → column r 1 ≡ Text a → column new 1 ≡ Text b → conflicts (Some (1 ∷ [])) schema.indexes (tab tree) new r ≡ true → a ≡ b
+  in_the_way r new a b is is' h =
+      let shared = some_has (shares (Some (1 ∷ [])) (tab tree) new r) schema.indexes h in
+      let parts = and_parts _ _ shared.2 in
+      let guarded = and_parts _ _ (and_parts _ _ parts.0).0 in
+      let same = is_its_index shared.0 shared.1 guarded.0 (eqb-true shared.0.table tree guarded.1) in
+      let agreed : agree plain (1 ∷ []) r (1 ∷ []) new ≡ true = subst (λ (i : Index). agree i.order i.columns r i.columns new ≡ true) same parts.1 in
+      (bytes_eq-Decides a b).0 (sym (agrees_by_name r new a b is is') ∙ agreed)
+
+  pub clashes : (r new : Row) (a : List ℕ) → column r 1 ≡ Text a → column new 1 ≡ Text a → conflicts (Some (1 ∷ [])) schema.indexes (tab tree) new r ≡ true
+  clashes r new a is is' =
+      let it = has_found (is_key_at (tab tree) (1 ∷ [])) schema.indexes its_index key_index in
+      let agreed : agree plain (1 ∷ []) r (1 ∷ []) new ≡ true = agrees_by_name r new a a is is' ∙ (bytes_eq-Decides a a).1 refl in
+      any_passes (shares (Some (1 ∷ [])) (tab tree) new r) schema.indexes its_index it.0 (rw (own, agreed))
+
+-- ---- the rows of tab as its tree keeps them
+
+abbrev pub IsRowOf : Tab → Row → Type 0
+IsRowOf t r = tab_columns r ≡ tab_row t
+
+pub row_of : (tabs : List Tab) (rows : List Row) → Lists tab_row tab_columns tabs rows → (r : Row) → Has rows r → (t : Tab) × IsRowOf t r
+row_of = shows_one tab_row tab_columns
+
+pub name_of : (t : Tab) (r : Row) → IsRowOf t r → column r 1 ≡ Text t.name
+name_of t r is = ap (λ (s : Row). column s 0) is
+
+-- the shown row has this name
+abbrev pub named : List ℕ → Row → Bool
+named name s = is_eq (value_cmp (column s 0) (Text name))
+
+each_named : (name : List ℕ) (tabs : List Tab) → AllByRecursion (λ t. named name (tab_row t) ≡ bytes_eq t.name name) tabs
+each_named name [] = tt
+each_named name (t ∷ ts) = (same_text t.name name, each_named name ts)
+
+each_unnamed : (name : List ℕ) (tabs : List Tab) → AllByRecursion (λ t. not (named name (tab_row t)) ≡ not (bytes_eq t.name name)) tabs
+each_unnamed name [] = tt
+each_unnamed name (t ∷ ts) = (ap not (same_text t.name name), each_unnamed name ts)
+
+-- as many rows of the tree have the name as are shown with it
+pub as_many_named : (name : List ℕ) (tabs : List Tab) (rows : List Row) → Lists tab_row tab_columns tabs rows → length (filter (λ t. bytes_eq t.name name) tabs) ≡ length (filter (λ r. named name (tab_columns r)) rows)
+as_many_named name tabs rows lists =
+    let left : filter (named name) (map tab_row tabs) ≡ map tab_row (filter (λ t. bytes_eq t.name name) tabs) = filter-map (named name) tab_row tabs ∙ ap (map tab_row) (filter_same _ _ tabs (each_named name tabs)) in
+    let right : filter (named name) (map tab_columns rows) ≡ map tab_columns (filter (λ r. named name (tab_columns r)) rows) = filter-map (named name) tab_columns rows in
+    let same = length_permutation _ _ (IsPermutation-filter (named name) _ _ lists) in
+    let a = ap length left in
+    let b = ap length right in
+    let a' = length-map (filter (λ t. bytes_eq t.name name) tabs) tab_row in
+    let b' = length-map (filter (λ r. named name (tab_columns r)) rows) tab_columns in
+    omega (arith, same, a, b, a', b')
+
+-- at most one row of the tree has the name
+few_named : (name : List ℕ) (tabs : List Tab) (rows : List Row) → Lists tab_row tab_columns tabs rows → length (filter (λ t. bytes_eq t.name name) tabs) ≤ 1 → length (filter (λ r. named name (tab_columns r)) rows) ≤ 1
+few_named name tabs rows lists few = let same = as_many_named name tabs rows lists in omega (arith, few, same)
+
+all_from_has : {X : Type 0} (P : X → Type 0) (xs : List X) → ((x : X) → Has xs x → P x) → AllByRecursion P xs
+all_from_has P [] each = tt
+all_from_has P (x ∷ xs) each = (each x (inl refl), all_from_has P xs (λ y has. each y (inr has)))
+
+-- the rows without that name
+module _ (t : Tab) (tabs : List Tab) (rows : List Row) (lists : Lists tab_row tab_columns tabs rows) (few : length (filter (λ s. bytes_eq s.name t.name) tabs) ≤ 1) where
+  rest : IsPermutation (map tab_row (filter (λ s. not (bytes_eq s.name t.name)) tabs)) (map tab_columns (filter (λ r. not (named t.name (tab_columns r))) rows))
+  rest =
+      let spares = λ (s : Row). not (named t.name s) in
+      let left : filter spares (map tab_row tabs) ≡ map tab_row (filter (λ s. not (bytes_eq s.name t.name)) tabs) = filter-map spares tab_row tabs ∙ ap (map tab_row) (filter_same _ _ tabs (each_unnamed t.name tabs)) in
+      let right : filter spares (map tab_columns rows) ≡ map tab_columns (filter (λ r. spares (tab_columns r)) rows) = filter-map spares tab_columns rows in
+      rw (← left, ← right) (IsPermutation-filter spares _ _ lists)
+
+  -- a row that has the name, put in place of the rows with its number, leaves the rows with the other names
+  pub lists_put : (new : Row) (id : ℤ) → rowid new ≡ Int id → IsRowOf t new → without_rowid id rows ≡ filter (λ r. not (named t.name (tab_columns r))) rows
+      → Lists tab_row tab_columns (put_in (λ s. bytes_eq s.name t.name) t tabs) (put_row new (without_rowid id rows))
+  lists_put new id keyed is same =
+      let first : IsPermutation (tab_columns new ∷ map tab_row (filter (λ s. not (bytes_eq s.name t.name)) tabs)) (map tab_columns (new ∷ without_rowid id rows)) = rw same (IsPermutation-cons (tab_columns new) _ _ rest) in
+      let there = IsPermutation-map tab_columns _ _ (replaced id new keyed rows) in
+      subst (λ r. IsPermutation (r ∷ map tab_row (filter (λ s. not (bytes_eq s.name t.name)) tabs)) (map tab_columns (put_row new (without_rowid id rows)))) is
+      (IsPermutation-trans _ _ _ first (IsPermutation-sym _ _ there))
+
+  -- where no row has the name, and none the number
+  pub unnamed_rows : (id : ℤ) → list_any (has_rowid id) rows ≡ false → ((r : Row) → Has rows r → column r 1 ≡ Text t.name → ⊥) → without_rowid id rows ≡ filter (λ r. not (named t.name (tab_columns r))) rows
+  unnamed_rows id none free = none_to_drop id rows none ∙ sym (filter_all _ rows (all_from_has _ rows other))
+    where
+      other : (r : Row) → Has rows r → not (named t.name (tab_columns r)) ≡ true
+      other r has = elim (cases_Bool (named t.name (tab_columns r))) [
+        | inl is ↦
+            let u = row_of tabs rows lists r has in
+            let name : bytes_eq u.0.name t.name ≡ true = sym (same_text u.0.name t.name) ∙ sym (ap (λ v. is_eq (value_cmp v (Text t.name))) (name_of u.0 r u.1)) ∙ is in
+            absurd (free r has (name_of u.0 r u.1 ∙ ap Text ((bytes_eq-Decides u.0.name t.name).0 name)))
+        | inr is ↦ ap not is
+      ]
+
+  -- where a row has both
+  pub named_rows : HaveRowids rows → (r : Row) (id : ℤ) → Has rows r → rowid r ≡ Int id → column r 1 ≡ Text t.name → without_rowid id rows ≡ filter (λ r. not (named t.name (tab_columns r))) rows
+  named_rows keyed r id has is name = filter_same _ _ rows (all_from_has _ rows alike)
+    where
+      has_name : named t.name (tab_columns r) ≡ true
+      has_name = rw name (same_text t.name t.name ∙ (bytes_eq-Decides t.name t.name).1 refl)
+
+      one : filter (λ x. named t.name (tab_columns x)) rows ≡ r ∷ []
+      one = lone _ r (has_kept (λ x. named t.name (tab_columns x)) rows r has has_name) (few_named t.name tabs rows lists few)
+
+      is_it : (x : Row) → Has (r ∷ []) x → x ≡ r
+      is_it x (inl same) = same
+      is_it x (inr none) = absurd none
+
+      alike : (x : Row) → Has rows x → not (has_rowid id x) ≡ not (named t.name (tab_columns x))
+      alike x within =
+          ap not (both_ways (has_rowid id x) (named t.name (tab_columns x))
+          (λ so. ap (λ y. named t.name (tab_columns y)) (is_it x (subst (λ xs. Has xs x) (only_row rows keyed r id has is) (has_kept (has_rowid id) rows x within so))) ∙ has_name)
+          (λ so. ap (has_rowid id) (is_it x (subst (λ xs. Has xs x) one (has_kept (λ y. named t.name (tab_columns y)) rows x within so))) ∙ has_own r id is))

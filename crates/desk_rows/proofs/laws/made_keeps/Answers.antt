@@ -1,0 +1,5 @@
+use Rattle.desk_rows.proofs.Kept.{made_keeps}
+use Rattle.desk_rows.proofs.laws.made_keeps.Goals as goal
+
+pub returns : goal.returns
+returns c = made_keeps

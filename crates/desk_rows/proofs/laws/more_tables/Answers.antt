@@ -1,0 +1,6 @@
+use Rattle.sqlite.specs.Held.{state}
+use Rattle.desk_rows.proofs.MoreTables.{more_made}
+use Rattle.desk_rows.proofs.laws.more_tables.Goals as goal
+
+pub returns : goal.returns
+returns g c l contents ws committed differ was makes = more_made l contents ws differ committed (state g.S.Store c.args.old.now) (state g.S.Store c.args.new.now) was makes

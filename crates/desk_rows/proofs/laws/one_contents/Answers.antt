@@ -1,0 +1,5 @@
+use Rattle.desk_rows.proofs.WholeFile.{one_contents}
+use Rattle.desk_rows.proofs.laws.one_contents.Goals as goal
+
+pub returns : goal.returns
+returns c = one_contents

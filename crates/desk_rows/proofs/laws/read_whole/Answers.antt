@@ -1,0 +1,5 @@
+use Rattle.desk_rows.proofs.WholeFile.{is_file}
+use Rattle.desk_rows.proofs.laws.read_whole.Goals as goal
+
+pub returns : goal.returns
+returns c = is_file

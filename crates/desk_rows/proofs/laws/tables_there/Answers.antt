@@ -1,0 +1,30 @@
+use Rattle.std.proofs.Common.{◌≡◌, ◌&&◌, ◌||◌, ℕ, ◌+◌, Bool, List, [], ◌∷◌, true, false, cond, Some, is_some, refl, true≢false}
+use Rattle.std.specs.List.{list_any, position_from}
+use Rattle.sqlite_schema.specs.Names.{index_named, same_name, table_named, view_named}
+use Rattle.desk_rows.specs.Described.{described}
+use Rattle.desk_rows.specs.Tables.{is_table_or_view}
+use Rattle.desk_rows.proofs.laws.tables_there.Goals as goal
+
+pub returns-clause-has : goal.returns-clause-has
+returns-clause-has c l contents db is w there = rw (is.declared w there).named refl
+
+-- what has no place in a list isn't in it, whatever else is asked of it
+skipped : {X : Type 0} (named also : X → Bool) (x : X) (xs : List X) (i : ℕ) (b : Bool) → (is_some (position_from named (i + 1) xs) ≡ false → list_any (λ x. named x && also x) xs ≡ false)
+    → is_some (cond b (Some i) (position_from named (i + 1) xs)) ≡ false → ((b && also x) || list_any (λ x. named x && also x) xs) ≡ false
+skipped named also x xs i true more found = absurd (true≢false found)
+skipped named also x xs i false more none = more none
+
+none_there : {X : Type 0} (named also : X → Bool) (xs : List X) (i : ℕ) → is_some (position_from named i xs) ≡ false → list_any (λ x. named x && also x) xs ≡ false
+none_there named also [] i none = refl
+none_there named also (x ∷ xs) i none = skipped named also x xs i (named x) (none_there named also xs (i + 1)) none
+
+neither : (a b c d : Bool) → (c ≡ false → d ≡ false) → (a || b || c) ≡ false → (a || d) ≡ false
+neither true b c d less none = absurd (true≢false none)
+neither false true c d less none = absurd (true≢false none)
+neither false false c d less none = less none
+
+pub returns-clause-free : goal.returns-clause-free
+returns-clause-free c s w free =
+    let name = (described w).name in
+    neither (is_some (table_named s name)) (is_some (index_named s name)) (is_some (view_named s name)) _
+    (none_there (λ v. same_name v.name name) is_table_or_view s.views 0) free

@@ -1,0 +1,15 @@
+use Rattle.std.proofs.Common.{◌≡◌, map, take}
+use Rattle.std.specs.List.{AllByRecursion}
+use Rattle.desk_rows.specs.Asked.{given}
+use Rattle.desk_rows.specs.Rows.{own, shown}
+use Rattle.desk_rows.specs.Whole.{IsUtf8Row}
+use Rattle.desk_rows.proofs.read.all_of.Given as goal
+
+-- the rows so far are read
+abbrev pub invariant-loop-row : goal.invariant-loop-row
+invariant-loop-row g l =
+    let w = g.T.TableRow.which in
+    record {
+      rows : map (given w) (take l.row-index l.rows) ≡ map (λ x. shown w (g.T.TableRow.view x)) l.all.items;
+      utf8 : AllByRecursion (λ x. IsUtf8Row w (own w (g.T.TableRow.view x))) l.all.items;
+    }

@@ -1,0 +1,28 @@
+use Rattle.std.proofs.Common.{List, subst}
+use Rattle.std.proofs.lemmas.Result.{err_from_is_err_and}
+use Rattle.sqlite.specs.Held.{state}
+use Rattle.desk_book.specs.Rows.{StoredTab}
+use Rattle.desk_rows.specs.Described.{tabs}
+use Rattle.desk_rows.specs.Whole.{HaveOwnRowids}
+use Rattle.desk_rows.proofs.Answering.{are_apart, are_together, not_judged, not_read}
+use Rattle.desk_rows.proofs.read.read_tabs.Goals as goal
+
+pub returns-in_err-tabs-clause-answers : goal.returns-in_err-tabs-clause-answers
+returns-in_err-tabs-clause-answers g c clean =
+    let p = err_from_is_err_and c.from_residual.result c.from_residual.ensures.1 in
+    rw (p.1, p.2)
+    (not_read (λ xs. xs.items) tabs (λ x. x) HaveOwnRowids (state g.S.Store c.args.conn.now) (state g.S.Store c.read_rows.new.conn) c.in_err-tabs.field-0.0 (c.in_err-tabs.ensures.answers clean))
+
+pub returns-in-Ok-true-clause-answers : goal.returns-in-Ok-true-clause-answers
+returns-in-Ok-true-clause-answers g c clean =
+    are_apart (λ xs. xs.items) tabs (λ x. x) HaveOwnRowids (state g.S.Store c.args.conn.now) (state g.S.Store c.read_rows.new.conn) c.in_ok-tabs.tabs (c.in_ok-tabs.ensures.answers clean)
+    (subst HaveOwnRowids c.deref.ensures.value (rw c.in-Ok-true.field-0-test at c.in-Ok-true.ensures))
+
+pub returns-in-Ok-false-clause-answers : goal.returns-in-Ok-false-clause-answers
+returns-in-Ok-false-clause-answers g c clean =
+    are_together (λ xs. xs.items) tabs (λ x. x) HaveOwnRowids (state g.S.Store c.args.conn.now) (state g.S.Store c.read_rows.new.conn) c.in_ok-tabs.tabs (c.in_ok-tabs.ensures.answers clean)
+    (subst (λ (xs : List StoredTab). ¬ HaveOwnRowids xs) c.deref.ensures.value (rw c.in-Ok-false.field-0-test at c.in-Ok-false.ensures))
+
+pub returns-in-Err-clause-answers : goal.returns-in-Err-clause-answers
+returns-in-Err-clause-answers g c clean =
+    not_judged (λ xs. xs.items) tabs (λ x. x) HaveOwnRowids (state g.S.Store c.args.conn.now) (state g.S.Store c.read_rows.new.conn) c.in_ok-tabs.tabs (c.in_ok-tabs.ensures.answers clean)

@@ -1,0 +1,5 @@
+use Rattle.std.proofs.lemmas.Str.{IsUtf8-string_bytes}
+use Rattle.desk_rows.proofs.row.NamedCorrRowTableRow.from_row.Goals as goal
+
+pub returns-clause-utf8 : goal.returns-clause-utf8
+returns-clause-utf8 c = (IsUtf8-string_bytes c.in_ok-value-6.field-0, IsUtf8-string_bytes c.in_ok-value-7.field-0)

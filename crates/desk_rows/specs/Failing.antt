@@ -1,0 +1,59 @@
+-- Why a change as one transaction fails, in the database's words. Between two statements the connection keeps its limit on steps and counts
+-- its failures, and a crash leaves nothing new.
+use Rattle.std.specs.Prelude.{◌≡◌, List, ◌∷◌, ◌++◌, map, Option}
+use Rattle.sqlite_trees.specs.declared.store.Store.{Ghosts}
+use Rattle.sqlite.specs.declared.error.Error.{Error}
+use Rattle.sqlite.specs.Held.{Held, state}
+use Rattle.sqlite.specs.State.{State, Fails, Survives}
+use Rattle.desk_rows.specs.Described.{Which, books}
+use Rattle.desk_rows.specs.Making.{AreMade, MakesTables, creation, first_row}
+use Rattle.desk_rows.specs.Puts.{ArePut, OfItems, OfItemsBefore, PutsRow, StopsAt, row_put}
+use Rattle.desk_rows.specs.Turns.{Failed, Ran, Stops}
+use Rattle.desk_book.specs.declared.rows.Put.{Put}
+
+-- Of these tables those so far were made, and this is what the database answered to the statement that makes the next.
+pub record StopsMaking {S : Type 0} (g : Ghosts S) (ws : List Which) (old : Held S) (new : State) (e : Error) : Type 0 where
+  pub done : List Which
+  pub next : Which
+  pub later : List Which
+  pub all : ws ≡ done ++ next ∷ later
+  pub stops : Stops g (map creation done) (Failed (creation next)) old new e
+  pub made : MakesTables done (state g old) (state g stops.before)
+
+-- How rows are put within a transaction: what stops it, and what it does if nothing does.
+pub record Putting (S : Type 0) : Type 1 where
+  pub stops : Held S → State → Error → Type 0
+  pub puts : Held S → Held S → Type 0
+
+-- what an iterator gives
+abbrev pub of_items : {S I : Type 0} → Ghosts S → (I → Option Put → I → Type 0) → I → Putting S
+of_items g gives it = record {
+  stops = λ old new e. OfItemsBefore gives it (λ xs next. StopsAt g xs next old new e);
+  puts = λ old new. OfItems gives it (λ xs. ArePut g xs old new);
+}
+
+-- the row of a new book
+abbrev pub of_first_row : {S : Type 0} → Ghosts S → Putting S
+of_first_row g = record {
+  stops = λ old new e. Failed (row_put books first_row) (state g old) new e;
+  puts = λ old new. PutsRow books first_row (state g old) (state g new) × Ran (row_put books first_row) (state g old) (state g new);
+}
+
+module _ {S : Type 0} (g : Ghosts S) where
+  -- The putting is stopped, and then all of it is undone, or the store fails at the commit.
+  pub data FailsToPut (putting : Putting S) (old : Held S) (new : State) (e : Error) : Type 0 where
+    at_put : (last : Held S) → Survives (state g old) (state g last) (λ _. ⊥)
+        → putting.stops old (state g last) e
+        → Survives (state g last) new (λ _. ⊥) → FailsToPut putting old new e
+    at_commit : (last : Held S) → Survives (state g old) (state g last) (λ _. ⊥)
+        → putting.puts old last
+        → Survives (state g last) new (λ db. db ≡ (state g last).now.trees)
+        → Fails (state g last) new ⊥ e → FailsToPut putting old new e
+
+  -- Some of these tables aren't made, or what is put then isn't.
+  pub data FailsToChange (ws : List Which) (putting : Putting S) (old : Held S) (new : State) (e : Error) : Type 0 where
+    at_table : (last : Held S) → StopsMaking g ws old (state g last) e
+        → Survives (state g last) new (λ _. ⊥) → FailsToChange ws putting old new e
+    after_tables : (made : Held S) → Survives (state g old) (state g made) (λ _. ⊥)
+        → AreMade g ws old made
+        → FailsToPut putting made new e → FailsToChange ws putting old new e

@@ -1,0 +1,13 @@
+pub mod Described
+pub mod Tables
+pub mod Rows
+pub mod Layout
+pub mod Contents
+pub mod States
+pub mod Turns
+pub mod Puts
+pub mod Fault
+pub mod Asked
+pub mod Making
+pub mod Failing
+pub mod Whole

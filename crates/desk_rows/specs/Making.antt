@@ -1,0 +1,129 @@
+-- What making tables makes of a file, and what making all of them makes of one that has none.
+use Rattle.std.specs.Prelude.{◌≡◌, ℕ, Bool, pos, true, false, if◌then◌else◌, List, [], ◌∷◌, ◌++◌, map, bytes_eq, ⊤}
+use Rattle.std.specs.List.{AllByRecursion, list_any}
+use Rattle.sqlite_trees.specs.declared.store.Store.{Ghosts}
+use Rattle.sqlite_trees.specs.Tree.{Trees}
+use Rattle.sqlite_schema.specs.declared.schema.Schema.{Schema}
+use Rattle.sqlite_catalog.specs.Change.{KeepsRows, created, next_tree, is_used}
+use Rattle.sqlite.specs.Does.{lacks_sequence}
+use Rattle.sqlite.specs.Effect.{Database}
+use Rattle.sqlite.specs.Held.{Held, state}
+use Rattle.sqlite.specs.State.{State}
+use Rattle.desk_book.specs.declared.rows.BookRow.{BookRow}
+use Rattle.desk_book.specs.Puts.{RowPut}
+use Rattle.sql_tables.specs.Making.{AreFree, FreesNone, IsMaking, KeepsAside, first_created}
+use Rattle.desk_rows.specs.Contents.{Contents, with_row}
+use Rattle.desk_rows.specs.Described.{Which, books, tabs, paras, marks, caches, named_corrs, described, table_of}
+use Rattle.desk_rows.specs.Layout.{Layout}
+use Rattle.desk_rows.specs.Puts.{HasThem, puts_into, row_put}
+use Rattle.desk_rows.specs.States.{IsFile, Shows}
+use Rattle.desk_rows.specs.Turns.{RunInTurn, Statement}
+
+-- the tables of a new file, in the order in which they are made
+abbrev pub new_tables : List Which
+new_tables = books ∷ tabs ∷ paras ∷ marks ∷ caches ∷ named_corrs ∷ []
+
+-- No table, index or view has the name of one of these in either case of its letters, nor has what the database keeps as it is.
+abbrev pub AreFreeIn : Schema → List Which → Type 0
+AreFreeIn s = AllByRecursion (λ w. is_used s (described w).name ≡ false)
+
+abbrev pub AreAbsent : Schema → Type 0
+AreAbsent s = AreFreeIn s new_tables
+
+-- The schema after these are made in turn, and with the first the database's counter of rowids, where a table counts its rowids and the
+-- counter isn't there.
+abbrev pub after : List Which → Schema → Schema
+after [] s = s
+after (w ∷ ws) s = after ws (first_created s (table_of w 0))
+
+-- the tree that a table takes when these are made
+abbrev pub tree_in : List Which → Schema → Which → ℕ
+tree_in [] s w = 0
+tree_in (v ∷ vs) s w = if bytes_eq (described v).name (described w).name then next_tree s else tree_in vs (first_created s (table_of v 0)) w
+
+-- whether a table is one of these
+abbrev pub is_among : List Which → Which → Bool
+is_among ws w = list_any (λ v. bytes_eq (described v).name (described w).name) ws
+
+abbrev pub made : Schema → Layout
+made s = record { schema = after new_tables s; has = is_among new_tables; tree = tree_in new_tables s }
+
+-- no rows in the tables, beside those of the other trees
+abbrev pub no_contents : Trees → Contents
+no_contents others = record { rows = λ w. []; others = others }
+
+-- the row of a new book, in format 2 and at version 0
+abbrev pub first_row : BookRow
+first_row = record { id = pos 1; format = pos 2; version = pos 0 }
+
+-- this row alone
+abbrev pub first_contents : Trees → Contents
+first_contents others = with_row books first_row (no_contents others)
+
+-- The counter, where it was missing and is made, has no rows.
+abbrev pub CountsNone : Schema → Trees → Type 0
+CountsNone s db = lacks_sequence s ≡ true → db (next_tree (created s (table_of books 0))) ≡ []
+
+-- The contents of a new file, beside the tables that were there with the rows that they had, an empty counter where it was missing, and
+-- what the database keeps aside.
+abbrev pub IsNew : Schema → Trees → (Contents → Type 0) → Type 0
+IsNew s rows P = (others : Trees) × KeepsRows s.tables rows others × CountsNone s others × KeepsAside s rows others × P (first_contents others)
+
+-- each differs from those behind it
+abbrev pub Differ : List Which → Type 0
+Differ [] = ⊤
+Differ (w ∷ ws) = AllByRecursion (λ v. bytes_eq (described w).name (described v).name ≡ false) ws × Differ ws
+
+-- Statements within a transaction made these tables, whose names were free.
+pub record MakesTables (ws : List Which) (old new : State) : Type 0 where
+  pub taken : AreFree (map (λ w. (described w).name) ws) old × FreesNone old new
+  pub made : (committed : Database) (first : Schema) (rows : Trees) (before : Schema)
+      → Differ ws → IsMaking committed first rows before old → AreFreeIn before ws
+      → IsMaking committed first rows (after ws before) new
+
+-- the statement that makes a table
+abbrev pub creation : Which → Statement
+creation w = record { text = (described w).create; params = [] }
+
+-- All of these were made so by their statements.
+abbrev pub AreMade : {S : Type 0} → Ghosts S → List Which → Held S → Held S → Type 0
+AreMade g ws old new = MakesTables ws (state g old) (state g new) × RunInTurn g (map creation ws) old new
+
+-- the statements that make a new file
+abbrev pub making : List Statement
+making = map creation new_tables ++ row_put books first_row ∷ []
+
+-- What making adds to what a crash may leave: only where the names were free, and then the file with the tables.
+abbrev pub IsMade : State → Trees → Type 0
+IsMade s db = AreAbsent s.now.schema × IsNew s.now.schema s.now.trees (λ c. IsFile (made s.now.schema) c db)
+
+-- ---- tables that are made in a file
+
+-- the layout with these tables more, and the contents with no rows in them
+abbrev pub with_tables : List Which → Layout → Layout
+with_tables ws l = record {
+  schema = after ws l.schema;
+  has = λ v. if is_among ws v then true else l.has v;
+  tree = λ v. if is_among ws v then tree_in ws l.schema v else l.tree v;
+}
+
+abbrev pub with_none : List Which → Trees → Contents → Contents
+with_none ws others c = record { rows = λ v. if is_among ws v then [] else c.rows v; others = others }
+
+-- ---- tables that are made, and rows that are put then
+
+-- What a file is once these tables are made in it and these rows are put: the rows of all other tables that were there, and what the
+-- database keeps aside, are as they were.
+abbrev pub IsGrown : List Which → List RowPut → Layout → Contents → Trees → (Layout → Contents → Type 0) → Type 0
+IsGrown ws puts l c rows P =
+    (others : Trees) × KeepsRows l.schema.tables rows others × KeepsAside l.schema rows others × P (with_tables ws l) (puts_into puts (with_none ws others c))
+
+-- The tables were made in whatever file the connection showed, and the rows put, which have their tables then.
+abbrev pub WritesWithTables : List Which → List RowPut → State → State → Type 0
+WritesWithTables ws puts old new =
+    (l : Layout) (c : Contents) → Differ ws → HasThem (with_tables ws l) puts → Shows l c old → IsGrown ws puts l c old.now.trees (λ after d. Shows after d new)
+
+-- The trees are such a file.
+abbrev pub IsFileWithTables : List Which → List RowPut → State → Trees → Type 0
+IsFileWithTables ws puts s db =
+    (l : Layout) (c : Contents) → Differ ws → HasThem (with_tables ws l) puts → Shows l c s → IsGrown ws puts l c s.now.trees (λ after d. IsFile after d db)

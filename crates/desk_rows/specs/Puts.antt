@@ -1,0 +1,221 @@
+-- What rows that are put in turn make of the contents.
+use Rattle.std.specs.Prelude.{◌≡◌, ◌⊎◌, ℕ, ℤ, pos, true, List, [], ◌∷◌, map, fold, Option, Some, Result, Ok, Err, IfErr, IsTrue, OnOk, ⊤}
+use Rattle.std.specs.Iterator.{Drains, YieldsThen}
+use Rattle.std.specs.List.{AllByRecursion}
+use Rattle.std.specs.Ordering.{int_eq}
+use Rattle.sqlite_value.specs.declared.value.Value.TheVariants.{Int, Text}
+use Rattle.sqlite_value.specs.Order.{Row}
+use Rattle.sqlite_trees.specs.declared.error.StoreError.TheVariants.{OutOfMemory}
+use Rattle.sqlite_trees.specs.declared.store.Store.{Ghosts}
+use Rattle.sqlite_trees.specs.Tree.{Trees}
+use Rattle.sqlite.specs.declared.error.Error.{Error}
+use Rattle.sqlite.specs.Effect.{Database}
+use Rattle.sqlite.specs.Held.{Held, state}
+use Rattle.sqlite.specs.State.{State, KeepsCommit, ExecutesInside, store_error}
+use Rattle.desk_book.specs.declared.rows.BookRow.{BookRow}
+use Rattle.desk_book.specs.declared.rows.Put.{Put}
+use Rattle.desk_book.specs.Puts.{RowPut, PutBook, PutTab, PutPara, PutMark, PutCache, PutEntry, SetPlace, SetFlags, SetTable, SetPrint, SetSpan, SetResolved, SetVersion, put_of}
+use Rattle.desk_book.specs.Rows.{Mark, Para}
+use Rattle.sql_tables.specs.Rows.{set_where}
+use Rattle.desk_rows.specs.Contents.{Contents, with_row, with_rows}
+use Rattle.desk_rows.specs.Described.{Which, books, tabs, paras, marks, caches, named_corrs, described}
+use Rattle.desk_rows.specs.Layout.{Layout}
+use Rattle.desk_rows.specs.Rows.{RowOf, put_to, written}
+use Rattle.desk_rows.specs.States.{IsFile, IsUnder, Shows}
+use Rattle.desk_rows.specs.Turns.{Failed, Ran, RunInTurn, Statement, Stops}
+use Rattle.desk_rows.specs.declared.texts.TheConstants.{SET_FLAGS, SET_PLACE, SET_PRINT, SET_RESOLVED, SET_SPAN, SET_TABLE, SET_VERSION}
+
+-- with this done to the paragraph with this id, to the mark with this id, to the row of `book` with id 1
+abbrev pub set_para : ℤ → (Para → Para) → List Para → List Para
+set_para id = set_where (λ (p : Para). int_eq p.id id)
+
+abbrev pub set_mark : ℤ → (Mark → Mark) → List Mark → List Mark
+set_mark id = set_where (λ (m : Mark). int_eq m.id id)
+
+abbrev pub set_book : (BookRow → BookRow) → List BookRow → List BookRow
+set_book = set_where (λ (b : BookRow). int_eq b.id (pos 1))
+
+abbrev pub placed : ℤ → Para → Para
+placed place p = record p { place = place }
+
+abbrev pub flagged : (style volume struck : ℤ) → Para → Para
+flagged style volume struck p = record p { style = style; volume = volume; struck = struck }
+
+abbrev pub retabled : List ℕ → Para → Para
+retabled tab p = record p { tab = tab }
+
+abbrev pub printed : List ℕ → Para → Para
+printed print p = record p { print = print }
+
+abbrev pub moved : (start stop touched : ℤ) → Mark → Mark
+moved start stop touched m = record m { start = start; stop = stop; touched = touched }
+
+abbrev pub settled : ℤ → Mark → Mark
+settled resolved m = record m { resolved = resolved }
+
+abbrev pub at_version : ℤ → BookRow → BookRow
+at_version version b = record b { version = version }
+
+-- the table that it changes
+abbrev pub table_put : RowPut → Which
+table_put (PutBook row) = books
+table_put (PutTab row) = tabs
+table_put (PutPara row) = paras
+table_put (PutMark row) = marks
+table_put (PutCache row) = caches
+table_put (PutEntry row) = named_corrs
+table_put (SetPlace id place) = paras
+table_put (SetFlags id style volume struck) = paras
+table_put (SetTable id tab) = paras
+table_put (SetPrint id print) = paras
+table_put (SetSpan id start stop touched) = marks
+table_put (SetResolved id resolved) = marks
+table_put (SetVersion version) = books
+
+-- what it makes of the rows of that table
+abbrev pub change_of : (it : RowPut) → List (RowOf (table_put it)) → List (RowOf (table_put it))
+change_of (PutBook row) = put_to books row
+change_of (PutTab row) = put_to tabs row
+change_of (PutPara row) = put_to paras row
+change_of (PutMark row) = put_to marks row
+change_of (PutCache row) = put_to caches row
+change_of (PutEntry row) = put_to named_corrs row
+change_of (SetPlace id place) = set_para id (placed place)
+change_of (SetFlags id style volume struck) = set_para id (flagged style volume struck)
+change_of (SetTable id tab) = set_para id (retabled tab)
+change_of (SetPrint id print) = set_para id (printed print)
+change_of (SetSpan id start stop touched) = set_mark id (moved start stop touched)
+change_of (SetResolved id resolved) = set_mark id (settled resolved)
+change_of (SetVersion version) = set_book (at_version version)
+
+-- the contents with this put, and with these in turn
+abbrev pub put_into : Contents → RowPut → Contents
+put_into c it = with_rows (table_put it) (change_of it) c
+
+abbrev pub puts_into : List RowPut → Contents → Contents
+puts_into puts c = fold put_into c puts
+
+-- the tables that they change are there
+abbrev pub HasThem : Layout → List RowPut → Type 0
+HasThem l = AllByRecursion (λ it. l.has (table_put it) ≡ true)
+
+-- The trees are a file with these put, of whatever file the connection showed that has their tables.
+abbrev pub IsFileWith : List RowPut → State → Trees → Type 0
+IsFileWith puts s db =
+    (l : Layout) (c : Contents) → HasThem l puts → Shows l c s → IsFile l (puts_into puts c) db
+
+-- All of these were put into whatever file the connection showed that has their tables.
+abbrev pub Writes : List RowPut → State → State → Type 0
+Writes puts old new =
+    (l : Layout) (c : Contents) → HasThem l puts → Shows l c old → Shows l (puts_into puts c) new
+
+-- ---- the statement of a put
+
+-- a row of a table
+abbrev pub row_put : (w : Which) → RowOf w → Statement
+row_put w x = record { text = (described w).put; params = written w x }
+
+abbrev pub statement : RowPut → Statement
+statement (PutBook row) = row_put books row
+statement (PutTab row) = row_put tabs row
+statement (PutPara row) = row_put paras row
+statement (PutMark row) = row_put marks row
+statement (PutCache row) = row_put caches row
+statement (PutEntry row) = row_put named_corrs row
+statement (SetPlace id place) = record { text = SET_PLACE.now; params = Int id ∷ Int place ∷ [] }
+statement (SetFlags id style volume struck) =
+    record { text = SET_FLAGS.now; params = Int id ∷ Int style ∷ Int volume ∷ Int struck ∷ [] }
+statement (SetTable id tab) = record { text = SET_TABLE.now; params = Int id ∷ Text tab ∷ [] }
+statement (SetPrint id print) = record { text = SET_PRINT.now; params = Int id ∷ Text print ∷ [] }
+statement (SetSpan id start stop touched) =
+    record { text = SET_SPAN.now; params = Int id ∷ Int start ∷ Int stop ∷ Int touched ∷ [] }
+statement (SetResolved id resolved) =
+    record { text = SET_RESOLVED.now; params = Int id ∷ Int resolved ∷ [] }
+statement (SetVersion version) =
+    record { text = SET_VERSION.now; params = Int (pos 1) ∷ Int version ∷ [] }
+
+-- ---- what a statement within a transaction does
+
+-- A statement ran inside a transaction with these parameters, or failed, as the database answers, and committed nothing.
+abbrev pub RunsTo : {V : Type 0} → Result V Error → List ℕ → Row → State → State → Type 0
+RunsTo (Ok v) text params old new = (count : ℕ) × ExecutesInside 0 text params old new (Ok count)
+RunsTo (Err e) text params old new =
+    KeepsCommit old new × (old.in_transaction ≡ true → ExecutesInside 0 text params old new (Err e))
+
+-- a row is put, over the same commit
+abbrev pub PutsRow : (w : Which) → RowOf w → State → State → Type 0
+PutsRow w x old new =
+    (committed : Database) (l : Layout) (c : Contents) → l.has w ≡ true
+    → IsUnder committed l c old → IsUnder committed l (with_row w x c) new
+
+-- A put that takes memory before its statement runs: a print is encoded, and cells are written as bytes.
+abbrev pub TakesMemory : RowPut → Type 0
+TakesMemory (PutBook row) = ⊥
+TakesMemory (PutTab row) = ⊥
+TakesMemory (PutPara row) = ⊤
+TakesMemory (PutMark row) = ⊥
+TakesMemory (PutCache row) = ⊤
+TakesMemory (PutEntry row) = ⊥
+TakesMemory (SetPlace id place) = ⊥
+TakesMemory (SetFlags id style volume struck) = ⊥
+TakesMemory (SetTable id tab) = ⊥
+TakesMemory (SetPrint id print) = ⊤
+TakesMemory (SetSpan id start stop touched) = ⊥
+TakesMemory (SetResolved id resolved) = ⊥
+TakesMemory (SetVersion version) = ⊥
+
+-- nothing was done
+pub record Rests (old new : State) : Type 0 where
+  pub now : new.now ≡ old.now
+  pub committed : new.committed ≡ old.committed
+  pub is_open : new.is_open ≡ old.is_open
+  pub inside : new.in_transaction ≡ old.in_transaction
+  pub faults : new.faults ≡ old.faults
+
+-- Why something isn't put: the database answered the error to its statement, or there was no memory for it, and nothing was done.
+abbrev pub NotPut : RowPut → State → State → Error → Type 0
+NotPut it old new e =
+    Failed (statement it) old new e ⊎ (TakesMemory it × (e ≡ store_error OutOfMemory) × Rests old new)
+
+-- Something is put into the contents, over the same commit, where its table is there, and the transaction goes on; or it isn't put.
+pub record IsPut {V : Type 0} (result : Result V Error) (it : RowPut) (old new : State) : Type 0 where
+  pub put : (committed : Database) (l : Layout) (c : Contents) → l.has (table_put it) ≡ true
+      → IsUnder committed l c old → OnOk result (IsUnder committed l (put_into c it) new)
+  pub ran : OnOk result (Ran (statement it) old new)
+  pub is_open : OnOk result (IsTrue old.is_open)
+  pub inside : OnOk result (new.in_transaction ≡ true)
+  pub kept : KeepsCommit old new
+  pub told : old.in_transaction ≡ true → IfErr result (NotPut it old new)
+
+-- ---- puts in turn
+
+-- all of these, over the same commit
+abbrev pub PutsAll : List RowPut → State → State → Type 0
+PutsAll puts old new =
+    (committed : Database) (l : Layout) (c : Contents) → HasThem l puts
+    → IsUnder committed l c old → IsUnder committed l (puts_into puts c) new
+
+-- All of these were put so by their statements.
+abbrev pub ArePut : {S : Type 0} → Ghosts S → List RowPut → Held S → Held S → Type 0
+ArePut g puts old new = PutsAll puts (state g old) (state g new) × RunInTurn g (map statement puts) old new
+
+-- Those so far were put, and then this one wasn't, with this error.
+pub record StopsAt {S : Type 0} (g : Ghosts S) (done : List RowPut) (next : RowPut) (old : Held S) (new : State) (e : Error)
+    : Type 0 where
+  pub stops : Stops g (map statement done) (NotPut next) old new e
+  pub put : PutsAll done (state g old) (state g stops.before)
+
+-- what an iterator lends until it ends, as what it puts
+pub record Lends {I : Type 0} (gives : I → Option Put → I → Type 0) (it : I) (puts : List RowPut) : Type 0 where
+  pub lent : List Put
+  pub drained : Drains gives it lent
+  pub are : puts ≡ map put_of lent
+
+-- what an iterator puts until it ends, with this
+abbrev pub OfItems : {I : Type 0} → (I → Option Put → I → Type 0) → I → (List RowPut → Type 0) → Type 0
+OfItems gives it P = (puts : List RowPut) × Lends gives it puts × P puts
+
+-- what it puts before an item, and the item, with this
+abbrev pub OfItemsBefore : {I : Type 0} → (I → Option Put → I → Type 0) → I → (List RowPut → RowPut → Type 0) → Type 0
+OfItemsBefore {I} gives it P =
+    (lent : List Put) × (next : Put) × (rest : I) × YieldsThen gives it lent (Some next) rest × P (map put_of lent) (put_of next)

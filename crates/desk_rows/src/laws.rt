@@ -1,0 +1,117 @@
+//! Laws of files, and of the connections that show them.
+
+ghost use Rattle.desk_rows.specs.Asked.{AreReadable};
+ghost use Rattle.desk_rows.specs.Contents.{Contents};
+ghost use Rattle.desk_book.specs.Puts.{LendsFirst, RowPut};
+ghost use Rattle.desk_book.specs.Rows.{StoredTab};
+ghost use Rattle.desk_rows.specs.Described.{Which, described, shows_rowid, tabs};
+ghost use Rattle.sql_tables.specs.Kinds.{HaveIntegerRowids};
+ghost use Rattle.desk_rows.specs.Layout.{AreDeclared, Layout};
+ghost use Rattle.desk_rows.specs.Making.{Differ, IsNew, MakesTables, made, with_none, with_tables};
+ghost use Rattle.sql_tables.specs.Making.{KeepsAside};
+ghost use Rattle.desk_rows.specs.States.{IsFile, IsUnder, Shows};
+ghost use Rattle.desk_rows.specs.Rows.{shown};
+ghost use Rattle.sql_tables.specs.Rows.{Lists, picked};
+ghost use Rattle.desk_rows.specs.Whole.{AreApart, AreRows, AreUtf8, HaveOwnRowids, HaveSameRows, IsUtf8Put, Rows, contents_of};
+ghost use Rattle.sqlite.specs.Effect.{Database};
+ghost use Rattle.sqlite.specs.Held.{state};
+ghost use Rattle.sqlite.specs.State.{Opens};
+ghost use Rattle.sqlite_catalog.specs.Change.{KeepsRows};
+ghost use Rattle.sqlite_catalog.specs.Listing.{IsSound};
+ghost use Rattle.sqlite_schema.specs.declared.schema.Schema.{Schema};
+ghost use Rattle.sqlite_trees.specs.Tree.{Trees};
+ghost use Rattle.std.specs.Prelude.{IsTrue, List, false, true, ◌≡◌, ◌↔◌};
+ghost use Rattle.std.specs.List.{AllByRecursion};
+ghost use Rattle.desk_rows.specs.Puts.{Lends, puts_into};
+ghost use Rattle.desk_rows.specs.Tables.{is_there};
+ghost use Rattle.sqlite_catalog.specs.Change.{is_used};
+
+use sqlite::{Alter, Connection};
+
+/// Trees are a database of one schema at most.
+pub fn one_schema()
+    ensures { (a b : Schema) (db : Trees) → IsSound a db → IsSound b db → a ≡ b }
+{}
+
+/// A connection that is open over the trees of a file shows that file, however it was opened.
+pub fn one_file<S: Alter>(conn: &Connection<S>)
+    ensures { IsTrue (state S.Store conn.now).is_open → (l : Layout) (c : Contents)
+        → IsFile l c (state S.Store conn.now).now.trees → Shows l c (state S.Store conn.now) }
+{
+    let _ = conn.schema();
+}
+
+/// A connection that opened at what a crash may leave of another one shows just that, so it has whatever property each outcome of the crash
+/// had, and it shows what these trees are, whatever stores they are over.
+pub fn found_again<S: Alter, T: Alter>(last: &Connection<S>, next: &Connection<T>)
+    ensures left { (state S.Store last.now).may_leave (state T.Store next.now).committed.trees
+        → Opens (state T.Store next.now)
+        → (state S.Store last.now).may_leave (state T.Store next.now).now.trees }
+    ensures shows { Opens (state T.Store next.now) → (l : Layout) (c : Contents)
+        → IsFile l c (state T.Store next.now).committed.trees → Shows l c (state T.Store next.now) }
+{
+    let _ = next.schema();
+}
+
+/// A file has one contents, but for the order of the rows.
+pub fn one_contents()
+    ensures { (l : Layout) (c d : Contents) (db : Trees) → IsFile l c db
+        → (IsFile l d db ↔ HaveSameRows l c d) }
+{}
+
+/// What was read whole, and differs by its keys, is what the file holds.
+pub fn read_whole()
+    ensures { (l : Layout) (rows : Rows) (db : Trees) → AreDeclared l → IsSound l.schema db
+        → AreRows l rows db → AreApart rows → IsFile l (contents_of rows db) db }
+{}
+
+/// The rows of a file can be read: the rowids that are read are integers, and the texts are UTF-8 where those of the file are; the rowids of
+/// the braille tables differ.
+pub fn texts_as_written()
+    ensures readable { (l : Layout) (c : Contents) (db : Trees) → IsFile l c db → AreUtf8 c
+        → (w : Which) → l.has w ≡ true → AreReadable w (db (l.tree w)) }
+    ensures rowids { (l : Layout) (c : Contents) (db : Trees) → IsFile l c db → (w : Which)
+        → l.has w ≡ true → shows_rowid w ≡ true → HaveIntegerRowids (db (l.tree w)) }
+    ensures apart { (l : Layout) (c : Contents) (db : Trees) → IsFile l c db → l.has tabs ≡ true
+        → (xs : List StoredTab)
+        → Lists (shown tabs) (picked (described tabs).shown) xs (db (l.tree tabs))
+        → HaveOwnRowids xs }
+{}
+
+/// A file where the tables were made keeps what the database keeps aside.
+pub fn made_keeps()
+    ensures { (s : Schema) (rows db : Trees) → IsNew s rows (λ c. IsFile (made s) c db)
+        → KeepsAside s rows db }
+{}
+
+/// A connection in a transaction that shows a file, and that made tables there which the file lacks, shows the file with these, which have
+/// no rows; all other tables keep theirs, and so does what the database keeps aside.
+pub fn more_tables<S: Alter>(old: &Connection<S>, new: &Connection<S>)
+    ensures { (l : Layout) (c : Contents) (ws : List Which) (committed : Database) → Differ ws
+        → IsUnder committed l c (state S.Store old.now)
+        → MakesTables ws (state S.Store old.now) (state S.Store new.now)
+        → IsUnder committed (with_tables ws l) (with_none ws (state S.Store new.now).now.trees c)
+        (state S.Store new.now)
+        × KeepsRows l.schema.tables (state S.Store old.now).now.trees
+        (state S.Store new.now).now.trees
+        × KeepsAside l.schema (state S.Store old.now).now.trees (state S.Store new.now).now.trees }
+{}
+
+/// Of an iterator that lends the first of what is left, all is lent until it ends.
+pub fn all_is_lent()
+    ensures { (puts xs : List RowPut) → Lends LendsFirst puts xs → xs ≡ puts }
+{}
+
+/// Texts in UTF-8 that are put leave the texts of a file in UTF-8.
+pub fn texts_stay()
+    ensures { (puts : List RowPut) (c : Contents) → AllByRecursion IsUtf8Put puts → AreUtf8 c
+        → AreUtf8 (puts_into puts c) }
+{}
+
+/// A table that a file has is there by its schema, and one whose name is free isn't.
+pub fn tables_there()
+    ensures has { (l : Layout) (c : Contents) (db : Trees) → IsFile l c db → (w : Which)
+        → l.has w ≡ true → is_there l.schema w ≡ true }
+    ensures free { (s : Schema) (w : Which) → is_used s (described w).name ≡ false
+        → is_there s w ≡ false }
+{}

@@ -1,0 +1,146 @@
+//! The making of tables.
+
+ghost use Rattle.std.specs.Prelude.{◌≡◌, false, true, [], ◌∷◌, IfErr, IsTrue, OnErr, OnOk, map};
+ghost use Rattle.sqlite.specs.Held.{state};
+ghost use Rattle.sqlite.specs.State.{HasCleanDisk, KeepsCommit, Survives};
+ghost use Rattle.sql_tables.specs.States.{IsCommitted, IsSettled, IsUndone, ShowsAsBefore, seen};
+ghost use Rattle.desk_rows.specs.Described.{described};
+ghost use Rattle.desk_rows.specs.Failing.{FailsToChange, StopsMaking, of_first_row};
+ghost use Rattle.desk_rows.specs.Fault.{CountsLoss, IsToldAs};
+ghost use Rattle.desk_rows.specs.Making.{AreAbsent, AreMade, IsMade, IsNew, MakesTables, creation, made, making, new_tables};
+ghost use Rattle.desk_rows.specs.States.{Shows};
+ghost use Rattle.desk_rows.specs.Tables.{AreWritten, which};
+ghost use Rattle.desk_rows.specs.Turns.{AreRun, Failed, IsLeftBy, Ran, begun};
+
+use crate::fault::Fault;
+use crate::put::{put_book, run};
+use crate::table::create_text;
+use crate::transaction::begin;
+use desk_book::parts::FileTable;
+use desk_book::rows::BookRow;
+use sqlite::{Alter, Connection, Error, Transaction};
+
+/// The tables of a new file, in the order in which they are made.
+const NEW_TABLES: [FileTable; 6] = [
+    FileTable::Book,
+    FileTable::Tab,
+    FileTable::Para,
+    FileTable::Mark,
+    FileTable::Cache,
+    FileTable::NamedCorr,
+];
+
+/// Makes a table, and with it the counter of rowids where a table counts them and it is missing. The error is the database's.
+fn create<S: Alter>(tx: &mut Transaction<'_, S>, table: FileTable) -> Result<(), Error>
+    requires { (described (which table)).is_written ≡ true }
+    ensures same_reference { tx.new.conn.ghost_name ≡ tx.old.conn.ghost_name }
+    ensures makes { HasCleanDisk (seen S.Store tx.new)
+        → OnOk result (MakesTables (which table ∷ []) (seen S.Store tx.old) (seen S.Store tx.new)) }
+    ensures ran { HasCleanDisk (seen S.Store tx.new)
+        → OnOk result (Ran (creation (which table)) (seen S.Store tx.old) (seen S.Store tx.new)) }
+    ensures inside { HasCleanDisk (seen S.Store tx.new)
+        → OnOk result ((seen S.Store tx.new).in_transaction ≡ true) }
+    ensures told { HasCleanDisk (seen S.Store tx.new) → (seen S.Store tx.old).in_transaction ≡ true
+        → IfErr result (Failed (creation (which table)) (seen S.Store tx.old)
+        (seen S.Store tx.new)) }
+    ensures kept { HasCleanDisk (seen S.Store tx.new)
+        → KeepsCommit (seen S.Store tx.old) (seen S.Store tx.new) }
+    ensures survives { Survives (seen S.Store tx.old) (seen S.Store tx.new) (λ _. ⊥) }
+{
+    run(tx, create_text(table), &[])
+}
+
+/// Makes these tables in turn. The error is the database's.
+pub(crate) fn create_all<S: Alter>(
+    tx: &mut Transaction<'_, S>,
+    tables: &[FileTable],
+) -> Result<(), Error>
+    requires { AreWritten tables.now }
+    ensures same_reference { tx.new.conn.ghost_name ≡ tx.old.conn.ghost_name }
+    ensures makes { HasCleanDisk (seen S.Store tx.new)
+        → OnOk result (AreMade S.Store (map which tables.now) tx.old.conn.now tx.new.conn.now) }
+    ensures inside { HasCleanDisk (seen S.Store tx.new)
+        → (seen S.Store tx.old).in_transaction ≡ true
+        → OnOk result ((seen S.Store tx.new).in_transaction ≡ true) }
+    ensures told { HasCleanDisk (seen S.Store tx.new) → (seen S.Store tx.old).in_transaction ≡ true
+        → IfErr result (StopsMaking S.Store (map which tables.now) tx.old.conn.now
+        (seen S.Store tx.new)) }
+    ensures kept { HasCleanDisk (seen S.Store tx.new)
+        → KeepsCommit (seen S.Store tx.old) (seen S.Store tx.new) }
+    ensures survives { Survives (seen S.Store tx.old) (seen S.Store tx.new) (λ _. ⊥) }
+{
+    for table in tables {
+        create(tx, *table)?;
+    }
+    Ok(())
+}
+
+/// Puts the row of a new book, in format 2 and at version 0.
+fn put_first_row<S: Alter>(tx: &mut Transaction<'_, S>) -> Result<(), Error>
+    ensures same_reference { tx.new.conn.ghost_name ≡ tx.old.conn.ghost_name }
+    ensures put { HasCleanDisk (seen S.Store tx.new)
+        → OnOk result ((of_first_row S.Store).puts tx.old.conn.now tx.new.conn.now) }
+    ensures is_open { HasCleanDisk (seen S.Store tx.new)
+        → OnOk result (IsTrue (seen S.Store tx.old).is_open) }
+    ensures inside { HasCleanDisk (seen S.Store tx.new)
+        → OnOk result ((seen S.Store tx.new).in_transaction ≡ true) }
+    ensures told { HasCleanDisk (seen S.Store tx.new) → (seen S.Store tx.old).in_transaction ≡ true
+        → IfErr result ((of_first_row S.Store).stops tx.old.conn.now (seen S.Store tx.new)) }
+    ensures kept { HasCleanDisk (seen S.Store tx.new)
+        → KeepsCommit (seen S.Store tx.old) (seen S.Store tx.new) }
+    ensures survives { Survives (seen S.Store tx.old) (seen S.Store tx.new) (λ _. ⊥) }
+{
+    let row = BookRow {
+        id: 1,
+        format: 2,
+        version: 0,
+    };
+    put_book(tx, &row)
+}
+
+/// Makes the six tables with the row of a new book, in format 2 and at version 0, as one. Where a table counts its rowids and the
+/// database's counter is missing, the counter is made too, with no rows. The error is the database's, and a crash then leaves none of the
+/// tables or all of them.
+pub fn make_tables<S: Alter>(conn: &mut Connection<S>) -> Result<(), Error>
+    requires { conn.old.in_transaction ≡ false }
+    ensures idle { conn.new.in_transaction ≡ false }
+    // Where a name is taken, the answer is an error.
+    ensures free { HasCleanDisk (state S.Store conn.new)
+        → OnOk result (AreAbsent (state S.Store conn.old).now.schema) }
+    ensures made { HasCleanDisk (state S.Store conn.new)
+        → OnOk result (IsNew (state S.Store conn.old).now.schema (state S.Store conn.old).now.trees
+        (λ c. Shows (made (state S.Store conn.old).now.schema) c (state S.Store conn.new))) }
+    ensures open { HasCleanDisk (state S.Store conn.new)
+        → OnOk result (IsCommitted (state S.Store conn.new)) }
+    // In any file, at `Ok` the connection shows what the statements made of it in turn.
+    ensures ran { HasCleanDisk (state S.Store conn.new)
+        → OnOk result (AreRun S.Store making conn.old (state S.Store conn.new)) }
+    // Of a crash at any exit: nothing new is left but all of it, and that only where no name was taken.
+    ensures crash { Survives (state S.Store conn.old) (state S.Store conn.new)
+        (λ db. IsMade (state S.Store conn.old) db × IsLeftBy S.Store making conn.old db) }
+    // At `Ok` it leaves the trees that the connection shows.
+    ensures settled { HasCleanDisk (state S.Store conn.new)
+        → OnOk result (IsSettled (state S.Store conn.new)) }
+    // The error is what the database answered to one of the statements or to the commit.
+    ensures told { HasCleanDisk (state S.Store conn.new)
+        → IfErr result (FailsToChange S.Store new_tables (of_first_row S.Store) (begun conn.old)
+        (state S.Store conn.new)) }
+    ensures undone { HasCleanDisk (state S.Store conn.new)
+        → OnErr result (IsUndone (state S.Store conn.old) (state S.Store conn.new)) }
+    // The connection shows what it showed before, if it is open still.
+    ensures as_before { HasCleanDisk (state S.Store conn.new)
+        → OnErr result (ShowsAsBefore (state S.Store conn.old) (state S.Store conn.new)) }
+    // What was lost is counted, or was too big.
+    ensures lost { HasCleanDisk (state S.Store conn.new)
+        → IfErr result (CountsLoss (state S.Store conn.old) (state S.Store conn.new)) }
+    // After a refusal a crash leaves nothing new.
+    ensures refused { HasCleanDisk (state S.Store conn.new)
+        → IfErr result (λ e. IsToldAs e Fault.Refused
+        → Survives (state S.Store conn.old) (state S.Store conn.new) (λ _. ⊥)) }
+{
+    let mut tx = begin(conn);
+    create_all(&mut tx, &NEW_TABLES)?;
+    put_first_row(&mut tx)?;
+    tx.commit()?;
+    Ok(())
+}

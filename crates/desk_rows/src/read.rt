@@ -1,0 +1,112 @@
+//! The statements that read a table whole.
+//!
+//! Each answers what its statement shows in any file, and changes nothing; a value that isn't of the kind that a new
+//! file declares for its column is refused. Over a clean disk, where the table is declared as in a new file, the answer
+//! is its rows as they stand, in order. Where these have integer rowids (of `corr`, any) and texts in UTF-8 too, and the
+//! steps have no limit, only memory or the store makes it fail.
+//!
+//! A statement that a limit on steps stops is told as refused.
+
+ghost use Rattle.std.specs.Prelude.{◌≡◌, ◌≢◌, false, [], IfOk, IfErr, MatchBool, map};
+ghost use Rattle.std.specs.List.{AllByRecursion};
+ghost use Rattle.sqlite.specs.declared.error.Error.{Error as Failure};
+ghost use Rattle.sqlite.specs.Held.{state};
+ghost use Rattle.sqlite.specs.State.{HasCleanDisk, CommitsShowing, FailsToQuery, Shown, Survives};
+ghost use Rattle.sql_tables.specs.Kinds.{HasKinds};
+ghost use Rattle.desk_rows.specs.Asked.{AnswersRows, AnyRows, asked, given};
+ghost use Rattle.desk_rows.specs.Described.{tabs};
+ghost use Rattle.desk_rows.specs.Fault.{IsToldAs};
+ghost use Rattle.desk_rows.specs.Rows.{own, shown};
+ghost use Rattle.desk_rows.specs.Whole.{HaveOwnRowids, IsUtf8Row};
+
+use crate::fault::Fault;
+use crate::row::TableRow;
+use desk_book::rows::StoredTab;
+use sqlite::{Alter, Connection, Row};
+use std::alloc::{AllocError, Global};
+use std::collections::BTreeSet;
+
+/// The rows that a query shows.
+fn ask<S: Alter>(conn: &mut Connection<S>, sql: &str) -> Result<Vec<Row>, Fault>
+    ensures shown { HasCleanDisk (state S.Store conn.new)
+        → IfOk result (λ rows. Shown sql.now [] (state S.Store conn.old)
+        (state S.Store conn.new) rows.items) }
+    ensures failed { HasCleanDisk (state S.Store conn.new)
+        → IfErr result (λ fault. (e : Failure)
+        × FailsToQuery sql.now [] (state S.Store conn.old) (state S.Store conn.new) e
+        × IsToldAs e fault) }
+    ensures mode { conn.old.in_transaction ≡ false → conn.new.in_transaction ≡ false }
+    ensures survives { Survives (state S.Store conn.old) (state S.Store conn.new) (CommitsShowing sql.now [] (state S.Store conn.old)) }
+{
+    match conn.query_all(sql, &[]) {
+        Ok(rows) => Ok(rows),
+        Err(error) => Err(Fault::of(error)),
+    }
+}
+
+/// Each of the rows, in turn.
+fn all_of<T: TableRow>(alloc: Global, rows: &[Row]) -> Result<Vec<T>, Fault>
+    ensures reads { IfOk result (λ xs. map (given T.which) rows.now ≡ map (λ x. shown T.which
+        (T.view x)) xs.items) }
+    ensures kinds { AllByRecursion (HasKinds (asked T.which).kinds) rows.now
+        → IfErr result (λ fault. fault ≡ Fault.NoMemory) }
+    ensures not_lost { IfErr result (λ fault. fault ≢ Fault.Lost) }
+    ensures utf8 { IfOk result (λ xs. AllByRecursion (λ x. IsUtf8Row T.which (own T.which
+        (T.view x))) xs.items) }
+{
+    let mut all = Vec::new(alloc);
+    for row in rows {
+        let one = T::from_row(row)?;
+        if all.push(one).is_err() {
+            return Err(Fault::NoMemory);
+        }
+    }
+    Ok(all)
+}
+
+/// The rows of one type, in the order of their keys: those of `book` and `mark` and the paragraphs by their ids, the cells by their
+/// paragraphs, the entries of histories by their paragraphs and numbers, and braille tables by the bytes of their names.
+pub fn read_rows<T: TableRow, S: Alter>(
+    alloc: Global,
+    conn: &mut Connection<S>,
+) -> Result<Vec<T>, Fault>
+    ensures answers { HasCleanDisk (state S.Store conn.new)
+        → AnswersRows result (λ xs. xs.items) T.which T.view AnyRows (state S.Store conn.old)
+        (state S.Store conn.new) }
+    ensures mode { conn.old.in_transaction ≡ false → conn.new.in_transaction ≡ false }
+    ensures survives { Survives (state S.Store conn.old) (state S.Store conn.new) (λ _. ⊥) }
+{
+    let rows = ask(conn, T::query())?;
+    all_of(alloc, &rows)
+}
+
+/// Whether no two braille tables have the same rowid.
+fn have_own_rowids(alloc: Global, tabs: &[StoredTab]) -> Result<bool, AllocError>
+    ensures { IfOk result (λ apart. MatchBool apart (HaveOwnRowids tabs.now)
+        (¬ HaveOwnRowids tabs.now)) }
+{
+    let mut seen = BTreeSet::new(alloc);
+    for tab in tabs {
+        if !seen.insert(tab.rowid)? {
+            return Ok(false);
+        }
+    }
+    Ok(true)
+}
+
+/// The braille tables, in order of the bytes of their names, which is that of the names' code points. Where two have one rowid, as only a
+/// view shows them, they are refused.
+pub fn read_tabs<S: Alter>(alloc: Global, conn: &mut Connection<S>) -> Result<Vec<StoredTab>, Fault>
+    ensures answers { HasCleanDisk (state S.Store conn.new)
+        → AnswersRows result (λ xs. xs.items) tabs (λ x. x) HaveOwnRowids (state S.Store conn.old)
+        (state S.Store conn.new) }
+    ensures mode { conn.old.in_transaction ≡ false → conn.new.in_transaction ≡ false }
+    ensures survives { Survives (state S.Store conn.old) (state S.Store conn.new) (λ _. ⊥) }
+{
+    let tabs = read_rows(alloc, conn)?;
+    match have_own_rowids(alloc, &tabs) {
+        Ok(true) => Ok(tabs),
+        Ok(false) => Err(Fault::Refused),
+        Err(_) => Err(Fault::NoMemory),
+    }
+}

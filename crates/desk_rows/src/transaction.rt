@@ -1,0 +1,144 @@
+//! A change of the file, as one transaction.
+
+ghost use Rattle.std.specs.Prelude.{◌≡◌, ◌++◌, false, true, IfErr, IsTrue, OnErr, OnOk, map};
+ghost use Rattle.std.specs.Iterator.{IsFinite};
+ghost use Rattle.sqlite.specs.Held.{state};
+ghost use Rattle.sqlite.specs.State.{HasCleanDisk, IsLive, Survives};
+ghost use Rattle.desk_rows.specs.Failing.{FailsToChange, FailsToPut, of_items};
+ghost use Rattle.desk_rows.specs.Fault.{CountsLoss, IsToldAs};
+ghost use Rattle.desk_rows.specs.Puts.{IsFileWith, OfItems, Writes, statement};
+ghost use Rattle.desk_rows.specs.Making.{IsFileWithTables, WritesWithTables, creation};
+ghost use Rattle.desk_rows.specs.Tables.{AreWritten, which};
+ghost use Rattle.desk_rows.specs.Turns.{AreRun, IsLeftBy, begun};
+ghost use Rattle.sql_tables.specs.States.{IsCommitted, IsSettled, IsUndone, ShowsAsBefore};
+
+use crate::fault::Fault;
+use crate::make::create_all;
+use crate::put::put_all;
+use desk_book::parts::FileTable;
+use desk_book::rows::Put;
+use sqlite::{Alter, Connection, Error, Transaction};
+use std::alloc::Global;
+
+/// Begins a transaction of a connection, which is live and shows the last commit.
+pub(crate) fn begin<S: Alter>(conn: &mut Connection<S>) -> Transaction<'_, S>
+    requires { conn.old.in_transaction ≡ false }
+    ensures same_reference { result.conn.ghost_name ≡ conn.entry.ghost_name }
+    ensures begun { result.conn.now ≡ record conn.old { in_transaction = true } }
+    ensures live { IsLive (state S.Store conn.old) }
+    ensures settled { IsTrue (state S.Store conn.old).is_open
+        → (state S.Store conn.old).now ≡ (state S.Store conn.old).committed }
+{
+    let _ = conn.schema();
+    let _ = conn.is_autocommit();
+    conn.transaction()
+}
+
+/// Puts in turn what an iterator lends and commits it, as one. The caller's condition: the iterator ends. The error is the database's, or
+/// want of memory for what is put. A
+/// connection that is open then shows the last commit, which is that of before, and a crash leaves the rows from before or, where the store
+/// failed, all of these.
+pub fn write<'a, S: Alter, I: Iterator<Item = Put<'a>> + Drop>(
+    alloc: Global,
+    conn: &mut Connection<S>,
+    puts: I,
+) -> Result<(), Error>
+    requires idle { conn.old.in_transaction ≡ false }
+    requires can { I.can_next puts }
+    requires ends { IsFinite (I.remaining puts) }
+    ensures idle { conn.new.in_transaction ≡ false }
+    ensures written { HasCleanDisk (state S.Store conn.new)
+        → OnOk result (OfItems I.next_gives puts (λ xs. Writes xs (state S.Store conn.old)
+        (state S.Store conn.new))) }
+    ensures open { HasCleanDisk (state S.Store conn.new)
+        → OnOk result (IsCommitted (state S.Store conn.new)) }
+    // In any file, at `Ok` the connection shows what the statements made of it in turn.
+    ensures ran { HasCleanDisk (state S.Store conn.new)
+        → OnOk result (OfItems I.next_gives puts (λ xs. AreRun S.Store (map statement xs) conn.old
+        (state S.Store conn.new))) }
+    // Of a crash at any exit: nothing new is left but all of it.
+    ensures crash { Survives (state S.Store conn.old) (state S.Store conn.new)
+        (λ db. OfItems I.next_gives puts (λ xs.
+        IsFileWith xs (state S.Store conn.old) db
+        × IsLeftBy S.Store (map statement xs) conn.old db)) }
+    // At `Ok` it leaves the trees that the connection shows.
+    ensures settled { HasCleanDisk (state S.Store conn.new)
+        → OnOk result (IsSettled (state S.Store conn.new)) }
+    // The error is what the database answered to one of the statements or to the commit, or memory for what is put was refused.
+    ensures told { HasCleanDisk (state S.Store conn.new)
+        → IfErr result (FailsToPut S.Store (of_items S.Store I.next_gives puts) (begun conn.old)
+        (state S.Store conn.new)) }
+    ensures undone { HasCleanDisk (state S.Store conn.new)
+        → OnErr result (IsUndone (state S.Store conn.old) (state S.Store conn.new)) }
+    // The connection shows what it showed before, if it is open still.
+    ensures as_before { HasCleanDisk (state S.Store conn.new)
+        → OnErr result (ShowsAsBefore (state S.Store conn.old) (state S.Store conn.new)) }
+    // What was lost is counted, or was too big.
+    ensures lost { HasCleanDisk (state S.Store conn.new)
+        → IfErr result (CountsLoss (state S.Store conn.old) (state S.Store conn.new)) }
+    // After a refusal a crash leaves nothing new.
+    ensures refused { HasCleanDisk (state S.Store conn.new)
+        → IfErr result (λ e. IsToldAs e Fault.Refused
+        → Survives (state S.Store conn.old) (state S.Store conn.new) (λ _. ⊥)) }
+{
+    let mut tx = begin(conn);
+    put_all(alloc, &mut tx, puts)?;
+    tx.commit()?;
+    Ok(())
+}
+
+/// Makes these tables, puts in turn what an iterator lends and commits all of it, as one: so a file gets the tables that it lacks together
+/// with their rows. The caller's conditions: `corr` isn't among the tables, and the iterator ends. The error is the database's, as where a
+/// name is taken. A connection that is open then shows the last commit, which is that of before, and a crash leaves the file from before
+/// or, where the store failed, the one with all of this.
+pub fn write_with_tables<'a, S: Alter, I: Iterator<Item = Put<'a>> + Drop>(
+    alloc: Global,
+    conn: &mut Connection<S>,
+    tables: &[FileTable],
+    puts: I,
+) -> Result<(), Error>
+    requires idle { conn.old.in_transaction ≡ false }
+    requires written { AreWritten tables.now }
+    requires can { I.can_next puts }
+    requires ends { IsFinite (I.remaining puts) }
+    ensures idle { conn.new.in_transaction ≡ false }
+    ensures written { HasCleanDisk (state S.Store conn.new)
+        → OnOk result (OfItems I.next_gives puts (λ xs. WritesWithTables (map which tables.now) xs
+        (state S.Store conn.old) (state S.Store conn.new))) }
+    ensures open { HasCleanDisk (state S.Store conn.new)
+        → OnOk result (IsCommitted (state S.Store conn.new)) }
+    // In any file, at `Ok` the connection shows what the statements made of it in turn.
+    ensures ran { HasCleanDisk (state S.Store conn.new)
+        → OnOk result (OfItems I.next_gives puts (λ xs.
+        AreRun S.Store (map creation (map which tables.now) ++ map statement xs) conn.old (state S.Store conn.new))) }
+    // Of a crash at any exit: nothing new is left but all of it.
+    ensures crash { Survives (state S.Store conn.old) (state S.Store conn.new)
+        (λ db. OfItems I.next_gives puts (λ xs.
+        IsFileWithTables (map which tables.now) xs (state S.Store conn.old) db
+        × IsLeftBy S.Store (map creation (map which tables.now) ++ map statement xs) conn.old db)) }
+    // At `Ok` it leaves the trees that the connection shows.
+    ensures settled { HasCleanDisk (state S.Store conn.new)
+        → OnOk result (IsSettled (state S.Store conn.new)) }
+    // The error is what the database answered to one of the statements or to the commit, or memory for what is put was refused.
+    ensures told { HasCleanDisk (state S.Store conn.new)
+        → IfErr result (FailsToChange S.Store (map which tables.now)
+        (of_items S.Store I.next_gives puts) (begun conn.old) (state S.Store conn.new)) }
+    ensures undone { HasCleanDisk (state S.Store conn.new)
+        → OnErr result (IsUndone (state S.Store conn.old) (state S.Store conn.new)) }
+    // The connection shows what it showed before, if it is open still.
+    ensures as_before { HasCleanDisk (state S.Store conn.new)
+        → OnErr result (ShowsAsBefore (state S.Store conn.old) (state S.Store conn.new)) }
+    // What was lost is counted, or was too big.
+    ensures lost { HasCleanDisk (state S.Store conn.new)
+        → IfErr result (CountsLoss (state S.Store conn.old) (state S.Store conn.new)) }
+    // After a refusal a crash leaves nothing new.
+    ensures refused { HasCleanDisk (state S.Store conn.new)
+        → IfErr result (λ e. IsToldAs e Fault.Refused
+        → Survives (state S.Store conn.old) (state S.Store conn.new) (λ _. ⊥)) }
+{
+    let mut both = begin(conn);
+    create_all(&mut both, tables)?;
+    put_all(alloc, &mut both, puts)?;
+    both.commit()?;
+    Ok(())
+}

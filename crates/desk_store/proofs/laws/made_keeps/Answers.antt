@@ -1,5 +1,0 @@
-use Rattle.desk_store.proofs.Kept.{made_keeps}
-use Rattle.desk_store.proofs.laws.made_keeps.Goals as goal
-
-pub returns : goal.returns
-returns c = made_keeps

@@ -1,5 +1,0 @@
-use Rattle.desk_store.proofs.WholeFile.{is_file}
-use Rattle.desk_store.proofs.laws.read_whole.Goals as goal
-
-pub returns : goal.returns
-returns c = is_file
