@@ -29,12 +29,12 @@ need_rt = $(if $(shell command -v '$(RT)' 2> /dev/null),,$(error the command '$(
 $(PROGRAM): $(SOURCES)
 	$(need_rt)
 	@mkdir -p $(@D)
-	@echo 'Proving what the program needs. From nothing this takes an hour or more; a crate that is unchanged takes seconds.'
+	@echo 'Proving what the program needs. From nothing this takes an hour or more; a crate that is unchanged takes seconds.' >&2
 	@set -e; count=0; for part in $(PARTS); do \
-	    count=$$((count + 1)); echo "[$$count of $(words $(PARTS))] $$part"; \
+	    count=$$((count + 1)); echo "[$$count of $(words $(PARTS))] $$part" >&2; \
 	    (cd crates/$$part && $(RT) check > '$(CURDIR)/build/log' 2>&1) || { cat build/log; exit 1; }; \
 	done
-	@echo 'Building.'
+	@echo 'Building.' >&2
 	@cd crates/braildesk && $(RT) run -- --help > '$(CURDIR)/build/log' 2>&1 || { cat '$(CURDIR)/build/log'; exit 1; }
 	@cp crates/braildesk/out/braildesk $@
 	@rm build/log
