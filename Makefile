@@ -19,7 +19,7 @@ JOBS ?= $(shell awk -v n="$$(nproc)" '/^MemAvailable/ { m = int($$2 / 5000000); 
 # the crates that the program stands on, each after those below it
 PARTS := cell_core louis_table louis_translate desk_command desk_book sql_tables desk_rows desk_store desk_ends desk_line desk_brf desk_session desk_words desk_program braildesk
 
-.PHONY: all demo test trials files runs attacks bench install clean
+.PHONY: all demo test trials runs attacks bench install clean
 
 all: $(PROGRAM)
 
@@ -52,13 +52,11 @@ test:
 	RT_JOBS=$(JOBS) $(RT) ci
 	@mkdir -p $(dir $(PROGRAM))
 	@cp crates/braildesk/out/braildesk $(PROGRAM)
-	$(MAKE) --no-print-directory -j $(JOBS) trials files runs
+	$(MAKE) --no-print-directory -j $(JOBS) trials runs
 
 # what the gate runs once all is proved; the tests stop files at each 23rd of their calls, and tests/stops.sh at each
 trials:
 	RT='$(RT)' EVERY=23 tests/trials.sh
-files:
-	RT='$(RT)' tests/sqlite3.sh
 runs:
 	tests/tutorial.sh $(PROGRAM)
 	tests/client.sh $(PROGRAM)

@@ -3,14 +3,15 @@
 # declarations, and a file that sqlite3 made is read here with the same rows. Of a file with other things under the names of the tables
 # the same ones are there for both: tables and views, but no indexes and no triggers. Files of a book that sqlite3 made, in either
 # format, with the tables declared as in a new file and otherwise, show the same book here, and sqlite3 reads what opening made of them.
-#   tests/sqlite3.sh
-# The program tests/rows.rattle, which makes and shows the files, is built by `rt try` in a scratch folder, and is not proved.
+#   tests/sqlite3.sh                 runs the tests of tests/trials/sqlite, which make and show the files, over them
+#   tests/sqlite3.sh FOLDER          makes the files of sqlite3 in the folder, which is empty
+#   tests/sqlite3.sh FOLDER LOG      compares with these what the tests printed
 set -eu
 cd "$(dirname "$0")/.."
-rt=${RT:-rt}
+[ $# -gt 0 ] || exec tests/trials.sh sqlite
 fail() { echo "tests/sqlite3.sh: $*" >&2; exit 1; }
 command -v sqlite3 > /dev/null || fail 'sqlite3 is missing: install it, as by apt-get install sqlite3'
-scratch=$(mktemp -d); trap 'rm -rf "$scratch"' EXIT
+scratch=$1
 
 # how a new file declares the six tables
 declarations='CREATE TABLE book (id INTEGER NOT NULL PRIMARY KEY, format INTEGER NOT NULL, version INTEGER NOT NULL) STRICT;
@@ -44,28 +45,7 @@ same() { # WHAT EXPECTED FOUND
     diff "$2" "$3" > "$scratch/diff" || { cat "$scratch/diff" >&2; fail "$1 differ (< expected, > found)"; }
     echo "ok  $1"
 }
-
-# a file that sqlite3 makes, with other things beside the six tables
-sqlite3 -batch -bail -init /dev/null "$scratch/other.db" "$declarations
-    CREATE TABLE note (id INTEGER PRIMARY KEY, para INTEGER REFERENCES para ON DELETE CASCADE, body TEXT);
-    CREATE INDEX note_by_para ON note (para);
-    CREATE VIEW heading AS SELECT id, print FROM para WHERE style = 1;
-    INSERT INTO book VALUES (1, 1, 9007199254740993), (-2, -9223372036854775808, 0);
-    INSERT INTO tab VALUES ('zz', X'00FF80'), ('en', CAST('letter a 1' AS BLOB)), ('ä⠁𝔘', X'');
-    INSERT INTO para VALUES (3, 1, 'en', 'it''s', 'it' || char(10) || 's ⠏', 1, 0, 0), (-4, 2, '', '', '', -1, 255, 65536);
-    INSERT INTO corr2 VALUES (3, 2, 0, 1, 1, 'ß', 'Ann'), (3, 1, 1, 0, 0, '', ''), (-4, 1, 0, -1, -128, '|', '⠁');
-    INSERT INTO cache VALUES (3, X'0F00FF'), (-4, X'');
-    INSERT INTO mark VALUES (2, 3, 0, 2, 'look', 0, 1), (1, -4, 9223372036854775807, 0, '', 1, 0);
-    INSERT INTO note VALUES (1, 3, 'beside');"
-
-# a file with two tables and a view of these names, in other letters, and an index, a trigger and a column with others
-sqlite3 -batch -bail -init /dev/null "$scratch/names.db" "
-    CREATE TABLE note (id INTEGER PRIMARY KEY, mark TEXT);
-    CREATE TABLE BOOK (id INTEGER PRIMARY KEY);
-    CREATE TABLE Tab (name TEXT);
-    CREATE VIEW para AS SELECT id FROM note;
-    CREATE INDEX corr ON note (mark);
-    CREATE TRIGGER cache AFTER INSERT ON note BEGIN DELETE FROM note WHERE id < NEW.id; END;"
+# which tables and views of these names are there
 there() { # FILE
     local table
     for table in book tab para corr mark cache corr2; do
@@ -74,62 +54,81 @@ there() { # FILE
     done
 }
 
-# files of one book: in the second format; in the first without its braille, both beside other tables; and the same two with the tables
-# declared otherwise, without STRICT and with a further column
-book="INSERT INTO tab VALUES ('t', CAST('letter a 17' || char(10) || 'letter b 27' AS BLOB));
-    INSERT INTO para (id, place, tab, original, print, style, volume, struck) VALUES
-        (1, 2, 't', 'ab', 'aab', 0, 0, 0), (2, 1, 't', 'ba', 'ba', 1, 1, 1);
-    INSERT INTO mark VALUES (1, 1, 0, 2, 'look', 1, 0);"
-named="INSERT INTO book VALUES (1, 2, 7);
-    INSERT INTO corr2 VALUES (1, 1, 0, 0, 1, 'aa', ''), (1, 2, 0, 3, 0, 'b', ''), (1, 3, 1, 2, 0, '', '');
-    INSERT INTO cache VALUES (1, CAST('AAB' AS BLOB)), (2, CAST('BA' AS BLOB));"
-unnamed="CREATE TABLE corr (para INTEGER NOT NULL, seq INTEGER NOT NULL, kind INTEGER NOT NULL, start INTEGER NOT NULL, len INTEGER NOT NULL, body TEXT NOT NULL, PRIMARY KEY (para, seq)) STRICT;
-    INSERT INTO book VALUES (1, 1, 7);
-    INSERT INTO corr VALUES (1, 1, 0, 0, 1, 'aa'), (1, 2, 0, 3, 0, 'b'), (1, 3, 1, 2, 0, '');
-    DROP TABLE cache; DROP TABLE corr2;"
-beside="CREATE TABLE note (id INTEGER PRIMARY KEY, para INTEGER REFERENCES para ON DELETE CASCADE, body TEXT);
-    CREATE INDEX note_by_para ON note (para);
-    CREATE VIEW heading AS SELECT id, print FROM para WHERE style = 1;
-    INSERT INTO note VALUES (1, 1, 'beside');"
-otherwise=$(sed -e 's/ STRICT;/;/' -e 's/struck INTEGER NOT NULL/struck INTEGER, further TEXT/' -e 's/ NOT NULL//' <<< "$declarations")
-sqlite3 -batch -bail -init /dev/null "$scratch/named.db" "$declarations $book $named $beside"
-sqlite3 -batch -bail -init /dev/null "$scratch/unnamed.db" "$declarations $book $unnamed $beside"
-sqlite3 -batch -bail -init /dev/null "$scratch/named-otherwise.db" "$otherwise $book $named"
-sqlite3 -batch -bail -init /dev/null "$scratch/unnamed-otherwise.db" "$otherwise $book ${unnamed/ STRICT/}"
-forms='named unnamed named-otherwise unnamed-otherwise'
+make_files() {
+    # a file that sqlite3 makes, with other things beside the six tables
+    sqlite3 -batch -bail -init /dev/null "$scratch/other.db" "$declarations
+        CREATE TABLE note (id INTEGER PRIMARY KEY, para INTEGER REFERENCES para ON DELETE CASCADE, body TEXT);
+        CREATE INDEX note_by_para ON note (para);
+        CREATE VIEW heading AS SELECT id, print FROM para WHERE style = 1;
+        INSERT INTO book VALUES (1, 1, 9007199254740993), (-2, -9223372036854775808, 0);
+        INSERT INTO tab VALUES ('zz', X'00FF80'), ('en', CAST('letter a 1' AS BLOB)), ('ä⠁𝔘', X'');
+        INSERT INTO para VALUES (3, 1, 'en', 'it''s', 'it' || char(10) || 's ⠏', 1, 0, 0), (-4, 2, '', '', '', -1, 255, 65536);
+        INSERT INTO corr2 VALUES (3, 2, 0, 1, 1, 'ß', 'Ann'), (3, 1, 1, 0, 0, '', ''), (-4, 1, 0, -1, -128, '|', '⠁');
+        INSERT INTO cache VALUES (3, X'0F00FF'), (-4, X'');
+        INSERT INTO mark VALUES (2, 3, 0, 2, 'look', 0, 1), (1, -4, 9223372036854775807, 0, '', 1, 0);
+        INSERT INTO note VALUES (1, 3, 'beside');"
 
-# all runs of the program, over one build
-mkdir -p "$scratch/crates/rows/src" "$scratch/cases"
-tar -c --exclude=out crates | tar -x -C "$scratch"
-cp tests/rows.rattle "$scratch/crates/rows/src/main.rt"
-[ ! -e HANDLES ] || cp HANDLES "$scratch"
-{ cat crates.txt; echo 'rows: cell_core desk_book desk_rows desk_store sqlite hex anyhow'; } > "$scratch/crates.txt"
-: > "$scratch/cases/make"; echo make > "$scratch/cases/make.args"
-: > "$scratch/cases/show"; printf 'show\nother.db\n' > "$scratch/cases/show.args"
-rows "$scratch/other.db" > "$scratch/cases/show.stdout"
-: > "$scratch/cases/tables"; printf 'tables\nnames.db\n' > "$scratch/cases/tables.args"
-there "$scratch/names.db" > "$scratch/cases/tables.stdout"
-data=(--data "other.db=$scratch/other.db" --data "names.db=$scratch/names.db")
-for form in $forms; do
-    : > "$scratch/cases/$form"; printf 'open\n%s.db\n' "$form" > "$scratch/cases/$form.args"
-    data+=(--data "$form.db=$scratch/$form.db")
-done
-(cd "$scratch/crates/rows" && "$rt" try --cases "$scratch/cases" "${data[@]}") > "$scratch/told" 2> "$scratch/errors" ||
-    { cat "$scratch/told" "$scratch/errors" >&2; fail 'the program rows failed, or shows other rows or tables of the files that sqlite3 made'; }
-echo 'ok  the rows of a file that sqlite3 made'
-[ "$(tr '\n' ' ' < "$scratch/cases/tables.stdout")" = 'book tab para ' ] || fail 'sqlite3 made other tables than it was told'
-echo 'ok  the tables that are there'
+    # a file with two tables and a view of these names, in other letters, and an index, a trigger and a column with others
+    sqlite3 -batch -bail -init /dev/null "$scratch/names.db" "
+        CREATE TABLE note (id INTEGER PRIMARY KEY, mark TEXT);
+        CREATE TABLE BOOK (id INTEGER PRIMARY KEY);
+        CREATE TABLE Tab (name TEXT);
+        CREATE VIEW para AS SELECT id FROM note;
+        CREATE INDEX corr ON note (mark);
+        CREATE TRIGGER cache AFTER INSERT ON note BEGIN DELETE FROM note WHERE id < NEW.id; END;"
 
-# what the program printed in a run, and the file that it left then, from the hex digits that it printed
-taken() { # RUN FILE
-    sed -n "/^== $1\$/,/^file /p" "$scratch/told" > "$scratch/section"
+    # files of one book: in the second format; in the first without its braille, both beside other tables; and the same two with the tables
+    # declared otherwise, without STRICT and with a further column
+    book="INSERT INTO tab VALUES ('t', CAST('letter a 17' || char(10) || 'letter b 27' AS BLOB));
+        INSERT INTO para (id, place, tab, original, print, style, volume, struck) VALUES
+            (1, 2, 't', 'ab', 'aab', 0, 0, 0), (2, 1, 't', 'ba', 'ba', 1, 1, 1);
+        INSERT INTO mark VALUES (1, 1, 0, 2, 'look', 1, 0);"
+    named="INSERT INTO book VALUES (1, 2, 7);
+        INSERT INTO corr2 VALUES (1, 1, 0, 0, 1, 'aa', ''), (1, 2, 0, 3, 0, 'b', ''), (1, 3, 1, 2, 0, '', '');
+        INSERT INTO cache VALUES (1, CAST('AAB' AS BLOB)), (2, CAST('BA' AS BLOB));"
+    unnamed="CREATE TABLE corr (para INTEGER NOT NULL, seq INTEGER NOT NULL, kind INTEGER NOT NULL, start INTEGER NOT NULL, len INTEGER NOT NULL, body TEXT NOT NULL, PRIMARY KEY (para, seq)) STRICT;
+        INSERT INTO book VALUES (1, 1, 7);
+        INSERT INTO corr VALUES (1, 1, 0, 0, 1, 'aa'), (1, 2, 0, 3, 0, 'b'), (1, 3, 1, 2, 0, '');
+        DROP TABLE cache; DROP TABLE corr2;"
+    beside="CREATE TABLE note (id INTEGER PRIMARY KEY, para INTEGER REFERENCES para ON DELETE CASCADE, body TEXT);
+        CREATE INDEX note_by_para ON note (para);
+        CREATE VIEW heading AS SELECT id, print FROM para WHERE style = 1;
+        INSERT INTO note VALUES (1, 1, 'beside');"
+    otherwise=$(sed -e 's/ STRICT;/;/' -e 's/struck INTEGER NOT NULL/struck INTEGER, further TEXT/' -e 's/ NOT NULL//' <<< "$declarations")
+    sqlite3 -batch -bail -init /dev/null "$scratch/named.db" "$declarations $book $named $beside"
+    sqlite3 -batch -bail -init /dev/null "$scratch/unnamed.db" "$declarations $book $unnamed $beside"
+    sqlite3 -batch -bail -init /dev/null "$scratch/named_otherwise.db" "$otherwise $book $named"
+    sqlite3 -batch -bail -init /dev/null "$scratch/unnamed_otherwise.db" "$otherwise $book ${unnamed/ STRICT/}"
+}
+
+if [ $# -eq 1 ]; then
+    make_files
+    exit
+fi
+
+# what a test printed
+printed() { # TEST
+    sed -n "/^test sqlite::rows::$1 \.\.\. ok\$/,/^test /{/^test /d; s/^    //; p}" "$log"
+}
+# what a test printed, and the file that it left then, from the hex digits that it printed
+taken() { # TEST FILE
+    printed "$1" > "$scratch/section"
     sed -n 's/^file //p' "$scratch/section" > "$scratch/hex"
-    [ -s "$scratch/hex" ] || { cat "$scratch/told" "$scratch/errors" >&2; fail "the program rows left no file in the run $1"; }
+    [ -s "$scratch/hex" ] || { cat "$log" >&2; fail "the test $1 left no file"; }
     { echo "SELECT writefile('$2', X'"; tr -d '\n' < "$scratch/hex"; echo "');"; } | tr -d '\n' > "$scratch/write.sql"
     sqlite3 -batch -bail -init /dev/null :memory: < "$scratch/write.sql" > /dev/null
-    sed -e 1d -e '$d' "$scratch/section"
+    sed '$d' "$scratch/section"
 }
-taken make "$scratch/made.db" > "$scratch/made.rows"
+log=$2
+forms='named unnamed named_otherwise unnamed_otherwise'
+rows "$scratch/other.db" > "$scratch/expected"
+printed shows_a_file > "$scratch/found"
+same 'the rows of a file that sqlite3 made' "$scratch/expected" "$scratch/found"
+there "$scratch/names.db" > "$scratch/expected"
+[ "$(tr '\n' ' ' < "$scratch/expected")" = 'book tab para ' ] || fail 'sqlite3 made other tables than it was told'
+printed tells_the_tables > "$scratch/found"
+same 'the tables that are there' "$scratch/expected" "$scratch/found"
+taken makes_a_file "$scratch/made.db" > "$scratch/made.rows"
 for table in book tab para mark cache corr2; do
     [ "$(grep -c "^$table|" "$scratch/made.rows")" -ge 5 ] || fail "the file that was made here lacks rows of $table"
 done
@@ -150,7 +149,7 @@ sqlite3 -batch -bail -init /dev/null "$scratch/named.db" "
     SELECT id, quote(print), quote(cells) FROM para JOIN cache ON cache.para = id ORDER BY place; SELECT 'version', version FROM book;" > "$scratch/book"
 rows "$scratch/named.db" > "$scratch/expected.rows"
 for form in $forms; do
-    taken "$form" "$scratch/opened.db" > "$scratch/found"
+    taken "opens_$form" "$scratch/opened.db" > "$scratch/found"
     same "the book of $form.db" "$scratch/book" "$scratch/found"
     rows "$scratch/opened.db" > "$scratch/found"
     same 'the rows that opening left in it' "$scratch/expected.rows" "$scratch/found"
