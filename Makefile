@@ -17,7 +17,7 @@ SOURCES := crates.txt HANDLES $(shell find crates -type f \( -path '*/src/*' -o 
 JOBS ?= $(shell awk -v n="$$(nproc)" '/^MemAvailable/ { m = int($$2 / 5000000); print m < 1 ? 1 : m < n ? m : n }' /proc/meminfo)
 
 # the crates that the program stands on, each after those below it
-PARTS := cell_core louis_table louis_translate desk_command desk_book sql_tables desk_rows desk_store desk_ends desk_line desk_brf desk_session desk_words desk_program braildesk
+PARTS := cell_core louis_table louis_translate desk_command desk_parts desk_book sql_tables desk_rows desk_store desk_ends desk_line desk_brf desk_session desk_words desk_program braildesk
 
 .PHONY: all demo test trials runs attacks bench install clean
 

@@ -17,7 +17,7 @@ for module in answer answerer braille line print translate; do
 done
 cp sample/demo.rattle "$scratch/crates/demo/src/main.rt"
 cp HANDLES "$scratch"
-parts='cell_core louis_table louis_translate desk_command desk_book desk_ends desk_line desk_brf'
+parts='cell_core louis_table louis_translate desk_command desk_parts desk_book desk_ends desk_line desk_brf'
 { cat crates.txt; echo "demo: $parts itoa memchr thiserror anyhow"; } > "$scratch/crates.txt"
 
 # one run: the name by which it is ordered, its standard input, and its words

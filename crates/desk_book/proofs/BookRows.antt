@@ -11,12 +11,12 @@ use Rattle.std.proofs.lemmas.Option.{slice_get-get_or}
 use Rattle.std.proofs.lemmas.Str.{chars-encodes, chars-nil}
 use Rattle.louis_translate.specs.Braille.{braille}
 use Rattle.louis_translate.proofs.Tilings.{one_tiling}
-use Rattle.desk_book.specs.declared.parts.FileTable.TheVariants.{Corr as CorrTable, NamedCorr as NamedCorrTable}
+use Rattle.desk_parts.specs.declared.file_table.FileTable.TheVariants.{Corr as CorrTable, NamedCorr as NamedCorrTable}
 use Rattle.desk_book.specs.Book.{Entry, Corrects, Undoes, Paragraph, Book}
-use Rattle.desk_book.specs.FileRows.{FileRows, HasEntryTexts, HasMarkText, HasParaTexts, HasTabText, Named, Unnamed, spelled_entry, spelled_mark, spelled_para, spelled_tab, table_of, unnamed}
+use Rattle.desk_parts.specs.FileRows.{FileRows, HasEntryTexts, HasMarkText, HasParaTexts, HasTabText, Named, Unnamed, spelled_entry, spelled_mark, spelled_para, spelled_tab, table_of, unnamed}
 use Rattle.desk_book.specs.Name.{IsTableName, is_name_character}
 use Rattle.desk_book.specs.Print.{print_of}
-use Rattle.desk_book.specs.Rows.{Corr, Tab, Para, NamedCorr, Mark as MarkRow, Cached}
+use Rattle.desk_parts.specs.Rows.{Corr, Tab, Para, NamedCorr, Mark as MarkRow, Cached}
 use Rattle.desk_book.specs.Shows.{AreCached, IsCached, IsUnnamed, Shows, book_row_of, entry_row_of, entry_rows_of, mark_row_of, para_of, paras_of, tab_of}
 use Rattle.desk_book.specs.Sound.{IsSound, IsSoundEntry, IsSoundMark, IsSoundParagraph, IsSoundTable}
 use Rattle.desk_command.specs.Characters.{AreCharacters}

@@ -14,13 +14,13 @@ use Rattle.std.proofs.lemmas.List.Sorted.{IsPermutation-map, IsPermutation-middl
 use Rattle.std.proofs.lemmas.Map.Keys.{IsDistinct-from_apart, IsDistinct-head, IsDistinct-IsPermutation, IsDistinct-tail, apart_from_distinct}
 use Rattle.desk_book.specs.declared.filling.NewTables.{NewTables}
 use Rattle.desk_book.specs.declared.filling.NewTables.TheVariants.{Braille, Entries, EntriesAndBraille}
-use Rattle.desk_book.specs.declared.parts.FileTable.TheVariants.{Corr as CorrTable, NamedCorr as NamedCorrTable}
-use Rattle.desk_book.specs.declared.rows.BookRow.{BookRow}
+use Rattle.desk_parts.specs.declared.file_table.FileTable.TheVariants.{Corr as CorrTable, NamedCorr as NamedCorrTable}
+use Rattle.desk_parts.specs.declared.rows.BookRow.{BookRow}
 use Rattle.desk_book.specs.Book.{Book, Paragraph, empty_book}
-use Rattle.desk_book.specs.FileRows.{EntryRows, FileRows, HasEntryTexts, HasMarkText, HasParaTexts, HasTabText, Named, entries_in, format_of, table_of}
+use Rattle.desk_parts.specs.FileRows.{EntryRows, FileRows, HasEntryTexts, HasMarkText, HasParaTexts, HasTabText, Named, entries_in, format_of, table_of}
 use Rattle.desk_book.specs.FilledRows.{AreEntriesOf, Fills, entry_puts, in_second_format, new_rows, second_format_puts, with_caches, with_empty, with_new_entries, with_new_tables}
-use Rattle.desk_book.specs.Puts.{HasItsTable, HasTheirTables, PutBook, PutCache, PutEntry, RowPuts, put_in, with_put, with_puts}
-use Rattle.desk_book.specs.Rows.{Cached, NamedCorr}
+use Rattle.desk_parts.specs.Puts.{HasItsTable, HasTheirTables, PutBook, PutCache, PutEntry, RowPuts, put_in, with_put, with_puts}
+use Rattle.desk_parts.specs.Rows.{Cached, NamedCorr}
 use Rattle.desk_book.specs.Shows.{AreCached, IsCached, IsUnnamed, Shows, book_row_of}
 use Rattle.desk_book.specs.Sound.{IsSound}
 use Rattle.desk_book.proofs.BookRows.{book_caches, some_rows, some_unnamed_rows}

@@ -16,13 +16,13 @@ use Rattle.desk_book.specs.declared.marks.KeptMark.{KeptMark}
 use Rattle.desk_book.specs.declared.paragraphs.Paragraph.{Paragraph as KeptParagraph}
 use Rattle.desk_book.specs.Book.{Book, Entry, Paragraph}
 use Rattle.desk_book.specs.ChangePuts.{entry_row, row_number}
-use Rattle.desk_book.specs.FileRows.{HasEntryTexts, spelled_entry}
+use Rattle.desk_parts.specs.FileRows.{HasEntryTexts, spelled_entry}
 use Rattle.desk_book.specs.FilledRows.{AreEntriesOf, Fills}
 use Rattle.desk_book.specs.Filling.{HaveHistories, braille_from, braille_put, histories_from, history_puts}
 use Rattle.desk_book.specs.Histories.{entries_kept, entry_kept}
 use Rattle.desk_book.specs.Kept.{IsKept, IsKeptParagraph, KeptParagraphs, KeptTables, book_kept, paragraph_kept}
-use Rattle.desk_book.specs.Puts.{PutBook, PutCache, PutEntry, RowPut, RowPuts}
-use Rattle.desk_book.specs.Rows.{Cached, NamedCorr}
+use Rattle.desk_parts.specs.Puts.{PutBook, PutCache, PutEntry, RowPut, RowPuts}
+use Rattle.desk_parts.specs.Rows.{Cached, NamedCorr}
 use Rattle.desk_book.specs.Shows.{AreCached, IsCached, entry_row_of, entry_rows_of}
 use Rattle.desk_book.specs.Sound.{IsSoundParagraph}
 use Rattle.desk_book.proofs.KeptBooks.{All-from_map, drop-past, drop-there, means-kept, text_of-kept}

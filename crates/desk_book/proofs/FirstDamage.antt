@@ -1,10 +1,10 @@
 -- At most one damage of rows is the first.
 use Rattle.std.proofs.Common.{◌≡◌, ℕ, ◌≤◌, ℤ, pos, negsuc, ◌≤ℤ◌, cond, refl, sym, ap, subst, ◌∙◌, arith, leb→le}
 use Rattle.std.specs.Prelude.{◌==◌}
-use Rattle.desk_book.specs.declared.parts.FileTable.{FileTable}
-use Rattle.desk_book.specs.declared.parts.FileTable.TheVariants.{Book, Tab, Para, Corr, Mark, Cache, NamedCorr}
+use Rattle.desk_parts.specs.declared.file_table.FileTable.{FileTable}
+use Rattle.desk_parts.specs.declared.file_table.FileTable.TheVariants.{Book, Tab, Para, Corr, Mark, Cache, NamedCorr}
 use Rattle.desk_book.specs.Damage.{IsDamaged, IsFirstDamage, table_turn}
-use Rattle.desk_book.specs.FileRows.{FileRows, table_of}
+use Rattle.desk_parts.specs.FileRows.{FileRows, table_of}
 
 le_antisymm : (a b : ℤ) → a ≤ℤ b → b ≤ℤ a → a ≡ b
 le_antisymm (pos a) (pos b) up down =

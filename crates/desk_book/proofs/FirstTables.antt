@@ -1,18 +1,18 @@
 -- The damage of a table is the first, where the tables before it have none.
 use Rattle.std.proofs.Common.{◌≡◌, ◌≤◌, ℤ, List, Result, Ok, Err, Some, None, refl, sym, subst, arith}
 use Rattle.std.specs.Prelude.{IfErr, IfOk, MatchResult, OnOk}
-use Rattle.desk_book.specs.declared.parts.FileTable.{FileTable}
-use Rattle.desk_book.specs.declared.parts.FileTable.TheVariants.{Book, Tab, Para, Corr, Mark, Cache, NamedCorr}
-use Rattle.desk_book.specs.declared.parts.PartsFault.{PartsFault}
-use Rattle.desk_book.specs.declared.parts.PartsFault.TheVariants.{Damaged, NoMemory}
-use Rattle.desk_book.specs.declared.parts.RowsFault.{RowsFault}
-use Rattle.desk_book.specs.declared.parts.RowsFault.TheVariants as rows_fault
+use Rattle.desk_parts.specs.declared.file_table.FileTable.{FileTable}
+use Rattle.desk_parts.specs.declared.file_table.FileTable.TheVariants.{Book, Tab, Para, Corr, Mark, Cache, NamedCorr}
+use Rattle.desk_book.specs.declared.damage.PartsFault.{PartsFault}
+use Rattle.desk_book.specs.declared.damage.PartsFault.TheVariants.{Damaged, NoMemory}
+use Rattle.desk_book.specs.declared.damage.RowsFault.{RowsFault}
+use Rattle.desk_book.specs.declared.damage.RowsFault.TheVariants as rows_fault
 use Rattle.desk_book.specs.Damage.{IsDamaged, IsDamagedCache, IsDamagedEntries, IsFirstDamage, table_turn}
-use Rattle.desk_book.specs.FileRows.{EntryRows, FileRows, Named, Unnamed, entries_in, table_of}
+use Rattle.desk_parts.specs.FileRows.{EntryRows, FileRows, Named, Unnamed, entries_in, table_of}
 use Rattle.desk_book.specs.Joined.{IsDamagedBraille, TellsDamageOf}
 use Rattle.desk_book.specs.Judged.{IsWhole, TellsDamage}
 use Rattle.desk_book.specs.Rebuilt.{IsFaultOf, fault_in}
-use Rattle.desk_book.specs.Rows.{Cached, Para as ParaRow, Tab as TabRow}
+use Rattle.desk_parts.specs.Rows.{Cached, Para as ParaRow, Tab as TabRow}
 use Rattle.desk_book.proofs.Planning.{same_some}
 
 -- the fault of a table's rows is told of it

@@ -10,7 +10,7 @@ use Rattle.std.proofs.lemmas.List.Elements.{filter-append}
 use Rattle.std.proofs.lemmas.Option.{slice_get-map}
 use Rattle.desk_book.specs.Damage.{IsWithin}
 use Rattle.desk_book.specs.JudgedEntries.{AreGrouped, IsFirstStray, IsStray, rows_of}
-use Rattle.desk_book.specs.Rows.{NamedCorr}
+use Rattle.desk_parts.specs.Rows.{NamedCorr}
 use Rattle.desk_book.proofs.Arranging.{slice_get-append_left, slice_get-push, slice_get-set_other, slice_get-set_same}
 use Rattle.desk_book.proofs.HistoryLists.{slice_get-below}
 use Rattle.desk_book.proofs.Members.{Contains-behind, Contains-cases, Contains-here, Contains-none}

@@ -16,19 +16,19 @@ use Rattle.louis_table.specs.Table.{Means}
 use Rattle.louis_table.proofs.OneMeaning.{one_meaning}
 use Rattle.desk_book.specs.declared.marks.KeptMark.{KeptMark}
 use Rattle.desk_book.specs.declared.paragraphs.Paragraph.{Paragraph as KeptParagraph}
-use Rattle.desk_book.specs.declared.parts.FileTable.{FileTable}
-use Rattle.desk_book.specs.declared.parts.FileTable.TheVariants as file
-use Rattle.desk_book.specs.declared.rows.BookRow.{BookRow}
+use Rattle.desk_parts.specs.declared.file_table.FileTable.{FileTable}
+use Rattle.desk_parts.specs.declared.file_table.FileTable.TheVariants as file
+use Rattle.desk_parts.specs.declared.rows.BookRow.{BookRow}
 use Rattle.desk_book.specs.declared.tables.BookTable.{BookTable}
 use Rattle.desk_book.specs.Changes.{AreCellsOf}
 use Rattle.desk_book.specs.Damage.{HasItsTables, HasSoundEntries, IsDamaged, history_of}
-use Rattle.desk_book.specs.FileRows.{AreTexts, FileRows, entries_in, spelled_mark, spelled_tab}
+use Rattle.desk_parts.specs.FileRows.{AreTexts, FileRows, entries_in, spelled_mark, spelled_tab}
 use Rattle.desk_book.specs.Histories.{HaveTaken, entries_kept}
 use Rattle.desk_book.specs.Judged.{AreInPlaces, AreMarksOf, AreOf, AreTables, HasCells, HasHistory, HasKept, HaveMarks}
 use Rattle.desk_book.specs.Kept.{HasMarks, IsKept, IsKeptParagraph, KeptParagraphs, KeptTables, book_kept, mark_kept, marks_kept, numbered, paragraph_kept}
 use Rattle.desk_book.specs.KeptMarks.{indexes_on}
 use Rattle.desk_book.specs.Print.{corrected}
-use Rattle.desk_book.specs.Rows.{Para}
+use Rattle.desk_parts.specs.Rows.{Para}
 use Rattle.desk_book.specs.Shows.{Shows, tab_of}
 use Rattle.desk_book.proofs.Arranging.{numbered-cons}
 use Rattle.desk_book.proofs.KeptBooks.{lookup-map}

@@ -28,12 +28,12 @@ use Rattle.desk_book.specs.declared.paragraphs.Paragraph.{Paragraph as KeptParag
 use Rattle.desk_book.specs.declared.tables.BookTable.{BookTable}
 use Rattle.desk_book.specs.Changes.{AreCellsOf}
 use Rattle.desk_book.specs.Damage.{IsDamagedCache, IsDamagedPara, IsItsTable, IsSoundCacheRow, IsSoundParaRow, rows_with}
-use Rattle.desk_book.specs.FileRows.{spelled_tab}
+use Rattle.desk_parts.specs.FileRows.{spelled_tab}
 use Rattle.desk_book.specs.Judged.{AreOf, AreTables, HasCells, HasKept, IsFirstId, IsOf, IsWhole, without_cells}
 use Rattle.desk_book.specs.JudgedCaches.{AreAllRight, AreRight, AreTheirCells, IsItsBraille, IsLacking, IsMisfit, IsSurplus, IsTranslatable, IsWrong}
 use Rattle.desk_book.specs.Kept.{KeptTables, renewed_items, with_cells}
 use Rattle.desk_book.specs.Limits.{most_paragraphs}
-use Rattle.desk_book.specs.Rows.{Cached, Para, Tab}
+use Rattle.desk_parts.specs.Rows.{Cached, Para, Tab}
 use Rattle.desk_book.specs.Shows.{tab_of}
 use Rattle.desk_book.proofs.KeptBooks.{Contains-there}
 use Rattle.desk_book.proofs.Members.{Contains-cases, Contains-map, Contains-none}

@@ -14,7 +14,7 @@ use Rattle.desk_book.specs.Judged.{AreOf, HasHistory, HasKept, IsFirstId, IsOf, 
 use Rattle.desk_book.specs.JudgedEntries.{AreGrouped, HaveRead, IsFirstStray, IsStray, IsUnread, rows_of}
 use Rattle.desk_book.specs.JudgedHistory.{AreSoundRows, CanBeRead, HasRead}
 use Rattle.desk_book.specs.Print.{corrected}
-use Rattle.desk_book.specs.Rows.{NamedCorr, Para}
+use Rattle.desk_parts.specs.Rows.{NamedCorr, Para}
 use Rattle.desk_book.proofs.Members.{Contains-behind, Contains-here, Contains-map}
 use Rattle.desk_book.proofs.RowParts.{at-some}
 use Rattle.desk_book.proofs.HistoryLists.{slice_get-below}

@@ -13,7 +13,7 @@ use Rattle.desk_book.specs.Histories.{HaveTaken, entries_kept}
 use Rattle.desk_book.specs.Judged.{AreInPlaces, AreOf, HasHistory, HasKept, HaveMarks, IsOf, without_cells}
 use Rattle.desk_book.specs.Damage.{history_of}
 use Rattle.desk_book.specs.Print.{corrected}
-use Rattle.desk_book.specs.Rows.{NamedCorr, Para}
+use Rattle.desk_parts.specs.Rows.{NamedCorr, Para}
 use Rattle.desk_book.specs.Shows.{flag_number, style_number}
 use Rattle.desk_book.proofs.OneBook.{number}
 use Rattle.desk_book.proofs.Planning.{same_some}

@@ -12,13 +12,13 @@ use Rattle.std.proofs.lemmas.Option.{slice_get-get_or, slice_get_within}
 use Rattle.desk_book.specs.declared.marks.KeptMark.{KeptMark}
 use Rattle.desk_book.specs.declared.paragraphs.Paragraph.{Paragraph as KeptParagraph}
 use Rattle.desk_book.specs.Damage.{IsDamagedMark, IsNumber, IsSoundMarkRow, IsSpanned}
-use Rattle.desk_book.specs.FileRows.{spelled_mark}
+use Rattle.desk_parts.specs.FileRows.{spelled_mark}
 use Rattle.desk_book.specs.Judged.{AreMarksOf, AreOf, HasKept, HaveMarks, IsFirstId, IsWhole, without_marks}
 use Rattle.desk_book.specs.JudgedMarks.{AreInOrder, AreKeptOf, AreSoundUpTo, IsFirstUnsound, IsKeptOf, IsMarkOn, IsNext, IsOnOne, IsSoundAt}
 use Rattle.desk_book.specs.Kept.{mark_kept}
 use Rattle.desk_book.specs.KeptMarks.{indexes_from, indexes_on}
 use Rattle.desk_book.specs.Limits.{most_marks}
-use Rattle.desk_book.specs.Rows.{Mark as MarkRow, Para}
+use Rattle.desk_parts.specs.Rows.{Mark as MarkRow, Para}
 use Rattle.desk_book.specs.Shows.{mark_row_of}
 use Rattle.desk_book.proofs.KeptBooks.{Contains-there, drop-there}
 use Rattle.desk_book.proofs.MarkIndexes.{indexes-push_on, indexes-push_other}

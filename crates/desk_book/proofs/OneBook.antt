@@ -11,12 +11,12 @@ use Rattle.std.proofs.lemmas.Cmp.{nat_cmp_total, nat_list_cmp_total}
 use Rattle.std.proofs.lemmas.List.Elements.{Contains-append_left, Contains-append_right, Contains-append_cases}
 use Rattle.std.proofs.lemmas.List.Sorted.{Contains-permutation, IsPermutation-sym}
 use Rattle.std.proofs.lemmas.Simd.{map-map}
-use Rattle.desk_book.specs.declared.rows.BookRow.{BookRow}
+use Rattle.desk_parts.specs.declared.rows.BookRow.{BookRow}
 use Rattle.desk_command.specs.declared.style.Style.{Style}
 use Rattle.desk_command.specs.declared.style.Style.TheVariants.{Body, Heading}
 use Rattle.desk_book.specs.Book.{Entry, Corrects, Undoes, Paragraph, Mark, Book}
-use Rattle.desk_book.specs.FileRows.{FileRows, entries_in, format_of, spelled_entry, spelled_mark, spelled_para, spelled_tab}
-use Rattle.desk_book.specs.Rows.{Tab, Para, NamedCorr, Mark as MarkRow}
+use Rattle.desk_parts.specs.FileRows.{FileRows, entries_in, format_of, spelled_entry, spelled_mark, spelled_para, spelled_tab}
+use Rattle.desk_parts.specs.Rows.{Tab, Para, NamedCorr, Mark as MarkRow}
 use Rattle.desk_book.specs.Shows.{Shows, book_row_of, entry_row_of, entry_rows_of, flag_number, mark_row_of, para_of, paras_of, style_number, tab_of}
 use Rattle.desk_book.proofs.Members.{Contains-behind, Contains-cases, Contains-here, Contains-none}
 use Rattle.desk_book.proofs.ParagraphLists.{AreApart, found-own}

@@ -11,12 +11,12 @@ use Rattle.std.proofs.lemmas.List.Sorted.{All-permutation, Contains-permutation,
 use Rattle.std.proofs.lemmas.Option.{slice_get-get_or, slice_get_cases, slice_get_within}
 use Rattle.desk_book.specs.declared.paragraphs.Paragraph.{Paragraph as KeptParagraph}
 use Rattle.desk_book.specs.Damage.{IsDamagedPara, IsNumber, IsSoundParaRow, IsWithin}
-use Rattle.desk_book.specs.FileRows.{HasParaTexts}
+use Rattle.desk_parts.specs.FileRows.{HasParaTexts}
 use Rattle.desk_book.specs.Judged.{AreInPlaces, AreOf, AreTables, HasKept, IsFirstId, IsWhole}
 use Rattle.desk_book.specs.JudgedParas.{AreInOrder, AreKeptOf, AreSoundUpTo, IsFirstUnsound, IsNext}
 use Rattle.desk_book.specs.Kept.{KeptTables}
 use Rattle.desk_book.specs.Limits.{most_paragraphs}
-use Rattle.desk_book.specs.Rows.{Para, Tab}
+use Rattle.desk_parts.specs.Rows.{Para, Tab}
 use Rattle.desk_book.proofs.KeptBooks.{Contains-there, drop-there}
 use Rattle.desk_book.proofs.Members.{Contains-behind, Contains-here}
 use Rattle.desk_book.proofs.NumberedRows.{AreOnce, AreUpTo, in_order, once-one, pigeonholes}

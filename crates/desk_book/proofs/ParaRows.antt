@@ -19,12 +19,12 @@ use Rattle.louis_translate.specs.Position.{AreDefined}
 use Rattle.desk_book.specs.declared.paragraphs.Paragraph.{Paragraph as KeptParagraph}
 use Rattle.desk_book.specs.declared.tables.BookTable.{BookTable}
 use Rattle.desk_book.specs.Damage.{IsItsTable, IsNumber, IsSoundParaRow, IsWithin}
-use Rattle.desk_book.specs.FileRows.{HasParaTexts, HasTabText, spelled_tab}
+use Rattle.desk_parts.specs.FileRows.{HasParaTexts, HasTabText, spelled_tab}
 use Rattle.desk_book.specs.Judged.{AreTables}
 use Rattle.desk_book.specs.JudgedParas.{AreInOrder, AreKeptOf, IsFirstUnsound, IsFree, IsKeptOf, IsNext, IsParaOn, IsPlaced, IsSoundAt}
 use Rattle.desk_book.specs.Kept.{KeptTables}
 use Rattle.desk_book.specs.Limits.{most_paragraphs}
-use Rattle.desk_book.specs.Rows.{Para, Tab}
+use Rattle.desk_parts.specs.Rows.{Para, Tab}
 use Rattle.desk_book.specs.Shows.{tab_of}
 use Rattle.desk_book.proofs.KeptBooks.{drop-there, lookup-map}
 use Rattle.desk_book.proofs.Members.{Contains-map}

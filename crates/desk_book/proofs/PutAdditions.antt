@@ -11,10 +11,10 @@ use Rattle.std.proofs.lemmas.List.Sorted.{IsPermutation-cons, IsPermutation-refl
 use Rattle.desk_book.specs.declared.marks.KeptMark.{KeptMark}
 use Rattle.desk_book.specs.Book.{Book, Mark}
 use Rattle.desk_book.specs.ChangePuts.{LeadTo, kept_mark_row, row_number}
-use Rattle.desk_book.specs.FileRows.{HasMarkText, format_of, spelled_mark}
+use Rattle.desk_parts.specs.FileRows.{HasMarkText, format_of, spelled_mark}
 use Rattle.desk_book.specs.Kept.{mark_kept}
-use Rattle.desk_book.specs.Puts.{PutMark, SetVersion, put_in}
-use Rattle.desk_book.specs.Rows.{Mark as MarkRow}
+use Rattle.desk_parts.specs.Puts.{PutMark, SetVersion, put_in}
+use Rattle.desk_parts.specs.Rows.{Mark as MarkRow}
 use Rattle.desk_book.specs.Shows.{flag_number, mark_row_of}
 use Rattle.desk_book.specs.Sound.{IsSound, IsSoundMark}
 use Rattle.desk_book.specs.Step.{next_mark, next_with_marks}

@@ -11,9 +11,9 @@ use Rattle.std.proofs.lemmas.List.Sorted.{IsPermutation-map, IsPermutation-sym}
 use Rattle.desk_book.specs.Book.{Book, Paragraph, paragraph_of}
 use Rattle.desk_book.specs.ChangePuts.{LeadTo, cache_put, row_number}
 use Rattle.desk_book.specs.Changes.{AreCellsByTable}
-use Rattle.desk_book.specs.FileRows.{HasParaTexts, format_of, spelled_para}
-use Rattle.desk_book.specs.Puts.{PutCache, SetTable, SetVersion, put_in}
-use Rattle.desk_book.specs.Rows.{Cached, Para}
+use Rattle.desk_parts.specs.FileRows.{HasParaTexts, format_of, spelled_para}
+use Rattle.desk_parts.specs.Puts.{PutCache, SetTable, SetVersion, put_in}
+use Rattle.desk_parts.specs.Rows.{Cached, Para}
 use Rattle.desk_book.specs.Shows.{AreCached, IsCached, paras_of}
 use Rattle.desk_book.specs.Sound.{IsSound}
 use Rattle.desk_command.specs.Characters.{AreCharacters}

@@ -14,9 +14,9 @@ use Rattle.std.proofs.lemmas.List.Sorted.{IsPermutation-refl}
 use Rattle.desk_command.specs.declared.style.Style.{Style}
 use Rattle.desk_book.specs.Book.{Book, Mark, Paragraph}
 use Rattle.desk_book.specs.ChangePuts.{LeadTo, row_number}
-use Rattle.desk_book.specs.FileRows.{HasParaTexts, HasMarkText, format_of, spelled_mark, spelled_para}
-use Rattle.desk_book.specs.Puts.{SetFlags, SetResolved, SetVersion}
-use Rattle.desk_book.specs.Rows.{Cached, Mark as MarkRow, Para}
+use Rattle.desk_parts.specs.FileRows.{HasParaTexts, HasMarkText, format_of, spelled_mark, spelled_para}
+use Rattle.desk_parts.specs.Puts.{SetFlags, SetResolved, SetVersion}
+use Rattle.desk_parts.specs.Rows.{Cached, Mark as MarkRow, Para}
 use Rattle.desk_book.specs.Shows.{IsCached, entry_rows_of, flag_number, mark_row_of, para_of, paras_of, style_number}
 use Rattle.desk_book.specs.Sound.{IsSound}
 use Rattle.desk_book.specs.Step.{next_with_marks, next_with_paragraphs, resolved_by, with_change, with_resolved}

@@ -14,9 +14,9 @@ use Rattle.std.proofs.lemmas.Map.Keys.{IsDistinct-head, IsDistinct-tail}
 use Rattle.std.proofs.lemmas.Simd.{map-map}
 use Rattle.desk_book.specs.Book.{Book, Paragraph}
 use Rattle.desk_book.specs.ChangePuts.{LeadTo, elsewhere_from, elsewhere_put, row_number, stays_in}
-use Rattle.desk_book.specs.FileRows.{FileRows, HasParaTexts, format_of, spelled_para}
-use Rattle.desk_book.specs.Puts.{RowPut, SetPlace, SetVersion, with_put, with_puts}
-use Rattle.desk_book.specs.Rows.{Cached, Para}
+use Rattle.desk_parts.specs.FileRows.{FileRows, HasParaTexts, format_of, spelled_para}
+use Rattle.desk_parts.specs.Puts.{RowPut, SetPlace, SetVersion, with_put, with_puts}
+use Rattle.desk_parts.specs.Rows.{Cached, Para}
 use Rattle.desk_book.specs.Shows.{IsCached, Shows, entry_rows_of, para_of, paras_of}
 use Rattle.desk_book.specs.Sound.{IsSound}
 use Rattle.desk_book.specs.Step.{next_with_paragraphs}

@@ -20,12 +20,12 @@ use Rattle.desk_book.specs.declared.paragraphs.Paragraph.{Paragraph as KeptParag
 use Rattle.desk_book.specs.Book.{Book, Paragraph, text_of}
 use Rattle.desk_book.specs.ChangePuts.{LeadTo, cache_put, further_from, kept_row, row_number}
 use Rattle.desk_book.specs.Changes.{AreCellsOf}
-use Rattle.desk_book.specs.FileRows.{FileRows, HasParaTexts, format_of, spelled_para}
+use Rattle.desk_parts.specs.FileRows.{FileRows, HasParaTexts, format_of, spelled_para}
 use Rattle.desk_book.specs.Histories.{entries_kept}
 use Rattle.desk_book.specs.Kept.{paragraph_kept}
 use Rattle.desk_book.specs.Print.{corrected, print_of}
-use Rattle.desk_book.specs.Puts.{PutCache, PutPara, RowPut, SetVersion, put_in, with_put, with_puts}
-use Rattle.desk_book.specs.Rows.{Cached, NamedCorr, Para}
+use Rattle.desk_parts.specs.Puts.{PutCache, PutPara, RowPut, SetVersion, put_in, with_put, with_puts}
+use Rattle.desk_parts.specs.Rows.{Cached, NamedCorr, Para}
 use Rattle.desk_book.specs.Shows.{AreCached, IsCached, Shows, entry_row_of, entry_rows_of, flag_number, para_of, paras_of, style_number}
 use Rattle.desk_book.specs.Sound.{IsSound, IsSoundParagraph}
 use Rattle.desk_book.specs.Step.{next_id, next_with_paragraphs}

@@ -8,9 +8,9 @@ use Rattle.std.proofs.lemmas.List.{map-id}
 use Rattle.std.proofs.lemmas.List.Elements.{All-cons, All-contains_itself, All-head, All-nil, All-tail, All-weaker}
 use Rattle.std.proofs.lemmas.Simd.{map-map}
 use Rattle.desk_book.specs.Book.{Paragraph}
-use Rattle.desk_book.specs.FileRows.{FileRows, HasParaTexts, spelled_para}
-use Rattle.desk_book.specs.Puts.{RowPut, SetPlace, with_puts}
-use Rattle.desk_book.specs.Rows.{Para}
+use Rattle.desk_parts.specs.FileRows.{FileRows, HasParaTexts, spelled_para}
+use Rattle.desk_parts.specs.Puts.{RowPut, SetPlace, with_puts}
+use Rattle.desk_parts.specs.Rows.{Para}
 use Rattle.desk_book.specs.Shows.{para_of}
 use Rattle.desk_book.proofs.ParagraphLists.{AreApart, AreApart-first, AreApart-rest, ids_of}
 

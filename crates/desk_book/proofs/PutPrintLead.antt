@@ -15,17 +15,17 @@ use Rattle.std.proofs.lemmas.Simd.{map-map}
 use Rattle.louis_translate.specs.Braille.{braille}
 use Rattle.louis_translate.specs.Tiling.{Tiles}
 use Rattle.desk_book.specs.declared.change.PrintChange.{PrintChange}
-use Rattle.desk_book.specs.declared.parts.FileTable.TheVariants.{NamedCorr as NamedCorrTable}
+use Rattle.desk_parts.specs.declared.file_table.FileTable.TheVariants.{NamedCorr as NamedCorrTable}
 use Rattle.desk_book.specs.Book.{Book, Entry, Mark, Paragraph, paragraph_of}
 use Rattle.desk_book.specs.ChangePuts.{LeadTo, cache_put, entry_row, row_number, span_put}
 use Rattle.desk_book.specs.Changes.{ChangesPrint}
-use Rattle.desk_book.specs.FileRows.{EntryRows, FileRows, HasEntryTexts, HasMarkText, HasParaTexts, Named, Unnamed, entries_in, format_of, spelled_entry, spelled_mark, spelled_para, table_of}
+use Rattle.desk_parts.specs.FileRows.{EntryRows, FileRows, HasEntryTexts, HasMarkText, HasParaTexts, Named, Unnamed, entries_in, format_of, spelled_entry, spelled_mark, spelled_para, table_of}
 use Rattle.desk_book.specs.Histories.{entry_kept}
 use Rattle.desk_book.specs.Marks.{mark_moved_by}
 use Rattle.desk_book.specs.ParagraphMarks.{marks_on}
 use Rattle.desk_book.specs.Print.{corrected, print_of, with_entry}
-use Rattle.desk_book.specs.Puts.{HasItsTable, PutCache, PutEntry, RowPut, SetPrint, SetVersion, put_in, with_entry_row, with_put, with_puts}
-use Rattle.desk_book.specs.Rows.{Cached, Mark as MarkRow, NamedCorr, Para}
+use Rattle.desk_parts.specs.Puts.{HasItsTable, PutCache, PutEntry, RowPut, SetPrint, SetVersion, put_in, with_entry_row, with_put, with_puts}
+use Rattle.desk_parts.specs.Rows.{Cached, Mark as MarkRow, NamedCorr, Para}
 use Rattle.desk_book.specs.Shows.{AreCached, IsCached, Shows, book_row_of, entry_row_of, entry_rows_of, flag_number, mark_row_of, para_of, paras_of}
 use Rattle.desk_book.specs.Sound.{IsSound, IsSoundEntry, IsSoundMark, IsSoundParagraph}
 use Rattle.desk_book.specs.Step.{moved_on, next_with_entry}

@@ -14,12 +14,12 @@ use Rattle.desk_book.specs.declared.history.KeptEntry.{KeptEntry}
 use Rattle.desk_book.specs.declared.history.KeptEntry.TheVariants.{Corrects as KeptCorrects, Undoes as KeptUndoes}
 use Rattle.desk_book.specs.Book.{Entry, Mark, Paragraph, Replacement}
 use Rattle.desk_book.specs.ChangePuts.{entry_row, row_number, span_put}
-use Rattle.desk_book.specs.FileRows.{FileRows, HasEntryTexts, HasMarkText, spelled_entry, spelled_mark}
+use Rattle.desk_parts.specs.FileRows.{FileRows, HasEntryTexts, HasMarkText, spelled_entry, spelled_mark}
 use Rattle.desk_book.specs.Histories.{entry_kept}
 use Rattle.desk_book.specs.Marks.{mark_moved_by}
 use Rattle.desk_book.specs.Print.{corrected, newest, with_entry}
-use Rattle.desk_book.specs.Puts.{with_puts}
-use Rattle.desk_book.specs.Rows.{Mark as MarkRow, NamedCorr}
+use Rattle.desk_parts.specs.Puts.{with_puts}
+use Rattle.desk_parts.specs.Rows.{Mark as MarkRow, NamedCorr}
 use Rattle.desk_book.specs.Shows.{entry_row_of, entry_rows_of, flag_number, mark_row_of}
 use Rattle.desk_book.specs.Sound.{IsSoundEntry}
 use Rattle.desk_book.specs.Step.{with_change, without_paragraph}

@@ -13,11 +13,11 @@ use Rattle.louis_table.specs.Table.{Means}
 use Rattle.desk_book.specs.Book.{Book, Paragraph, paragraph_of}
 use Rattle.desk_book.specs.ChangePuts.{LeadTo, cells_from, cells_put, row_number}
 use Rattle.desk_book.specs.Changes.{AreCellsOf, AreRenewed}
-use Rattle.desk_book.specs.FileRows.{FileRows, format_of}
+use Rattle.desk_parts.specs.FileRows.{FileRows, format_of}
 use Rattle.desk_book.specs.Kept.{new_cells}
 use Rattle.desk_book.specs.Print.{print_of}
-use Rattle.desk_book.specs.Puts.{PutTab, SetVersion, put_in, with_puts}
-use Rattle.desk_book.specs.Rows.{Cached}
+use Rattle.desk_parts.specs.Puts.{PutTab, SetVersion, put_in, with_puts}
+use Rattle.desk_parts.specs.Rows.{Cached}
 use Rattle.desk_book.specs.Shows.{AreCached, IsCached, Shows}
 use Rattle.desk_book.specs.Sound.{IsSound}
 use Rattle.desk_book.specs.Step.{next_with_tables}

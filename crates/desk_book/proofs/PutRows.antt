@@ -9,13 +9,13 @@ use Rattle.std.proofs.lemmas.List.Elements.{All-cons, All-head, All-map, All-nil
 use Rattle.std.proofs.lemmas.List.Sorted.{IsPermutation-cons, IsPermutation-map, IsPermutation-trans}
 use Rattle.louis_translate.specs.Braille.{braille}
 use Rattle.louis_translate.specs.Tiling.{Tiles}
-use Rattle.desk_book.specs.declared.rows.BookRow.{BookRow}
+use Rattle.desk_parts.specs.declared.rows.BookRow.{BookRow}
 use Rattle.desk_book.specs.Book.{Book, Paragraph, text_of}
 use Rattle.desk_book.specs.ChangePuts.{row_number}
 use Rattle.desk_book.specs.Limits.{most_version}
 use Rattle.desk_book.specs.Print.{print_of}
-use Rattle.desk_book.specs.Puts.{put_in, set_where}
-use Rattle.desk_book.specs.Rows.{Cached}
+use Rattle.desk_parts.specs.Puts.{put_in, set_where}
+use Rattle.desk_parts.specs.Rows.{Cached}
 use Rattle.desk_book.specs.Shows.{AreCached, IsCached, book_row_of}
 use Rattle.desk_book.specs.Translated.{IsBraille}
 use Rattle.desk_book.proofs.Permutations.{IsPermutation-filter}

@@ -16,9 +16,9 @@ use Rattle.std.proofs.lemmas.List.Sorted.{IsPermutation-cons, IsPermutation-map,
 use Rattle.std.proofs.lemmas.Slice.Eq.{bytes_eq-Decides}
 use Rattle.desk_book.specs.Book.{Book, text_of}
 use Rattle.desk_book.specs.ChangePuts.{LeadTo, row_number}
-use Rattle.desk_book.specs.FileRows.{HasTabText, format_of, spelled_tab}
-use Rattle.desk_book.specs.Puts.{PutTab, SetVersion, put_in}
-use Rattle.desk_book.specs.Rows.{Cached, Tab}
+use Rattle.desk_parts.specs.FileRows.{HasTabText, format_of, spelled_tab}
+use Rattle.desk_parts.specs.Puts.{PutTab, SetVersion, put_in}
+use Rattle.desk_parts.specs.Rows.{Cached, Tab}
 use Rattle.desk_book.specs.Shows.{IsCached, tab_of}
 use Rattle.desk_book.specs.Sound.{IsSound}
 use Rattle.desk_book.specs.Step.{next_with_tables}

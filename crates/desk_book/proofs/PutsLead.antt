@@ -15,7 +15,7 @@ use Rattle.desk_book.specs.Histories.{entries_kept, entry_kept}
 use Rattle.desk_book.specs.Kept.{paragraph_kept}
 use Rattle.desk_book.specs.Marks.{mark_moved_by}
 use Rattle.desk_book.specs.ParagraphMarks.{marks_on}
-use Rattle.desk_book.specs.Puts.{PutEntry, SetPrint, SetVersion}
+use Rattle.desk_parts.specs.Puts.{PutEntry, SetPrint, SetVersion}
 use Rattle.desk_book.specs.Refusals.{IsAccepted, paragraph_before}
 use Rattle.desk_book.specs.Sound.{IsSound}
 use Rattle.desk_book.specs.Step.{Makes, next_id, next_with_entry, next_with_paragraphs, next_with_tables, typed, with_change, with_move, with_paragraph}

@@ -19,7 +19,7 @@ use Rattle.desk_book.specs.Histories.{IsNewestInForce, TookFrom, entries_kept, e
 use Rattle.desk_book.specs.JudgedHistory.{IsCorrecting, IsNext, LeavePrint}
 use Rattle.desk_book.specs.Name.{IsProofreaderName}
 use Rattle.desk_book.specs.Print.{corrected, replaced}
-use Rattle.desk_book.specs.Rows.{NamedCorr}
+use Rattle.desk_parts.specs.Rows.{NamedCorr}
 use Rattle.desk_book.specs.Sound.{AreSoundEntries, IsSoundEntry}
 use Rattle.desk_book.specs.Stored.{IsUnbarred, is_barred}
 use Rattle.desk_book.proofs.EntryPlanned.{TookFrom-correction, entry-correction}

@@ -11,7 +11,7 @@ use Rattle.desk_book.specs.JudgedEntries.{HaveRead, IsUnread}
 use Rattle.desk_book.specs.JudgedHistory.{AreSoundRows, CanBeRead, HasRead}
 use Rattle.desk_book.specs.Damage.{history_of}
 use Rattle.desk_book.specs.Print.{corrected}
-use Rattle.desk_book.specs.Rows.{NamedCorr}
+use Rattle.desk_parts.specs.Rows.{NamedCorr}
 use Rattle.desk_book.proofs.Arranging.{slice_get-set_other, slice_get-set_same}
 use Rattle.desk_book.proofs.JudgedEntries.{kept-at}
 use Rattle.desk_book.proofs.HistoryLists.{slice_get-below}

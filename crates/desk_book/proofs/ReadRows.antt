@@ -12,7 +12,7 @@ use Rattle.desk_book.specs.Histories.{HaveTaken, entries_kept, entry_kept}
 use Rattle.desk_book.specs.JudgedHistory.{AreSoundRows, IsFit, IsNext, IsRead, IsSoundNext}
 use Rattle.desk_book.specs.Limits.{most_entries, most_print}
 use Rattle.desk_book.specs.Print.{corrected}
-use Rattle.desk_book.specs.Rows.{NamedCorr}
+use Rattle.desk_parts.specs.Rows.{NamedCorr}
 use Rattle.desk_book.specs.Sound.{AreSoundEntries}
 use Rattle.desk_book.proofs.HistoryLists.{slice_get-below, take-more}
 use Rattle.desk_book.proofs.Settled.{HaveTaken-push}

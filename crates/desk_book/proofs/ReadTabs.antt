@@ -21,16 +21,16 @@ use Rattle.std.proofs.lemmas.Option.{same_Some, slice_get_within}
 use Rattle.std.proofs.lemmas.Str.{encodes-chars}
 use Rattle.std.proofs.lemmas.Map.Views.{Contains-from_lookup}
 use Rattle.louis_table.specs.Table.{Means}
-use Rattle.desk_book.specs.declared.parts.RowsFault.{RowsFault}
-use Rattle.desk_book.specs.declared.parts.RowsFault.TheVariants.{Damaged, NoMemory}
+use Rattle.desk_book.specs.declared.damage.RowsFault.{RowsFault}
+use Rattle.desk_book.specs.declared.damage.RowsFault.TheVariants.{Damaged, NoMemory}
 use Rattle.desk_book.specs.declared.tables.BookTable.{BookTable}
 use Rattle.desk_book.specs.Damage.{AreInOrder, IsDamagedTab, IsSoundTabRow}
-use Rattle.desk_book.specs.FileRows.{HasTabText, spelled_tab}
+use Rattle.desk_parts.specs.FileRows.{HasTabText, spelled_tab}
 use Rattle.desk_book.specs.Judged.{AreTables, IsWhole, TellsDamage}
 use Rattle.desk_book.specs.JudgedTabs.{AreRead, MayCome, TellsFirstUnsound, TellsNoMeaning, TellsUnsoundTab, rows_of, tab_order}
 use Rattle.desk_book.specs.Kept.{KeptTables, with_table}
 use Rattle.desk_book.specs.Limits.{most_tables}
-use Rattle.desk_book.specs.Rows.{StoredTab, Tab}
+use Rattle.desk_parts.specs.Rows.{StoredTab, Tab}
 use Rattle.desk_book.specs.Shows.{tab_of}
 use Rattle.desk_book.proofs.KeptBooks.{Contains-there}
 use Rattle.desk_book.proofs.Members.{Contains-behind, Contains-cases, Contains-here, Contains-map, Contains-none}

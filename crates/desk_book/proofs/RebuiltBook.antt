@@ -5,19 +5,20 @@ use Rattle.std.proofs.lemmas.List.Elements.{All-contains}
 use Rattle.std.proofs.lemmas.Option.{slice_get-get_or}
 use Rattle.desk_book.specs.declared.marks.KeptMark.{KeptMark}
 use Rattle.desk_book.specs.declared.paragraphs.Paragraph.{Paragraph as KeptParagraph}
-use Rattle.desk_book.specs.declared.parts.FileTable.{FileTable}
-use Rattle.desk_book.specs.declared.parts.FileTable.TheVariants.{Book, Tab, Para, Mark, Cache}
-use Rattle.desk_book.specs.declared.parts.Parts.{Parts}
-use Rattle.desk_book.specs.declared.parts.PartsFault.{PartsFault}
-use Rattle.desk_book.specs.declared.rows.BookRow.{BookRow}
+use Rattle.desk_parts.specs.declared.file_table.FileTable.{FileTable}
+use Rattle.desk_parts.specs.declared.file_table.FileTable.TheVariants.{Book, Tab, Para, Mark, Cache}
+use Rattle.desk_parts.specs.declared.parts.Parts.{Parts}
+use Rattle.desk_book.specs.declared.damage.PartsFault.{PartsFault}
+use Rattle.desk_parts.specs.declared.rows.BookRow.{BookRow}
 use Rattle.desk_book.specs.Damage.{HasItsTables, IsDamaged, IsDamagedEntries, IsDamagedMark, IsDamagedPara, IsDamagedTab, IsWithin}
-use Rattle.desk_book.specs.FileRows.{AreTexts, EntryRows, FileRows, HasEntryTexts, HasMarkText, Named, Unnamed, entries_in, format_of, table_of}
+use Rattle.desk_parts.specs.FileRows.{AreTexts, EntryRows, FileRows, HasEntryTexts, HasMarkText, Named, Unnamed, entries_in, format_of, table_of}
 use Rattle.desk_book.specs.Joined.{IsDamagedBraille, TellsDamageOf}
 use Rattle.desk_book.specs.Judged.{AreInPlaces, AreMarksOf, AreOf, AreTables, HasCells, HasHistory, HaveMarks, IsWhole, without_cells, without_history, without_marks}
 use Rattle.desk_book.specs.Kept.{IsKept, KeptTables, book_kept, numbered}
 use Rattle.desk_book.specs.Limits.{most_version}
-use Rattle.desk_book.specs.Rebuilt.{IsFaultOf, rows_in}
-use Rattle.desk_book.specs.Rows.{Para as ParaRow}
+use Rattle.desk_book.specs.Rebuilt.{IsFaultOf}
+use Rattle.desk_parts.specs.Parts.{rows_in}
+use Rattle.desk_parts.specs.Rows.{Para as ParaRow}
 use Rattle.desk_book.specs.Shows.{Shows}
 use Rattle.desk_book.proofs.FirstTables.{before-cache, before-entries, before-mark, before-para, before-tab, entries-damaged, first-fault, no-damage}
 use Rattle.desk_book.proofs.JoinedBook.{is_kept, shown}

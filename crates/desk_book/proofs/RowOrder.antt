@@ -10,7 +10,7 @@ use Rattle.std.proofs.lemmas.Option.{get_or_from_slice_get}
 use Rattle.desk_book.specs.Damage.{history_of, rows_with}
 use Rattle.desk_book.specs.JudgedHistory.{AreSoundRows, CanBeRead}
 use Rattle.desk_book.specs.Print.{corrected}
-use Rattle.desk_book.specs.Rows.{NamedCorr}
+use Rattle.desk_parts.specs.Rows.{NamedCorr}
 use Rattle.desk_book.proofs.HistoryLists.{slice_get-below}
 use Rattle.desk_book.proofs.Members.{Contains-behind, Contains-cases, Contains-here, Contains-map, Contains-none}
 use Rattle.desk_book.proofs.NumberedRows.{AreOnce, once-keys, once-rest}

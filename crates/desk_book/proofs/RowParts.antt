@@ -10,10 +10,10 @@ use Rattle.std.proofs.lemmas.List.Elements.{All-contains}
 use Rattle.std.proofs.lemmas.Str.{chars-nil, scalars-chars}
 use Rattle.desk_book.specs.Book.{Entry, Corrects, Undoes}
 use Rattle.desk_book.specs.Damage.{IsFlag, IsSoundCorrection, IsSoundEntryRow, IsSoundUndo, entry_of, history_of}
-use Rattle.desk_book.specs.FileRows.{HasEntryTexts, spelled_entry}
+use Rattle.desk_parts.specs.FileRows.{HasEntryTexts, spelled_entry}
 use Rattle.desk_book.specs.Limits.{most_entries, most_print}
 use Rattle.desk_book.specs.Print.{corrected}
-use Rattle.desk_book.specs.Rows.{NamedCorr}
+use Rattle.desk_parts.specs.Rows.{NamedCorr}
 use Rattle.desk_book.specs.Shows.{entry_row_of, flag_number, style_number}
 use Rattle.desk_book.specs.Sound.{IsSoundEntry, IsSoundHistory}
 use Rattle.desk_command.specs.Characters.{AreCharacters}

@@ -4,11 +4,11 @@ use Rattle.std.specs.List.Sorted.{IsPermutation}
 use Rattle.std.specs.Ordering.{int_eq}
 use Rattle.std.proofs.lemmas.List.Sorted.{Contains-permutation, IsPermutation-sym, IsPermutation-trans, length_permutation}
 use Rattle.louis_table.specs.Meaning.{Meaning}
-use Rattle.desk_book.specs.declared.parts.FileTable.{FileTable}
-use Rattle.desk_book.specs.declared.parts.FileTable.TheVariants.{Book, Tab, Para, Corr, Mark, Cache, NamedCorr}
+use Rattle.desk_parts.specs.declared.file_table.FileTable.{FileTable}
+use Rattle.desk_parts.specs.declared.file_table.FileTable.TheVariants.{Book, Tab, Para, Corr, Mark, Cache, NamedCorr}
 use Rattle.desk_book.specs.Damage.{HasPara, HasSoundEntries, IsDamaged, IsDamagedBook, IsDamagedCache, IsDamagedEntries, IsDamagedMark, IsDamagedPara, IsDamagedTab, IsFirstDamage, IsItsTable, IsNumber, IsSoundCacheRow, IsSoundMarkRow, IsSoundParaRow, IsWithin, rows_with}
-use Rattle.desk_book.specs.FileRows.{FileRows, entries_in}
-use Rattle.desk_book.specs.Rows.{Cached as CacheRow, Mark as MarkRow, NamedCorr as EntryRow, Para as ParaRow, Tab as TabRow}
+use Rattle.desk_parts.specs.FileRows.{FileRows, entries_in}
+use Rattle.desk_parts.specs.Rows.{Cached as CacheRow, Mark as MarkRow, NamedCorr as EntryRow, Para as ParaRow, Tab as TabRow}
 use Rattle.desk_book.specs.SameRows.{AreSameCaches, AreSameRows}
 use Rattle.desk_book.proofs.Permutations.{IsPermutation-filter}
 use Rattle.desk_book.proofs.SameRows.{entries_in-moved, table_of-moved, turned}

@@ -5,9 +5,9 @@ use Rattle.std.specs.List.Sorted.{IsPermutation}
 use Rattle.std.specs.Option.{ForSome}
 use Rattle.std.proofs.lemmas.List.Sorted.{All-permutation, IsPermutation-map, IsPermutation-sym, IsPermutation-trans}
 use Rattle.desk_book.specs.Book.{Book, Paragraph}
-use Rattle.desk_book.specs.FileRows.{AreTexts, EntryRows, FileRows, HasEntryTexts, HasMarkText, HasParaTexts, HasTabText, Named, Unnamed, entries_in, format_of, spelled_entry, spelled_mark, spelled_para, spelled_tab, table_of, unnamed}
+use Rattle.desk_parts.specs.FileRows.{AreTexts, EntryRows, FileRows, HasEntryTexts, HasMarkText, HasParaTexts, HasTabText, Named, Unnamed, entries_in, format_of, spelled_entry, spelled_mark, spelled_para, spelled_tab, table_of, unnamed}
 use Rattle.desk_book.specs.FilledRows.{AreEntriesOf}
-use Rattle.desk_book.specs.Rows.{Cached, NamedCorr}
+use Rattle.desk_parts.specs.Rows.{Cached, NamedCorr}
 use Rattle.desk_book.specs.SameRows.{AreSameCaches, AreSameEntries, AreSameRows}
 use Rattle.desk_book.specs.Shows.{AreCached, IsCached, Shows, book_row_of, entry_rows_of}
 use Rattle.desk_book.proofs.Planning.{same_some}

@@ -10,7 +10,7 @@ use Rattle.std.proofs.lemmas.Bool.{cases_Bool}
 use Rattle.std.proofs.lemmas.Cmp.{nat_list_cmp_total}
 use Rattle.std.proofs.lemmas.List.Sorted.{IsPermutation-cons, IsPermutation-refl, IsPermutation-trans}
 use Rattle.desk_book.specs.Damage.{AreInOrder}
-use Rattle.desk_book.specs.Rows.{Tab}
+use Rattle.desk_parts.specs.Rows.{Tab}
 use Rattle.desk_book.proofs.Permutations.{IsPermutation-turn}
 use Rattle.desk_book.proofs.TableEntries.{same_name}
 

@@ -17,15 +17,15 @@ use Rattle.louis_table.specs.Meaning.{Meaning}
 use Rattle.louis_translate.specs.declared.choices.Choice.{Choice}
 use Rattle.louis_translate.specs.Braille.{braille}
 use Rattle.louis_translate.specs.Tiling.{Tiles}
-use Rattle.desk_book.specs.declared.parts.FileTable.{FileTable}
-use Rattle.desk_book.specs.declared.parts.FileTable.TheVariants as file
+use Rattle.desk_parts.specs.declared.file_table.FileTable.{FileTable}
+use Rattle.desk_parts.specs.declared.file_table.FileTable.TheVariants as file
 use Rattle.desk_book.specs.Book.{Entry, Corrects, Undoes, Book, Paragraph}
 use Rattle.desk_book.specs.Damage.{HasPara, HasSoundEntries, IsDamaged, IsDamagedCache, IsDamagedEntries, IsSoundCacheRow, IsSoundCorrection, IsSoundEntryRow, IsSoundUndo, entry_of, history_of, rows_with}
-use Rattle.desk_book.specs.FileRows.{FileRows, HasEntryTexts, entries_in, spelled_entry, spelled_para}
+use Rattle.desk_parts.specs.FileRows.{FileRows, HasEntryTexts, entries_in, spelled_entry, spelled_para}
 use Rattle.desk_book.specs.Limits.{most_print}
 use Rattle.desk_book.specs.Name.{IsProofreaderName}
 use Rattle.desk_book.specs.Print.{corrected}
-use Rattle.desk_book.specs.Rows.{Cached, NamedCorr, Para}
+use Rattle.desk_parts.specs.Rows.{Cached, NamedCorr, Para}
 use Rattle.desk_book.specs.Shows.{AreCached, IsCached, Shows, entry_row_of, entry_rows_of, para_of}
 use Rattle.desk_book.specs.Sound.{IsSoundEntry, IsSoundHistory}
 use Rattle.desk_book.specs.Stored.{IsUnbarred}

@@ -13,10 +13,10 @@ use Rattle.louis_table.specs.Table.{Means}
 use Rattle.louis_translate.specs.Position.{AreDefined}
 use Rattle.desk_book.specs.Book.{Entry, Corrects, Undoes, Book, Paragraph, Mark, text_of}
 use Rattle.desk_book.specs.Damage.{IsDamagedMark, IsDamagedPara, IsItsTable, IsPrintText, IsSoundMarkRow, IsSoundParaRow, IsWithin}
-use Rattle.desk_book.specs.FileRows.{FileRows, HasParaTexts, HasTabText, spelled_mark, spelled_para}
+use Rattle.desk_parts.specs.FileRows.{FileRows, HasParaTexts, HasTabText, spelled_mark, spelled_para}
 use Rattle.desk_book.specs.Limits.{most_marks, most_note, most_paragraphs, most_print}
 use Rattle.desk_book.specs.Print.{corrected, print_of}
-use Rattle.desk_book.specs.Rows.{Para, Mark as MarkRow}
+use Rattle.desk_parts.specs.Rows.{Para, Mark as MarkRow}
 use Rattle.desk_book.specs.Shows.{Shows, mark_row_of, para_of, paras_of}
 use Rattle.desk_book.specs.Sound.{IsSoundEntry, IsSoundMark, IsSoundParagraph}
 use Rattle.desk_book.specs.Stored.{IsUnbarred, is_barred}

@@ -21,9 +21,9 @@ use Rattle.desk_command.specs.declared.style.Style.{Style}
 use Rattle.desk_command.specs.declared.style.Style.TheVariants.{Body, Heading}
 use Rattle.desk_book.specs.Book.{Book}
 use Rattle.desk_book.specs.Damage.{IsDamagedBook, IsDamagedTab, IsFlag, IsSoundTabRow}
-use Rattle.desk_book.specs.FileRows.{EntryRows, FileRows, Named, Unnamed, format_of, spelled_tab}
+use Rattle.desk_parts.specs.FileRows.{EntryRows, FileRows, Named, Unnamed, format_of, spelled_tab}
 use Rattle.desk_book.specs.Limits.{most_version}
-use Rattle.desk_book.specs.Rows.{Tab}
+use Rattle.desk_parts.specs.Rows.{Tab}
 use Rattle.desk_book.specs.Shows.{Shows, book_row_of, flag_number, style_number, tab_of}
 use Rattle.desk_book.specs.Sound.{IsSoundTable}
 use Rattle.desk_book.specs.Name.{IsTableName}

@@ -21,16 +21,16 @@ use Rattle.louis_translate.specs.Braille.{braille}
 use Rattle.louis_translate.specs.Position.{AreDefined}
 use Rattle.louis_translate.specs.Tiling.{Tiles}
 use Rattle.louis_table.specs.Meaning.{Meaning}
-use Rattle.desk_book.specs.declared.parts.FileTable.{FileTable}
-use Rattle.desk_book.specs.declared.parts.FileTable.TheVariants as file
-use Rattle.desk_book.specs.declared.rows.BookRow.{BookRow}
+use Rattle.desk_parts.specs.declared.file_table.FileTable.{FileTable}
+use Rattle.desk_parts.specs.declared.file_table.FileTable.TheVariants as file
+use Rattle.desk_parts.specs.declared.rows.BookRow.{BookRow}
 use Rattle.desk_book.specs.Book.{Book, Mark, Paragraph, paragraph_of, text_of}
 use Rattle.desk_book.specs.Damage.{HasItsTables, HasSoundEntries, IsDamaged, IsDamagedCache, IsDamagedEntries, IsItsTable, IsSoundBookRow, IsSoundCacheRow, IsSoundMarkRow, IsSoundParaRow, history_of}
-use Rattle.desk_book.specs.FileRows.{AreTexts, EntryRows, FileRows, HasEntryTexts, HasMarkText, HasParaTexts, HasTabText, Named, Unnamed, entries_in, format_of, spelled_entry, spelled_mark, spelled_para, spelled_tab, table_of}
+use Rattle.desk_parts.specs.FileRows.{AreTexts, EntryRows, FileRows, HasEntryTexts, HasMarkText, HasParaTexts, HasTabText, Named, Unnamed, entries_in, format_of, spelled_entry, spelled_mark, spelled_para, spelled_tab, table_of}
 use Rattle.desk_book.specs.Limits.{most_marks, most_paragraphs, most_version}
 use Rattle.desk_book.specs.Name.{IsTableName, is_name_character}
 use Rattle.desk_book.specs.Print.{corrected, print_of}
-use Rattle.desk_book.specs.Rows.{Cached, Mark as MarkRow, NamedCorr, Para, Tab}
+use Rattle.desk_parts.specs.Rows.{Cached, Mark as MarkRow, NamedCorr, Para, Tab}
 use Rattle.desk_book.specs.Shows.{AreCached, IsCached, Shows, book_row_of, entry_rows_of, mark_row_of, para_of, paras_of, tab_of}
 use Rattle.desk_book.specs.Sound.{IsSound, IsSoundMark, IsSoundParagraph, IsSoundTable}
 use Rattle.desk_book.proofs.BookRows.{name_low}

@@ -13,7 +13,7 @@ use Rattle.desk_book.specs.Book.{Entry, Replacement}
 use Rattle.desk_book.specs.Damage.{HasPara, HasSoundEntries, IsDamagedEntries, IsSoundCorrection, IsSoundEntryRow, IsSoundUndo, IsWithin, history_of, rows_with}
 use Rattle.desk_book.specs.Limits.{most_entries, most_print}
 use Rattle.desk_book.specs.Print.{corrected, newest}
-use Rattle.desk_book.specs.Rows.{NamedCorr, Para}
+use Rattle.desk_parts.specs.Rows.{NamedCorr, Para}
 use Rattle.desk_book.proofs.Accepted.{IsProofreaderName-stable}
 use Rattle.desk_book.proofs.Decisions.{at_most, below, given}
 use Rattle.desk_book.proofs.NumberedRows.{AreOnce, AreUpTo, in_order, once-keys, pigeonholes}

@@ -13,10 +13,10 @@ use Rattle.louis_table.proofs.OneMeaning.{means_or_bad, one_meaning, some_meanin
 use Rattle.louis_translate.specs.Braille.{braille}
 use Rattle.louis_translate.specs.Position.{AreDefined}
 use Rattle.louis_translate.proofs.Tilings.{one_tiling}
-use Rattle.desk_book.specs.declared.rows.BookRow.{BookRow}
+use Rattle.desk_parts.specs.declared.rows.BookRow.{BookRow}
 use Rattle.desk_book.specs.Damage.{IsDamagedBook, IsDamagedCache, IsDamagedMark, IsDamagedPara, IsDamagedTab, IsNumber, IsPrintText, IsSoundBookRow, IsSoundCacheRow, IsSoundMarkRow, IsSoundParaRow, IsSoundTabRow, rows_with}
 use Rattle.desk_book.specs.Limits.{most_marks, most_note, most_paragraphs, most_print, most_tables, most_version}
-use Rattle.desk_book.specs.Rows.{Cached, Mark, Para, Tab}
+use Rattle.desk_parts.specs.Rows.{Cached, Mark, Para, Tab}
 use Rattle.desk_book.proofs.Accepted.{IsTableName-stable}
 use Rattle.desk_book.proofs.Decisions.{Decided, at_most, below, both, either, implied}
 use Rattle.desk_book.proofs.FirstUndefined.{defined_or_first}

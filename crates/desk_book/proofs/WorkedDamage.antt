@@ -7,14 +7,14 @@ use Rattle.std.proofs.lemmas.Option.{slice_get_within}
 use Rattle.std.proofs.lemmas.Str.{chars-nil}
 use Rattle.louis_table.specs.Meaning.{Meaning}
 use Rattle.louis_table.specs.Table.{Means}
-use Rattle.desk_book.specs.declared.parts.FileTable.{FileTable}
-use Rattle.desk_book.specs.declared.parts.FileTable.TheVariants as file
-use Rattle.desk_book.specs.declared.rows.BookRow.{BookRow}
+use Rattle.desk_parts.specs.declared.file_table.FileTable.{FileTable}
+use Rattle.desk_parts.specs.declared.file_table.FileTable.TheVariants as file
+use Rattle.desk_parts.specs.declared.rows.BookRow.{BookRow}
 use Rattle.desk_book.specs.Damage.{IsDamaged, IsDamagedBook, IsDamagedCache, IsDamagedEntries, IsDamagedMark, IsDamagedPara, IsDamagedTab, IsFirstDamage, IsNumber, IsPrintText, IsSoundMarkRow, IsSoundParaRow, table_turn}
-use Rattle.desk_book.specs.FileRows.{FileRows, Named}
+use Rattle.desk_parts.specs.FileRows.{FileRows, Named}
 use Rattle.desk_book.specs.Limits.{most_marks, most_paragraphs, most_version}
 use Rattle.desk_book.specs.Name.{IsTableName}
-use Rattle.desk_book.specs.Rows.{Cached, Mark, NamedCorr, Para, Tab}
+use Rattle.desk_parts.specs.Rows.{Cached, Mark, NamedCorr, Para, Tab}
 use Rattle.desk_book.specs.Shows.{book_row_of}
 use Rattle.desk_book.specs.Stored.{IsUnbarred, is_barred}
 use Rattle.desk_book.proofs.Members.{Contains-behind, Contains-cases, Contains-here, Contains-none}

@@ -10,12 +10,12 @@ use Rattle.desk_book.specs.declared.marks.KeptMark.{KeptMark}
 use Rattle.desk_book.specs.declared.paragraphs.Paragraph.{Paragraph as KeptParagraph}
 use Rattle.desk_book.specs.declared.tables.BookTable.{BookTable}
 use Rattle.desk_book.specs.Book.{Book, Mark, paragraph_of}
-use Rattle.desk_book.specs.FileRows.{FileRows}
+use Rattle.desk_parts.specs.FileRows.{FileRows}
 use Rattle.desk_book.specs.Limits.{most_print}
 use Rattle.desk_book.specs.Marks.{mark_moved_by}
 use Rattle.desk_book.specs.ParagraphMarks.{marks_on}
-use Rattle.desk_book.specs.Puts.{HasTheirTables, PutCache, PutEntry, PutMark, PutPara, PutTab, RowPut, SetFlags, SetPlace, SetPrint, SetResolved, SetSpan, SetTable, with_puts}
-use Rattle.desk_book.specs.Rows.{Mark as MarkRow, NamedCorr, Para}
+use Rattle.desk_parts.specs.Puts.{HasTheirTables, PutCache, PutEntry, PutMark, PutPara, PutTab, RowPut, SetFlags, SetPlace, SetPrint, SetResolved, SetSpan, SetTable, with_puts}
+use Rattle.desk_parts.specs.Rows.{Mark as MarkRow, NamedCorr, Para}
 use Rattle.desk_book.specs.Shows.{Shows, flag_number, style_number}
 use Rattle.desk_book.specs.Step.{next_id, next_mark}
 

@@ -13,15 +13,15 @@ use Rattle.louis_translate.specs.declared.choices.Choice.{Choice}
 use Rattle.louis_translate.specs.Braille.{braille}
 use Rattle.louis_translate.specs.Position.{AreDefined}
 use Rattle.louis_translate.specs.Tiling.{Tiles}
-use Rattle.desk_book.specs.declared.parts.FileTable.{FileTable}
-use Rattle.desk_book.specs.declared.parts.FileTable.TheVariants.{Book, Tab, Para, Corr, Mark, Cache, NamedCorr}
-use Rattle.desk_book.specs.declared.rows.BookRow.{BookRow}
+use Rattle.desk_parts.specs.declared.file_table.FileTable.{FileTable}
+use Rattle.desk_parts.specs.declared.file_table.FileTable.TheVariants.{Book, Tab, Para, Corr, Mark, Cache, NamedCorr}
+use Rattle.desk_parts.specs.declared.rows.BookRow.{BookRow}
 use Rattle.desk_book.specs.Book.{Entry, Corrects, Undoes}
-use Rattle.desk_book.specs.FileRows.{FileRows, entries_in, format_of, table_of}
+use Rattle.desk_parts.specs.FileRows.{FileRows, entries_in, format_of, table_of}
 use Rattle.desk_book.specs.Limits.{most_entries, most_marks, most_note, most_paragraphs, most_print, most_tables, most_version}
 use Rattle.desk_book.specs.Name.{IsProofreaderName, IsTableName}
 use Rattle.desk_book.specs.Print.{corrected, newest}
-use Rattle.desk_book.specs.Rows.{Tab as TabRow, Para as ParaRow, NamedCorr as EntryRow, Mark as MarkRow, Cached as CacheRow}
+use Rattle.desk_parts.specs.Rows.{Tab as TabRow, Para as ParaRow, NamedCorr as EntryRow, Mark as MarkRow, Cached as CacheRow}
 use Rattle.desk_book.specs.Stored.{IsUnbarred}
 
 -- ---- numbers
@@ -214,16 +214,6 @@ IsDamaged rows Corr id = (table_of rows.entries ≡ Corr) × IsDamagedEntries ro
 IsDamaged rows NamedCorr id = (table_of rows.entries ≡ NamedCorr) × IsDamagedEntries rows.paras (entries_in rows.entries) id
 IsDamaged rows Mark id = IsDamagedMark rows.paras rows.marks id
 IsDamaged rows Cache id = (caches : List CacheRow) × (rows.caches ≡ Some caches) × IsDamagedCache rows.tabs rows.paras caches id
-
--- the number that stands for a table in a reply
-abbrev pub table_number : FileTable → ℕ
-table_number Book = 1
-table_number Tab = 2
-table_number Para = 3
-table_number Corr = 4
-table_number Mark = 5
-table_number Cache = 6
-table_number NamedCorr = 7
 
 -- the turn in which a table is judged: `corr2` in that of `corr`
 abbrev pub table_turn : FileTable → ℕ

@@ -4,11 +4,11 @@ use Rattle.std.specs.List.{All, flat_map}
 use Rattle.std.specs.List.Sorted.{IsPermutation}
 use Rattle.desk_book.specs.declared.filling.NewTables.{NewTables}
 use Rattle.desk_book.specs.declared.filling.NewTables.TheVariants.{Braille, Entries, EntriesAndBraille}
-use Rattle.desk_book.specs.declared.rows.BookRow.{BookRow}
+use Rattle.desk_parts.specs.declared.rows.BookRow.{BookRow}
 use Rattle.desk_book.specs.Book.{Book}
-use Rattle.desk_book.specs.FileRows.{FileRows, HasEntryTexts, Named, entries_in, spelled_entry}
-use Rattle.desk_book.specs.Puts.{PutBook, PutCache, PutEntry, RowPuts}
-use Rattle.desk_book.specs.Rows.{Cached, NamedCorr}
+use Rattle.desk_parts.specs.FileRows.{FileRows, HasEntryTexts, Named, entries_in, spelled_entry}
+use Rattle.desk_parts.specs.Puts.{PutBook, PutCache, PutEntry, RowPuts}
+use Rattle.desk_parts.specs.Rows.{Cached, NamedCorr}
 use Rattle.desk_book.specs.Shows.{AreCached, book_row_of, entry_rows_of}
 
 -- a row of version 0 in the second format, and nothing else

@@ -6,7 +6,7 @@ use Rattle.desk_book.specs.declared.paragraphs.Paragraph.{Paragraph as KeptParag
 use Rattle.desk_book.specs.ChangePuts.{cache_put, entry_row}
 use Rattle.desk_book.specs.Kept.{KeptParagraphs}
 use Rattle.desk_book.specs.Limits.{most_entries, most_paragraphs}
-use Rattle.desk_book.specs.Puts.{PutEntry, RowPut, RowPuts}
+use Rattle.desk_parts.specs.Puts.{PutEntry, RowPut, RowPuts}
 
 -- the entry with this number in the history of the paragraph with this id
 abbrev pub entry_put : ℕ → ℕ × KeptEntry → RowPut

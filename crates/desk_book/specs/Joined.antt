@@ -1,11 +1,11 @@
 -- What is told where the rows of a table are not those of a book.
 use Rattle.std.specs.Prelude.{◌≡◌, ℤ, List, Option, Some, ⊤}
-use Rattle.desk_book.specs.declared.parts.FileTable.{FileTable}
-use Rattle.desk_book.specs.declared.parts.PartsFault.{PartsFault}
-use Rattle.desk_book.specs.declared.parts.PartsFault.TheVariants.{Damaged, NoMemory}
+use Rattle.desk_parts.specs.declared.file_table.FileTable.{FileTable}
+use Rattle.desk_book.specs.declared.damage.PartsFault.{PartsFault}
+use Rattle.desk_book.specs.declared.damage.PartsFault.TheVariants.{Damaged, NoMemory}
 use Rattle.desk_book.specs.Damage.{IsDamagedCache}
 use Rattle.desk_book.specs.Judged.{IsFirstId}
-use Rattle.desk_book.specs.Rows.{Cached, Para, Tab}
+use Rattle.desk_parts.specs.Rows.{Cached, Para, Tab}
 
 -- the smallest id of the damage is told, of this table, or memory was refused
 abbrev pub TellsDamageOf : FileTable → (ℤ → Type 0) → PartsFault → Type 0

@@ -9,16 +9,16 @@ use Rattle.louis_table.specs.Meaning.{Meaning}
 use Rattle.louis_table.specs.Table.{Means}
 use Rattle.desk_book.specs.declared.marks.KeptMark.{KeptMark}
 use Rattle.desk_book.specs.declared.paragraphs.Paragraph.{Paragraph as KeptParagraph}
-use Rattle.desk_book.specs.declared.parts.RowsFault.{RowsFault}
-use Rattle.desk_book.specs.declared.parts.RowsFault.TheVariants.{Damaged, NoMemory}
+use Rattle.desk_book.specs.declared.damage.RowsFault.{RowsFault}
+use Rattle.desk_book.specs.declared.damage.RowsFault.TheVariants.{Damaged, NoMemory}
 use Rattle.desk_book.specs.Changes.{AreCellsOf}
 use Rattle.desk_book.specs.Damage.{IsItsTable, IsPrintText, IsSoundEntryRow, history_of}
-use Rattle.desk_book.specs.FileRows.{HasParaTexts, HasTabText, spelled_mark, spelled_tab}
+use Rattle.desk_parts.specs.FileRows.{HasParaTexts, HasTabText, spelled_mark, spelled_tab}
 use Rattle.desk_book.specs.Histories.{HaveTaken, entries_kept}
 use Rattle.desk_book.specs.Kept.{KeptTables, marks_kept}
 use Rattle.desk_book.specs.KeptMarks.{indexes_on}
 use Rattle.desk_book.specs.Print.{corrected}
-use Rattle.desk_book.specs.Rows.{Mark as MarkRow, NamedCorr, Para, Tab}
+use Rattle.desk_parts.specs.Rows.{Mark as MarkRow, NamedCorr, Para, Tab}
 use Rattle.desk_book.specs.Shows.{flag_number, mark_row_of, style_number, tab_of}
 
 -- ---- what is told

@@ -7,7 +7,7 @@ use Rattle.desk_book.specs.declared.paragraphs.Paragraph.{Paragraph as KeptParag
 use Rattle.desk_book.specs.declared.tables.BookTable.{BookTable}
 use Rattle.desk_book.specs.Changes.{AreCellsOf}
 use Rattle.desk_book.specs.Kept.{KeptTables}
-use Rattle.desk_book.specs.Rows.{Cached}
+use Rattle.desk_parts.specs.Rows.{Cached}
 
 -- the paragraph's table is there, and defines its print
 pub record IsTranslatable (tables : KeptTables) (kept : KeptParagraph) : Type 0 where

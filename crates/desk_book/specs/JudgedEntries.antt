@@ -3,11 +3,11 @@ use Rattle.std.specs.Prelude.{◌≡◌, ℕ, ◌+◌, ◌<◌, ℤ, pos, ◌≤
 use Rattle.std.specs.List.{Contains}
 use Rattle.std.specs.Ordering.{int_eq}
 use Rattle.desk_book.specs.declared.paragraphs.Paragraph.{Paragraph as KeptParagraph}
-use Rattle.desk_book.specs.declared.parts.RowsFault.{RowsFault}
-use Rattle.desk_book.specs.declared.parts.RowsFault.TheVariants.{Damaged}
+use Rattle.desk_book.specs.declared.damage.RowsFault.{RowsFault}
+use Rattle.desk_book.specs.declared.damage.RowsFault.TheVariants.{Damaged}
 use Rattle.desk_book.specs.Damage.{IsWithin}
 use Rattle.desk_book.specs.JudgedHistory.{CanBeRead, HasRead}
-use Rattle.desk_book.specs.Rows.{NamedCorr}
+use Rattle.desk_parts.specs.Rows.{NamedCorr}
 
 -- the rows of the paragraph with this id
 abbrev pub rows_of : List NamedCorr → ℤ → List NamedCorr

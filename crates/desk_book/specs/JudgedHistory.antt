@@ -12,7 +12,7 @@ use Rattle.desk_book.specs.Damage.{IsSoundCorrection, IsSoundEntryRow, IsSoundUn
 use Rattle.desk_book.specs.Histories.{HaveTaken, TookFrom, entries_kept, entry_kept}
 use Rattle.desk_book.specs.Limits.{most_entries, most_print}
 use Rattle.desk_book.specs.Print.{corrected}
-use Rattle.desk_book.specs.Rows.{NamedCorr}
+use Rattle.desk_parts.specs.Rows.{NamedCorr}
 use Rattle.desk_book.specs.Sound.{AreSoundEntries, IsSoundEntry}
 use Rattle.desk_command.specs.Characters.{AreCharacters}
 

@@ -5,11 +5,11 @@ use Rattle.std.specs.Ordering.{int_cmp}
 use Rattle.std.specs.Str.{chars}
 use Rattle.desk_book.specs.declared.marks.KeptMark.{KeptMark}
 use Rattle.desk_book.specs.declared.paragraphs.Paragraph.{Paragraph as KeptParagraph}
-use Rattle.desk_book.specs.declared.parts.RowsFault.{RowsFault}
-use Rattle.desk_book.specs.declared.parts.RowsFault.TheVariants.{Damaged, NoMemory}
+use Rattle.desk_book.specs.declared.damage.RowsFault.{RowsFault}
+use Rattle.desk_book.specs.declared.damage.RowsFault.TheVariants.{Damaged, NoMemory}
 use Rattle.desk_book.specs.Damage.{IsFlag}
 use Rattle.desk_book.specs.Limits.{most_marks, most_note}
-use Rattle.desk_book.specs.Rows.{Mark as MarkRow}
+use Rattle.desk_parts.specs.Rows.{Mark as MarkRow}
 use Rattle.desk_book.specs.Shows.{flag_number}
 use Rattle.desk_book.specs.Stored.{IsUnbarred}
 

@@ -7,15 +7,15 @@ use Rattle.std.specs.Ordering.{int_cmp}
 use Rattle.std.specs.Str.{chars}
 use Rattle.louis_translate.specs.Position.{AreDefined}
 use Rattle.desk_book.specs.declared.paragraphs.Paragraph.{Paragraph as KeptParagraph}
-use Rattle.desk_book.specs.declared.parts.RowsFault.{RowsFault}
-use Rattle.desk_book.specs.declared.parts.RowsFault.TheVariants.{Damaged, NoMemory}
+use Rattle.desk_book.specs.declared.damage.RowsFault.{RowsFault}
+use Rattle.desk_book.specs.declared.damage.RowsFault.TheVariants.{Damaged, NoMemory}
 use Rattle.desk_book.specs.declared.tables.BookTable.{BookTable}
 use Rattle.desk_book.specs.Damage.{IsFlag, IsPrintText, IsWithin}
-use Rattle.desk_book.specs.FileRows.{HasParaTexts}
+use Rattle.desk_parts.specs.FileRows.{HasParaTexts}
 use Rattle.desk_book.specs.Judged.{IsOf}
 use Rattle.desk_book.specs.Kept.{KeptTables}
 use Rattle.desk_book.specs.Limits.{most_paragraphs}
-use Rattle.desk_book.specs.Rows.{Para}
+use Rattle.desk_parts.specs.Rows.{Para}
 
 -- the rows stand in the order of their ids
 abbrev pub AreInOrder : List Para → Type 0

@@ -22,11 +22,9 @@ pub mod Planned
 pub mod Corrected
 pub mod Marked
 pub mod Listed
-pub mod Rows
 pub mod Room
 pub mod Told
 pub mod ParagraphMarks
-pub mod FileRows
 pub mod Shows
 pub mod SameRows
 pub mod Damage
@@ -38,7 +36,6 @@ pub mod JudgedEntries
 pub mod Joined
 pub mod JudgedParas
 pub mod Rebuilt
-pub mod Puts
 pub mod FilledRows
 pub mod Filling
 pub mod ChangePuts

@@ -2,7 +2,7 @@
 use Rattle.std.specs.Prelude.{[]}
 use Rattle.desk_book.specs.declared.puts.Walk.{Walk}
 use Rattle.desk_book.specs.declared.puts.Walk.TheVariants.{Nothing, Cells, Further, Elsewhere, Spans}
-use Rattle.desk_book.specs.Puts.{RowPuts}
+use Rattle.desk_parts.specs.Puts.{RowPuts}
 
 -- what is left of a walk along a list
 abbrev pub walk_puts : Walk → RowPuts

@@ -1,8 +1,8 @@
 -- When the rows of two files are the same, in whatever order they stand.
 use Rattle.std.specs.Prelude.{◌≡◌, List, Option, Some, None, ⊤}
 use Rattle.std.specs.List.Sorted.{IsPermutation}
-use Rattle.desk_book.specs.FileRows.{EntryRows, FileRows, Named, Unnamed}
-use Rattle.desk_book.specs.Rows.{Cached}
+use Rattle.desk_parts.specs.FileRows.{EntryRows, FileRows, Named, Unnamed}
+use Rattle.desk_parts.specs.Rows.{Cached}
 
 -- the same entries of the same table
 abbrev pub AreSameEntries : EntryRows → EntryRows → Type 0

@@ -3,13 +3,13 @@ use Rattle.std.specs.Prelude.{◌≡◌, ℕ, ℤ, pos, Bool, true, false, List,
 use Rattle.std.specs.List.{All, Contains, enumerate_from, flat_map}
 use Rattle.std.specs.List.Sorted.{IsPermutation}
 use Rattle.std.specs.Option.{ForSome}
-use Rattle.desk_book.specs.declared.rows.BookRow.{BookRow}
+use Rattle.desk_parts.specs.declared.rows.BookRow.{BookRow}
 use Rattle.desk_command.specs.declared.style.Style.{Style}
 use Rattle.desk_command.specs.declared.style.Style.TheVariants.{Body, Heading}
 use Rattle.desk_book.specs.Book.{Entry, Corrects, Undoes, Paragraph, Mark, Book}
-use Rattle.desk_book.specs.FileRows.{FileRows, AreTexts, entries_in, format_of, spelled_tab, spelled_para, spelled_entry, spelled_mark}
+use Rattle.desk_parts.specs.FileRows.{FileRows, AreTexts, entries_in, format_of, spelled_tab, spelled_para, spelled_entry, spelled_mark}
 use Rattle.desk_book.specs.Print.{print_of}
-use Rattle.desk_book.specs.Rows.{Tab, Para, NamedCorr, Mark as MarkRow, Cached}
+use Rattle.desk_parts.specs.Rows.{Tab, Para, NamedCorr, Mark as MarkRow, Cached}
 use Rattle.desk_book.specs.Sound.{IsSound}
 use Rattle.desk_book.specs.Translated.{IsBraille}
 

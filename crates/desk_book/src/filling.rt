@@ -1,14 +1,14 @@
 //! What a book puts into new tables of its file.
 ghost use Rattle.desk_book.specs.FilledRows.{Fills};
 ghost use Rattle.desk_book.specs.Filling.{HaveHistories, histories_from};
-ghost use Rattle.desk_book.specs.Puts.{LendsFirst, put_of};
+ghost use Rattle.desk_parts.specs.Puts.{LendsFirst, put_of};
 ghost use Rattle.std.specs.Prelude.{◌≡◌, [], ◌∷◌, ◌++◌, IfNone, IfSome, unwrap_or};
 
 use super::book::Book;
 use super::history::KeptEntry;
 use super::paragraphs::Paragraphs;
 use super::puts::{cache, entry, number};
-use super::rows::{BookRow, Put};
+use desk_parts::{BookRow, Put};
 use std::marker::Model;
 
 /// Which new tables of a file a book fills.
@@ -33,7 +33,7 @@ struct HistoryPuts<'a> {
 impl<'a> Model for HistoryPuts<'a> {
     ghost use Rattle.desk_book.specs.Filling.{entry_puts_from};
     ghost use Rattle.desk_book.specs.Limits.{most_entries};
-    ghost use Rattle.desk_book.specs.Puts.{RowPuts};
+    ghost use Rattle.desk_parts.specs.Puts.{RowPuts};
     ghost use Rattle.std.specs.Prelude.{◌≤◌, length};
 
     ghost Value = { RowPuts };
@@ -104,7 +104,7 @@ struct EntryPuts<'a> {
 
 impl<'a> Model for EntryPuts<'a> {
     ghost use Rattle.desk_book.specs.Filling.{HaveHistories, histories_from};
-    ghost use Rattle.desk_book.specs.Puts.{RowPuts};
+    ghost use Rattle.desk_parts.specs.Puts.{RowPuts};
     ghost use Rattle.std.specs.Prelude.{◌++◌};
 
     ghost Value = { RowPuts };
@@ -154,7 +154,7 @@ struct BraillePuts<'a> {
 impl<'a> Model for BraillePuts<'a> {
     ghost use Rattle.desk_book.specs.Filling.{braille_from};
     ghost use Rattle.desk_book.specs.Limits.{most_paragraphs};
-    ghost use Rattle.desk_book.specs.Puts.{RowPuts};
+    ghost use Rattle.desk_parts.specs.Puts.{RowPuts};
     ghost use Rattle.std.specs.Prelude.{◌≤◌, length};
 
     ghost Value = { RowPuts };
@@ -205,7 +205,7 @@ pub struct Filling<'a> {
 }
 
 impl<'a> Model for Filling<'a> {
-    ghost use Rattle.desk_book.specs.Puts.{RowPuts, puts_in};
+    ghost use Rattle.desk_parts.specs.Puts.{RowPuts, puts_in};
     ghost use Rattle.std.specs.Prelude.{[], ◌++◌, unwrap_or};
 
     ghost Value = { RowPuts };

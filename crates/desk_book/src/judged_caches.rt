@@ -5,7 +5,7 @@ ghost use Rattle.desk_book.specs.Judged.{AreOf, AreTables, HasCells, IsWhole, Te
 ghost use Rattle.desk_book.specs.JudgedCaches.{AreAllRight, AreTheirCells, IsItsBraille, IsMisfit, IsTranslatable};
 ghost use Rattle.desk_book.specs.Kept.{renewed_items};
 ghost use Rattle.desk_book.specs.Limits.{most_paragraphs};
-ghost use Rattle.desk_book.specs.Rows.{Para, Tab};
+ghost use Rattle.desk_parts.specs.Rows.{Para, Tab};
 ghost use Rattle.louis_translate.specs.Position.{AreDefined};
 ghost use Rattle.std.specs.List.{All};
 ghost use Rattle.std.specs.List.Sorted.{IsPermutation, IsSortedByKey};
@@ -13,11 +13,11 @@ ghost use Rattle.std.specs.Ordering.{int_cmp};
 ghost use Rattle.std.specs.Prelude.{◌≡◌, ◌≢◌, ◌≤◌, ◌++◌, IfErr, IfNone, IfOk, IfSome, IsTrue, List, OnOk, Some, length, map, ◌↔◌};
 
 use super::braille::cells_of;
+use super::damage::RowsFault;
 use super::paragraphs::{Paragraph, renew};
-use super::parts::RowsFault;
-use super::rows::CacheRow;
 use super::tables::Tables;
 use cell_core::{Cell, Cells};
+use desk_parts::CacheRow;
 use louis_translate::{Piece, Pieces, RuleIndex};
 use std::alloc::{AllocError, Global};
 

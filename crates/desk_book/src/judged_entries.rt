@@ -2,14 +2,14 @@
 ghost use Rattle.desk_book.specs.Damage.{IsDamagedEntries, IsWithin};
 ghost use Rattle.desk_book.specs.Judged.{AreOf, HasHistory, IsWhole, TellsDamage, without_history};
 ghost use Rattle.desk_book.specs.JudgedEntries.{AreGrouped, HaveRead, IsFirstStray, IsFirstUnread};
-ghost use Rattle.desk_book.specs.Rows.{Para};
+ghost use Rattle.desk_parts.specs.Rows.{Para};
 ghost use Rattle.std.specs.List.{All};
 ghost use Rattle.std.specs.Prelude.{◌≡◌, ◌⊎◌, ◌+◌, ◌<◌, pos, ◌≤ℤ◌, List, [], IfErr, IfNone, IfOk, IfSome, OnOk, Some, length, map};
 
+use super::damage::RowsFault;
 use super::judged_history::read_history;
 use super::paragraphs::Paragraph;
-use super::parts::RowsFault;
-use super::rows::NamedCorrRow;
+use desk_parts::NamedCorrRow;
 use std::alloc::{AllocError, Global};
 
 /// The index of the paragraph with an id among so many, which have the ids from 1 on.

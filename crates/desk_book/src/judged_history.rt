@@ -3,19 +3,19 @@ ghost use Rattle.desk_book.specs.Damage.{IsSoundCorrection, IsSoundUndo};
 ghost use Rattle.desk_book.specs.Histories.{entries_kept};
 ghost use Rattle.desk_book.specs.Judged.{without_history};
 ghost use Rattle.desk_book.specs.JudgedHistory.{AreSoundRows, CanBeRead, HasRead, IsCorrecting, IsFit, IsNext, IsRead, IsSoundNext, LeavePrint};
-ghost use Rattle.desk_book.specs.Rows.{NamedCorr};
+ghost use Rattle.desk_parts.specs.Rows.{NamedCorr};
 ghost use Rattle.std.specs.Prelude.{◌≡◌, ◌⊎◌, ℕ, ◌+◌, ◌≤◌, ◌↔◌, pos, ◌+ℤ◌, ◌≤ℤ◌, List, ◌∷◌, ◌++◌, [], IfErr, IfNone, IfOk, IfSome, IsTrue, OnOk, length};
 ghost use Rattle.std.specs.Str.{chars};
 
 use super::corrections::replaced;
+use super::damage::RowsFault;
 use super::history::{Correction, KeptEntry, newest};
 use super::items::Items;
 use super::limits::{MOST_ENTRIES, MOST_PRINT};
 use super::paragraphs::Paragraph;
-use super::parts::RowsFault;
-use super::rows::{CorrRow, NamedCorrRow};
 use super::stored::{count_of, first_barred, is_proofreader_name};
 use desk_command::Text;
+use desk_parts::{CorrRow, NamedCorrRow};
 use louis_table::Characters;
 use std::alloc::{AllocError, Global};
 

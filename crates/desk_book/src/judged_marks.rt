@@ -3,19 +3,19 @@ ghost use Rattle.desk_book.specs.Damage.{IsDamagedMark};
 ghost use Rattle.desk_book.specs.Judged.{AreMarksOf, AreOf, HaveMarks, IsWhole, TellsDamage, without_marks};
 ghost use Rattle.desk_book.specs.JudgedMarks.{AreInOrder, AreKeptOf, HasId, IsKeptOf, IsMarkOn, IsNext, IsNoteText, IsOnOne, IsSpan, TellsUnsound};
 ghost use Rattle.desk_book.specs.Limits.{most_marks};
-ghost use Rattle.desk_book.specs.Rows.{Para};
+ghost use Rattle.desk_parts.specs.Rows.{Para};
 ghost use Rattle.std.specs.List.{All};
 ghost use Rattle.std.specs.List.Sorted.{IsPermutation};
 ghost use Rattle.std.specs.Prelude.{◌≡◌, ◌↔◌, ◌≤◌, [], List, IfErr, IfOk, IsTrue, MatchOption, OnOk, length, map, pos};
 ghost use Rattle.std.specs.Str.{chars};
 
+use super::damage::{RowsFault, flag_of};
 use super::limits::{MOST_MARKS, MOST_NOTE};
 use super::marks::KeptMark;
 use super::paragraphs::Paragraph;
-use super::parts::{RowsFault, flag_of};
-use super::rows::MarkRow;
 use super::stored::{count_of, first_barred};
 use desk_command::Text;
+use desk_parts::MarkRow;
 use std::alloc::{AllocError, Global};
 
 /// Whether a text may be a note.

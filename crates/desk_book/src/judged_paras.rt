@@ -2,22 +2,22 @@
 ghost use Rattle.desk_book.specs.Damage.{IsDamagedPara, IsFlag, IsPrintText};
 ghost use Rattle.desk_book.specs.Judged.{AreInPlaces, AreOf, AreTables, IsWhole, TellsDamage};
 ghost use Rattle.desk_book.specs.JudgedParas.{AreDefinedBy, AreInOrder, AreKeptOf, IsFree, IsKeptOf, IsNext, IsParaOn, TellsUnsound};
-ghost use Rattle.desk_book.specs.Rows.{Tab};
+ghost use Rattle.desk_parts.specs.Rows.{Tab};
 ghost use Rattle.desk_book.specs.Shows.{style_number};
 ghost use Rattle.std.specs.List.{All};
 ghost use Rattle.std.specs.List.Sorted.{IsPermutation};
 ghost use Rattle.std.specs.Prelude.{◌≡◌, ◌↔◌, ℕ, [], List, IfErr, IfNone, IfOk, IfSome, IsTrue, MatchOption, length, replicate};
 ghost use Rattle.std.specs.Str.{chars};
 
+use super::damage::{RowsFault, flag_of};
 use super::items::Items;
 use super::limits::{MOST_PARAGRAPHS, MOST_PRINT};
 use super::paragraphs::Paragraph;
-use super::parts::{RowsFault, flag_of};
-use super::rows::ParaRow;
 use super::stored::{count_of, first_barred};
 use super::tables::Tables;
 use cell_core::Cells;
 use desk_command::{Style, Text};
+use desk_parts::ParaRow;
 use louis_table::Characters;
 use louis_translate::{RuleBook, undefined_place};
 use std::alloc::{AllocError, Global};

@@ -3,7 +3,7 @@ ghost use Rattle.desk_book.specs.ChangePuts.{LeadTo, cache_put, cells_from, effe
 ghost use Rattle.desk_book.specs.Changes.{Carries, Does};
 ghost use Rattle.desk_book.specs.Limits.{most_paragraphs, most_print};
 ghost use Rattle.desk_book.specs.ParagraphMarks.{marks_on};
-ghost use Rattle.desk_book.specs.Puts.{LendsFirst, PutEntry, PutMark, PutPara, SetFlags, SetPlace, SetResolved, SetTable, SetVersion, put_of};
+ghost use Rattle.desk_parts.specs.Puts.{LendsFirst, PutEntry, PutMark, PutPara, SetFlags, SetPlace, SetResolved, SetTable, SetVersion, put_of};
 ghost use Rattle.desk_book.specs.Shows.{flag_number, style_number};
 ghost use Rattle.desk_book.specs.Step.{next_id};
 ghost use Rattle.std.specs.Prelude.{◌≡◌, ◌+◌, ◌-◌, ◌<◌, ◌≤◌, [], ◌∷◌, ◌++◌, IfNone, IfSome, encode_utf8_all, length, map, pos, slice_index};
@@ -14,10 +14,10 @@ use super::history::KeptEntry;
 use super::marks::{KeptMark, Span};
 use super::paragraph_marks::ParagraphMarks;
 use super::paragraphs::{Order, Paragraph};
-use super::rows::Put;
 use super::tables::BoxedTable;
 use cell_core::Cells;
 use desk_command::{Style, Text};
+use desk_parts::{CachePut, MarkPut, NamedCorrPut, ParaPut, Put, TabPut};
 use std::marker::Model;
 
 /// A number of a book as one of a row. Each is far below the greatest of a row, which stands for any that is not.
@@ -49,7 +49,7 @@ pub(crate) fn entry(id: u64, seq: u64, entry: &KeptEntry) -> Put<'_>
     ensures { put_of result ≡ PutEntry (entry_row id seq entry.now) }
 {
     match entry {
-        KeptEntry::Corrects(correction) => Put::NamedCorr {
+        KeptEntry::Corrects(correction) => Put::NamedCorr(NamedCorrPut {
             para: number(id),
             seq: number(seq),
             kind: 0,
@@ -57,8 +57,8 @@ pub(crate) fn entry(id: u64, seq: u64, entry: &KeptEntry) -> Put<'_>
             len: number(correction.taken.as_slice().len() as u64),
             body: correction.text.as_str(),
             who: correction.who.as_str(),
-        },
-        KeptEntry::Undoes(undone) => Put::NamedCorr {
+        }),
+        KeptEntry::Undoes(undone) => Put::NamedCorr(NamedCorrPut {
             para: number(id),
             seq: number(seq),
             kind: 1,
@@ -66,7 +66,7 @@ pub(crate) fn entry(id: u64, seq: u64, entry: &KeptEntry) -> Put<'_>
             len: 0,
             body: "",
             who: "",
-        },
+        }),
     }
 }
 
@@ -80,7 +80,7 @@ struct CellPuts<'a> {
 
 impl<'a> Model for CellPuts<'a> {
     ghost use Rattle.desk_book.specs.ChangePuts.{cells_from};
-    ghost use Rattle.desk_book.specs.Puts.{RowPuts};
+    ghost use Rattle.desk_parts.specs.Puts.{RowPuts};
 
     ghost Value = { RowPuts };
 
@@ -109,10 +109,10 @@ impl<'a> CellPuts<'a> {
             return None;
         };
         self.at = id;
-        Some(Put::Cache {
+        Some(Put::Cache(CachePut {
             para: number(id as u64),
             cells: cells.as_slice(),
-        })
+        }))
     }
 }
 
@@ -126,7 +126,7 @@ struct FurtherPuts<'a> {
 impl<'a> Model for FurtherPuts<'a> {
     ghost use Rattle.desk_book.specs.ChangePuts.{further_from};
     ghost use Rattle.desk_book.specs.Limits.{most_paragraphs};
-    ghost use Rattle.desk_book.specs.Puts.{RowPuts};
+    ghost use Rattle.desk_parts.specs.Puts.{RowPuts};
     ghost use Rattle.std.specs.Prelude.{◌≤◌, length};
 
     ghost Value = { RowPuts };
@@ -161,7 +161,7 @@ struct ElsewherePuts<'a> {
 
 impl<'a> Model for ElsewherePuts<'a> {
     ghost use Rattle.desk_book.specs.ChangePuts.{elsewhere_from};
-    ghost use Rattle.desk_book.specs.Puts.{RowPuts};
+    ghost use Rattle.desk_parts.specs.Puts.{RowPuts};
 
     ghost Value = { RowPuts };
 
@@ -222,7 +222,7 @@ struct SpanPuts<'a> {
 impl<'a> Model for SpanPuts<'a> {
     ghost use Rattle.desk_book.specs.ChangePuts.{AreSpans, span_put};
     ghost use Rattle.desk_book.specs.Limits.{most_print};
-    ghost use Rattle.desk_book.specs.Puts.{RowPuts};
+    ghost use Rattle.desk_parts.specs.Puts.{RowPuts};
     ghost use Rattle.std.specs.Prelude.{◌+◌, ◌≤◌, map};
 
     ghost Value = { RowPuts };
@@ -300,7 +300,7 @@ pub struct Puts<'a> {
 
 impl<'a> Model for Puts<'a> {
     ghost use Rattle.desk_book.specs.PutsLeft.{walk_puts};
-    ghost use Rattle.desk_book.specs.Puts.{RowPuts, puts_in};
+    ghost use Rattle.desk_parts.specs.Puts.{RowPuts, puts_in};
     ghost use Rattle.std.specs.Prelude.{◌++◌};
 
     ghost Value = { RowPuts };
@@ -337,7 +337,7 @@ impl<'a> Iterator for Puts<'a> {
 }
 
 impl<'a> Puts<'a> {
-    ghost use Rattle.desk_book.specs.Puts.{SetVersion, puts_in};
+    ghost use Rattle.desk_parts.specs.Puts.{SetVersion, puts_in};
     ghost use Rattle.desk_book.specs.PutsLeft.{walk_puts};
 
     /// The version, up to three rows or columns of rows, and what follows from a list.
@@ -373,27 +373,27 @@ impl<'a> Puts<'a> {
 fn tab<'a>(name: &'a Text, table: &'a BoxedTable) -> Put<'a>
     ensures { put_of result ≡ tab_put name.now table.now }
 {
-    Put::Tab {
+    Put::Tab(TabPut {
         name: name.as_str(),
         body: table.text(),
-    }
+    })
 }
 
 /// The row of a paragraph's cells.
 pub(crate) fn cache(id: u64, cells: &Cells) -> Put<'_>
     ensures { put_of result ≡ cache_put id cells.now }
 {
-    Put::Cache {
+    Put::Cache(CachePut {
         para: number(id),
         cells: cells.as_slice(),
-    }
+    })
 }
 
 /// The row of a paragraph.
 fn para(id: u64, place: usize, paragraph: &Paragraph) -> Put<'_>
     ensures { put_of result ≡ PutPara (kept_row id place paragraph.now) }
 {
-    Put::Para {
+    Put::Para(ParaPut {
         id: number(id),
         place: number(place as u64),
         tab: paragraph.table.as_str(),
@@ -402,14 +402,14 @@ fn para(id: u64, place: usize, paragraph: &Paragraph) -> Put<'_>
         style: style_row(paragraph.style),
         volume: flag(paragraph.begins_volume),
         struck: flag(paragraph.struck),
-    }
+    })
 }
 
 /// The row of a mark.
 fn mark(id: u64, mark: &KeptMark) -> Put<'_>
     ensures { put_of result ≡ PutMark (kept_mark_row id mark.now) }
 {
-    Put::Mark {
+    Put::Mark(MarkPut {
         id: number(id),
         para: number(mark.paragraph),
         start: number(mark.start as u64),
@@ -417,7 +417,7 @@ fn mark(id: u64, mark: &KeptMark) -> Put<'_>
         note: mark.note.as_str(),
         touched: flag(mark.touched),
         resolved: flag(mark.resolved),
-    }
+    })
 }
 
 /// That a mark is resolved.

@@ -1,5 +1,5 @@
 //! Why the program refuses what is asked.
-use desk_book::parts::FileTable;
+use desk_parts::FileTable;
 use louis_table::TableFault;
 use sqlite::{Error as DatabaseError, ErrorCode};
 use std::alloc::AllocError;

@@ -29,7 +29,7 @@ use Rattle.sqlite.specs.Rows.{Written, Updates, shown}
 use Rattle.sqlite.specs.State.{State, Executes}
 use Rattle.sqlite_tied.specs.Compute.{everything}
 use Rattle.sqlite_catalog.specs.Listing.{IsSound}
-use Rattle.desk_book.specs.Rows.{Tab}
+use Rattle.desk_parts.specs.Rows.{Tab}
 use Rattle.sql_tables.specs.Rows.{HaveRowids, Lists, put_in}
 use Rattle.sql_tables.specs.Tables.{IsDeclared}
 use Rattle.desk_rows.specs.Described.{tabs as tab_which, described}

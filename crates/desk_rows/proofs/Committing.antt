@@ -8,7 +8,7 @@ use Rattle.sqlite.specs.declared.error.Error.{Error}
 use Rattle.sqlite.specs.State.{Fails, KeepsCommit, State, Survives}
 use Rattle.sqlite.specs.Steps.{FailsToCommit}
 use Rattle.sqlite.proofs.StateLemmas.{survives_then}
-use Rattle.desk_book.specs.Puts.{RowPut}
+use Rattle.desk_parts.specs.Puts.{RowPut}
 use Rattle.desk_rows.specs.Contents.{Contents}
 use Rattle.desk_rows.specs.Layout.{Layout}
 use Rattle.desk_rows.specs.Puts.{IsFileWith, PutsAll, Writes, puts_into}

@@ -1,8 +1,8 @@
 -- What an iterator lends that lends the first of what is left.
 use Rattle.std.proofs.Common.{◌≡◌, List, [], ◌∷◌, map, sym, ap, ◌∙◌}
 use Rattle.std.specs.Iterator.{Drains}
-use Rattle.desk_book.specs.declared.rows.Put.{Put}
-use Rattle.desk_book.specs.Puts.{LendsFirst, RowPut, RowPuts, put_of}
+use Rattle.desk_parts.specs.declared.put.Put.{Put}
+use Rattle.desk_parts.specs.Puts.{LendsFirst, RowPut, RowPuts, put_of}
 use Rattle.desk_rows.specs.Puts.{Lends}
 
 drained : (puts : RowPuts) (lent : List Put) → Drains LendsFirst puts lent → map put_of lent ≡ puts

@@ -9,8 +9,8 @@ use Rattle.sqlite_trees.specs.declared.store.Store.{Ghosts}
 use Rattle.sqlite.specs.declared.error.Error.{Error}
 use Rattle.sqlite.specs.Held.{Held, state}
 use Rattle.sqlite.specs.State.{HasCause, HasCleanDisk, State, Survives, store_error}
-use Rattle.desk_book.specs.declared.rows.Put.{Put}
-use Rattle.desk_book.specs.Puts.{RowPut, put_of}
+use Rattle.desk_parts.specs.declared.put.Put.{Put}
+use Rattle.desk_parts.specs.Puts.{RowPut, put_of}
 use Rattle.sql_tables.proofs.Failures.{IsCaused, answered, fails_so}
 use Rattle.sql_tables.proofs.Refusals.{not_of_store}
 use Rattle.desk_rows.specs.Described.{Which, books}

@@ -13,7 +13,7 @@ use Rattle.sqlite_trees.specs.declared.store.Store.{Ghosts}
 use Rattle.sqlite.specs.Effect.{Database}
 use Rattle.sqlite.specs.Held.{Held, state}
 use Rattle.sqlite.specs.State.{State}
-use Rattle.desk_book.specs.Puts.{RowPut}
+use Rattle.desk_parts.specs.Puts.{RowPut}
 use Rattle.sql_tables.specs.Making.{IsMaking, KeepsAside}
 use Rattle.sql_tables.specs.Rows.{HaveRowids}
 use Rattle.sql_tables.specs.Tables.{IsDeclared}

@@ -25,7 +25,7 @@ use Rattle.sqlite_rules.proofs.TableLemmas.{none_to_drop}
 use Rattle.sqlite_rules.proofs.ListLemmas.{some_has, has_found}
 use Rattle.sqlite_catalog.specs.Listing.{automatic}
 use Rattle.sqlite_catalog.proofs.ListFacts.{find_within}
-use Rattle.desk_book.specs.Rows.{Tab}
+use Rattle.desk_parts.specs.Rows.{Tab}
 use Rattle.sql_tables.specs.Rows.{HaveRowids, Lists, put_in}
 use Rattle.sql_tables.specs.Tables.{IsDeclared}
 use Rattle.sql_tables.proofs.Declaring.{has_kept}

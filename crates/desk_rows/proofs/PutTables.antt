@@ -16,9 +16,9 @@ use Rattle.sqlite_rules.specs.Edit.{next_rowid, with_rowid}
 use Rattle.sqlite_catalog.specs.Listing.{IsSound}
 use Rattle.sqlite.specs.State.{State, Executes}
 use Rattle.sqlite_tied.specs.Compute.{everything}
-use Rattle.desk_book.specs.declared.rows.BookRow.{BookRow}
-use Rattle.desk_book.specs.Puts.{RowPut, PutBook, PutTab, PutPara, PutMark, PutCache, PutEntry, SetPlace, SetFlags, SetTable, SetPrint, SetSpan, SetResolved, SetVersion}
-use Rattle.desk_book.specs.Rows.{Mark, Para, NamedCorr, Cached}
+use Rattle.desk_parts.specs.declared.rows.BookRow.{BookRow}
+use Rattle.desk_parts.specs.Puts.{RowPut, PutBook, PutTab, PutPara, PutMark, PutCache, PutEntry, SetPlace, SetFlags, SetTable, SetPrint, SetSpan, SetResolved, SetVersion}
+use Rattle.desk_parts.specs.Rows.{Mark, Para, NamedCorr, Cached}
 use Rattle.sql_tables.specs.Rows.{HaveRowids, Lists, picked}
 use Rattle.sql_tables.specs.Tables.{IsDeclared, needed}
 use Rattle.sql_tables.proofs.ByRowid.{PutsByRowid, numbered_puts}

@@ -20,7 +20,7 @@ use Rattle.sqlite_rules.specs.Lists.{Has}
 use Rattle.sqlite_rules.proofs.ListLemmas.{all_has, has_found}
 use Rattle.sqlite_rules.proofs.TableLemmas.{int_is}
 use Rattle.sqlite_catalog.specs.Listing.{IsSound}
-use Rattle.desk_book.specs.Rows.{Tab}
+use Rattle.desk_parts.specs.Rows.{Tab}
 use Rattle.sql_tables.specs.Rows.{HaveRowids, Lists}
 use Rattle.sql_tables.specs.Tables.{IsDeclared}
 use Rattle.sql_tables.proofs.Declaring.{has_table}

@@ -8,7 +8,7 @@ use Rattle.sqlite_schema.specs.declared.schema.Table.{Table}
 use Rattle.sqlite_value.specs.Order.{Row}
 use Rattle.sqlite_trees.specs.Tree.{Trees}
 use Rattle.sqlite_catalog.specs.Listing.{IsSound}
-use Rattle.desk_book.specs.Rows.{StoredTab}
+use Rattle.desk_parts.specs.Rows.{StoredTab}
 use Rattle.sql_tables.specs.Rows.{HaveRowids, Lists, picked}
 use Rattle.sql_tables.proofs.Apart.{apart, as_many, have_rowids}
 use Rattle.sql_tables.proofs.SameLists.{other_order}

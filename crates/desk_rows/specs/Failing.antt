@@ -9,7 +9,7 @@ use Rattle.desk_rows.specs.Described.{Which, books}
 use Rattle.desk_rows.specs.Making.{AreMade, MakesTables, creation, first_row}
 use Rattle.desk_rows.specs.Puts.{ArePut, OfItems, OfItemsBefore, PutsRow, StopsAt, row_put}
 use Rattle.desk_rows.specs.Turns.{Failed, Ran, Stops}
-use Rattle.desk_book.specs.declared.rows.Put.{Put}
+use Rattle.desk_parts.specs.declared.put.Put.{Put}
 
 -- Of these tables those so far were made, and this is what the database answered to the statement that makes the next.
 pub record StopsMaking {S : Type 0} (g : Ghosts S) (ws : List Which) (old : Held S) (new : State) (e : Error) : Type 0 where

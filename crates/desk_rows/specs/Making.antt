@@ -9,8 +9,8 @@ use Rattle.sqlite.specs.Does.{lacks_sequence}
 use Rattle.sqlite.specs.Effect.{Database}
 use Rattle.sqlite.specs.Held.{Held, state}
 use Rattle.sqlite.specs.State.{State}
-use Rattle.desk_book.specs.declared.rows.BookRow.{BookRow}
-use Rattle.desk_book.specs.Puts.{RowPut}
+use Rattle.desk_parts.specs.declared.rows.BookRow.{BookRow}
+use Rattle.desk_parts.specs.Puts.{RowPut}
 use Rattle.sql_tables.specs.Making.{AreFree, FreesNone, IsMaking, KeepsAside, first_created}
 use Rattle.desk_rows.specs.Contents.{Contents, with_row}
 use Rattle.desk_rows.specs.Described.{Which, books, tabs, paras, marks, caches, named_corrs, described, table_of}

@@ -12,10 +12,10 @@ use Rattle.sqlite.specs.declared.error.Error.{Error}
 use Rattle.sqlite.specs.Effect.{Database}
 use Rattle.sqlite.specs.Held.{Held, state}
 use Rattle.sqlite.specs.State.{State, KeepsCommit, ExecutesInside, store_error}
-use Rattle.desk_book.specs.declared.rows.BookRow.{BookRow}
-use Rattle.desk_book.specs.declared.rows.Put.{Put}
-use Rattle.desk_book.specs.Puts.{RowPut, PutBook, PutTab, PutPara, PutMark, PutCache, PutEntry, SetPlace, SetFlags, SetTable, SetPrint, SetSpan, SetResolved, SetVersion, put_of}
-use Rattle.desk_book.specs.Rows.{Mark, Para}
+use Rattle.desk_parts.specs.declared.rows.BookRow.{BookRow}
+use Rattle.desk_parts.specs.declared.put.Put.{Put}
+use Rattle.desk_parts.specs.Puts.{RowPut, PutBook, PutTab, PutPara, PutMark, PutCache, PutEntry, SetPlace, SetFlags, SetTable, SetPrint, SetSpan, SetResolved, SetVersion, put_of}
+use Rattle.desk_parts.specs.Rows.{Mark, Para}
 use Rattle.sql_tables.specs.Rows.{set_where}
 use Rattle.desk_rows.specs.Contents.{Contents, with_row, with_rows}
 use Rattle.desk_rows.specs.Described.{Which, books, tabs, paras, marks, caches, named_corrs, described}

@@ -5,8 +5,8 @@ use Rattle.sqlite_schema.specs.Names.{same_name, table_named}
 use Rattle.sqlite_schema.specs.declared.schema.Schema.{Schema}
 use Rattle.sqlite_schema.specs.declared.schema.View.{View as Stored}
 use Rattle.desk_rows.specs.Described.{Which, books, tabs, paras, corrs, marks, caches, named_corrs, described}
-use Rattle.desk_book.specs.declared.parts.FileTable.{FileTable}
-use Rattle.desk_book.specs.declared.parts.FileTable.TheVariants.{Book, Tab, Para, Corr, Mark, Cache, NamedCorr}
+use Rattle.desk_parts.specs.declared.file_table.FileTable.{FileTable}
+use Rattle.desk_parts.specs.declared.file_table.FileTable.TheVariants.{Book, Tab, Para, Corr, Mark, Cache, NamedCorr}
 
 abbrev pub which : FileTable → Which
 which Book = books

@@ -5,8 +5,8 @@ use Rattle.std.specs.Ordering.{int_eq}
 use Rattle.sqlite_trees.specs.Tree.{Trees}
 use Rattle.sqlite_rules.specs.Edit.{IsNoIndex}
 use Rattle.sql_tables.specs.Rows.{Lists, picked}
-use Rattle.desk_book.specs.Puts.{RowPut, PutBook, PutTab, PutPara, PutMark, PutCache, PutEntry, SetPlace, SetFlags, SetTable, SetPrint, SetSpan, SetResolved, SetVersion}
-use Rattle.desk_book.specs.Rows.{StoredTab}
+use Rattle.desk_parts.specs.Puts.{RowPut, PutBook, PutTab, PutPara, PutMark, PutCache, PutEntry, SetPlace, SetFlags, SetTable, SetPrint, SetSpan, SetResolved, SetVersion}
+use Rattle.desk_parts.specs.Rows.{StoredTab}
 use Rattle.desk_rows.specs.Contents.{Contents}
 use Rattle.desk_rows.specs.Described.{Which, books, tabs, paras, corrs, marks, caches, named_corrs, described}
 use Rattle.desk_rows.specs.Layout.{Layout, IsOther}

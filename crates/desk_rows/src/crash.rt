@@ -16,7 +16,7 @@ ghost use Rattle.sql_tables.specs.States.{Leaves};
 use crate::fault::Fault;
 use crate::open::open_file;
 use crate::transaction::write;
-use desk_book::rows::Put;
+use desk_parts::Put;
 use sqlite::{Alter, Connection, Error};
 use sqlite_trees::error::StoreError;
 use sqlite_trees::store::Reopen;

@@ -2,8 +2,8 @@
 
 ghost use Rattle.desk_rows.specs.Asked.{AreReadable};
 ghost use Rattle.desk_rows.specs.Contents.{Contents};
-ghost use Rattle.desk_book.specs.Puts.{LendsFirst, RowPut};
-ghost use Rattle.desk_book.specs.Rows.{StoredTab};
+ghost use Rattle.desk_parts.specs.Puts.{LendsFirst, RowPut};
+ghost use Rattle.desk_parts.specs.Rows.{StoredTab};
 ghost use Rattle.desk_rows.specs.Described.{Which, described, shows_rowid, tabs};
 ghost use Rattle.sql_tables.specs.Kinds.{HaveIntegerRowids};
 ghost use Rattle.desk_rows.specs.Layout.{AreDeclared, Layout};

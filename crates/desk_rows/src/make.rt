@@ -16,8 +16,7 @@ use crate::fault::Fault;
 use crate::put::{put_book, run};
 use crate::table::create_text;
 use crate::transaction::begin;
-use desk_book::parts::FileTable;
-use desk_book::rows::BookRow;
+use desk_parts::{BookRow, FileTable};
 use sqlite::{Alter, Connection, Error, Transaction};
 
 /// The tables of a new file, in the order in which they are made.

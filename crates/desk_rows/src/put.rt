@@ -11,16 +11,18 @@ ghost use Rattle.sqlite_value.specs.declared.value.Value.TheVariants.{Blob, Int,
 ghost use Rattle.sqlite.specs.State.{HasCleanDisk, KeepsCommit, Survives};
 ghost use Rattle.sqlite.specs.Values.{bound};
 ghost use Rattle.sql_tables.specs.States.{seen};
-ghost use Rattle.desk_book.specs.Puts.{PutBook, put_of};
+ghost use Rattle.desk_parts.specs.Puts.{PutBook, PutPara, lent_entry, lent_mark, lent_para, put_of};
+ghost use Rattle.desk_rows.specs.Described.{marks, named_corrs};
 ghost use Rattle.desk_rows.specs.Failing.{of_items};
 ghost use Rattle.desk_rows.specs.Puts.{ArePut, IsPut, OfItems, RunsTo};
+ghost use Rattle.desk_rows.specs.Rows.{written};
 
 use crate::texts::{
     PUT_BOOK, PUT_CACHE, PUT_MARK, PUT_NAMED_CORR, PUT_PARA, PUT_TAB, SET_FLAGS, SET_PLACE,
     SET_PRINT, SET_RESOLVED, SET_SPAN, SET_TABLE, SET_VERSION,
 };
 use cell_core::Cell;
-use desk_book::rows::{BookRow, Put};
+use desk_parts::{BookRow, MarkPut, NamedCorrPut, ParaPut, Put};
 use sqlite::types::{ToSql, ValueRef};
 use sqlite::{Alter, Error, Transaction};
 use std::alloc::{AllocError, Global};
@@ -65,6 +67,61 @@ pub(crate) fn put_book<S: Alter>(tx: &mut Transaction<'_, S>, row: &BookRow) -> 
     run(tx, PUT_BOOK, &columns)
 }
 
+/// Puts the row of a paragraph by its key, with its print as a text.
+fn put_para<S: Alter>(
+    alloc: Global,
+    tx: &mut Transaction<'_, S>,
+    row: &ParaPut<'_>,
+) -> Result<(), Error>
+    ensures same_reference { tx.new.conn.ghost_name ≡ tx.old.conn.ghost_name }
+    ensures put { HasCleanDisk (seen S.Store tx.new)
+        → IsPut result (PutPara (lent_para row.now)) (seen S.Store tx.old) (seen S.Store tx.new) }
+    ensures survives { Survives (seen S.Store tx.old) (seen S.Store tx.new) (λ _. ⊥) }
+{
+    let print = encoded(alloc, row.print)?;
+    let columns = [
+        row.id.to_sql(),
+        row.place.to_sql(),
+        row.tab.to_sql(),
+        row.original.to_sql(),
+        print.as_str().to_sql(),
+        row.style.to_sql(),
+        row.volume.to_sql(),
+        row.struck.to_sql(),
+    ];
+    run(tx, PUT_PARA, &columns)
+}
+
+/// The columns of a mark.
+fn mark_columns<'a>(row: &MarkPut<'a>) -> [ValueRef<'a>; 7]
+    ensures { bound result ≡ written marks (lent_mark row.now) }
+{
+    [
+        row.id.to_sql(),
+        row.para.to_sql(),
+        row.start.to_sql(),
+        row.stop.to_sql(),
+        row.note.to_sql(),
+        row.touched.to_sql(),
+        row.resolved.to_sql(),
+    ]
+}
+
+/// The columns of an entry of a history.
+fn entry_columns<'a>(row: &NamedCorrPut<'a>) -> [ValueRef<'a>; 7]
+    ensures { bound result ≡ written named_corrs (lent_entry row.now) }
+{
+    [
+        row.para.to_sql(),
+        row.seq.to_sql(),
+        row.kind.to_sql(),
+        row.start.to_sql(),
+        row.len.to_sql(),
+        row.body.to_sql(),
+        row.who.to_sql(),
+    ]
+}
+
 /// Puts a row by its key, or sets columns of the row with a key, if it is there. Where a history has an entry of that number, the
 /// database refuses it.
 fn put<S: Alter>(alloc: Global, tx: &mut Transaction<'_, S>, put: Put<'_>) -> Result<(), Error>
@@ -75,74 +132,14 @@ fn put<S: Alter>(alloc: Global, tx: &mut Transaction<'_, S>, put: Put<'_>) -> Re
 {
     match put {
         Put::Book(row) => put_book(tx, &row),
-        Put::Tab { name, body } => run(tx, PUT_TAB, &[name.to_sql(), body.to_sql()]),
-        Put::Para {
-            id,
-            place,
-            tab,
-            original,
-            print,
-            style,
-            volume,
-            struck,
-        } => {
-            let print = encoded(alloc, print)?;
-            let columns = [
-                id.to_sql(),
-                place.to_sql(),
-                tab.to_sql(),
-                original.to_sql(),
-                print.as_str().to_sql(),
-                style.to_sql(),
-                volume.to_sql(),
-                struck.to_sql(),
-            ];
-            run(tx, PUT_PARA, &columns)
+        Put::Tab(row) => run(tx, PUT_TAB, &[row.name.to_sql(), row.body.to_sql()]),
+        Put::Para(row) => put_para(alloc, tx, &row),
+        Put::Mark(row) => run(tx, PUT_MARK, &mark_columns(&row)),
+        Put::Cache(row) => {
+            let cells = masks(alloc, row.cells)?;
+            run(tx, PUT_CACHE, &[row.para.to_sql(), cells.to_sql()])
         }
-        Put::Mark {
-            id,
-            para,
-            start,
-            stop,
-            note,
-            touched,
-            resolved,
-        } => {
-            let columns = [
-                id.to_sql(),
-                para.to_sql(),
-                start.to_sql(),
-                stop.to_sql(),
-                note.to_sql(),
-                touched.to_sql(),
-                resolved.to_sql(),
-            ];
-            run(tx, PUT_MARK, &columns)
-        }
-        Put::Cache { para, cells } => {
-            let cells = masks(alloc, cells)?;
-            run(tx, PUT_CACHE, &[para.to_sql(), cells.to_sql()])
-        }
-        Put::NamedCorr {
-            para,
-            seq,
-            kind,
-            start,
-            len,
-            body,
-            who,
-        } => {
-            let columns = [
-                para.to_sql(),
-                seq.to_sql(),
-                kind.to_sql(),
-                start.to_sql(),
-                len.to_sql(),
-                body.to_sql(),
-                who.to_sql(),
-            ];
-            run(tx, PUT_NAMED_CORR, &columns)
-        }
+        Put::NamedCorr(row) => run(tx, PUT_NAMED_CORR, &entry_columns(&row)),
         Put::Place { id, place } => run(tx, SET_PLACE, &[id.to_sql(), place.to_sql()]),
         Put::Flags {
             id,

@@ -21,7 +21,7 @@ ghost use Rattle.desk_rows.specs.Whole.{HaveOwnRowids, IsUtf8Row};
 
 use crate::fault::Fault;
 use crate::row::TableRow;
-use desk_book::rows::StoredTab;
+use desk_parts::StoredTab;
 use sqlite::{Alter, Connection, Row};
 use std::alloc::{AllocError, Global};
 use std::collections::BTreeSet;

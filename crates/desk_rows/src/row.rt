@@ -12,9 +12,7 @@ use crate::fault::Fault;
 use crate::texts::{
     READ_BOOKS, READ_CACHES, READ_CORRS, READ_MARKS, READ_NAMED_CORRS, READ_PARAS, READ_TABS,
 };
-use desk_book::rows::{
-    BookRow, CacheRow, CorrRow, MarkRow, NamedCorrRow, ParaRow, StoredTab, TabRow,
-};
+use desk_parts::{BookRow, CacheRow, CorrRow, MarkRow, NamedCorrRow, ParaRow, StoredTab, TabRow};
 use sqlite::Row;
 use sqlite::types::FromSql;
 

@@ -10,7 +10,7 @@ ghost use Rattle.desk_rows.specs.Tables.{is_table_or_view, is_there, which};
 use crate::texts::{
     CREATE_BOOK, CREATE_CACHE, CREATE_MARK, CREATE_NAMED_CORR, CREATE_PARA, CREATE_TAB,
 };
-use desk_book::parts::FileTable;
+use desk_parts::FileTable;
 use sqlite::{Alter, Connection};
 use sqlite_schema::names::same_name;
 use sqlite_schema::schema::View;

@@ -15,8 +15,7 @@ ghost use Rattle.sql_tables.specs.States.{IsCommitted, IsSettled, IsUndone, Show
 use crate::fault::Fault;
 use crate::make::create_all;
 use crate::put::put_all;
-use desk_book::parts::FileTable;
-use desk_book::rows::Put;
+use desk_parts::{FileTable, Put};
 use sqlite::{Alter, Connection, Error, Transaction};
 use std::alloc::Global;
 

@@ -12,8 +12,8 @@ use Rattle.sqlite.specs.State.{IsStatement, IsUnchanged, Shown, ShowsRows, State
 use Rattle.sqlite.specs.declared.error.Error.{Error}
 use Rattle.sql_tables.specs.States.{HasAnswer}
 use Rattle.sql_tables.proofs.Quiet.{never_returns, reads}
-use Rattle.desk_book.specs.FileRows.{EntryRows, Named, Unnamed}
-use Rattle.desk_book.specs.Rows.{Cached}
+use Rattle.desk_parts.specs.FileRows.{EntryRows, Named, Unnamed}
+use Rattle.desk_parts.specs.Rows.{Cached}
 use Rattle.desk_rows.specs.Asked.{AnswersRows, Gives, asked}
 use Rattle.desk_rows.specs.Contents.{Contents}
 use Rattle.desk_rows.specs.Described.{Which, books, tabs, paras, corrs, marks, caches, named_corrs}

@@ -8,8 +8,8 @@ use Rattle.sql_tables.specs.States.{IsSettled}
 use Rattle.desk_book.specs.Book.{Book}
 use Rattle.desk_book.specs.ChangePuts.{LeadTo}
 use Rattle.desk_book.specs.Changes.{Change}
-use Rattle.desk_book.specs.Puts.{HasItsTable, RowPut, PutBook, PutTab, PutPara, PutMark, PutCache, PutEntry, SetPlace, SetFlags, SetTable, SetPrint, SetSpan, SetResolved, SetVersion}
-use Rattle.desk_book.specs.FileRows.{FileRows}
+use Rattle.desk_parts.specs.Puts.{HasItsTable, RowPut, PutBook, PutTab, PutPara, PutMark, PutCache, PutEntry, SetPlace, SetFlags, SetTable, SetPrint, SetSpan, SetResolved, SetVersion}
+use Rattle.desk_parts.specs.FileRows.{FileRows}
 use Rattle.desk_book.specs.Shows.{Shows as RowsShow}
 use Rattle.desk_store.specs.BookFile.{rows_of}
 use Rattle.desk_store.specs.Books.{HasNewTables, HoldsBook, HoldsKept, IsKept, LeavesBook, LeavesEither, MayKeep, ShowsBook}

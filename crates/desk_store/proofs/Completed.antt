@@ -4,8 +4,8 @@ use Rattle.sqlite_schema.specs.declared.schema.Schema.{Schema}
 use Rattle.sqlite_trees.specs.Tree.{Trees}
 use Rattle.sqlite.specs.State.{State}
 use Rattle.desk_book.specs.Book.{empty_book}
-use Rattle.desk_book.specs.FileRows.{EntryRows, FileRows, Named, Unnamed}
-use Rattle.desk_book.specs.Rows.{Cached}
+use Rattle.desk_parts.specs.FileRows.{EntryRows, FileRows, Named, Unnamed}
+use Rattle.desk_parts.specs.Rows.{Cached}
 use Rattle.desk_book.specs.SameRows.{AreSameRows, AreSameCaches, AreSameEntries}
 use Rattle.desk_book.proofs.FilledRows.{new-shown}
 use Rattle.desk_store.specs.BookFile.{rows_of}

@@ -6,10 +6,10 @@ use Rattle.sqlite_catalog.specs.Change.{KeepsRows}
 use Rattle.sqlite.specs.State.{State}
 use Rattle.sql_tables.specs.Making.{KeepsAside}
 use Rattle.desk_book.specs.Book.{Book}
-use Rattle.desk_book.specs.FileRows.{FileRows}
+use Rattle.desk_parts.specs.FileRows.{FileRows}
 use Rattle.desk_book.specs.FilledRows.{Fills, entry_puts, with_empty}
-use Rattle.desk_book.specs.Puts.{RowPut, PutBook, PutTab, PutPara, PutMark, PutCache, PutEntry, SetPlace, SetFlags, SetTable, SetPrint, SetSpan, SetResolved, SetVersion, with_puts}
-use Rattle.desk_book.specs.Rows.{Cached, NamedCorr}
+use Rattle.desk_parts.specs.Puts.{RowPut, PutBook, PutTab, PutPara, PutMark, PutCache, PutEntry, SetPlace, SetFlags, SetTable, SetPrint, SetSpan, SetResolved, SetVersion, with_puts}
+use Rattle.desk_parts.specs.Rows.{Cached, NamedCorr}
 use Rattle.desk_book.specs.Shows.{Shows as RowsShow}
 use Rattle.desk_book.specs.declared.filling.NewTables.{NewTables}
 use Rattle.desk_book.specs.declared.filling.NewTables.TheVariants.{Braille, Entries, EntriesAndBraille}
@@ -24,7 +24,7 @@ use Rattle.desk_store.specs.Opened.{HasGained, HoldsWith, StandsAs, which_new}
 use Rattle.desk_rows.specs.Puts.{HasThem, put_into, puts_into}
 use Rattle.desk_rows.specs.States.{IsFile, Shows}
 use Rattle.desk_rows.specs.Tables.{AreWritten, which}
-use Rattle.desk_book.specs.declared.parts.FileTable.{FileTable}
+use Rattle.desk_parts.specs.declared.file_table.FileTable.{FileTable}
 use Rattle.desk_store.proofs.BookPuts.{all_put}
 
 -- ---- the tables of what is put

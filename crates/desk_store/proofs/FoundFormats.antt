@@ -2,7 +2,7 @@
 use Rattle.std.proofs.Common.{◌≡◌, Bool, ◌&&◌, not, true, false, refl, sym, ◌∙◌, subst, inl, inr, true≢false}
 use Rattle.sqlite_schema.specs.declared.schema.Schema.{Schema}
 use Rattle.sqlite.specs.State.{State}
-use Rattle.desk_book.specs.FileRows.{FileRows}
+use Rattle.desk_parts.specs.FileRows.{FileRows}
 use Rattle.desk_rows.specs.Contents.{Contents}
 use Rattle.desk_rows.specs.Described.{books, tabs, paras, corrs, marks, caches, named_corrs}
 use Rattle.desk_store.specs.Formats.{Format, HasThoseRead, IsExact, IsOfFormat, named, unnamed}

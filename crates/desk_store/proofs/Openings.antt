@@ -11,12 +11,12 @@ use Rattle.sqlite.specs.State.{HasCleanDisk, State, Survives}
 use Rattle.sqlite.proofs.StateLemmas.{survives_then}
 use Rattle.sql_tables.specs.States.{IsSettled, Leaves, ShowsAsBefore}
 use Rattle.desk_book.specs.Book.{Book, empty_book}
-use Rattle.desk_book.specs.FileRows.{FileRows}
+use Rattle.desk_parts.specs.FileRows.{FileRows}
 use Rattle.desk_book.specs.Rebuilt.{IsFaultOf}
 use Rattle.desk_book.specs.Shows.{Shows as RowsShow}
 use Rattle.desk_book.specs.declared.filling.NewTables.{NewTables}
-use Rattle.desk_book.specs.declared.parts.PartsFault.{PartsFault}
-use Rattle.desk_book.specs.declared.parts.PartsFault.TheVariants as rebuilt
+use Rattle.desk_book.specs.declared.damage.PartsFault.{PartsFault}
+use Rattle.desk_book.specs.declared.damage.PartsFault.TheVariants as rebuilt
 use Rattle.desk_book.proofs.OneBook.{one_book}
 use Rattle.desk_book.proofs.SameDamage.{first-damage}
 use Rattle.desk_book.proofs.SameRows.{shown, turned}

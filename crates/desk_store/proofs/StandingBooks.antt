@@ -8,11 +8,11 @@ use Rattle.sqlite_trees.specs.declared.store.Store.{Ghosts}
 use Rattle.sqlite.specs.Held.{Held, state}
 use Rattle.sqlite.specs.State.{State}
 use Rattle.desk_book.specs.Book.{Book}
-use Rattle.desk_book.specs.FileRows.{HasEntryTexts, Named, Unnamed, entries_in, format_of, unnamed as without_name}
-use Rattle.desk_book.specs.Rows.{Corr}
+use Rattle.desk_parts.specs.FileRows.{HasEntryTexts, Named, Unnamed, entries_in, format_of, unnamed as without_name}
+use Rattle.desk_parts.specs.Rows.{Corr}
 use Rattle.desk_book.specs.Shows.{Shows as RowsShow, book_row_of}
-use Rattle.desk_book.specs.declared.parts.FileTable.TheVariants.{Book as BookTable}
-use Rattle.desk_book.specs.declared.rows.BookRow.{BookRow}
+use Rattle.desk_parts.specs.declared.file_table.FileTable.TheVariants.{Book as BookTable}
+use Rattle.desk_parts.specs.declared.rows.BookRow.{BookRow}
 use Rattle.desk_book.proofs.OneBook.{one_book}
 use Rattle.desk_book.proofs.SoundEntryRows.{sound}
 use Rattle.desk_store.specs.BookFile.{rows_of}

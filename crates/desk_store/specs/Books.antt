@@ -11,7 +11,7 @@ use Rattle.sql_tables.specs.States.{Leaves}
 use Rattle.desk_book.specs.Book.{Book}
 use Rattle.desk_book.specs.ChangePuts.{LeadTo}
 use Rattle.desk_book.specs.Changes.{Carries, Change}
-use Rattle.desk_book.specs.Puts.{LendsFirst, RowPut}
+use Rattle.desk_parts.specs.Puts.{LendsFirst, RowPut}
 use Rattle.desk_book.specs.Shows.{Shows as RowsShow}
 use Rattle.desk_command.specs.declared.command.Command.{Command}
 use Rattle.desk_store.specs.BookFile.{rows_of}

@@ -12,14 +12,14 @@ use Rattle.sql_tables.specs.Making.{KeepsAside}
 use Rattle.sql_tables.specs.States.{ShowsAsBefore}
 use Rattle.desk_book.specs.Book.{Book, empty_book}
 use Rattle.desk_book.specs.Damage.{IsDamagedBook, IsFirstDamage}
-use Rattle.desk_book.specs.FileRows.{EntryRows, FileRows, Named, Unnamed}
+use Rattle.desk_parts.specs.FileRows.{EntryRows, FileRows, Named, Unnamed}
 use Rattle.desk_book.specs.SameRows.{AreSameRows}
 use Rattle.desk_book.specs.Shows.{Shows as RowsShow}
 use Rattle.desk_book.specs.declared.filling.NewTables.{NewTables}
 use Rattle.desk_book.specs.declared.filling.NewTables.TheVariants.{Braille, Entries, EntriesAndBraille}
-use Rattle.desk_book.specs.declared.parts.FileTable.{FileTable}
-use Rattle.desk_book.specs.declared.parts.FileTable.TheVariants.{Book as BookTable}
-use Rattle.desk_book.specs.declared.rows.BookRow.{BookRow}
+use Rattle.desk_parts.specs.declared.file_table.FileTable.{FileTable}
+use Rattle.desk_parts.specs.declared.file_table.FileTable.TheVariants.{Book as BookTable}
+use Rattle.desk_parts.specs.declared.rows.BookRow.{BookRow}
 use Rattle.desk_store.specs.BookFile.{rows_of}
 use Rattle.desk_store.specs.Books.{HasNewTables, HoldsBook, LeavesBook, ShowsBook}
 use Rattle.desk_rows.specs.Contents.{Contents}

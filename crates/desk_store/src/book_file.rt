@@ -8,7 +8,7 @@ ghost use Rattle.sqlite.specs.Held.{state};
 ghost use Rattle.desk_book.specs.Damage.{IsSoundBookRow};
 ghost use Rattle.sqlite.specs.State.{HasCleanDisk, Survives};
 ghost use Rattle.desk_book.specs.Book.{Book};
-ghost use Rattle.desk_book.specs.Rebuilt.{entry_rows, rows_in};
+ghost use Rattle.desk_parts.specs.Parts.{entry_rows, rows_in};
 ghost use Rattle.desk_book.specs.SameRows.{AreSameCaches, AreSameEntries};
 ghost use Rattle.desk_rows.specs.Contents.{Contents};
 ghost use Rattle.desk_store.specs.Formats.{Format, HasThoseRead, IsOfFormat};
@@ -21,8 +21,7 @@ ghost use Rattle.desk_rows.specs.Tables.{is_there, which};
 
 use crate::fault::OpenFault;
 use desk_book::MOST_VERSION;
-use desk_book::parts::{EntryRows, FileTable, Parts};
-use desk_book::rows::{BookRow, CacheRow};
+use desk_parts::{BookRow, CacheRow, EntryRows, FileTable, Parts};
 use desk_rows::{Fault, has_table, read_rows, read_tabs};
 use sqlite::{Alter, Connection};
 use std::alloc::Global;

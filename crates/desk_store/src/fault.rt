@@ -1,6 +1,7 @@
 //! Why no book is opened from a file.
 
-use desk_book::parts::{FileTable, PartsFault};
+use desk_book::PartsFault;
+use desk_parts::FileTable;
 use desk_rows::Fault;
 use thiserror::Error;
 

@@ -1,7 +1,7 @@
 //! The tables that a book's file lacks of those of a new one, made and filled.
 
 ghost use Rattle.std.specs.Prelude.{◌≡◌, false, IfErr, OnOk, map};
-ghost use Rattle.desk_book.specs.Rebuilt.{rows_in};
+ghost use Rattle.desk_parts.specs.Parts.{rows_in};
 ghost use Rattle.desk_rows.specs.Contents.{Contents};
 ghost use Rattle.desk_rows.specs.Layout.{Layout};
 ghost use Rattle.desk_store.specs.Opened.{HasGained, HoldsWith, StandsAs, lacked_by, which_new};
@@ -13,8 +13,8 @@ ghost use Rattle.sqlite.specs.Held.{state};
 ghost use Rattle.sqlite.specs.State.{HasCleanDisk, Survives};
 
 use crate::fault::OpenFault;
-use desk_book::parts::{EntryRows, FileTable, Parts};
 use desk_book::{Book, NewTables};
+use desk_parts::{EntryRows, FileTable, Parts};
 use desk_rows::{Fault, write_with_tables};
 use sqlite::{Alter, Connection, Error};
 use std::alloc::Global;

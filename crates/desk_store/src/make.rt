@@ -14,7 +14,7 @@ ghost use Rattle.desk_rows.specs.Tables.{is_there};
 ghost use Rattle.desk_rows.specs.Turns.{begun};
 
 use crate::fault::OpenFault;
-use desk_book::parts::FileTable;
+use desk_parts::FileTable;
 use desk_rows::{Fault, has_table, make_tables};
 use sqlite::{Alter, Connection};
 

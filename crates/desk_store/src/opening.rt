@@ -19,8 +19,8 @@ use crate::fault::OpenFault;
 use crate::fill::{fill, lacked_by};
 use crate::make::make_book;
 use crate::store::Store;
-use desk_book::parts::FileTable;
 use desk_book::{Book, NewTables};
+use desk_parts::FileTable;
 use sqlite::{Alter, Connection};
 use std::alloc::Global;
 

@@ -4,7 +4,7 @@ use Rattle.std.specs.Borrow.{Bor}
 use Rattle.desk_book.specs.declared.paragraphs.Paragraph.{Paragraph as KeptParagraph}
 use Rattle.desk_book.specs.Filling.{entry_puts_from, histories_from}
 use Rattle.desk_book.specs.Kept.{KeptParagraphs}
-use Rattle.desk_book.specs.Puts.{RowPuts}
+use Rattle.desk_parts.specs.Puts.{RowPuts}
 use Rattle.desk_book.proofs.FilledTables.{histories-there}
 use Rattle.desk_book.proofs.filling.first_history.Goals as goal
 

@@ -6,7 +6,7 @@ use Rattle.desk_book.specs.Damage.{IsDamagedCache}
 use Rattle.desk_book.specs.Judged.{HasCells, IsFirstId, without_cells}
 use Rattle.desk_book.specs.JudgedCaches.{AreAllRight, AreTheirCells, IsMisfit, IsTranslatable}
 use Rattle.desk_book.specs.Limits.{most_paragraphs}
-use Rattle.desk_book.specs.Rows.{Cached}
+use Rattle.desk_parts.specs.Rows.{Cached}
 use Rattle.desk_book.proofs.JudgedCaches.{few-items, first-misfit, has-cells, same-but-cells, their-cells, translatable, whole-rows}
 use Rattle.desk_book.proofs.judged_caches.judged_caches.Goals as goal
 

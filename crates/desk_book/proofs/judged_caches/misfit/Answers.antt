@@ -3,7 +3,7 @@ use Rattle.std.proofs.lemmas.Bool.{cases_lt}
 use Rattle.std.proofs.lemmas.Int.{ints, to_z-of_z}
 use Rattle.std.proofs.lemmas.Option.{slice_get_read, slice_get_past}
 use Rattle.desk_book.specs.JudgedCaches.{IsItsBraille, IsRightAt}
-use Rattle.desk_book.specs.Rows.{Cached}
+use Rattle.desk_parts.specs.Rows.{Cached}
 use Rattle.desk_book.proofs.judged_caches.misfit.Goals.{then-row-id-2-via-then-row-id-2, then-row-id-2-via-else-row-id-2+then-not-is_its_braille}
 use Rattle.desk_book.proofs.judged_caches.misfit.Goals as goal
 use lib.Signed.{lt_z}

@@ -1,6 +1,6 @@
 use Rattle.std.proofs.Common.{rules}
 use Rattle.std.proofs.lemmas.List.Sorted.{answers_always}
-use Rattle.desk_book.specs.Rows.{Cached}
+use Rattle.desk_parts.specs.Rows.{Cached}
 use Rattle.desk_book.proofs.judged_caches.sorted.Goals as goal
 
 pub returns-clause-sorted : goal.returns-clause-sorted

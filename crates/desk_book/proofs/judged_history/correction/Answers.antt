@@ -7,7 +7,7 @@ use Rattle.std.proofs.lemmas.Int.{ints, to_z-of_z}
 use Rattle.std.proofs.lemmas.Str.{chars_from_encodes}
 use Rattle.desk_book.specs.Corrected.{IsCorrection, replaced_by}
 use Rattle.desk_book.specs.Name.{IsProofreaderName}
-use Rattle.desk_book.specs.Rows.{Corr, NamedCorr}
+use Rattle.desk_parts.specs.Rows.{Corr, NamedCorr}
 use Rattle.desk_book.specs.Stored.{is_barred}
 use Rattle.desk_command.specs.Characters.{AreCharacters}
 use Rattle.desk_book.proofs.ReadEntries.{IsCorrecting-made, barred-some, piece, unbarred-none}

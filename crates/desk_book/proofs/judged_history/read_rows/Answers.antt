@@ -7,9 +7,9 @@ use Rattle.std.proofs.lemmas.List.{length_push, map-id}
 use Rattle.std.proofs.lemmas.Option.{slice_get_read}
 use Rattle.std.proofs.lemmas.Result.{err_from_is_err_and}
 use Rattle.std.proofs.lemmas.Str.{chars_from_encodes}
-use Rattle.desk_book.specs.declared.parts.RowsFault.TheVariants.{Damaged}
+use Rattle.desk_book.specs.declared.damage.RowsFault.TheVariants.{Damaged}
 use Rattle.desk_book.specs.JudgedHistory.{IsRead, IsSoundNext}
-use Rattle.desk_book.specs.Rows.{NamedCorr}
+use Rattle.desk_parts.specs.Rows.{NamedCorr}
 use Rattle.desk_book.proofs.HistoryLists.{take-more}
 use Rattle.desk_book.proofs.ReadRows.{AreSoundTo, nothing-read, sound-all, sound-more, sound-none, unsound-at}
 use Rattle.desk_book.proofs.judged_history.read_rows.Goals as goal

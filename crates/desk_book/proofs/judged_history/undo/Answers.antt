@@ -7,7 +7,7 @@ use Rattle.desk_book.specs.Book.{Replacement}
 use Rattle.desk_book.specs.Corrected.{replaced_by}
 use Rattle.desk_book.specs.Damage.{IsSoundUndo}
 use Rattle.desk_book.specs.Histories.{entries_kept}
-use Rattle.desk_book.specs.Rows.{Corr, NamedCorr}
+use Rattle.desk_parts.specs.Rows.{Corr, NamedCorr}
 use Rattle.desk_book.proofs.ReadEntries.{IsNext-undo, undone-span}
 use Rattle.desk_book.proofs.judged_history.undo.Goals as goal
 

@@ -5,7 +5,7 @@ use Rattle.std.specs.Str.{chars}
 use Rattle.desk_book.specs.declared.marks.KeptMark.{KeptMark}
 use Rattle.desk_book.specs.Damage.{IsFlag}
 use Rattle.desk_book.specs.JudgedMarks.{HasId, IsKeptOf, IsMarkOn, IsNoteText, IsSpan}
-use Rattle.desk_book.specs.Rows.{Mark}
+use Rattle.desk_parts.specs.Rows.{Mark}
 use Rattle.desk_book.specs.Shows.{flag_number}
 use Rattle.desk_book.proofs.judged_marks.mark_of.Goals as goal
 

@@ -2,7 +2,7 @@ use Rattle.std.proofs.Common.{◌≡◌, ◌∷◌, ◌++◌, [], List, length, 
 use Rattle.std.proofs.lemmas.Int.{to_z-of_z}
 use Rattle.std.specs.Vec.Iter.{into_iter_items}
 use Rattle.desk_book.specs.JudgedMarks.{AreKeptOf, IsNext}
-use Rattle.desk_book.specs.Rows.{Mark}
+use Rattle.desk_parts.specs.Rows.{Mark}
 use Rattle.desk_book.proofs.MarkRows.{first-unsound, kept-more}
 use Rattle.desk_book.proofs.judged_marks.marks_of.Goals as goal
 

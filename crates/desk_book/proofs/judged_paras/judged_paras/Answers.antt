@@ -2,14 +2,14 @@ use Rattle.std.proofs.Common.{◌≡◌, List, [], length}
 use Rattle.std.specs.List.{All}
 use Rattle.std.specs.List.Sorted.{IsPermutation}
 use Rattle.desk_book.specs.declared.judged_paras.JudgedParas.{JudgedParas}
-use Rattle.desk_book.specs.declared.parts.RowsFault.{RowsFault}
-use Rattle.desk_book.specs.declared.parts.RowsFault.TheVariants.{Damaged, NoMemory}
+use Rattle.desk_book.specs.declared.damage.RowsFault.{RowsFault}
+use Rattle.desk_book.specs.declared.damage.RowsFault.TheVariants.{Damaged, NoMemory}
 use Rattle.desk_book.specs.declared.paragraphs.Paragraph.{Paragraph as KeptParagraph}
 use Rattle.desk_book.specs.Damage.{IsDamagedPara}
 use Rattle.desk_book.specs.Judged.{AreInPlaces, AreOf, AreTables, IsWhole, TellsDamage}
 use Rattle.desk_book.specs.JudgedParas.{AreInOrder, AreKeptOf, TellsUnsound}
 use Rattle.desk_book.specs.Kept.{KeptTables}
-use Rattle.desk_book.specs.Rows.{Para, Tab}
+use Rattle.desk_parts.specs.Rows.{Para, Tab}
 use Rattle.desk_book.proofs.KeptLookups.{IfErr-weaker, IfOk-weaker}
 use Rattle.desk_book.proofs.ParaOrder.{are-of, in-places, tells, unmarked, whole}
 use Rattle.desk_book.proofs.judged_paras.judged_paras.Goals as goal

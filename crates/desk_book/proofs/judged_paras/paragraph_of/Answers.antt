@@ -9,7 +9,7 @@ use Rattle.desk_command.specs.declared.style.Style.{Style}
 use Rattle.desk_command.specs.declared.style.Style.TheVariants.{Body, Heading}
 use Rattle.desk_book.specs.Damage.{IsFlag, IsPrintText}
 use Rattle.desk_book.specs.JudgedParas.{AreDefinedBy, IsKeptOf, IsParaOn}
-use Rattle.desk_book.specs.Rows.{Para}
+use Rattle.desk_parts.specs.Rows.{Para}
 use Rattle.desk_book.specs.Shows.{flag_number, style_number}
 use Rattle.desk_book.proofs.judged_paras.paragraph_of.Goals as goal
 

@@ -4,7 +4,7 @@ use Rattle.std.proofs.lemmas.Option.{slice_get_within}
 use Rattle.std.specs.Vec.Iter.{into_iter_items}
 use Rattle.desk_book.specs.declared.paragraphs.Paragraph.{Paragraph as KeptParagraph}
 use Rattle.desk_book.specs.JudgedParas.{AreKeptOf, IsFree, IsKeptOf, IsNext, IsParaOn}
-use Rattle.desk_book.specs.Rows.{Para}
+use Rattle.desk_parts.specs.Rows.{Para}
 use Rattle.desk_book.proofs.ParaRows.{first-unsound, kept-more}
 use Rattle.desk_book.proofs.judged_paras.paragraphs_of.Goals as goal
 

@@ -1,6 +1,6 @@
 use Rattle.std.proofs.Common.{rules}
 use Rattle.std.proofs.lemmas.List.Sorted.{answers_always}
-use Rattle.desk_book.specs.Rows.{Para}
+use Rattle.desk_parts.specs.Rows.{Para}
 use Rattle.desk_book.proofs.judged_paras.sort.Goals as goal
 
 pub returns-clause-sorted : goal.returns-clause-sorted

@@ -5,7 +5,7 @@ use Rattle.louis_table.specs.Table.{Means}
 use Rattle.std.specs.Str.{chars}
 use Rattle.std.specs.Cmp.Lexicographic.{pointwise}
 use Rattle.std.proofs.lemmas.Result.{err_from_is_err_and}
-use Rattle.desk_book.specs.FileRows.{HasTabText}
+use Rattle.desk_parts.specs.FileRows.{HasTabText}
 use Rattle.desk_book.specs.JudgedTabs.{AreRead, MayCome, TellsNoMeaning, TellsUnsoundTab}
 use Rattle.desk_book.specs.Kept.{with_table}
 use Rattle.desk_book.proofs.ReadTabs.{count, may-come, more-read, number-after, untold}

@@ -4,7 +4,7 @@ use Rattle.std.specs.Vec.Iter.{into_iter_items}
 use Rattle.std.proofs.lemmas.List.{map-append}
 use Rattle.std.proofs.lemmas.Result.{err_from_is_err_and}
 use Rattle.desk_book.specs.JudgedTabs.{AreRead, TellsFirstUnsound, rows_of}
-use Rattle.desk_book.specs.Rows.{StoredTab, Tab}
+use Rattle.desk_parts.specs.Rows.{StoredTab, Tab}
 use Rattle.desk_book.proofs.ReadTabs.{first-unsound, none-read}
 use Rattle.desk_book.proofs.judged_tabs.tables_of.Goals as goal
 

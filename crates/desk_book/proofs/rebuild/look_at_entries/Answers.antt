@@ -4,8 +4,8 @@ use Rattle.std.specs.Prelude.{IsUtf8}
 use Rattle.std.proofs.lemmas.List.{take_all}
 use Rattle.std.proofs.lemmas.List.Elements.{All-more}
 use Rattle.std.proofs.lemmas.Str.{IsUtf8-string_bytes}
-use Rattle.desk_book.specs.FileRows.{HasEntryTexts}
-use Rattle.desk_book.specs.Rows.{Corr, NamedCorr}
+use Rattle.desk_parts.specs.FileRows.{HasEntryTexts}
+use Rattle.desk_parts.specs.Rows.{Corr, NamedCorr}
 use Rattle.desk_book.proofs.rebuild.look_at_entries.Goals as goal
 
 pub loop-row-preserved : goal.loop-row-preserved

@@ -1,6 +1,6 @@
 use Rattle.std.proofs.Common.{take}
 use Rattle.std.specs.List.{All}
-use Rattle.desk_book.specs.FileRows.{HasEntryTexts}
+use Rattle.desk_parts.specs.FileRows.{HasEntryTexts}
 use Rattle.desk_book.proofs.rebuild.look_at_entries.Given as goal
 
 abbrev pub invariant-loop-row : goal.invariant-loop-row

@@ -4,8 +4,8 @@ use Rattle.std.specs.Prelude.{IsUtf8}
 use Rattle.std.proofs.lemmas.List.{take_all}
 use Rattle.std.proofs.lemmas.List.Elements.{All-more}
 use Rattle.std.proofs.lemmas.Str.{IsUtf8-string_bytes}
-use Rattle.desk_book.specs.FileRows.{HasMarkText}
-use Rattle.desk_book.specs.Rows.{Mark}
+use Rattle.desk_parts.specs.FileRows.{HasMarkText}
+use Rattle.desk_parts.specs.Rows.{Mark}
 use Rattle.desk_book.proofs.rebuild.look_at_marks.Goals as goal
 
 pub loop-row-preserved : goal.loop-row-preserved

@@ -1,5 +1,5 @@
 use Rattle.std.proofs.Common.{◌≡◌, map}
-use Rattle.desk_book.specs.FileRows.{unnamed}
+use Rattle.desk_parts.specs.FileRows.{unnamed}
 use Rattle.desk_book.proofs.rebuild.with_no_names.Given as goal
 
 abbrev pub invariant-loop-entry : goal.invariant-loop-entry

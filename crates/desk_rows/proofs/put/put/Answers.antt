@@ -1,30 +1,26 @@
 use Rattle.std.proofs.Common.{rules}
 use Rattle.std.proofs.Math.Facts.{to_z-of_z}
-use Rattle.desk_book.specs.declared.rows.Put.TheVariants as lent
-use Rattle.desk_book.specs.Puts.{put_of}
+use Rattle.desk_parts.specs.declared.put.Put.TheVariants as lent
+use Rattle.desk_parts.specs.Puts.{put_of}
 use Rattle.sql_tables.specs.States.{seen}
 use Rattle.desk_rows.proofs.Changing.{put_as}
 use Rattle.desk_rows.proofs.put.put.Goals as goal
 
 pub returns-in-Tab-clause-put : goal.returns-in-Tab-clause-put
 returns-in-Tab-clause-put g c clean =
-    rw c.in-Tab.is (put_as (put_of (lent.Tab c.in-Tab.name c.in-Tab.body)) (seen g.S.Store c.args.tx.now) (seen g.S.Store c.run.new.tx) c.run.result _ (c.run.ensures.runs clean) (search (rules, to_z-of_z)))
-
-pub returns-in_ok-print-in-Para-clause-put : goal.returns-in_ok-print-in-Para-clause-put
-returns-in_ok-print-in-Para-clause-put g c clean =
-    rw c.in-Para.is (put_as (put_of (lent.Para c.in-Para.id c.in-Para.place c.in-Para.tab c.in-Para.original c.in-Para.print c.in-Para.style c.in-Para.volume c.in-Para.struck)) (seen g.S.Store c.args.tx.now) (seen g.S.Store c.run-in-Para.new.tx) c.run-in-Para.result _ (c.run-in-Para.ensures.runs clean) (search (rules, to_z-of_z)))
+    rw c.in-Tab.is (put_as (put_of (lent.Tab c.in-Tab.row)) (seen g.S.Store c.args.tx.now) (seen g.S.Store c.run.new.tx) c.run.result _ (c.run.ensures.runs clean) (search (rules, to_z-of_z)))
 
 pub returns-in-Mark-clause-put : goal.returns-in-Mark-clause-put
 returns-in-Mark-clause-put g c clean =
-    rw c.in-Mark.is (put_as (put_of (lent.Mark c.in-Mark.id c.in-Mark.para c.in-Mark.start c.in-Mark.stop c.in-Mark.note c.in-Mark.touched c.in-Mark.resolved)) (seen g.S.Store c.args.tx.now) (seen g.S.Store c.run-in-Mark.new.tx) c.run-in-Mark.result _ (c.run-in-Mark.ensures.runs clean) (search (rules, to_z-of_z)))
+    rw c.in-Mark.is (put_as (put_of (lent.Mark c.in-Mark.row)) (seen g.S.Store c.args.tx.now) (seen g.S.Store c.run-in-Mark.new.tx) c.run-in-Mark.result _ (c.run-in-Mark.ensures.runs clean) (search (rules, to_z-of_z)))
 
 pub returns-in_ok-cells-in-Cache-clause-put : goal.returns-in_ok-cells-in-Cache-clause-put
 returns-in_ok-cells-in-Cache-clause-put g c clean =
-    rw c.in-Cache.is (put_as (put_of (lent.Cache c.in-Cache.para c.in-Cache.cells)) (seen g.S.Store c.args.tx.now) (seen g.S.Store c.run-in-Cache.new.tx) c.run-in-Cache.result _ (c.run-in-Cache.ensures.runs clean) (search (rules, to_z-of_z)))
+    rw c.in-Cache.is (put_as (put_of (lent.Cache c.in-Cache.row)) (seen g.S.Store c.args.tx.now) (seen g.S.Store c.run-in-Cache.new.tx) c.run-in-Cache.result _ (c.run-in-Cache.ensures.runs clean) (search (rules, to_z-of_z)))
 
 pub returns-in-NamedCorr-clause-put : goal.returns-in-NamedCorr-clause-put
 returns-in-NamedCorr-clause-put g c clean =
-    rw c.in-NamedCorr.is (put_as (put_of (lent.NamedCorr c.in-NamedCorr.para c.in-NamedCorr.seq c.in-NamedCorr.kind c.in-NamedCorr.start c.in-NamedCorr.len c.in-NamedCorr.body c.in-NamedCorr.who)) (seen g.S.Store c.args.tx.now) (seen g.S.Store c.run-in-NamedCorr.new.tx) c.run-in-NamedCorr.result _ (c.run-in-NamedCorr.ensures.runs clean) (search (rules, to_z-of_z)))
+    rw c.in-NamedCorr.is (put_as (put_of (lent.NamedCorr c.in-NamedCorr.row)) (seen g.S.Store c.args.tx.now) (seen g.S.Store c.run-in-NamedCorr.new.tx) c.run-in-NamedCorr.result _ (c.run-in-NamedCorr.ensures.runs clean) (search (rules, to_z-of_z)))
 
 pub returns-in-Place-clause-put : goal.returns-in-Place-clause-put
 returns-in-Place-clause-put g c clean =

@@ -5,7 +5,7 @@ use Rattle.sqlite.specs.State.{HasCleanDisk}
 use Rattle.sqlite.proofs.InsideLemmas.{keeps_then}
 use Rattle.sqlite.proofs.StateLemmas.{survives_then}
 use Rattle.sql_tables.specs.States.{seen}
-use Rattle.desk_book.specs.Puts.{put_of}
+use Rattle.desk_parts.specs.Puts.{put_of}
 use Rattle.desk_rows.specs.Puts.{PutsAll, statement}
 use Rattle.desk_rows.specs.Turns.{RunInTurn}
 use Rattle.desk_rows.proofs.Changing.{puts_more}

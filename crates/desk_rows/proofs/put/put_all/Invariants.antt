@@ -1,6 +1,6 @@
 use Rattle.std.proofs.Common.{◌≡◌, map, true}
 use Rattle.sqlite.specs.State.{HasCleanDisk, KeepsCommit, Survives}
-use Rattle.desk_book.specs.Puts.{put_of}
+use Rattle.desk_parts.specs.Puts.{put_of}
 use Rattle.desk_rows.specs.Puts.{PutsAll, statement}
 use Rattle.desk_rows.specs.Turns.{RunInTurn}
 use Rattle.sql_tables.specs.States.{seen}

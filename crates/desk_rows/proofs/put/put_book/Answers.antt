@@ -1,7 +1,7 @@
 use Rattle.std.proofs.Common.{rules}
 use Rattle.std.proofs.Math.Facts.{to_z-of_z}
 use Rattle.sql_tables.specs.States.{seen}
-use Rattle.desk_book.specs.Puts.{PutBook}
+use Rattle.desk_parts.specs.Puts.{PutBook}
 use Rattle.desk_rows.proofs.Changing.{put_as}
 use Rattle.desk_rows.proofs.put.put_book.Goals as goal
 

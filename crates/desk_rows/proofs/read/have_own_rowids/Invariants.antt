@@ -2,7 +2,7 @@ use Rattle.std.proofs.Common.{◌≡◌, ℤ, map, take}
 use Rattle.std.specs.List.{list_any}
 use Rattle.std.specs.Ordering.{int_cmp, int_eq}
 use Rattle.std.specs.BTreeSet.{contains}
-use Rattle.desk_book.specs.Rows.{StoredTab}
+use Rattle.desk_parts.specs.Rows.{StoredTab}
 use Rattle.desk_rows.specs.Whole.{HaveOwnRowids}
 use Rattle.desk_rows.proofs.read.have_own_rowids.Given as goal
 

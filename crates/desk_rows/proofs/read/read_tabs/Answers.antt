@@ -1,7 +1,7 @@
 use Rattle.std.proofs.Common.{List, subst}
 use Rattle.std.proofs.lemmas.Result.{err_from_is_err_and}
 use Rattle.sqlite.specs.Held.{state}
-use Rattle.desk_book.specs.Rows.{StoredTab}
+use Rattle.desk_parts.specs.Rows.{StoredTab}
 use Rattle.desk_rows.specs.Described.{tabs}
 use Rattle.desk_rows.specs.Whole.{HaveOwnRowids}
 use Rattle.desk_rows.proofs.Answering.{are_apart, are_together, not_judged, not_read}

@@ -3,7 +3,7 @@ use Rattle.std.proofs.lemmas.Int.{to_z-of_z}
 use Rattle.std.proofs.lemmas.Result.{err_from_is_err_and}
 use Rattle.sqlite.specs.Held.{state}
 use Rattle.sqlite.specs.State.{HasCleanDisk}
-use Rattle.desk_book.specs.declared.rows.BookRow.{BookRow}
+use Rattle.desk_parts.specs.declared.rows.BookRow.{BookRow}
 use Rattle.desk_rows.specs.Asked.{AnyRows}
 use Rattle.desk_rows.specs.Described.{books}
 use Rattle.desk_store.specs.Formats.{Format, IsOfFormat}

@@ -2,7 +2,7 @@ use Rattle.std.proofs.Common.{arith, option_map, refl, ◌∙◌}
 use Rattle.std.proofs.lemmas.Result.{err_from_is_err_and}
 use Rattle.sqlite.specs.Held.{state}
 use Rattle.sqlite.specs.State.{HasCleanDisk}
-use Rattle.desk_book.specs.Rebuilt.{entry_rows}
+use Rattle.desk_parts.specs.Parts.{entry_rows}
 use Rattle.desk_rows.specs.Asked.{AnyRows}
 use Rattle.desk_rows.specs.Described.{marks, paras, tabs}
 use Rattle.desk_store.specs.Opening.{Stays, format_read}

@@ -1,7 +1,7 @@
 use Rattle.std.proofs.Common.{List, map, refl, subst}
 use Rattle.sqlite.specs.Held.{state}
 use Rattle.sqlite.proofs.StateLemmas.{survives_weaker}
-use Rattle.desk_book.specs.Puts.{RowPut}
+use Rattle.desk_parts.specs.Puts.{RowPut}
 use Rattle.desk_rows.specs.Making.{IsFileWithTables, WritesWithTables}
 use Rattle.desk_rows.specs.Tables.{which}
 use Rattle.desk_rows.proofs.LentPuts.{all_lent}

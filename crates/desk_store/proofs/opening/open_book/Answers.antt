@@ -3,7 +3,7 @@ use Rattle.std.proofs.lemmas.Result.{err_from_is_err_and}
 use Rattle.sqlite.proofs.StateLemmas.{survives_weaker}
 use Rattle.sqlite.specs.Held.{state}
 use Rattle.sqlite.specs.State.{HasCleanDisk}
-use Rattle.desk_book.specs.Rebuilt.{rows_in}
+use Rattle.desk_parts.specs.Parts.{rows_in}
 use Rattle.desk_book.specs.declared.filling.NewTables.{NewTables}
 use Rattle.desk_store.specs.Books.{LeavesBook}
 use Rattle.desk_rows.specs.Contents.{Contents}

@@ -1,7 +1,7 @@
 use Rattle.std.proofs.Common.{List, subst}
 use Rattle.sqlite.specs.Held.{state}
 use Rattle.sqlite.proofs.StateLemmas.{survives_weaker}
-use Rattle.desk_book.specs.Puts.{RowPut}
+use Rattle.desk_parts.specs.Puts.{RowPut}
 use Rattle.desk_rows.specs.Puts.{IsFileWith, Writes}
 use Rattle.desk_store.proofs.BookKeeps.{holds_next, is_kept}
 use Rattle.desk_rows.proofs.LentPuts.{all_lent}

@@ -3,12 +3,13 @@ use Rattle.std.specs.List.{All}
 use Rattle.std.specs.Prelude.{IfErr}
 use Rattle.std.proofs.lemmas.Int.{to_z-of_z}
 use Rattle.std.proofs.lemmas.Result.{err_from_is_err_and}
-use Rattle.desk_book.specs.declared.parts.FileTable.TheVariants.{Tab, Para, Mark}
+use Rattle.desk_parts.specs.declared.file_table.FileTable.TheVariants.{Tab, Para, Mark}
 use Rattle.desk_book.specs.Damage.{IsDamagedMark, IsDamagedPara, IsDamagedTab, IsWithin}
-use Rattle.desk_book.specs.FileRows.{HasMarkText}
+use Rattle.desk_parts.specs.FileRows.{HasMarkText}
 use Rattle.desk_book.specs.Judged.{AreInPlaces, AreMarksOf, AreOf, AreTables, HaveMarks, IsWhole, without_marks}
 use Rattle.desk_book.specs.Limits.{most_version}
-use Rattle.desk_book.specs.Rebuilt.{IsFaultOf, rows_in}
+use Rattle.desk_book.specs.Rebuilt.{IsFaultOf}
+use Rattle.desk_parts.specs.Parts.{rows_in}
 use Rattle.desk_book.specs.Shows.{Shows}
 use Rattle.desk_book.proofs.FirstTables.{of-table-fault, of-table-rows}
 use Rattle.desk_book.proofs.KeptRows.{order-permutes}

@@ -4,7 +4,7 @@ use Rattle.std.specs.Borrow.{Bor}
 use Rattle.desk_book.specs.declared.paragraphs.Paragraph.{Paragraph as KeptParagraph}
 use Rattle.desk_book.specs.Filling.{braille_from, braille_put}
 use Rattle.desk_book.specs.Kept.{KeptParagraphs}
-use Rattle.desk_book.specs.Puts.{RowPut}
+use Rattle.desk_parts.specs.Puts.{RowPut}
 use Rattle.desk_book.proofs.KeptBooks.{drop-there, drop-past}
 use Rattle.desk_book.proofs.filling.BraillePuts.next.Goals as goal
 

@@ -3,7 +3,7 @@ use Rattle.std.specs.Option.{option_copied}
 use Rattle.std.specs.Prelude.{slice_get}
 use Rattle.std.proofs.Math.Facts.{to_z-of_z}
 use Rattle.desk_book.specs.ChangePuts.{further_from, further_put, row_number}
-use Rattle.desk_book.specs.Puts.{SetPlace}
+use Rattle.desk_parts.specs.Puts.{SetPlace}
 use Rattle.desk_book.proofs.Arranging.{option_copied-item}
 use Rattle.desk_book.proofs.PutLists.{numbered-past, numbered-there}
 use Rattle.desk_book.proofs.puts.FurtherPuts.next.Goals as goal

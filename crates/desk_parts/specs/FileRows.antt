@@ -2,10 +2,10 @@
 use Rattle.std.specs.Prelude.{ℕ, List, [], map, Option, IsUtf8}
 use Rattle.std.specs.List.{All}
 use Rattle.std.specs.Str.{chars}
-use Rattle.desk_book.specs.declared.parts.FileTable.{FileTable}
-use Rattle.desk_book.specs.declared.parts.FileTable.TheVariants.{Corr as CorrTable, NamedCorr as NamedCorrTable}
-use Rattle.desk_book.specs.declared.rows.BookRow.{BookRow}
-use Rattle.desk_book.specs.Rows.{Tab, Para, Corr, NamedCorr, Mark, Cached}
+use Rattle.desk_parts.specs.declared.file_table.FileTable.{FileTable}
+use Rattle.desk_parts.specs.declared.file_table.FileTable.TheVariants.{Corr as CorrTable, NamedCorr as NamedCorrTable}
+use Rattle.desk_parts.specs.declared.rows.BookRow.{BookRow}
+use Rattle.desk_parts.specs.Rows.{Tab, Para, Corr, NamedCorr, Mark, Cached}
 
 -- The entries of all histories: of the table `corr`, as the first format keeps them, or of `corr2`, as the second does.
 pub data EntryRows : Type 0 where

@@ -2,12 +2,17 @@
 use Rattle.std.specs.Prelude.{◌≡◌, ℕ, ℤ, pos, Bool, not, if◌then◌else◌, List, [], ◌∷◌, map, filter, fold, Option, option_map, option_to_list, MatchOption, IsSome, bytes_eq, encode_utf8_all}
 use Rattle.std.specs.List.{All}
 use Rattle.std.specs.Ordering.{int_eq}
-use Rattle.desk_book.specs.declared.parts.FileTable.TheVariants.{NamedCorr as NamedCorrTable}
-use Rattle.desk_book.specs.declared.rows.BookRow.{BookRow}
-use Rattle.desk_book.specs.declared.rows.Put.{Put}
-use Rattle.desk_book.specs.declared.rows.Put.TheVariants as lent
-use Rattle.desk_book.specs.FileRows.{EntryRows, FileRows, Named, Unnamed, table_of}
-use Rattle.desk_book.specs.Rows.{Tab, Para, NamedCorr, Mark, Cached}
+use Rattle.desk_parts.specs.declared.file_table.FileTable.TheVariants.{NamedCorr as NamedCorrTable}
+use Rattle.desk_parts.specs.declared.rows.BookRow.{BookRow}
+use Rattle.desk_parts.specs.declared.put.CachePut.{CachePut}
+use Rattle.desk_parts.specs.declared.put.MarkPut.{MarkPut}
+use Rattle.desk_parts.specs.declared.put.NamedCorrPut.{NamedCorrPut}
+use Rattle.desk_parts.specs.declared.put.ParaPut.{ParaPut}
+use Rattle.desk_parts.specs.declared.put.Put.{Put}
+use Rattle.desk_parts.specs.declared.put.TabPut.{TabPut}
+use Rattle.desk_parts.specs.declared.put.Put.TheVariants as lent
+use Rattle.desk_parts.specs.FileRows.{EntryRows, FileRows, Named, Unnamed, table_of}
+use Rattle.desk_parts.specs.Rows.{Tab, Para, NamedCorr, Mark, Cached}
 
 -- A row that is added, or replaces the one with its key, or columns that the row with a key gets. A text is its bytes.
 pub data RowPut : Type 0 where
@@ -28,34 +33,57 @@ pub data RowPut : Type 0 where
 abbrev pub RowPuts : Type 0
 RowPuts = List RowPut
 
+-- the row that is lent
+abbrev pub lent_tab : TabPut → Tab
+lent_tab row = record { name = row.name.now; body = row.body.now }
+
+abbrev pub lent_para : ParaPut → Para
+lent_para row = record {
+  id = row.id;
+  place = row.place;
+  tab = row.tab.now;
+  original = row.original.now;
+  print = encode_utf8_all row.print.now;
+  style = row.style;
+  volume = row.volume;
+  struck = row.struck;
+}
+
+abbrev pub lent_mark : MarkPut → Mark
+lent_mark row = record {
+  id = row.id;
+  para = row.para;
+  start = row.start;
+  stop = row.stop;
+  note = row.note.now;
+  touched = row.touched;
+  resolved = row.resolved;
+}
+
+abbrev pub lent_cells : CachePut → Cached
+lent_cells row = record { para = row.para; cells = row.cells.now }
+
+abbrev pub lent_entry : NamedCorrPut → NamedCorr
+lent_entry row = record {
+  entry = record {
+    para = row.para;
+    seq = row.seq;
+    kind = row.kind;
+    start = row.start;
+    len = row.len;
+    body = row.body.now;
+  };
+  who = row.who.now;
+}
+
 -- what a lent one puts
 abbrev pub put_of : Put → RowPut
 put_of (lent.Book row) = PutBook row
-put_of (lent.Tab name body) = PutTab (record { name = name.now; body = body.now })
-put_of (lent.Para id place tab original print style volume struck) = PutPara (record {
-  id = id;
-  place = place;
-  tab = tab.now;
-  original = original.now;
-  print = encode_utf8_all print.now;
-  style = style;
-  volume = volume;
-  struck = struck;
-})
-put_of (lent.Mark id para start stop note touched resolved) = PutMark (record {
-  id = id;
-  para = para;
-  start = start;
-  stop = stop;
-  note = note.now;
-  touched = touched;
-  resolved = resolved;
-})
-put_of (lent.Cache para cells) = PutCache (record { para = para; cells = cells.now })
-put_of (lent.NamedCorr para seq kind start len body who) = PutEntry (record {
-  entry = record { para = para; seq = seq; kind = kind; start = start; len = len; body = body.now };
-  who = who.now;
-})
+put_of (lent.Tab row) = PutTab (lent_tab row)
+put_of (lent.Para row) = PutPara (lent_para row)
+put_of (lent.Mark row) = PutMark (lent_mark row)
+put_of (lent.Cache row) = PutCache (lent_cells row)
+put_of (lent.NamedCorr row) = PutEntry (lent_entry row)
 put_of (lent.Place id place) = SetPlace id place
 put_of (lent.Flags id style volume struck) = SetFlags id style volume struck
 put_of (lent.Table id tab) = SetTable id tab.now
