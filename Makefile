@@ -12,8 +12,8 @@ RT ?= rt
 PROGRAM := build/braildesk
 SOURCES := crates.txt HANDLES $(shell find crates -type f \( -path '*/src/*' -o -path '*/specs/*' -o -path '*/proofs/*' \) -not -path '*/out/*')
 
-# How many checks the gate runs side by side: one a processor, where each has 5 GB. Unless told, rt reckons with up to 13 GB for
-# one, of which few take 4 and none takes 7, and lets processors wait.
+# How many checks the gate runs side by side: one for each processor, if there are 5 GB of memory for each. Left alone, rt allows up
+# to 13 GB for one, of which few take 4 and none takes 7, and leaves processors idle.
 JOBS ?= $(shell awk -v n="$$(nproc)" '/^MemAvailable/ { m = int($$2 / 5000000); print m < 1 ? 1 : m < n ? m : n }' /proc/meminfo)
 
 # the crates that the program stands on, each after those below it
