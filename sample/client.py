@@ -28,7 +28,9 @@ def ask(request):
     sys.exit(session.wait())
 
 
-ask("supply en")
+_, ending = ask("supply en")
+if ending[0] != "ok":
+    sys.exit(" ".join(ending))
 for text in sys.stdin:
     _, ending = ask("type end en " + text.rstrip("\n"))
     print(*ask("braille " + ending[2])[0] if ending[0] == "ok" else ending)

@@ -6,7 +6,7 @@
 # run this.
 #
 # file2brl is set to lay out as we do: no page numbers of the print, the number of a page at the end of a last line of its own, body text
-# with a first line indented by two cells, headings with all lines indented by four behind one empty line, no hyphens, and CR LF and form
+# with a first line indented by two cells, headings with all lines indented by four after one empty line, no hyphens, and CR LF and form
 # feed as ends. Nothing else is the same by settings:
 # - It translates the number of a page by its table, so the table here has a sign for numbers and gives each digit no sign of its own.
 # - It ends a line with a hyphen where it cuts a word that is longer than its room, and we don't. No word here is longer than the least

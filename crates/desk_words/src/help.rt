@@ -52,13 +52,14 @@ Exit status:
      no 92           the file is not a book, and can't be made one
      no 93 TABLE ID  the book in the file is damaged
      no 94           the book is of a newer format
-     no 98           the file can't be opened
+     no 98           the file can't be opened, or is in use
      no 99 VERSION   the file holds a book already
   3  the file could not be written, or standard output failed";
 
 /// The end of the help of `session`.
 pub const SESSION: &str = "\
-Each request is answered when what it changes is kept in the file.
+Each request is answered in turn: a command by 'ok' when the file keeps it, or by 'no' and a code when it
+is refused. docs/FORMATS.md has the requests, the replies and what each code means.
 
 Example:
   printf 'supply en\\ntype end en Hello\\nbraille 1\\n' | braildesk session book.braildesk
@@ -71,7 +72,7 @@ Exit status:
      no 92           the file is not a book
      no 93 TABLE ID  the book in the file is damaged
      no 94           the book is of a newer format
-     no 98           the file is not there, or can't be opened
+     no 98           the file is not there, can't be opened, or is in use
   3  the file could not be read, the book could not be kept, or standard input or standard output failed";
 
 /// The end of the help of `export`.
@@ -91,7 +92,7 @@ Exit status:
      no 94            the book is of a newer format
      no 95 PARA CELL  a cell of the volume has dot 7 or 8
      no 96            the book has no such volume
-     no 98            the file is not there, or can't be opened
+     no 98            the file is not there, can't be opened, or is in use
   3  the file could not be read, or standard output failed";
 
 /// The end of the help of `translate`.
@@ -128,5 +129,5 @@ Exit status:
      no 92           the file is not a book
      no 93 TABLE ID  the book in the file is damaged
      no 94           the book is of a newer format
-     no 98           the file is not there, or can't be opened
+     no 98           the file is not there, can't be opened, or is in use
   3  the file could not be read, or standard output failed";
