@@ -2,7 +2,7 @@
 use Rattle.std.proofs.Common.{◌≡◌, List, [], ◌∷◌, map, sym, ap, ◌∙◌}
 use Rattle.std.specs.Iterator.{Drains}
 use Rattle.desk_parts.specs.declared.put.Put.{Put}
-use Rattle.desk_parts.specs.Puts.{LendsFirst, RowPut, RowPuts, put_of}
+use Rattle.desk_parts.specs.Puts.{LendsFirst, RowPuts, put_of}
 use Rattle.desk_rows.specs.Puts.{Lends}
 
 drained : (puts : RowPuts) (lent : List Put) → Drains LendsFirst puts lent → map put_of lent ≡ puts
