@@ -6,6 +6,7 @@ pub mod Changing
 pub mod Committing
 pub mod Creates
 pub mod Distinct
+pub mod Ending
 pub mod FileTexts
 pub mod Kept
 pub mod LentPuts

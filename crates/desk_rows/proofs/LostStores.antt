@@ -14,7 +14,7 @@ use Rattle.desk_parts.specs.Puts.{RowPut, put_of}
 use Rattle.sql_tables.proofs.Failures.{IsCaused, answered, fails_so}
 use Rattle.sql_tables.proofs.Refusals.{not_of_store}
 use Rattle.desk_rows.specs.Described.{Which, books}
-use Rattle.desk_rows.specs.Failing.{FailsToChange, FailsToPut, Putting, after_tables, at_commit, at_put, at_table, of_first_row, of_items}
+use Rattle.desk_rows.specs.Failing.{FailsToChange, FailsToPut, Putting, after_tables, at_commit, at_put, of_first_row, of_items}
 use Rattle.desk_rows.specs.Fault.{CountsLoss}
 use Rattle.desk_rows.specs.Making.{creation, first_row}
 use Rattle.desk_rows.specs.Puts.{NotPut, row_put, statement}
@@ -111,17 +111,16 @@ module _ {S : Type 0} (g : Ghosts S) where
   pub first_row_lost : StopsLost (of_first_row g)
   first_row_lost old new e stopped clean = failed (row_put books first_row) (state g old) new e stopped
 
-  put_goes : (putting : Putting S) (old : Held S) (new : State) (e : Error) → FailsToPut g putting old new e → Goes (state g old) new
-  put_goes putting old new e (at_put last ran stopped left) = goes_then (state g old) (state g last) new (goes _ _ _ ran) (goes _ _ _ left)
-  put_goes putting old new e (at_commit last ran put left why) = goes_then (state g old) (state g last) new (goes _ _ _ ran) (goes _ _ _ left)
-
   pub put_lost : (putting : Putting S) → StopsLost putting → (old : Held S) (new : State) (e : Error) → FailsToPut g putting old new e → Loss (state g old) new e
   put_lost putting stops old new e (at_put last ran stopped left) = early_loss (state g old) (state g last) new e (stops old (state g last) e stopped) (goes _ _ _ left)
   put_lost putting stops old new e (at_commit last ran put left why) =
       later_loss (state g old) (state g last) new e _ ran (goes _ _ _ left) (λ clean. caused (state g last) new e (fails_so (state g last) new ⊥ e why))
 
+  tables_lost : (ws : List Which) (putting : Putting S) → StopsLost putting → StopsLost (after_tables g ws putting)
+  tables_lost ws putting stops old new e (inl stopped) =
+      stops_lost (map creation stopped.done) (Failed (creation stopped.next)) old new e (λ a b. failed (creation stopped.next) a b e) stopped.stops
+  tables_lost ws putting stops old new e (inr it) =
+      later_loss (state g old) (state g it.0) new e _ it.1 (goes (state g it.0) new _ it.3) (stops it.0 new e it.4)
+
   pub change_lost : (ws : List Which) (putting : Putting S) → StopsLost putting → (old : Held S) (new : State) (e : Error) → FailsToChange g ws putting old new e → Loss (state g old) new e
-  change_lost ws putting stops old new e (at_table last stopped left) =
-      early_loss (state g old) (state g last) new e (stops_lost (map creation stopped.done) (Failed (creation stopped.next)) old (state g last) e (λ a b. failed (creation stopped.next) a b e) stopped.stops) (goes _ _ _ left)
-  change_lost ws putting stops old new e (after_tables made ran are why) =
-      later_loss (state g old) (state g made) new e _ ran (put_goes putting made new e why) (put_lost putting stops made new e why)
+  change_lost ws putting stops = put_lost (after_tables g ws putting) (tables_lost ws putting stops)

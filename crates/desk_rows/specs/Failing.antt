@@ -1,6 +1,6 @@
 -- Why a change as one transaction fails, in the database's words. Between two statements the connection keeps its limit on steps and counts
 -- its failures, and a crash leaves nothing new.
-use Rattle.std.specs.Prelude.{◌≡◌, List, ◌∷◌, ◌++◌, map, Option}
+use Rattle.std.specs.Prelude.{◌≡◌, ◌⊎◌, List, ◌∷◌, ◌++◌, map, Option}
 use Rattle.sqlite_trees.specs.declared.store.Store.{Ghosts}
 use Rattle.sqlite.specs.declared.error.Error.{Error}
 use Rattle.sqlite.specs.Held.{Held, state}
@@ -39,6 +39,16 @@ of_first_row g = record {
   puts = λ old new. PutsRow books first_row (state g old) (state g new) × Ran (row_put books first_row) (state g old) (state g new);
 }
 
+-- These tables are made first: some of them aren't, or what is put then isn't.
+abbrev pub after_tables : {S : Type 0} → Ghosts S → List Which → Putting S → Putting S
+after_tables {S} g ws putting = record {
+  stops = λ old new e. StopsMaking g ws old new e
+      ⊎ ((made : Held S) × Survives (state g old) (state g made) (λ _. ⊥) × AreMade g ws old made
+      × Survives (state g made) new (λ _. ⊥) × putting.stops made new e);
+  puts = λ old new. (made : Held S) × Survives (state g old) (state g made) (λ _. ⊥) × AreMade g ws old made
+      × Survives (state g made) (state g new) (λ _. ⊥) × putting.puts made new;
+}
+
 module _ {S : Type 0} (g : Ghosts S) where
   -- The putting is stopped, and then all of it is undone, or the store fails at the commit.
   pub data FailsToPut (putting : Putting S) (old : Held S) (new : State) (e : Error) : Type 0 where
@@ -50,10 +60,5 @@ module _ {S : Type 0} (g : Ghosts S) where
         → Survives (state g last) new (λ db. db ≡ (state g last).now.trees)
         → Fails (state g last) new ⊥ e → FailsToPut putting old new e
 
-  -- Some of these tables aren't made, or what is put then isn't.
-  pub data FailsToChange (ws : List Which) (putting : Putting S) (old : Held S) (new : State) (e : Error) : Type 0 where
-    at_table : (last : Held S) → StopsMaking g ws old (state g last) e
-        → Survives (state g last) new (λ _. ⊥) → FailsToChange ws putting old new e
-    after_tables : (made : Held S) → Survives (state g old) (state g made) (λ _. ⊥)
-        → AreMade g ws old made
-        → FailsToPut putting made new e → FailsToChange ws putting old new e
+  abbrev pub FailsToChange : List Which → Putting S → Held S → State → Error → Type 0
+  FailsToChange ws putting = FailsToPut (after_tables g ws putting)

@@ -5,6 +5,7 @@ pub mod Layout
 pub mod Contents
 pub mod States
 pub mod Turns
+pub mod Ending
 pub mod Puts
 pub mod Fault
 pub mod Asked

@@ -5,7 +5,7 @@ ghost use Rattle.sqlite.specs.Held.{state};
 ghost use Rattle.sqlite.specs.State.{HasCleanDisk, KeepsCommit, Survives};
 ghost use Rattle.sql_tables.specs.States.{IsCommitted, IsSettled, IsUndone, ShowsAsBefore, seen};
 ghost use Rattle.desk_rows.specs.Described.{described};
-ghost use Rattle.desk_rows.specs.Failing.{FailsToChange, StopsMaking, of_first_row};
+ghost use Rattle.desk_rows.specs.Failing.{FailsToChange, StopsMaking, after_tables, of_first_row};
 ghost use Rattle.desk_rows.specs.Fault.{CountsLoss, IsToldAs};
 ghost use Rattle.desk_rows.specs.Making.{AreAbsent, AreMade, IsMade, IsNew, MakesTables, creation, made, making, new_tables};
 ghost use Rattle.desk_rows.specs.States.{Shows};
@@ -15,7 +15,7 @@ ghost use Rattle.desk_rows.specs.Turns.{AreRun, Failed, IsLeftBy, Ran, begun};
 use crate::fault::Fault;
 use crate::put::{put_book, run};
 use crate::table::create_text;
-use crate::transaction::begin;
+use crate::transaction::{begin, end};
 use desk_parts::{BookRow, FileTable};
 use sqlite::{Alter, Connection, Error, Transaction};
 
@@ -97,6 +97,28 @@ fn put_first_row<S: Alter>(tx: &mut Transaction<'_, S>) -> Result<(), Error>
     put_book(tx, &row)
 }
 
+/// Makes the tables of a new file and puts its row. The error is the database's.
+fn make_all<S: Alter>(tx: &mut Transaction<'_, S>) -> Result<(), Error>
+    ensures same_reference { tx.new.conn.ghost_name ≡ tx.old.conn.ghost_name }
+    ensures put { HasCleanDisk (seen S.Store tx.new)
+        → OnOk result ((after_tables S.Store new_tables (of_first_row S.Store)).puts tx.old.conn.now
+        tx.new.conn.now) }
+    ensures was_open { HasCleanDisk (seen S.Store tx.new)
+        → OnOk result (IsTrue (seen S.Store tx.old).is_open) }
+    ensures inside { HasCleanDisk (seen S.Store tx.new)
+        → (seen S.Store tx.old).in_transaction ≡ true
+        → OnOk result ((seen S.Store tx.new).in_transaction ≡ true) }
+    ensures told { HasCleanDisk (seen S.Store tx.new) → (seen S.Store tx.old).in_transaction ≡ true
+        → IfErr result ((after_tables S.Store new_tables (of_first_row S.Store)).stops tx.old.conn.now
+        (seen S.Store tx.new)) }
+    ensures kept { HasCleanDisk (seen S.Store tx.new)
+        → KeepsCommit (seen S.Store tx.old) (seen S.Store tx.new) }
+    ensures survives { Survives (seen S.Store tx.old) (seen S.Store tx.new) (λ _. ⊥) }
+{
+    create_all(tx, &NEW_TABLES)?;
+    put_first_row(tx)
+}
+
 /// Makes the six tables with the row of a new book, in format 2 and at version 0, as one. Where a table counts its rowids and the
 /// database's counter is missing, the counter is made too, with no rows. The error is the database's, and a crash then leaves none of the
 /// tables or all of them.
@@ -138,8 +160,6 @@ pub fn make_tables<S: Alter>(conn: &mut Connection<S>) -> Result<(), Error>
         → Survives (state S.Store conn.old) (state S.Store conn.new) (λ _. ⊥)) }
 {
     let mut tx = begin(conn);
-    create_all(&mut tx, &NEW_TABLES)?;
-    put_first_row(&mut tx)?;
-    tx.commit()?;
-    Ok(())
+    let ran = make_all(&mut tx);
+    end(tx, ran)
 }

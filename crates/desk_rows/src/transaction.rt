@@ -1,16 +1,17 @@
 //! A change of the file, as one transaction.
 
-ghost use Rattle.std.specs.Prelude.{◌≡◌, ◌++◌, false, true, IfErr, IsTrue, OnErr, OnOk, map};
+ghost use Rattle.std.specs.Prelude.{◌≡◌, ◌++◌, false, true, IfErr, IsOk, IsTrue, OnErr, OnOk, map};
 ghost use Rattle.std.specs.Iterator.{IsFinite};
 ghost use Rattle.sqlite.specs.Held.{state};
-ghost use Rattle.sqlite.specs.State.{HasCleanDisk, IsLive, Survives};
-ghost use Rattle.desk_rows.specs.Failing.{FailsToChange, FailsToPut, of_items};
+ghost use Rattle.sqlite.specs.State.{HasCleanDisk, IsLive, KeepsCommit, Survives};
+ghost use Rattle.desk_rows.specs.Ending.{Ends};
+ghost use Rattle.desk_rows.specs.Failing.{FailsToChange, FailsToPut, after_tables, of_items};
 ghost use Rattle.desk_rows.specs.Fault.{CountsLoss, IsToldAs};
 ghost use Rattle.desk_rows.specs.Puts.{IsFileWith, OfItems, Writes, statement};
 ghost use Rattle.desk_rows.specs.Making.{IsFileWithTables, WritesWithTables, creation};
 ghost use Rattle.desk_rows.specs.Tables.{AreWritten, which};
 ghost use Rattle.desk_rows.specs.Turns.{AreRun, IsLeftBy, begun};
-ghost use Rattle.sql_tables.specs.States.{IsCommitted, IsSettled, IsUndone, ShowsAsBefore};
+ghost use Rattle.sql_tables.specs.States.{IsCommitted, IsSettled, IsUndone, ShowsAsBefore, seen};
 
 use crate::fault::Fault;
 use crate::make::create_all;
@@ -33,10 +34,22 @@ pub(crate) fn begin<S: Alter>(conn: &mut Connection<S>) -> Transaction<'_, S>
     conn.transaction()
 }
 
+/// Ends a transaction in which something ran with this answer: commits it, or undoes it where that failed. The error is that one, or the
+/// database's.
+pub(crate) fn end<S: Alter>(tx: Transaction<'_, S>, ran: Result<(), Error>) -> Result<(), Error>
+    ensures ended { tx.exit.0.now.in_transaction ≡ false }
+    ensures ends { HasCleanDisk (state S.Store tx.exit.0.now)
+        → Ends ran result (seen S.Store tx.entry) (state S.Store tx.exit.0.now) }
+    ensures survives { Survives (seen S.Store tx.entry) (state S.Store tx.exit.0.now)
+        (λ db. IsOk ran × (db ≡ (seen S.Store tx.entry).now.trees)) }
+{
+    ran?;
+    tx.commit()
+}
+
 /// Puts in turn what an iterator lends and commits it, as one. The caller's condition: the iterator ends. The error is the database's, or
-/// want of memory for what is put. A
-/// connection that is open then shows the last commit, which is that of before, and a crash leaves the rows from before or, where the store
-/// failed, all of these.
+/// want of memory for what is put. A connection that is open then shows the last commit, which is that of before, and a crash leaves the
+/// rows from before or, where the store failed, all of these.
 pub fn write<'a, S: Alter, I: Iterator<Item = Put<'a>> + Drop>(
     alloc: Global,
     conn: &mut Connection<S>,
@@ -81,9 +94,36 @@ pub fn write<'a, S: Alter, I: Iterator<Item = Put<'a>> + Drop>(
         → Survives (state S.Store conn.old) (state S.Store conn.new) (λ _. ⊥)) }
 {
     let mut tx = begin(conn);
-    put_all(alloc, &mut tx, puts)?;
-    tx.commit()?;
-    Ok(())
+    let ran = put_all(alloc, &mut tx, puts);
+    end(tx, ran)
+}
+
+/// Makes these tables and puts in turn what an iterator lends. The error is the database's, or want of memory for what is put.
+fn make_and_put<'a, S: Alter, I: Iterator<Item = Put<'a>> + Drop>(
+    alloc: Global,
+    tx: &mut Transaction<'_, S>,
+    tables: &[FileTable],
+    puts: I,
+) -> Result<(), Error>
+    requires written { AreWritten tables.now }
+    requires can { I.can_next puts }
+    requires ends { IsFinite (I.remaining puts) }
+    ensures same_reference { tx.new.conn.ghost_name ≡ tx.old.conn.ghost_name }
+    ensures put { HasCleanDisk (seen S.Store tx.new)
+        → OnOk result ((after_tables S.Store (map which tables.now)
+        (of_items S.Store I.next_gives puts)).puts tx.old.conn.now tx.new.conn.now) }
+    ensures inside { HasCleanDisk (seen S.Store tx.new)
+        → (seen S.Store tx.old).in_transaction ≡ true
+        → OnOk result ((seen S.Store tx.new).in_transaction ≡ true) }
+    ensures told { HasCleanDisk (seen S.Store tx.new) → (seen S.Store tx.old).in_transaction ≡ true
+        → IfErr result ((after_tables S.Store (map which tables.now)
+        (of_items S.Store I.next_gives puts)).stops tx.old.conn.now (seen S.Store tx.new)) }
+    ensures kept { HasCleanDisk (seen S.Store tx.new)
+        → KeepsCommit (seen S.Store tx.old) (seen S.Store tx.new) }
+    ensures survives { Survives (seen S.Store tx.old) (seen S.Store tx.new) (λ _. ⊥) }
+{
+    create_all(tx, tables)?;
+    put_all(alloc, tx, puts)
 }
 
 /// Makes these tables, puts in turn what an iterator lends and commits all of it, as one: so a file gets the tables that it lacks together
@@ -135,9 +175,7 @@ pub fn write_with_tables<'a, S: Alter, I: Iterator<Item = Put<'a>> + Drop>(
         → IfErr result (λ e. IsToldAs e Fault.Refused
         → Survives (state S.Store conn.old) (state S.Store conn.new) (λ _. ⊥)) }
 {
-    let mut both = begin(conn);
-    create_all(&mut both, tables)?;
-    put_all(alloc, &mut both, puts)?;
-    both.commit()?;
-    Ok(())
+    let mut tx = begin(conn);
+    let ran = make_and_put(alloc, &mut tx, tables, puts);
+    end(tx, ran)
 }

@@ -3,7 +3,6 @@ pub mod Apart
 pub mod ByRowid
 pub mod Casts
 pub mod Columns
-pub mod Commits
 pub mod Counting
 pub mod Creating
 pub mod Declaring

@@ -1,6 +1,7 @@
 use Rattle.std.proofs.Common.{arith, rules, w64, SFits, ◌≡◌, true, false, List, sym, subst, ◌∙◌, true≢false, IsPermutation}
 use Rattle.std.proofs.lemmas.Int.{to_z-of_z}
 use Rattle.std.proofs.lemmas.Result.{err_from_is_err_and}
+use Rattle.sqlite.proofs.StateLemmas.{survives_then}
 use Rattle.sqlite.specs.Held.{state}
 use Rattle.sqlite.specs.State.{HasCleanDisk}
 use Rattle.desk_parts.specs.declared.rows.BookRow.{BookRow}
@@ -10,7 +11,6 @@ use Rattle.desk_store.specs.Formats.{Format, IsOfFormat}
 use Rattle.desk_store.specs.Found.{CanAllAnswer}
 use Rattle.desk_store.specs.Opening.{CanAllBeRead, ShowsReadable, Stays, TellsOfRow, format_in, format_read, has_tables}
 use Rattle.desk_store.proofs.AnyFile.{can_all_still, readable_still}
-use Rattle.desk_rows.proofs.Committing.{survive_both}
 use Rattle.desk_store.proofs.JudgedTables.{books_answered, books_in, file_rows, has_books, has_its_tables, judged, kept_by_row, lacks_readable, lacks_tables, of_the_row, read_told, read_whole, refusal_is, row_is_sound, row_told, tables_there}
 use Rattle.desk_store.proofs.Opened.{as_listed, shows_still, stays_read, stays_then}
 use Rattle.desk_store.proofs.book_file.read_parts.Goals as goal
@@ -140,4 +140,4 @@ returns-clause-unchanged g c clean =
 
 pub returns-clause-survives : goal.returns-clause-survives
 returns-clause-survives g c =
-    survive_both (state g.S.Store c.args.conn.now) (state g.S.Store c.read_rows.new.conn) (state g.S.Store c.read_rest.new.conn) c.read_rows.ensures.survives c.read_rest.ensures.survives
+    survives_then (state g.S.Store c.args.conn.now) (state g.S.Store c.read_rows.new.conn) (state g.S.Store c.read_rest.new.conn) _ _ _ (λ _ db none. none) (λ _ db none. none) c.read_rows.ensures.survives c.read_rest.ensures.survives
