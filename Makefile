@@ -29,7 +29,7 @@ need_rt = $(if $(shell command -v '$(RT)' 2> /dev/null),,$(error the command '$(
 $(PROGRAM): $(SOURCES)
 	$(need_rt)
 	@mkdir -p $(@D)
-	@echo 'Proving what the program needs. From nothing this takes an hour or more; a crate that is unchanged takes seconds.' >&2
+	@echo 'Proving what the program needs. From nothing this may take an hour; a crate that is unchanged takes seconds.' >&2
 	@set -e; count=0; for part in $(PARTS); do \
 	    count=$$((count + 1)); echo "[$$count of $(words $(PARTS))] $$part" >&2; \
 	    (cd crates/$$part && $(RT) check > '$(CURDIR)/build/log' 2>&1) || { cat build/log; exit 1; }; \
