@@ -1,3 +1,4 @@
 pub mod Ends
 pub mod Sent
 pub mod Cells
+pub mod Block

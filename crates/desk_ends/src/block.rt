@@ -1,5 +1,6 @@
 //! Text that waits to be sent.
 ghost use Rattle.cell_core.specs.Cell.{braille_character};
+ghost use Rattle.desk_ends.specs.Block.{AreEncoded, encoded as encoded_lem};
 ghost use Rattle.std.specs.Prelude.{IsTrue, [], encode_utf8, length, ◌+◌, ◌++◌, ◌<◌, ◌≡◌, ◌≤◌, ◌↔◌, ◌∷◌};
 
 use cell_core::Cell;
@@ -11,22 +12,31 @@ pub const BLOCK_BYTES: usize = 3 * 4096;
 /// The bytes of a cell's character in UTF-8.
 pub const CELL_BYTES: usize = 3;
 
+/// How many cells there are.
+const CELLS: usize = 256;
+
+/// One byte more than a block holds, since a cell is put as four bytes, the last of which counts for nothing.
+const ROOM: usize = BLOCK_BYTES + 1;
+
 /// Bytes that wait to be sent together, at most `BLOCK_BYTES` of them. Contracts see their list.
 #[derive(Drop)]
 pub struct Block {
-    bytes: [u8; BLOCK_BYTES],
+    bytes: [u8; ROOM],
     len: usize,
+    // the bytes of each cell's character, the first in the lowest part
+    encoded: [u32; CELLS],
 }
 
 impl Model for Block {
     ghost use Rattle.std.specs.Prelude.{List, take, ℕ, ◌≤◌};
+    ghost use Rattle.desk_ends.specs.Block.{AreEncoded};
     ghost use Rattle.desk_ends.specs.declared.block.TheConstants.{BLOCK_BYTES};
 
     ghost Value = { List ℕ };
 
     ghost view = { λ b. take b.len b.bytes };
 
-    ghost invariant = { λ b. b.len ≤ BLOCK_BYTES };
+    ghost invariant = { λ b. (b.len ≤ BLOCK_BYTES) × AreEncoded b.encoded };
 }
 
 impl Block {
@@ -35,8 +45,9 @@ impl Block {
         ensures { result ≡ [] }
     {
         Block {
-            bytes: [0; BLOCK_BYTES],
+            bytes: [0; ROOM],
             len: 0,
+            encoded: encode_all(),
         }
     }
 
@@ -52,7 +63,7 @@ impl Block {
     pub fn has_room(&self) -> bool
         ensures { IsTrue result ↔ (length self.now + CELL_BYTES ≤ BLOCK_BYTES) }
     {
-        BLOCK_BYTES - self.len >= CELL_BYTES
+        self.len <= BLOCK_BYTES - CELL_BYTES
     }
 
     /// Adds a byte.
@@ -65,18 +76,18 @@ impl Block {
         self.len += 1;
     }
 
-    /// Adds the UTF-8 of a cell's character, U+2800 and the mask: 0xE2 and two bytes with six bits of
-    /// the character each.
+    /// Adds the UTF-8 of a cell's character, U+2800 and the mask. It is looked up, and put by one write of four bytes.
     #[inline(always)]
     pub fn push_cell(&mut self, cell: Cell)
         requires { length self.old + CELL_BYTES ≤ BLOCK_BYTES }
         ensures { self.new ≡ self.old ++ encode_utf8 (braille_character cell) }
     {
-        let mask = cell.mask();
+        let encoded = self.encoded[cell.mask() as usize];
         let len = self.len;
-        self.bytes[len] = 0xE2;
-        self.bytes[len + 1] = 0xA0 + mask / 64;
-        self.bytes[len + 2] = 0x80 + mask % 64;
+        self.bytes[len] = (encoded % 256) as u8;
+        self.bytes[len + 1] = (encoded / 256 % 256) as u8;
+        self.bytes[len + 2] = (encoded / 65_536 % 256) as u8;
+        self.bytes[len + 3] = (encoded / 16_777_216) as u8;
         self.len = len + CELL_BYTES;
     }
 
@@ -86,4 +97,25 @@ impl Block {
     {
         self.len = 0;
     }
+}
+
+/// The three bytes of the character of the cell with a mask, the first in the lowest part: 0xE2 and two bytes with six
+/// bits of the character each.
+fn encoded(mask: u8) -> u32
+    ensures { result ≡ encoded_lem mask }
+{
+    let second = 0xA0 + mask / 64;
+    let third = 0x80 + mask % 64;
+    0xE2 + 256 * u32::from(second) + 65_536 * u32::from(third)
+}
+
+/// The bytes of each cell's character, by the cells' masks.
+fn encode_all() -> [u32; CELLS]
+    ensures { AreEncoded result }
+{
+    let mut all = [0; CELLS];
+    for mask in 0..CELLS {
+        all[mask] = encoded(mask as u8);
+    }
+    all
 }

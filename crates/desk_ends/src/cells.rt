@@ -44,9 +44,9 @@ fn put_each<K: Sink>(sink: &mut K, block: &mut Block, cells: &[Cell]) -> Result<
     Ok(())
 }
 
-/// Puts a cell behind the block, which is sent first if it has no room for one.
+/// Puts a cell, as a character, behind the block, which is sent first if it has no room for one.
 #[inline(always)]
-fn put_cell<K: Sink>(sink: &mut K, block: &mut Block, cell: Cell) -> Result<(), Failed>
+pub fn put_cell<K: Sink>(sink: &mut K, block: &mut Block, cell: Cell) -> Result<(), Failed>
     ensures { Puts K.Sink sink.old sink.new
         (block.old ++ encode_utf8 (braille_character cell)) block.new (is_ok result) }
 {

@@ -19,6 +19,6 @@ mod texts;
 
 pub use block::Block;
 pub use buffered::Buffered;
-pub use cells::{put_cells, send_block};
+pub use cells::{put_cell, put_cells, send_block};
 pub use ends::{Failed, Memory, Sink, Source};
 pub use texts::{send, send_parts};

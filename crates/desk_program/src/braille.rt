@@ -1,13 +1,14 @@
 //! The braille of a print, sent in blocks.
 ghost use Rattle.desk_ends.specs.Cells.{text_of};
 ghost use Rattle.desk_ends.specs.Sent.{Puts, Sends};
+ghost use Rattle.desk_program.specs.Braille.{PutsFirst};
 ghost use Rattle.louis_translate.specs.Braille.{braille};
 ghost use Rattle.louis_translate.specs.Position.{AreDefined};
 ghost use Rattle.louis_translate.specs.Tiling.{Tiles};
 ghost use Rattle.louis_translate.specs.declared.choices.Choice.{Choice as ChoiceTerm};
 ghost use Rattle.std.specs.Prelude.{List, [], is_ok, ◌++◌, ◌∷◌};
 
-use desk_ends::{Block, Failed, Sink, put_cells, send_block};
+use desk_ends::{Block, Failed, Sink, put_cell, put_cells, send_block};
 use louis_translate::{Pieces, RuleBook};
 
 /// Sends the braille of a print and a line feed.
@@ -27,7 +28,8 @@ pub fn send_braille<K: Sink, B: RuleBook>(
     send_block(sink, block)
 }
 
-/// Puts the braille of a print behind the block.
+/// Puts the braille of a print behind the block: the run of lone cells that it begins with, and then each piece that
+/// is no lone cell, with the run after it.
 fn put_print<K: Sink, B: RuleBook>(
     sink: &mut K,
     block: &mut Block,
@@ -40,9 +42,27 @@ fn put_print<K: Sink, B: RuleBook>(
         (block.old ++ text_of (braille (B.meaning book.now) print.now choices))
         block.new (is_ok result) }
 {
-    for piece in Pieces::new(book, print) {
+    let mut pieces = Pieces::new(book, print);
+    put_run(sink, block, &mut pieces)?;
+    while let Some(piece) = pieces.next_chosen() {
         put_cells(sink, block, piece.sign)?;
         put_cells(sink, block, piece.own)?;
+        put_run(sink, block, &mut pieces)?;
+    }
+    Ok(())
+}
+
+/// Puts the run of lone cells that the pieces begin with, and takes it from them.
+#[inline(always)]
+fn put_run<K: Sink, B: RuleBook>(
+    sink: &mut K,
+    block: &mut Block,
+    pieces: &mut Pieces<'_, B>,
+) -> Result<(), Failed>
+    ensures { PutsFirst K.Sink sink.old sink.new block.old block.new pieces.old pieces.new (is_ok result) }
+{
+    while let Some(cell) = pieces.next_lone() {
+        put_cell(sink, block, cell)?;
     }
     Ok(())
 }

@@ -2,7 +2,7 @@
 ghost use Rattle.desk_program.specs.Refusal.{FindsUndefined};
 ghost use Rattle.desk_program.specs.Reply.{most_characters};
 ghost use Rattle.std.specs.Prelude.{IfOk, List, OnErr, OnOk, [], length, ◌++◌, ◌<◌, ◌≡◌, ◌≤◌, ◌∷◌, ℕ};
-ghost use Rattle.std.specs.Str.{chars};
+ghost use Rattle.std.specs.Str.{IsAscii, chars};
 
 use louis_translate::{RuleBook, is_defined};
 use std::marker::Model;
@@ -64,38 +64,82 @@ impl Print {
         ensures many { OnErr result (most_characters < length (chars text.now)) }
         ensures undefined { IfOk result (FindsUndefined (B.meaning book.now) (chars text.now)) }
     {
+        let bytes = text.as_bytes();
+        if bytes.is_ascii() {
+            return self.read_ascii(book, bytes);
+        }
+        self.copy(text)?;
+        Ok(first_undefined(book, self.as_slice()))
+    }
+
+    /// The same for a text whose bytes are characters each.
+    fn read_ascii<B: RuleBook>(
+        &mut self,
+        book: &B,
+        bytes: &[u8],
+    ) -> Result<Option<usize>, TooManyCharacters>
+        requires { IsAscii bytes.now }
+        ensures read { OnOk result (self.new ≡ chars bytes.now) }
+        ensures few { OnOk result (length (chars bytes.now) ≤ most_characters) }
+        ensures many { OnErr result (most_characters < length (chars bytes.now)) }
+        ensures undefined { IfOk result (FindsUndefined (B.meaning book.now) (chars bytes.now)) }
+    {
+        self.copy_ascii(bytes)?;
+        Ok(first_undefined_byte(book, bytes))
+    }
+
+    /// Takes the characters of a text in place of its own, if they are not too many.
+    #[inline(never)]
+    fn copy(&mut self, text: &str) -> Result<(), TooManyCharacters>
+        ensures copied { OnOk result (self.new ≡ chars text.now) }
+        ensures few { OnOk result (length (chars text.now) ≤ most_characters) }
+        ensures many { OnErr result (most_characters < length (chars text.now)) }
+    {
         let mut len = 0;
-        let mut undefined = None;
         for character in text.chars() {
             if len == MOST_CHARACTERS {
                 return Err(TooManyCharacters);
             }
-            undefined = first_undefined(book, undefined, character, len);
             self.characters[len] = character;
             len += 1;
         }
         self.len = len;
-        Ok(undefined)
+        Ok(())
+    }
+
+    /// The same for a text whose bytes are characters each. A processor copies many of them at a time.
+    #[inline(never)]
+    fn copy_ascii(&mut self, bytes: &[u8]) -> Result<(), TooManyCharacters>
+        requires { IsAscii bytes.now }
+        ensures copied { OnOk result (self.new ≡ chars bytes.now) }
+        ensures few { OnOk result (length (chars bytes.now) ≤ most_characters) }
+        ensures many { OnErr result (most_characters < length (chars bytes.now)) }
+    {
+        if bytes.len() > MOST_CHARACTERS {
+            return Err(TooManyCharacters);
+        }
+        for (place, byte) in bytes.iter().enumerate() {
+            self.characters[place] = char::from(*byte);
+        }
+        self.len = bytes.len();
+        Ok(())
     }
 }
 
-/// The first undefined place of some characters and one more, by that of those before it.
-#[inline(always)]
-fn first_undefined<B: RuleBook>(
-    book: &B,
-    found: Option<usize>,
-    character: char,
-    place: usize,
-) -> Option<usize>
-    ensures { (print : List ℕ) → length print ≡ place
-        → FindsUndefined (B.meaning book.now) print found
-        → FindsUndefined (B.meaning book.now) (print ++ character ∷ []) result }
+/// The first place, from 0, whose character the table of a book doesn't define.
+fn first_undefined<B: RuleBook>(book: &B, print: &[char]) -> Option<usize>
+    ensures { FindsUndefined (B.meaning book.now) print.now result }
 {
-    if is_defined(book, character) {
-        return found;
-    }
-    match found {
-        Some(place) => Some(place),
-        None => Some(place),
-    }
+    print
+        .iter()
+        .position(|character| !is_defined(book, *character))
+}
+
+/// The first place, from 0, whose byte, as a character, the table of a book doesn't define.
+fn first_undefined_byte<B: RuleBook>(book: &B, bytes: &[u8]) -> Option<usize>
+    ensures { FindsUndefined (B.meaning book.now) bytes.now result }
+{
+    bytes
+        .iter()
+        .position(|byte| !is_defined(book, char::from(*byte)))
 }

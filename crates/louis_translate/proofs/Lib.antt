@@ -9,6 +9,7 @@ pub mod Trees
 pub mod Searches
 pub mod Starts
 pub mod LoneCells
+pub mod LonePieces
 pub mod Spans
 pub mod Characters
 pub mod Tilings

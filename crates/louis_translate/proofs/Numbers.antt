@@ -1,7 +1,8 @@
 -- Which places are in numeric mode.
-use Rattle.std.proofs.Common.{◌≡◌, ℕ, zero, suc, ◌+◌, ◌-◌, ◌<◌, ◌≤◌, Bool, true, false, cond, List, length, get_or, refl, sym, ap, ◌∙◌, arith, inl, inr}
+use Rattle.std.proofs.Common.{◌≡◌, ℕ, zero, suc, ◌+◌, ◌-◌, ◌<◌, ◌≤◌, Bool, true, false, cond, List, length, get_or, slice_get, Option, Some, refl, sym, ap, ◌∙◌, arith, inl, inr}
 use Rattle.std.specs.Prelude.{◌&&◌, ◌||◌, ◌==◌, not}
 use Rattle.std.specs.List.{list_all, list_any, range_with_len}
+use Rattle.std.specs.Option.{option_map_or}
 use Rattle.std.proofs.lemmas.Bool.{cases_Bool, cases_order, both_ways}
 use Rattle.std.proofs.lemmas.Bool.Decides.{nat_tests}
 use Rattle.std.proofs.lemmas.List.{get_or_read}
@@ -200,6 +201,18 @@ module _ (meaning : Meaning) (print : List ℕ) where
   pub follows_number-never : (i : ℕ) → i < length print → is_digit_at meaning print i ≡ false → follows_number meaning print i ≡ false
       → follows_number meaning print (i + 1) ≡ false
   follows_number-never i lt none off = ap (follows_number meaning print) (add-one i) ∙ (follows_number-step i lt ∙ rw (none, off) refl)
+
+  -- no number goes on over a character that is neither a digit nor one that goes on with a number
+  pub follows_number-off : (i c : ℕ) → slice_get print i ≡ Some c → is_digit_at meaning print i ≡ false → is_mode_char meaning c ≡ false
+      → follows_number meaning print (i + 1) ≡ false
+  follows_number-off i c there none off =
+      ap (follows_number meaning print) (add-one i)
+      ∙ (follows_number-next i ∙ (is_in_numeric_mode-is i
+      ∙ rw (none, ap (λ (o : Option ℕ). option_map_or (is_mode_char meaning) o false) there ∙ off) (never (follows_number meaning print i))))
+    where
+      never : (b : Bool) → (b && false) ≡ false
+      never true = refl
+      never false = refl
 
   pub follows_number-on : (i c : ℕ) → i < length print → is_digit_at meaning print i ≡ false → follows_number meaning print i ≡ true
       → c ≡ get_or print i c → follows_number meaning print (i + 1) ≡ is_mode_char meaning c

@@ -1,14 +1,14 @@
 -- Runs of elements that pass a test.
 use Rattle.std.proofs.Common.{◌≡◌, ℕ, zero, suc, ◌+◌, ◌-◌, ◌<◌, ◌≤◌, Bool, true, false, List, [], ◌∷◌, length, take, drop, get_or, refl, ap, ◌∙◌, arith, inl, inr}
-use Rattle.std.specs.Prelude.{slice_get, nat_lt, map, Some}
+use Rattle.std.specs.Prelude.{◌&&◌, slice_get, nat_le, nat_lt, map, Some}
 use Rattle.std.specs.List.{prefix_len}
 use Rattle.std.specs.Option.{option_map_or}
 use Rattle.std.proofs.Math.Seq.{drop-cons}
-use Rattle.std.proofs.lemmas.Bool.{cases_Bool}
+use Rattle.std.proofs.lemmas.Bool.{both_ways, cases_Bool, cases_order, lt-ltb}
 use Rattle.std.proofs.lemmas.Bool.Decides.{nat_tests}
 use Rattle.std.proofs.lemmas.List.{drop-drop}
 use Rattle.louis_table.specs.Meaning.{Meaning}
-use Rattle.louis_translate.specs.Sign.{is_capital, is_capital_at, run_end, sign_at}
+use Rattle.louis_translate.specs.Sign.{capital_sign, is_capital, is_capital_at, run_end, run_start, sign_at, takes_one_sign}
 
 -- a test at a place of a list
 pub passes-below : {X : Type 0} (p : X → Bool) (xs : List X) (i : ℕ) → option_map_or p (slice_get xs i) false ≡ true → i < length xs
@@ -73,3 +73,29 @@ first_folded fold print i [] lt e h = absurd (omega arith)
 first_folded fold print i (c ∷ chars) lt e h =
     let there : fold (get_or print i 0) ∷ map fold (take (length chars) (drop (suc i) print)) ≡ c ∷ chars = rw (drop-cons print i 0) at e in
     cc
+
+-- ---- a capital alone
+
+-- where no capital stands before and none after, the run is no longer than its place
+pub run_end-alone : (meaning : Meaning) (print : List ℕ) (i : ℕ) → is_capital_at meaning print (i + 1) ≡ false → run_end meaning print i ≤ i + 1
+run_end-alone meaning print i off = elim (cases_order (run_end meaning print i) (i + 1)) [
+  | inl e ↦ omega arith
+  | inr ne ↦ elim ne [
+    | inl less ↦ omega arith
+    | inr more ↦
+        let same = run_end-inside meaning print i (i + 1) (omega arith) more in
+        absurd (both_ways _ off (is_capital_at-run meaning print (i + 1) ∙ lt-ltb (i + 1) (run_end meaning print (i + 1)) (omega arith)))
+  ]
+]
+
+pub capital_sign-alone : (meaning : Meaning) (print : List ℕ) (i : ℕ) → (run_start meaning print i < i → ⊥) → is_capital_at meaning print (i + 1) ≡ false
+    → capital_sign meaning print i ≡ meaning.capsletter
+capital_sign-alone meaning print i first off =
+    let end = run_end-alone meaning print i off in
+    let short : nat_le (run_start meaning print i + 2) (run_end meaning print i) ≡ false = grind (arith, nat_tests) in
+    let none : (nat_lt 0 (length meaning.begcapsword) && takes_one_sign meaning print i) ≡ false = rw short (never (nat_lt 0 (length meaning.begcapsword))) in
+    rw none refl
+  where
+    never : (b : Bool) → (b && false) ≡ false
+    never true = refl
+    never false = refl

@@ -16,7 +16,7 @@ use Rattle.louis_translate.specs.Position.{fits}
 use Rattle.louis_translate.specs.Sign.{sign_at}
 use Rattle.louis_translate.specs.Choice.{Matches, IsCandidate, span, rank, YieldsTo, IsChosen}
 use Rattle.louis_translate.specs.Left.{has_no_sign, matches, to_beat, goes_before, chosen_of, choice_at, some_from, choices_from}
-use Rattle.louis_translate.specs.Tiling.{IsChoiceAt, Covers, AreLast, Tiles}
+use Rattle.louis_translate.specs.Tiling.{IsChoiceAt, Covers, Tiles}
 use Rattle.louis_translate.proofs.Best.{BestBelow, BestBelow-none, BestBelow-longer, BestBelow-first, BestBelow-pass, BestBelow-all, YieldsTo-shorter, YieldsTo-later, YieldsTo-empty, candidate_below}
 use Rattle.louis_translate.proofs.Numbers.{all_in_range, in_range_of_all}
 use Rattle.louis_translate.proofs.Spans.{span-positive, span-fits}
@@ -64,17 +64,6 @@ Covers-next meaning print i [] c h lt d = absurd (omega arith)
 Covers-next meaning print i (x ∷ t) c h lt d =
     let same : x ≡ c = same_choice meaning print i x c h.1 d in
     (t, ap (λ (y : Choice). y ∷ t) same, subst (λ (y : Choice). Covers meaning print y.end t (length print)) same h.2)
-
--- the first of the last choices of a tiling, and those after it
-pub AreLast-next : (meaning : Meaning) (print : List ℕ) (choices others : List Choice) (c : Choice) → AreLast meaning print choices → choices ≡ c ∷ others
-    → (c.start < length print) × IsChoiceAt meaning print c.start c × AreLast meaning print others
-AreLast-next meaning print choices others c (i, covers) e =
-    let here = subst (λ (t : List Choice). Covers meaning print i t (length print)) e covers in
-    let start = here.1.start in (
-      omega (arith, here.0),
-      subst (λ (k : ℕ). IsChoiceAt meaning print k c) (sym start) here.1,
-      (c.end, here.2),
-    )
 
 -- ---- what choices cover
 

@@ -24,10 +24,6 @@ CoversBy sign meaning print i (choice ∷ choices) j =
 abbrev pub Covers : Meaning → List ℕ → ℕ → List Choice → ℕ → Type 0
 Covers meaning print = CoversBy (sign_at meaning print) meaning print
 
--- the choices are the last ones of a tiling: they cover the print from some place on to its end
-abbrev pub AreLast : Meaning → List ℕ → List Choice → Type 0
-AreLast meaning print choices = (i : ℕ) × Covers meaning print i choices (length print)
-
 -- the choices cover the whole print
 abbrev pub TilesBy : (ℕ → List ℕ) → Meaning → List ℕ → List Choice → Type 0
 TilesBy sign meaning print choices = CoversBy sign meaning print 0 choices (length print)

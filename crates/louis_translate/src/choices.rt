@@ -1,7 +1,9 @@
 //! The choices that cover a print.
 ghost use Rattle.louis_translate.specs.Choice.{span as span_lem};
+ghost use Rattle.louis_translate.specs.Position.{AreDefined};
+ghost use Rattle.louis_translate.specs.Tiling.{IsChoiceAt};
 ghost use Rattle.std.specs.Option.{ForSome};
-ghost use Rattle.std.specs.Prelude.{◌≡◌, ◌<◌, length};
+ghost use Rattle.std.specs.Prelude.{◌≡◌, ◌<◌, ◌≤◌, length};
 
 use super::rule_book::RuleBook;
 use louis_table::Table;
@@ -66,11 +68,26 @@ impl<'a, B: RuleBook> Iterator for Choices<'a, B> {
         if self.at == self.print.len() {
             return None;
         }
-        let start = self.at;
-        let rule = self.book.best(self.print, start);
-        let end = start + span(self.book.table(), rule);
-        self.at = end;
-        Some(Choice { rule, start, end })
+        let choice = choose(self.book, self.print, self.at);
+        self.at = choice.end;
+        Some(choice)
+    }
+}
+
+/// The choice at a place.
+#[inline(always)]
+pub(crate) fn choose<B: RuleBook>(book: &B, print: &[char], at: usize) -> Choice
+    requires defined { AreDefined (B.meaning book.now) print.now }
+    requires within { at < length print.now }
+    ensures choice { IsChoiceAt (B.meaning book.now) print.now at result }
+    ensures some { at < result.end }
+    ensures within { result.end ≤ length print.now }
+{
+    let rule = book.best(print, at);
+    Choice {
+        rule,
+        start: at,
+        end: at + span(book.table(), rule),
     }
 }
 

@@ -1,12 +1,30 @@
 //! Which places of a print a rule may cover.
-ghost use Rattle.louis_translate.specs.Covering.{MayCover};
+ghost use Rattle.louis_translate.specs.Covering.{MayCover, NeverHasSign};
 ghost use Rattle.louis_translate.specs.Sign.{sign_at};
+ghost use Rattle.std.specs.Bool.{OnTrue};
 ghost use Rattle.std.specs.Prelude.{◌≡◌, ◌<◌, ◌≤◌, ◌↔◌, ℕ, [], length, IsTrue};
 
-use super::lone_cells::never_has_sign;
-use super::position::fits;
+use super::position::{fits, is_digit};
 use super::sign::Signs;
 use louis_table::{RuleKind, Table};
+
+/// Whether a sign never stands before a character: it is neither a capital nor a digit, and none that takes a sign after
+/// a number.
+#[inline(always)]
+fn never_has_sign(table: &Table, character: char) -> bool
+    ensures { OnTrue result (NeverHasSign table.now character) }
+{
+    if table.capital(character) {
+        return false;
+    }
+    if is_digit(table.class(character)) {
+        return false;
+    }
+    if table.nocontractsign().is_empty() {
+        return true;
+    }
+    !table.nocontract_chars().contains(&character)
+}
 
 /// Whether no sign stands between the places `start` and `end`, without these two.
 fn has_no_sign_inside(table: &Table, print: &[char], start: usize, end: usize) -> bool

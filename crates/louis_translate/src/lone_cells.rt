@@ -1,6 +1,5 @@
-//! Characters that stand as one cell wherever their definition is chosen.
-ghost use Rattle.louis_translate.specs.LoneCell.{AreLoneCells, IsLoneCell, NeverHasSign};
-ghost use Rattle.std.specs.Bool.{OnTrue};
+//! Characters that stand as one cell wherever their definition is chosen and no number goes on to them.
+ghost use Rattle.louis_translate.specs.LoneCell.{AreLoneCells, IsLoneCell};
 ghost use Rattle.std.specs.Option.{option_and_then, option_copied};
 ghost use Rattle.std.specs.Prelude.{◌≡◌, ◌<◌, IfSome, slice_get};
 
@@ -10,7 +9,7 @@ use louis_table::Table;
 use std::marker::Model;
 
 /// How many of the first characters of Unicode have their lone cells kept.
-const DIRECT: usize = 128;
+const DIRECT: usize = 256;
 
 /// The lone cells of the first characters of Unicode, found by their code. Contracts see their list.
 #[derive(Drop)]
@@ -51,29 +50,12 @@ impl LoneCells {
 fn lone_cell(table: &Table, character: char) -> Option<Cell>
     ensures { IfSome result (IsLoneCell table.now character) }
 {
-    if !never_has_sign(table, character) {
+    let definition = table.definition(character)?;
+    if is_digit(Some(definition.class)) || table.capital(character) {
         return None;
     }
-    match table.definition(character)?.cells.as_slice() {
+    match definition.cells.as_slice() {
         [cell] => Some(*cell),
         _ => None,
     }
-}
-
-/// Whether a sign never stands before a character: it is neither a capital nor a digit, and none that takes a sign after
-/// a number.
-#[inline(always)]
-pub(crate) fn never_has_sign(table: &Table, character: char) -> bool
-    ensures { OnTrue result (NeverHasSign table.now character) }
-{
-    if table.capital(character) {
-        return false;
-    }
-    if is_digit(table.class(character)) {
-        return false;
-    }
-    if table.nocontractsign().is_empty() {
-        return true;
-    }
-    !table.nocontract_chars().contains(&character)
 }

@@ -6,7 +6,6 @@ ghost use Rattle.std.specs.Prelude.{◌≡◌, ◌≢◌, ◌+◌, ◌<◌, ◌�
 
 use super::covering::may_cover;
 use super::rule_book::RuleBook;
-use cell_core::Cell;
 use louis_table::{Rule, Table};
 use std::marker::Model;
 
@@ -124,10 +123,5 @@ impl RuleBook for PlainRules {
             return None;
         }
         best_rule(&self.table, print, at)
-    }
-
-    #[inline(always)]
-    fn lone_cell(&self, _character: char) -> Option<&Cell> {
-        None
     }
 }

@@ -32,7 +32,7 @@ pub fn is_defined<B: RuleBook>(book: &B, character: char) -> bool
 }
 
 /// Whether a table defines a character.
-#[inline(never)]
+#[inline(always)]
 fn defines(table: &Table, character: char) -> bool
     ensures { result ≡ is_some (definition_of table.now character) }
 {

@@ -8,8 +8,9 @@ pub trait RuleBook {
     ghost use Rattle.louis_translate.specs.Choice.{IsChosen};
     ghost use Rattle.louis_translate.specs.LoneCell.{IsLoneCell};
     ghost use Rattle.louis_translate.specs.Position.{AreDefined};
+    ghost use Rattle.std.specs.Bool.{OnTrue};
     ghost use Rattle.std.specs.Option.{option_copied};
-    ghost use Rattle.std.specs.Prelude.{◌≡◌, ◌<◌, IfSome, length};
+    ghost use Rattle.std.specs.Prelude.{◌≡◌, ◌<◌, IfSome, None, length};
 
     ghost meaning: { Self → Meaning };
 
@@ -24,8 +25,22 @@ pub trait RuleBook {
         requires within { at < length print.now }
         ensures { IsChosen (meaning self.now) print.now at result };
 
-    /// The one cell of a character that never has a sign, or `None` where it has more, or the book doesn't know it:
-    /// wherever the definition of the character is chosen, this cell is all that stands for it.
-    fn lone_cell(&self, character: char) -> Option<&Cell>
-        ensures { IfSome (option_copied result) (IsLoneCell (meaning self.now) character) };
+    /// The one cell of a character that is neither a digit nor a capital, or `None` where it has more, or the book doesn't
+    /// know it at once: where the definition of the character is chosen, and no number goes on to it, this cell is all
+    /// that stands for it. A book that knows none is only slower.
+    #[inline(always)]
+    fn lone_cell(&self, _character: char) -> Option<&Cell>
+        ensures { IfSome (option_copied result) (IsLoneCell (meaning self.now) _character) }
+    {
+        None
+    }
+
+    /// Whether it is seen at once that the definition of the character at a place is chosen. `false` says nothing.
+    #[inline(always)]
+    fn chooses_definition(&self, _print: &[char], _at: usize) -> bool
+        requires { _at < length _print.now }
+        ensures { OnTrue result (IsChosen (meaning self.now) _print.now _at None) }
+    {
+        false
+    }
 }

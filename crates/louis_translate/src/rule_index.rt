@@ -2,7 +2,8 @@
 ghost use Rattle.louis_translate.specs.Choice.{IsChosen};
 ghost use Rattle.louis_translate.specs.Search.{IsWhole};
 ghost use Rattle.louis_translate.specs.Start.{AreStarts, MayStart};
-ghost use Rattle.std.specs.Prelude.{◌≡◌, ◌<◌, ◌*◌, length};
+ghost use Rattle.std.specs.Bool.{OnTrue};
+ghost use Rattle.std.specs.Prelude.{◌≡◌, ◌<◌, ◌*◌, None, length};
 
 use super::indexed_table::IndexedTable;
 use super::lone_cells::LoneCells;
@@ -81,8 +82,23 @@ fn start_here(index: &IndexedTable, starts: &[Start], print: &[char], at: usize)
     start_at(starts, print[at], print[at + 1])
 }
 
+/// Whether no walk begins at a place, and so the definition of its character is chosen, by a table that has rules.
+#[inline(always)]
+fn begins_nowhere(index: &IndexedTable, starts: &[Start], print: &[char], at: usize) -> bool
+    requires whole { IsWhole index.now }
+    requires starts { AreStarts index.now.table index.now.tree starts.now }
+    requires all { length starts.now ≡ 128 * 128 }
+    requires within { at < length print.now }
+    ensures { OnTrue result (IsChosen index.now.table print.now at None) }
+{
+    match start_here(index, starts, print, at) {
+        Start::Nowhere => true,
+        Start::Group | Start::Child(_) => false,
+    }
+}
+
 /// The rule that is chosen at a place, found by a walk from a start.
-#[inline(never)]
+#[inline(always)]
 fn best_from(index: &IndexedTable, print: &[char], at: usize, start: Start) -> Option<usize>
     requires whole { IsWhole index.now }
     requires start { MayStart index.now print.now at start }
@@ -124,6 +140,14 @@ impl RuleBook for RuleIndex {
             return None;
         }
         best_rule(&self.index, self.starts.as_slice(), print, at)
+    }
+
+    #[inline(always)]
+    fn chooses_definition(&self, print: &[char], at: usize) -> bool {
+        if self.index.table.rules().is_empty() {
+            return true;
+        }
+        begins_nowhere(&self.index, self.starts.as_slice(), print, at)
     }
 
     #[inline(always)]

@@ -1,7 +1,8 @@
 //! The signs before numbers, capitals and what follows a number.
 ghost use Rattle.louis_translate.specs.Position.{class_at as class_at_lem};
-ghost use Rattle.louis_translate.specs.Sign.{capital_sign as capital_sign_lem, ends_number as ends_number_lem, follows_number as follows_number_lem, is_capital_at, is_digit_at, is_mode_char as is_mode_char_lem, is_nocontract_char as is_nocontract_char_lem, run_end, run_start, sign_at};
-ghost use Rattle.std.specs.Prelude.{◌≡◌, ◌+◌, ◌≤◌, ◌<◌, ◌↔◌, ◌&&◌, [], false, if◌then◌else◌, not, ℕ, length, IsTrue};
+ghost use Rattle.louis_translate.specs.Sign.{capital_sign as capital_sign_lem, ends_number as ends_number_lem, follows_number as follows_number_lem, is_capital_at as is_capital_at_lem, is_digit_at, is_mode_char as is_mode_char_lem, is_nocontract_char as is_nocontract_char_lem, run_end, run_start, sign_at};
+ghost use Rattle.std.specs.Bool.{OnTrue};
+ghost use Rattle.std.specs.Prelude.{◌≡◌, ◌+◌, ◌≤◌, ◌<◌, ◌↔◌, ◌&&◌, [], false, true, if◌then◌else◌, not, ℕ, length, IsTrue};
 
 use super::position::{class_at, is_digit, is_letter};
 use cell_core::Cell;
@@ -31,6 +32,28 @@ fn follows_capital(table: &Table, print: &[char], place: usize) -> bool
     place > 0 && table.capital(print[place - 1])
 }
 
+/// Whether a capital stands at a place, which may be past the print's end.
+fn is_capital_at(table: &Table, print: &[char], place: usize) -> bool
+    ensures { result ≡ is_capital_at_lem table.now print.now place }
+{
+    match print.get(place) {
+        Some(character) => table.capital(*character),
+        None => false,
+    }
+}
+
+/// Whether a capital at a place has no other beside it, and so the sign of one capital.
+#[inline(always)]
+fn stands_alone(table: &Table, print: &[char], place: usize) -> bool
+    requires { place < length print.now }
+    ensures { OnTrue result (capital_sign_lem table.now print.now place ≡ table.now.capsletter) }
+{
+    if follows_capital(table, print, place) {
+        return false;
+    }
+    !is_capital_at(table, print, place + 1)
+}
+
 /// The sign before a capital, of a run that ends at `end`.
 #[inline(never)]
 fn capital_sign<'a>(table: &'a Table, print: &[char], place: usize, end: usize) -> &'a [Cell]
@@ -52,7 +75,7 @@ fn capital_sign<'a>(table: &'a Table, print: &[char], place: usize, end: usize) 
 }
 
 /// Whether the table says of a character that it goes on with a number.
-fn is_mode_char(table: &Table, character: char) -> bool
+pub(crate) fn is_mode_char(table: &Table, character: char) -> bool
     ensures { result ≡ is_mode_char_lem table.now character }
 {
     table.mode_chars().contains(&character)
@@ -135,7 +158,7 @@ fn sign_after_number<'a>(
 ) -> &'a [Cell]
     requires within { place < length print.now }
     requires digit { is_digit_at table.now print.now place ≡ false }
-    requires capital { is_capital_at table.now print.now place ≡ false }
+    requires capital { is_capital_at_lem table.now print.now place ≡ false }
     requires follows { follows ≡ follows_number_lem table.now print.now place }
     ensures { result.now ≡ sign_at table.now print.now place }
 {
@@ -216,6 +239,22 @@ impl<'a> Signs<'a> {
         follows
     }
 
+    /// The sign before a capital.
+    #[inline(always)]
+    fn capital_sign_at(&mut self, place: usize) -> &'a [Cell]
+        requires within { place < length self.old.print.now }
+        requires capital { is_capital_at_lem self.old.table.now self.old.print.now place ≡ true }
+        ensures sign { result.now ≡ capital_sign_lem self.old.table.now self.old.print.now place }
+        ensures table { self.new.table.now ≡ self.old.table.now }
+        ensures print { self.new.print.now ≡ self.old.print.now }
+    {
+        if stands_alone(self.table, self.print, place) {
+            return self.table.capsletter();
+        }
+        let end = self.end_at(place);
+        capital_sign(self.table, self.print, place, end)
+    }
+
     /// The sign before a place, empty where there is none.
     pub(crate) fn at(&mut self, place: usize) -> &'a [Cell]
         requires { place < length self.old.print.now }
@@ -240,8 +279,7 @@ impl<'a> Signs<'a> {
             return number_sign(self.table, self.follows_at(place, class));
         }
         if self.table.capital(self.print[place]) {
-            let end = self.end_at(place);
-            return capital_sign(self.table, self.print, place, end);
+            return self.capital_sign_at(place);
         }
         if self.table.nocontractsign().is_empty() {
             return &[];

@@ -1,5 +1,5 @@
-use Rattle.std.proofs.Common.{◌≡◌, ◌+◌, ◌/◌, ◌%◌, ◌<◌, ◌≤◌, ◌++◌, ◌∷◌, [], List, ℕ, length, set, take, ap, ◌∙◌, append_assoc, arith}
-use Rattle.std.proofs.lemmas.List.{length-set, length-take, take_more_set}
+use Rattle.std.proofs.Common.{◌≡◌, ◌+◌, ◌/◌, ◌%◌, ◌<◌, ◌≤◌, ◌++◌, ◌∷◌, [], List, ℕ, get_or, length, set, take, ap, ◌∙◌, append_assoc, arith}
+use Rattle.std.proofs.lemmas.List.{length-set, length-take, take-set-le, take_more_set}
 use Rattle.desk_ends.proofs.Encoding.{encode-braille_character}
 use Rattle.desk_ends.proofs.block.Block.push_cell.Goals as goal
 
@@ -21,7 +21,15 @@ take_three_set xs n a b c h =
 pub returns : goal.returns
 returns c =
     let cell = c.args.cell in
-    let small : cell < 256 = omega (arith, c.mask-mask.type_inv) in
-    let room : c.self.inside.len + 3 ≤ length c.self.inside.bytes = omega (arith, c.self.told, ap length c.self.view_is, length-take c.self.inside.len c.self.inside.bytes) in
-    rw (encode-braille_character cell small, c.mask-mask.ensures)
-    (take_three_set c.self.inside.bytes c.self.inside.len 226 (160 + cell / 64) (128 + cell % 64) room ∙ ap (λ (t : List ℕ). t ++ 226 ∷ (160 + cell / 64) ∷ (128 + cell % 64) ∷ []) c.self.view_is)
+    let n = c.self.inside.len in
+    let small : cell < 256 = omega (arith, c.mask.type_inv) in
+    let looked_up = c.self.invariant.1 cell small in
+    let all = get_or c.self.inside.encoded cell 0 in
+    let first : all % 256 ≡ 226 = omega (arith, looked_up) in
+    let second : all / 256 % 256 ≡ 160 + cell / 64 = omega (arith, looked_up) in
+    let third : all / 65536 % 256 ≡ 128 + cell % 64 = omega (arith, looked_up) in
+    let room : n + 3 ≤ length c.self.inside.bytes = omega (arith, c.self.told, ap length c.self.view_is, length-take n c.self.inside.bytes) in
+    rw (encode-braille_character cell small, c.mask.ensures, first, second, third)
+    (take-set-le (n + 3) (set (set (set c.self.inside.bytes n 226) (n + 1) (160 + cell / 64)) (n + 2) (128 + cell % 64)) (n + 3) _ (omega arith)
+    ∙ (take_three_set c.self.inside.bytes n 226 (160 + cell / 64) (128 + cell % 64) room
+    ∙ ap (λ (t : List ℕ). t ++ 226 ∷ (160 + cell / 64) ∷ (128 + cell % 64) ∷ []) c.self.view_is))
