@@ -1,14 +1,17 @@
 # make          proves what the program needs and builds build/braildesk
 # make demo     shows a small book typed and exported, by the sources as they are, without proofs, with the book in memory
-# make test     the gate: proves from nothing, tries the must-fail edits and runs the stored run; then it runs the tests,
-#               compares files with sqlite3, which has to be installed, runs the tutorial, the sample's client and rows of
-#               requests and words by the built program, and kills sessions of it
+# make test     the gate: looks for all that it needs; proves from nothing, tries the must-fail edits and runs the stored run;
+#               then it runs the tests, compares files with sqlite3, and by the built program runs the tutorial, the sample's
+#               client and rows of requests, words and ends, stops its files, refuses it memory and kills sessions of it
 # make attacks  tries the wrong bodies that the gate leaves out, and those that only a test sees
 # make bench    measures speed
 # make install  copies the program to $(DESTDIR)$(PREFIX)/bin, and its manual page to $(DESTDIR)$(PREFIX)/share/man/man1
 
 PREFIX ?= /usr/local
 RT ?= rt
+# the Python that runs the tests
+PYTHON ?= $(shell tests/python.sh)
+export PYTHON
 PROGRAM := build/braildesk
 SOURCES := crates.txt HANDLES $(shell find crates -type f \( -path '*/src/*' -o -path '*/specs/*' -o -path '*/proofs/*' \) -not -path '*/out/*')
 
@@ -48,7 +51,7 @@ demo:
 	@RT='$(RT)' sample/demo.sh
 
 test:
-	$(need_rt)
+	RT='$(RT)' tests/needs.sh
 	RT_JOBS=$(JOBS) $(RT) ci
 	@mkdir -p $(dir $(PROGRAM))
 	@cp crates/braildesk/out/braildesk $(PROGRAM)

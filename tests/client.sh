@@ -5,7 +5,8 @@
 set -eu
 program=$(realpath "${1:?the path of the program is missing}")
 cd "$(dirname "$0")/.."
-command -v python3 > /dev/null || { echo 'tests/client.sh: left out, since python3 is missing'; exit 0; }
+tests/needs.sh python
+PYTHON=${PYTHON:-$(tests/python.sh)}
 scratch=$(mktemp -d); trap 'rm -rf "$scratch"' EXIT
 export PYTHONUTF8=1
 same() { # WHAT EXPECTED FOUND
@@ -14,7 +15,7 @@ same() { # WHAT EXPECTED FOUND
 }
 
 "$program" new "$scratch/book.braildesk" > /dev/null
-printf 'Hello\nZdeněk\n\nab 5a\n' | sample/client.py "$program" "$scratch/book.braildesk" > "$scratch/written"
+printf 'Hello\nZdeněk\n\nab 5a\n' | "$PYTHON" sample/client.py "$program" "$scratch/book.braildesk" > "$scratch/written"
 printf '⠠⠓⠑⠇⠇⠕\nno 7 4\n\n⠁⠃⠀⠼⠑⠰⠁\n' > "$scratch/expected"
 same 'what sample/client.py writes' "$scratch/expected" "$scratch/written"
 printf 'print 1\nprint 2\nprint 3\n' | "$program" session "$scratch/book.braildesk" > "$scratch/kept"
@@ -23,6 +24,6 @@ same 'what it typed' "$scratch/expected" "$scratch/kept"
 
 # a client of a file that isn't there ends with the program's status
 status=0
-sample/client.py "$program" "$scratch/none" < /dev/null > "$scratch/written" 2> "$scratch/errors" || status=$?
+"$PYTHON" sample/client.py "$program" "$scratch/none" < /dev/null > "$scratch/written" 2> "$scratch/errors" || status=$?
 [ "$status" -eq 2 ] || { cat "$scratch/errors" >&2; echo "tests/client.sh: status $status in place of 2" >&2; exit 1; }
 echo 'ok  a file that is not there'

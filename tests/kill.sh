@@ -5,7 +5,5 @@
 #                     program (build/braildesk)
 set -eu
 cd "$(dirname "$0")/.."
-program=${PROGRAM:-build/braildesk}
-[ -x "$program" ] || { echo "tests/kill.sh: $program is missing: make builds it" >&2; exit 1; }
-command -v python3 > /dev/null || { echo 'tests/kill.sh: left out, since python3 is missing'; exit 0; }
-exec python3 tests/kill.py "$program" --kills "${KILLS:-60}" ${SEED:+--seed "$SEED"}
+. tests/built.sh python
+"$PYTHON" -B tests/kill.py "$program" --kills "${KILLS:-60}" ${SEED:+--seed "$SEED"}

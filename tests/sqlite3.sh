@@ -10,7 +10,7 @@ set -eu
 cd "$(dirname "$0")/.."
 [ $# -gt 0 ] || exec tests/trials.sh sqlite
 fail() { echo "tests/sqlite3.sh: $*" >&2; exit 1; }
-command -v sqlite3 > /dev/null || fail 'sqlite3 is missing: install it, as by apt-get install sqlite3'
+tests/needs.sh sqlite3
 scratch=$1
 
 # how a new file declares the six tables
