@@ -1,7 +1,11 @@
-"""Rows of what goes into the program and what has to come out of it, byte for byte. Each wrong one names itself."""
+"""Rows of what goes into the program and what has to come out of it, byte for byte.
+
+Each wrong one names itself. The rows of sessions over the first book have to hold of tests/plain too,
+from which other tests take what they want.
+"""
 
 import argparse
-import concurrent.futures
+import contextlib
 import os
 import pathlib
 import re
@@ -9,13 +13,18 @@ import shutil
 import subprocess
 import sys
 import tempfile
+from collections.abc import Callable
+from dataclasses import dataclass, field
+from typing import Any, Optional
+
+from plain.session import Session
 
 MOST_SECONDS = 20
 
-# Where a growth of memory is refused, at most so many runs of each command.
-MOST_REFUSALS = 60
-
 SIGNS = {"¶": b"\n", "←": b"\r", "␌": b"\f", "~": b"\xff"}
+
+# The requests that make the book which most rows are about.
+BOOK = "supply en¶type end en Hello¶"
 
 # The codes that the help of a command has, and of the program as a whole.
 HELP = {
@@ -27,40 +36,144 @@ HELP = {
     "check": {90, 92, 93, 94, 98},
 }
 
+ENDS = {"input": 0, "output": 1, "errors": 2}
 
-def bytes_of(written):
+Run = tuple[int, bytes, bytes]
+
+
+def bytes_of(written: str) -> bytes:
     """The bytes that a row writes."""
     text = re.sub(r"\{(.*?)×(\d+)\}", lambda it: it[1] * int(it[2]), written)
     return b"".join(SIGNS.get(it) or it.encode() for it in text)
 
 
-def lines_of(path):
+def lines_of(path: pathlib.Path) -> list[tuple[int, str]]:
     """The lines of a file of rows with their numbers, without comments."""
     lines = path.read_text(encoding="utf-8").split("\n")
     return [(at, it) for at, it in enumerate(lines, 1) if not it.startswith("#")]
 
 
+def cut(it: object) -> str:
+    text = repr(it)
+    return text if len(text) < 300 else f"{text[:200]}.. {text[-90:]}"
+
+
+@dataclass(frozen=True)
+class Wanted:
+    """What a row of words wants: a status, and what is written to output and to errors."""
+
+    status: int
+    output: str
+    errors: str
+
+    @staticmethod
+    def read(at: str, written: str) -> "Wanted":
+        found = re.fullmatch(r"(\d)(?: > (.+?))?(?: ! (.+))?", written)
+        if not found:
+            sys.exit(f"{at}: it is no row")
+        wanted = Wanted(int(found[1]), found[2] or "", found[3] or "")
+        if any(it and matches(it, b"") for it in (wanted.output, wanted.errors)):
+            sys.exit(f"{at}: what it wants may be nothing")
+        return wanted
+
+    def holds_of(self, run: Run) -> bool:
+        status, output, errors = run
+        is_written = matches(self.output, output) and matches(self.errors, errors)
+        return status == self.status and is_written
+
+
+def matches(pattern: str, found: bytes) -> bool:
+    """Whether bytes are those of a pattern, in which … stands for any."""
+    parts = [re.escape(bytes_of(it)) for it in pattern.split("…")]
+    return re.fullmatch(b".*".join(parts), found, re.DOTALL) is not None
+
+
+def closed_pipe(stack: contextlib.ExitStack) -> int:
+    """The end of a pipe that nobody reads."""
+    reading, writing = os.pipe()
+    os.close(reading)
+    stack.callback(os.close, writing)
+    return writing
+
+
+def hung_terminal(stack: contextlib.ExitStack) -> int:
+    """A terminal whose other side is gone."""
+    other, terminal = os.openpty()
+    os.close(other)
+    stack.callback(os.close, terminal)
+    return terminal
+
+
+def folder(stack: contextlib.ExitStack) -> int:
+    """A folder, of which no byte can be read."""
+    found = os.open("/", os.O_RDONLY)
+    stack.callback(os.close, found)
+    return found
+
+
+def full_device(stack: contextlib.ExitStack) -> int:
+    """A device that has no room."""
+    found = os.open("/dev/full", os.O_WRONLY)
+    stack.callback(os.close, found)
+    return found
+
+
+FAILING: dict[str, Callable[[contextlib.ExitStack], int]] = {
+    "broken": closed_pipe,
+    "hung": hung_terminal,
+    "folder": folder,
+    "full": full_device,
+}
+
+
+@dataclass
 class Rows:
-    def __init__(self, program, folder, library):
-        self.program, self.folder, self.library = program, folder, library
-        self.wrong, self.count = [], 0
+    program: str
+    folder: pathlib.Path
+    wrong: list[str] = field(default_factory=list)
+    count: int = 0
 
-    def run(self, words, given=b"", folder=None, environment=None, **ends):
-        """The exit status of the program, and what it wrote to standard output and to standard error."""
-        ends = {"stdout": subprocess.PIPE, "stderr": subprocess.PIPE, **ends}
-        ran = subprocess.run([self.program, *words], input=given, cwd=folder or self.folder, timeout=MOST_SECONDS,
-                             env={**os.environ, **(environment or {})}, **ends)
-        return ran.returncode, ran.stdout, ran.stderr
+    def run(self, words: list[bytes], given: bytes = b"", **ends: Any) -> Run:
+        """The exit status of the program, and what it wrote to standard output and to errors."""
+        ends = {
+            "stdin": subprocess.PIPE,
+            "stdout": subprocess.PIPE,
+            "stderr": subprocess.PIPE,
+        } | ends
+        given_bytes = given if ends["stdin"] == subprocess.PIPE else None
+        with subprocess.Popen(
+            [self.program.encode(), *words], cwd=self.folder, **ends
+        ) as running:
+            try:
+                output, errors = running.communicate(given_bytes, MOST_SECONDS)
+            except subprocess.TimeoutExpired:
+                running.kill()
+                return 0, b"", f"still running after {MOST_SECONDS} seconds".encode()
+        return running.returncode, output or b"", errors or b""
 
-    def judge(self, name, wanted, found):
+    def judge(self, name: str, wanted: object, found: object) -> None:
         """Takes down a row that is wrong."""
-        self.count += 1
-        if not wanted == found:
-            self.wrong.append(f"{name}:\n    wanted {cut(wanted)}\n    found  {cut(found)}")
+        self.judge_that(wanted == found, name, wanted, found)
 
-    def sessions(self, path):
+    def judge_that(self, holds: bool, name: str, wanted: object, found: object) -> None:
+        self.count += 1
+        if not holds:
+            self.wrong.append(
+                f"{name}:\n    wanted {cut(wanted)}\n    found  {cut(found)}"
+            )
+
+    def copy(self, base: str) -> None:
+        """The file `copied`, of a book that no run has changed."""
+        for old in self.folder.glob("copied*"):
+            old.unlink()
+        shutil.copy(self.folder / base, self.folder / "copied")
+
+    # ---- sessions
+
+    def sessions(self, path: pathlib.Path) -> None:
         """Each group of rows is a session over a copy of a book."""
-        group, base = [], "book"
+        group: list[tuple[int, str, bytes]] = []
+        base = "book"
         for at, line in [*lines_of(path), (0, "")]:
             if line.startswith("over "):
                 base = line.removeprefix("over ")
@@ -70,151 +183,165 @@ class Rows:
                     sys.exit(f"{path}:{at}: a row has no reply")
                 group.append((at, request, bytes_of(reply + "¶")))
             elif group:
-                if base not in self.unmade:
-                    self.session(path, group, base)
+                self.session(path.name, group, base)
                 group, base = [], "book"
 
-    def session(self, path, group, base):
-        shutil.copy(self.folder / base, self.folder / "copied")
-        given = b"".join(bytes_of(request.removesuffix("∎") + "¶" * (not request.endswith("∎"))) for _, request, _ in group)
-        status, replies, errors = self.run(["session", "copied"], given)
+    def session(
+        self, name: str, group: list[tuple[int, str, bytes]], base: str
+    ) -> None:
+        requests = [
+            it.removesuffix("∎") + "¶" * (not it.endswith("∎")) for _, it, _ in group
+        ]
+        given = b"".join(map(bytes_of, requests))
+        self.copy(base)
+        status, replies, errors = self.run([b"session", b"copied"], given)
         for at, request, reply in group:
             # a reply goes up to its line that begins with no bar
-            found = re.match(rb"(\| .*\n)*.*\n?", replies)[0]
-            replies = replies[len(found):]
-            self.judge(f"{path.name}:{at}: {request[:60]}", reply, found)
-        self.judge(f"{path.name}:{group[0][0]}: the end of its session", (0, b"", b""), (status, replies, errors))
+            found = re.match(rb"(\| .*\n)*.*\n?", replies)
+            replied = found[0] if found else b""
+            replies = replies[len(replied) :]
+            self.judge(f"{name}:{at}: {request[:60]}", reply, replied)
+        end = f"{name}:{group[0][0]}: the end of its session"
+        self.judge(end, (0, b"", b""), (status, replies, errors))
+        if base == "book":
+            plain = Session()
+            plain.replies(bytes_of(BOOK))
+            wanted = [reply for _, _, reply in group]
+            self.judge(
+                f"{name}:{group[0][0]}: by tests/plain", wanted, plain.replies(given)
+            )
 
-    def words(self, path):
+    # ---- words
+
+    def words(self, path: pathlib.Path) -> None:
         """Each row is a command."""
         for at, line in lines_of(path):
             made = re.match(r"(file|book|copy|base) (\S+): (.*)", line)
             if made:
                 self.make(*made.groups())
-            elif " => " in line:
-                words, _, wanted = line.partition(" => ")
-                status, output, errors = re.fullmatch(r"(\d)(?: > (.*?))?(?: ! (.*))?", wanted).groups(default="")
-                words = words.split()
-                if self.has_sql or not set(words) & self.unmade:
-                    found = self.run(words)
-                    self.judge(f"{path.name}:{at}: {line}", Wanted(int(status), output, errors), found)
             elif line:
-                sys.exit(f"{path}:{at}: it is no row")
-        self.judge(f"{path.name}: no command but new makes a file", False, (self.folder / "none").exists())
+                words, _, wanted = line.partition(" => ")
+                row = Wanted.read(f"{path}:{at}", wanted)
+                run = self.run([bytes_of(it) for it in words.split()])
+                self.judge_that(
+                    row.holds_of(run), f"{path.name}:{at}: {line}", row, run
+                )
+        is_made = (self.folder / "none").exists()
+        self.judge(f"{path.name}: no command but new makes a file", False, is_made)
 
-    has_sql, unmade = shutil.which("sqlite3"), set()
-
-    def make(self, kind, name, text):
+    def make(self, kind: str, name: str, text: str) -> None:
         """Makes a file that commands name."""
         path = self.folder / name
         if kind == "file":
             path.write_bytes(bytes_of(text))
         elif kind == "book":
-            self.run(["new", name])
-            self.run(["session", name], bytes_of(text))
-        elif self.has_sql:
+            self.run([b"new", name.encode()])
+            self.run([b"session", name.encode()], bytes_of(text))
+        else:
             if kind == "copy":
                 shutil.copy(self.folder / "book", path)
-            subprocess.run(["sqlite3", path, text], check=True, stdout=subprocess.DEVNULL)
-        else:
-            self.unmade.add(name)
+            subprocess.run(
+                ["sqlite3", path, text], check=True, stdout=subprocess.DEVNULL
+            )
 
-    def help(self):
-        """The help of each command has its codes and statuses, and an example that works as it stands."""
+    # ---- ends
+
+    def ends(self, path: pathlib.Path) -> None:
+        """Each row is a command over a copy of the book, some of whose ends fail."""
+        for at, line in lines_of(path):
+            found = re.fullmatch(r"(.+) \| (.+) => (.+)", line)
+            if found:
+                failing = [it.split() for it in found[1].split(", ")]
+                row = Wanted.read(f"{path}:{at}", found[3])
+                self.copy("book")
+                run = self.run_over(
+                    {end: how for end, how in failing}, found[2].encode().split()
+                )
+                self.judge_that(
+                    row.holds_of(run), f"{path.name}:{at}: {line}", row, run
+                )
+                kept = self.run([b"check", b"copied"])
+                self.judge(
+                    f"{path.name}:{at}: the book then", (0, b"ok 2\n", b""), kept
+                )
+            elif line:
+                sys.exit(f"{path}:{at}: it is no row")
+
+    def run_over(self, failing: dict[str, str], words: list[bytes]) -> Run:
+        """A run with some of its ends closed, or failing in another way."""
+        closed = [ENDS[end] for end, how in failing.items() if how == "closed"]
+
+        def close() -> None:
+            for end in closed:
+                os.close(end)
+
+        ends: dict[str, Optional[int]] = {}
+        stack = contextlib.ExitStack()
+        with stack:
+            for end, how in failing.items():
+                name = ["stdin", "stdout", "stderr"][ENDS[end]]
+                ends[name] = None if how == "closed" else FAILING[how](stack)
+            run = self.run(words, b"version\n", preexec_fn=close, **ends)
+        return run
+
+    # ---- helps
+
+    def help(self) -> None:
+        """The help of each command has its codes and statuses, and an example that works."""
         for command, codes in HELP.items():
             for flag in ("--help", "-h"):
-                status, text, errors = self.run([*command.split(), flag])
-                self.judge(f"{command} {flag}", (0, b""), (status, errors))
-                text = text.decode()
-                self.judge(f"the codes of {command} {flag}", codes, {int(it) for it in re.findall(r"\bno (\d+)", text)})
-                statuses = re.findall(r"^  ([0-3])  \S", text.partition("Exit status:\n")[2], re.M)
-                self.judge(f"the statuses of {command} {flag}", ["0", "1", "2", "3"], statuses)
-                example = re.search(r"^Example:\n((?:  \S.*\n)+)", text, re.M)
-                self.judge(f"the example of {command} {flag}", True, bool(example))
-                if example:
-                    self.paste(command, example[1])
+                name = f"{command} {flag}".strip()
+                status, written, errors = self.run(name.encode().split())
+                self.judge(name, (0, b""), (status, errors))
+                self.judge_help(name, command, codes, written.decode())
 
-    def paste(self, command, example):
-        with tempfile.TemporaryDirectory(dir=self.folder) as folder:
-            os.symlink(self.program, f"{folder}/braildesk")
+    def judge_help(self, name: str, command: str, codes: set[int], text: str) -> None:
+        found = {int(it) for it in re.findall(r"\bno (\d+)", text)}
+        self.judge(f"the codes of {name}", codes, found)
+        statuses = re.findall(
+            r"^  ([0-3])  \S", text.partition("Exit status:\n")[2], re.M
+        )
+        self.judge(f"the statuses of {name}", ["0", "1", "2", "3"], statuses)
+        example = re.search(r"^Example:\n((?:  \S.*\n)+)", text, re.M)
+        self.judge(f"the example of {name}", True, bool(example))
+        if example:
+            self.paste(name, command, example[1])
+
+    def paste(self, name: str, command: str, example: str) -> None:
+        with tempfile.TemporaryDirectory(dir=self.folder) as place:
+            os.symlink(self.program, f"{place}/braildesk")
             if command not in ("", "new"):
-                shutil.copy(self.folder / "book", f"{folder}/book.braildesk")
-            ran = subprocess.run(["bash", "-e", "-o", "pipefail", "-c", example], cwd=folder, timeout=MOST_SECONDS,
-                                 env={**os.environ, "PATH": f"{folder}:{os.environ['PATH']}"}, capture_output=True)
-            self.judge(f"the example of '{command} --help'", (0, b""), (ran.returncode, ran.stderr))
-
-    def ends(self):
-        """Standard error that can't be written changes no status, and of standard output that can't, nothing is said."""
-        closed = {"stderr": None, "preexec_fn": lambda: os.close(2)}
-        with open("/dev/full", "wb") as full:
-            for words, status in ((["check", "none"], 2), (["translate", "foo.utb"], 2), (["boil"], 1)):
-                self.judge(f"{words}, standard error is full", status, self.run(words, stderr=full)[0])
-                self.judge(f"{words}, standard error is closed", status, self.run(words, **closed)[0])
-            shutil.copy(self.folder / "book", self.folder / "copied")
-            for words in (["check", "book"], ["export", "book", "1"], ["session", "copied"], ["translate", "@en"], ["new", "full"],
-                          ["--help"], ["check", "--help"]):
-                status, _, errors = self.run(words, b"version\n", stdout=full)
-                self.judge(f"{words}, standard output is full", (3, b""), (status, errors))
-
-    def memory(self):
-        """Where a growth of memory is refused, a command does its work, or tells 90 and nothing else."""
-        for words, given in ((["check", "book"], b""), (["translate", "@en"], b"Hello\nab 5a\n")):
-            # the first run counts them
-            status, output, errors, growths = self.refusing(words, given, 0)
-            self.judge(f"{words}, no growth is refused", (0, b""), (status, errors))
-            each = range(1, growths + 1, max(1, growths // MOST_REFUSALS))
-            with concurrent.futures.ThreadPoolExecutor() as pool:
-                runs = list(pool.map(lambda it: self.refusing(words, given, it), each))
-            for it, found in zip(each, runs):
-                wanted = (0, output, b"") if found[0] == 0 else (2, b"", b"braildesk: no 90\n")
-                self.judge(f"{words}, growth {it} of {growths} is refused", wanted, found[:3])
-            self.judge(f"{words}, some refusal is told", True, any(it[0] == 2 for it in runs))
-
-    def refusing(self, words, given, number):
-        """A run over a copy of the book, which no other run has open, with a growth refused; and how many there were."""
-        with tempfile.TemporaryDirectory(dir=self.folder) as folder:
-            shutil.copy(self.folder / "book", folder)
-            told = {"LD_PRELOAD": self.library, "REFUSED": str(number), "COUNTED": f"{folder}/counted"}
-            ran = self.run(words, given, folder, told)
-            return (*ran, int(pathlib.Path(folder, "counted").read_text()))
+                shutil.copy(self.folder / "book", f"{place}/book.braildesk")
+            ran = subprocess.run(
+                ["bash", "-e", "-o", "pipefail", "-c", example],
+                cwd=place,
+                timeout=MOST_SECONDS,
+                env={**os.environ, "PATH": f"{place}:{os.environ['PATH']}"},
+                capture_output=True,
+            )
+            self.judge(
+                f"the example of {name} works", (0, b""), (ran.returncode, ran.stderr)
+            )
 
 
-class Wanted:
-    """What a row of words wants."""
+def main() -> None:
+    parser = argparse.ArgumentParser()
+    parser.add_argument("program", type=pathlib.Path)
+    parser.add_argument("rows", type=pathlib.Path)
+    given = parser.parse_args()
+    with tempfile.TemporaryDirectory() as scratch:
+        rows = Rows(str(given.program.resolve()), pathlib.Path(scratch))
+        rows.make("book", "book", BOOK)
+        rows.words(given.rows / "words")
+        rows.sessions(given.rows / "sessions")
+        rows.ends(given.rows / "ends")
+        rows.help()
+    for it in rows.wrong:
+        print(f"tests/rows.sh: {it}", file=sys.stderr)
+    if rows.wrong:
+        sys.exit(1)
+    print(f"ok  {rows.count} rows of requests, words, ends and helps")
 
-    def __init__(self, status, *written):
-        self.status, self.written = status, written
 
-    def __eq__(self, found):
-        patterns = [b".*".join(re.escape(bytes_of(part)) for part in it.split("…")) for it in self.written]
-        return found[0] == self.status and all(re.fullmatch(p, f, re.S) for p, f in zip(patterns, found[1:]))
-
-    def __repr__(self):
-        return repr((self.status, *self.written))
-
-
-def cut(it):
-    text = repr(it)
-    return text if len(text) < 300 else f"{text[:200]}.. {text[-90:]}"
-
-
-parser = argparse.ArgumentParser()
-parser.add_argument("program", type=lambda it: str(pathlib.Path(it).resolve()))
-parser.add_argument("rows", type=pathlib.Path)
-parser.add_argument("--library", help="refuses growths of memory")
-given = parser.parse_args()
-with tempfile.TemporaryDirectory() as scratch:
-    rows = Rows(given.program, pathlib.Path(scratch), given.library)
-    rows.words(given.rows / "words")
-    rows.sessions(given.rows / "sessions")
-    rows.help()
-    rows.ends()
-    if given.library:
-        rows.memory()
-    if not rows.has_sql:
-        print("tests/rows.sh: rows over files that sqlite3 makes are left out, since it is missing")
-for it in rows.wrong:
-    print(f"tests/rows.sh: {it}", file=sys.stderr)
-if rows.wrong:
-    sys.exit(1)
-print(f"ok  {rows.count} rows of requests, words, helps, ends and refused growths of memory")
+if __name__ == "__main__":
+    main()
