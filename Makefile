@@ -5,11 +5,12 @@
 #               client and rows of requests, words and ends, stops its files, refuses it memory and kills sessions of it
 # make attacks  tries the wrong bodies that the gate leaves out, and those that only a test sees
 # make bench    measures speed
-# make install  copies the program to $(DESTDIR)$(PREFIX)/bin, and its manual page to $(DESTDIR)$(PREFIX)/share/man/man1
+# make install  copies the program and the manual pages below $(DESTDIR)$(PREFIX), with tables/ and the command scribe of python/
+#               where they are; make uninstall takes them away
 
 PREFIX ?= /usr/local
 RT ?= rt
-# the Python that runs the tests
+# the Python that runs the tests and the command scribe
 PYTHON ?= $(shell tests/python.sh)
 export PYTHON
 PROGRAM := build/braildesk
@@ -22,7 +23,7 @@ JOBS ?= $(shell awk -v n="$$(nproc)" '/^MemAvailable/ { m = int($$2 / 5000000); 
 # the crates that the program stands on, each after those below it
 PARTS := cell_core louis_table louis_translate desk_command desk_parts desk_book sql_tables desk_rows desk_store desk_ends desk_line desk_brf desk_session desk_words desk_program braildesk
 
-.PHONY: all demo test trials runs attacks bench install clean
+.PHONY: all demo test trials runs attacks bench install uninstall clean
 
 all: $(PROGRAM)
 
@@ -83,10 +84,42 @@ bench: $(PROGRAM)
 	bench/rebuild.sh
 	bench/keep.sh
 
+# What is installed: the program, the manual pages, and, where they are there, the tables, and the Python of the command scribe.
+bin = $(DESTDIR)$(PREFIX)/bin
+share = $(DESTDIR)$(PREFIX)/share/braildesk
+man = $(DESTDIR)$(PREFIX)/share/man/man1
+tables = $(wildcard tables/*.utb)
+pages = $(wildcard docs/*.1)
+has_scribe = $(wildcard python/scribe/__main__.py)
+
+# the command scribe, which runs its modules where they are installed, and keeps nothing beside them
+define SCRIBE
+#!/bin/sh
+export BRAILDESK="$${BRAILDESK:-$(PREFIX)/bin/braildesk}" PYTHONPATH='$(PREFIX)/share/braildesk/python'
+exec '$(PYTHON)' -BP -m scribe "$$@"
+endef
+export SCRIBE
+
 install: $(PROGRAM)
-	install -d '$(DESTDIR)$(PREFIX)/bin' '$(DESTDIR)$(PREFIX)/share/man/man1'
-	install -m 755 $(PROGRAM) '$(DESTDIR)$(PREFIX)/bin/braildesk'
-	install -m 644 docs/braildesk.1 '$(DESTDIR)$(PREFIX)/share/man/man1/braildesk.1'
+	install -d '$(bin)' '$(man)'
+	install -m 755 $(PROGRAM) '$(bin)/braildesk'
+	install -m 644 $(pages) '$(man)'
+ifneq ($(tables),)
+	install -d '$(share)/tables'
+	install -m 644 $(tables) '$(share)/tables'
+endif
+ifneq ($(has_scribe),)
+	rm -rf '$(share)/python'
+	cd python && find braildesk scribe -type f -not -name '*.pyc' -exec install -D -m 644 '{}' '$(share)/python/{}' ';'
+	printf '%s\n' "$$SCRIBE" > '$(bin)/scribe'
+	chmod 755 '$(bin)/scribe'
+endif
+
+uninstall:
+	rm -f '$(bin)/braildesk' '$(bin)/scribe' $(foreach page,$(notdir $(pages)),'$(man)/$(page)')
+	rm -f $(foreach table,$(notdir $(tables)),'$(share)/tables/$(table)')
+	rm -rf '$(share)/python'
+	[ ! -d '$(share)' ] || find '$(share)' -depth -type d -empty -delete
 
 clean:
 	rm -rf build crates/*/out
