@@ -16,12 +16,9 @@ export PYTHON
 PROGRAM := build/braildesk
 SOURCES := crates.txt HANDLES $(shell find crates -type f \( -path '*/src/*' -o -path '*/specs/*' -o -path '*/proofs/*' \) -not -path '*/out/*')
 
-# How many checks the gate runs side by side: one for each processor, if there are 5 GB of memory for each. Left alone, rt allows up
-# to 13 GB for one, of which few take 4 and none takes 7, and leaves processors idle.
+# How many crates are proved side by side, and how many checks of the gate run so: one for each processor, if there are 5 GB of memory for
+# each. Left alone, rt ci allows up to 13 GB for one, of which few take 4 and none takes 7, and leaves processors idle.
 JOBS ?= $(shell awk -v n="$$(nproc)" '/^MemAvailable/ { m = int($$2 / 5000000); print m < 1 ? 1 : m < n ? m : n }' /proc/meminfo)
-
-# the crates that the program stands on, each after those below it
-PARTS := cell_core louis_table louis_translate desk_command desk_parts desk_book sql_tables desk_rows desk_store desk_ends desk_line desk_brf desk_session desk_words desk_program braildesk
 
 .PHONY: all demo test trials runs attacks bench install uninstall clean
 
@@ -32,16 +29,10 @@ need_rt = $(if $(shell command -v '$(RT)' 2> /dev/null),,$(error the command '$(
 
 $(PROGRAM): $(SOURCES)
 	$(need_rt)
+	@echo 'Proving what the program needs, and building it. From nothing this may take an hour; a crate that is unchanged takes seconds.' >&2
+	@RT='$(RT)' JOBS=$(JOBS) scripts/prove.sh
 	@mkdir -p $(@D)
-	@echo 'Proving what the program needs. From nothing this may take an hour; a crate that is unchanged takes seconds.' >&2
-	@set -e; count=0; for part in $(PARTS); do \
-	    count=$$((count + 1)); echo "[$$count of $(words $(PARTS))] $$part" >&2; \
-	    (cd crates/$$part && $(RT) check > '$(CURDIR)/build/log' 2>&1) || { cat build/log; exit 1; }; \
-	done
-	@echo 'Building.' >&2
-	@cd crates/braildesk && $(RT) run -- --help > '$(CURDIR)/build/log' 2>&1 || { cat '$(CURDIR)/build/log'; exit 1; }
 	@cp crates/braildesk/out/braildesk $@
-	@rm build/log
 	@echo 'Built $@.'
 
 demo:
