@@ -1,5 +1,5 @@
 # make          proves what the program needs and builds build/braildesk
-# make demo     shows a small book typed and exported, by the sources as they are, without proofs, with the book in memory
+# make demo     shows a small book kept in a file and exported, by the sources as they are, without proofs
 # make test     the gate: looks for all that it needs; proves from nothing, tries the must-fail edits and runs the stored run;
 #               then it runs the tests, compares files with sqlite3, and by the built program runs the tutorial, the sample's
 #               client and rows of requests, words and ends, stops its files, refuses it memory and kills sessions of it
@@ -37,9 +37,8 @@ $(PROGRAM): $(SOURCES)
 
 demo:
 	$(need_rt)
-	@echo 'This runs the sources as they are, with checks as they run. It proves nothing. The build takes a minute or two.'
-	@echo 'The book stands in memory here: the requests, replies, pages and braille are those of the program, but no file is kept.'
-	@echo "'make' proves what the program needs, and builds $(PROGRAM), which keeps books in files."
+	@echo 'This runs the program on a file, as the sources are, with checks as it runs. It proves nothing. The build takes a minute or two.'
+	@echo "'make' proves what the program needs, and builds $(PROGRAM)."
 	@RT='$(RT)' sample/demo.sh
 
 test:

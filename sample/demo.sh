@@ -1,54 +1,50 @@
 #!/bin/bash
-# Shows a small book made by requests and exported, and lines translated, by the sources as they are, without proofs: one build by
-# `rt try` runs all of it. The book stands in memory (sample/demo.rattle), since a file's database and the words of the command line
-# take most of the time of a build; `make` builds the program with both.
-#   sample/demo.sh
+# Shows the program itself: it keeps a small book in a file, exports the book, and translates lines of print. It is built from the sources
+# as they are, without proofs and with checks as it runs: `rt try` builds it once and then runs each command in turn, in the order of
+# the names of its cases. The book is a file in a scratch folder, which each command opens anew.
+#   sample/demo.sh     RT (rt): the toolchain's command
 set -eu
 cd "$(dirname "$0")/.."
 rt=${RT:-rt}
 scratch=$(mktemp -d); trap 'rm -rf "$scratch"' EXIT
-mkdir -p "$scratch/cases" "$scratch/crates/demo/src"
+mkdir "$scratch/cases"
+book=$scratch/moon.braildesk
 
-# the crates, and beside them the demo with those modules of the program that answer lines
-tar -c --exclude=out crates | tar -x -C "$scratch"
-sources=$(dirname crates/*/src/answerer.rt)
-for module in answer answerer braille line print translate; do
-    cp "$sources/$module.rt" "$scratch/crates/demo/src"
-done
-cp sample/demo.rattle "$scratch/crates/demo/src/main.rt"
-cp HANDLES "$scratch"
-parts='cell_core louis_table louis_translate desk_command desk_parts desk_book desk_ends desk_line desk_brf'
-{ cat crates.txt; echo "demo: $parts itoa memchr thiserror anyhow"; } > "$scratch/crates.txt"
+# Adds a run of the program: what is shown above its output, the file of its standard input, and its words.
+shown=()
+run() { # TEXT INPUT WORD..
+    local name=${#shown[@]}
+    shown+=("$1")
+    cp "$2" "$scratch/cases/$name"
+    printf '%s\n' "${@:3}" > "$scratch/cases/$name.args"
+}
+cat_of() { # FILE REMARK: the command that shows a file, and the file
+    printf '$ cat %s    # %s\n%s\n' "$1" "$2" "$(cat "$1")"
+}
+export_of() { # VOLUME
+    run "\$ braildesk export moon.braildesk $1 --width 30 --lines 10" /dev/null export "$book" "$1" --width 30 --lines 10
+}
+run '$ braildesk new moon.braildesk' /dev/null new "$book"
+run "$(cat_of sample/book.txt 'requests to the book')
 
-# one run: the name by which it is ordered, its standard input, and its words
-run() { # NAME INPUT WORD..
-    cp "$2" "$scratch/cases/$1"
-    printf '%s\n' "${@:3}" > "$scratch/cases/$1.args"
-}
-run 1 /dev/null session
-run 2 /dev/null export 1 30 10
-run 3 /dev/null export 2 30 10
-run 4 sample/print.txt translate
-data=(--data "requests=$PWD/sample/book.txt" --data "table=$PWD/sample/plain.utb")
-(cd "$scratch/crates/demo" && "$rt" try --steps 1 --cases "$scratch/cases" "${data[@]}") > "$scratch/told" 2> "$scratch/errors" ||
-    { cat "$scratch/told" "$scratch/errors" >&2; exit 1; }
+\$ braildesk session moon.braildesk < sample/book.txt" sample/book.txt session "$book"
+run "$(cat_of sample/cut-off.txt 'a session that was cut off within the lines of a table')
 
-# what a run wrote: what stands below its name, which follows the form feed of a volume on one line
-written() { # NAME
-    tr -d '\r\f' < "$scratch/told" |
-        awk -v name="$1" '/^== [0-9]+$/ { shown = $2 == name; next } shown'
-}
-show() { # NAME COMMAND
-    printf '\n$ %s\n' "$2"
-    written "$1"
-}
-echo
-echo '$ cat sample/book.txt    # requests to a new book'
-cat sample/book.txt
-show 1 'braildesk session book.braildesk < sample/book.txt'
-show 2 'braildesk export book.braildesk 1 --width 30 --lines 10'
-show 3 'braildesk export book.braildesk 2 --width 30 --lines 10'
-echo
-echo '$ cat sample/print.txt    # print'
-cat sample/print.txt
-show 4 'braildesk translate sample/plain.utb < sample/print.txt'
+\$ braildesk session moon.braildesk < sample/cut-off.txt" sample/cut-off.txt session "$book"
+run '$ braildesk check moon.braildesk    # what was acknowledged is kept, and nothing else' /dev/null check "$book"
+export_of 1
+export_of 2
+run "$(cat_of sample/print.txt 'lines of print')
+
+\$ braildesk translate sample/plain.utb < sample/print.txt" sample/print.txt translate "$PWD/sample/plain.utb"
+
+# The output of each run comes below its name, without the carriage returns and form feeds of the pages.
+(cd crates/braildesk && "$rt" try --steps 1 --cases "$scratch/cases") 2> "$scratch/errors" |
+    while IFS= read -r line; do
+        line=${line//[$'\r\f']/}
+        case $line in
+            '== '[0-9]) printf '\n%s\n' "${shown[${line#== }]}" ;;
+            *) printf '%s\n' "$line" ;;
+        esac
+    done
+[ "$(grep -c '^case=.* status=0 ' "$scratch/errors")" -eq ${#shown[@]} ] || { cat "$scratch/errors" >&2; exit 1; }
