@@ -56,6 +56,7 @@ runs:
 	tests/client.sh $(PROGRAM)
 	tests/rows.sh
 	tests/stops.sh
+	tests/memory.sh
 	tests/kill.sh
 
 attacks:
