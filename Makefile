@@ -30,7 +30,7 @@ need_rt = $(if $(shell command -v '$(RT)' 2> /dev/null),,$(error the command '$(
 $(PROGRAM): $(SOURCES)
 	$(need_rt)
 	@echo 'Proving what the program needs, and building it. From nothing this may take an hour; a crate that is unchanged takes seconds.' >&2
-	@RT='$(RT)' JOBS=$(JOBS) scripts/prove.sh
+	@RT='$(RT)' JOBS=$(JOBS) exec scripts/prove.sh
 	@mkdir -p $(@D)
 	@cp crates/braildesk/out/braildesk $@
 	@echo 'Built $@.'
