@@ -354,7 +354,7 @@ class Life:
 
 
 def rounds(program: str, folder: pathlib.Path, count: int, seed: str) -> None:
-    more = full = 0
+    acknowledged = more = full = 0
     life: Optional[Life] = None
     for number in range(count):
         at = f"round {number + 1} of {count}, SEED={seed} KILLS={number + 1}"
@@ -368,8 +368,13 @@ def rounds(program: str, folder: pathlib.Path, count: int, seed: str) -> None:
         else:
             found, told = life.kill(), ""
             more += found.more
+        acknowledged += found.acknowledged
         print(
             f"{found.acknowledged} commands acknowledged, {found.more} more found{told}"
+        )
+    if count >= ROUNDS_A_BOOK and not (acknowledged and full):
+        raise Wrong(
+            f"{acknowledged} commands were acknowledged, and {full} sessions met full files"
         )
     print(
         f"ok  {count} sessions: {more} kept a command that they didn't acknowledge, "
