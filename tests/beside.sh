@@ -1,7 +1,6 @@
 #!/bin/bash
 # Copies the crates into a folder, with a crate `trials` beside them that has parts of tests/trials.
-#   tests/beside.sh FOLDER PART..     EVERY (1): at every how many of their calls the files of tests are stopped, and
-#                                     after every how many bytes their ends fail
+#   tests/beside.sh FOLDER PART..     EVERY (1): at every how many of their calls the files of tests are stopped
 set -eu
 cd "$(dirname "$0")/.."
 folder=$1

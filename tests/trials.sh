@@ -1,7 +1,7 @@
 #!/bin/bash
 # Runs the tests of tests/trials, unproved and with checks as they run, over the sources as they are.
-#   tests/trials.sh [PART..]     EVERY (1): at every how many of their calls files are stopped, and after every how
-#                                many bytes ends fail; RT: the toolchain's command
+#   tests/trials.sh [PART..]     EVERY (1): at every how many of their calls files are stopped; RT: the toolchain's
+#                                command
 # They are built as one crate in a scratch folder, beside those that they test. Those of `sqlite` are over files that sqlite3 made, and
 # what they print is compared by tests/sqlite3.sh.
 set -eu
