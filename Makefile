@@ -52,6 +52,7 @@ test:
 trials:
 	RT='$(RT)' EVERY=23 tests/trials.sh
 runs:
+	tests/prove.sh
 	tests/tutorial.sh $(PROGRAM)
 	tests/client.sh $(PROGRAM)
 	tests/rows.sh
