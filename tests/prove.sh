@@ -1,8 +1,8 @@
 #!/bin/bash
 # Has scripts/prove.sh prove the crates of crates.txt by a stand-in for `rt`, and looks at what it runs, shows and leaves.
 #   tests/prove.sh
-# The stand-in asks for the libraries of all crates below, waits up to ten seconds until two of it have begun, and keeps something in
-# out/ as `rt` does. It proves nothing.
+# The stand-in asks for the libraries of all crates below, waits up to three seconds for a third crate to begin, and keeps something
+# in out/ as `rt` does. It proves nothing.
 set -eum
 cd "$(dirname "$0")/.."
 scratch=$(mktemp -d); trap 'rm -rf "$scratch"' EXIT
@@ -23,7 +23,7 @@ done
 echo "what $1 says of $name"
 [ "${FAILS-}" != "$name" ] || { echo "$name is not proved"; exit 1; }
 sleep "${PAUSE:-0}"
-for ((n = 0; n < 100; n++)); do [ "$(grep -c '^begin' "$LOG")" -lt 2 ] || break; sleep 0.1; done
+for ((n = 0; n < 30; n++)); do [ "$(grep -c "^begin" "$LOG")" -lt 3 ] || break; sleep 0.1; done
 mkdir -p out/rlib out/kept
 case $1 in lib) touch out/rlib/library ;; run) touch "out/$name" ;; esac
 echo "end $name" >> "$LOG"
