@@ -1,0 +1,64 @@
+"""The command line: its words are parsed, a command runs, and what went wrong is said once."""
+
+import sys
+from collections.abc import Sequence
+
+from scribe.commands import COMMANDS
+from scribe.console import Console, OutputFailed
+from scribe.parser import HelpAsked, Parser, WordsRefused, unknown_command
+from scribe.status import Status
+
+DESCRIPTION = """\
+Works on a braildesk book: a file of print, its braille, and the marks on it.
+scribe COMMAND --help says more of a command, with an example."""
+STATUSES = """\
+statuses:
+  0  done
+  1  the words are refused
+  2  something is refused: a request, a book, a table, a text
+  3  something failed: a file, the disk, standard input or output"""
+
+
+def make_parser() -> tuple[Parser, list[str]]:
+    """The parser of all words, and the names of the commands."""
+    parser = Parser(prog="scribe", description=DESCRIPTION, epilog=STATUSES)
+    subparsers = parser.add_subparsers(
+        title="commands", metavar="COMMAND", dest="command", required=True
+    )
+    for command in COMMANDS:
+        command.add_parser(subparsers).set_defaults(run=command.run)
+    return parser, list(subparsers.choices)
+
+
+def run_words(words: Sequence[str], console: Console) -> Status:
+    """Runs the command that the words ask for."""
+    parser, names = make_parser()
+    try:
+        if words and not words[0].startswith("-") and words[0] not in names:
+            parser.refuse(unknown_command(words[0], names))
+        arguments = parser.parse_args(words)
+        status: Status = arguments.run(arguments, console)
+        console.flush()
+        return status
+    except HelpAsked as asked:
+        console.show(asked.text.rstrip("\n"))
+        return Status.DONE
+    except WordsRefused as refused:
+        console.say(refused.sentence, refused.usage)
+        return Status.WORDS_REFUSED
+
+
+def main() -> int:
+    """Runs the words of this process."""
+    console = Console.of_process()
+    try:
+        status = run_words(sys.argv[1:], console)
+        console.flush()
+        return status
+    except OutputFailed as failed:
+        if not failed.reader_left:
+            print(failed.sentence, file=console.errors, flush=True)
+        return Status.FAILED
+    except KeyboardInterrupt:
+        print("Stopped.", file=console.errors, flush=True)
+        return Status.FAILED

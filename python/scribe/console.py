@@ -1,0 +1,85 @@
+"""Where a command reads and writes."""
+
+import os
+import sys
+import time
+from collections.abc import Callable
+from dataclasses import dataclass
+from typing import BinaryIO, TextIO
+
+PROGRESS_SECONDS = 2.0
+
+
+class OutputFailed(Exception):
+    """Standard output can't be written."""
+
+    def __init__(self, cause: OSError) -> None:
+        super().__init__(cause)
+        self.reader_left = isinstance(cause, BrokenPipeError)
+        self.sentence = f"Standard output could not be written: {cause.strerror}."
+
+
+@dataclass(frozen=True)
+class Console:
+    """Standard input and output, and standard error.
+
+    What a person asked for is shown on the output, sentences are said on the errors. Both are
+    UTF-8 whatever the locale says, as a book is.
+    """
+
+    input: BinaryIO
+    output: TextIO
+    errors: TextIO
+
+    @classmethod
+    def of_process(cls) -> "Console":
+        """The streams of this process."""
+        return cls(sys.stdin.buffer, _utf8_writer(1), _utf8_writer(2))
+
+    def show(self, *lines: str) -> None:
+        """Writes lines that a person asked for."""
+        try:
+            self.output.writelines(line + "\n" for line in lines)
+        except OSError as cause:
+            raise OutputFailed(cause) from cause
+
+    def flush(self) -> None:
+        """Writes out all that was shown."""
+        try:
+            self.output.flush()
+        except OSError as cause:
+            raise OutputFailed(cause) from cause
+
+    def say(self, *sentences: str) -> None:
+        """Writes sentences, after all that was shown before them."""
+        self.flush()
+        self.errors.writelines(sentence + "\n" for sentence in sentences)
+        self.errors.flush()
+
+    def progress(self, what: str) -> Callable[[int, int], None]:
+        """A function of how many are done, of how many, that says so from time to time.
+
+        Where the errors are no terminal nothing is said. Each sentence is a line of its own, since
+        a line that is written over can't be followed by a screen reader.
+        """
+        if not self.errors.isatty():
+            return lambda done, total: None
+        last = time.monotonic()
+
+        def report(done: int, total: int) -> None:
+            nonlocal last
+            if time.monotonic() - last >= PROGRESS_SECONDS:
+                last = time.monotonic()
+                self.say(f"{done:,} of {total:,} {what}.")
+
+        return report
+
+
+def _utf8_writer(descriptor: int) -> TextIO:
+    return open(
+        os.dup(descriptor),
+        "w",
+        encoding="utf-8",
+        errors="backslashreplace",
+        newline="\n",
+    )

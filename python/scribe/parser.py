@@ -1,0 +1,97 @@
+"""The words of the command line: a parser that speaks in sentences, and what its words are."""
+
+import argparse
+import difflib
+from collections.abc import Sequence
+from pathlib import Path
+from typing import Any, NoReturn
+
+# The object on which a command calls add_parser.
+Subparsers = Any
+
+
+class WordsRefused(Exception):
+    """The words of the command line are refused."""
+
+    def __init__(self, sentence: str, usage: str) -> None:
+        super().__init__(sentence)
+        self.sentence = sentence
+        self.usage = usage
+
+
+class HelpAsked(Exception):
+    """The words ask for help, and nothing else is done."""
+
+    def __init__(self, text: str) -> None:
+        super().__init__(text)
+        self.text = text
+
+
+class _Help(argparse.Action):
+    def __call__(self, parser: argparse.ArgumentParser, *_: Any) -> NoReturn:
+        raise HelpAsked(parser.format_help())
+
+
+class Parser(argparse.ArgumentParser):
+    """A parser that raises what it has to say, so that a command is tried without a process."""
+
+    def __init__(self, **options: Any) -> None:
+        options.setdefault("formatter_class", argparse.RawDescriptionHelpFormatter)
+        super().__init__(add_help=False, allow_abbrev=False, **options)
+        self.add_argument(
+            "-h",
+            "--help",
+            action=_Help,
+            nargs=0,
+            help="say what this does, with an example",
+        )
+
+    def refuse(self, sentence: str) -> NoReturn:
+        """Refuses the words with a sentence."""
+        raise WordsRefused(sentence, self.format_usage().strip())
+
+    def error(self, message: str) -> NoReturn:
+        """Refuses the words with what argparse says of them, as a sentence."""
+        self.refuse(message[:1].upper() + message[1:].rstrip(".") + ".")
+
+
+def command_parser(
+    subparsers: Subparsers, name: str, does: str, example: str, more: str = ""
+) -> argparse.ArgumentParser:
+    """Adds a command's parser: its help is a sentence that says what it does, and an example.
+
+    The example is one or more lines for a shell, which run as they stand in the folder that the
+    tests make for them.
+    """
+    description = f"{does}\n\n{more}" if more else does
+    lines = "\n".join(f"  {line}" for line in example.splitlines())
+    parser: argparse.ArgumentParser = subparsers.add_parser(
+        name, help=does, description=description, epilog=f"example:\n{lines}"
+    )
+    return parser
+
+
+def add_file(parser: argparse.ArgumentParser) -> None:
+    """Adds the word FILE: the file of a book, as the path `arguments.file`."""
+    parser.add_argument("file", metavar="FILE", type=Path, help="the file of the book")
+
+
+def add_paragraph(parser: argparse.ArgumentParser) -> None:
+    """Adds the word PARA: the number of a paragraph, as `arguments.paragraph`."""
+    parser.add_argument(
+        "paragraph", metavar="PARA", type=number, help="the number of the paragraph"
+    )
+
+
+def number(word: str) -> int:
+    """The number that a word is: decimal digits, as the requests of a book have them."""
+    if not (word.isascii() and word.isdigit() and len(word) <= 16):
+        raise argparse.ArgumentTypeError(f"{word!r} is not a number")
+    return int(word)
+
+
+def unknown_command(word: str, names: Sequence[str]) -> str:
+    """What is said of a word that is no command."""
+    near = difflib.get_close_matches(word, names, n=1)
+    guess = f" Did you mean {near[0]}?" if near else ""
+    return f"There is no command {word}.{guess} The commands are {', '.join(names)}."
