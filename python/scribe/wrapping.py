@@ -1,10 +1,16 @@
 """Text in lines of a width, broken between words."""
 
+import re
 import unicodedata
 
-BRAILLE_BLANK = "\u2800"
+from scribe.cells import EMPTY_CELL
+from scribe.sequences import sequences
+
 # the most that a tab takes
 TAB_COLUMNS = 8
+_WORD = re.compile(rf"([ \t{EMPTY_CELL}]*)([^ \t{EMPTY_CELL}]+)")
+_UNSEEN = ("Mn", "Me")
+_JOINING_JAMO = range(0x1160, 0x1200)
 
 
 def columns(text: str) -> int:
@@ -18,55 +24,39 @@ def wrap(text: str, width: int, indent: str = "") -> list[str]:
     """The lines of a text, the later ones after an indent, none over the width.
 
     Lines are broken at blanks, those of braille too, and the blanks at which they are broken are
-    left out. A word that is longer than a line is cut. An empty text is one empty line.
+    left out. A word that is longer than a line is cut, and no combining sequence is. An empty text
+    is one empty line.
     """
-    lines: list[str] = []
-    line = ""
-    blanks = ""  # those between the line and the next word
-    for piece in _pieces(text):
-        if _is_blank(piece[0]):
-            blanks = piece
+    lines = [""]
+    for blanks, word in _WORD.findall(text):
+        longer: str = lines[-1] + blanks + word
+        if columns(longer) <= width:
+            lines[-1] = longer
             continue
-        if line.strip() and columns(line + blanks + piece) > width:
-            lines.append(line)
-            line = indent + piece
-        else:
-            line += blanks + piece
-        while columns(line) > width:
-            cut = _fitting(line, width, len(indent) + 1)
-            lines.append(line[:cut])
-            line = indent + line[cut:]
-    return [*lines, line]
+        if lines[-1].strip():
+            lines.append("")
+            longer = indent + word
+        lines[-1:] = _cut(longer, width, indent)
+    return lines
 
 
-def _pieces(text: str) -> list[str]:
-    """The words of a text, and the blanks between them."""
-    pieces: list[str] = []
-    start = 0
-    for place in range(1, len(text) + 1):
-        if place == len(text) or _is_blank(text[place]) != _is_blank(text[start]):
-            pieces.append(text[start:place])
-            start = place
-    return pieces
-
-
-def _is_blank(character: str) -> bool:
-    return character in (" ", "\t", BRAILLE_BLANK)
-
-
-def _fitting(text: str, width: int, least: int) -> int:
-    """How many characters of a text, but at least some, fit in a width."""
+def _cut(line: str, width: int, indent: str) -> list[str]:
+    """A line that is too long in lines of the width, the later ones after the indent."""
+    pieces = [""]
     taken = 0
-    for place, character in enumerate(text):
-        taken += _columns_of(character)
-        if taken > width:
-            return max(place, least)
-    return len(text)
+    for sequence in sequences(line):
+        size = columns(sequence)
+        if taken + size > width and pieces[-1] not in ("", indent):
+            pieces.append(indent)
+            taken = len(indent)
+        pieces[-1] += sequence
+        taken += size
+    return pieces
 
 
 def _columns_of(character: str) -> int:
     if character == "\t":
         return TAB_COLUMNS
-    if unicodedata.combining(character):
+    if unicodedata.category(character) in _UNSEEN or ord(character) in _JOINING_JAMO:
         return 0
     return 2 if unicodedata.east_asian_width(character) in "WF" else 1

@@ -1,0 +1,114 @@
+"""The paragraphs of a text file, and where in the file each of their characters stands.
+
+Lines end with LF or CR LF, and one byte order mark at the front is skipped. Tabs and form feeds are
+blanks. Blanks around a line, and lines of blanks alone, are no part of a paragraph. Lines and
+columns are counted from 1, columns in characters.
+"""
+
+from bisect import bisect_right
+from collections.abc import Iterator
+from dataclasses import dataclass
+from itertools import groupby
+
+from scribe.sequences import composed, sequences
+
+_MARK = b"\xef\xbb\xbf"
+_OTHER_MARKS = (b"\xff\xfe", b"\xfe\xff")
+_BLANKS = str.maketrans("\t\f", "  ")
+
+
+class Unreadable(Exception):
+    """A text file isn't UTF-8."""
+
+    def __init__(self, sentence: str) -> None:
+        super().__init__(sentence)
+        self.sentence = sentence
+
+
+@dataclass(frozen=True)
+class Position:
+    """A line of a file and a column in it, both from 1."""
+
+    line: int
+    column: int
+
+
+@dataclass(frozen=True)
+class Line:
+    """What a line of a file has between the blanks around it, and the position of its front."""
+
+    text: str
+    position: Position
+
+
+@dataclass(frozen=True)
+class Passage:
+    """A paragraph of a text file: lines that are joined by one blank each."""
+
+    lines: tuple[Line, ...]
+
+    @property
+    def first_line(self) -> int:
+        return self.lines[0].position.line
+
+    @property
+    def last_line(self) -> int:
+        return self.lines[-1].position.line
+
+    @property
+    def text(self) -> str:
+        """The print of the paragraph, in normal form C."""
+        return composed(self._joined)
+
+    @property
+    def _joined(self) -> str:
+        return " ".join(line.text for line in self.lines)
+
+    def position(self, place: int) -> Position:
+        """Where in the file a place of the print comes from, by the front of its sequence."""
+        before = there = 0
+        for sequence in sequences(self._joined):
+            there += len(composed(sequence))
+            if there > place:
+                break
+            before += len(sequence)
+        return self._position(before)
+
+    def _position(self, place: int) -> Position:
+        fronts = [0]
+        for line in self.lines[:-1]:
+            fronts.append(fronts[-1] + len(line.text) + 1)
+        number = bisect_right(fronts, place) - 1
+        front = self.lines[number].position
+        return Position(front.line, front.column + place - fronts[number])
+
+
+def passages(data: bytes, by_lines: bool) -> tuple[Passage, ...]:
+    """The paragraphs of a text: its lines, or what stands between its blank lines."""
+    found = list(_lines(_decoded(data.removeprefix(_MARK))))
+    if by_lines:
+        return tuple(Passage((line,)) for line in found if line.text)
+    groups = groupby(found, key=lambda line: bool(line.text))
+    return tuple(Passage(tuple(lines)) for has_text, lines in groups if has_text)
+
+
+def _lines(text: str) -> Iterator[Line]:
+    for number, whole in enumerate(text.split("\n"), start=1):
+        shown = whole.removesuffix("\r").translate(_BLANKS)
+        front = len(shown) - len(shown.lstrip(" "))
+        yield Line(shown.strip(" "), Position(number, front + 1))
+
+
+def _decoded(data: bytes) -> str:
+    try:
+        return data.decode("utf-8")
+    except UnicodeDecodeError as fault:
+        if data.startswith(_OTHER_MARKS):
+            raise Unreadable("is UTF-16. Save it as UTF-8, and import it again") from fault
+        before = data[: fault.start].decode("utf-8")
+        line = before.count("\n") + 1
+        column = len(before) - before.rfind("\n")
+        raise Unreadable(
+            f"isn't UTF-8: line {line}, column {column} has the byte"
+            f" {data[fault.start]:#04x}. Save it as UTF-8, and import it again"
+        ) from fault
