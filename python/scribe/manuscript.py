@@ -104,7 +104,9 @@ def _decoded(data: bytes) -> str:
         return data.decode("utf-8")
     except UnicodeDecodeError as fault:
         if data.startswith(_OTHER_MARKS):
-            raise Unreadable("is UTF-16. Save it as UTF-8, and import it again") from fault
+            raise Unreadable(
+                "is UTF-16. Save it as UTF-8, and import it again"
+            ) from fault
         before = data[: fault.start].decode("utf-8")
         line = before.count("\n") + 1
         column = len(before) - before.rfind("\n")

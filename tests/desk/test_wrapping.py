@@ -1,0 +1,111 @@
+"""Lines of a width, as a terminal shows them."""
+
+import pytest
+from hypothesis import given
+from hypothesis import strategies as st
+
+from scribe.sequences import seams
+from scribe.wrapping import columns, interlinear, wrapped
+
+WIDTHS = [
+    ("", 0),
+    ("moon", 4),
+    ("café", 4),
+    ("cafe\u0301", 4),
+    ("月の海", 6),
+    ("ｍｏｏｎ", 8),
+    ("⠍⠕⠕⠝", 4),
+    ("שָׁלוֹם", 4),
+    ("கா", 2),
+    ("각", 2),
+    ("\u200fab\u200d", 2),
+    ("😀", 2),
+]
+
+
+@pytest.mark.parametrize("text, width", WIDTHS)
+def test_a_text_takes_the_columns_of_its_characters(text: str, width: int) -> None:
+    assert columns(text) == width
+
+
+LINES = [
+    ("", 10, [""]),
+    ("The moon is far away.", 10, ["The moon", "is far", "away."]),
+    ("The moon is", 11, ["The moon is"]),
+    ("a  b   c", 4, ["a  b", "c"]),
+    ("  indented", 12, ["  indented"]),
+    ("abcdefghij klm", 4, ["abcd", "efgh", "ij", "klm"]),
+    ("a bcdefg", 4, ["a", "bcde", "fg"]),
+    ("月の海 は", 4, ["月の", "海", "は"]),
+    ("月の海 は", 5, ["月の", "海 は"]),
+    ("aq\u0307q\u0307q\u0307", 2, ["aq\u0307", "q\u0307q\u0307"]),
+    ("⠞⠓⠑⠀⠍⠕⠕⠝", 5, ["⠞⠓⠑", "⠍⠕⠕⠝"]),
+    ("שלום עולם", 5, ["שלום", "עולם"]),
+]
+
+
+@pytest.mark.parametrize("text, width, lines", LINES)
+def test_a_text_is_broken_between_words(
+    text: str, width: int, lines: list[str]
+) -> None:
+    assert wrapped(text, width) == lines
+
+
+ANY = st.text("aé月q\u0307 ⠀⠍ש\u05b0😀", max_size=40)
+
+
+@given(ANY, st.integers(2, 12))
+def test_no_line_is_wider_than_the_width(text: str, width: int) -> None:
+    for line in wrapped(text, width):
+        assert columns(line) <= width
+
+
+@given(ANY, st.integers(2, 12))
+def test_nothing_but_blanks_is_left_out(text: str, width: int) -> None:
+    blanks = str.maketrans("", "", " \u2800")
+    assert "".join(wrapped(text, width)).translate(blanks) == text.translate(blanks)
+
+
+@given(ANY, st.integers(2, 12))
+def test_no_sequence_is_cut_by_the_end_of_a_line(text: str, width: int) -> None:
+    places = {
+        text[:place].replace(" ", "").replace("\u2800", "") for place in seams(text)
+    }
+    front = ""
+    for line in wrapped(text, width):
+        front += line.replace(" ", "").replace("\u2800", "")
+        assert front in places
+
+
+def test_braille_stands_under_the_same_words() -> None:
+    assert interlinear("On 20 July two men", "⠠⠕⠝⠀⠼⠃⠚⠀⠠⠚⠥⠇⠽⠀⠞⠺⠕⠀⠍⠑⠝", 13) == [
+        "On 20 July",
+        "⠠⠕⠝⠀⠼⠃⠚⠀⠠⠚⠥⠇⠽",
+        "two men",
+        "⠞⠺⠕⠀⠍⠑⠝",
+    ]
+
+
+def test_a_word_that_is_longer_than_a_line_has_its_braille_after_it() -> None:
+    assert interlinear("a moonlight", "⠁⠀⠍⠕⠕⠝⠇⠊⠛⠓⠞", 4) == [
+        "a",
+        "⠁",
+        "moon",
+        "ligh",
+        "t",
+        "⠍⠕⠕⠝",
+        "⠇⠊⠛⠓",
+        "⠞",
+    ]
+
+
+def test_where_words_differ_in_number_all_print_comes_first() -> None:
+    assert interlinear("of the moon", "⠷⠮⠀⠍⠕⠕⠝", 8) == [
+        "of the",
+        "moon",
+        "⠷⠮⠀⠍⠕⠕⠝",
+    ]
+
+
+def test_an_empty_paragraph_has_an_empty_line_of_each() -> None:
+    assert interlinear("", "", 10) == ["", ""]
