@@ -4,8 +4,9 @@ import pytest
 from hypothesis import given
 from hypothesis import strategies as st
 
+from scribe.interlinear import interlinear
 from scribe.sequences import seams
-from scribe.wrapping import columns, interlinear, wrapped
+from scribe.wrapping import columns, wrap
 
 WIDTHS = [
     ("", 0),
@@ -18,7 +19,6 @@ WIDTHS = [
     ("שָׁלוֹם", 4),
     ("கா", 2),
     ("각", 2),
-    ("\u200fab\u200d", 2),
     ("😀", 2),
 ]
 
@@ -48,7 +48,7 @@ LINES = [
 def test_a_text_is_broken_between_words(
     text: str, width: int, lines: list[str]
 ) -> None:
-    assert wrapped(text, width) == lines
+    assert wrap(text, width) == lines
 
 
 ANY = st.text("aé月q\u0307 ⠀⠍ש\u05b0😀", max_size=40)
@@ -56,14 +56,14 @@ ANY = st.text("aé月q\u0307 ⠀⠍ש\u05b0😀", max_size=40)
 
 @given(ANY, st.integers(2, 12))
 def test_no_line_is_wider_than_the_width(text: str, width: int) -> None:
-    for line in wrapped(text, width):
+    for line in wrap(text, width):
         assert columns(line) <= width
 
 
 @given(ANY, st.integers(2, 12))
 def test_nothing_but_blanks_is_left_out(text: str, width: int) -> None:
     blanks = str.maketrans("", "", " \u2800")
-    assert "".join(wrapped(text, width)).translate(blanks) == text.translate(blanks)
+    assert "".join(wrap(text, width)).translate(blanks) == text.translate(blanks)
 
 
 @given(ANY, st.integers(2, 12))
@@ -72,9 +72,19 @@ def test_no_sequence_is_cut_by_the_end_of_a_line(text: str, width: int) -> None:
         text[:place].replace(" ", "").replace("\u2800", "") for place in seams(text)
     }
     front = ""
-    for line in wrapped(text, width):
+    for line in wrap(text, width):
         front += line.replace(" ", "").replace("\u2800", "")
         assert front in places
+
+
+def test_later_lines_stand_after_the_indent() -> None:
+    assert wrap("Mark 3, open: spelled so?", 12, "  ") == [
+        "Mark 3,",
+        "  open:",
+        "  spelled",
+        "  so?",
+    ]
+    assert wrap("abcdefghij", 4, "  ") == ["abcd", "  ef", "  gh", "  ij"]
 
 
 def test_braille_stands_under_the_same_words() -> None:
