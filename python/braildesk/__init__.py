@@ -18,6 +18,7 @@ from braildesk.refusals import (
     CannotOpen,
     Damaged,
     DeskError,
+    Failed,
     Lost,
     NewerFormat,
     NoMemory,
@@ -26,6 +27,7 @@ from braildesk.refusals import (
     SessionEnded,
     Unopened,
 )
+from braildesk.sentences import Why
 from braildesk.session import Session
 from braildesk.values import (
     After,
@@ -49,6 +51,7 @@ __all__ = [
     "DeskError",
     "Done",
     "Entry",
+    "Failed",
     "Kind",
     "Lost",
     "Mark",
@@ -65,6 +68,7 @@ __all__ = [
     "Table",
     "Typed",
     "Unopened",
+    "Why",
     "check",
     "copy",
     "export",

@@ -1,32 +1,73 @@
 """The program braildesk: where it is, and what it does without a session."""
 
 import os
-from collections.abc import Iterable
-from os import PathLike
+import re
+import shutil
+import subprocess
+from collections.abc import Iterable, Iterator
+from os import PathLike, fspath
 from pathlib import Path
 
-from braildesk.refusals import DeskError, Refused
+from braildesk import limits, opening
+from braildesk.asked import AskedOfFile, BookFile, Line, Pages, TableFile
+from braildesk.refusals import (
+    DeskError,
+    Failed,
+    Refused,
+    cannot_open,
+    refused,
+    refused_as,
+)
+from braildesk.sentences import Why
+from braildesk.wording import Refusal
 
 StrPath = str | PathLike[str]
+
+_CHECKOUT = Path(__file__).resolve().parents[2]
+_CODE = re.compile(r"(?:braildesk: )?no ([0-9 ]+)")
 
 
 class NoProgram(DeskError):
     """The program braildesk isn't found."""
 
 
-def find(program: StrPath | None = None) -> Path:
-    """The program: the one named here, else by ``BRAILDESK``, else the checkout's, else the path's."""
-    raise NotImplementedError
+def find(program: StrPath | None = None) -> str:
+    """The path of the program.
+
+    It is the one that is named here, else the one that ``BRAILDESK`` names, else
+    ``build/braildesk`` of the checkout in which this package stands, else the one on the path.
+    """
+    named = fspath(program) if program is not None else os.environ.get("BRAILDESK", "")
+    if named:
+        if found := shutil.which(named):
+            return found
+        source = "" if program is not None else ", which BRAILDESK names,"
+        raise NoProgram(
+            f"The program “{named}”{source} isn't there, or may not be run."
+        )
+    for candidate in (str(_CHECKOUT / "build" / "braildesk"), "braildesk"):
+        if found := shutil.which(candidate):
+            return found
+    raise NoProgram(
+        "The program braildesk isn't found: it is neither on the path nor built in"
+        f" {_CHECKOUT / 'build'}. Build it by make, or let BRAILDESK name it."
+    )
 
 
 def new_book(path: StrPath, program: StrPath | None = None) -> None:
-    """Makes an empty book. A file that holds one is left; another book is refused (99)."""
-    raise NotImplementedError
+    """Makes an empty book in a file.
+
+    A file with an empty book is taken as it is; one with another book is refused (99).
+    """
+    asked = BookFile(fspath(path))
+    _run(program, ["new", "--", _word(asked)], asked)
 
 
 def check(path: StrPath, program: StrPath | None = None) -> int:
     """The version of the book in a file."""
-    raise NotImplementedError
+    asked = BookFile(fspath(path))
+    answer = _run(program, ["check", "--", _word(asked)], asked)
+    return int(answer.removeprefix(b"ok "))
 
 
 def export(
@@ -37,11 +78,103 @@ def export(
     program: StrPath | None = None,
 ) -> bytes:
     """The pages of a volume, in Braille Ready Format."""
-    raise NotImplementedError
+    asked = Pages(fspath(path), volume, width, lines)
+    if not 1 <= volume <= limits.PARAGRAPHS:
+        raise refused(96, (), asked)
+    if not (_is_within(width, limits.WIDTHS) and _is_within(lines, limits.PAGE_LINES)):
+        raise refused(97, (), asked)
+    sizes = ["--width", str(width), "--lines", str(lines)]
+    return _run(program, ["export", *sizes, "--", _word(asked), str(volume)], asked)
 
 
 def translate(
     table: StrPath, lines: Iterable[str], program: StrPath | None = None
 ) -> list[str | Refused]:
-    """The braille of each line, by the table in a file or by the supplied one (``"@en"``)."""
-    raise NotImplementedError
+    """The braille of each line, or why it is refused.
+
+    The table is the text in a file, or the supplied one where ``table`` is the string ``"@en"``.
+    """
+    is_file_of_that_name = isinstance(table, PathLike) and fspath(table) == "@en"
+    asked = TableFile("./@en" if is_file_of_that_name else fspath(table))
+    judged = [_judged(Line(asked.path, line)) for line in lines]
+    sent = b"".join(
+        line.text.encode() + b"\r\n" for line in judged if isinstance(line, Line)
+    )
+    output = _run(program, ["translate", "--", _word(asked)], asked, sent)
+    answers = iter(output.decode().split("\n"))
+    return [_answered(line, answers) for line in judged]
+
+
+def session_words(path: StrPath, program: StrPath | None = None) -> list[str]:
+    """The words that start a session with the book in a file."""
+    return [find(program), "session", "--", _word(BookFile(fspath(path)))]
+
+
+def unopened(status: int, errors: str, asked: AskedOfFile) -> DeskError:
+    """Why the program ended with a status other than 0."""
+    if status == 2 and (found := _CODE.search(errors)):
+        code, *numbers = map(int, found[1].split())
+        if code == 98:
+            return cannot_open(asked, opening.why(asked))
+        if code == 8 and isinstance(asked, TableFile):
+            asked = TableFile(asked.path, _text_at(asked.path))
+        return refused(code, tuple(numbers), asked)
+    return Failed(_failure(status, errors))
+
+
+def _failure(status: int, errors: str) -> str:
+    if status == 3:
+        return (
+            "The file could not be written or read. What the book held is still in it. See to"
+            " the disk, and try again."
+        )
+    if status < 0:
+        return f"braildesk was ended by signal {-status} before it was done."
+    return f"braildesk ended with status {status}: {errors.strip()}"
+
+
+def _run(
+    program: StrPath | None, words: list[str], asked: AskedOfFile, sent: bytes = b""
+) -> bytes:
+    done = subprocess.run([find(program), *words], input=sent, capture_output=True)
+    if done.returncode:
+        raise unopened(done.returncode, done.stderr.decode(errors="replace"), asked)
+    return done.stdout
+
+
+def _word(asked: AskedOfFile) -> str:
+    word = opening.word(asked.path)
+    if word is None:
+        raise cannot_open(asked, Why.NO_PATH)
+    return word
+
+
+def _is_within(number: int, limit: tuple[int, int]) -> bool:
+    return limit[0] <= number <= limit[1]
+
+
+def _text_at(path: str) -> bytes:
+    try:
+        return Path(path).read_bytes()
+    except OSError:
+        return b""
+
+
+def _judged(line: Line) -> Line | Refused:
+    """A line that can be sent, or why it can't."""
+    if lone := re.search("[\ud800-\udfff]", line.text):
+        return refused_as(Refusal(1, line, place=lone.start()))
+    if "\n" in line.text:
+        return refused_as(Refusal(6, line, place=line.text.index("\n")))
+    return line
+
+
+def _answered(line: Line | Refused, answers: Iterator[str]) -> str | Refused:
+    """The answer to a line, which is the next one where the line was sent."""
+    if isinstance(line, Refused):
+        return line
+    answer = next(answers)
+    if not (found := _CODE.fullmatch(answer)):
+        return answer
+    code, *numbers = map(int, found[1].split())
+    return refused(code, tuple(numbers), line)

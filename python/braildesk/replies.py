@@ -15,7 +15,10 @@ class Reply:
 
 
 class Unreadable(Exception):
-    """Bytes that no session of braildesk answers."""
+    """A line that no session of braildesk answers."""
+
+    def __init__(self, line: bytes) -> None:
+        super().__init__(f"This is no line of a reply of braildesk: {line[:80]!r}.")
 
 
 class Reader:
@@ -45,8 +48,8 @@ class Reader:
             word, *numbers = text.split(" ")
             reply = Reply(tuple(self._lines), word, tuple(map(int, numbers)))
         except ValueError:
-            raise Unreadable(f"no line of a session's replies: {line!r}") from None
+            raise Unreadable(line) from None
         if word not in ("ok", "no", "end") or not numbers:
-            raise Unreadable(f"no line of a session's replies: {line!r}")
+            raise Unreadable(line)
         self._lines = []
         self._replies.append(reply)

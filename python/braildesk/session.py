@@ -1,13 +1,21 @@
 """A session with a book: requests go to the program, and values come back."""
 
+from collections import deque
 from collections.abc import Callable, Iterable, Iterator
-from os import PathLike
+from dataclasses import replace
+from os import fspath
 from types import TracebackType
 from typing import Any, Literal, Self
 
+from braildesk import program as programs
 from braildesk import requests
-from braildesk.refusals import Refused
-from braildesk.requests import Answer, Request
+from braildesk.answers import answer
+from braildesk.asked import BookFile
+from braildesk.pipe import Ending, Pipe
+from braildesk.program import StrPath
+from braildesk.refusals import Lost, Refused, SessionEnded, refused, refused_as
+from braildesk.replies import Reply, Unreadable
+from braildesk.requests import Answer, Request, Unwritable
 from braildesk.values import (
     After,
     Corrected,
@@ -19,19 +27,31 @@ from braildesk.values import (
     Style,
     Typed,
 )
+from braildesk.wording import Refusal
+
+#: How many bytes of requests are made ahead of those that are written.
+_AHEAD = 1 << 16
 
 
 class Session:
     """One session of braildesk with the book in a file, which is opened at once.
 
-    A method for each command and query, named as the request. A command is kept in the file before
-    its method returns. ``expect`` is the version that the book has to be at.
+    There is a method for each command and query, named as the request. A command is kept in the
+    file before its method returns. ``expect`` is the version that the book has to be at.
     """
 
-    def __init__(
-        self, path: str | PathLike[str], program: str | PathLike[str] | None = None
-    ) -> None:
-        raise NotImplementedError
+    def __init__(self, path: StrPath, program: StrPath | None = None) -> None:
+        self._book = BookFile(fspath(path))
+        self._pipe = Pipe(programs.session_words(path, program))
+        #: The requests of ``each`` whose answers weren't taken yet, in order.
+        self._sent: deque[Request[Any] | Refused] = deque()
+        self._is_streaming = False
+        self._is_closed = False
+        self._lost: Lost | None = None
+        self._acknowledged: Request[Any] | None = None
+        self._answered = 0
+        self._seen = 0
+        self._open()
 
     def __enter__(self) -> Self:
         return self
@@ -42,20 +62,41 @@ class Session:
         error: BaseException | None,
         trace: TracebackType | None,
     ) -> None:
-        self.close()
+        try:
+            self.close()
+        except Lost as lost:
+            if error is None:
+                raise
+            error.add_note(lost.sentence)
 
     def close(self) -> None:
-        """Ends the session. What was acknowledged is in the file."""
-        raise NotImplementedError
+        """Ends the session. What was acknowledged is in the file.
+
+        Of the requests that ``each`` sent ahead, those that were begun are carried out.
+        """
+        if self._is_closed:
+            return
+        self._settle()
+        self._is_closed = True
+        ending = self._pipe.close()
+        if ending.status:
+            raise self._lose(SessionEnded, f"{_ended(ending)} {self._kept()}")
 
     @property
     def seen(self) -> int:
-        """The version of the book that the last reply reported."""
-        raise NotImplementedError
+        """The version of the book that was last reported."""
+        return self._seen
 
     def ask(self, request: Request[Answer]) -> Answer:
-        """Sends a request, and gives what is answered; ``Refused`` or ``Lost``."""
-        raise NotImplementedError
+        """Sends a request, and gives what it is answered by; raises ``Refused`` or ``Lost``."""
+        data = self._ready(request)
+        self._settle()
+        self._sent.append(request)
+        self._pipe.send(data)
+        reply = self._take(request)
+        if reply.word != "no":
+            return answer(request, reply)
+        raise self._explained(_refused(request, reply))
 
     def each(
         self,
@@ -64,10 +105,133 @@ class Session:
     ) -> Iterator[Answer | Refused]:
         """Sends many requests ahead of their replies, and gives the answers in order.
 
-        A refusal is a value among the answers. ``progress`` is called with the number of requests
-        answered so far.
+        A refusal is a value among the answers, and the requests after it go on. ``progress`` is
+        called with the number of answers so far. Until all are given, the session answers nothing
+        else; where they aren't all taken, requests that were sent already are still carried out.
         """
-        raise NotImplementedError
+        self._settle()
+        self._is_streaming = True
+        source = iter(asked)
+        count = 0
+        try:
+            while self._send_ahead(source):
+                value = self._next_value()
+                count += 1
+                if progress is not None:
+                    progress(count)
+                yield value
+        finally:
+            self._is_streaming = False
+
+    def _open(self) -> None:
+        """Waits for the first reply, which comes where the book was opened."""
+        version = requests.Version()
+        self._pipe.send(version.encoded())
+        reply = self._pipe.reply()
+        if reply is None:
+            self._is_closed = True
+            ending = self._pipe.close()
+            raise programs.unopened(ending.status, ending.errors, self._book)
+        self._seen = answer(version, reply)
+
+    def _ready(self, request: Request[Any]) -> bytes:
+        """The bytes of a request, where the session can take it."""
+        if self._is_streaming:
+            raise RuntimeError("the answers of each() are still being given")
+        return _encoded(request)
+
+    def _send_ahead(self, source: Iterator[Request[Any]]) -> bool:
+        """Sends requests as far ahead as there is room, and says whether any answer is to come."""
+        while self._pipe.queued_bytes < _AHEAD:
+            request = next(source, None)
+            if request is None:
+                break
+            try:
+                data = _encoded(request)
+            except Refused as refusal:
+                self._sent.append(refusal)
+            else:
+                self._sent.append(request)
+                self._pipe.send(data)
+        self._pipe.push()
+        return bool(self._sent)
+
+    def _next_value(self) -> Any:
+        """The answer to the first request that waits for one, or its refusal."""
+        request = self._sent[0]
+        if isinstance(request, Refused):
+            self._sent.popleft()
+            return request
+        reply = self._take(request)
+        return (
+            _refused(request, reply) if reply.word == "no" else answer(request, reply)
+        )
+
+    def _settle(self) -> None:
+        """Drops requests of ``each`` that weren't begun, and takes the replies to the others."""
+        if self._lost is not None:
+            raise self._lost
+        if self._is_closed:
+            raise RuntimeError("the session is closed")
+        for _ in range(self._pipe.drop()):
+            while isinstance(self._sent.pop(), Refused):
+                pass
+        while self._sent:
+            request = self._sent[0]
+            if isinstance(request, Refused):
+                self._sent.popleft()
+            else:
+                self._take(request)
+
+    def _take(self, request: Request[Any]) -> Reply:
+        """The reply to a request, which is the first that waits for one."""
+        try:
+            reply = self._pipe.reply()
+        except Unreadable as error:
+            self._pipe.kill()
+            self._pipe.close()
+            raise self._lose(SessionEnded, f"{error} {self._kept()}") from None
+        if reply is None:
+            raise self._lose(
+                SessionEnded, f"{_ended(self._pipe.close())} {self._kept()}"
+            )
+        self._sent.popleft()
+        self._answered += 1
+        if reply.word != "no":
+            self._seen = reply.numbers[0]
+            if reply.word == "ok":
+                self._acknowledged = request
+        elif reply.numbers[0] == 91:
+            self._pipe.close()
+            raise self._lose(Lost, refused(91, (), request).sentence)
+        return reply
+
+    def _explained(self, refusal: Refused) -> Refused:
+        """The refusal with what the book shows of the paragraph, where its sentence needs that."""
+        query = _query_about(refusal)
+        if query is None:
+            return refusal
+        try:
+            shown = self.ask(query)
+        except (Refused, Lost):
+            return refusal
+        return refused_as(replace(refusal.refusal, shown=shown))
+
+    def _lose(self, kind: type[Lost], sentence: str) -> Lost:
+        """The exception of a session that can't go on."""
+        self._is_closed = True
+        self._lost = kind(sentence, self._acknowledged, self._answered, self._seen)
+        return self._lost
+
+    def _kept(self) -> str:
+        """What is in the book after all."""
+        if self._acknowledged is None:
+            return "Nothing was changed by this session."
+        return (
+            f"The last command that was reported as kept is “{self._acknowledged.name}”, by which"
+            f" the book came to version {self._seen}. All up to it is in the book. Open the book"
+            " again, and see whether what was sent after it is there too."
+        )
 
     def table(self, table: str, text: bytes, *, expect: int | None = None) -> Done:
         """Adds a table, or replaces its text."""
@@ -188,3 +352,44 @@ class Session:
     def version(self) -> int:
         """The version of the book."""
         return self.ask(requests.Version())
+
+
+def _encoded(request: Request[Any]) -> bytes:
+    """The bytes of a request; ``Refused`` where it can't be written."""
+    try:
+        return request.encoded()
+    except Unwritable as fault:
+        refusal = Refusal(
+            fault.code, request, place=fault.place, line=fault.line, cause=fault.cause
+        )
+        raise refused_as(refusal) from None
+
+
+def _refused(request: Request[Any], reply: Reply) -> Refused:
+    code, *numbers = reply.numbers
+    return refused(code, tuple(numbers), request)
+
+
+def _query_about(refusal: Refused) -> Request[str] | None:
+    """The query that shows what a refusal speaks of, where the request doesn't have it."""
+    match refusal.code, refusal.asked:
+        case 5, requests.Mark(paragraph=paragraph) | requests.Whence(
+            paragraph=paragraph
+        ):
+            return requests.Braille(paragraph)
+        case 5, requests.OfParagraph(paragraph=paragraph):
+            return requests.Print(paragraph)
+        case 7, requests.Retable(paragraph=paragraph):
+            return requests.Print(paragraph)
+        case 9, _ if refusal.paragraph is not None:
+            return requests.Print(refusal.paragraph)
+    return None
+
+
+def _ended(ending: Ending) -> str:
+    """How the program ended before it should have."""
+    if ending.status < 0:
+        return f"The session was ended by signal {-ending.status}."
+    if ending.status == 3:
+        return "The session ended, since the file of the book could not be written or read."
+    return f"The session ended with status {ending.status}."

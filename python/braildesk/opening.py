@@ -1,0 +1,84 @@
+"""Why a file can't be opened, by what is seen at its path."""
+
+import os
+import stat
+from collections.abc import Callable
+from os import PathLike, fsencode, fspath
+
+from braildesk import limits, locks
+from braildesk.asked import AskedOfFile, TableFile
+from braildesk.sentences import Why
+
+_MAGIC = b"SQLite format 3\0"
+
+
+def word(path: str | PathLike[str]) -> str | None:
+    """The path as a word of the command line, or None where the program can't take it."""
+    text = fspath(path)
+    try:
+        encoded = fsencode(text)
+        encoded.decode()
+    except UnicodeError:
+        return None
+    return None if b"\0" in encoded else text
+
+
+def why(asked: AskedOfFile) -> Why:
+    """Why the file can't be opened."""
+    try:
+        return _why_not_regular(asked.path) or _why_regular(asked)
+    except FileNotFoundError:
+        return Why.MISSING
+    except NotADirectoryError:
+        return Why.MISSING
+    except PermissionError:
+        return Why.DENIED
+    except (OSError, ValueError):
+        return Why.UNKNOWN
+
+
+def _why_not_regular(path: str) -> Why | None:
+    mode = os.stat(path).st_mode
+    if stat.S_ISDIR(mode):
+        return Why.FOLDER
+    return None if stat.S_ISREG(mode) else Why.UNKNOWN
+
+
+def _why_regular(asked: AskedOfFile) -> Why:
+    if isinstance(asked, TableFile):
+        with open(asked.path, "rb") as file:
+            return (
+                Why.TOO_LARGE
+                if os.fstat(file.fileno()).st_size > limits.TABLE_BYTES
+                else Why.UNKNOWN
+            )
+    with open(asked.path, "rb") as file:
+        size = os.fstat(file.fileno()).st_size
+        try:
+            with locks.shared(file):
+                header = file.read(100)
+        except locks.InUse:
+            return Why.IN_USE
+    if size and not header.startswith(_MAGIC):
+        return Why.NO_DATABASE
+    if size < _size_in(header):
+        return Why.CUT_SHORT
+    return Why.UNKNOWN if _may_write(asked.path) else Why.DENIED
+
+
+def _size_in(header: bytes) -> int:
+    """The size that a database has by its own header."""
+    if len(header) < 100:
+        return 100 if header else 0
+    page = int.from_bytes(header[16:18], "big")
+    return (65_536 if page == 1 else page) * int.from_bytes(header[28:32], "big")
+
+
+def _may_write(path: str) -> bool:
+    """Whether the file, the one beside it and its folder may be written."""
+    folder = os.path.dirname(os.path.abspath(path))
+    beside = path + "-wal"
+    files = [path, beside] if os.path.exists(beside) else [path]
+    return os.access(folder, os.W_OK | os.X_OK) and all(
+        os.access(f, os.R_OK | os.W_OK) for f in files
+    )

@@ -1,0 +1,141 @@
+"""One sentence for each code by which something is refused.
+
+What stands in braces is filled by ``refusals.py`` from what was asked and what was answered.
+"""
+
+from enum import StrEnum
+from types import MappingProxyType
+
+from braildesk import limits
+
+
+class Why(StrEnum):
+    """Why a file can't be opened (98)."""
+
+    MISSING = "not there"
+    FOLDER = "a folder"
+    DENIED = "not permitted"
+    NO_DATABASE = "no database"
+    IN_USE = "in use"
+    CUT_SHORT = "cut short"
+    TOO_LARGE = "too large"
+    NO_PATH = "no path"
+    UNKNOWN = "unknown"
+
+
+#: What a person reads of each code.
+SENTENCES = MappingProxyType(
+    {
+        1: "{unreadable} {nothing}",
+        2: "The book has no paragraph {paragraph}. {nothing} The list of the book shows which"
+        " numbers there are.",
+        3: "The book has no table {table}. {nothing} Add that table first, or name one that is"
+        " there.",
+        4: "The book has no mark {mark}. {nothing} The marks of a paragraph show which numbers"
+        " there are.",
+        5: "{span} {nothing}",
+        6: "A {kind} can't have {character}, which is character {number} of this one{around}."
+        " {nothing} Take it out.",
+        7: "The table {table} has no cells for {character}, character {number} of"
+        " {where}{around}. {nothing}",
+        8: "Line {line} of the table {table} is refused: {cause}.{line_shown} {nothing}",
+        9: "The new text of the table {table} has no cells for {character}, character {number} of"
+        " paragraph {paragraph}, which uses that table{around}. {nothing} Keep a definition of"
+        " it, or give that paragraph another table first.",
+        10: "Paragraph {paragraph} has no correction that could be taken back. {nothing}",
+        11: "Paragraph {paragraph} is struck. {nothing} Restore it first.",
+        12: "Paragraph {paragraph} isn't struck, so there is nothing to restore.",
+        13: "Mark {mark} is resolved already.",
+        14: "{length} {nothing}",
+        15: "{limit} {nothing} Begin another book.",
+        16: "The book is at version {version} and not at {expect}: another command came first."
+        " {nothing} Look at the book as it is now, and ask again.",
+        17: "{table} can't be the name of a table. {nothing} A name has 1 to"
+        f" {limits.NAME_CHARACTERS} of the characters a to z, 0 to 9, _ and -.",
+        18: "{who} can't be the name of a proofreader. {nothing} A name has 1 to"
+        f" {limits.WHO_CHARACTERS} characters, none of them a blank.",
+        90: "There was no memory for this. {nothing} Close other programs, and ask again.",
+        91: "{command} could not be kept, since the file of the book could not be written or"
+        " read. All that was reported as kept before is in the book. See to the disk, and open"
+        " the book again: its version shows whether this is kept too.",
+        92: "{path} is no book. Nothing was changed. Check that the path is right.",
+        93: "The book {path} is damaged: its file has a wrong row in {part}. Nothing was changed."
+        " Keep the file as it is, and go on with an earlier copy.",
+        94: "The book {path} was made by a newer braildesk than this one. Nothing was changed."
+        " Use that one, or a newer.",
+        95: "Cell {cell} of paragraph {paragraph} has dot 7 or 8, which pages for embossers can't"
+        " have. Nothing was exported. Correct the table of that paragraph.",
+        96: "The book has no volume {volume}. Nothing was exported. Take a smaller number, from 1"
+        " on; a book of which each paragraph is struck has no volume at all.",
+        97: "A page can't have {lines} lines of {width} cells. Nothing was exported. Take"
+        f" {limits.WIDTHS[0]} to {limits.WIDTHS[1]} cells and {limits.PAGE_LINES[0]} to"
+        f" {limits.PAGE_LINES[1]} lines.",
+        98: "{unopened}",
+        99: "{path} holds a book at version {version} already, which stays as it is. Use that"
+        " one, or take another path for the new one.",
+    }
+)
+
+#: What is full (15), by LIMIT.
+LIMITS = MappingProxyType(
+    {
+        1: f"The book has {limits.TABLES} tables, and holds no more.",
+        2: f"The book has {limits.PARAGRAPHS:,} paragraphs with the struck ones, and holds no"
+        " more.",
+        3: f"The history of paragraph {{paragraph}} has {limits.ENTRIES:,} entries, and holds no"
+        " more.",
+        4: f"The book has {limits.MARKS:,} marks with the resolved ones, and holds no more.",
+        5: f"The book is at version {limits.NUMBER:,}, which is the last one.",
+    }
+)
+
+#: What is wrong with a line of a table (8), by CAUSE.
+CAUSES = MappingProxyType(
+    {
+        1: "it begins with a word that is no opcode of braildesk",
+        2: "an operand is missing",
+        3: "its characters are written with an escape that there isn't, or are not as many as the"
+        " opcode takes (one, or two after uplow)",
+        4: "its dots are none that the opcode takes",
+        5: "a character is defined already, by an earlier line or twice by this one",
+        6: "this sign, or these characters, were given by an earlier line already",
+        7: "it has a character that no line of the table defines",
+        8: "it is too long, or has too many characters or cells, or the table has over"
+        f" {limits.TABLE_LINES:,} lines",
+        9: "it is not UTF-8",
+    }
+)
+
+#: In which rows of a damaged book something is wrong (93), by TABLE.
+PARTS = MappingProxyType(
+    {
+        1: "the table book",
+        2: "the table tab, number {id} in the order of the names of tables",
+        3: "the table para, of paragraph {id}",
+        4: "the table corr, in the history of paragraph {id}",
+        5: "the table mark, of mark {id}",
+        6: "the table cache, of paragraph {id}",
+        7: "the table corr2, in the history of paragraph {id}",
+    }
+)
+
+#: Why a file can't be opened (98).
+UNOPENED = MappingProxyType(
+    {
+        Why.MISSING: "There is no file {path}. Check that the path is right.",
+        Why.FOLDER: "{path} is a folder and no file. Give the path of a file in it.",
+        Why.DENIED: "You aren't permitted to open {path}. Nothing was changed. Ask who owns it"
+        " for leave to read and write it and to write in its folder.",
+        Why.NO_DATABASE: "{path} is no book, since it isn't even a database. Nothing was changed."
+        " Check that the path is right.",
+        Why.IN_USE: "Another program has {path} open. Nothing was changed. End that one first.",
+        Why.CUT_SHORT: "The book {path} is cut short: its end is missing. Nothing was changed."
+        " Keep the file as it is, and go on with an earlier copy.",
+        Why.TOO_LARGE: f"{{path}} is too large for a table, which has at most"
+        f" {limits.TABLE_BYTES:,} bytes.",
+        Why.NO_PATH: "{path} can't be a path for braildesk, which takes those in UTF-8 alone.",
+        Why.UNKNOWN: "{path} could not be opened. Check that the path is right, that the file may"
+        " be read and written, that its folder may be written in, and that no other program has"
+        " the file open.",
+    }
+)

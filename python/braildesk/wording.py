@@ -1,0 +1,340 @@
+"""The sentence of a refusal, filled from what was asked and what was answered."""
+
+import re
+import unicodedata
+from dataclasses import dataclass
+
+from braildesk import limits, requests
+from braildesk.asked import Asked, BookFile, Line, Pages, TableFile
+from braildesk.characters import around, code_point, named, shortened, visible
+from braildesk.sentences import CAUSES, LIMITS, PARTS, SENTENCES, UNOPENED, Why
+
+
+@dataclass(frozen=True, slots=True)
+class Refusal:
+    """A code with its numbers, and what was asked."""
+
+    code: int
+    asked: Asked
+    place: int | None = None
+    line: int | None = None
+    cause: int | None = None
+    paragraph: int | None = None
+    limit: int | None = None
+    version: int | None = None
+    cell: int | None = None
+    table: int | None = None
+    id: int | None = None
+    #: Why a file can't be opened.
+    why: Why = Why.UNKNOWN
+    #: The print or the braille of the paragraph, where it was looked up for the sentence.
+    shown: str | None = None
+
+
+def worded(refusal: Refusal) -> str:
+    """The sentence of a refusal."""
+    fields = _Fields(refusal)
+    sentence = SENTENCES.get(refusal.code)
+    if sentence is None:
+        return (
+            f"braildesk refused this by a code that isn't known here: {refusal.code}."
+        )
+    if not fields.nothing:
+        sentence = sentence.replace(" {nothing}", "")
+    return sentence.format_map(fields)
+
+
+class _Fields:
+    """What fills the fields of sentences, each where it is asked for."""
+
+    def __init__(self, refusal: Refusal) -> None:
+        self._refusal = refusal
+        self._asked = refusal.asked
+
+    def __getitem__(self, name: str) -> str:
+        return str(getattr(self, name))
+
+    @property
+    def nothing(self) -> str:
+        """What it means for the book."""
+        match self._asked:
+            case requests.Type():
+                return "Nothing was added."
+            case requests.Mark():
+                return "No mark was put."
+            case requests.Command():
+                return "Nothing was changed."
+            case Line():
+                return "This line was not translated."
+        return ""
+
+    @property
+    def paragraph(self) -> str:
+        """The paragraph that is spoken of: the one that was answered, or that was asked for."""
+        match self._asked:
+            case _ if self._refusal.paragraph is not None:
+                return str(self._refusal.paragraph)
+            case requests.Type(after=int(after)):
+                return str(after)
+            case requests.Move(
+                paragraph=paragraph, after=int(after)
+            ) if after != paragraph:
+                return f"{paragraph}, or no paragraph {after}"
+            case requests.OfParagraph(paragraph=paragraph):
+                return str(paragraph)
+        return "of this number"
+
+    @property
+    def table(self) -> str:
+        """The table that is spoken of, by its name or its file."""
+        match self._asked:
+            case requests.Table(table=name) | requests.Supply(table=name):
+                return _plain(name)
+            case requests.Type(table=name) | requests.Retable(table=name):
+                return _plain(name)
+            case Line(table=name) | TableFile(path=name):
+                return _plain(name)
+            case requests.OfParagraph():
+                return f"of paragraph {self.paragraph}"
+        return "of this name"
+
+    @property
+    def mark(self) -> str:
+        """The mark that was asked for."""
+        return (
+            str(self._asked.mark)
+            if isinstance(self._asked, requests.Resolve)
+            else "of this number"
+        )
+
+    @property
+    def who(self) -> str:
+        """The name of a proofreader that was given."""
+        return (
+            shortened(self._asked.who)
+            if isinstance(self._asked, requests.CorrectBy)
+            else "This"
+        )
+
+    @property
+    def expect(self) -> str:
+        """The version that was expected."""
+        command = self._asked
+        if isinstance(command, requests.Command) and command.expect is not None:
+            return str(command.expect)
+        return "the one that was expected"
+
+    @property
+    def path(self) -> str:
+        """The path of a file."""
+        match self._asked:
+            case Pages(path=path) | TableFile(path=path) | BookFile(path=path):
+                return shortened(path, len(path))
+        return "This file"
+
+    @property
+    def kind(self) -> str:
+        """What a text is."""
+        match self._asked:
+            case requests.Mark():
+                return "note"
+            case Line():
+                return "line"
+        return "text"
+
+    @property
+    def character(self) -> str:
+        """The character at the place that was answered."""
+        text, place = self._text_with_place()
+        return named(text[place]) if place < len(text) else "a character of it"
+
+    @property
+    def around(self) -> str:
+        """The text around that character."""
+        text, place = self._text_with_place()
+        return f": {around(text, place)}" if place < len(text) else ""
+
+    @property
+    def number(self) -> str:
+        """Which character that is, counted from 1."""
+        return str(self._text_with_place()[1] + 1)
+
+    def _text_with_place(self) -> tuple[str, int]:
+        """The text that is known, and the place in it; the place is outside of an unknown text."""
+        place = self._refusal.place or 0
+        if self._refusal.shown is not None:
+            return self._refusal.shown, place
+        text = _text(self._asked)
+        if self._refusal.code != 7:
+            return text, place
+        stored = unicodedata.normalize("NFC", text)
+        match self._asked:
+            case requests.Correct(start=start) if start <= place < start + len(stored):
+                return stored, place - start
+            case requests.Type():
+                return stored, place
+            case Line():
+                return text, place
+        return "", place
+
+    @property
+    def where(self) -> str:
+        """In which text a character stands that a table lacks."""
+        match self._asked:
+            case requests.Type():
+                return "the text"
+            case Line():
+                return "the line"
+            case requests.Correct() if self._text_with_place()[0]:
+                return "the new text"
+            case requests.Undo():
+                return "the print as it was before"
+        return f"paragraph {self.paragraph}"
+
+    @property
+    def version(self) -> str:
+        """The version of the book."""
+        return str(self._refusal.version)
+
+    @property
+    def cell(self) -> str:
+        """Which cell is spoken of, counted from 1."""
+        return str((self._refusal.cell or 0) + 1)
+
+    @property
+    def line(self) -> str:
+        """The line of a table."""
+        return str(self._refusal.line)
+
+    @property
+    def cause(self) -> str:
+        """What is wrong with a line of a table."""
+        return CAUSES.get(self._refusal.cause or 0, f"by cause {self._refusal.cause}")
+
+    @property
+    def line_shown(self) -> str:
+        """What stands on that line of the table."""
+        number = self._refusal.line or 0
+        match self._asked:
+            case requests.Table(text=text) | TableFile(text=text):
+                lines = text.split(b"\n")
+                if 1 <= number <= len(lines):
+                    line = (
+                        lines[number - 1].removesuffix(b"\r").decode(errors="replace")
+                    )
+                    return f" It reads {shortened(line, 80)}."
+        return ""
+
+    @property
+    def limit(self) -> str:
+        """What is full."""
+        sentence = LIMITS.get(
+            self._refusal.limit or 0, "The book holds no more of that."
+        )
+        return sentence.format_map(self)
+
+    @property
+    def part(self) -> str:
+        """In which rows of a file something is damaged."""
+        part = PARTS.get(self._refusal.table or 0, f"table {self._refusal.table}")
+        return part.format_map({"id": self._refusal.id})
+
+    @property
+    def unopened(self) -> str:
+        """Why a file can't be opened."""
+        return UNOPENED[self._refusal.why].format_map(self)
+
+    @property
+    def volume(self) -> str:
+        """The volume that was asked for."""
+        return (
+            str(self._asked.volume)
+            if isinstance(self._asked, Pages)
+            else "of this number"
+        )
+
+    @property
+    def width(self) -> str:
+        """The width of a page."""
+        return str(self._asked.width) if isinstance(self._asked, Pages) else "so many"
+
+    @property
+    def lines(self) -> str:
+        """The lines of a page."""
+        return str(self._asked.lines) if isinstance(self._asked, Pages) else "so many"
+
+    @property
+    def length(self) -> str:
+        """What is too long, and how long it may be."""
+        text = _text(self._asked)
+        most = (
+            limits.NOTE_CHARACTERS if self.kind == "note" else limits.PRINT_CHARACTERS
+        )
+        if self.kind == "text":
+            text = unicodedata.normalize("NFC", text)
+        if len(text) > most:
+            return (
+                f"The {self.kind} has {len(text):,} characters, and may have {most:,}."
+            )
+        return f"The print of paragraph {self.paragraph} would have over {most:,} characters."
+
+    @property
+    def unreadable(self) -> str:
+        """Why the request can't be sent, or isn't in the language of the program."""
+        place = self._refusal.place
+        text = _text(self._asked)
+        if place is not None and place < len(text):
+            return (
+                f"Character {place + 1} of the {self.kind} is {code_point(text[place])}, which is"
+                f" only half of a character and can't be kept: {around(text, place)}."
+            )
+        if isinstance(self._asked, Line):
+            return f"The line has over {limits.LINE_BYTES:,} bytes: cut it."
+        return (
+            "This is no request that braildesk knows. Its numbers go from 0 to"
+            f" {limits.NUMBER:,}, and a paragraph is put at the front, at the end or after another."
+        )
+
+    @property
+    def span(self) -> str:
+        """Which characters or cells aren't there."""
+        match self._asked:
+            case requests.Mark(count=0):
+                return "A mark has to stand on one cell at least."
+            case requests.Mark(cell=first, count=count):
+                return self._missing("cell", first, count)
+            case requests.Correct(start=first, count=count):
+                return self._missing("character", first, count)
+            case requests.Where(place=place):
+                return self._missing("character", place, 1)
+            case requests.Whence(cell=cell):
+                return self._missing("cell", cell, 1)
+        return "The characters or cells are not all there."
+
+    def _missing(self, what: str, first: int, count: int) -> str:
+        if count > 1:
+            asked = f"the {what}s {first + 1} to {first + count}"
+        elif count == 1:
+            asked = f"{what} {first + 1}"
+        else:
+            asked = f"a place after {what} {first}"
+        sentence = f"Paragraph {self.paragraph} doesn't have {asked}"
+        if self._refusal.shown is None:
+            return f"{sentence}."
+        has = len(self._refusal.shown)
+        return f"{sentence}: it has {has:,} {what}{'' if has == 1 else 's'}."
+
+
+def _plain(name: str) -> str:
+    """A name, in quotation marks only where it isn't plain."""
+    return name if re.fullmatch("[@./a-z0-9_-]{1,32}", name) else shortened(name)
+
+
+def _text(asked: Asked) -> str:
+    """The text or the note that was given."""
+    match asked:
+        case requests.Type(text=text) | requests.Correct(text=text) | Line(text=text):
+            return text
+        case requests.Mark(note=note):
+            return note
+    return ""
