@@ -50,8 +50,8 @@ class Row:
 
 
 @dataclass(frozen=True)
-class Volume:
-    """The lines of a volume that have words, in their order."""
+class Layout:
+    """The lines of a volume that have words, in their order, on pages of a size."""
 
     sheet: Sheet
     rows: tuple[Row, ...]
@@ -72,7 +72,7 @@ class Volume:
         return "".join(line + "\r\n" for line in written).encode("ascii") + b"\f"
 
 
-def lay_out(sections: Iterable[Section], sheet: Sheet) -> Volume:
+def lay_out(sections: Iterable[Section], sheet: Sheet) -> Layout:
     """Puts the words of a volume's paragraphs on lines, and the lines on pages."""
     rows: list[Row] = []
     count = 0
@@ -94,7 +94,7 @@ def lay_out(sections: Iterable[Section], sheet: Sheet) -> Volume:
             start, stop = pieces[0][0], pieces[-1][1]
             rows.append(Row(page + 1, line + 1, section.paragraph, start, stop, shown))
             count += 1
-    return Volume(sheet, tuple(rows))
+    return Layout(sheet, tuple(rows))
 
 
 def _placed(braille: str, first: int, later: int) -> Iterator[list[tuple[int, int]]]:

@@ -1,0 +1,52 @@
+"""Which of the places where words stand a person means."""
+
+import argparse
+
+from scribe.declined import Declined
+from scribe.excerpt import excerpt
+from scribe.occurrences import Occurrence, occurrences
+from scribe.paragraph import quoted
+from scribe.parser import number
+
+
+def add_nth(parser: argparse.ArgumentParser, words: str) -> None:
+    """Adds the word `--nth`: which place, counted from 1, as `arguments.nth`."""
+    parser.add_argument(
+        "--nth",
+        metavar="N",
+        type=_counted_from_one,
+        help=f"the Nth place, where {words} stands more than once",
+    )
+
+
+def chosen(
+    text: str, sought: str, nth: int | None, paragraph: int, width: int
+) -> Occurrence:
+    """The place in a print where words stand just once, or the nth; else `Declined`."""
+    found = occurrences(text, sought)
+    where = f"in paragraph {paragraph}"
+    if not found:
+        raise Declined(f"{quoted(sought)} stands nowhere {where}. Nothing was changed.")
+    if nth is None and len(found) == 1:
+        return found[0]
+    if nth is not None and nth <= len(found):
+        return found[nth - 1]
+    times = "once" if len(found) == 1 else f"{len(found):,} times"
+    wanted = "Say which by --nth" if nth is None else f"There is no place {nth}"
+    raise Declined(
+        f"{quoted(sought)} stands {times} {where}. {wanted}. Nothing was changed.",
+        *(place_line(text, place, n, width) for n, place in enumerate(found, 1)),
+    )
+
+
+def place_line(text: str, place: Occurrence, nth: int, width: int) -> str:
+    """A place with the words around it."""
+    head = f"--nth {nth}, character {place.start + 1}: "
+    return head + excerpt(text, place.start, place.stop, width - len(head))
+
+
+def _counted_from_one(word: str) -> int:
+    nth = number(word)
+    if nth == 0:
+        raise argparse.ArgumentTypeError("places are counted from 1")
+    return nth
