@@ -12,7 +12,7 @@ Nothing is done to a book but by requests to the program. ``docs/CLIENT.md`` des
 """
 
 from braildesk import limits, requests
-from braildesk.files import copy, tables
+from braildesk.files import NotCopied, copy, tables
 from braildesk.program import NoProgram, check, export, find, new_book, translate
 from braildesk.refusals import (
     CannotOpen,
@@ -60,6 +60,7 @@ __all__ = [
     "NoMemory",
     "NoProgram",
     "NotABook",
+    "NotCopied",
     "Paragraph",
     "Refused",
     "Session",

@@ -2,7 +2,6 @@
 
 import os
 import stat
-from collections.abc import Callable
 from os import PathLike, fsencode, fspath
 
 from braildesk import limits, locks
@@ -54,11 +53,9 @@ def _why_regular(asked: AskedOfFile) -> Why:
             )
     with open(asked.path, "rb") as file:
         size = os.fstat(file.fileno()).st_size
-        try:
-            with locks.shared(file):
-                header = file.read(100)
-        except locks.InUse:
+        if not locks.take_shared(file):
             return Why.IN_USE
+        header = file.read(100)
     if size and not header.startswith(_MAGIC):
         return Why.NO_DATABASE
     if size < _size_in(header):
