@@ -3,10 +3,12 @@
 import sys
 from collections.abc import Sequence
 
+from braildesk import DeskError, Failed, NoProgram
+
 from scribe.commands import COMMANDS
 from scribe.console import Console, OutputFailed
 from scribe.parser import HelpAsked, Parser, WordsRefused, unknown_command
-from scribe.status import Status
+from scribe.status import Status, Stop
 
 DESCRIPTION = """\
 Works on a braildesk book: a file of print, its braille, and the marks on it.
@@ -31,7 +33,7 @@ def make_parser() -> tuple[Parser, list[str]]:
 
 
 def run_words(words: Sequence[str], console: Console) -> Status:
-    """Runs the command that the words ask for."""
+    """Runs the command that the words ask for, and says what kept it from being done."""
     parser, names = make_parser()
     try:
         if words and not words[0].startswith("-") and words[0] not in names:
@@ -46,6 +48,15 @@ def run_words(words: Sequence[str], console: Console) -> Status:
     except WordsRefused as refused:
         console.say(refused.sentence, refused.usage)
         return Status.WORDS_REFUSED
+    except Stop as stop:
+        console.say(stop.sentence)
+        return stop.status
+    except (Failed, NoProgram) as failed:
+        console.say(failed.sentence)
+        return Status.FAILED
+    except DeskError as refused_by_desk:
+        console.say(refused_by_desk.sentence)
+        return Status.REFUSED
 
 
 def main() -> int:
@@ -60,5 +71,9 @@ def main() -> int:
             print(failed.sentence, file=console.errors, flush=True)
         return Status.FAILED
     except KeyboardInterrupt:
-        print("Stopped.", file=console.errors, flush=True)
+        print(
+            "Stopped. What was shown as done is done.",
+            file=console.errors,
+            flush=True,
+        )
         return Status.FAILED
