@@ -3,7 +3,7 @@
 from argparse import ArgumentParser, Namespace
 from typing import Protocol
 
-from scribe.commands import change, find, mark, marks, pages, show
+from scribe.commands import change, find, mark, marks, pages, run, show
 from scribe.console import Console
 from scribe.parser import Subparsers
 from scribe.status import Status
@@ -19,4 +19,12 @@ class Command(Protocol):
         """Does what the words ask for. What it lets through, `scribe.cli` turns into a sentence."""
 
 
-COMMANDS: tuple[Command, ...] = (show, find, change, mark, marks, pages)
+COMMANDS: tuple[Command, ...] = (
+    run,
+    show,
+    find,
+    change,
+    mark,
+    marks,
+    pages,
+)

@@ -1,0 +1,124 @@
+"""`scribe run`: requests of standard input, their replies, and a sentence after each refusal."""
+
+from argparse import ArgumentParser, Namespace
+from dataclasses import dataclass
+from typing import Any, BinaryIO
+
+from braildesk import Refused, Session, limits
+from braildesk.requests import Request
+
+from scribe.console import Console
+from scribe.grammar import NotARequest, TableHead, read_head
+from scribe.parser import Subparsers, add_file, command_parser
+from scribe.replies import refusal_line, reply_lines
+from scribe.status import Status
+from scribe.visible import control_refused
+
+MORE = """\
+The requests are those of `braildesk session`; docs/FORMATS.md lists them. A reply
+that is shown is kept. Control characters in texts and notes are refused, and what
+is shown has them, and format characters, written out, as in <U+001B>."""
+
+
+def add_parser(subparsers: Subparsers) -> ArgumentParser:
+    """Adds the words of `run`."""
+    parser = command_parser(
+        subparsers,
+        "run",
+        "Answers the requests of standard input, with a sentence after each refusal.",
+        "echo 'print 1' | scribe run moon.braildesk",
+        MORE,
+    )
+    add_file(parser)
+    parser.add_argument(
+        "--keep-going",
+        action="store_true",
+        help="go on after a refusal, in place of stopping there",
+    )
+    return parser
+
+
+def run(arguments: Namespace, console: Console) -> Status:
+    """Answers requests up to the first refusal, or all of them."""
+    requests = RequestLines(console.input)
+    status = Status.DONE
+    with Session(arguments.file) as session:
+        while (head := requests.next_head()) is not None:
+            refusal = answered(session, requests, head, console)
+            if refusal is None:
+                continue
+            status = Status.REFUSED
+            console.say(f"Line {requests.head_number}: {refusal}")
+            if not arguments.keep_going:
+                break
+    return status
+
+
+@dataclass
+class RequestLines:
+    """The lines of requests, as the program cuts them."""
+
+    source: BinaryIO
+    number: int = 0
+    head_number: int = 0
+
+    def next_head(self) -> bytes | None:
+        """The next head line without its ending, or None at the end."""
+        line = self._next()
+        self.head_number = self.number
+        if line is None:
+            return None
+        return line.removesuffix(b"\n").removesuffix(b"\r")
+
+    def block(self, count: int) -> tuple[bytes, int]:
+        """The bytes of so many lines after a head line, and how many lines were there."""
+        lines: list[bytes] = []
+        while len(lines) < count and (line := self._next()) is not None:
+            lines.append(line)
+        return b"".join(lines), len(lines)
+
+    def _next(self) -> bytes | None:
+        line = self.source.readline()
+        self.number += bool(line)
+        return line or None
+
+
+def answered(
+    session: Session, lines: RequestLines, head: bytes, console: Console
+) -> str | None:
+    """Answers the request of a head line, and gives the sentence of its refusal."""
+    try:
+        read = read_head(head)
+        request = _whole(read, lines) if isinstance(read, TableHead) else read
+    except NotARequest as fault:
+        console.show("no 1")
+        return f"{fault.sentence} Nothing was changed."
+    control = control_refused(head)
+    if control is not None:
+        return control
+    return _asked(session, request, console)
+
+
+def _whole(head: TableHead, lines: RequestLines) -> Request[Any]:
+    text, count = lines.block(head.lines)
+    if count < head.lines:
+        raise NotARequest(
+            f"The input ends after {count:,} of the {head.lines:,} lines of this table."
+        )
+    for number, line in enumerate(text.split(b"\n"), 1):
+        if len(line.removesuffix(b"\r")) > limits.LINE_BYTES:
+            raise NotARequest(
+                f"Line {number:,} of this table has over {limits.LINE_BYTES:,} bytes."
+            )
+    return head.request(text)
+
+
+def _asked(session: Session, request: Request[Any], console: Console) -> str | None:
+    try:
+        answer = session.ask(request)
+    except Refused as refused:
+        console.show(refusal_line(refused))
+        return refused.sentence
+    console.show(*reply_lines(request, answer, session.seen))
+    console.flush()
+    return None
