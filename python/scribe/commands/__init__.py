@@ -3,7 +3,20 @@
 from argparse import ArgumentParser, Namespace
 from typing import Protocol
 
-from scribe.commands import change, find, mark, marks, pages, run, show
+from scribe.commands import (
+    change,
+    copy,
+    edits,
+    export,
+    find,
+    mark,
+    marks,
+    new,
+    pages,
+    run,
+    show,
+    table,
+)
 from scribe.console import Console
 from scribe.parser import Subparsers
 from scribe.status import Status
@@ -20,11 +33,16 @@ class Command(Protocol):
 
 
 COMMANDS: tuple[Command, ...] = (
+    new,
     run,
+    table,
     show,
     find,
     change,
     mark,
     marks,
+    *edits.EDITS,
     pages,
+    export,
+    copy,
 )

@@ -1,0 +1,242 @@
+"""Commands carried out, each with what it changed in words: what is now first, then what was."""
+
+from collections.abc import Callable
+from typing import Any, TypeVar
+
+from braildesk import Mark, Paragraph, Refused, Session, Style, requests
+from braildesk.requests import Command, Request
+from braildesk.values import After, Corrected, Done, Marked, Typed
+
+from scribe.cells import EMPTY_CELL
+from scribe.correction import smallest_correction
+from scribe.excerpt import excerpt, opening
+from scribe.occurrences import Occurrence
+from scribe.paragraph import mark_line
+from scribe.readings import answers
+from scribe.visible import visible
+
+Answer = TypeVar("Answer")
+_BLANKS = (" ", "\t", EMPTY_CELL)
+
+
+def carried_out(session: Session, command: Command[Any], width: int) -> list[str]:
+    """Sends a command, and says what it changed; Refused where it is refused."""
+    match command:
+        case requests.Type():
+            return _typed(session, command, width)
+        case requests.Correct() | requests.Undo():
+            return _corrected(session, command, width)
+        case requests.Mark():
+            return _marked(session, command)
+        case requests.Resolve():
+            return _resolved(session, command)
+        case requests.Strike() | requests.Restore():
+            return _flagged(session, command, _life, width)
+        case requests.Style():
+            return _flagged(session, command, _style, width)
+        case requests.Volume():
+            return _flagged(session, command, _volume, width)
+        case requests.Retable():
+            return _retabled(session, command, width)
+        case requests.Move():
+            return _moved(session, command, width)
+        case requests.Table() | requests.Supply():
+            return _supplied(session, command)
+    raise TypeError(f"no command of a book: {command!r}")
+
+
+def at_version(version: int) -> str:
+    """At which version a book is."""
+    return f"The book is at version {version:,}."
+
+
+def place_after(after: After) -> str:
+    """Where a paragraph is put, in words."""
+    if isinstance(after, int):
+        return f"after paragraph {after}"
+    return f"at the {after} of the book"
+
+
+def _before(session: Session, query: Request[Answer]) -> Answer | None:
+    """What stands there before a command; nothing where the command will be refused as well."""
+    try:
+        return session.ask(query)
+    except Refused:
+        return None
+
+
+def _typed(session: Session, command: requests.Type, width: int) -> list[str]:
+    typed: Typed = session.ask(command)
+    head = f"Paragraph {typed.id}, {place_after(command.after)}: "
+    text = session.print(typed.id)
+    shown = opening(visible(text), max(width - len(head), 1)) if text else "empty."
+    return [head + shown, at_version(typed.version)]
+
+
+def _corrected(
+    session: Session, command: requests.Correct | requests.Undo, width: int
+) -> list[str]:
+    number = command.paragraph
+    text = _before(session, requests.Print(number))
+    marks = _before(session, requests.Marks(number))
+    corrected: Corrected = session.ask(command)
+    now = session.print(number)
+    title = f"Paragraph {number}"
+    lines = difference(text or "", now, width, title, f"{title} reads as before.")
+    lines += _newly_touched(marks or (), session.marks(number), now)
+    done = f"Correction {corrected.seq} of paragraph {number}."
+    if isinstance(command, requests.Undo):
+        undone = session.history(number)[-1].undone
+        done = f"Correction {undone} of paragraph {number} is taken back."
+    return [*lines, f"{done} {at_version(corrected.version)}"]
+
+
+def difference(before: str, now: str, width: int, title: str, same: str) -> list[str]:
+    """A line as it is and as it was, in each the words that differ in brackets."""
+    least = smallest_correction(before, now)
+    if least is None:
+        return [same]
+    start = _word_front(now, least.start)
+    kept = len(before) - _word_end(before, least.stop)
+    head, former = f"{title}: ", "Before: "
+    return [
+        head + excerpt(now, start, len(now) - kept, width - len(head)),
+        former + excerpt(before, start, len(before) - kept, width - len(former)),
+    ]
+
+
+def _word_front(text: str, place: int) -> int:
+    """The front of the word in which a place of a text stands."""
+    while place > 0 and text[place - 1] not in _BLANKS:
+        place -= 1
+    return place
+
+
+def _word_end(text: str, place: int) -> int:
+    """The end of the word in which a place of a text stands."""
+    while place < len(text) and text[place] not in _BLANKS:
+        place += 1
+    return place
+
+
+def _newly_touched(
+    before: tuple[Mark, ...], now: tuple[Mark, ...], text: str
+) -> list[str]:
+    fresh = {mark.id for mark in before if not mark.touched}
+    return [mark_line(mark, text) for mark in now if mark.touched and mark.id in fresh]
+
+
+def _marked(session: Session, command: requests.Mark) -> list[str]:
+    marked: Marked = session.ask(command)
+    number = command.paragraph
+    (mark,) = (each for each in session.marks(number) if each.id == marked.id)
+    line = mark_line(mark, session.print(number), number)
+    return [line, at_version(marked.version)]
+
+
+def _resolved(session: Session, command: requests.Resolve) -> list[str]:
+    done: Done = session.ask(command)
+    book = session.list()
+    asked = (requests.Marks(paragraph.id) for paragraph in book)
+    (found,) = (
+        (paragraph.id, mark)
+        for paragraph, marks in zip(book, list(answers(session, asked)))
+        for mark in marks
+        if mark.id == command.mark
+    )
+    number, mark = found
+    return [
+        mark_line(mark, session.print(number), number),
+        f"Before, it was open. {at_version(done.version)}",
+    ]
+
+
+def _flagged(
+    session: Session,
+    command: requests.Strike | requests.Restore | requests.Style | requests.Volume,
+    flag: Callable[[Paragraph], str],
+    width: int,
+) -> list[str]:
+    before = _paragraph(_before(session, requests.List()) or (), command.paragraph)
+    done: Done = session.ask(command)
+    now = _paragraph(session.list(), command.paragraph)
+    assert before is not None and now is not None  # the command was accepted
+    was, is_now = flag(before), flag(now)
+    change = f"{is_now}, as before" if was == is_now else f"{is_now} now, {was} before"
+    return [
+        f"Paragraph {command.paragraph}: {change}.",
+        *_its_words(session, command.paragraph, width),
+        at_version(done.version),
+    ]
+
+
+def _retabled(session: Session, command: requests.Retable, width: int) -> list[str]:
+    number = command.paragraph
+    before = _paragraph(_before(session, requests.List()) or (), number)
+    cells = _before(session, requests.Braille(number))
+    done: Done = session.ask(command)
+    assert before is not None and cells is not None  # the command was accepted
+    braille = session.braille(number)
+    lines = difference(
+        cells, braille, width, "Its braille", "Its braille is as before."
+    )
+    if before.table == command.table:
+        change = f"table {command.table}, as before"
+    else:
+        change = f"table {command.table} now, table {before.table} before"
+    return [f"Paragraph {number}: {change}.", *lines, at_version(done.version)]
+
+
+def _moved(session: Session, command: requests.Move, width: int) -> list[str]:
+    number = command.paragraph
+    before = _before(session, requests.List()) or ()
+    done: Done = session.ask(command)
+    was, is_now = _position(before, number), _position(session.list(), number)
+    change = f"{is_now}, as before" if was == is_now else f"{is_now} now, {was} before"
+    return [
+        f"Paragraph {number}: {change}.",
+        *_its_words(session, number, width),
+        at_version(done.version),
+    ]
+
+
+def _supplied(session: Session, command: requests.Table | requests.Supply) -> list[str]:
+    done: Done = session.ask(command)
+    users = sum(paragraph.table == command.table for paragraph in session.list())
+    return [
+        f"Table {command.table} is in the book. {_used(users)}",
+        at_version(done.version),
+    ]
+
+
+def _used(users: int) -> str:
+    if users == 0:
+        return "No paragraph has it yet."
+    return "1 paragraph has it." if users == 1 else f"{users:,} paragraphs have it."
+
+
+def _its_words(session: Session, number: int, width: int) -> list[str]:
+    text = session.print(number)
+    return [opening(visible(text), width)] if text else []
+
+
+def _paragraph(book: tuple[Paragraph, ...], number: int) -> Paragraph | None:
+    return next((each for each in book if each.id == number), None)
+
+
+def _position(book: tuple[Paragraph, ...], number: int) -> str:
+    ids = [paragraph.id for paragraph in book]
+    place = ids.index(number)
+    return f"after paragraph {ids[place - 1]}" if place else "at the front of the book"
+
+
+def _life(paragraph: Paragraph) -> str:
+    return "struck" if paragraph.struck else "in the volumes"
+
+
+def _style(paragraph: Paragraph) -> str:
+    return "a heading" if paragraph.style is Style.HEADING else "body text"
+
+
+def _volume(paragraph: Paragraph) -> str:
+    return "begins a volume" if paragraph.begins_volume else "begins no volume"

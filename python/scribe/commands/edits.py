@@ -1,0 +1,171 @@
+"""The commands that send one request each, and show what it changed."""
+
+import argparse
+from argparse import ArgumentParser, Namespace
+from collections.abc import Callable
+from dataclasses import dataclass
+from typing import Any
+
+from braildesk import Session, Style, requests
+from braildesk.requests import Command
+from braildesk.values import After
+
+from scribe.changes import carried_out
+from scribe.console import Console
+from scribe.parser import Subparsers, add_file, add_paragraph, command_parser, number
+from scribe.status import Status
+from scribe.texts import words
+from scribe.width import add_width
+
+
+@dataclass(frozen=True)
+class Edit:
+    """A command of the command line that is one request of a book."""
+
+    name: str
+    does: str
+    example: str
+    add_words: Callable[[ArgumentParser], None]
+    request: Callable[[Namespace], Command[Any]]
+    more: str = ""
+
+    def add_parser(self, subparsers: Subparsers) -> ArgumentParser:
+        """Adds the words of the command."""
+        parser = command_parser(
+            subparsers, self.name, self.does, self.example, self.more
+        )
+        add_file(parser)
+        self.add_words(parser)
+        add_width(parser)
+        return parser
+
+    def run(self, arguments: Namespace, console: Console) -> Status:
+        """Sends the request, and shows what it changed."""
+        with Session(arguments.file) as session:
+            lines = carried_out(session, self.request(arguments), arguments.width)
+        console.show(*lines)
+        return Status.DONE
+
+
+def after(word: str) -> After:
+    """Where a paragraph is put: front, end, or the number of the one before it."""
+    if word == "front":
+        return "front"
+    if word == "end":
+        return "end"
+    try:
+        return number(word)
+    except argparse.ArgumentTypeError:
+        raise argparse.ArgumentTypeError(
+            f"{word!r} is none of front, end and the number of a paragraph"
+        ) from None
+
+
+def switch(word: str) -> bool:
+    """Whether something is on."""
+    if word not in ("on", "off"):
+        raise argparse.ArgumentTypeError(f"{word!r} is neither on nor off")
+    return word == "on"
+
+
+def _add_mark(parser: ArgumentParser) -> None:
+    parser.add_argument(
+        "mark", metavar="MARK", type=number, help="the number of the mark"
+    )
+
+
+def _add_switch(parser: ArgumentParser) -> None:
+    add_paragraph(parser)
+    parser.add_argument(
+        "begins", metavar="on|off", type=switch, help="whether it begins a volume"
+    )
+
+
+def _add_after(parser: ArgumentParser) -> None:
+    add_paragraph(parser)
+    parser.add_argument(
+        "after",
+        metavar="AFTER",
+        type=after,
+        help="front, end, or the number of the paragraph after which it comes",
+    )
+
+
+def _add_table(parser: ArgumentParser) -> None:
+    add_paragraph(parser)
+    parser.add_argument(
+        "table", metavar="NAME", type=words, help="the name of a table of the book"
+    )
+
+
+EDITS = (
+    Edit(
+        "undo",
+        "Takes back the newest correction of a paragraph.",
+        "scribe undo moon.braildesk 1",
+        add_paragraph,
+        lambda words: requests.Undo(words.paragraph),
+        "Nothing is erased: the history keeps the correction and that it was taken back.",
+    ),
+    Edit(
+        "resolve",
+        "Says that a mark is dealt with.",
+        "scribe resolve moon.braildesk 1",
+        _add_mark,
+        lambda words: requests.Resolve(words.mark),
+        "scribe marks shows the numbers of marks.",
+    ),
+    Edit(
+        "strike",
+        "Takes a paragraph out of the volumes.",
+        "scribe strike moon.braildesk 2",
+        add_paragraph,
+        lambda words: requests.Strike(words.paragraph),
+        "It stays in the book, and scribe restore puts it back.",
+    ),
+    Edit(
+        "restore",
+        "Puts a struck paragraph back into the volumes.",
+        "scribe strike moon.braildesk 2\nscribe restore moon.braildesk 2",
+        add_paragraph,
+        lambda words: requests.Restore(words.paragraph),
+    ),
+    Edit(
+        "heading",
+        "Makes a paragraph a heading.",
+        "scribe heading moon.braildesk 2",
+        add_paragraph,
+        lambda words: requests.Style(words.paragraph, Style.HEADING),
+    ),
+    Edit(
+        "body",
+        "Makes a paragraph body text.",
+        "scribe body moon.braildesk 2",
+        add_paragraph,
+        lambda words: requests.Style(words.paragraph, Style.BODY),
+    ),
+    Edit(
+        "volume",
+        "Says whether a paragraph begins a volume.",
+        "scribe volume moon.braildesk 2 on",
+        _add_switch,
+        lambda words: requests.Volume(words.paragraph, words.begins),
+        "The first paragraph that isn't struck begins volume 1 in any case.",
+    ),
+    Edit(
+        "move",
+        "Puts a paragraph elsewhere in the book.",
+        "scribe move moon.braildesk 2 front",
+        _add_after,
+        lambda words: requests.Move(words.paragraph, words.after),
+        "It keeps its number.",
+    ),
+    Edit(
+        "retable",
+        "Gives a paragraph another table.",
+        "scribe retable moon.braildesk 2 plain",
+        _add_table,
+        lambda words: requests.Retable(words.paragraph, words.table),
+        "The table has to be in the book: scribe table puts it there.",
+    ),
+)

@@ -1,0 +1,60 @@
+"""`scribe new`: a new book with a table in it."""
+
+from argparse import ArgumentParser, Namespace
+from pathlib import Path
+
+from braildesk import CannotOpen, Session, Why, new_book, requests
+
+from scribe.console import Console
+from scribe.declined import Declined
+from scribe.parser import Subparsers, add_file, command_parser
+from scribe.shelf import table_file
+from scribe.status import Status
+from scribe.tables import SUPPLIED, table_request
+
+EVERYDAY = "ueb"
+MORE = """\
+Its table is ueb where that is installed with scribe, else en, the one that the program
+supplies. A file that has a book already is left as it is."""
+
+
+def add_parser(subparsers: Subparsers) -> ArgumentParser:
+    """Adds the words of `new`."""
+    parser = command_parser(
+        subparsers,
+        "new",
+        "Makes a new book with a table in it.",
+        "scribe new tides.braildesk",
+        MORE,
+    )
+    add_file(parser)
+    return parser
+
+
+def run(arguments: Namespace, console: Console) -> Status:
+    """Makes a book, and puts a table into it."""
+    request = first_table()
+    _make(arguments.file)
+    with Session(arguments.file) as session:
+        session.ask(request)
+    console.show(f"{arguments.file} is a new book with the table {request.table}.")
+    return Status.DONE
+
+
+def first_table() -> requests.Table | requests.Supply:
+    """The table that a new book has."""
+    name = EVERYDAY if table_file(EVERYDAY) else SUPPLIED
+    return table_request(name, None)
+
+
+def _make(path: Path) -> None:
+    try:
+        new_book(path)
+    except CannotOpen as refused:
+        if refused.why is not Why.MISSING:
+            raise
+        folder = path.absolute().parent
+        reason = "can't be written in" if folder.is_dir() else "isn't there"
+        raise Declined(
+            f"{path} could not be made, since its folder {folder} {reason}."
+        ) from refused

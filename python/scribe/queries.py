@@ -1,0 +1,57 @@
+"""What a book answers to a query, in words."""
+
+from typing import Any
+
+from braildesk import Entry, Kind, Session, requests
+from braildesk.requests import Request
+
+from scribe.paragraph import mark_line, title
+from scribe.visible import visible
+
+
+def shown(session: Session, query: Request[Any]) -> list[str]:
+    """Sends a query, and gives what it shows; Refused where it is refused."""
+    match query:
+        case requests.Print():
+            return [visible(session.ask(query)) or "The print is empty."]
+        case requests.Braille():
+            return [session.ask(query) or "There are no cells."]
+        case requests.History():
+            entries = session.ask(query)
+            return [*map(_entry_line, entries)] or ["Nothing was corrected yet."]
+        case requests.Marks():
+            return _marks(session, query)
+        case requests.Where():
+            return [f"Cell {session.ask(query)}, counted from 0."]
+        case requests.Whence():
+            return [f"Place {session.ask(query)}, counted from 0."]
+        case requests.List():
+            book = session.ask(query)
+            lines = [
+                f"{title(each, True)}, {_characters(each.length)}" for each in book
+            ]
+            return lines or ["The book has no paragraphs."]
+        case requests.Version():
+            return [f"The book is at version {session.ask(query):,}."]
+    raise TypeError(f"no query of a book: {query!r}")
+
+
+def _marks(session: Session, query: requests.Marks) -> list[str]:
+    marks = session.ask(query)
+    if not marks:
+        return [f"Paragraph {query.paragraph} has no marks."]
+    text = session.print(query.paragraph)
+    return [mark_line(mark, text) for mark in marks]
+
+
+def _entry_line(entry: Entry) -> str:
+    if entry.kind is Kind.UNDO:
+        return f"{entry.seq}: correction {entry.undone} taken back"
+    by = "" if entry.who is None else f", by {visible(entry.who)}"
+    gone = _characters(entry.count)
+    come = f"“{visible(entry.text)}”" if entry.text else "nothing"
+    return f"{entry.seq}: {come} for {gone} from place {entry.start} on{by}"
+
+
+def _characters(count: int) -> str:
+    return "1 character" if count == 1 else f"{count:,} characters"

@@ -1,0 +1,43 @@
+"""Tables that are put into a book: from a file, from where tables are installed, or supplied."""
+
+from pathlib import Path
+
+from braildesk import limits, requests
+
+from scribe.declined import Declined
+from scribe.shelf import FOLDER, table_file, table_names
+
+SUPPLIED = "en"
+
+
+def table_request(name: str, path: Path | None) -> requests.Table | requests.Supply:
+    """The request that puts a table into a book: the text of a file, or an installed table.
+
+    Without a file `en` is the supplied table.
+    """
+    if path is None and name == SUPPLIED:
+        return requests.Supply(name)
+    found = path or table_file(name)
+    if found is None:
+        there = ", ".join([SUPPLIED, *table_names()])
+        raise Declined(
+            f"There is no table {name} in {FOLDER}. Nothing was changed. Without a file a table"
+            f" may be: {there}. Else give the file of the table after its name."
+        )
+    return requests.Table(name, read_text(found))
+
+
+def read_text(path: Path) -> bytes:
+    """The text of a table, as it stands in its file."""
+    try:
+        with path.open("rb") as file:
+            text = file.read(limits.TABLE_BYTES + 1)
+    except OSError as error:
+        raise Declined(
+            f"The table {path} can't be read: {error.strerror}. Nothing was changed."
+        ) from error
+    if len(text) > limits.TABLE_BYTES:
+        raise Declined(
+            f"The table {path} has over {limits.TABLE_BYTES:,} bytes. Nothing was changed."
+        )
+    return text
