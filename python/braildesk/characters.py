@@ -2,7 +2,7 @@
 
 import unicodedata
 
-#: How many characters a sentence shows on either side of the one that it speaks of.
+#: How many characters at most a sentence shows on either side of the one that it speaks of.
 _AROUND = 20
 
 #: Names of control characters, to which Unicode gives none.
@@ -58,11 +58,13 @@ def visible(text: str) -> str:
 
 
 def around(text: str, place: int) -> str:
-    """The text around one of its characters, in quotation marks."""
+    """The words around one of the characters of a text, in quotation marks."""
     start, stop = max(place - _AROUND, 0), place + 1 + _AROUND
-    front = "…" if start else ""
-    rest = "…" if stop < len(text) else ""
-    return f"“{front}{visible(text[start:stop])}{rest}”"
+    if start and " " in text[start - 1 : place]:
+        start = text.index(" ", start - 1) + 1
+    if " " in text[place + 1 : stop + 1] and stop < len(text):
+        stop = text.rindex(" ", place + 1, stop + 1)
+    return f"“{visible(text[start:stop])}”"
 
 
 def shortened(text: str, most: int = 60) -> str:

@@ -153,7 +153,8 @@ class Session:
             else:
                 self._sent.append(request)
                 self._pipe.send(data)
-        self._pipe.push()
+        if self._pipe.queued_bytes >= _AHEAD // 2:
+            self._pipe.push()
         return bool(self._sent)
 
     def _next_value(self) -> Any:
