@@ -232,6 +232,8 @@ def read_head(line: bytes) -> Request[Any] | TableHead:
         ) from None
     if not text:
         raise NotARequest("An empty line is no request.")
+    if text.startswith(" "):
+        raise NotARequest("This line begins with a blank, and no request does.")
     expect, text = _expected(text)
     name, blank, rest = text.partition(" ")
     form = BY_NAME.get(name)

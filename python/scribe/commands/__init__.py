@@ -16,6 +16,7 @@ from scribe.commands import (
     run,
     show,
     table,
+    talk,
 )
 from scribe.console import Console
 from scribe.parser import Subparsers
@@ -35,6 +36,7 @@ class Command(Protocol):
 COMMANDS: tuple[Command, ...] = (
     new,
     run,
+    talk,
     table,
     show,
     find,

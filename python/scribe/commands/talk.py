@@ -1,0 +1,129 @@
+"""`scribe talk`: a book at a prompt, in words."""
+
+import difflib
+from argparse import ArgumentParser, Namespace
+from contextlib import AbstractContextManager, nullcontext
+
+from braildesk import Lost, Refused, Session
+
+from scribe import help
+from scribe.console import Console
+from scribe.conversation import Conversation, Ended, request_line
+from scribe.declined import Declined
+from scribe.dialogues import DIALOGUES
+from scribe.grammar import BY_NAME
+from scribe.parser import Subparsers, add_file, command_parser
+from scribe.status import Status
+from scribe.terminal import GivenUp, Lines, PipedLines, TypedLines, are_typed
+from scribe.texts import words
+from scribe.visible import visible
+from scribe.width import add_width
+
+MORE = """\
+Requests of a book are typed as docs/FORMATS.md has them and answered in words. Other
+commands, such as change-text, ask for what they need, one thing at a time. help lists
+all, quit ends. Each answer begins with what changed, and is kept when it is shown.
+Ctrl-C gives up the line that is typed."""
+EXAMPLE = "echo 'print 1' | scribe talk moon.braildesk"
+PROMPT = "> "
+
+
+def add_parser(subparsers: Subparsers) -> ArgumentParser:
+    """Adds the words of `talk`."""
+    parser = command_parser(
+        subparsers, "talk", "Works on a book at a prompt, in words.", EXAMPLE, MORE
+    )
+    add_file(parser)
+    parser.add_argument(
+        "--by",
+        metavar="WHO",
+        type=words,
+        help="the proofreader whose name change-text keeps",
+    )
+    add_width(parser)
+    return parser
+
+
+def run(arguments: Namespace, console: Console) -> Status:
+    """Talks until the person ends it."""
+    with Session(arguments.file) as session, _lines(console) as lines:
+        conversation = Conversation(
+            session, lines, console, arguments.width, arguments.by
+        )
+        count = len(session.list())
+        conversation.show(
+            f"{arguments.file}: version {session.seen:,}, {count:,}"
+            f" {'paragraph' if count == 1 else 'paragraphs'}. Type help, or quit to end."
+        )
+        try:
+            _talk(conversation)
+        except Lost as lost:
+            conversation.say(lost.sentence)
+            return Status.FAILED
+        conversation.show(f"The book is at version {session.seen:,}.")
+    return Status.DONE
+
+
+def _lines(console: Console) -> AbstractContextManager[Lines]:
+    return (
+        TypedLines() if are_typed() else nullcontext[Lines](PipedLines(console.input))
+    )
+
+
+def _talk(conversation: Conversation) -> None:
+    """Answers line after line."""
+    while True:
+        try:
+            line = conversation.next_line(PROMPT, is_kept=True)
+            if line.strip() == b"quit":
+                return
+            _answer(conversation, line)
+        except GivenUp:
+            conversation.show("Given up. Nothing was sent.")
+        except (Declined, Refused) as refused:
+            conversation.say(*_sentences(refused))
+        except Ended:
+            return
+        except Lost:
+            conversation.say(
+                f"Not known to be kept: {visible(line.decode(errors='replace'))}"
+            )
+            raise
+
+
+def _sentences(refused: Declined | Refused) -> tuple[str, ...]:
+    if isinstance(refused, Declined):
+        return refused.sentences
+    return (refused.sentence,)
+
+
+def _answer(conversation: Conversation, line: bytes) -> None:
+    """Answers one line: help, a command by text, or a request."""
+    name, _, rest = line.decode(errors="replace").strip().partition(" ")
+    if not name:
+        return
+    if name == "help":
+        _help(conversation, rest.strip())
+        return
+    for dialogue in DIALOGUES:
+        if dialogue.name == name:
+            dialogue.run(conversation, rest)
+            return
+    if name in BY_NAME or name.startswith("@"):
+        request_line(conversation, line)
+        return
+    conversation.say(_unknown(name))
+
+
+def _help(conversation: Conversation, name: str) -> None:
+    lines = help.of(name) if name else help.overview()
+    if lines is None:
+        conversation.say(_unknown(name))
+    else:
+        conversation.show(*lines)
+
+
+def _unknown(name: str) -> str:
+    near = difflib.get_close_matches(name, help.names(), n=1)
+    guess = f" Did you mean {near[0]}?" if near else ""
+    return f"There is no {visible(name[:40])}.{guess} help says what can be typed."

@@ -1,0 +1,142 @@
+"""Lines that a person types.
+
+At a terminal they are edited by readline, with a history that isn't kept on disk. A terminal left
+alone collects a line before any program sees it, and drops what comes after its first 4,095 bytes.
+So it is taken out of that mode for as long as lines are read, and what is pasted while something
+else goes on is kept as well.
+"""
+
+import locale
+import os
+import signal
+import sys
+import termios
+from collections.abc import Iterator
+from contextlib import AbstractContextManager, contextmanager
+from io import TextIOWrapper
+from types import FrameType, TracebackType
+from typing import BinaryIO, Protocol, Self
+
+# where a terminal that collects lines cuts them, by n_tty(4)
+CUT_BYTES = 4_095
+_SETTINGS = (
+    # pasted lines are lines of their own, and nothing is written that isn't text
+    "set enable-bracketed-paste off",
+    "set enable-meta-key off",
+    "set input-meta on",
+    "set output-meta on",
+    "set convert-meta off",
+    # a tab is a character like any other
+    "tab: self-insert",
+)
+
+
+class GivenUp(Exception):
+    """The person gave up the line, by Ctrl-C."""
+
+
+class Lines(Protocol):
+    """Where lines come from."""
+
+    def line(self, prompt: str, is_kept: bool = False) -> bytes | None:
+        """The next line without its ending, or None at the end; GivenUp where it is given up.
+
+        A line that is kept is one of those that the arrow keys bring back.
+        """
+
+
+class PipedLines:
+    """Lines that come from no terminal, so that no prompt is shown."""
+
+    def __init__(self, source: BinaryIO) -> None:
+        self._source = source
+        self._is_cut = source.isatty()
+
+    def line(self, prompt: str, is_kept: bool = False) -> bytes | None:
+        """The next line."""
+        line = self._source.readline()
+        if self._is_cut and len(line) >= CUT_BYTES:
+            raise GivenUp
+        return line.removesuffix(b"\n") if line else None
+
+
+class TypedLines(AbstractContextManager["TypedLines"]):
+    """Lines that are typed at a terminal, and edited while they are."""
+
+    def __init__(self) -> None:
+        _read_utf8()
+        # imported here, since it prepares the terminal and takes the locale of this moment
+        import readline
+
+        self._readline = readline
+        for setting in _SETTINGS:
+            readline.parse_and_bind(setting)
+        readline.set_auto_history(False)
+        self._before = termios.tcgetattr(0)
+        self._handler = signal.getsignal(signal.SIGINT)
+
+    def __enter__(self) -> Self:
+        signal.signal(signal.SIGINT, _nothing)
+        self._set(echoes=False)
+        return self
+
+    def __exit__(
+        self,
+        kind: type[BaseException] | None,
+        error: BaseException | None,
+        trace: TracebackType | None,
+    ) -> None:
+        termios.tcsetattr(0, termios.TCSADRAIN, self._before)
+        signal.signal(signal.SIGINT, self._handler)
+
+    def line(self, prompt: str, is_kept: bool = False) -> bytes | None:
+        """The next line, edited by readline."""
+        try:
+            with self._typing():
+                line = input(prompt)
+        except EOFError:
+            print()
+            return None
+        except KeyboardInterrupt:
+            print()
+            raise GivenUp from None
+        if is_kept and line:
+            self._readline.add_history(line)
+        return line.encode("utf-8", "surrogateescape")
+
+    @contextmanager
+    def _typing(self) -> Iterator[None]:
+        """While a line is typed it is shown, and Ctrl-C gives it up."""
+        self._set(echoes=True)
+        signal.signal(signal.SIGINT, signal.default_int_handler)
+        try:
+            yield
+        finally:
+            signal.signal(signal.SIGINT, _nothing)
+            self._set(echoes=False)
+
+    def _set(self, echoes: bool) -> None:
+        mode = termios.tcgetattr(0)
+        mode[3] &= ~termios.ICANON
+        mode[3] = mode[3] | termios.ECHO if echoes else mode[3] & ~termios.ECHO
+        mode[6][termios.VMIN], mode[6][termios.VTIME] = 1, 0
+        termios.tcsetattr(0, termios.TCSADRAIN, mode)
+
+
+def are_typed() -> bool:
+    """Whether a person sits at a terminal that shows what is typed."""
+    return sys.stdin.isatty() and sys.stdout.isatty()
+
+
+def _read_utf8() -> None:
+    """Has lines read as UTF-8 whatever the locale says, as a book is."""
+    for stream in (sys.stdin, sys.stdout):
+        if isinstance(stream, TextIOWrapper):
+            stream.reconfigure(encoding="utf-8", errors="surrogateescape")
+    if locale.nl_langinfo(locale.CODESET) != "UTF-8":
+        # readline asks the environment for the locale each time that it reads a line
+        os.environ["LC_ALL"] = "C.UTF-8"
+
+
+def _nothing(number: int, frame: FrameType | None) -> None:
+    """What Ctrl-C does while the program answers: the answer is waited for."""
