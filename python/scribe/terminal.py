@@ -12,7 +12,7 @@ import signal
 import sys
 import termios
 from collections.abc import Iterator
-from contextlib import AbstractContextManager, contextmanager
+from contextlib import AbstractContextManager, contextmanager, suppress
 from io import TextIOWrapper
 from types import FrameType, TracebackType
 from typing import BinaryIO, Protocol, Self
@@ -101,7 +101,9 @@ class TypedLines(AbstractContextManager["TypedLines"]):
             print()
             raise GivenUp from None
         if is_kept and line:
-            self._readline.add_history(line)
+            # where the system has no locale with UTF-8, only lines of ASCII come back
+            with suppress(UnicodeEncodeError):
+                self._readline.add_history(line)
         return line.encode("utf-8", "surrogateescape")
 
     @contextmanager
@@ -134,8 +136,10 @@ def _read_utf8() -> None:
         if isinstance(stream, TextIOWrapper):
             stream.reconfigure(encoding="utf-8", errors="surrogateescape")
     if locale.nl_langinfo(locale.CODESET) != "UTF-8":
-        # readline asks the environment for the locale each time that it reads a line
+        # readline takes the environment's locale while it reads a line, and the process's beside it
         os.environ["LC_ALL"] = "C.UTF-8"
+        with suppress(locale.Error):
+            locale.setlocale(locale.LC_CTYPE, "C.UTF-8")
 
 
 def _nothing(number: int, frame: FrameType | None) -> None:
