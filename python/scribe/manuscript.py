@@ -8,6 +8,7 @@ columns are counted from 1, columns in characters.
 from bisect import bisect_right
 from collections.abc import Iterator
 from dataclasses import dataclass
+from functools import cached_property
 from itertools import groupby
 
 from scribe.sequences import composed, sequences
@@ -25,7 +26,7 @@ class Unreadable(Exception):
         self.sentence = sentence
 
 
-@dataclass(frozen=True)
+@dataclass(frozen=True, order=True)
 class Position:
     """A line of a file and a column in it, both from 1."""
 
@@ -56,6 +57,13 @@ class Passage:
         return self.lines[-1].position.line
 
     @property
+    def lines_in_words(self) -> str:
+        """The lines of the file on which it stands, in words."""
+        if self.first_line == self.last_line:
+            return f"line {self.first_line}"
+        return f"lines {self.first_line} to {self.last_line}"
+
+    @cached_property
     def text(self) -> str:
         """The print of the paragraph, in normal form C."""
         return composed(self._joined)

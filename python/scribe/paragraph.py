@@ -1,6 +1,7 @@
 """A paragraph and its marks in words."""
 
 from braildesk import Mark, Paragraph, Style
+
 from scribe.excerpt import opening
 from scribe.visible import visible
 

@@ -1,6 +1,7 @@
 """Which cells words of a print have, and which words cells stand for."""
 
 from braildesk import Session
+
 from scribe.occurrences import Occurrence
 
 

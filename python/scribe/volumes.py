@@ -4,6 +4,7 @@ from collections.abc import Iterator, Sequence
 from dataclasses import dataclass
 
 from braildesk import Paragraph, Session, Style
+
 from scribe.layout import Layout, Section, Sheet, lay_out
 from scribe.readings import brailles, prints
 

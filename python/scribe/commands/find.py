@@ -5,6 +5,7 @@ from collections.abc import Iterable, Iterator, Sequence
 from dataclasses import dataclass
 
 from braildesk import Paragraph, Session
+
 from scribe.cells import NotCells, braille_patterns
 from scribe.console import Console
 from scribe.excerpt import excerpt

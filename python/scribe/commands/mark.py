@@ -3,9 +3,9 @@
 from argparse import ArgumentParser, Namespace
 
 from braildesk import Mark, Session
+
 from scribe.choice import add_nth, chosen
 from scribe.console import Console
-from scribe.declined import Declined
 from scribe.excerpt import excerpt
 from scribe.occurrences import Occurrence
 from scribe.paragraph import mark_line, quoted
@@ -42,11 +42,7 @@ def run(arguments: Namespace, console: Console) -> Status:
     with Session(arguments.file) as session:
         print_text = session.print(number)
         version = session.seen
-        try:
-            place = chosen(print_text, arguments.words, arguments.nth, number, width)
-        except Declined as declined:
-            console.say(*declined.sentences)
-            return Status.REFUSED
+        place = chosen(print_text, arguments.words, arguments.nth, number, width)
         cells = cells_of(session, number, place)
         count = cells.stop - cells.start
         made = session.mark(number, cells.start, count, arguments.note, expect=version)

@@ -5,6 +5,7 @@ from collections.abc import Sequence
 
 from braildesk import Mark, Paragraph, Session
 from braildesk.requests import Marks
+
 from scribe.console import Console
 from scribe.paragraph import mark_line
 from scribe.parser import Subparsers, add_file, command_parser

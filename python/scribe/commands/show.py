@@ -3,8 +3,8 @@
 from argparse import ArgumentParser, Namespace
 
 from braildesk import Session
+
 from scribe.console import Console
-from scribe.declined import Declined
 from scribe.parser import Subparsers, add_file, command_parser
 from scribe.readings import readings
 from scribe.status import Status
@@ -43,11 +43,7 @@ def add_parser(subparsers: Subparsers) -> ArgumentParser:
 def run(arguments: Namespace, console: Console) -> Status:
     with Session(arguments.file) as session:
         book = session.list()
-        try:
-            parts = [stretch.of(book) for stretch in arguments.paragraphs]
-        except Declined as declined:
-            console.say(*declined.sentences)
-            return Status.REFUSED
+        parts = [stretch.of(book) for stretch in arguments.paragraphs]
         view = View(
             width=arguments.width,
             has_print=arguments.print or not arguments.braille,
