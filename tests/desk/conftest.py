@@ -9,6 +9,8 @@ import pytest
 import braildesk
 from braildesk import Session
 
+SAMPLE = Path(__file__).resolve().parents[2] / "sample"
+
 
 @pytest.fixture(scope="session")
 def program() -> str:
@@ -48,3 +50,25 @@ def session(book: Path) -> Iterator[Session]:
     """A session with ``book``."""
     with Session(book) as opened:
         yield opened
+
+
+@pytest.fixture(scope="session")
+def moon_once(made_once: Path, tmp_path_factory: pytest.TempPathFactory) -> Path:
+    """The book of the examples that help shows."""
+    path = tmp_path_factory.mktemp("moon") / "moon.braildesk"
+    shutil.copyfile(made_once / "supplied.braildesk", path)
+    with Session(path) as session:
+        session.table("plain", (SAMPLE / "plain.utb").read_bytes())
+        session.type("end", "en", "The mon is far away.")
+        session.type("end", "en", "The Tides")
+        session.type("end", "en", "Twice a day the sea comes up.")
+        session.correct(1, 4, 3, "moon")
+        session.mark(1, 5, 4, "spelled so?")
+    return path
+
+
+@pytest.fixture
+def moon(moon_once: Path, tmp_path: Path) -> Path:
+    """A copy of that book, at version 7, in a folder with the files of the sample."""
+    shutil.copytree(SAMPLE, tmp_path, dirs_exist_ok=True)
+    return Path(shutil.copyfile(moon_once, tmp_path / "moon.braildesk"))

@@ -1,0 +1,141 @@
+"""The commands that send one request each, by what a person sees."""
+
+from pathlib import Path
+
+import pytest
+
+from tool import Ran, scribe
+
+
+def refused(sentence: str) -> Ran:
+    return Ran(2, "", sentence + "\n")
+
+
+def shown(*lines: str) -> Ran:
+    return Ran(0, "".join(line + "\n" for line in lines), "")
+
+
+CASES = {
+    "an undo shows the line before and after": (
+        ["undo", "1"],
+        shown(
+            "Paragraph 1: The [mon] is far away.",
+            "Before: The [moon] is far away.",
+            "Mark 1, open, touched, on “mon”: spelled so?",
+            "Correction 1 of paragraph 1 is taken back. The book is at version 8.",
+        ),
+    ),
+    "an undo of nothing is refused": (
+        ["undo", "2"],
+        refused(
+            "Paragraph 2 has no correction that could be taken back. Nothing was changed."
+        ),
+    ),
+    "a mark is resolved": (
+        ["resolve", "1"],
+        shown(
+            "Mark 1, resolved, paragraph 1, on “moon”: spelled so?",
+            "Before, it was open. The book is at version 8.",
+        ),
+    ),
+    "a mark that isn't there is refused": (
+        ["resolve", "2"],
+        refused(
+            "The book has no mark 2. Nothing was changed. The marks of a paragraph show"
+            " which numbers there are."
+        ),
+    ),
+    "a paragraph is struck": (
+        ["strike", "2"],
+        shown(
+            "Paragraph 2: struck now, in the volumes before.",
+            "The Tides",
+            "The book is at version 8.",
+        ),
+    ),
+    "a paragraph in the volumes can't be restored": (
+        ["restore", "2"],
+        refused("Paragraph 2 isn't struck, so there is nothing to restore."),
+    ),
+    "a heading is made": (
+        ["heading", "2"],
+        shown(
+            "Paragraph 2: a heading now, body text before.",
+            "The Tides",
+            "The book is at version 8.",
+        ),
+    ),
+    "body text stays body text, which is said": (
+        ["body", "2"],
+        shown(
+            "Paragraph 2: body text, as before.",
+            "The Tides",
+            "The book is at version 8.",
+        ),
+    ),
+    "a volume begins": (
+        ["volume", "2", "on"],
+        shown(
+            "Paragraph 2: begins a volume now, begins no volume before.",
+            "The Tides",
+            "The book is at version 8.",
+        ),
+    ),
+    "a paragraph is moved to the front": (
+        ["move", "2", "front"],
+        shown(
+            "Paragraph 2: at the front of the book now, after paragraph 1 before.",
+            "The Tides",
+            "The book is at version 8.",
+        ),
+    ),
+    "a paragraph that isn't there can't be moved": (
+        ["move", "9", "end"],
+        refused(
+            "The book has no paragraph 9. Nothing was changed. The list of the book shows"
+            " which numbers there are."
+        ),
+    ),
+    "a paragraph gets another table, and its cells are shown": (
+        ["retable", "1", "plain", "--width", "40"],
+        shown(
+            "Paragraph 1: table plain now, table en before.",
+            "Its braille is as before.",
+            "The book is at version 8.",
+        ),
+    ),
+    "a table that isn't there is refused": (
+        ["retable", "1", "ueb"],
+        refused(
+            "The book has no table ueb. Nothing was changed. Add that table first, or name"
+            " one that is there."
+        ),
+    ),
+}
+
+
+@pytest.mark.parametrize("name", CASES)
+def test_what_is_seen(name: str, moon: Path) -> None:
+    (command, *rest), expected = CASES[name]
+    assert scribe(command, moon, *rest, folder=moon.parent) == expected
+
+
+def test_a_restored_paragraph_is_shown_with_what_it_was(moon: Path) -> None:
+    scribe("strike", moon, "3", folder=moon.parent)
+    assert scribe("restore", moon, "3", folder=moon.parent) == shown(
+        "Paragraph 3: in the volumes now, struck before.",
+        "Twice a day the sea comes up.",
+        "The book is at version 9.",
+    )
+
+
+def test_what_differs_in_braille_stands_in_brackets(moon: Path) -> None:
+    own = moon.with_name("plain.utb").read_text() + "word far 124-345\n"
+    moon.with_name("own.utb").write_text(own)
+    scribe("table", moon, "own", "own.utb", folder=moon.parent)
+    assert scribe("retable", moon, "1", "own", folder=moon.parent) == shown(
+        "Paragraph 1: table own now, table en before.",
+        "Its braille: ⠠⠞⠓⠑⠀⠍⠕⠕⠝⠀⠊⠎⠀[⠋⠜]⠀⠁⠺⠁⠽⠲",
+        "Before: ⠠⠞⠓⠑⠀⠍⠕⠕⠝⠀⠊⠎⠀[⠋⠁⠗]⠀⠁⠺⠁⠽⠲",
+        "The book is at version 9.",
+    )
