@@ -54,6 +54,16 @@ class Pipe:
         self._torn = False
 
     @property
+    def pid(self) -> int:
+        """The number of the process."""
+        return self._process.pid
+
+    @property
+    def queued(self) -> int:
+        """How many requests there are of which nothing is written yet."""
+        return len(self._queue)
+
+    @property
     def queued_bytes(self) -> int:
         """The bytes of the requests of which nothing is written yet."""
         return self._queued_bytes

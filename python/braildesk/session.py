@@ -1,7 +1,7 @@
 """A session with a book: requests go to the program, and values come back."""
 
 from collections import deque
-from collections.abc import Callable, Iterable, Iterator
+from collections.abc import Callable, Generator, Iterable, Iterator
 from dataclasses import replace
 from os import fspath
 from types import TracebackType
@@ -29,8 +29,12 @@ from braildesk.values import (
 )
 from braildesk.wording import Refusal
 
-#: How many bytes of requests are made ahead of those that are written.
-_AHEAD = 1 << 16
+#: How many requests are under way at most, and how many bytes of them wait to be written. More
+#: would be no faster, and where somebody stops in the middle, the more would be carried out.
+_AHEAD = 512
+_AHEAD_BYTES = 1 << 16
+#: How many are written at once, where nothing has to be waited for.
+_GROUP = 128
 
 
 class Session:
@@ -87,6 +91,11 @@ class Session:
         """The version of the book that was last reported."""
         return self._seen
 
+    @property
+    def pid(self) -> int:
+        """The number of the process in which the program runs."""
+        return self._pipe.pid
+
     def ask(self, request: Request[Answer]) -> Answer:
         """Sends a request, and gives what it is answered by; raises ``Refused`` or ``Lost``."""
         data = self._ready(request)
@@ -102,7 +111,7 @@ class Session:
         self,
         asked: Iterable[Request[Answer]],
         progress: Callable[[int], None] | None = None,
-    ) -> Iterator[Answer | Refused]:
+    ) -> Generator[Answer | Refused, None, None]:
         """Sends many requests ahead of their replies, and gives the answers in order.
 
         A refusal is a value among the answers, and the requests after it go on. ``progress`` is
@@ -142,7 +151,7 @@ class Session:
 
     def _send_ahead(self, source: Iterator[Request[Any]]) -> bool:
         """Sends requests as far ahead as there is room, and says whether any answer is to come."""
-        while self._pipe.queued_bytes < _AHEAD:
+        while len(self._sent) < _AHEAD and self._pipe.queued_bytes < _AHEAD_BYTES:
             request = next(source, None)
             if request is None:
                 break
@@ -153,7 +162,7 @@ class Session:
             else:
                 self._sent.append(request)
                 self._pipe.send(data)
-        if self._pipe.queued_bytes >= _AHEAD // 2:
+        if self._pipe.queued >= _GROUP:
             self._pipe.push()
         return bool(self._sent)
 
