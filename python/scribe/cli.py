@@ -7,9 +7,8 @@ from braildesk import DeskError, Failed, NoProgram
 
 from scribe.commands import COMMANDS
 from scribe.console import Console, OutputFailed
-from scribe.declined import Declined
 from scribe.parser import HelpAsked, Parser, WordsRefused, unknown_command
-from scribe.status import Status
+from scribe.status import Status, Stop
 
 DESCRIPTION = """\
 Works on a braildesk book: a file of print, its braille, and the marks on it.
@@ -49,9 +48,9 @@ def run_words(words: Sequence[str], console: Console) -> Status:
     except WordsRefused as refused:
         console.say(refused.sentence, refused.usage)
         return Status.WORDS_REFUSED
-    except Declined as declined:
-        console.say(*declined.sentences)
-        return Status.REFUSED
+    except Stop as stop:
+        console.say(stop.sentence)
+        return stop.status
     except (Failed, NoProgram) as failed:
         console.say(failed.sentence)
         return Status.FAILED

@@ -10,9 +10,9 @@ from braildesk.requests import Command, Request
 
 from scribe.changes import carried_out
 from scribe.console import Console
-from scribe.declined import Declined
 from scribe.grammar import NotARequest, TableHead, read_head
 from scribe.queries import shown
+from scribe.status import Stop
 from scribe.terminal import GivenUp, Lines
 from scribe.visible import control_refused
 from scribe.wrapping import wrap
@@ -104,9 +104,6 @@ def answer_request(conversation: Conversation, request: Request[Any]) -> None:
             lines = shown(conversation.session, request)
     except Refused as refused:
         conversation.say(refused.sentence)
-        return
-    except Declined as declined:
-        conversation.say(*declined.sentences)
         return
     conversation.show(*lines)
 

@@ -12,13 +12,13 @@ from scribe.commands.find import found, summary as found_summary, word_lines
 from scribe.commands.mark import wider
 from scribe.commands.marks import mark_lines, summary as marks_summary
 from scribe.conversation import Conversation, answer_request
-from scribe.declined import Declined
 from scribe.excerpt import excerpt
 from scribe.occurrences import Occurrence, occurrences
 from scribe.paragraph import mark_line
 from scribe.parser import number
 from scribe.places import cells_of
 from scribe.readings import answers, prints, readings
+from scribe.status import Stop
 from scribe.stretches import Stretch, stretches
 from scribe.tables import table_request
 from scribe.texts import text, words
@@ -155,7 +155,7 @@ def _path(answer: str) -> Path:
 
 def _alone(name: str, given: str) -> None:
     if given:
-        raise Declined(f"The command {name} stands alone on its line.")
+        raise Stop(f"The command {name} stands alone on its line.")
 
 
 DIALOGUES = (

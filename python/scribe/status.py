@@ -10,3 +10,12 @@ class Status(enum.IntEnum):
     WORDS_REFUSED = 1
     REFUSED = 2
     FAILED = 3
+
+
+class Stop(Exception):
+    """A command can't go on: the sentence that is said, and the status with which it ends."""
+
+    def __init__(self, sentence: str, status: Status = Status.REFUSED) -> None:
+        super().__init__(sentence)
+        self.sentence = sentence
+        self.status = status

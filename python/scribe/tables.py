@@ -4,8 +4,8 @@ from pathlib import Path
 
 from braildesk import limits, requests
 
-from scribe.declined import Declined
 from scribe.shelf import FOLDER, table_file, table_names
+from scribe.status import Stop
 
 SUPPLIED = "en"
 
@@ -20,7 +20,7 @@ def table_request(name: str, path: Path | None) -> requests.Table | requests.Sup
     found = path or table_file(name)
     if found is None:
         there = ", ".join([SUPPLIED, *table_names()])
-        raise Declined(
+        raise Stop(
             f"There is no table {name} in {FOLDER}. Nothing was changed. Without a file a table"
             f" may be: {there}. Else give the file of the table after its name."
         )
@@ -33,11 +33,11 @@ def read_text(path: Path) -> bytes:
         with path.open("rb") as file:
             text = file.read(limits.TABLE_BYTES + 1)
     except OSError as error:
-        raise Declined(
+        raise Stop(
             f"The table {path} can't be read: {error.strerror}. Nothing was changed."
         ) from error
     if len(text) > limits.TABLE_BYTES:
-        raise Declined(
+        raise Stop(
             f"The table {path} has over {limits.TABLE_BYTES:,} bytes. Nothing was changed."
         )
     return text

@@ -28,7 +28,7 @@ def scribe(
     *words: str | Path,
     folder: Path,
     given: str | bytes = "",
-    before: Callable[[], None] | None = None,
+    before: Callable[[], object] | None = None,
     **more: str,
 ) -> Ran:
     """Runs scribe in a folder, with what is given as its input."""

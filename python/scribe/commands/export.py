@@ -9,9 +9,8 @@ from pathlib import Path
 from braildesk import Failed, Refused, check, export, limits
 
 from scribe.console import Console
-from scribe.declined import Declined
 from scribe.parser import Subparsers, add_file, command_parser, number
-from scribe.status import Status
+from scribe.status import Status, Stop
 from scribe.whole_file import write_whole
 
 NO_SUCH_VOLUME = 96
@@ -122,9 +121,9 @@ def _make_folder(folder: Path) -> None:
     try:
         folder.mkdir(exist_ok=True)
     except FileExistsError:
-        raise Declined(f"{folder} is no folder. Nothing was exported.") from None
+        raise Stop(f"{folder} is no folder. Nothing was exported.") from None
     except OSError as error:
-        raise Declined(
+        raise Stop(
             f"The folder {folder} can't be made: {error.strerror}. Nothing was exported."
         ) from error
 

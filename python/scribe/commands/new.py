@@ -6,10 +6,9 @@ from pathlib import Path
 from braildesk import CannotOpen, Session, Why, new_book, requests
 
 from scribe.console import Console
-from scribe.declined import Declined
 from scribe.parser import Subparsers, add_file, command_parser
 from scribe.shelf import table_file
-from scribe.status import Status
+from scribe.status import Status, Stop
 from scribe.tables import SUPPLIED, table_request
 
 EVERYDAY = "ueb"
@@ -55,6 +54,6 @@ def _make(path: Path) -> None:
             raise
         folder = path.absolute().parent
         reason = "can't be written in" if folder.is_dir() else "isn't there"
-        raise Declined(
+        raise Stop(
             f"{path} could not be made, since its folder {folder} {reason}."
         ) from refused

@@ -9,11 +9,10 @@ from braildesk import Lost, Refused, Session
 from scribe import help
 from scribe.console import Console
 from scribe.conversation import Conversation, Ended, request_line
-from scribe.declined import Declined
 from scribe.dialogues import DIALOGUES
 from scribe.grammar import BY_NAME
 from scribe.parser import Subparsers, add_file, command_parser
-from scribe.status import Status
+from scribe.status import Status, Stop
 from scribe.terminal import GivenUp, Lines, PipedLines, TypedLines, are_typed
 from scribe.texts import words
 from scribe.visible import visible
@@ -80,8 +79,8 @@ def _talk(conversation: Conversation) -> None:
             _answer(conversation, line)
         except GivenUp:
             conversation.show("Given up. Nothing was sent.")
-        except (Declined, Refused) as refused:
-            conversation.say(*_sentences(refused))
+        except (Stop, Refused) as refused:
+            conversation.say(*refused.sentence.split("\n"))
         except Ended:
             return
         except Lost:
@@ -89,12 +88,6 @@ def _talk(conversation: Conversation) -> None:
                 f"Not known to be kept: {visible(line.decode(errors='replace'))}"
             )
             raise
-
-
-def _sentences(refused: Declined | Refused) -> tuple[str, ...]:
-    if isinstance(refused, Declined):
-        return refused.sentences
-    return (refused.sentence,)
 
 
 def _answer(conversation: Conversation, line: bytes) -> None:

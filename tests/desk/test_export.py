@@ -1,0 +1,151 @@
+"""scribe export and scribe copy: what leaves a book."""
+
+import os
+import resource
+from pathlib import Path
+
+import pytest
+
+import braildesk
+from braildesk import Session
+from tool import Ran, scribe
+
+MOON = b"""\
+  ,THE MOON IS FAR AWAY4\r
+\r
+\r
+\r
+                    #A\r
+\x0c"""
+SIZES = ["--width", "22", "--lines", "5"]
+
+
+def files(folder: Path) -> list[str]:
+    return sorted(path.name for path in folder.iterdir())
+
+
+def test_all_volumes_are_written_and_described(moon: Path) -> None:
+    scribe("volume", moon, "2", "on", folder=moon.parent)
+    assert scribe("export", moon, "out", *SIZES, folder=moon.parent) == Ran(
+        0,
+        "out/moon-1.brf: volume 1, 1 page, 21 cells with dots.\n"
+        "out/moon-2.brf: volume 2, 1 page, 37 cells with dots.\n",
+        "",
+    )
+    assert files(moon.parent / "out") == ["moon-1.brf", "moon-2.brf"]
+    assert (moon.parent / "out" / "moon-1.brf").read_bytes() == MOON
+
+
+def test_a_volume_that_is_refused_leaves_the_older_file(moon: Path) -> None:
+    scribe("volume", moon, "2", "on", folder=moon.parent)
+    out = moon.parent / "out"
+    out.mkdir()
+    (out / "moon-1.brf").write_bytes(b"older")
+    with Session(moon) as session:
+        session.table("dots", b"space \\s 0\nletter a 7\n")
+        session.type("front", "dots", "a a")
+    ran = scribe("export", moon, "out", *SIZES, folder=moon.parent)
+    assert ran == Ran(
+        2,
+        "out/moon-2.brf: volume 2, 1 page, 37 cells with dots.\n",
+        "Volume 1: Cell 1 of paragraph 4 has dot 7 or 8, which pages for embossers can't"
+        " have. Nothing was exported. Correct the table of that paragraph."
+        " out/moon-1.brf is as it was.\n",
+    )
+    assert (out / "moon-1.brf").read_bytes() == b"older"
+
+
+def test_files_of_volumes_that_are_no_more_are_named_and_left(moon: Path) -> None:
+    out = moon.parent / "out"
+    out.mkdir()
+    for name in ("moon-2.brf", "moon-10.brf", "moon-02.brf", "moons-3.brf"):
+        (out / name).write_bytes(b"older")
+    ran = scribe("export", moon, "out", folder=moon.parent)
+    assert ran.status == 0
+    assert ran.said == (
+        "Left from an earlier export, of volumes that the book has no more:"
+        " out/moon-2.brf, out/moon-10.brf.\n"
+    )
+    assert (out / "moon-10.brf").read_bytes() == b"older"
+
+
+def test_a_book_without_volumes_writes_none(book: Path) -> None:
+    ran = scribe("export", book, "out", folder=book.parent)
+    assert ran == Ran(
+        0, "", "The book has no volume: each paragraph is struck, or there is none.\n"
+    )
+
+
+@pytest.mark.parametrize("width", ["9", "61", "x", "-1"])
+def test_a_width_that_no_page_has_is_refused(width: str, moon: Path) -> None:
+    ran = scribe("export", moon, "out", f"--width={width}", folder=moon.parent)
+    assert ran.status == 1 and "--width" in ran.said
+    assert not (moon.parent / "out").exists()
+
+
+def test_a_folder_that_is_a_file_is_refused(moon: Path) -> None:
+    ran = scribe("export", moon, "plain.utb", folder=moon.parent)
+    assert ran == Ran(2, "", "plain.utb is no folder. Nothing was exported.\n")
+
+
+def test_a_full_disk_leaves_the_older_file_and_nothing_beside_it(moon: Path) -> None:
+    out = moon.parent / "out"
+    out.mkdir()
+    (out / "moon-1.brf").write_bytes(b"older")
+
+    def hold_no_more_than_a_hundred_bytes() -> None:
+        resource.setrlimit(resource.RLIMIT_FSIZE, (100, 100))
+
+    ran = scribe(
+        "export",
+        moon,
+        "out",
+        folder=moon.parent,
+        before=hold_no_more_than_a_hundred_bytes,
+    )
+    assert (ran.status, ran.shown) == (3, "")
+    assert ran.said == (
+        "Volume 1 could not be written: File too large. out/moon-1.brf is as it was."
+        " Volumes that are shown above are whole.\n"
+    )
+    assert files(out) == ["moon-1.brf"]
+    assert (out / "moon-1.brf").read_bytes() == b"older"
+
+
+def test_a_new_file_has_the_permissions_of_any_new_file(moon: Path) -> None:
+    scribe(
+        "export",
+        moon,
+        "out",
+        folder=moon.parent,
+        before=lambda: os.umask(0o027),
+    )
+    assert (moon.parent / "out" / "moon-1.brf").stat().st_mode & 0o777 == 0o640
+
+
+def test_a_copy_opens_as_the_same_book(moon: Path) -> None:
+    ran = scribe("copy", moon, "my copy.braildesk", folder=moon.parent)
+    assert ran == Ran(0, f"my copy.braildesk is a copy of {moon}, at version 7.\n", "")
+    copied = moon.with_name("my copy.braildesk")
+    given = "list\nprint 1\nmarks 1\n"
+    assert (
+        scribe("run", copied, folder=moon.parent, given=given).shown
+        == scribe("run", moon, folder=moon.parent, given=given).shown
+    )
+
+
+def test_a_copy_of_a_book_that_is_open_is_refused(moon: Path) -> None:
+    with Session(moon):
+        ran = scribe("copy", moon, "copy.braildesk", folder=moon.parent)
+    assert ran == Ran(
+        2,
+        "",
+        f"Another program has “{moon}” open. Nothing was changed. End that one first.\n",
+    )
+    assert not moon.with_name("copy.braildesk").exists()
+
+
+def test_a_copy_replaces_no_file(moon: Path) -> None:
+    ran = scribe("copy", moon, "plain.utb", folder=moon.parent)
+    assert ran.status == 2 and "is there already" in ran.said
+    assert braildesk.check(moon) == 7

@@ -1,0 +1,243 @@
+"""scribe run: replies as the program gives them, and a sentence after each refusal."""
+
+import random
+import shutil
+import subprocess
+from pathlib import Path
+
+import pytest
+
+import braildesk
+from tool import Ran, scribe
+
+REQUESTS = """\
+type 1 en It rises  late.
+type end en The sea
+type front en The Sea
+style 4 heading
+volume 2 on
+correct-by anna 1 0 3 Our
+correct 1 4 4 sun
+undo 1
+mark 1 5 2
+mark 1 5 2 a  note, of two  words\x20
+marks 1
+history 1
+resolve 2
+strike 3
+restore 3
+retable 2 plain
+move 2 front
+where 1 4
+whence 1 5
+print 1
+braille 1
+list
+version
+table own 2
+space \\s 0
+letter a 1
+supply plain
+"""
+REFUSED = """\
+undo 9
+correct 1 90 1 x
+type end en é
+type end own a
+resolve 8
+undo 2
+mark 1 0 0 nothing
+restore 1
+@3 undo 1
+table Own 1
+letter a 1
+table own 2
+space \\s 0
+letter a 19
+supply Own
+
+undo
+undo 1\x20
+list\x20
+supper en
+ version
+@7 list
+@x undo 1
+type end  x
+mark 1 99999999999999999 1
+"""
+
+
+@pytest.mark.parametrize("requests", [REQUESTS, REFUSED])
+def test_each_reply_is_that_of_the_program(requests: str, moon: Path) -> None:
+    other = Path(shutil.copyfile(moon, moon.with_name("other.braildesk")))
+    wanted = session(other, requests.encode())
+    ran = scribe("run", moon, "--keep-going", folder=moon.parent, given=requests)
+    assert ran.shown == wanted
+    assert braildesk.tables(moon) == braildesk.tables(other)
+
+
+def test_lines_of_all_forms_are_read_as_the_program_reads_them(moon: Path) -> None:
+    other = Path(shutil.copyfile(moon, moon.with_name("other.braildesk")))
+    given = "".join(line + "\n" for line in any_lines(random.Random(41), 600))
+    wanted = session(other, given.encode())
+    ran = scribe("run", moon, "--keep-going", folder=moon.parent, given=given)
+    assert ran.shown == wanted
+    assert wanted.count("ok ") > 50 and wanted.count("no 1\n") > 100
+
+
+def any_lines(chance: random.Random, count: int) -> list[str]:
+    """Lines that are requests, and lines that are nearly requests."""
+    names = (
+        "supply type correct correct-by undo mark resolve strike restore style volume"
+        " retable move print braille history marks where whence list version"
+    ).split()
+    words = "1 2 3 4 0 01 9 front end en plain on off body heading x".split()
+    lines = []
+    for _ in range(count):
+        fields = [chance.choice(names)]
+        fields += chance.choices(words, k=chance.randrange(5))
+        if chance.random() < 0.1:
+            fields.insert(0, chance.choice(["@7", "@8", "@", "@x"]))
+        if chance.random() < 0.1:
+            fields.insert(chance.randrange(len(fields) + 1), "")
+        lines.append(" ".join(fields))
+    return lines
+
+
+def session(path: Path, requests: bytes) -> str:
+    """What the program itself answers."""
+    words = [braildesk.find(), "session", str(path)]
+    return subprocess.run(words, input=requests, capture_output=True).stdout.decode()
+
+
+def test_it_stops_at_the_first_refusal_with_a_sentence(moon: Path) -> None:
+    ran = scribe(
+        "run",
+        moon,
+        folder=moon.parent,
+        given="strike 1\nstrike 1\nstrike 2\n",
+    )
+    assert ran == Ran(
+        2,
+        "ok 8\nno 11\n",
+        "Line 2: Paragraph 1 is struck. Nothing was changed. Restore it first.\n",
+    )
+    assert braildesk.check(moon) == 8
+
+
+def test_it_goes_on_where_that_is_asked_for(moon: Path) -> None:
+    ran = scribe(
+        "run",
+        moon,
+        "--keep-going",
+        folder=moon.parent,
+        given="strike 1\nstrike 1\nstrike 2\n",
+    )
+    assert (ran.status, ran.shown) == (2, "ok 8\nno 11\nok 9\n")
+
+
+def test_a_line_that_is_no_request_is_explained(moon: Path) -> None:
+    ran = scribe("run", moon, folder=moon.parent, given="version\nstryke 1\n")
+    assert ran == Ran(
+        2,
+        "end 7\nno 1\n",
+        "Line 2: There is no request “stryke”. Did you mean strike? Nothing was changed.\n",
+    )
+
+
+def test_the_form_of_a_request_is_shown_where_it_is_missed(moon: Path) -> None:
+    ran = scribe("run", moon, folder=moon.parent, given="correct 1 2\n")
+    assert ran.said == (
+        "Line 1: The request correct is written as: correct PARA START COUNT TEXT. One"
+        " blank stands between fields, and none at the end. Nothing was changed.\n"
+    )
+
+
+@pytest.mark.parametrize(
+    "character, name",
+    [
+        ("\x1b", "U+001B ESCAPE, a control character"),
+        ("\x7f", "U+007F DELETE, a control character"),
+        ("\x85", "U+0085, a control character"),
+    ],
+)
+def test_a_control_character_is_refused_and_nothing_is_sent(
+    character: str, name: str, moon: Path
+) -> None:
+    given = f"mark 1 0 1 so{character}?\nversion\n"
+    ran = scribe("run", moon, "--keep-going", folder=moon.parent, given=given)
+    assert ran == Ran(
+        2,
+        "end 7\n",
+        f"Line 1: Character 14 of the line is {name}. Texts and notes can't have one"
+        " here. Nothing was sent.\n",
+    )
+
+
+def test_a_tab_and_a_format_character_are_kept_and_the_second_is_made_visible(
+    moon: Path,
+) -> None:
+    given = "mark 1 0 1 a\tb\u202ec\nmarks 1\n"
+    ran = scribe("run", moon, folder=moon.parent, given=given)
+    assert "open kept a\tb<U+202E>c\n" in ran.shown
+    assert "kept a\tb\u202ec\n" in session(moon, b"marks 1\n")
+
+
+def test_an_escape_that_is_in_the_book_is_not_written_to_the_terminal(
+    moon: Path,
+) -> None:
+    session(moon, b"mark 1 0 1 \x1b[2J\n")
+    ran = scribe("run", moon, folder=moon.parent, given="marks 1\n")
+    assert "<U+001B>[2J" in ran.shown and "\x1b" not in ran.shown
+
+
+def test_the_lines_of_a_table_arrive_as_they_stand(moon: Path) -> None:
+    given = b"table own 2\nspace \\s 0\r\n# a b\xc2\x85c \r\r\nversion"
+    ran = scribe("run", moon, folder=moon.parent, given=given)
+    assert ran == Ran(0, "ok 8\nend 8\n", "")
+    (own,) = (table for table in braildesk.tables(moon) if table.name == "own")
+    assert own.text == b"space \\s 0\r\n# a b\xc2\x85c \r\r\n"
+
+
+def test_a_table_without_all_its_lines_is_refused_and_not_cut(moon: Path) -> None:
+    ran = scribe("run", moon, folder=moon.parent, given="table own 3\nspace \\s 0\n")
+    assert ran == Ran(
+        2,
+        "no 1\n",
+        "Line 1: The input ends after 1 of the 3 lines of this table. Nothing was changed.\n",
+    )
+    assert braildesk.check(moon) == 7
+
+
+def test_a_table_whose_name_has_a_control_character_takes_its_lines(moon: Path) -> None:
+    given = "table o\x1bn 1\nstrike 1\nversion\n"
+    ran = scribe("run", moon, "--keep-going", folder=moon.parent, given=given)
+    assert (ran.status, ran.shown) == (2, "end 7\n")
+
+
+def test_a_line_of_more_bytes_than_a_request_may_have_is_not_cut(moon: Path) -> None:
+    given = "mark 1 0 1 " + "x" * 65_526 + "\n"
+    ran = scribe("run", moon, folder=moon.parent, given=given)
+    assert ran == Ran(
+        2,
+        "no 1\n",
+        "Line 1: This line has 65,537 bytes, and a request may have 65,536. Nothing was"
+        " changed.\n",
+    )
+
+
+def test_a_session_that_is_lost_says_what_was_kept(moon: Path) -> None:
+    program = moon.with_name("cut short")
+    program.write_text(f'#!/bin/sh\nhead -n 2 | "{braildesk.find()}" "$@"\nkill $$\n')
+    program.chmod(0o755)
+    given = "strike 1\nstrike 2\nstrike 3\n"
+    ran = scribe("run", moon, folder=moon.parent, given=given, BRAILDESK=str(program))
+    assert (ran.status, ran.shown) == (3, "ok 8\n")
+    assert "The last command that was reported as kept is “strike”" in ran.said
+    assert braildesk.check(moon) == 8
+
+
+def test_ten_thousand_requests_take_seconds(moon: Path) -> None:
+    ran = scribe("run", moon, folder=moon.parent, given="version\n" * 10_000)
+    assert ran.shown == "end 7\n" * 10_000

@@ -1,0 +1,191 @@
+"""The words of the command line, and what becomes of them."""
+
+import os
+import shutil
+import subprocess
+import sys
+from pathlib import Path
+
+import pytest
+
+import braildesk
+from braildesk import Session
+from scribe.cli import make_parser
+from tool import ROOT, Ran, environment, scribe
+
+NAMES = make_parser()[1]
+#: The commands of the desk.
+ALL = (
+    "new run talk import table show find change undo resolve strike restore heading body"
+    " volume move retable mark marks pages export copy"
+).split()
+
+
+def test_each_command_is_there() -> None:
+    assert sorted(NAMES) == sorted(ALL)
+
+
+def examples(help_text: str) -> list[str]:
+    """The lines of the example that help shows."""
+    _, _, rest = help_text.partition("\nexample:\n")
+    lines = rest.split("\n\n")[0].splitlines()
+    return [line.removeprefix("  ") for line in lines]
+
+
+@pytest.fixture
+def path(tmp_path_factory: pytest.TempPathFactory) -> str:
+    """A path of commands on which scribe is."""
+    folder = tmp_path_factory.mktemp("bin")
+    (folder / "scribe").symlink_to(ROOT / "bin" / "scribe")
+    (folder / "python3").symlink_to(sys.executable)
+    return f"{folder}:{os.environ['PATH']}"
+
+
+@pytest.mark.parametrize("name", ALL)
+def test_the_example_of_each_command_works_as_it_stands(
+    name: str, moon: Path, path: str
+) -> None:
+    help_text = scribe(name, "--help", folder=moon.parent)
+    assert (help_text.status, help_text.said) == (0, "")
+    lines = examples(help_text.shown)
+    assert lines and any(f"scribe {name} " in line for line in lines)
+    for line in lines:
+        done = subprocess.run(
+            ["sh", "-c", line],
+            cwd=moon.parent,
+            env=environment(PATH=path, BRAILDESK=braildesk.find()),
+            capture_output=True,
+        )
+        assert done.returncode == 0, (line, done.stderr.decode())
+        assert done.stdout, line
+
+
+def test_help_names_all_commands(tmp_path: Path) -> None:
+    ran = scribe("--help", folder=tmp_path)
+    assert ran.status == 0
+    assert all(f"\n    {name} " in ran.shown for name in ALL)
+
+
+@pytest.mark.parametrize(
+    "words, sentence",
+    [
+        ([], "The following arguments are required: COMMAND."),
+        (["undo"], "The following arguments are required: FILE, PARA."),
+        (["undo", "m", "x"], "Argument PARA: 'x' is not a number."),
+        (["undo", "m", "1", "2"], "Unrecognized arguments: 2."),
+        (["export", "m", "o", "--lin", "9"], "Unrecognized arguments: --lin 9."),
+        (
+            ["volume", "m", "1", "yes"],
+            "Argument on|off: 'yes' is neither on nor off.",
+        ),
+        (
+            ["move", "m", "1", "last"],
+            "Argument AFTER: 'last' is none of front, end and the number of a paragraph.",
+        ),
+    ],
+)
+def test_words_that_are_refused_are_explained(
+    words: list[str], sentence: str, tmp_path: Path
+) -> None:
+    ran = scribe(*words, folder=tmp_path)
+    first, usage = ran.said.splitlines()[:2]
+    assert (ran.status, ran.shown, first) == (1, "", sentence)
+    assert usage.startswith("usage: scribe")
+
+
+def test_a_word_that_is_nearly_a_command_is_guessed(tmp_path: Path) -> None:
+    ran = scribe("unod", "m", "1", folder=tmp_path)
+    assert ran.status == 1
+    assert ran.said.startswith(
+        "There is no command unod. Did you mean undo? The commands"
+    )
+
+
+def test_a_file_that_is_not_there_is_refused(tmp_path: Path) -> None:
+    ran = scribe("undo", "no book", "1", folder=tmp_path)
+    assert ran == Ran(
+        2, "", "There is no file “no book”. Check that the path is right.\n"
+    )
+
+
+def test_a_file_that_is_no_book_is_refused(tmp_path: Path) -> None:
+    (tmp_path / "letter.txt").write_text("Dear reader,\n" * 100)
+    ran = scribe("undo", "letter.txt", "1", folder=tmp_path)
+    assert (ran.status, ran.shown) == (2, "")
+    assert ran.said.startswith("letter.txt is no book") or ran.said.startswith(
+        "“letter.txt” is no book"
+    )
+
+
+def test_a_book_that_is_in_use_is_refused(moon: Path) -> None:
+    with Session(moon):
+        ran = scribe("undo", moon, "1", folder=moon.parent)
+    assert ran == Ran(
+        2,
+        "",
+        f"Another program has “{moon}” open. Nothing was changed. End that one first.\n",
+    )
+
+
+def test_a_program_that_is_not_there_is_said(moon: Path) -> None:
+    ran = scribe("undo", moon, "1", folder=moon.parent, BRAILDESK="/none")
+    assert (ran.status, ran.shown) == (3, "")
+    assert "“/none”" in ran.said
+
+
+def test_a_full_output_is_said_and_ends_with_3(moon: Path) -> None:
+    with open("/dev/full", "w") as full:
+        done = subprocess.run(
+            [sys.executable, "-m", "scribe", "--help"],
+            stdout=full,
+            stderr=subprocess.PIPE,
+            env=environment(),
+        )
+    assert done.returncode == 3
+    assert done.stderr == (
+        b"Standard output could not be written: No space left on device.\n"
+    )
+
+
+def test_a_reader_that_left_is_no_cause_for_words(moon: Path) -> None:
+    done = subprocess.run(
+        ["sh", "-c", f"'{sys.executable}' -m scribe --help | true"],
+        stderr=subprocess.PIPE,
+        env=environment(),
+    )
+    assert done.stderr == b""
+
+
+def test_a_name_that_is_not_utf8_is_refused_in_words(tmp_path: Path) -> None:
+    done = subprocess.run(
+        [sys.executable, "-m", "scribe", "undo", b"caf\xe9", "1"],
+        cwd=tmp_path,
+        stderr=subprocess.PIPE,
+        env=environment(),
+    )
+    assert done.returncode == 2
+    assert b"can't be a path for braildesk" in done.stderr
+
+
+def test_what_is_shown_is_utf8_in_any_locale(moon: Path) -> None:
+    given = "braille 2\n"
+    ran = scribe("run", moon, folder=moon.parent, given=given, LC_ALL="C", LANG="C")
+    assert ran.shown == "| ⠠⠞⠓⠑⠀⠠⠞⠊⠙⠑⠎\nend 7\n"
+
+
+def test_the_command_works_where_it_is_installed(moon: Path, tmp_path: Path) -> None:
+    share = tmp_path / "share" / "braildesk"
+    shutil.copytree(ROOT / "python", share / "python")
+    (tmp_path / "bin").mkdir()
+    shutil.copy(ROOT / "bin" / "scribe", tmp_path / "bin")
+    (tmp_path / "bin" / "braildesk").symlink_to(braildesk.find())
+    bare = {"PATH": "/usr/bin:/bin"}
+    words: list[str | Path] = [
+        sys.executable,
+        tmp_path / "bin" / "scribe",
+        "strike",
+        moon,
+        "2",
+    ]
+    done = subprocess.run(words, env=bare, capture_output=True, check=True)
+    assert done.stdout.startswith(b"Paragraph 2: struck now")
