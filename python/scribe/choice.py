@@ -2,11 +2,11 @@
 
 import argparse
 
-from scribe.declined import Declined
 from scribe.excerpt import excerpt
 from scribe.occurrences import Occurrence, occurrences
 from scribe.paragraph import quoted
 from scribe.parser import number
+from scribe.status import Stop
 
 
 def add_nth(parser: argparse.ArgumentParser, words: str) -> None:
@@ -22,11 +22,11 @@ def add_nth(parser: argparse.ArgumentParser, words: str) -> None:
 def chosen(
     text: str, sought: str, nth: int | None, paragraph: int, width: int
 ) -> Occurrence:
-    """The place in a print where words stand just once, or the nth; else `Declined`."""
+    """The place in a print where words stand just once, or the nth; else `Stop`."""
     found = occurrences(text, sought)
     where = f"in paragraph {paragraph}"
     if not found:
-        raise Declined(f"{quoted(sought)} stands nowhere {where}. Nothing was changed.")
+        raise Stop(f"{quoted(sought)} stands nowhere {where}. Nothing was changed.")
     if nth is None and len(found) == 1:
         return found[0]
     if nth is not None and nth <= len(found):
@@ -37,7 +37,7 @@ def chosen(
         f"{quoted(sought)} stands {times} {where}. {wanted}. Nothing was changed."
     )
     places = (place_line(text, place, n, width) for n, place in enumerate(found, 1))
-    raise Declined(sentence, *places)
+    raise Stop("\n".join([sentence, *places]))
 
 
 def place_line(text: str, place: Occurrence, nth: int, width: int) -> str:

@@ -6,9 +6,9 @@ from dataclasses import dataclass
 from braildesk import After, Paragraph, Table
 from braildesk.requests import Type
 
-from scribe.declined import Declined
 from scribe.manuscript import Passage
 from scribe.paragraph import quoted
+from scribe.status import Stop
 from scribe.stretches import no_paragraph
 
 
@@ -48,11 +48,11 @@ def parted_at(
         if passage.first_line >= line:
             return tuple(passages[:count]), tuple(passages[count:])
         if passage.last_line >= line:
-            raise Declined(
+            raise Stop(
                 f"Line {line} is within the paragraph of {passage.lines_in_words}. Say --from"
                 f" {passage.first_line} to begin with that paragraph. Nothing was typed."
             )
-    raise Declined(f"The text has no paragraph from line {line} on. Nothing was typed.")
+    raise Stop(f"The text has no paragraph from line {line} on. Nothing was typed.")
 
 
 def paragraph_before(book: Sequence[Paragraph], after: After) -> Paragraph | None:
@@ -61,7 +61,7 @@ def paragraph_before(book: Sequence[Paragraph], after: After) -> Paragraph | Non
         for paragraph in book:
             if paragraph.id == after:
                 return paragraph
-        raise Declined(f"{no_paragraph(after, len(book))} Nothing was typed.")
+        raise Stop(f"{no_paragraph(after, len(book))} Nothing was typed.")
     return book[-1] if book and after == "end" else None
 
 
@@ -71,17 +71,17 @@ def table_for(
     """The table of that name; else that of the paragraph before, else the book's only one."""
     named = {table.name: table for table in tables}
     if not named:
-        raise Declined(
+        raise Stop(
             "The book has no table, so nothing was typed. Put one into it by scribe table."
         )
     names = ", ".join(named)
     wanted = name or (before and before.table) or (len(named) == 1 and names)
     if not wanted:
-        raise Declined(
+        raise Stop(
             f"The book has the tables {names}. Say which by --table. Nothing was typed."
         )
     if wanted not in named:
-        raise Declined(
+        raise Stop(
             f"The book has no table {wanted}, it has {names}. Nothing was typed."
         )
     return named[wanted]
@@ -99,7 +99,7 @@ def check_goes_on(
         if stored is None
         else f"The paragraph before in the book is {quoted(stored)}."
     )
-    raise Declined(
+    raise Stop(
         f"The text can't go on from line {line}: before it comes the paragraph of"
         f" {last.lines_in_words}, {quoted(last.text)}. {found}{_hint(stored, before, rest)}"
         " Nothing was typed."

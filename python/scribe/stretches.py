@@ -7,7 +7,7 @@ from dataclasses import dataclass
 
 from braildesk import Paragraph
 
-from scribe.declined import Declined
+from scribe.status import Stop
 
 _STRETCH = re.compile(r"([0-9]{1,16})?(-)?([0-9]{1,16})?", re.ASCII)
 
@@ -20,15 +20,15 @@ class Stretch:
     last: int | None
 
     def of(self, book: Sequence[Paragraph]) -> Sequence[Paragraph]:
-        """The paragraphs of the stretch, or `Declined`."""
+        """The paragraphs of the stretch, or `Stop`."""
         places = {paragraph.id: place for place, paragraph in enumerate(book)}
         for end in (self.first, self.last):
             if end is not None and end not in places:
-                raise Declined(no_paragraph(end, len(book)))
+                raise Stop(no_paragraph(end, len(book)))
         start = 0 if self.first is None else places[self.first]
         stop = len(book) if self.last is None else places[self.last] + 1
         if start >= stop and book:
-            raise Declined(
+            raise Stop(
                 f"Paragraph {self.last} stands before paragraph {self.first} in the book:"
                 f" ask for {self.last}-{self.first}."
             )

@@ -8,12 +8,11 @@ from braildesk import Mark, Session
 from scribe.choice import add_nth, chosen
 from scribe.console import Console
 from scribe.correction import replaced, smallest_correction
-from scribe.declined import Declined
 from scribe.excerpt import excerpt
 from scribe.occurrences import Occurrence
 from scribe.paragraph import mark_line
 from scribe.parser import Subparsers, add_file, add_paragraph, command_parser
-from scribe.status import Status
+from scribe.status import Status, Stop
 from scribe.texts import text, words
 from scribe.width import add_width
 
@@ -70,7 +69,7 @@ def make_change(session: Session, arguments: Namespace) -> Change:
         before, replaced(before, went.start, went.stop, arguments.new)
     )
     if least is None:
-        raise Declined("The new words are the same as the old. Nothing was changed.")
+        raise Stop("The new words are the same as the old. Nothing was changed.")
     marks = session.marks(number)
     session.correct(
         number, least.start, least.count, least.text, by=arguments.by, expect=version

@@ -8,7 +8,6 @@ from pathlib import Path
 from braildesk import After, DeskError, Refused, Session, Table, limits, tables
 
 from scribe.console import Console
-from scribe.declined import Declined
 from scribe.intake import (
     Intake,
     check_goes_on,
@@ -20,7 +19,7 @@ from scribe.judgement import faults
 from scribe.manuscript import Passage, Unreadable, passages
 from scribe.parser import Subparsers, add_file, command_parser, number
 from scribe.readings import answers
-from scribe.status import Status
+from scribe.status import Status, Stop
 
 MORE = """\
 Blank lines part the paragraphs, and the lines between them are joined; with --lines each
@@ -111,13 +110,13 @@ def read(path: Path, by_lines: bool) -> tuple[Passage, ...]:
     try:
         found = passages(path.read_bytes(), by_lines)
     except OSError as cause:
-        raise Declined(
+        raise Stop(
             f"{path} can't be read: {cause.strerror}. Nothing was typed."
         ) from cause
     except Unreadable as cause:
-        raise Declined(f"{path} {cause.sentence}. Nothing was typed.") from cause
+        raise Stop(f"{path} {cause.sentence}. Nothing was typed.") from cause
     if not found:
-        raise Declined(f"{path} has no paragraph, so nothing was typed.")
+        raise Stop(f"{path} has no paragraph, so nothing was typed.")
     return found
 
 
@@ -135,7 +134,7 @@ def judge(path: Path, rest: Sequence[Passage], table: Table, there: int) -> None
             f" too many: a book has at most {limits.PARAGRAPHS:,}."
         )
     if sentences:
-        raise Declined(*sentences, "Nothing was typed.")
+        raise Stop("\n".join([*sentences, "Nothing was typed."]))
 
 
 class CutShort(Exception):

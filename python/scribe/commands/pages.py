@@ -4,16 +4,15 @@ from argparse import ArgumentParser, ArgumentTypeError, Namespace
 from collections.abc import Callable, Iterator, Sequence
 from itertools import groupby
 
-from braildesk import Failed, Session, export, limits
+from braildesk import Session, export, limits
 
 from scribe.console import Console
-from scribe.declined import Declined
 from scribe.excerpt import opening
 from scribe.layout import Row, Sheet
 from scribe.occurrences import Occurrence
 from scribe.parser import Subparsers, add_file, command_parser, number
 from scribe.places import words_of
-from scribe.status import Status
+from scribe.status import Status, Stop
 from scribe.visible import visible
 from scribe.volumes import Volume, parted, volume
 
@@ -54,9 +53,10 @@ def run(arguments: Namespace, console: Console) -> Status:
     for each in volumes:
         pages = export(arguments.file, each.number, sheet.width, sheet.lines)
         if pages != each.layout.brf():
-            raise Failed(
+            raise Stop(
                 f"The pages of volume {each.number} were laid out otherwise than export"
-                " writes them, so nothing is shown. The book is as it was."
+                " writes them, so nothing is shown. The book is as it was.",
+                Status.FAILED,
             )
     console.show(*lines)
     return Status.DONE
@@ -66,9 +66,9 @@ def laid_out(session: Session, wanted: int | None, sheet: Sheet) -> list[Volume]
     """The volume that is wanted, or all of them."""
     parts = dict(enumerate(parted(session.list()), 1))
     if not parts:
-        raise Declined("The book has no volume, since it has no paragraph to show.")
+        raise Stop("The book has no volume, since it has no paragraph to show.")
     if wanted is not None and wanted not in parts:
-        raise Declined(f"There is no volume {wanted}: the book has {len(parts)}.")
+        raise Stop(f"There is no volume {wanted}: the book has {len(parts)}.")
     numbers = parts if wanted is None else [wanted]
     return [volume(session, each, parts[each], sheet) for each in numbers]
 
@@ -120,7 +120,7 @@ def _detailed(
             lines.append(_title(each))
             lines += [_row_line(session, each, row) for row in rows]
     if not lines:
-        raise Declined(_not_there(volumes, what))
+        raise Stop(_not_there(volumes, what))
     return lines
 
 
