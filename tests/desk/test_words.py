@@ -189,3 +189,9 @@ def test_the_command_works_where_it_is_installed(moon: Path, tmp_path: Path) -> 
     ]
     done = subprocess.run(words, env=bare, capture_output=True, check=True)
     assert done.stdout.startswith(b"Paragraph 2: struck now")
+
+
+@pytest.mark.parametrize("name", ALL)
+def test_the_manual_page_has_each_command(name: str) -> None:
+    page = (ROOT / "docs" / "scribe.1").read_text()
+    assert f'"scribe {name} ' in page or f"\\fBscribe {name} " in page

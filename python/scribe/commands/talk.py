@@ -51,7 +51,7 @@ def run(arguments: Namespace, console: Console) -> Status:
         )
         count = len(session.list())
         conversation.show(
-            f"{arguments.file}: version {session.seen:,}, {count:,}"
+            f"{arguments.file.name}: version {session.seen:,}, {count:,}"
             f" {'paragraph' if count == 1 else 'paragraphs'}. Type help, or quit to end."
         )
         try:

@@ -1,0 +1,34 @@
+# Completes the words of scribe in bash: commands, options, and the names of files.
+# To have it, source this file, or put it as "scribe" into a folder of bash-completion.
+
+_scribe() {
+    local word=${COMP_WORDS[COMP_CWORD]} words=''
+    local commands='new run talk table import show find change mark marks undo resolve strike
+        restore heading body volume move retable pages export copy'
+    if ((COMP_CWORD == 1)); then
+        words="$commands --help"
+    elif [[ $word == -* ]]; then
+        case ${COMP_WORDS[1]} in
+            run) words='--keep-going' ;;
+            talk) words='--by --width' ;;
+            table) words='--width' ;;
+            import) words='--lines --table --after --dry-run --from' ;;
+            show) words='--paragraphs --print --braille --ascii --width' ;;
+            find) words='--braille --width' ;;
+            change) words='--nth --by --width' ;;
+            mark) words='--nth --width' ;;
+            undo | resolve | strike | restore | heading | body | volume | move | retable) words='--width' ;;
+            pages) words='--width --lines --page --paragraph' ;;
+            export) words='--width --lines' ;;
+        esac
+        words+=' --help'
+    elif ((COMP_CWORD == 4)); then
+        case ${COMP_WORDS[1]} in
+            volume) words='on off' ;;
+            move) words='front end' ;;
+        esac
+    fi
+    # where nothing is found here, the names of files are completed
+    mapfile -t COMPREPLY < <(compgen -W "$words" -- "$word")
+}
+complete -o default -F _scribe scribe

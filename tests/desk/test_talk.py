@@ -1,0 +1,367 @@
+"""scribe talk, by what a person sees at a terminal."""
+
+import os
+import re
+import signal
+import sys
+from collections.abc import Iterator
+from pathlib import Path
+
+import pexpect  # type: ignore[import]
+import pytest
+
+import braildesk
+from tool import Ran, environment, scribe
+
+#: Longer than what a terminal that collects lines gives to a program.
+PASTED_BYTES = 20_000
+
+
+class Talk:
+    """A person at a terminal at which scribe talks."""
+
+    def __init__(self, book: Path, *words: str, **more: str) -> None:
+        self._child = pexpect.spawn(
+            sys.executable,
+            ["-m", "scribe", "talk", str(book), *words],
+            env=environment(TERM="xterm-256color", INPUTRC="/dev/null", **more),
+            encoding="utf-8",
+            timeout=60,
+            dimensions=(24, 200),
+        )
+        self.greeting = self._answer("> ")
+
+    def type(self, line: str, prompt: str = "> ") -> list[str]:
+        """Types a line, and gives the lines that are written before the next prompt."""
+        self._child.send(line + "\r")
+        _, *answer = self._answer(prompt)
+        return answer
+
+    def keys(self, keys: str) -> None:
+        """Types keys without the one that ends the line."""
+        self._child.send(keys)
+
+    def wait_for(self, text: str) -> None:
+        """Waits until a text is written."""
+        self._child.expect_exact(text)
+
+    def end(self, line: str) -> Ran:
+        """Types the last line, and gives how scribe ended and what it wrote."""
+        self._child.send(line)
+        self._child.expect(pexpect.EOF)
+        self._child.close()
+        assert self._child.exitstatus is not None
+        return Ran(self._child.exitstatus, self._child.before, "")
+
+    def program(self) -> int:
+        """The process of the session that scribe talks to."""
+        children = Path(f"/proc/{self._child.pid}/task/{self._child.pid}/children")
+        return int(children.read_text().split()[0])
+
+    def close(self) -> None:
+        self._child.close(force=True)
+
+    def _answer(self, prompt: str) -> list[str]:
+        self._child.expect(rf"(?:^|\n){re.escape(prompt)}")
+        lines: list[str] = self._child.before.replace("\r", "").split("\n")
+        return lines
+
+
+@pytest.fixture
+def talk(moon: Path) -> Iterator[Talk]:
+    """A person who talks about the book of the examples, in lines of 40."""
+    talk = Talk(moon, "--width", "40")
+    yield talk
+    talk.close()
+
+
+def test_the_book_is_named_first(talk: Talk) -> None:
+    assert talk.greeting == [
+        "moon.braildesk: version 7, 3 paragraphs.",
+        "  Type help, or quit to end.",
+    ]
+
+
+def test_each_answer_begins_with_what_changed(talk: Talk) -> None:
+    assert talk.type("correct 1 12 3 not so far") == [
+        "Paragraph 1: …moon is [not so far] away.",
+        "Before: The moon is [far] away.",
+        "Correction 2 of paragraph 1. The book is",
+        "  at version 8.",
+    ]
+    assert talk.type("strike 2") == [
+        "Paragraph 2: struck now, in the volumes",
+        "  before.",
+        "The Tides",
+        "The book is at version 9.",
+    ]
+    assert talk.type("type 2 en The sea.") == [
+        "Paragraph 4, after paragraph 2: The sea.",
+        "The book is at version 10.",
+    ]
+
+
+def test_queries_are_answered_in_words(talk: Talk) -> None:
+    assert talk.type("print 1") == ["The moon is far away."]
+    assert talk.type("braille 2") == ["⠠⠞⠓⠑⠀⠠⠞⠊⠙⠑⠎"]
+    assert talk.type("where 1 4") == ["Cell 5, counted from 0."]
+    assert talk.type("whence 1 5") == ["Place 4, counted from 0."]
+    assert talk.type("marks 1") == ["Mark 1, open, on “moon”: spelled so?"]
+    assert talk.type("marks 2") == ["Paragraph 2 has no marks."]
+    assert talk.type("history 1") == ["1: “moon” for 3 characters from place 4", "  on"]
+    assert talk.type("history 2") == ["Nothing was corrected yet."]
+    assert talk.type("version") == ["The book is at version 7."]
+    assert talk.type("list") == [
+        "Paragraph 1, body, table en, 21",
+        "  characters",
+        "Paragraph 2, body, table en, 9",
+        "  characters",
+        "Paragraph 3, body, table en, 29",
+        "  characters",
+    ]
+
+
+def test_a_refusal_is_a_sentence_and_the_talk_goes_on(talk: Talk) -> None:
+    assert talk.type("undo 9") == [
+        "The book has no paragraph 9. Nothing was",
+        "changed. The list of the book shows",
+        "which numbers there are.",
+    ]
+    assert talk.type("correct 1") == [
+        "The request correct is written as:",
+        "correct PARA START COUNT TEXT. One blank",
+        "stands between fields, and none at the",
+        "end. Nothing was sent.",
+    ]
+    assert talk.type("stryke 1") == [
+        "There is no stryke. Did you mean strike?",
+        "help says what can be typed.",
+    ]
+    assert talk.type("version") == ["The book is at version 7."]
+
+
+def test_help_names_each_thing_that_can_be_typed(talk: Talk) -> None:
+    overview = " ".join(talk.type("help"))
+    for name in ("change-text", "all-marks", "correct-by", "whence", "quit"):
+        assert name in overview
+    assert talk.type("help undo") == [
+        "undo PARA: Takes back the newest",
+        "  correction of a paragraph that is in",
+        "  force.",
+        "For example: undo 1",
+        "@12 undo 1 does the same only where the",
+        "  book is at version 12.",
+    ]
+    assert talk.type("help change-text") == [
+        "change-text: Puts words in place of",
+        "  others.",
+        "Type its name, and answer what it asks.",
+    ]
+
+
+def test_words_are_changed_without_counting(moon: Path) -> None:
+    talk = Talk(moon, "--width", "40", "--by", "anna")
+    assert talk.type("change-text", ": ") == [
+        "Which paragraph? Type its number. An",
+        "  empty line gives up.",
+    ]
+    assert talk.type("3", ": ") == [
+        "Twice a day the sea comes up.",
+        "Which words go? Type them as they stand",
+        "  there. An empty line gives up.",
+    ]
+    assert talk.type("the ocean", ": ")[0] == "These words don't stand in paragraph 3."
+    assert talk.type("e", ": ") == [
+        "1: Twic[e] a day the sea comes up.",
+        "2: Twice a day th[e] sea comes up.",
+        "3: Twice a day the s[e]a comes up.",
+        "4: Twice a day the sea com[e]s up.",
+        "Which of these places? Type its number.",
+        "  An empty line gives up.",
+    ]
+    assert talk.type("5", ": ")[0] == "The places are 1 to 4."
+    assert talk.type("2", ": ") == [
+        "What comes in their place? An empty line",
+        "  gives up.",
+    ]
+    assert talk.type("at")[:2] == [
+        "Paragraph 3: Twice a day th[at] sea…",
+        "Before: Twice a day th[e] sea comes up.",
+    ]
+    assert talk.type("history 3") == [
+        "1: “at” for 1 character from place 14",
+        "  on, by anna",
+    ]
+    talk.close()
+
+
+def test_words_are_taken_out(talk: Talk) -> None:
+    talk.type("remove-text 1", ": ")
+    assert talk.type(" far")[0] == "Paragraph 1: The moon is[] away."
+
+
+def test_a_mark_is_put_on_words(talk: Talk) -> None:
+    talk.type("mark-text 2", ": ")
+    talk.type("Tides", ": ")
+    assert talk.type("a capital?") == ["Mark 2, open, on “Tides”: a capital?"]
+    assert talk.type("all-marks") == [
+        "Mark 1, open, paragraph 1, on “moon”:",
+        "  spelled so?",
+        "Mark 2, open, paragraph 2, on “Tides”: a",
+        "  capital?",
+        "The book has 2 open marks.",
+    ]
+
+
+def test_paragraphs_are_shown_and_words_found(talk: Talk) -> None:
+    assert talk.type("show 2") == [
+        "Paragraph 2, body",
+        "The Tides",
+        "⠠⠞⠓⠑⠀⠠⠞⠊⠙⠑⠎",
+    ]
+    assert talk.type("find-text sea") == [
+        "Paragraph 3, character 17: …the [sea]…",
+        "“sea” stands once in one paragraph.",
+    ]
+
+
+def test_an_empty_line_gives_up_what_was_asked_for(talk: Talk) -> None:
+    talk.type("change-text 1", ": ")
+    assert talk.type("") == ["Given up. Nothing was sent."]
+    assert talk.type("version") == ["The book is at version 7."]
+
+
+def test_a_table_is_put_into_the_book_from_a_file(talk: Talk, moon: Path) -> None:
+    talk.type("table-file", ": ")
+    talk.type("own", ": ")
+    assert talk.type(str(moon.with_name("plain.utb"))) == [
+        "Table own is in the book. No paragraph",
+        "  has it yet.",
+        "The book is at version 8.",
+    ]
+
+
+def test_the_lines_of_a_table_are_asked_for(talk: Talk) -> None:
+    assert talk.type("table own 2", "1 of 2: ") == [
+        "Now the 2 lines of the table own. Ctrl-C",
+        "  gives it up.",
+    ]
+    talk.type("space \\s 0", "2 of 2: ")
+    assert talk.type("letter a 19") == [
+        "Line 2 of the table own is refused: its",
+        "dots are none that the opcode takes. It",
+        "reads “letter a 19”. Nothing was",
+        "changed.",
+    ]
+
+
+def test_arrow_keys_never_get_into_a_note(talk: Talk) -> None:
+    talk.keys("mark 1 0 3 ac\x1b[D")
+    talk.keys("b")
+    talk.type("\x1b[C\x1b[C")
+    assert talk.type("marks 1")[-1] == "Mark 2, open, on “The”: abc"
+
+
+def test_the_line_before_comes_back(talk: Talk) -> None:
+    talk.type("version")
+    assert talk.type("\x1b[A") == ["The book is at version 7."]
+
+
+def test_a_control_character_is_refused(talk: Talk) -> None:
+    assert talk.type("mark 1 0 3 a\x16\x1bb") == [
+        "Character 13 of the line is U+001B",
+        "ESCAPE, a control character. Texts and",
+        "notes can't have one here. Nothing was",
+        "sent.",
+    ]
+
+
+def test_a_tab_is_a_character_of_a_note(talk: Talk, moon: Path) -> None:
+    talk.type("mark 1 0 3 a\tb")
+    talk.end("quit\r")
+    with braildesk.Session(moon) as session:
+        assert session.marks(1)[-1].note == "a\tb"
+
+
+def test_a_long_line_that_is_pasted_is_kept_whole(talk: Talk, moon: Path) -> None:
+    talk.keys("type end en " + "’" * 4_000 + "\r")
+    talk.wait_for("The book is at version 8.")
+    talk.end("quit\r")
+    with braildesk.Session(moon) as session:
+        assert session.print(4) == "’" * 4_000
+
+
+def test_no_line_of_a_paste_is_cut(talk: Talk) -> None:
+    line = "type end en " + "a" * (PASTED_BYTES - 12)
+    talk.keys(f"strike 1\r{line}\rstrike 2\r{line}\rversion\r")
+    talk.wait_for("The text has 19,988 characters, and may")
+    talk.wait_for("The text has 19,988 characters, and may")
+    talk.wait_for("The book is at version 9.")
+
+
+def test_ctrl_c_gives_up_the_line_and_not_the_talk(talk: Talk) -> None:
+    talk.keys("strike 1")
+    talk.wait_for("strike 1")
+    talk.keys("\x03")
+    talk.wait_for("Given up. Nothing was sent.\r\n> ")
+    assert talk.type("version") == ["The book is at version 7."]
+
+
+def test_the_end_of_the_input_ends_the_talk(talk: Talk, moon: Path) -> None:
+    ran = talk.end("\x04")
+    assert ran.status == 0
+    assert ran.shown.endswith("The book is at version 7.\r\n")
+
+
+def test_a_lost_session_says_what_was_kept_and_what_was_not(
+    talk: Talk, moon: Path
+) -> None:
+    talk.type("strike 1")
+    os.kill(talk.program(), signal.SIGKILL)
+    ran = talk.end("type end en All that I typed.\r")
+    said = " ".join(ran.shown.split())
+    assert ran.status == 3
+    assert "Not known to be kept: type end en All that I typed." in said
+    assert "The last command that was reported as kept is “strike”, by which" in said
+    assert "the book came to version 8." in said
+    assert braildesk.check(moon) == 8
+
+
+def test_no_line_is_over_the_width_and_nothing_moves_the_cursor(moon: Path) -> None:
+    text = "It rises in the east-north-east of all the places and skies " * 3
+    given = f"type end en {text}\nshow all\nhelp\nhelp mark\nlist\nundo 99\nbraille 4\n"
+    ran = scribe("talk", moon, "--width", "20", folder=moon.parent, given=given)
+    lines = (ran.shown + ran.said).splitlines()
+    assert max(map(len, lines)) <= 20 and len(lines) > 60
+    assert "\x1b" not in ran.shown + ran.said
+    assert "\r" not in ran.shown + ran.said
+
+
+def test_letters_of_all_languages_are_typed_in_any_locale(moon: Path) -> None:
+    talk = Talk(moon, LC_ALL="C")
+    talk.type("mark 1 0 3 Zdeňkův ⠍")
+    assert talk.type("\x1b[A")[0].endswith("on “The”: Zdeňkův ⠍")
+    talk.end("quit\r")
+    with braildesk.Session(moon) as session:
+        assert session.marks(1)[-1].note == "Zdeňkův ⠍"
+
+
+def test_the_terminal_is_left_as_it_was(moon: Path) -> None:
+    line = f"stty -g; '{sys.executable}' -m scribe talk '{moon}'; stty -g"
+    child = pexpect.spawn("sh", ["-c", line], env=environment(), encoding="utf-8")
+    child.expect_exact("> ")
+    before = child.before.split()[0]
+    child.send("quit\r")
+    child.expect(pexpect.EOF)
+    assert child.before.split()[-1] == before
+
+
+def test_a_talk_takes_lines_from_a_pipe_too(moon: Path) -> None:
+    given = "change-text 1\nfar\nnear\n"
+    ran = scribe("talk", moon, "--width", "60", folder=moon.parent, given=given)
+    assert ran.status == 0
+    assert ran.shown.splitlines()[-3:] == [
+        "Paragraph 1: The moon is [near] away.",
+        "Before: The moon is [far] away.",
+        "The book is at version 8.",
+    ]
