@@ -39,7 +39,14 @@ class BookFile:
     path: str
 
 
+@dataclass(frozen=True, slots=True)
+class NewBook:
+    """The file of a book that was to be made."""
+
+    path: str
+
+
 #: What names a file.
-AskedOfFile = Pages | TableFile | BookFile
+AskedOfFile = Pages | TableFile | BookFile | NewBook
 #: Anything that may be refused.
 Asked = Request[Any] | Line | AskedOfFile

@@ -5,7 +5,7 @@ import stat
 from os import PathLike, fsencode, fspath
 
 from braildesk import limits, locks
-from braildesk.asked import AskedOfFile, TableFile
+from braildesk.asked import AskedOfFile, NewBook, TableFile
 from braildesk.sentences import Why
 
 _MAGIC = b"SQLite format 3\0"
@@ -26,14 +26,19 @@ def why(asked: AskedOfFile) -> Why:
     """Why the file can't be opened."""
     try:
         return _why_not_regular(asked.path) or _why_regular(asked)
-    except FileNotFoundError:
-        return Why.MISSING
-    except NotADirectoryError:
-        return Why.MISSING
+    except (FileNotFoundError, NotADirectoryError):
+        return _why_not_made(asked.path) if isinstance(asked, NewBook) else Why.MISSING
     except PermissionError:
         return Why.DENIED
     except (OSError, ValueError):
         return Why.UNKNOWN
+
+
+def _why_not_made(path: str) -> Why:
+    folder = os.path.dirname(os.path.abspath(path))
+    if not os.path.isdir(folder):
+        return Why.NO_FOLDER
+    return Why.UNKNOWN if os.access(folder, os.W_OK | os.X_OK) else Why.DENIED
 
 
 def _why_not_regular(path: str) -> Why | None:

@@ -9,7 +9,7 @@ from os import PathLike, fspath
 from pathlib import Path
 
 from braildesk import limits, opening
-from braildesk.asked import AskedOfFile, BookFile, Line, Pages, TableFile
+from braildesk.asked import AskedOfFile, BookFile, Line, NewBook, Pages, TableFile
 from braildesk.refusals import (
     DeskError,
     Failed,
@@ -59,7 +59,7 @@ def new_book(path: StrPath, program: StrPath | None = None) -> None:
 
     A file with an empty book is taken as it is; one with another book is refused (99).
     """
-    asked = BookFile(fspath(path))
+    asked = NewBook(fspath(path))
     _run(program, ["new", "--", _word(asked)], asked)
 
 

@@ -13,6 +13,7 @@ class Why(StrEnum):
     """Why a file can't be opened (98)."""
 
     MISSING = "not there"
+    NO_FOLDER = "no folder"
     FOLDER = "a folder"
     DENIED = "not permitted"
     NO_DATABASE = "no database"
@@ -123,6 +124,8 @@ PARTS = MappingProxyType(
 UNOPENED = MappingProxyType(
     {
         Why.MISSING: "There is no file {path}. Check that the path is right.",
+        Why.NO_FOLDER: "There is no folder in which {path} could be made. Check that the path is"
+        " right.",
         Why.FOLDER: "{path} is a folder and no file. Give the path of a file in it.",
         Why.DENIED: "You aren't permitted to open {path}. Nothing was changed. Ask who owns it"
         " for leave to read and write it and to write in its folder.",

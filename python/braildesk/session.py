@@ -27,7 +27,7 @@ from braildesk.values import (
     Style,
     Typed,
 )
-from braildesk.wording import Refusal
+from braildesk.wording import Refusal, line_of
 
 #: How many requests are under way at most, and how many bytes of them wait to be written. More
 #: would be no faster, and where somebody stops in the middle, the more would be carried out.
@@ -238,7 +238,7 @@ class Session:
         if self._acknowledged is None:
             return "Nothing was changed by this session."
         return (
-            f"The last command that was reported as kept is “{self._acknowledged.name}”, by which"
+            f"The last command that was reported as kept is {line_of(self._acknowledged)}, by which"
             f" the book came to version {self._seen}. All up to it is in the book. Open the book"
             " again, and see whether what was sent after it is there too."
         )

@@ -3,10 +3,12 @@
 import re
 import unicodedata
 from dataclasses import dataclass
+from typing import Any
 
 from braildesk import limits, requests
-from braildesk.asked import Asked, BookFile, Line, Pages, TableFile
+from braildesk.asked import Asked, BookFile, Line, NewBook, Pages, TableFile
 from braildesk.characters import around, code_point, named, shortened, visible
+from braildesk.requests import Request
 from braildesk.sentences import CAUSES, LIMITS, PARTS, SENTENCES, UNOPENED, Why
 
 
@@ -42,6 +44,11 @@ def worded(refusal: Refusal) -> str:
     if not fields.nothing:
         sentence = sentence.replace(" {nothing}", "")
     return sentence.format_map(fields)
+
+
+def line_of(request: Request[Any]) -> str:
+    """The front of the line of a request, in quotation marks."""
+    return shortened(" ".join(request.head()))
 
 
 class _Fields:
@@ -99,6 +106,12 @@ class _Fields:
         return "of this name"
 
     @property
+    def command(self) -> str:
+        """The request that was sent."""
+        asked = self._asked
+        return line_of(asked) if isinstance(asked, requests.Request) else "This"
+
+    @property
     def mark(self) -> str:
         """The mark that was asked for."""
         return (
@@ -128,7 +141,9 @@ class _Fields:
     def path(self) -> str:
         """The path of a file."""
         match self._asked:
-            case Pages(path=path) | TableFile(path=path) | BookFile(path=path):
+            case Pages(path=path) | TableFile(path=path):
+                return shortened(path, len(path))
+            case BookFile(path=path) | NewBook(path=path):
                 return shortened(path, len(path))
         return "This file"
 
