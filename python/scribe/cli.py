@@ -1,7 +1,9 @@
 """The command line: its words are parsed, a command runs, and what went wrong is said once."""
 
+import os
 import sys
 from collections.abc import Sequence
+from contextlib import suppress
 
 from braildesk import DeskError, Failed, NoProgram
 
@@ -61,19 +63,20 @@ def run_words(words: Sequence[str], console: Console) -> Status:
 
 def main() -> int:
     """Runs the words of this process."""
-    console = Console.of_process()
     try:
+        console = Console.of_process()
         status = run_words(sys.argv[1:], console)
         console.flush()
         return status
     except OutputFailed as failed:
         if not failed.reader_left:
-            print(failed.sentence, file=console.errors, flush=True)
-        return Status.FAILED
+            _say_last(failed.sentence)
     except KeyboardInterrupt:
-        print(
-            "Stopped. What was shown as done is done.",
-            file=console.errors,
-            flush=True,
-        )
-        return Status.FAILED
+        _say_last("Stopped. What was shown as done is done.")
+    return Status.FAILED
+
+
+def _say_last(sentence: str) -> None:
+    """Says a sentence where standard error is there, and nothing else may be."""
+    with suppress(OSError):
+        os.write(2, f"{sentence}\n".encode())

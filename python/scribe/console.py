@@ -7,7 +7,16 @@ from collections.abc import Callable
 from dataclasses import dataclass
 from typing import BinaryIO, TextIO
 
+from braildesk import Failed
+
 PROGRESS_SECONDS = 2.0
+
+
+class NoInput(Failed):
+    """Standard input can't be read."""
+
+    def __init__(self, cause: OSError) -> None:
+        super().__init__(f"Standard input could not be read: {cause.strerror}.")
 
 
 class OutputFailed(Exception):
@@ -33,8 +42,19 @@ class Console:
 
     @classmethod
     def of_process(cls) -> "Console":
-        """The streams of this process."""
-        return cls(sys.stdin.buffer, _utf8_writer(1), _utf8_writer(2))
+        """The streams of this process; OutputFailed where its output is closed."""
+        source = open(os.devnull, "rb") if sys.stdin is None else sys.stdin.buffer
+        try:
+            return cls(source, _utf8_writer(1), _utf8_writer(2))
+        except OSError as cause:
+            raise OutputFailed(cause) from cause
+
+    def read_line(self) -> bytes:
+        """The next line of the input with its ending; nothing at the end."""
+        try:
+            return self.input.readline()
+        except OSError as cause:
+            raise NoInput(cause) from cause
 
     def show(self, *lines: str) -> None:
         """Writes lines that a person asked for."""

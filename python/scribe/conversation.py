@@ -2,7 +2,7 @@
 
 from argparse import ArgumentTypeError
 from collections.abc import Callable
-from dataclasses import dataclass
+from dataclasses import dataclass, field
 from typing import Any, TypeVar
 
 from braildesk import Refused, Session, limits
@@ -35,6 +35,8 @@ class Conversation:
     width: int
     #: The proofreader whose name corrections by text keep.
     by: str | None = None
+    #: The lines that were typed since the last prompt for a command.
+    typed: list[str] = field(default_factory=list)
 
     def show(self, *texts: str) -> None:
         """Shows what was asked for, in lines of the width."""
@@ -52,6 +54,7 @@ class Conversation:
         line = self.lines.line(prompt, is_kept)
         if line is None:
             raise Ended
+        self.typed.append(line.decode(errors="replace"))
         return line
 
     def ask(

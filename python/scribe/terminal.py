@@ -15,7 +15,10 @@ from collections.abc import Iterator
 from contextlib import AbstractContextManager, contextmanager, suppress
 from io import TextIOWrapper
 from types import FrameType, TracebackType
-from typing import BinaryIO, Protocol, Self
+from typing import Protocol, Self
+
+from scribe.console import Console
+from scribe.status import Status, Stop
 
 # where a terminal that collects lines cuts them, by n_tty(4)
 CUT_BYTES = 4_095
@@ -46,17 +49,19 @@ class Lines(Protocol):
 
 
 class PipedLines:
-    """Lines that come from no terminal, so that no prompt is shown."""
+    """Lines that come from no terminal, or while nothing is shown at one, so without a prompt."""
 
-    def __init__(self, source: BinaryIO) -> None:
-        self._source = source
-        self._is_cut = source.isatty()
+    def __init__(self, console: Console) -> None:
+        self._console = console
+        self._may_be_cut = console.input.isatty()
 
     def line(self, prompt: str, is_kept: bool = False) -> bytes | None:
         """The next line."""
-        line = self._source.readline()
-        if self._is_cut and len(line) >= CUT_BYTES:
-            raise GivenUp
+        line = self._console.read_line()
+        if self._may_be_cut and len(line) >= CUT_BYTES:
+            raise Stop(
+                f"The terminal may have cut this line after {CUT_BYTES:,} bytes. Nothing was sent."
+            )
         return line.removesuffix(b"\n") if line else None
 
 
@@ -66,17 +71,25 @@ class TypedLines(AbstractContextManager["TypedLines"]):
     def __init__(self) -> None:
         _read_utf8()
         # imported here, since it prepares the terminal and takes the locale of this moment
-        import readline
-
+        try:
+            import readline
+        except ImportError:
+            raise Stop(
+                f"{sys.executable}, by which scribe runs, lacks the module readline, without"
+                " which lines can't be typed. Run scribe by another Python.",
+                Status.FAILED,
+            ) from None
         self._readline = readline
         for setting in _SETTINGS:
             readline.parse_and_bind(setting)
         readline.set_auto_history(False)
         self._before = termios.tcgetattr(0)
-        self._handler = signal.getsignal(signal.SIGINT)
 
     def __enter__(self) -> Self:
-        signal.signal(signal.SIGINT, _nothing)
+        self._handlers = {
+            signal.SIGINT: signal.signal(signal.SIGINT, _nothing),
+            signal.SIGTERM: signal.signal(signal.SIGTERM, _leave),
+        }
         self._set(echoes=False)
         return self
 
@@ -87,7 +100,8 @@ class TypedLines(AbstractContextManager["TypedLines"]):
         trace: TracebackType | None,
     ) -> None:
         termios.tcsetattr(0, termios.TCSADRAIN, self._before)
-        signal.signal(signal.SIGINT, self._handler)
+        for number, handler in self._handlers.items():
+            signal.signal(number, handler)
 
     def line(self, prompt: str, is_kept: bool = False) -> bytes | None:
         """The next line, edited by readline."""
@@ -140,6 +154,11 @@ def _read_utf8() -> None:
         os.environ["LC_ALL"] = "C.UTF-8"
         with suppress(locale.Error):
             locale.setlocale(locale.LC_CTYPE, "C.UTF-8")
+
+
+def _leave(number: int, frame: FrameType | None) -> None:
+    """What ends scribe from outside: the terminal is left as it was."""
+    raise SystemExit(Status.FAILED)
 
 
 def _nothing(number: int, frame: FrameType | None) -> None:

@@ -321,7 +321,7 @@ def test_a_lost_session_says_what_was_kept_and_what_was_not(
     ran = talk.end("type end en All that I typed.\r")
     said = " ".join(ran.shown.split())
     assert ran.status == 3
-    assert "Not known to be kept: type end en All that I typed." in said
+    assert "may not be in the book: type end en All that I typed. The session" in said
     assert "The last command that was reported as kept is “strike”, by which" in said
     assert "the book came to version 8." in said
     assert braildesk.check(moon) == 8

@@ -154,7 +154,11 @@ def _ending(job: Job, volumes: int, version: int) -> list[str]:
             f"The book was changed while it was exported, from version {version:,} to"
             f" {now:,}. Export it again, so that all volumes are of one version."
         )
-    later = [str(path) for path in job.later_files(volumes)]
+    try:
+        later = [str(path) for path in job.later_files(volumes)]
+    except OSError as error:
+        later = []
+        sentences.append(f"The folder {job.folder} can't be listed: {error.strerror}.")
     if later:
         sentences.append(
             "Left from an earlier export, of volumes that the book has no more:"

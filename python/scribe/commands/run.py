@@ -2,7 +2,7 @@
 
 from argparse import ArgumentParser, Namespace
 from dataclasses import dataclass
-from typing import Any, BinaryIO
+from typing import Any
 
 from braildesk import Refused, Session, limits
 from braildesk.requests import Request
@@ -40,7 +40,7 @@ def add_parser(subparsers: Subparsers) -> ArgumentParser:
 
 def run(arguments: Namespace, console: Console) -> Status:
     """Answers requests up to the first refusal, or all of them."""
-    requests = RequestLines(console.input)
+    requests = RequestLines(console)
     status = Status.DONE
     with Session(arguments.file) as session:
         while (head := requests.next_head()) is not None:
@@ -58,7 +58,7 @@ def run(arguments: Namespace, console: Console) -> Status:
 class RequestLines:
     """The lines of requests, as the program cuts them."""
 
-    source: BinaryIO
+    console: Console
     number: int = 0
     head_number: int = 0
 
@@ -78,7 +78,7 @@ class RequestLines:
         return b"".join(lines), len(lines)
 
     def _next(self) -> bytes | None:
-        line = self.source.readline()
+        line = self.console.read_line()
         self.number += bool(line)
         return line or None
 

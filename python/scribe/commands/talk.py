@@ -1,6 +1,7 @@
 """`scribe talk`: a book at a prompt, in words."""
 
 import difflib
+import shutil
 from argparse import ArgumentParser, Namespace
 from contextlib import AbstractContextManager, nullcontext
 
@@ -16,7 +17,7 @@ from scribe.status import Status, Stop
 from scribe.terminal import GivenUp, Lines, PipedLines, TypedLines, are_typed
 from scribe.texts import words
 from scribe.visible import visible
-from scribe.width import add_width
+from scribe.width import width
 
 MORE = """\
 Requests of a book are typed as docs/FORMATS.md has them and answered in words. Other
@@ -25,6 +26,7 @@ all, quit ends. Each answer begins with what changed, and is kept when it is sho
 Ctrl-C gives up the line that is typed."""
 EXAMPLE = "echo 'print 1' | scribe talk moon.braildesk"
 PROMPT = "> "
+USUAL_WIDTH = 80
 
 
 def add_parser(subparsers: Subparsers) -> ArgumentParser:
@@ -39,7 +41,14 @@ def add_parser(subparsers: Subparsers) -> ArgumentParser:
         type=words,
         help="the proofreader whose name change-text keeps",
     )
-    add_width(parser)
+    parser.add_argument(
+        "--width",
+        metavar="N",
+        type=width,
+        default=min(USUAL_WIDTH, shutil.get_terminal_size().columns),
+        help=f"no line over N columns; {USUAL_WIDTH}, or the terminal's width where that is"
+        " less, where it isn't given",
+    )
     return parser
 
 
@@ -64,15 +73,14 @@ def run(arguments: Namespace, console: Console) -> Status:
 
 
 def _lines(console: Console) -> AbstractContextManager[Lines]:
-    return (
-        TypedLines() if are_typed() else nullcontext[Lines](PipedLines(console.input))
-    )
+    return TypedLines() if are_typed() else nullcontext[Lines](PipedLines(console))
 
 
 def _talk(conversation: Conversation) -> None:
     """Answers line after line."""
     while True:
         try:
+            conversation.typed.clear()
             line = conversation.next_line(PROMPT, is_kept=True)
             if line.strip() == b"quit":
                 return
@@ -84,9 +92,8 @@ def _talk(conversation: Conversation) -> None:
         except Ended:
             return
         except Lost:
-            conversation.say(
-                f"Not known to be kept: {visible(line.decode(errors='replace'))}"
-            )
+            conversation.say("What was typed last may not be in the book:")
+            conversation.say(*map(visible, conversation.typed))
             raise
 
 
