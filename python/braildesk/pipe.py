@@ -52,6 +52,7 @@ class Pipe:
         self._chunk = memoryview(b"")
         self._writable = True
         self._torn = False
+        self._is_closing = False
 
     @property
     def pid(self) -> int:
@@ -108,7 +109,8 @@ class Pipe:
         signal: what it acknowledged is in its file, and no request is written to it twice.
         """
         if self._torn:
-            self._process.kill()
+            self.kill()
+        self._is_closing = True
         self._stop_writing()
         while self._open:
             self._receive()
@@ -119,8 +121,9 @@ class Pipe:
         return Ending(status, self._error_bytes.decode(errors="replace"))
 
     def kill(self) -> None:
-        """Ends the program by a signal."""
+        """Ends the program by a signal, and reads no more of it."""
         self._process.kill()
+        self._open.clear()
 
     def _fill(self) -> bool:
         """Whether there is a chunk to write, which is made of whole requests."""
@@ -157,10 +160,10 @@ class Pipe:
         if not data:
             self._poll.unregister(stream)
             self._open.remove(stream)
-        elif stream == self._output:
-            self._reader.feed(data)
-        else:
+        elif stream == self._errors:
             self._error_bytes += data
+        elif not self._is_closing:
+            self._reader.feed(data)
         self._torn = False
 
     def _stop_writing(self) -> None:

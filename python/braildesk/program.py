@@ -110,6 +110,11 @@ def session_words(path: StrPath, program: StrPath | None = None) -> list[str]:
     return [find(program), "session", "--", _word(BookFile(fspath(path)))]
 
 
+def cannot_run(program: str, error: OSError) -> NoProgram:
+    """Why a file that was found can't be run."""
+    return NoProgram(f"The program “{program}” can't be run: {error.strerror}.")
+
+
 def unopened(status: int, errors: str, asked: AskedOfFile) -> DeskError:
     """Why the program ended with a status other than 0."""
     if status == 2 and (found := _CODE.search(errors)):
@@ -136,7 +141,11 @@ def _failure(status: int, errors: str) -> str:
 def _run(
     program: StrPath | None, words: list[str], asked: AskedOfFile, sent: bytes = b""
 ) -> bytes:
-    done = subprocess.run([find(program), *words], input=sent, capture_output=True)
+    found = find(program)
+    try:
+        done = subprocess.run([found, *words], input=sent, capture_output=True)
+    except OSError as error:
+        raise cannot_run(found, error) from error
     if done.returncode:
         raise unopened(done.returncode, done.stderr.decode(errors="replace"), asked)
     return done.stdout

@@ -13,7 +13,7 @@ from braildesk.answers import answer
 from braildesk.asked import BookFile
 from braildesk.pipe import Ending, Pipe
 from braildesk.program import StrPath
-from braildesk.refusals import Lost, Refused, SessionEnded, refused, refused_as
+from braildesk.refusals import Failed, Lost, Refused, SessionEnded, refused, refused_as
 from braildesk.replies import Reply, Unreadable
 from braildesk.requests import Answer, Request, Unwritable
 from braildesk.values import (
@@ -46,7 +46,7 @@ class Session:
 
     def __init__(self, path: StrPath, program: StrPath | None = None) -> None:
         self._book = BookFile(fspath(path))
-        self._pipe = Pipe(programs.session_words(path, program))
+        self._pipe = _started(programs.session_words(path, program))
         #: The requests of ``each`` whose answers weren't taken yet, in order.
         self._sent: deque[Request[Any] | Refused] = deque()
         self._is_streaming = False
@@ -136,9 +136,13 @@ class Session:
         """Waits for the first reply, which comes where the book was opened."""
         version = requests.Version()
         self._pipe.send(version.encoded())
-        reply = self._pipe.reply()
+        try:
+            reply = self._pipe.reply()
+        except Unreadable as error:
+            self._pipe.kill()
+            self._pipe.close()
+            raise Failed(str(error)) from None
         if reply is None:
-            self._is_closed = True
             ending = self._pipe.close()
             raise programs.unopened(ending.status, ending.errors, self._book)
         self._seen = answer(version, reply)
@@ -362,6 +366,14 @@ class Session:
     def version(self) -> int:
         """The version of the book."""
         return self.ask(requests.Version())
+
+
+def _started(words: list[str]) -> Pipe:
+    """The pipes to the program that these words start."""
+    try:
+        return Pipe(words)
+    except OSError as error:
+        raise programs.cannot_run(words[0], error) from error
 
 
 def _encoded(request: Request[Any]) -> bytes:
