@@ -168,8 +168,8 @@ def test_a_book_in_a_folder_that_is_not_there_is_refused(tmp_path: Path) -> None
     assert scribe("new", "none/moon.braildesk", folder=tmp_path) == Ran(
         2,
         "",
-        "none/moon.braildesk could not be made, since its folder"
-        f" {tmp_path / 'none'} isn't there.\n",
+        "There is no folder in which “none/moon.braildesk” could be made. Check that the path"
+        " is right.\n",
     )
 
 

@@ -320,7 +320,7 @@ def test_a_lost_session_says_what_was_kept_and_what_was_not(
     said = " ".join(ran.shown.split())
     assert ran.status == 3
     assert "may not be in the book: type end en All that I typed. The session" in said
-    assert "The last command that was reported as kept is “strike”, by which" in said
+    assert "The last command that was reported as kept is “strike 1”, by which" in said
     assert "the book came to version 8." in said
     assert braildesk.check(moon) == 8
 

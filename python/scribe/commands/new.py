@@ -1,14 +1,13 @@
 """`scribe new`: a new book with a table in it."""
 
 from argparse import ArgumentParser, Namespace
-from pathlib import Path
 
-from braildesk import CannotOpen, Session, Why, new_book, requests
+from braildesk import Session, new_book, requests
 
 from scribe.console import Console
 from scribe.parser import Subparsers, add_file, command_parser
 from scribe.shelf import table_file
-from scribe.status import Status, Stop
+from scribe.status import Status
 from scribe.tables import SUPPLIED, table_request
 
 EVERYDAY = "ueb"
@@ -33,7 +32,7 @@ def add_parser(subparsers: Subparsers) -> ArgumentParser:
 def run(arguments: Namespace, console: Console) -> Status:
     """Makes a book, and puts a table into it."""
     request = first_table()
-    _make(arguments.file)
+    new_book(arguments.file)
     with Session(arguments.file) as session:
         session.ask(request)
     console.show(f"{arguments.file} is a new book with the table {request.table}.")
@@ -44,16 +43,3 @@ def first_table() -> requests.Table | requests.Supply:
     """The table that a new book has."""
     name = EVERYDAY if table_file(EVERYDAY) else SUPPLIED
     return table_request(name, None)
-
-
-def _make(path: Path) -> None:
-    try:
-        new_book(path)
-    except CannotOpen as refused:
-        if refused.why is not Why.MISSING:
-            raise
-        folder = path.absolute().parent
-        reason = "can't be written in" if folder.is_dir() else "isn't there"
-        raise Stop(
-            f"{path} could not be made, since its folder {folder} {reason}."
-        ) from refused
