@@ -3,7 +3,7 @@
 from collections.abc import Callable
 from typing import Any, TypeVar
 
-from braildesk import Mark, Paragraph, Refused, Session, Style, requests
+from braildesk import Mark, NoMemory, Paragraph, Refused, Session, Style, requests
 from braildesk.requests import Command, Request
 from braildesk.values import After, Corrected, Done, Marked, Typed
 
@@ -21,6 +21,17 @@ _BLANKS = (" ", "\t", EMPTY_CELL)
 
 def carried_out(session: Session, command: Command[Any], width: int) -> list[str]:
     """Sends a command, and says what it changed; Refused where it is refused."""
+    before = session.seen
+    try:
+        return _carried_out(session, command, width)
+    except NoMemory:
+        if session.seen == before:
+            raise
+        kept = "It is done, and there was no memory to show what it changed."
+        return [kept, at_version(session.seen)]
+
+
+def _carried_out(session: Session, command: Command[Any], width: int) -> list[str]:
     match command:
         case requests.Type():
             return _typed(session, command, width)
@@ -157,11 +168,11 @@ def _flagged(
     flag: Callable[[Paragraph], str],
     width: int,
 ) -> list[str]:
-    before = _paragraph(_before(session, requests.List()) or (), command.paragraph)
+    before = session.list()
     done: Done = session.ask(command)
-    now = _paragraph(session.list(), command.paragraph)
-    assert before is not None and now is not None  # the command was accepted
-    was, is_now = flag(before), flag(now)
+    was, is_now = (
+        flag(_paragraph(book, command.paragraph)) for book in (before, session.list())
+    )
     change = f"{is_now}, as before" if was == is_now else f"{is_now} now, {was} before"
     return [
         f"Paragraph {command.paragraph}: {change}.",
@@ -172,10 +183,10 @@ def _flagged(
 
 def _retabled(session: Session, command: requests.Retable, width: int) -> list[str]:
     number = command.paragraph
-    before = _paragraph(_before(session, requests.List()) or (), number)
-    cells = _before(session, requests.Braille(number))
+    book = session.list()
+    cells = _before(session, requests.Braille(number)) or ""
     done: Done = session.ask(command)
-    assert before is not None and cells is not None  # the command was accepted
+    before = _paragraph(book, number)
     braille = session.braille(number)
     lines = difference(
         cells, braille, width, "Its braille", "Its braille is as before."
@@ -189,7 +200,7 @@ def _retabled(session: Session, command: requests.Retable, width: int) -> list[s
 
 def _moved(session: Session, command: requests.Move, width: int) -> list[str]:
     number = command.paragraph
-    before = _before(session, requests.List()) or ()
+    before = session.list()
     done: Done = session.ask(command)
     was, is_now = _position(before, number), _position(session.list(), number)
     change = f"{is_now}, as before" if was == is_now else f"{is_now} now, {was} before"
@@ -220,8 +231,9 @@ def _its_words(session: Session, number: int, width: int) -> list[str]:
     return [opening(visible(text), width)] if text else []
 
 
-def _paragraph(book: tuple[Paragraph, ...], number: int) -> Paragraph | None:
-    return next((each for each in book if each.id == number), None)
+def _paragraph(book: tuple[Paragraph, ...], number: int) -> Paragraph:
+    """The paragraph of a number that is in the book."""
+    return next(each for each in book if each.id == number)
 
 
 def _position(book: tuple[Paragraph, ...], number: int) -> str:

@@ -6,6 +6,8 @@ from collections.abc import Sequence
 from pathlib import Path
 from typing import Any, NoReturn
 
+from braildesk import After
+
 # The object on which a command calls add_parser.
 Subparsers = Any
 
@@ -88,6 +90,20 @@ def number(word: str) -> int:
     if not (word.isascii() and word.isdigit() and len(word) <= 16):
         raise argparse.ArgumentTypeError(f"{word!r} is not a number")
     return int(word)
+
+
+def after(word: str) -> After:
+    """Where a paragraph is put: front, end, or the number of the one before it."""
+    if word == "front":
+        return "front"
+    if word == "end":
+        return "end"
+    try:
+        return number(word)
+    except argparse.ArgumentTypeError:
+        raise argparse.ArgumentTypeError(
+            f"{word!r} is none of front, end and the number of a paragraph"
+        ) from None
 
 
 def unknown_command(word: str, names: Sequence[str]) -> str:

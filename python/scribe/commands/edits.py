@@ -8,11 +8,17 @@ from typing import Any
 
 from braildesk import Session, Style, requests
 from braildesk.requests import Command
-from braildesk.values import After
 
 from scribe.changes import carried_out
 from scribe.console import Console
-from scribe.parser import Subparsers, add_file, add_paragraph, command_parser, number
+from scribe.parser import (
+    Subparsers,
+    add_file,
+    add_paragraph,
+    command_parser,
+    after,
+    number,
+)
 from scribe.status import Status
 from scribe.texts import words
 from scribe.width import add_width
@@ -45,20 +51,6 @@ class Edit:
             lines = carried_out(session, self.request(arguments), arguments.width)
         console.show(*lines)
         return Status.DONE
-
-
-def after(word: str) -> After:
-    """Where a paragraph is put: front, end, or the number of the one before it."""
-    if word == "front":
-        return "front"
-    if word == "end":
-        return "end"
-    try:
-        return number(word)
-    except argparse.ArgumentTypeError:
-        raise argparse.ArgumentTypeError(
-            f"{word!r} is none of front, end and the number of a paragraph"
-        ) from None
 
 
 def switch(word: str) -> bool:

@@ -16,8 +16,8 @@ from scribe.visible import control_refused
 
 MORE = """\
 The requests are those of `braildesk session`; docs/FORMATS.md lists them. A reply
-that is shown is kept. Control characters in texts and notes are refused, and what
-is shown has them, and format characters, written out, as in <U+001B>."""
+that is shown is kept. A request with a control character in a text or a note isn't
+sent, and what is shown has them, and format characters, written out: <U+001B>."""
 
 
 def add_parser(subparsers: Subparsers) -> ArgumentParser:
