@@ -15,9 +15,9 @@ MOON = b"""\
 \r
 \r
 \r
-                    #A\r
+                      #A\r
 \x0c"""
-SIZES = ["--width", "22", "--lines", "5"]
+SIZES = ["--width", "24", "--lines", "5"]
 
 
 def files(folder: Path) -> list[str]:
@@ -28,8 +28,8 @@ def test_all_volumes_are_written_and_described(moon: Path) -> None:
     scribe("volume", moon, "2", "on", folder=moon.parent)
     assert scribe("export", moon, "out", *SIZES, folder=moon.parent) == Ran(
         0,
-        "out/moon-1.brf: volume 1, 1 page, 21 cells with dots.\n"
-        "out/moon-2.brf: volume 2, 1 page, 37 cells with dots.\n",
+        "out/moon-1.brf: volume 1, 1 page, 20 cells with dots.\n"
+        "out/moon-2.brf: volume 2, 1 page, 36 cells with dots.\n",
         "",
     )
     assert files(moon.parent / "out") == ["moon-1.brf", "moon-2.brf"]
@@ -47,7 +47,7 @@ def test_a_volume_that_is_refused_leaves_the_older_file(moon: Path) -> None:
     ran = scribe("export", moon, "out", *SIZES, folder=moon.parent)
     assert ran == Ran(
         2,
-        "out/moon-2.brf: volume 2, 1 page, 37 cells with dots.\n",
+        "out/moon-2.brf: volume 2, 1 page, 36 cells with dots.\n",
         "Volume 1: Cell 1 of paragraph 4 has dot 7 or 8, which pages for embossers can't"
         " have. Nothing was exported. Correct the table of that paragraph."
         " out/moon-1.brf is as it was.\n",

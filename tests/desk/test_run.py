@@ -86,21 +86,57 @@ def test_lines_of_all_forms_are_read_as_the_program_reads_them(moon: Path) -> No
     assert wanted.count("ok ") > 50 and wanted.count("no 1\n") > 100
 
 
+#: The fields of each request, by a letter for each: a number, a place for a paragraph, a table,
+#: a style, a switch, a text.
+FIELDS = {
+    "supply": "t",
+    "type": "atx",
+    "correct": "nnnx",
+    "correct-by": "xnnnx",
+    "undo": "n",
+    "mark": "nnnx",
+    "resolve": "n",
+    "strike": "n",
+    "restore": "n",
+    "style": "ny",
+    "volume": "nw",
+    "retable": "nt",
+    "move": "na",
+    "print": "n",
+    "braille": "n",
+    "history": "n",
+    "marks": "n",
+    "where": "nn",
+    "whence": "nn",
+    "list": "",
+    "version": "",
+}
+WORDS = {
+    "n": ["1", "2", "3", "0001", "0", "12345678901234567"],
+    "a": ["front", "end", "1", "2"],
+    "t": ["en", "plain", "en", "En"],
+    "y": ["body", "heading", "Body"],
+    "w": ["on", "off", "On"],
+    "x": ["so", "moon", "a  b", ""],
+}
+
+
 def any_lines(chance: random.Random, count: int) -> list[str]:
     """Lines that are requests, and lines that are nearly requests."""
-    names = (
-        "supply type correct correct-by undo mark resolve strike restore style volume"
-        " retable move print braille history marks where whence list version"
-    ).split()
-    words = "1 2 3 4 0 01 9 front end en plain on off body heading x".split()
+    every = [word for words in WORDS.values() for word in words]
     lines = []
     for _ in range(count):
-        fields = [chance.choice(names)]
-        fields += chance.choices(words, k=chance.randrange(5))
-        if chance.random() < 0.1:
-            fields.insert(0, chance.choice(["@7", "@8", "@", "@x"]))
-        if chance.random() < 0.1:
-            fields.insert(chance.randrange(len(fields) + 1), "")
+        name = chance.choice(list(FIELDS))
+        fields = [name, *(chance.choice(WORDS[kind]) for kind in FIELDS[name])]
+        match chance.randrange(12):
+            case 0:
+                fields.insert(0, chance.choice(["@7", "@8", "@", "@x"]))
+            case 1:
+                fields[chance.randrange(len(fields))] = chance.choice(every)
+            case 2:
+                fields.insert(chance.randrange(len(fields) + 1), chance.choice(every))
+            case 3:
+                fields.pop()
         lines.append(" ".join(fields))
     return lines
 
