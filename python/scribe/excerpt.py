@@ -12,9 +12,9 @@ _BLANKS = (" ", "\t", EMPTY_CELL)
 def excerpt(text: str, start: int, stop: int, width: int) -> str:
     """A line of a text: the words from one place to another in brackets, and words around them.
 
-    Where words are left out stands an ellipsis.
+    Where words are left out stands an ellipsis, also within the brackets where they are too long.
     """
-    words = f"[{visible(text[start:stop])}]"
+    words = f"[{_both_ends(visible(text[start:stop]), width - 2)}]"
     room = width - columns(words)
     before, after = visible(text[:start]), visible(text[stop:])
     front = ending(before, max(room // 2, room - columns(after)))
@@ -29,6 +29,14 @@ def opening(text: str, width: int) -> str:
 def ending(text: str, width: int) -> str:
     """The last words of a text, in a line of a width."""
     return "".join(reversed(_fitting(sequences(text)[::-1], width)))
+
+
+def _both_ends(text: str, width: int) -> str:
+    """The first and the last words of a text, in a line of a width."""
+    if columns(text) <= width:
+        return text
+    front = opening(text, width // 2)
+    return front + ending(text, width - columns(front)).removeprefix(_CUT)
 
 
 def _fitting(pieces: list[str], width: int) -> list[str]:

@@ -5,6 +5,7 @@ from dataclasses import dataclass
 
 from braildesk import Mark, Session
 
+from scribe.changes import at_version
 from scribe.choice import add_nth, chosen
 from scribe.console import Console
 from scribe.correction import replaced, smallest_correction
@@ -52,6 +53,7 @@ def run(arguments: Namespace, console: Console) -> Status:
 class Change:
     """A print as it is and as it was, the words that came and went, and the marks it touched."""
 
+    version: int
     now: str
     before: str
     came: Occurrence
@@ -80,7 +82,12 @@ def make_change(session: Session, arguments: Namespace) -> Change:
     fresh = {mark.id for mark in marks if not mark.touched}
     touched = (mark for mark in session.marks(number) if mark.touched)
     return Change(
-        now, before, came, went, tuple(mark for mark in touched if mark.id in fresh)
+        session.seen,
+        now,
+        before,
+        came,
+        went,
+        tuple(mark for mark in touched if mark.id in fresh),
     )
 
 
@@ -92,4 +99,4 @@ def change_lines(change: Change, number: int, width: int) -> list[str]:
         change.before, change.went.start, change.went.stop, width - len(former)
     )
     marks = (mark_line(mark, change.now) for mark in change.touched)
-    return [head + now, former + before, *marks]
+    return [head + now, former + before, *marks, at_version(change.version)]

@@ -4,6 +4,7 @@ from argparse import ArgumentParser, Namespace
 
 from braildesk import Mark, Session
 
+from scribe.changes import at_version
 from scribe.choice import add_nth, chosen
 from scribe.console import Console
 from scribe.excerpt import excerpt
@@ -51,6 +52,7 @@ def run(arguments: Namespace, console: Console) -> Status:
     console.show(
         mark_line(mark, print_text),
         head + excerpt(print_text, mark.start, mark.stop, width - len(head)),
+        at_version(made.version),
     )
     if place != Occurrence(mark.start, mark.stop):
         console.say(wider(mark, place, print_text))
