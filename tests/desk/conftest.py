@@ -7,7 +7,8 @@ from pathlib import Path
 import pytest
 
 import braildesk
-from braildesk import Session
+from braildesk import Session, Typed
+from braildesk.requests import Type
 
 SAMPLE = Path(__file__).resolve().parents[2] / "sample"
 
@@ -72,3 +73,18 @@ def moon(moon_once: Path, tmp_path: Path) -> Path:
     """A copy of that book, at version 7, in a folder with the files of the sample."""
     shutil.copytree(SAMPLE, tmp_path, dirs_exist_ok=True)
     return Path(shutil.copyfile(moon_once, tmp_path / "moon.braildesk"))
+
+
+@pytest.fixture(scope="session")
+def big_book(tmp_path_factory: pytest.TempPathFactory) -> Path:
+    """A book of 20,000 paragraphs, of which each names its number, and which no test changes."""
+    path = tmp_path_factory.mktemp("big") / "big.braildesk"
+    braildesk.new_book(path)
+    with Session(path) as session:
+        session.supply("en")
+        typed = session.each(
+            Type("end", "en", f"Paragraph number {number} of the moon.")
+            for number in range(1, 20_001)
+        )
+        assert all(isinstance(answer, Typed) for answer in typed)
+    return path

@@ -13,6 +13,7 @@ EXCERPTS = [
     (TEXT, 0, 2, 16, "[On] 20 July…"),
     (TEXT, 37, 41, 20, "…on the [moon]."),
     (TEXT, 20, 23, 5, "[men]"),
+    (TEXT, 3, 41, 24, "… [20 July…on the moon]."),
     ("", 0, 0, 10, "[]"),
     ("abcdefghijklmn", 6, 7, 9, "…ef[g]hi…"),
     ("月の海は広い", 2, 3, 12, "月の[海]は…"),
@@ -41,4 +42,5 @@ def test_a_text_that_does_not_fit_is_cut_at_a_blank() -> None:
 def test_no_excerpt_is_wider_than_it_may_be(width: int) -> None:
     text = "月の海は q\u0307q\u0307 moonlight sonata"
     assert columns(opening(text, width)) <= width
+    assert columns(excerpt(text, 2, 15, width + 4)) <= width + 4
     assert columns(ending(text, width)) <= width

@@ -1,0 +1,149 @@
+"""`scribe change`: words put in place of others, by the smallest correction."""
+
+from pathlib import Path
+
+import pytest
+from tool import Ran, scribe
+
+from braildesk import Entry, Kind, Session
+
+
+def change(book: Path, *words: str) -> Ran:
+    return scribe("change", book, *words, folder=book.parent)
+
+
+@pytest.fixture
+def moon(book: Path) -> Path:
+    with Session(book) as session:
+        session.type("end", "en", "Two men stood on the mooon, on the mooon.")
+        session.type("end", "en", "The sea")
+        session.strike(2)
+    return book
+
+
+def history(book: Path, paragraph: int = 1) -> tuple[Entry, ...]:
+    with Session(book) as session:
+        return session.history(paragraph)
+
+
+def test_the_line_is_shown_as_it_is_now_and_as_it_was(moon: Path) -> None:
+    assert change(moon, "1", "men", "women") == Ran(
+        0,
+        "Paragraph 1: Two [women] stood on the mooon, on the mooon.\n"
+        "Before: Two [men] stood on the mooon, on the mooon.\n"
+        "The book is at version 5.\n",
+        "",
+    )
+    assert history(moon) == (Entry(1, Kind.CORRECT, 4, 0, "wo", None, None),)
+
+
+def test_a_correction_keeps_the_name_of_its_proofreader(moon: Path) -> None:
+    assert change(moon, "1", "Two", "Three", "--by", "anna").status == 0
+    assert history(moon) == (Entry(1, Kind.CORRECT, 1, 2, "hree", "anna", None),)
+
+
+def test_words_that_stand_more_often_are_refused_with_their_places(moon: Path) -> None:
+    assert change(moon, "1", "mooon", "moon") == Ran(
+        2,
+        "",
+        "“mooon” stands 2 times in paragraph 1. Say which by --nth. Nothing was changed.\n"
+        "--nth 1, character 22: Two men stood on the [mooon], on the mooon.\n"
+        "--nth 2, character 36: Two men stood on the mooon, on the [mooon].\n",
+    )
+    assert history(moon) == ()
+
+
+def test_the_nth_of_them_is_replaced(moon: Path) -> None:
+    assert change(moon, "1", "mooon", "moon", "--nth", "2").shown == (
+        "Paragraph 1: Two men stood on the mooon, on the [moon].\n"
+        "Before: Two men stood on the mooon, on the [mooon].\n"
+        "The book is at version 5.\n"
+    )
+
+
+def test_a_place_that_is_not_there_is_refused(moon: Path) -> None:
+    ran = change(moon, "1", "men", "women", "--nth", "2")
+    assert ran == Ran(
+        2,
+        "",
+        "“men” stands once in paragraph 1. There is no place 2. Nothing was changed.\n"
+        "--nth 1, character 5: Two [men] stood on the mooon, on the mooon.\n",
+    )
+    assert change(moon, "1", "men", "women", "--nth", "0").status == 1
+
+
+def test_words_that_stand_nowhere_are_refused(moon: Path) -> None:
+    assert change(moon, "1", "sun", "moon") == Ran(
+        2, "", "“sun” stands nowhere in paragraph 1. Nothing was changed.\n"
+    )
+
+
+def test_words_are_taken_out(moon: Path) -> None:
+    assert change(moon, "1", ", on the mooon", "").shown == (
+        "Paragraph 1: Two men stood on the mooon[].\n"
+        "Before: Two men stood on the mooon[, on the mooon].\n"
+        "The book is at version 5.\n"
+    )
+
+
+def test_the_same_words_change_nothing(moon: Path) -> None:
+    assert change(moon, "1", "men", "men") == Ran(
+        2, "", "The new words are the same as the old. Nothing was changed.\n"
+    )
+
+
+def test_only_marks_whose_own_characters_change_are_touched(moon: Path) -> None:
+    with Session(moon) as session:
+        men = session.where(1, 4)
+        session.mark(1, men, 3, "who?")
+        session.mark(1, session.where(1, 8), 5, "stood so?")
+    # the m and the n of men stay, and what stands in the middle of its mark changes
+    assert change(moon, "1", "men stood", "man stood").shown == (
+        "Paragraph 1: Two [man stood] on the mooon, on the mooon.\n"
+        "Before: Two [men stood] on the mooon, on the mooon.\n"
+        "Mark 1, open, touched, on “man”: who?\n"
+        "The book is at version 7.\n"
+    )
+    with Session(moon) as session:
+        assert [mark.touched for mark in session.marks(1)] == [True, False]
+
+
+def test_what_the_book_refuses_is_said_and_changes_nothing(moon: Path) -> None:
+    ran = change(moon, "1", "men", "mě")
+    assert (ran.status, ran.shown) == (2, "")
+    assert "“ě” (U+011B LATIN SMALL LETTER E WITH CARON)" in ran.said
+    assert change(moon, "2", "sea", "tide").status == 2
+    assert change(moon, "9", "sea", "tide").status == 2
+    assert history(moon) == ()
+
+
+def test_words_are_compared_and_put_in_normal_form_c(empty_book: Path) -> None:
+    table = "letter c 14\nletter a 1\nletter f 124\nletter e 15\nletter é 123456\n"
+    with Session(empty_book) as session:
+        session.table("own", table.encode() + b"letter \\x0301 5\n")
+        session.type("end", "own", "cafe\u0301")
+    assert change(empty_book, "1", "e\u0301", "e").shown == (
+        "Paragraph 1: caf[e]\nBefore: caf[é]\nThe book is at version 3.\n"
+    )
+    assert change(empty_book, "1", "fe", "fe\u0301").status == 0
+    with Session(empty_book) as session:
+        assert session.print(1) == "café"
+
+
+@pytest.mark.parametrize("words", [("men\x1b", "x"), ("men", "x\x07"), ("", "x")])
+def test_words_with_control_characters_and_empty_ones_are_refused(
+    moon: Path, words: tuple[str, str]
+) -> None:
+    ran = change(moon, "1", *words)
+    assert (ran.status, ran.shown) == (1, "")
+    assert history(moon) == ()
+
+
+def test_a_long_line_is_shown_around_what_changed(book: Path) -> None:
+    with Session(book) as session:
+        session.type("end", "en", "the sea " * 200 + "moon " + "the sea " * 200)
+    assert change(book, "1", "moon", "sun", "--width", "50").shown == (
+        "Paragraph 1: …sea the sea [sun] the sea the sea…\n"
+        "Before: …the sea the sea [moon] the sea the sea…\n"
+        "The book is at version 3.\n"
+    )

@@ -1,0 +1,378 @@
+"""`scribe import`: the paragraphs of a text file, typed into a book."""
+
+import re
+import resource
+import subprocess
+import sys
+import time
+from pathlib import Path
+
+import pytest
+from tool import Ran, scribe
+
+import braildesk
+from braildesk import Session
+from scribe.commands.import_text import CutShort, type_all
+from scribe.intake import Intake
+from scribe.manuscript import passages
+from scribe.status import Status
+
+TEXT = "The moon\nis far away.\n\nTides\n\n\tTwice a day.\n"
+
+
+def put(book: Path, text: str | bytes, *words: str, name: str = "text.txt") -> Ran:
+    """Imports a text that is written beside the book."""
+    data = text.encode() if isinstance(text, str) else text
+    (book.parent / name).write_bytes(data)
+    return scribe("import", book, name, *words, folder=book.parent)
+
+
+def prints(book: Path) -> list[str]:
+    with Session(book) as session:
+        return [session.print(paragraph.id) for paragraph in session.list()]
+
+
+def version(book: Path) -> int:
+    return braildesk.check(book)
+
+
+def test_paragraphs_are_typed_at_the_end_of_the_book(book: Path) -> None:
+    with Session(book) as session:
+        session.type("end", "en", "Moon book")
+    assert put(book, TEXT) == Ran(
+        0, "3 paragraphs typed, numbers 2 to 4, by the table en.\n", ""
+    )
+    assert prints(book) == [
+        "Moon book",
+        "The moon is far away.",
+        "Tides",
+        "Twice a day.",
+    ]
+
+
+def test_each_line_is_typed_by_lines(book: Path) -> None:
+    assert put(book, TEXT, "--lines").shown == (
+        "4 paragraphs typed, numbers 1 to 4, by the table en.\n"
+    )
+    assert prints(book) == ["The moon", "is far away.", "Tides", "Twice a day."]
+
+
+def test_a_mark_at_the_front_and_ends_of_other_systems_are_no_text(book: Path) -> None:
+    assert put(book, "\ufeffThe moon\r\nis far.\r\n\r\nTides\r\n").status == 0
+    assert prints(book) == ["The moon is far.", "Tides"]
+
+
+def test_a_dry_run_types_nothing(book: Path) -> None:
+    assert put(book, TEXT, "--dry-run") == Ran(
+        0, "3 paragraphs would be typed, by the table en.\n", ""
+    )
+    assert version(book) == 1
+
+
+def test_all_that_would_be_refused_is_reported_before_anything_is_typed(
+    book: Path,
+) -> None:
+    text = (
+        "The sea…\n\n  Zdeněk is far… ě\na\x0bb\n\n" + "x" * 4001 + "\n\n" + "y" * 4000
+    )
+    assert put(book, text) == Ran(
+        2,
+        "",
+        "text.txt, line 1, column 8: “…” (U+2026 HORIZONTAL ELLIPSIS) has no cells by"
+        " the table en. It stands in the text 2 times.\n"
+        "text.txt, line 3, column 7: “ě” (U+011B LATIN SMALL LETTER E WITH CARON) has no"
+        " cells by the table en. It stands in the text 2 times.\n"
+        "text.txt, line 4, column 2: U+000B LINE TABULATION is a control character. It"
+        " stands in the text once.\n"
+        "text.txt, line 6, column 4001: The paragraph of line 6 has 4,001 characters, and"
+        " a paragraph has at most 4,000. This is the first beyond.\n"
+        "Nothing was typed.\n",
+    )
+    assert version(book) == 1
+
+
+def test_columns_count_characters_of_the_file(empty_book: Path) -> None:
+    table = "space \\s 0\nletter ש 146\nletter é 123456\nletter 月 134\n"
+    with Session(empty_book) as session:
+        session.table("own", table.encode())
+    ran = put(empty_book, "שש e\u0301e\u0301 月?\n月q\u0307 ש")
+    assert [line[:46] for line in ran.said.split("\n")[:3]] == [
+        "text.txt, line 1, column 10: “?” (U+003F QUEST",
+        "text.txt, line 2, column 2: “q” (U+0071 LATIN ",
+        "text.txt, line 2, column 2: U+0307 COMBINING D",
+    ]
+
+
+def test_a_print_has_4_000_characters_once_it_is_in_normal_form_c(
+    empty_book: Path,
+) -> None:
+    with Session(empty_book) as session:
+        session.table("own", "letter é 123456\n".encode())
+    assert put(empty_book, "e\u0301" * 4000).status == 0
+    with Session(empty_book) as session:
+        assert session.list()[0].length == 4000
+
+
+def test_a_book_that_would_be_too_large_is_refused(big_book: Path) -> None:
+    assert put(big_book, "The moon\n\nThe sea") == Ran(
+        2,
+        "",
+        "The book has 20,000 paragraphs and the text 2. That is 2 too many: a book has at"
+        " most 20,000.\n"
+        "Nothing was typed.\n",
+    )
+
+
+UNREADABLE = [
+    (
+        "one\ncaf\xe9".encode("latin-1"),
+        "text.txt isn't UTF-8: line 2, column 4 has the",
+    ),
+    ("one".encode("utf-16"), "text.txt is UTF-16. Save it as UTF-8"),
+    (b"\n \n\f\n", "text.txt has no paragraph, so nothing was typed."),
+]
+
+
+@pytest.mark.parametrize("data, sentence", UNREADABLE)
+def test_a_file_that_is_no_text_is_refused(
+    book: Path, data: bytes, sentence: str
+) -> None:
+    ran = put(book, data)
+    assert (ran.status, ran.shown) == (2, "")
+    assert ran.said.startswith(sentence)
+    assert version(book) == 1
+
+
+def test_a_file_that_is_not_there_is_refused(book: Path) -> None:
+    assert scribe("import", book, "none.txt", folder=book.parent) == Ran(
+        2, "", "none.txt can't be read: No such file or directory. Nothing was typed.\n"
+    )
+
+
+@pytest.fixture
+def tables(book: Path) -> Path:
+    """A book with two tables, of which its last paragraph has the second."""
+    with Session(book) as session:
+        session.supply("second")
+        session.type("end", "en", "First")
+        session.type("end", "second", "Last")
+    return book
+
+
+@pytest.mark.parametrize(
+    "words, table, order",
+    [
+        ([], "second", "1 2 3"),
+        (["--after", "end"], "second", "1 2 3"),
+        (["--after", "1"], "en", "1 3 2"),
+        (["--table", "en"], "en", "1 2 3"),
+        (["--table", "en", "--after", "front"], "en", "3 1 2"),
+    ],
+)
+def test_the_table_is_that_of_the_paragraph_before(
+    tables: Path, words: list[str], table: str, order: str
+) -> None:
+    assert put(tables, "Next", *words) == Ran(
+        0, f"1 paragraph typed, number 3, by the table {table}.\n", ""
+    )
+    with Session(tables) as session:
+        assert " ".join(str(each.id) for each in session.list()) == order
+
+
+@pytest.mark.parametrize(
+    "words, sentence",
+    [
+        (
+            ["--after", "front"],
+            "The book has the tables en, second. Say which by --table.",
+        ),
+        (["--table", "own"], "The book has no table own, it has en, second."),
+        (
+            ["--after", "7"],
+            "There is no paragraph 7: the book has the paragraphs 1 to 2.",
+        ),
+    ],
+)
+def test_a_text_without_a_table_or_a_place_is_refused(
+    tables: Path, words: list[str], sentence: str
+) -> None:
+    assert put(tables, "Next", *words) == Ran(2, "", f"{sentence} Nothing was typed.\n")
+
+
+def test_a_book_without_tables_is_refused(empty_book: Path) -> None:
+    assert put(empty_book, "Next") == Ran(
+        2,
+        "",
+        "The book has no table, so nothing was typed. Put one into it by scribe table.\n",
+    )
+
+
+def test_the_paragraphs_follow_one_another_wherever_they_go(book: Path) -> None:
+    put(book, "one\n\nfour")
+    assert put(book, "two\n\nthree", "--after", "1").status == 0
+    assert put(book, "a\n\nb\n\nc", "--after", "front").status == 0
+    assert prints(book) == ["a", "b", "c", "one", "two", "three", "four"]
+
+
+def test_from_goes_on_at_a_line(book: Path) -> None:
+    put(book, "The moon\nis far away.\n")
+    assert put(book, TEXT, "--from", "4").shown == (
+        "2 paragraphs typed, numbers 2 to 3, by the table en.\n"
+    )
+    assert prints(book) == ["The moon is far away.", "Tides", "Twice a day."]
+
+
+def test_from_a_blank_line_goes_on_at_the_next_paragraph(book: Path) -> None:
+    put(book, "The moon\nis far away.\n")
+    assert put(book, TEXT, "--from", "3").shown.startswith("2 paragraphs typed")
+
+
+def test_from_is_refused_where_the_paragraph_before_differs(book: Path) -> None:
+    put(book, "The moon\nis far away.\n")
+    assert put(book, TEXT, "--from", "6") == Ran(
+        2,
+        "",
+        "The text can't go on from line 6: before it comes the paragraph of line 4,"
+        " “Tides”. The paragraph before in the book is “The moon is far away.”. That is"
+        " lines 1 to 2: say --from 4. Nothing was typed.\n",
+    )
+    put(book, TEXT, "--from", "4")
+    ran = put(book, TEXT, "--from", "4")
+    assert ran.said.endswith(
+        "That is line 6, the last of the text: all of it seems to be there. Nothing was"
+        " typed.\n"
+    )
+    assert version(book) == 4
+
+
+def test_from_looks_at_the_paragraph_after_which_the_text_goes(book: Path) -> None:
+    put(book, "The moon is far away.\n\nThe end")
+    assert put(book, TEXT, "--from", "4").status == 2
+    assert put(book, TEXT, "--from", "4", "--after", "front").status == 2
+    assert put(book, TEXT, "--from", "4", "--after", "1").status == 0
+    assert prints(book) == ["The moon is far away.", "Tides", "Twice a day.", "The end"]
+
+
+def test_from_within_a_paragraph_or_past_the_last_is_refused(book: Path) -> None:
+    assert put(book, TEXT, "--from", "2").said == (
+        "Line 2 is within the paragraph of lines 1 to 2. Say --from 1 to begin with that"
+        " paragraph. Nothing was typed.\n"
+    )
+    assert put(book, TEXT, "--from", "7").said == (
+        "The text has no paragraph from line 7 on. Nothing was typed.\n"
+    )
+
+
+def test_a_file_that_can_not_grow_leaves_what_is_said_and_from_goes_on(
+    book: Path,
+) -> None:
+    lines = [f"Line number {number} of the moon." for number in range(1, 61)]
+    (book.parent / "text.txt").write_text("\n\n".join(lines))
+
+    def limit() -> None:
+        resource.setrlimit(resource.RLIMIT_FSIZE, (400_000, 400_000))
+
+    ran = scribe("import", book, "text.txt", folder=book.parent, before=limit)
+    assert (ran.status, ran.shown) == (3, "")
+    found = re.search(
+        r"^text\.txt is in the book up to line (\d+), which is the end of paragraph"
+        r" (\d+) of the book\.\nWhen nothing stands in the way any more, go on by: scribe"
+        rf" import {re.escape(str(book))} text\.txt --from (\d+)\n$",
+        ran.said,
+        re.MULTILINE,
+    )
+    assert found is not None
+    last, paragraph, following = map(int, found.groups())
+    assert 1 <= paragraph < 60
+    assert (last, following) == (2 * paragraph - 1, 2 * paragraph + 1)
+    assert prints(book) == lines[:paragraph]
+    words = ("import", book, "text.txt", "--from", str(following))
+    assert scribe(*words, folder=book.parent).status == 0
+    assert prints(book) == lines
+
+
+# A program between scribe and braildesk, which ends one of them once it has passed on five paragraphs.
+ENDING = """#!{python}
+import os, signal, subprocess, sys
+program, words = os.environ["PROGRAM"], sys.argv[1:]
+if words[0] != "session":
+    os.execv(program, [program, *words])
+session = subprocess.Popen([program, *words], stdin=subprocess.PIPE, bufsize=0)
+typed = 0
+for line in sys.stdin.buffer:
+    try:
+        session.stdin.write(line)
+    except BrokenPipeError:
+        break
+    typed += b" type " in line
+    if typed == 5:
+        typed += 1
+        os.kill({process}, signal.{signal})
+session.stdin.close()
+status = session.wait()
+if status < 0:
+    os.kill(os.getpid(), -status)
+sys.exit(status)
+"""
+
+
+@pytest.mark.parametrize(
+    "process, signal, sentence",
+    [
+        ("os.getppid()", "SIGINT", "Stopped.\n"),
+        ("session.pid", "SIGKILL", "The session was ended"),
+    ],
+)
+def test_an_import_that_is_cut_short_says_what_is_in_the_book(
+    book: Path, program: str, process: str, signal: str, sentence: str
+) -> None:
+    between = book.parent / "between"
+    between.write_text(
+        ENDING.format(python=sys.executable, process=process, signal=signal)
+    )
+    between.chmod(0o755)
+    lines = [f"Line number {number} of the moon." for number in range(1, 2001)]
+    (book.parent / "text.txt").write_text("\n".join(lines))
+    put(book, "front\n\nend", name="other.txt")
+    ran = scribe(
+        *("import", book, "text.txt", "--lines", "--after", "1"),
+        folder=book.parent,
+        BRAILDESK=str(between),
+        PROGRAM=program,
+    )
+    assert (ran.status, ran.shown) == (3, "")
+    assert ran.said.startswith(sentence)
+    found = re.search(r"--lines --after (\d+) --from (\d+)\n$", ran.said)
+    assert found is not None
+    paragraph, following = map(int, found.groups())
+    assert paragraph == following + 1  # two were there before
+    assert prints(book) == ["front", *lines[: following - 1], "end"]
+    more = ("--lines", "--after", str(paragraph), "--from", str(following))
+    assert scribe("import", book, "text.txt", *more, folder=book.parent).status == 0
+    assert prints(book) == ["front", *lines, "end"]
+
+
+def test_nothing_is_typed_into_a_book_that_was_changed_meanwhile(book: Path) -> None:
+    table = braildesk.tables(book)[0]
+    found = passages(TEXT.encode(), by_lines=False)
+    with pytest.raises(CutShort) as cut:
+        type_all(book, Intake(0, 0, found, "end", table), lambda done: None)
+    assert (cut.value.done, cut.value.status) == (0, Status.REFUSED)
+    assert version(book) == 1
+
+
+def test_10_000_paragraphs_take_no_more_than_twice_what_a_pipe_takes(
+    book: Path, empty_book: Path, program: str
+) -> None:
+    lines = [f"Paragraph {n} of the moon, which is far away." for n in range(10_000)]
+    requests = "supply en\n" + "".join(f"type end en {line}\n" for line in lines)
+    began = time.monotonic()
+    words = [program, "session", str(empty_book)]
+    piped = subprocess.run(words, input=requests.encode(), capture_output=True)
+    taken = time.monotonic() - began
+    assert piped.stdout.endswith(b"ok 10001 10000\n")
+    (book.parent / "text.txt").write_text("\n".join(lines))
+    began = time.monotonic()
+    ran = scribe("import", book, "text.txt", "--lines", folder=book.parent)
+    assert ran.shown.startswith("10,000 paragraphs typed")
+    assert time.monotonic() - began <= 2 * taken

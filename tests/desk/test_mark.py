@@ -1,0 +1,165 @@
+"""`scribe mark` and `scribe marks`: marks on words, and all marks of a book."""
+
+from pathlib import Path
+
+import pytest
+from tool import Ran, scribe
+
+from braildesk import Mark, Session
+
+CONTRACTIONS = b"""space \\s 0
+letter s 234
+letter a 1
+letter n 1345
+letter d 145
+letter t 2345
+letter h 125
+letter e 15
+always and 12346
+always the 2346
+always nd 56-145
+"""
+
+
+def mark(book: Path, *words: str) -> Ran:
+    return scribe("mark", book, *words, folder=book.parent)
+
+
+def marks(book: Path) -> Ran:
+    return scribe("marks", book, folder=book.parent)
+
+
+def marks_of(book: Path, paragraph: int = 1) -> tuple[Mark, ...]:
+    with Session(book) as session:
+        return session.marks(paragraph)
+
+
+@pytest.fixture
+def moon(book: Path) -> Path:
+    with Session(book) as session:
+        session.type("end", "en", "On 20 July 1969 two men stood there.")
+        session.type("front", "en", "Two moons")
+    return book
+
+
+def test_a_mark_stands_on_its_words_and_nothing_beside_them(moon: Path) -> None:
+    assert mark(moon, "1", "men", "who were they?") == Ran(
+        0,
+        "Mark 1, open, on “men”: who were they?\n"
+        "Paragraph 1: On 20 July 1969 two [men] stood there.\n"
+        "The book is at version 4.\n",
+        "",
+    )
+    assert marks_of(moon) == (Mark(1, 20, 23, False, False, "who were they?"),)
+
+
+def test_the_signs_before_a_number_and_a_capital_belong_to_their_characters(
+    moon: Path,
+) -> None:
+    mark(moon, "1", "20 J", "")
+    mark(moon, "1", "969", "")
+    assert [(each.start, each.stop) for each in marks_of(moon)] == [(3, 7), (12, 15)]
+
+
+def test_the_nth_place_is_marked(moon: Path) -> None:
+    ran = mark(moon, "1", "st", "x")
+    assert ran.status == 0  # it stands just once
+    assert mark(moon, "1", "o", "x") == Ran(
+        2,
+        "",
+        "“o” stands 3 times in paragraph 1. Say which by --nth. Nothing was changed.\n"
+        "--nth 1, character 19: On 20 July 1969 tw[o] men stood there.\n"
+        "--nth 2, character 27: On 20 July 1969 two men st[o]od there.\n"
+        "--nth 3, character 28: On 20 July 1969 two men sto[o]d there.\n",
+    )
+    assert mark(moon, "1", "o", "x", "--nth", "2").status == 0
+    assert marks_of(moon)[1] == Mark(2, 26, 27, False, False, "x")
+
+
+@pytest.fixture
+def sand(empty_book: Path) -> Path:
+    """Print that contractions make into cells together."""
+    with Session(empty_book) as session:
+        session.table("own", CONTRACTIONS)
+        session.type("end", "own", "the sand ends")
+    return empty_book
+
+
+@pytest.mark.parametrize(
+    "words, nth, marked",
+    [
+        ("san", "1", "sand"),
+        ("an", "1", "and"),
+        ("d e", "1", "and e"),
+        ("he s", "1", "the s"),
+        ("e", "1", "the"),
+        ("d", "2", "nd"),
+        ("n", "2", "nd"),
+    ],
+)
+def test_a_mark_on_a_part_of_a_contraction_is_wider_which_is_said(
+    sand: Path, words: str, nth: str, marked: str
+) -> None:
+    ran = mark(sand, "1", words, "so?", "--nth", nth)
+    assert ran.status == 0
+    assert ran.shown.startswith(f"Mark 1, open, on “{marked}”: so?\n")
+    assert ran.said == (
+        f"The cells of “{words}” stand for print beside it too: the mark is on"
+        f" “{marked}”.\n"
+    )
+
+
+@pytest.mark.parametrize("words", ["the", "sand", " ", "s", "the sand ends"])
+def test_a_mark_on_whole_contractions_is_no_wider(sand: Path, words: str) -> None:
+    ran = mark(sand, "1", words, "so?", "--nth", "1")
+    assert ran.said == ""
+    assert ran.shown.startswith(f"Mark 1, open, on “{words}”: so?\n")
+
+
+def test_what_cannot_be_marked_is_refused(moon: Path) -> None:
+    assert mark(moon, "1", "sun", "x") == Ran(
+        2, "", "“sun” stands nowhere in paragraph 1. Nothing was changed.\n"
+    )
+    assert mark(moon, "1", "", "x").status == 1
+    assert mark(moon, "1", "men", "a\x1b[A").status == 1
+    assert mark(moon, "9", "men", "x").status == 2
+    assert mark(moon, "1", "men", "x" * 501).status == 2
+    assert marks_of(moon) == ()
+
+
+def test_all_marks_are_shown_open_ones_first_in_the_order_of_the_book(
+    moon: Path,
+) -> None:
+    mark(moon, "1", "there", "where?")
+    mark(moon, "1", "20 July", "the year?")
+    mark(moon, "2", "moons", "one moon")
+    mark(moon, "1", "men", "who?")
+    mark(moon, "1", "two", "")
+    with Session(moon) as session:
+        session.resolve(2)
+        session.correct(1, 20, 3, "women")
+    assert marks(moon) == Ran(
+        0,
+        "Mark 3, open, paragraph 2, on “moons”: one moon\n"
+        "Mark 5, open, paragraph 1, on “two”.\n"
+        "Mark 4, open, touched, paragraph 1, on “women”: who?\n"
+        "Mark 1, open, paragraph 1, on “there”: where?\n"
+        "Mark 2, resolved, paragraph 1, on “20 July”: the year?\n",
+        "The book has 4 open and 1 resolved marks.\n",
+    )
+
+
+def test_a_book_without_marks_is_said_to_have_none(moon: Path) -> None:
+    assert marks(moon) == Ran(0, "", "The book has no marks.\n")
+
+
+def test_control_characters_of_a_note_are_made_visible(moon: Path) -> None:
+    with Session(moon) as session:
+        session.mark(1, 1, 2, "a\x1b[2Jb\u202e")
+    assert marks(moon).shown == (
+        "Mark 1, open, paragraph 1, on “On”: a<U+001B>[2Jb<U+202E>\n"
+    )
+
+
+def test_marks_of_20_000_paragraphs_are_found(big_book: Path) -> None:
+    assert marks(big_book).said == "The book has no marks.\n"

@@ -1,0 +1,197 @@
+"""`scribe pages`: which paragraph stands on which page and line, and what stands on a page."""
+
+import stat
+from pathlib import Path
+
+import pytest
+from hypothesis import HealthCheck, given, settings
+from hypothesis import strategies as st
+from tool import Ran, scribe
+
+import braildesk
+from braildesk import Session, new_book
+from scribe.layout import Sheet
+from scribe.volumes import parted, volume
+
+SIZE = ("--width", "24", "--lines", "8")
+
+
+def pages(book: Path, *words: str, **more: str) -> Ran:
+    return scribe("pages", book, *words, folder=book.parent, **more)
+
+
+@pytest.fixture
+def moon(book: Path) -> Path:
+    """The book of the tutorial, with a struck paragraph and one without words."""
+    with Session(book) as session:
+        session.type("end", "en", "On 20 July 1969 two men stood on the moon.")
+        session.type("front", "en", "The Moon")
+        session.style(2, "heading")
+        session.type("end", "en", "Not for the embosser.")
+        session.strike(3)
+        session.type("end", "en", "The Tides")
+        session.style(4, "heading")
+        session.volume(4, True)
+        session.type("end", "en", "Twice a day the sea comes up, and twice it goes.")
+        session.type("end", "en", " ")
+    return book
+
+
+def test_each_paragraph_is_shown_with_its_page_and_lines(moon: Path) -> None:
+    # the pages stand in docs/TUTORIAL.md
+    assert pages(moon, *SIZE) == Ran(
+        0,
+        "Volume 1: 1 page of 8 lines of 24 cells.\n"
+        "Page 1, line 1, paragraph 2: The Moon\n"
+        "Page 1, lines 2 to 4, paragraph 1: On 20 July 1969 two men stood on the…\n"
+        "Volume 2: 1 page of 8 lines of 24 cells.\n"
+        "Page 1, line 1, paragraph 4: The Tides\n"
+        "Page 1, lines 2 to 4, paragraph 5: Twice a day the sea comes up, and twice…\n"
+        "No line, paragraph 6:\n",
+        "",
+    )
+
+
+def test_one_volume_is_shown_alone(moon: Path) -> None:
+    assert pages(moon, "2", *SIZE).shown.split("\n")[:2] == [
+        "Volume 2: 1 page of 8 lines of 24 cells.",
+        "Page 1, line 1, paragraph 4: The Tides",
+    ]
+
+
+def test_a_page_is_shown_line_by_line_with_its_print(moon: Path) -> None:
+    assert pages(moon, "1", "--page", "1", *SIZE).shown == (
+        "Volume 1: 1 page of 8 lines of 24 cells.\n"
+        "Page 1, line 1, paragraph 2, character 1: The Moon\n"
+        "Page 1, line 2, paragraph 1, character 1: On 20 July 1969\n"
+        "Page 1, line 3, paragraph 1, character 17: two men stood on the\n"
+        "Page 1, line 4, paragraph 1, character 38: moon.\n"
+    )
+
+
+def test_a_paragraph_is_shown_line_by_line_over_its_pages(moon: Path) -> None:
+    ran = pages(moon, "--paragraph", "5", "--width", "12", "--lines", "5")
+    # ,THE / ,TIDES and then ,TWICE A / DAY THE SEA / COMES UP1 / AND TWICE IT / GOES4
+    assert ran.shown == (
+        "Volume 2: 2 pages of 5 lines of 12 cells.\n"
+        "Page 1, line 3, paragraph 5, character 1: Twice a\n"
+        "Page 1, line 4, paragraph 5, character 9: day the sea\n"
+        "Page 2, line 1, paragraph 5, character 21: comes up,\n"
+        "Page 2, line 2, paragraph 5, character 31: and twice it\n"
+        "Page 2, line 3, paragraph 5, character 44: goes.\n"
+    )
+
+
+def test_a_paragraph_on_two_pages_is_shown_from_one_to_the_other(moon: Path) -> None:
+    lines = pages(moon, "1", "--width", "12", "--lines", "5").shown.split("\n")
+    assert lines[0] == "Volume 1: 2 pages of 5 lines of 12 cells."
+    # ,THE / ,MOON and then ,ON #BJ / ,JULY #AIFI / TWO MEN / STOOD ON THE / MOON4
+    assert lines[1] == "Page 1, lines 1 to 2, paragraph 2: The Moon"
+    assert lines[2].startswith("Page 1 line 3 to page 2 line 3, paragraph 1: On 20")
+
+
+@pytest.mark.parametrize(
+    "words, sentence",
+    [
+        (("3",), "There is no volume 3: the book has 2."),
+        (("1", "--page", "2"), "Volume 1 has no page 2."),
+        (("--paragraph", "3"), "No volume has paragraph 3."),
+        (("2", "--paragraph", "6"), "Volume 2 has no paragraph 6."),
+    ],
+)
+def test_what_is_not_there_is_refused(
+    moon: Path, words: tuple[str, ...], sentence: str
+) -> None:
+    assert pages(moon, *words) == Ran(2, "", sentence + "\n")
+
+
+def test_a_book_of_struck_paragraphs_has_no_volume(book: Path) -> None:
+    assert pages(book).status == 2
+    with Session(book) as session:
+        session.type("end", "en", "Moon")
+        session.strike(1)
+    assert pages(book) == Ran(
+        2, "", "The book has no volume, since it has no paragraph to show.\n"
+    )
+
+
+@pytest.mark.parametrize("words", [("--width", "9"), ("--lines", "41"), ("x",)])
+def test_sizes_that_no_page_has_are_refused(book: Path, words: tuple[str]) -> None:
+    assert pages(book, *words).status == 1
+
+
+def test_a_cell_that_pages_can_not_have_is_refused(empty_book: Path) -> None:
+    with Session(empty_book) as session:
+        session.table("own", b"letter a 1\nletter b 17\n")
+        session.type("end", "own", "ab")
+    ran = pages(empty_book)
+    assert (ran.status, ran.shown) == (2, "")
+    assert "paragraph 1" in ran.said
+
+
+def test_nothing_is_shown_where_export_writes_something_else(
+    moon: Path, program: str
+) -> None:
+    other = moon.parent / "other"
+    other.write_text(
+        '#!/bin/sh\n[ "$1" = export ] || exec "$PROGRAM" "$@"\n'
+        '"$PROGRAM" "$@" | sed "s/MOON/MOAN/"\n'
+    )
+    other.chmod(other.stat().st_mode | stat.S_IXUSR)
+    ran = pages(moon, BRAILDESK=str(other), PROGRAM=program)
+    assert ran == Ran(
+        3,
+        "",
+        "The pages of volume 1 were laid out otherwise than export writes them, so nothing"
+        " is shown. The book is as it was.\n",
+    )
+
+
+WORDS = st.lists(st.text("abc", max_size=14), max_size=12).map(" ".join)
+PARAGRAPHS = st.lists(
+    st.tuples(WORDS, st.booleans(), st.booleans(), st.booleans()),
+    min_size=1,
+    max_size=9,
+)
+
+
+@settings(
+    max_examples=30,
+    deadline=None,
+    suppress_health_check=[HealthCheck.function_scoped_fixture],
+)
+@given(PARAGRAPHS, st.integers(10, 24), st.integers(5, 9))
+def test_volumes_are_laid_out_as_export_writes_them(
+    tmp_path: Path,
+    paragraphs: list[tuple[str, bool, bool, bool]],
+    width: int,
+    lines: int,
+) -> None:
+    path = tmp_path / "random.braildesk"
+    path.unlink(missing_ok=True)
+    new_book(path)
+    with Session(path) as session:
+        session.supply("en")
+        for text, is_heading, begins_volume, is_struck in paragraphs:
+            number = session.type("end", "en", text).id
+            if is_heading:
+                session.style(number, "heading")
+            if begins_volume:
+                session.volume(number, True)
+            if is_struck:
+                session.strike(number)
+        parts = parted(session.list())
+        sheet = Sheet(width, lines)
+        laid = [volume(session, n, part, sheet) for n, part in enumerate(parts, 1)]
+    for each in laid:
+        written = braildesk.export(path, each.number, width, lines)
+        assert each.layout.brf() == written
+    with pytest.raises(braildesk.Refused):
+        braildesk.export(path, len(laid) + 1, width, lines)
+
+
+def test_pages_of_20_000_paragraphs_are_found(big_book: Path) -> None:
+    # each paragraph takes one line of 40 cells, and a page has 24 of them
+    lines = pages(big_book).shown.split("\n")
+    assert lines[0] == "Volume 1: 834 pages of 25 lines of 40 cells."
+    assert lines[-2].startswith("Page 834, line 8, paragraph 20000: Paragraph number")
