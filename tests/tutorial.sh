@@ -1,17 +1,23 @@
 #!/bin/bash
-# Runs the commands that README.md and docs/TUTORIAL.md show, and compares what they print with what stands there, so that
-# neither goes stale; and compares the volumes of the sample book with those in sample/. The commands are those of the blocks
+# Runs the commands that README.md, docs/TUTORIAL.md and docs/DESK.md show, and compares what they print with what stands there,
+# so that none goes stale; and compares the volumes of the sample book with those in sample/. The commands are those of the blocks
 # fenced by ```console: a line that begins with '$ ' begins one, lines that begin with '> ' go on with it, and the lines after
 # it are what it prints.
-#   tests/tutorial.sh PROGRAM
-# Each document is run by one shell in a folder of its own, which has the files of sample/ and finds PROGRAM as braildesk.
+#   tests/tutorial.sh PROGRAM [--write]
+# Each document is run by one shell in a folder of its own, which has the files of sample/, finds PROGRAM as braildesk, and scribe
+# by PYTHON. With --write a document gets what its commands print now: read what that changes before it is kept.
 set -eu
 program=$(realpath "${1:?the path of the program is missing}")
+action=${2:---compare}
 cd "$(dirname "$0")/.."
 scratch=$(mktemp -d); trap 'rm -rf "$scratch"' EXIT
 mkdir "$scratch/bin" "$scratch/found"
 ln -s "$program" "$scratch/bin/braildesk"
-export PATH="$scratch/bin:$PATH" LC_ALL=C.UTF-8
+python=${PYTHON:-$([ -x /usr/bin/python3 ] && echo /usr/bin/python3 || echo python3)}
+printf '#!/bin/sh\nPYTHONPATH=%s exec %s -m scribe "$@"\n' "$PWD/python" "$python" > "$scratch/bin/scribe"
+chmod +x "$scratch/bin/scribe"
+unset COLUMNS
+export BRAILDESK="$scratch/bin/braildesk" PATH="$scratch/bin:$PATH" LC_ALL=C.UTF-8
 
 # Prints a document with what its commands print now.
 replay() { # DOCUMENT
@@ -25,7 +31,7 @@ replay() { # DOCUMENT
             '```console') fenced=yes; printf '%s\n' "$line" ;;
             'yes```') run; fenced=; printf '%s\n' "$line" ;;
             'yes$ '*) run; command=${line#'$ '}; printf '%s\n' "$line" ;;
-            'yes> '*) command+=$'\n'${line#'> '}; printf '%s\n' "$line" ;;
+            'yes> '* | 'yes>') command+=$'\n'${line:2}; printf '%s\n' "$line" ;;
             yes*) ;; # what the command printed when the document was written
             *) printf '%s\n' "$line" ;;
         esac
@@ -33,13 +39,14 @@ replay() { # DOCUMENT
 }
 
 different=0
-for document in README.md docs/TUTORIAL.md; do
+for document in README.md docs/TUTORIAL.md docs/DESK.md; do
     name=$(basename "$document")
     count=$(grep -c '^\$ ' "$document")
     mkdir "$scratch/$name"
     cp sample/* "$scratch/$name"
     original=$PWD/$document
     (cd "$scratch/$name" && replay "$original") > "$scratch/found/$name" < /dev/null
+    [ "$action" = --compare ] || cp "$scratch/found/$name" "$document"
     if diff "$document" "$scratch/found/$name"; then
         echo "ok  the $count commands of $document"
     else
