@@ -1,38 +1,41 @@
 #!/usr/bin/env python3
 """Types lines of print into a book, and writes the braille of each.
 
-    sample/client.py PROGRAM FILE < PRINT
+    PYTHONPATH=python sample/client.py FILE < PRINT
 
-One session is held open. A reply ends with its line that begins with "ok", "no" or "end"; each
-line before that begins with a bar and a blank.
+The book has to be there, and gets the supplied table. A line that is refused is said on standard
+error, with why, and the lines after it go on; the status is 2 then.
 """
-import subprocess
+
 import sys
+from io import TextIOWrapper
 
-program, book = sys.argv[1:]
-session = subprocess.Popen([program, "session", book], stdin=subprocess.PIPE,
-                           stdout=subprocess.PIPE, encoding="utf-8")
+from braildesk import DeskError, Refused, Session, requests
 
 
-def ask(request):
-    """The lines that a request shows, and the words of the line that ends its reply."""
+def type_lines(session: Session, lines: list[str]) -> int:
+    """Types the lines, and writes the braille of those that were typed; gives the status."""
+    session.supply("en")
+    answers = list(session.each(requests.Type("end", "en", line) for line in lines))
+    typed = [answer for answer in answers if not isinstance(answer, Refused)]
+    for braille in session.each(requests.Braille(paragraph.id) for paragraph in typed):
+        print(braille)
+    for number, answer in enumerate(answers, 1):
+        if isinstance(answer, Refused):
+            print(f"Line {number}: {answer.sentence}", file=sys.stderr)
+    return 0 if len(typed) == len(lines) else 2
+
+
+def main(path: str) -> int:
+    """Opens the book and types what standard input has."""
+    text = TextIOWrapper(sys.stdin.buffer, "utf-8", newline="\n")
+    lines = [line.removesuffix("\n") for line in text]
     try:
-        print(request, file=session.stdin, flush=True)
-    except BrokenPipeError:
-        sys.exit(session.wait())
-    shown = []
-    while line := session.stdout.readline().rstrip("\n"):
-        if not line.startswith("| "):
-            return shown, line.split(" ")
-        shown.append(line[2:])
-    sys.exit(session.wait())
+        with Session(path) as session:
+            return type_lines(session, lines)
+    except DeskError as error:
+        print(error.sentence, file=sys.stderr)
+        return 2
 
 
-_, ending = ask("supply en")
-if ending[0] != "ok":
-    sys.exit(" ".join(ending))
-for text in sys.stdin:
-    _, ending = ask("type end en " + text.rstrip("\n"))
-    print(*ask("braille " + ending[2])[0] if ending[0] == "ok" else ending)
-session.stdin.close()
-sys.exit(session.wait())
+sys.exit(main(sys.argv[1]))

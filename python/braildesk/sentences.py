@@ -47,7 +47,7 @@ SENTENCES = MappingProxyType(
         11: "Paragraph {paragraph} is struck. {nothing} Restore it first.",
         12: "Paragraph {paragraph} isn't struck, so there is nothing to restore.",
         13: "Mark {mark} is resolved already.",
-        14: "{length} {nothing}",
+        14: "{length} {nothing} {shorter}",
         15: "{limit} {nothing} Begin another book.",
         16: "The book is at version {version} and not at {expect}: another command came first."
         " {nothing} Look at the book as it is now, and ask again.",
@@ -138,7 +138,7 @@ UNOPENED = MappingProxyType(
         f" {limits.TABLE_BYTES:,} bytes.",
         Why.NO_PATH: "{path} can't be a path for braildesk, which takes those in UTF-8 alone.",
         Why.UNKNOWN: "{path} could not be opened. Check that the path is right, that the file may"
-        " be read and written, that its folder may be written in, and that no other program has"
-        " the file open.",
+        " be read and written, that its folder may be written in, that there is room on the disk,"
+        " and that no other program has the file open.",
     }
 )

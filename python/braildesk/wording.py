@@ -294,6 +294,13 @@ class _Fields:
         return f"The print of paragraph {self.paragraph} would have over {most:,} characters."
 
     @property
+    def shorter(self) -> str:
+        """What to do about a text that is too long."""
+        if self.kind == "text":
+            return "Cut it, or type the rest as a paragraph of its own."
+        return "Cut it."
+
+    @property
     def unreadable(self) -> str:
         """Why the request can't be sent, or isn't in the language of the program."""
         place = self._refusal.place
@@ -304,7 +311,7 @@ class _Fields:
                 f" only half of a character and can't be kept: {around(text, place)}."
             )
         if isinstance(self._asked, Line):
-            return f"The line has over {limits.LINE_BYTES:,} bytes: cut it."
+            return f"The line has over {limits.LINE_BYTES:,} bytes."
         return (
             "This is no request that braildesk knows. Its numbers go from 0 to"
             f" {limits.NUMBER:,}, and a paragraph is put at the front, at the end or after another."

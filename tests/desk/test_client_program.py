@@ -178,8 +178,8 @@ def test_lines_are_translated_or_refused_one_by_one() -> None:
         " line was not translated. Take it out.",
         "Character 2 of the line is U+D800, which is only half of a character and can't be kept:"
         " “a<U+D800>”. This line was not translated.",
-        "The line has 4,001 characters, and may have 4,000. This line was not translated.",
-        "The line has over 65,536 bytes: cut it. This line was not translated.",
+        "The line has 4,001 characters, and may have 4,000. This line was not translated. Cut it.",
+        "The line has over 65,536 bytes. This line was not translated.",
     ]
 
 

@@ -3,6 +3,8 @@
 import re
 import shutil
 import sqlite3
+import string
+import subprocess
 from collections.abc import Iterator
 from contextlib import closing
 from pathlib import Path
@@ -14,6 +16,7 @@ import braildesk
 from braildesk import (
     CannotOpen,
     Damaged,
+    Failed,
     NewerFormat,
     NoMemory,
     NotABook,
@@ -22,8 +25,11 @@ from braildesk import (
     Style,
     requests,
 )
+from braildesk.asked import BookFile
+from braildesk.characters import around, named
 from braildesk.requests import Request
-from braildesk.sentences import CAUSES, LIMITS, PARTS, SENTENCES
+from braildesk.sentences import CAUSES, LIMITS, PARTS, SENTENCES, UNOPENED
+from braildesk.wording import Refusal, worded
 
 FORMATS = Path(__file__).parents[2] / "docs" / "FORMATS.md"
 
@@ -269,19 +275,21 @@ SAID: list[tuple[Request[Any], int, dict[str, int], str]] = [
         requests.Type("end", "en", "x" * 4_001),
         14,
         {},
-        "The text has 4,001 characters, and may have 4,000. Nothing was added.",
+        "The text has 4,001 characters, and may have 4,000. Nothing was added. Cut it, or type the"
+        " rest as a paragraph of its own.",
     ),
     (
         requests.Correct(1, 0, 0, "x" * 3_980),
         14,
         {},
-        "The print of paragraph 1 would have over 4,000 characters. Nothing was changed.",
+        "The print of paragraph 1 would have over 4,000 characters. Nothing was changed. Cut it,"
+        " or type the rest as a paragraph of its own.",
     ),
     (
         requests.Mark(1, 0, 1, "x" * 501),
         14,
         {},
-        "The note has 501 characters, and may have 500. No mark was put.",
+        "The note has 501 characters, and may have 500. No mark was put. Cut it.",
     ),
     (
         requests.Style(1, Style.HEADING, expect=8),
@@ -602,3 +610,114 @@ def test_a_file_that_is_not_there_is_refused(tmp_path: Path) -> None:
         f"There is no file “{tmp_path / 'none'}”. Check that the path is right."
     )
     assert not (tmp_path / "none").exists()
+
+
+def test_each_field_of_a_sentence_can_be_filled() -> None:
+    fields = {
+        field
+        for sentence in (*SENTENCES.values(), *LIMITS.values(), *UNOPENED.values())
+        for _, field, _, _ in string.Formatter().parse(sentence)
+        if field is not None
+    }
+    words = {
+        code: worded(Refusal(code, BookFile("moon.braildesk"))) for code in SENTENCES
+    }
+    assert {"nothing", "character", "around", "path"} < fields
+    assert all(word and "{" not in word for word in words.values())
+    assert len(set(words.values())) == len(words)
+
+
+@pytest.mark.parametrize(
+    ("character", "shown"),
+    [
+        ("a", "“a” (U+0061 LATIN SMALL LETTER A)"),
+        ("…", "“…” (U+2026 HORIZONTAL ELLIPSIS)"),
+        ("月", "“月” (U+6708 CJK UNIFIED IDEOGRAPH-6708)"),
+        ("\U0001f319", "“\U0001f319” (U+1F319 CRESCENT MOON)"),
+        (" ", "U+0020 SPACE"),
+        ("\u00a0", "U+00A0 NO-BREAK SPACE"),
+        ("\t", "U+0009 TAB"),
+        ("\x01", "U+0001 a control character"),
+        ("\u0301", "U+0301 COMBINING ACUTE ACCENT"),
+        ("\u200d", "U+200D ZERO WIDTH JOINER"),
+        ("\ue000", "U+E000 a private character"),
+        ("\ud800", "U+D800 half of a character"),
+        ("\u0378", "U+0378 no character of Unicode that is known here"),
+    ],
+)
+def test_a_character_is_named_and_shown_where_it_can_be_seen(
+    character: str, shown: str
+) -> None:
+    assert named(character) == shown
+
+
+@pytest.mark.parametrize(
+    ("text", "place", "shown"),
+    [
+        ("…", 0, "“…”"),
+        ("The moon… is far.", 8, "“The moon… is far.”"),
+        ("x" * 30 + "…" + "y" * 30, 30, f"“{'x' * 20}…{'y' * 20}”"),
+        (
+            "It was late when the bells rang… and nobody had heard them.",
+            31,
+            "“when the bells rang… and nobody had”",
+        ),
+        ("a\tb\u00adc…", 5, "“a<U+0009>b<U+00AD>c…”"),
+    ],
+)
+def test_the_words_around_a_character_are_shown_whole(
+    text: str, place: int, shown: str
+) -> None:
+    assert around(text, place) == shown
+
+
+@pytest.fixture(scope="module")
+def library(tmp_path_factory: pytest.TempPathFactory) -> Path:
+    """A library that refuses one growth of memory in the program that loads it."""
+    if shutil.which("cc") is None:
+        pytest.skip("cc is missing, which makes a library that refuses memory")
+    path = tmp_path_factory.mktemp("memory") / "memory.so"
+    source = FORMATS.parents[1] / "tests" / "memory.c"
+    subprocess.run(["cc", "-shared", "-fPIC", "-o", path, source], check=True)
+    return path
+
+
+def refused_in_session(book: Path, program: Path) -> NoMemory | None:
+    """How a request is refused by a session that has no memory for it, if that comes."""
+    with Session(book, program) as session:
+        version = session.seen
+        try:
+            session.type("end", "en", "a")
+        except NoMemory as refusal:
+            assert session.version() == version
+            return refusal
+    return None
+
+
+def test_want_of_memory_is_said_of_the_request_and_the_session_goes_on(
+    book: Path, library: Path, tmp_path: Path
+) -> None:
+    program = tmp_path / "program"
+    preload = f"LD_PRELOAD='{library}'"
+    opening, asking = None, None
+    for number in range(1, 2_000):
+        program.write_text(
+            f"#!/bin/sh\nexec env {preload} REFUSED={number} '{braildesk.find()}' \"$@\"\n"
+        )
+        program.chmod(0o755)
+        try:
+            asking = refused_in_session(book, program)
+        except NoMemory as refusal:
+            opening = refusal
+        except Failed:
+            pass  # the growth was needed where the file is read or written
+        if asking is not None:
+            break
+    assert opening is not None and asking is not None
+    assert (opening.code, asking.code) == (90, 90)
+    assert opening.sentence == (
+        "There was no memory for this. Close other programs, and ask again."
+    )
+    assert asking.sentence == (
+        "There was no memory for this. Nothing was added. Close other programs, and ask again."
+    )

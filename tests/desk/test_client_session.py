@@ -1,0 +1,366 @@
+"""Sessions: many requests ahead of their replies, framing, and what is left of a killed one."""
+
+import os
+import signal
+import subprocess
+import sys
+import time
+from collections.abc import Callable, Iterator
+from pathlib import Path
+from typing import Any
+
+import pytest
+
+from braildesk import (
+    Done,
+    Lost,
+    Refused,
+    Session,
+    SessionEnded,
+    Typed,
+    requests,
+)
+from braildesk.replies import Reader, Reply, Unreadable
+
+PYTHON = str(Path(__file__).parents[2] / "python")
+
+
+@pytest.fixture
+def script(tmp_path: Path) -> Callable[[str], Path]:
+    """Makes a program of the lines of a shell script."""
+
+    def make(lines: str) -> Path:
+        path = tmp_path / "program"
+        path.write_text(f"#!/bin/sh\n{lines}\n")
+        path.chmod(0o755)
+        return path
+
+    return make
+
+
+def test_replies_are_read_however_their_bytes_are_cut() -> None:
+    written = "| 1 a – b\n| \nend 7\nok 8 1\nno 8 2 9\n| ok 1\nend 8\n".encode()
+    wanted = [
+        Reply(("1 a – b", ""), "end", (7,)),
+        Reply((), "ok", (8, 1)),
+        Reply((), "no", (8, 2, 9)),
+        Reply(("ok 1",), "end", (8,)),
+    ]
+    for size in (1, 2, 3, 7, len(written)):
+        reader = Reader()
+        found = []
+        for start in range(0, len(written), size):
+            reader.feed(written[start : start + size])
+            while (reply := reader.next()) is not None:
+                found.append(reply)
+        assert found == wanted, size
+
+
+def test_a_reply_without_its_line_feed_is_none_yet() -> None:
+    reader = Reader()
+    reader.feed(b"ok 12")
+    assert reader.next() is None
+    reader.feed(b"3 4\n")
+    assert reader.next() == Reply((), "ok", (123, 4))
+
+
+@pytest.mark.parametrize(
+    "line", [b"", b"hello", b"ok", b"ok x", b"|x", b"yes 1", b"\xff"]
+)
+def test_a_line_of_no_reply_is_refused(line: bytes) -> None:
+    with pytest.raises(Unreadable):
+        Reader().feed(line + b"\n")
+
+
+def test_answers_to_many_requests_come_in_order_with_refusals_among_them(
+    session: Session,
+) -> None:
+    counts: list[int] = []
+    asked: list[requests.Request[Any]] = [
+        requests.Type("end", "en", "one"),
+        requests.Type("end", "en", "…"),
+        requests.Type("end", "en", "t\nwo"),
+        requests.Type("end", "en", "three"),
+        requests.Print(2),
+        requests.Print(3),
+        requests.Strike(1),
+    ]
+    answers = list(session.each(asked, counts.append))
+    refusals = [answers.pop(index) for index in (5, 2, 1)]
+    assert answers == [Typed(2, 1), Typed(3, 2), "three", Done(4)]
+    assert [r.code for r in refusals if isinstance(r, Refused)] == [2, 6, 7]
+    assert counts == [1, 2, 3, 4, 5, 6, 7]
+    assert session.version() == 4
+
+
+def test_no_request_is_answered_by_no_answer(session: Session) -> None:
+    assert list(session.each([])) == []
+    assert session.version() == 1
+
+
+def test_answers_are_given_while_requests_are_still_made(session: Session) -> None:
+    made = 0
+
+    def asked() -> Iterator[requests.Type]:
+        nonlocal made
+        for made in range(1, 5001):
+            yield requests.Type("end", "en", "x" * 100)
+
+    answers = session.each(asked())
+    assert next(answers) == Typed(2, 1)
+    assert 0 < made <= 513
+    answers.close()
+
+
+def test_where_answers_are_left_the_session_goes_on_and_the_rest_is_dropped(
+    session: Session,
+) -> None:
+    made: list[str] = []
+
+    def asked() -> Iterator[requests.Type]:
+        for number in range(10_000):
+            made.append(f"{number} " + "x" * 3_000)
+            yield requests.Type("end", "en", made[-1])
+
+    answers = session.each(asked())
+    assert next(answers) == Typed(2, 1)
+    with pytest.raises(RuntimeError, match="still being given"):
+        session.version()
+    answers.close()
+    typed = session.version() - 1
+    assert 1 <= typed < len(made)
+    assert [session.print(p.id) for p in session.list()] == made[:typed]
+
+
+def test_what_fails_while_requests_are_made_leaves_the_session_whole(
+    session: Session,
+) -> None:
+    def asked() -> Iterator[requests.Type]:
+        yield requests.Type("end", "en", "one")
+        raise KeyError("no more")
+
+    with pytest.raises(KeyError):
+        list(session.each(asked()))
+    assert session.version() in (1, 2)
+    assert session.type("end", "en", "two").id == session.version() - 1
+
+
+def test_megabytes_go_both_ways_at_once(book: Path) -> None:
+    text = "The moon is far away. " * 180
+    with Session(book) as session:
+        typed = session.type("end", "en", text)
+        # a correction of nothing by nothing needs little, a history shows all of it
+        asked: list[requests.Request[Any]] = []
+        for _ in range(150):
+            asked.append(requests.Correct(typed.id, 0, len(text), text))
+            asked.append(requests.History(typed.id))
+            asked.append(requests.Print(typed.id))
+            asked.append(requests.Braille(typed.id))
+        sent = sum(len(request.encoded()) for request in asked)
+        received = 0
+        for answer in session.each(asked):
+            assert not isinstance(answer, Refused)
+            if isinstance(answer, str):
+                received += len(answer.encode())
+            elif isinstance(answer, tuple):
+                received += sum(len(entry.text) for entry in answer)
+        assert sent > 500_000
+        assert received > 40_000_000
+        assert session.print(typed.id) == text
+
+
+def test_a_table_of_megabytes_is_sent_whole(session: Session) -> None:
+    lines = [f"# {n:05d} {'x' * 900}\n" for n in range(4_000)]
+    text = "".join(["letter a 1\n", *lines, "letter b 12\n"]).encode()
+    assert session.table("big", text) == Done(2)
+    assert session.type("end", "big", "ab").id == 1
+
+
+def test_a_session_that_is_closed_answers_no_more(session: Session) -> None:
+    session.close()
+    session.close()
+    with pytest.raises(RuntimeError, match="closed"):
+        session.version()
+
+
+def test_a_session_ends_well_and_leaves_all_in_the_file(book: Path) -> None:
+    with Session(book) as session:
+        session.type("end", "en", "all of it")
+    alone = book.with_name("alone")
+    alone.write_bytes(book.read_bytes())
+    with Session(alone) as session:
+        assert session.print(1) == "all of it"
+
+
+def test_a_program_that_answers_something_else_is_ended(
+    book: Path, script: Callable[[str], Path]
+) -> None:
+    program = script("read line; echo end 3; read line; echo hello; sleep 60")
+    started = time.monotonic()
+    with Session(book, program) as session:
+        with pytest.raises(SessionEnded) as caught:
+            session.version()
+        with pytest.raises(SessionEnded):
+            session.version()
+    assert time.monotonic() - started < 30
+    assert caught.value.sentence == (
+        "This is no line of a reply of braildesk: b'hello'. Nothing was changed by this session."
+    )
+
+
+@pytest.mark.parametrize("after", [0, 1, 57, 400])
+def test_of_a_killed_session_all_that_was_reported_as_kept_is_there(
+    book: Path, after: int
+) -> None:
+    kept: list[Typed] = []
+    with Session(book) as session:
+        asked = (requests.Type("end", "en", f"line {n}") for n in range(5_000))
+        with pytest.raises(SessionEnded) as caught:
+            for answer in session.each(asked):
+                assert isinstance(answer, Typed)
+                kept.append(answer)
+                if len(kept) == after + 1:
+                    os.kill(session.pid, signal.SIGKILL)
+    lost = caught.value
+    assert after < len(kept) < 5_000
+    assert kept == [Typed(n + 2, n + 1) for n in range(len(kept))]
+    assert lost.acknowledged == requests.Type("end", "en", f"line {len(kept) - 1}")
+    assert (lost.version, lost.answered) == (len(kept) + 1, len(kept))
+    assert lost.sentence == (
+        "The session was ended by signal 9. The last command that was reported as kept is"
+        f" “type end en line {len(kept) - 1}”, by which the book came to version {lost.version}."
+        " All up to it is in the book. Open the book again, and see whether what was sent after it"
+        " is there too."
+    )
+    with Session(book) as session:
+        # at most the command that was being kept is there beside those that were reported
+        assert session.version() - lost.version in (0, 1)
+        prints = list(session.each(requests.Print(p.id) for p in session.list()))
+    assert prints == [f"line {n}" for n in range(len(prints))]
+    assert len(prints) >= len(kept)
+
+
+def test_a_killed_session_says_so_at_each_request(book: Path) -> None:
+    with Session(book) as session:
+        os.kill(session.pid, signal.SIGKILL)
+        for _ in range(2):
+            with pytest.raises(SessionEnded) as caught:
+                session.type("end", "en", "a")
+            assert caught.value.acknowledged is None
+            assert caught.value.sentence == (
+                "The session was ended by signal 9. Nothing was changed by this session."
+            )
+
+
+def test_a_killed_client_leaves_no_request_cut(book: Path) -> None:
+    # each text ends in a full stop, and the client is killed with requests on their way
+    client = (
+        "import sys\n"
+        "from braildesk import Session, requests\n"
+        "texts = (f'line {n} ' + 'x' * (n * 37 % 3000) + '.' for n in range(20_000))\n"
+        "with Session(sys.argv[1]) as session:\n"
+        "    for answer in session.each(requests.Type('end', 'en', text) for text in texts):\n"
+        "        print(answer.id, flush=True)\n"
+    )
+    environment = {**os.environ, "PYTHONPATH": PYTHON}
+    with subprocess.Popen(
+        [sys.executable, "-c", client, str(book)],
+        stdout=subprocess.PIPE,
+        text=True,
+        env=environment,
+    ) as running:
+        assert running.stdout is not None
+        for line in running.stdout:
+            if int(line) == 50:
+                break
+        running.kill()
+        last = [int(line) for line in running.stdout.read().split()[-2:-1]]
+    deadline = time.monotonic() + 60
+    while time.monotonic() < deadline:
+        try:
+            session = Session(book)
+            break
+        except Refused as refusal:
+            assert refusal.code == 98
+            time.sleep(0.2)
+    with session:
+        prints = list(session.each(requests.Print(p.id) for p in session.list()))
+    assert len(prints) >= max([50, *last])
+    assert prints == [
+        f"line {n} " + "x" * (n * 37 % 3000) + "." for n in range(len(prints))
+    ]
+
+
+def test_a_command_that_the_file_does_not_take_is_lost(
+    book: Path, program: str, script: Callable[[str], Path]
+) -> None:
+    limited = script(f"trap '' XFSZ; ulimit -f 600; exec '{program}' \"$@\"")
+    kept = 0
+    with Session(book, limited) as session:
+        with pytest.raises(Lost) as caught:
+            for kept in range(1, 3_000):
+                session.type("end", "en", "x" * 3_000)
+        assert session.seen == kept
+    lost = caught.value
+    assert not isinstance(lost, SessionEnded)
+    assert lost.acknowledged == requests.Type("end", "en", "x" * 3_000)
+    assert lost.version == kept
+    assert lost.sentence == (
+        f"“type end en {'x' * 48}…” could not be kept, since the file of the book could not be written or read. All"
+        " that was reported as kept before is in the book. See to the disk, and open the book"
+        " again: its version shows whether this is kept too."
+    )
+    with Session(book) as session:
+        assert session.version() in (kept, kept + 1)
+
+
+def test_ctrl_c_leaves_the_program_to_end_well(book: Path) -> None:
+    client = (
+        "import sys\n"
+        "from braildesk import Session, requests\n"
+        "with Session(sys.argv[1]) as session:\n"
+        "    for answer in session.each(\n"
+        "        requests.Type('end', 'en', f'line {n}.') for n in range(20_000)\n"
+        "    ):\n"
+        "        print(answer.id, flush=True)\n"
+    )
+    environment = {**os.environ, "PYTHONPATH": PYTHON}
+    with subprocess.Popen(
+        [sys.executable, "-c", client, str(book)],
+        stdout=subprocess.PIPE,
+        stderr=subprocess.PIPE,
+        text=True,
+        env=environment,
+        start_new_session=True,
+    ) as running:
+        assert running.stdout is not None and running.stderr is not None
+        for line in running.stdout:
+            if int(line) == 20:
+                break
+        os.killpg(running.pid, signal.SIGINT)
+        ids = [20, *map(int, running.stdout.read().split())]
+        assert "KeyboardInterrupt" in running.stderr.read()
+    with Session(book) as session:
+        prints = list(session.each(requests.Print(p.id) for p in session.list()))
+    assert len(prints) >= ids[-1]
+    assert prints == [f"line {n}." for n in range(len(prints))]
+
+
+def test_many_requests_are_at_least_half_as_fast_as_by_a_pipe(
+    book: Path, program: str
+) -> None:
+    texts = [f"Line {n} of a book about the moon and the tides." for n in range(3_000)]
+    piped = book.with_name("piped")
+    piped.write_bytes(book.read_bytes())
+    sent = "".join(f"type end en {text}\n" for text in texts).encode()
+    started = time.monotonic()
+    subprocess.run(
+        [program, "session", piped], input=sent, check=True, stdout=subprocess.DEVNULL
+    )
+    by_pipe = time.monotonic() - started
+    started = time.monotonic()
+    with Session(book) as session:
+        asked = (requests.Type("end", "en", text) for text in texts)
+        assert sum(isinstance(answer, Typed) for answer in session.each(asked)) == 3_000
+    by_client = time.monotonic() - started
+    assert by_client < 2 * by_pipe, (by_client, by_pipe)
