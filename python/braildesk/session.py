@@ -155,6 +155,7 @@ class Session:
 
     def _send_ahead(self, source: Iterator[Request[Any]]) -> bool:
         """Sends requests as far ahead as there is room, and says whether any answer is to come."""
+        self._judge_open()
         while len(self._sent) < _AHEAD and self._pipe.queued_bytes < _AHEAD_BYTES:
             request = next(source, None)
             if request is None:
@@ -181,12 +182,16 @@ class Session:
             _refused(request, reply) if reply.word == "no" else answer(request, reply)
         )
 
-    def _settle(self) -> None:
-        """Drops requests of ``each`` that weren't begun, and takes the replies to the others."""
+    def _judge_open(self) -> None:
+        """Whether the session can go on."""
         if self._lost is not None:
             raise self._lost
         if self._is_closed:
             raise RuntimeError("the session is closed")
+
+    def _settle(self) -> None:
+        """Drops requests of ``each`` that weren't begun, and takes the replies to the others."""
+        self._judge_open()
         for _ in range(self._pipe.drop()):
             while isinstance(self._sent.pop(), Refused):
                 pass

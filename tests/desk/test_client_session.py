@@ -177,8 +177,12 @@ def test_a_table_of_megabytes_is_sent_whole(session: Session) -> None:
 
 
 def test_a_session_that_is_closed_answers_no_more(session: Session) -> None:
+    answers = session.each([requests.Version()] * 3)
+    assert next(answers) == 1
     session.close()
     session.close()
+    with pytest.raises(RuntimeError, match="closed"):
+        next(answers)
     with pytest.raises(RuntimeError, match="closed"):
         session.version()
 
