@@ -35,10 +35,6 @@ class Intake:
             if after != "end":
                 after = self.there + count + 1
 
-    def text(self, count: int) -> str:
-        """The print of the last of so many paragraphs."""
-        return self.passages[count - 1].text
-
 
 def parted_at(
     passages: Sequence[Passage], line: int

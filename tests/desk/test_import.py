@@ -12,10 +12,10 @@ from tool import Ran, scribe
 
 import braildesk
 from braildesk import Session
-from scribe.commands.import_text import CutShort, type_all
 from scribe.intake import Intake
 from scribe.manuscript import passages
-from scribe.status import Status
+from scribe.status import Stop
+from scribe.typist import type_all
 
 TEXT = "The moon\nis far away.\n\nTides\n\n\tTwice a day.\n"
 
@@ -291,24 +291,33 @@ def test_a_file_that_can_not_grow_leaves_what_is_said_and_from_goes_on(
     assert prints(book) == lines
 
 
-# A program between scribe and braildesk, which ends one of them once it has passed on five paragraphs.
+# A program between scribe and braildesk, which ends one of them once five paragraphs are kept.
 ENDING = """#!{python}
-import os, signal, subprocess, sys
+import os, shutil, signal, subprocess, sys, threading
 program, words = os.environ["PROGRAM"], sys.argv[1:]
 if words[0] != "session":
     os.execv(program, [program, *words])
-session = subprocess.Popen([program, *words], stdin=subprocess.PIPE, bufsize=0)
-typed = 0
-for line in sys.stdin.buffer:
+PIPE = subprocess.PIPE
+session = subprocess.Popen([program, *words], stdin=PIPE, stdout=PIPE, bufsize=0)
+
+
+def pass_on():
     try:
-        session.stdin.write(line)
+        while data := os.read(0, 4096):
+            session.stdin.write(data)
+        session.stdin.close()
     except BrokenPipeError:
-        break
-    typed += b" type " in line
-    if typed == 5:
-        typed += 1
+        pass
+
+
+threading.Thread(target=pass_on, daemon=True).start()
+kept = 0
+for line in session.stdout:
+    os.write(1, line)
+    kept += line.startswith(b"ok")
+    if kept == 5:
+        kept += 1
         os.kill({process}, signal.{signal})
-session.stdin.close()
 status = session.wait()
 if status < 0:
     os.kill(os.getpid(), -status)
@@ -355,9 +364,9 @@ def test_an_import_that_is_cut_short_says_what_is_in_the_book(
 def test_nothing_is_typed_into_a_book_that_was_changed_meanwhile(book: Path) -> None:
     table = braildesk.tables(book)[0]
     found = passages(TEXT.encode(), by_lines=False)
-    with pytest.raises(CutShort) as cut:
-        type_all(book, Intake(0, 0, found, "end", table), lambda done: None)
-    assert (cut.value.done, cut.value.status) == (0, Status.REFUSED)
+    intake = Intake(0, 0, found, "end", table)
+    with pytest.raises(Stop, match="Somebody else changed the book"):
+        type_all(book, intake, lambda done: None)
     assert version(book) == 1
 
 

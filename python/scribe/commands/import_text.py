@@ -2,10 +2,10 @@
 
 import shlex
 from argparse import ArgumentParser, ArgumentTypeError, Namespace
-from collections.abc import Callable, Iterator, Sequence
+from collections.abc import Iterator, Sequence
 from pathlib import Path
 
-from braildesk import After, DeskError, Refused, Session, Table, limits, tables
+from braildesk import After, Session, Table, limits, tables
 
 from scribe.console import Console
 from scribe.intake import (
@@ -18,8 +18,8 @@ from scribe.intake import (
 from scribe.judgement import faults
 from scribe.manuscript import Passage, Unreadable, passages
 from scribe.parser import Subparsers, add_file, command_parser, number
-from scribe.readings import answers
 from scribe.status import Status, Stop
+from scribe.typist import CutShort, kept_of, type_all
 
 MORE = """\
 Blank lines part the paragraphs, and the lines between them are joined; with --lines each
@@ -135,43 +135,6 @@ def judge(path: Path, rest: Sequence[Passage], table: Table, there: int) -> None
         )
     if sentences:
         raise Stop("\n".join([*sentences, "Nothing was typed."]))
-
-
-class CutShort(Exception):
-    """The typing ended after some paragraphs were reported as kept."""
-
-    def __init__(self, done: int, sentence: str, status: Status) -> None:
-        super().__init__(sentence)
-        self.done = done
-        self.sentence = sentence
-        self.status = status
-
-
-def type_all(path: Path, intake: Intake, report: Callable[[int], None]) -> None:
-    """Types all paragraphs, or raises `CutShort`."""
-    done = 0
-    try:
-        with Session(path) as session:
-            for _ in answers(session, intake.requests(), report):
-                done += 1
-    except KeyboardInterrupt as cause:
-        raise CutShort(done, "Stopped.", Status.FAILED) from cause
-    except Refused as cause:
-        raise CutShort(done, cause.sentence, Status.REFUSED) from cause
-    except DeskError as cause:
-        raise CutShort(done, cause.sentence, Status.FAILED) from cause
-
-
-def kept_of(path: Path, intake: Intake) -> int | None:
-    """How many of the paragraphs are in the book, if that can be seen there."""
-    try:
-        with Session(path) as session:
-            kept = len(session.list()) - intake.there
-            if kept > 0 and session.print(intake.there + kept) != intake.text(kept):
-                return None
-            return kept
-    except DeskError:
-        return None
 
 
 def going_on(
