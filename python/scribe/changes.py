@@ -14,6 +14,7 @@ from scribe.occurrences import Occurrence
 from scribe.paragraph import mark_line
 from scribe.readings import answers
 from scribe.visible import visible
+from scribe.wrapping import columns
 
 Answer = TypeVar("Answer")
 _BLANKS = (" ", "\t", EMPTY_CELL)
@@ -78,10 +79,11 @@ def _before(session: Session, query: Request[Answer]) -> Answer | None:
 
 def _typed(session: Session, command: requests.Type, width: int) -> list[str]:
     typed: Typed = session.ask(command)
-    head = f"Paragraph {typed.id}, {place_after(command.after)}: "
-    text = session.print(typed.id)
-    shown = opening(visible(text), max(width - len(head), 1)) if text else "empty."
-    return [head + shown, at_version(typed.version)]
+    head = f"Paragraph {typed.id}, {place_after(command.after)}:"
+    text = visible(session.print(typed.id)) or "empty."
+    whole = f"{head} {text}"
+    lines = [whole] if columns(whole) <= width else [head, opening(text, width)]
+    return [*lines, at_version(typed.version)]
 
 
 def _corrected(

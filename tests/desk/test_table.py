@@ -70,7 +70,7 @@ def test_the_line_that_is_wrong_is_shown(text: str, sentence: str, moon: Path) -
 
 
 def test_a_table_that_lacks_a_character_of_the_book_names_it(moon: Path) -> None:
-    text = (ROOT / "sample" / "plain.utb").read_text().replace("uplow Tt", "# Tt")
+    text = (ROOT / "sample" / "plain.utb").read_text().replace("letter T ", "# T ")
     moon.with_name("own.utb").write_text(text)
     ran = scribe("table", moon, "en", "own.utb", folder=moon.parent)
     assert ran == Ran(
