@@ -44,7 +44,7 @@ def tables(path: StrPath) -> tuple[Table, ...]:
     that is refused (``CannotOpen``).
     """
     book = BookFile(fspath(path))
-    with _contents(book) as database:
+    with contents(book) as database:
         rows = _rows(book, database, "SELECT name, body FROM tab ORDER BY name")
     found = tuple(
         Table(name, text)
@@ -69,7 +69,7 @@ def copy(
     A file that is at ``to`` already is replaced only where ``overwrite`` says so.
     """
     book, target = BookFile(fspath(path)), Path(fspath(to))
-    with _contents(book) as database:
+    with contents(book) as database:
         [(version,)] = _rows(book, database, "SELECT version FROM book") or [(None,)]
         try:
             _judge_target(Path(book.path), target, overwrite)
@@ -147,10 +147,10 @@ def _held(book: BookFile) -> Iterator[BinaryIO]:
 
 
 @contextmanager
-def _contents(book: BookFile) -> Iterator[sqlite3.Connection]:
+def contents(book: BookFile) -> Iterator[sqlite3.Connection]:
     """What a closed book holds, for reading. Nothing is made or changed beside its file."""
     beside = f"{book.path}{_BESIDE}"
-    with _held(book):
+    with _held(book) as file:
         if not os.path.exists(beside) or os.path.getsize(beside) <= _BEFORE_PAGE:
             name = quote(fsencode(os.path.abspath(book.path)))
             with closing(
@@ -160,7 +160,9 @@ def _contents(book: BookFile) -> Iterator[sqlite3.Connection]:
             return
         with tempfile.TemporaryDirectory() as folder:
             copied = os.path.join(folder, "book")
-            shutil.copyfile(book.path, copied)
+            # from the file that is locked, whatever stands at its path by now
+            with open(copied, "wb") as written:
+                shutil.copyfileobj(file, written)
             shutil.copyfile(beside, copied + _BESIDE)
             with closing(sqlite3.connect(copied)) as database:
                 yield database

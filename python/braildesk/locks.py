@@ -1,20 +1,38 @@
-"""The lock of a book's file, which keeps two programs from using it at once."""
+"""The lock of a book's file, which keeps two programs from using it at once.
+
+The locks are those of an open file and not of a process, as the program takes them, so that they
+hold whatever else this process opens and closes.
+"""
 
 import errno
 import fcntl
+import os
+import struct
 from typing import BinaryIO
 
 #: The bytes that stand for the lock of a file, by the format of SQLite's files.
 _FIRST = 0x40000000
 _COUNT = 512
+#: The kind of a lock, from where its bytes are counted, which they are, and a process.
+_LOCK = struct.Struct("hhqqi0q")
 
 
 def take_shared(file: BinaryIO) -> bool:
     """Keeps programs from using the file until it is closed, unless one uses it already."""
     try:
-        fcntl.lockf(file, fcntl.LOCK_SH | fcntl.LOCK_NB, _COUNT, _FIRST)
+        fcntl.fcntl(file, fcntl.F_OFD_SETLK, _lock(fcntl.F_RDLCK))
     except OSError as error:
         if error.errno in (errno.EACCES, errno.EAGAIN):
             return False
         raise
     return True
+
+
+def is_used(file: BinaryIO) -> bool:
+    """Whether a program uses the file, or reads it with a shared lock."""
+    found: bytes = fcntl.fcntl(file, fcntl.F_OFD_GETLK, _lock(fcntl.F_WRLCK))
+    return bool(_LOCK.unpack(found)[0] != fcntl.F_UNLCK)
+
+
+def _lock(kind: int) -> bytes:
+    return _LOCK.pack(kind, os.SEEK_SET, _FIRST, _COUNT, 0)

@@ -58,7 +58,7 @@ def _why_regular(asked: AskedOfFile) -> Why:
             )
     with open(asked.path, "rb") as file:
         size = os.fstat(file.fileno()).st_size
-        if not locks.take_shared(file):
+        if locks.is_used(file):
             return Why.IN_USE
         header = file.read(100)
     if size and not header.startswith(_MAGIC):

@@ -24,6 +24,8 @@ from braildesk import (
     Table,
     Why,
 )
+from braildesk.asked import BookFile
+from braildesk.files import contents
 
 ROOT = Path(__file__).parents[2]
 
@@ -120,6 +122,20 @@ def test_while_a_session_is_open_nothing_is_read_or_copied(
             )
         assert session.version() == 2
     assert not to.exists()
+
+
+@pytest.mark.parametrize("has_work_beside", [False, True])
+def test_while_a_book_is_read_no_session_can_open_it(
+    book: Path, has_work_beside: bool
+) -> None:
+    if has_work_beside:
+        killed_after(book, "not in the file yet")
+    with contents(BookFile(str(book))) as database:
+        with pytest.raises(CannotOpen) as caught:
+            braildesk.check(book)
+        assert caught.value.why == Why.IN_USE
+        [(version,)] = database.execute("SELECT version FROM book").fetchall()
+    assert braildesk.check(book) == version == 1 + has_work_beside
 
 
 def test_a_file_that_is_there_is_replaced_only_where_that_is_asked(
