@@ -20,6 +20,7 @@ def belongs(before: str, character: str) -> bool:
         return True
     if unicodedata.category(character).startswith("M"):
         return True
+    # letters that join, as there are since Unicode 16
     return len(unicodedata.normalize("NFC", before + character)) < 2
 
 

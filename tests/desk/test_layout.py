@@ -52,6 +52,10 @@ def test_paragraphs_without_words_take_no_line() -> None:
     assert rows((False, ""), (True, "   "), (False, " A"), sheet=Sheet(10, 5)) == [
         (1, 1, "  A")
     ]
+    assert rows((False, "A"), (True, " "), (False, "B"), sheet=Sheet(10, 5)) == [
+        (1, 1, "  A"),
+        (1, 2, "  B"),
+    ]
 
 
 def test_a_word_that_is_longer_than_its_empty_line_is_cut_there() -> None:

@@ -39,6 +39,7 @@ LINES = [
     ("月の海 は", 4, ["月の", "海", "は"]),
     ("月の海 は", 5, ["月の", "海 は"]),
     ("aq\u0307q\u0307q\u0307", 2, ["aq\u0307", "q\u0307q\u0307"]),
+    ("காகாகா", 3, ["கா", "கா", "கா"]),
     ("⠞⠓⠑⠀⠍⠕⠕⠝", 5, ["⠞⠓⠑", "⠍⠕⠕⠝"]),
     ("שלום עולם", 5, ["שלום", "עולם"]),
 ]
@@ -51,7 +52,7 @@ def test_a_text_is_broken_between_words(
     assert wrap(text, width) == lines
 
 
-ANY = st.text("aé月q\u0307 ⠀⠍ש\u05b0😀", max_size=40)
+ANY = st.text("aé月காq\u0307 ⠀⠍ש\u05b0😀", max_size=40)
 
 
 @given(ANY, st.integers(2, 12))
