@@ -25,7 +25,7 @@ around it. With --braille TEXT is cells, in Braille ASCII or as Unicode characte
 the print that they stand for is shown after them."""
 EXAMPLE = """\
 scribe find moon.braildesk moon
-scribe find moon.braildesk --braille ',MOON'"""
+scribe find moon.braildesk --braille ',THE MOON'"""
 
 
 @dataclass(frozen=True)

@@ -1,12 +1,13 @@
 """`scribe import`: the paragraphs of a text file, typed into the book."""
 
 import shlex
-from argparse import ArgumentParser, ArgumentTypeError, Namespace
+from argparse import ArgumentParser, Namespace
 from collections.abc import Iterator, Sequence
 from pathlib import Path
 
-from braildesk import After, Session, Table, limits, tables
+from braildesk import Session, Table, limits, tables
 
+from scribe.commands.edits import after
 from scribe.console import Console
 from scribe.intake import (
     Intake,
@@ -27,19 +28,7 @@ line is a paragraph. The text is UTF-8. Before anything is typed all of it is ju
 character that the table lacks and each paragraph that is too long is shown with its line
 and column. If the typing is cut short, --from goes on at a line of the text."""
 EXAMPLE = """\
-scribe import moon.braildesk print.txt --lines --dry-run
-scribe import moon.braildesk print.txt --lines"""
-
-
-def after(word: str) -> After:
-    """Where the text goes."""
-    if word == "front":
-        return "front"
-    if word == "end":
-        return "end"
-    if not word.isdigit():
-        raise ArgumentTypeError(f"{word!r} is not front, end or a number")
-    return number(word)
+echo 'Twice a day the sea comes up.' > tides.txt && scribe import moon.braildesk tides.txt"""
 
 
 def add_parser(subparsers: Subparsers) -> ArgumentParser:
