@@ -4,6 +4,7 @@ import os
 import re
 import signal
 import sys
+import threading
 from collections.abc import Iterator
 from pathlib import Path
 
@@ -40,6 +41,10 @@ class Talk:
     def keys(self, keys: str) -> None:
         """Types keys without the one that ends the line."""
         self._child.send(keys)
+
+    def paste(self, text: str) -> None:
+        """Pastes a text, which goes on while what is written is read."""
+        threading.Thread(target=self._child.send, args=(text,), daemon=True).start()
 
     def wait_for(self, text: str) -> None:
         """Waits until a text is written."""
@@ -282,7 +287,7 @@ def test_a_tab_is_a_character_of_a_note(talk: Talk, moon: Path) -> None:
 
 
 def test_a_long_line_that_is_pasted_is_kept_whole(talk: Talk, moon: Path) -> None:
-    talk.keys("type end en " + "’" * 4_000 + "\r")
+    talk.paste("type end en " + "’" * 4_000 + "\r")
     talk.wait_for("The book is at version 8.")
     talk.end("quit\r")
     with braildesk.Session(moon) as session:
@@ -291,7 +296,7 @@ def test_a_long_line_that_is_pasted_is_kept_whole(talk: Talk, moon: Path) -> Non
 
 def test_no_line_of_a_paste_is_cut(talk: Talk) -> None:
     line = "type end en " + "a" * (PASTED_BYTES - 12)
-    talk.keys(f"strike 1\r{line}\rstrike 2\r{line}\rversion\r")
+    talk.paste(f"strike 1\r{line}\rstrike 2\r{line}\rversion\r")
     talk.wait_for("The text has 19,988 characters, and may")
     talk.wait_for("The text has 19,988 characters, and may")
     talk.wait_for("The book is at version 9.")

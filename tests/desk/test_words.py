@@ -57,7 +57,7 @@ def test_the_example_of_each_command_works_as_it_stands(
             capture_output=True,
         )
         assert done.returncode == 0, (line, done.stderr.decode())
-        assert done.stdout, line
+        assert done.stdout or done.stderr, line
 
 
 def test_help_names_all_commands(tmp_path: Path) -> None:
