@@ -7,7 +7,6 @@ from pathlib import Path
 
 from braildesk import Session, Table, limits, tables
 
-from scribe.commands.edits import after
 from scribe.console import Console
 from scribe.intake import (
     Intake,
@@ -18,7 +17,7 @@ from scribe.intake import (
 )
 from scribe.judgement import faults
 from scribe.manuscript import Passage, Unreadable, passages
-from scribe.parser import Subparsers, add_file, command_parser, number
+from scribe.parser import Subparsers, add_file, after, command_parser, number
 from scribe.status import Status, Stop
 from scribe.typist import CutShort, kept_of, type_all
 
