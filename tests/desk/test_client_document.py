@@ -1,5 +1,6 @@
 """The examples of docs/CLIENT.md, run as they stand there."""
 
+import ast
 import doctest
 import re
 from pathlib import Path
@@ -8,7 +9,8 @@ import pytest
 
 import braildesk
 
-DOCUMENT = Path(__file__).parents[2] / "docs" / "CLIENT.md"
+ROOT = Path(__file__).parents[2]
+DOCUMENT = ROOT / "docs" / "CLIENT.md"
 
 
 def test_the_examples_answer_what_is_shown(
@@ -33,3 +35,27 @@ def test_each_name_of_the_package_stands_in_it() -> None:
     )
     words = set(re.findall(r"\w+", code))
     assert [name for name in braildesk.__all__ if name not in words] == []
+
+
+def used_by(module: Path) -> set[str]:
+    """The modules of the package that one of them imports."""
+    names = set()
+    for node in ast.walk(ast.parse(module.read_text())):
+        if isinstance(node, ast.ImportFrom) and node.module is not None:
+            package, _, name = node.module.partition(".")
+            if package == "braildesk":
+                names |= {name} if name else {alias.name for alias in node.names}
+    return names
+
+
+def test_no_module_uses_one_that_is_named_after_it() -> None:
+    layout = DOCUMENT.read_text().split("\n## How it is laid out\n", 1)[1]
+    named = re.findall(r"`(\w+)`", layout)
+    modules = {
+        path.stem: path
+        for path in (ROOT / "python" / "braildesk").glob("*.py")
+        if path.stem != "__init__"
+    }
+    assert sorted(named) == sorted(modules)
+    for number, name in enumerate(named):
+        assert used_by(modules[name]) <= set(named[:number]), name

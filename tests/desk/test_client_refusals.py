@@ -447,7 +447,11 @@ FULL = [
 ]
 
 
-@pytest.mark.parametrize(("limit", "statements", "request_", "sentence"), FULL)
+@pytest.mark.parametrize(
+    ("limit", "statements", "request_", "sentence"),
+    FULL,
+    ids=["tables", "paragraphs", "entries", "marks", "versions"],
+)
 def test_a_full_book_says_what_is_full(
     shelf: Path,
     tmp_path: Path,
@@ -500,7 +504,11 @@ DAMAGED = [
 ]
 
 
-@pytest.mark.parametrize(("statement", "table", "id_", "part"), DAMAGED)
+@pytest.mark.parametrize(
+    ("statement", "table", "id_", "part"),
+    DAMAGED,
+    ids=["book", "tab", "para", "mark", "cache", "corr2"],
+)
 def test_a_damaged_book_is_refused_with_what_is_wrong_in_it(
     shelf: Path, tmp_path: Path, statement: str, table: int, id_: int, part: str
 ) -> None:
