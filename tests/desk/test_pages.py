@@ -16,8 +16,8 @@ from scribe.volumes import parted, volume
 SIZE = ("--width", "24", "--lines", "8")
 
 
-def pages(book: Path, *words: str, **more: str) -> Ran:
-    return scribe("pages", book, *words, folder=book.parent, **more)
+def pages(book: Path, *words: str) -> Ran:
+    return scribe("pages", book, *words, folder=book.parent)
 
 
 @pytest.fixture
@@ -138,8 +138,10 @@ def test_nothing_is_shown_where_export_writes_something_else(
         '"$PROGRAM" "$@" | sed "s/MOON/MOAN/"\n'
     )
     other.chmod(other.stat().st_mode | stat.S_IXUSR)
-    ran = pages(moon, BRAILDESK=str(other), PROGRAM=program)
-    assert ran == Ran(
+    words = ("pages", moon)
+    assert scribe(
+        *words, folder=moon.parent, BRAILDESK=str(other), PROGRAM=program
+    ) == Ran(
         3,
         "",
         "The pages of volume 1 were laid out otherwise than export writes them, so nothing"
