@@ -7,6 +7,7 @@ from pathlib import Path
 
 from braildesk import requests
 
+from scribe.changes import at_version
 from scribe.commands.change import change_lines, make_change
 from scribe.commands.find import found, summary as found_summary, word_lines
 from scribe.commands.mark import wider
@@ -66,7 +67,7 @@ def _mark_text(talk: Conversation, given: str) -> None:
     count = cells.stop - cells.start
     made = session.mark(paragraph, cells.start, count, note, expect=version)
     (mark,) = (each for each in session.marks(paragraph) if each.id == made.id)
-    talk.show(mark_line(mark, print_text))
+    talk.show(mark_line(mark, print_text), at_version(made.version))
     if place != Occurrence(mark.start, mark.stop):
         talk.say(wider(mark, place, print_text))
 

@@ -70,12 +70,8 @@ def moon_once(made_once: Path, tmp_path_factory: pytest.TempPathFactory) -> Path
 
 @pytest.fixture
 def moon(moon_once: Path, tmp_path: Path) -> Path:
-    """A copy of that book, at version 7, in a folder with the files of the sample.
-
-    The file of print has nothing there that the table lacks.
-    """
+    """A copy of that book, at version 7, in a folder with the files of the sample."""
     shutil.copytree(SAMPLE, tmp_path, dirs_exist_ok=True)
-    (tmp_path / "print.txt").write_text("The Moon rises.\nThe Moon sets.\n")
     return Path(shutil.copyfile(moon_once, tmp_path / "moon.braildesk"))
 
 

@@ -207,7 +207,10 @@ def test_words_are_taken_out(talk: Talk) -> None:
 def test_a_mark_is_put_on_words(talk: Talk) -> None:
     talk.type("mark-text 2", ": ")
     talk.type("Tides", ": ")
-    assert talk.type("a capital?") == ["Mark 2, open, on “Tides”: a capital?"]
+    assert talk.type("a capital?") == [
+        "Mark 2, open, on “Tides”: a capital?",
+        "The book is at version 8.",
+    ]
     assert talk.type("all-marks") == [
         "Mark 1, open, paragraph 1, on “moon”:",
         "  spelled so?",
@@ -363,8 +366,9 @@ def test_a_talk_takes_lines_from_a_pipe_too(moon: Path) -> None:
     given = "change-text 1\nfar\nnear\n"
     ran = scribe("talk", moon, "--width", "60", folder=moon.parent, given=given)
     assert ran.status == 0
-    assert ran.shown.splitlines()[-3:] == [
+    assert ran.shown.splitlines()[-4:] == [
         "Paragraph 1: The moon is [near] away.",
         "Before: The moon is [far] away.",
+        "The book is at version 8.",
         "The book is at version 8.",
     ]
