@@ -56,6 +56,7 @@ runs:
 	tests/tutorial.sh $(PROGRAM)
 	tests/client.sh $(PROGRAM)
 	tests/rows.sh
+	tests/ueb.sh
 	tests/stops.sh
 	tests/memory.sh
 	tests/kill.sh

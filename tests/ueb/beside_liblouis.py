@@ -9,13 +9,18 @@ import sys
 import louis  # type: ignore[import]
 
 import cells
+import claims
 import english
 import kinds
 import rows
 from program import Program
 
 ROOT = pathlib.Path(__file__).resolve().parents[2]
+UEB = ROOT / "tables/ueb.utb"
 TABLES = ["unicode.dis", "en-ueb-g1.ctb"]
+
+# The characters that alone have other cells, as docs/LIBLOUIS.md says.
+OTHERWISE_ALONE = frozenset('"?·’ﬀﬁ')
 
 # The share of the lines of prose that has to have the same cells, and how many
 # lines of prose there have to be.
@@ -79,6 +84,19 @@ def show(group: english.Group, tally: Tally, examples: int) -> None:
             print(f"        liblouis {cells.to_ascii(pair.theirs)}")
 
 
+def wrong_characters(program: Program) -> list[str]:
+    """The characters that alone have other cells, where they should not, or should."""
+    asked = list(claims.characters())
+    wrong = []
+    for character, ours in zip(asked, program.translate(asked)):
+        theirs = by_liblouis(character)
+        if theirs and (ours != theirs[0]) != (character in OTHERWISE_ALONE):
+            wrong.append(
+                f"U+{ord(character):04X}: {ours} here, {theirs[0]} by liblouis"
+            )
+    return wrong
+
+
 def wrong_examples() -> list[str]:
     """The examples of docs/LIBLOUIS.md that liblouis answers otherwise."""
     told = rows.of_document(ROOT / "docs/LIBLOUIS.md", "The table `ueb.utb`")
@@ -96,7 +114,7 @@ def main() -> int:
     parser.add_argument("program", type=lambda it: pathlib.Path(it).resolve())
     parser.add_argument("--lines", type=int, default=20_000)
     parser.add_argument("--examples", type=int, default=0, metavar="N")
-    parser.add_argument("--table", default=str(ROOT / "tables/ueb.utb"))
+    parser.add_argument("--table", type=pathlib.Path, default=UEB)
     given = parser.parse_args()
     lines = english.running_lines(given.lines)
     found = tallies(Program(given.program, given.table), lines)
@@ -104,7 +122,7 @@ def main() -> int:
     for group, tally in found.items():
         show(group, tally, given.examples)
     prose = found[english.Group.PROSE]
-    wrong = wrong_examples()
+    wrong = [*wrong_examples(), *wrong_characters(Program(given.program, UEB))]
     for it in wrong:
         print(f"tests/ueb_liblouis.sh: {it}", file=sys.stderr)
     if prose.both < FEWEST_LINES or prose.share < LEAST_SHARE:
