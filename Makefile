@@ -43,6 +43,7 @@ demo:
 
 test:
 	RT='$(RT)' tests/needs.sh
+	rm -rf build/rooms
 	RT_JOBS=$(JOBS) $(RT) ci
 	@mkdir -p $(dir $(PROGRAM))
 	@cp crates/braildesk/out/braildesk $(PROGRAM)
@@ -51,15 +52,13 @@ test:
 # what the gate runs once all is proved; the tests stop files at each 23rd of their calls, and tests/stops.sh at each
 trials:
 	RT='$(RT)' EVERY=23 tests/trials.sh
-runs:
-	tests/prove.sh
-	tests/tutorial.sh $(PROGRAM)
-	tests/client.sh $(PROGRAM)
-	tests/rows.sh
-	tests/ueb.sh
-	tests/stops.sh
-	tests/memory.sh
-	tests/kill.sh
+# scripts over the built program, which run side by side
+SCRIPTS := prove tutorial client rows ueb stops memory kill desk
+runs: $(SCRIPTS:%=run-%)
+run-tutorial run-client: run-%:
+	tests/$*.sh $(PROGRAM)
+run-%:
+	tests/$*.sh
 
 attacks:
 	$(need_rt)
