@@ -3,12 +3,14 @@
 import tempfile
 import unicodedata
 from collections import Counter
-from collections.abc import Collection, Iterator, Sequence
+from collections.abc import Callable, Collection, Iterator, Sequence
+from contextlib import contextmanager
 from dataclasses import dataclass
+from pathlib import Path
 
-from braildesk import Refused, Table, limits, translate
-from braildesk.characters import named
+from braildesk import Failed, Refused, Table, characters, limits, translate
 
+from scribe import visible
 from scribe.manuscript import Passage, Position
 
 
@@ -22,33 +24,45 @@ class Fault:
 
 def faults(passages: Sequence[Passage], table: Table) -> list[Fault]:
     """Each character that can't be typed with a table, and each paragraph that is too long."""
-    characters = Counter("".join(passage.text for passage in passages))
-    barred = {each for each in characters if unicodedata.category(each) == "Cc"}
-    others = sorted(characters.keys() - barred)
-    with tempfile.NamedTemporaryFile(prefix="table-", suffix=".utb") as file:
-        file.write(table.text)
-        file.flush()
-        lacking = _refused(others, translate(file.name, others))
+    counts = Counter("".join(passage.text for passage in passages))
+    barred = {each for each in counts if unicodedata.category(each) == "Cc"}
+    others = sorted(counts.keys() - barred)
+    with _file_of(table) as path:
+        lacking = _refused(others, translate(path, others))
         sound = [each for each in passages if not _is_faulty(each, barred | lacking)]
-        answers = translate(file.name, [each.text for each in sound])
+        answers = translate(path, [each.text for each in sound])
     found = [
-        *_of_characters(passages, characters, barred, "is a control character"),
-        *_of_characters(
-            passages, characters, lacking, f"has no cells by the table {table.name}"
-        ),
+        *_of_characters(passages, counts, barred, _barred),
+        *_of_characters(passages, counts, lacking, _lacking(table)),
         *(_too_long(each) for each in passages if _is_too_long(each)),
         *_of_lines(sound, answers),
     ]
     return sorted(found)
 
 
-def _refused(characters: Sequence[str], answers: Sequence[str | Refused]) -> set[str]:
-    pairs = zip(characters, answers)
+@contextmanager
+def _file_of(table: Table) -> Iterator[str]:
+    """The path of a file with the text of a table, for as long as it is needed."""
+    try:
+        folder = tempfile.TemporaryDirectory(prefix="scribe-")
+        path = Path(folder.name, "table.utb")
+        path.write_bytes(table.text)
+    except OSError as cause:
+        raise Failed(
+            "The table could not be written to a temporary file, by which the text is judged:"
+            f" {cause.strerror}. Nothing was typed."
+        ) from cause
+    with folder:
+        yield str(path)
+
+
+def _refused(asked: Sequence[str], answers: Sequence[str | Refused]) -> set[str]:
+    pairs = zip(asked, answers)
     return {character for character, answer in pairs if isinstance(answer, Refused)}
 
 
-def _is_faulty(passage: Passage, characters: set[str]) -> bool:
-    return _is_too_long(passage) or not characters.isdisjoint(passage.text)
+def _is_faulty(passage: Passage, unfit: set[str]) -> bool:
+    return _is_too_long(passage) or not unfit.isdisjoint(passage.text)
 
 
 def _is_too_long(passage: Passage) -> bool:
@@ -58,20 +72,28 @@ def _is_too_long(passage: Passage) -> bool:
 def _of_characters(
     passages: Sequence[Passage],
     counts: Counter[str],
-    characters: Collection[str],
-    what: str,
+    unfit: Collection[str],
+    what: Callable[[str], str],
 ) -> Iterator[Fault]:
     """A fault for each of some characters, where it stands first, with how often it stands."""
-    left = set(characters)
+    left = set(unfit)
     for passage in passages:
         for character in left.intersection(passage.text):
             position = passage.position(passage.text.index(character))
             count = counts[character]
             often = "once" if count == 1 else f"{count:,} times"
-            yield Fault(
-                position, f"{named(character)} {what}. It stands in the text {often}."
-            )
+            yield Fault(position, f"{what(character)}. It stands in the text {often}.")
         left.difference_update(passage.text)
+
+
+def _barred(character: str) -> str:
+    return f"{visible.named(character)} is a control character"
+
+
+def _lacking(table: Table) -> Callable[[str], str]:
+    return (
+        lambda each: f"{characters.named(each)} has no cells by the table {table.name}"
+    )
 
 
 def _too_long(passage: Passage) -> Fault:

@@ -83,7 +83,7 @@ def test_all_that_would_be_refused_is_reported_before_anything_is_typed(
         " the table en. It stands in the text 2 times.\n"
         "text.txt, line 3, column 7: “ě” (U+011B LATIN SMALL LETTER E WITH CARON) has no"
         " cells by the table en. It stands in the text 2 times.\n"
-        "text.txt, line 4, column 2: U+000B LINE TABULATION is a control character. It"
+        "text.txt, line 4, column 2: U+000B VERTICAL TAB is a control character. It"
         " stands in the text once.\n"
         "text.txt, line 6, column 4001: The paragraph of line 6 has 4,001 characters, and"
         " a paragraph has at most 4,000. This is the first beyond.\n"
