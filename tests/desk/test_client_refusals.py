@@ -4,8 +4,7 @@ import re
 import shutil
 import sqlite3
 import string
-import subprocess
-from collections.abc import Iterator
+from collections.abc import Callable, Iterator
 from contextlib import closing
 from pathlib import Path
 from typing import Any
@@ -16,7 +15,6 @@ import braildesk
 from braildesk import (
     CannotOpen,
     Damaged,
-    Failed,
     NewerFormat,
     NoMemory,
     NotABook,
@@ -679,53 +677,41 @@ def test_the_words_around_a_character_are_shown_whole(
     assert around(text, place) == shown
 
 
-@pytest.fixture(scope="module")
-def library(tmp_path_factory: pytest.TempPathFactory) -> Path:
-    """A library that refuses one growth of memory in the program that loads it."""
-    if shutil.which("cc") is None:
-        pytest.skip("cc is missing, which makes a library that refuses memory")
-    path = tmp_path_factory.mktemp("memory") / "memory.so"
-    source = FORMATS.parents[1] / "tests" / "memory.c"
-    subprocess.run(["cc", "-shared", "-fPIC", "-o", path, source], check=True)
-    return path
+def scripted(folder: Path, lines: str) -> Path:
+    """A program that answers as it is told, whatever it is asked."""
+    program = folder / "program"
+    program.write_text(f"#!/bin/sh\n{lines}\n")
+    program.chmod(0o755)
+    return program
 
 
-def refused_in_session(book: Path, program: Path) -> NoMemory | None:
-    """How a request is refused by a session that has no memory for it, if that comes."""
-    with Session(book, program) as session:
-        version = session.seen
-        try:
-            session.type("end", "en", "a")
-        except NoMemory as refusal:
-            assert session.version() == version
-            return refusal
-    return None
-
-
-def test_want_of_memory_is_said_of_the_request_and_the_session_goes_on(
-    book: Path, library: Path, tmp_path: Path
+def test_want_of_memory_is_said_of_a_request_and_the_session_goes_on(
+    tmp_path: Path,
 ) -> None:
-    program = tmp_path / "program"
-    preload = f"LD_PRELOAD='{library}'"
-    opening, asking = None, None
-    for number in range(1, 2_000):
-        program.write_text(
-            f"#!/bin/sh\nexec env {preload} REFUSED={number} '{braildesk.find()}' \"$@\"\n"
-        )
-        program.chmod(0o755)
-        try:
-            asking = refused_in_session(book, program)
-        except NoMemory as refusal:
-            opening = refusal
-        except Failed:
-            pass  # the growth was needed where the file is read or written
-        if asking is not None:
-            break
-    assert opening is not None and asking is not None
-    assert (opening.code, asking.code) == (90, 90)
-    assert opening.sentence == (
-        "There was no memory for this. Close other programs, and ask again."
+    program = scripted(
+        tmp_path,
+        "read line; echo end 1; read line; echo no 90; read line; echo end 1; cat > /dev/null",
     )
-    assert asking.sentence == (
+    with Session("any", program) as session:
+        with pytest.raises(NoMemory) as caught:
+            session.type("end", "en", "a")
+        assert session.version() == 1
+    assert caught.value.code == 90
+    assert caught.value.sentence == (
         "There was no memory for this. Nothing was added. Close other programs, and ask again."
     )
+
+
+def test_want_of_memory_is_said_of_a_file(tmp_path: Path) -> None:
+    program = scripted(tmp_path, "echo braildesk: no 90 >&2; exit 2")
+    attempts: list[Callable[[], object]] = [
+        lambda: Session("any", program),
+        lambda: braildesk.new_book("any", program=program),
+        lambda: braildesk.check("any", program=program),
+    ]
+    for attempt in attempts:
+        with pytest.raises(NoMemory) as caught:
+            attempt()
+        assert caught.value.sentence == (
+            "There was no memory for this. Close other programs, and ask again."
+        )
