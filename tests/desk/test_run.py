@@ -265,7 +265,11 @@ def test_a_line_of_more_bytes_than_a_request_may_have_is_not_cut(moon: Path) -> 
 
 def test_a_session_that_is_lost_says_what_was_kept(moon: Path) -> None:
     program = moon.with_name("cut short")
-    program.write_text(f'#!/bin/sh\nhead -n 2 | "{braildesk.find()}" "$@"\nkill $$\n')
+    program.write_text(
+        "#!/bin/sh\n"
+        'two_lines() { for _ in 1 2; do read -r line; echo "$line"; done; }\n'
+        f"two_lines | '{braildesk.find()}' \"$@\"\nkill $$\n"
+    )
     program.chmod(0o755)
     given = "strike 1\nstrike 2\nstrike 3\n"
     ran = scribe("run", moon, folder=moon.parent, given=given, BRAILDESK=str(program))
