@@ -1,6 +1,7 @@
 """Sessions: many requests ahead of their replies, framing, and what is left of a killed one."""
 
 import os
+import shutil
 import signal
 import subprocess
 import sys
@@ -350,21 +351,32 @@ def test_ctrl_c_leaves_the_program_to_end_well(book: Path) -> None:
     assert prints == [f"line {n}." for n in range(len(prints))]
 
 
+def seconds(action: Callable[[], object]) -> float:
+    """How long something takes."""
+    started = time.monotonic()
+    action()
+    return time.monotonic() - started
+
+
 def test_many_requests_are_at_least_half_as_fast_as_by_a_pipe(
     book: Path, program: str
 ) -> None:
     texts = [f"Line {n} of a book about the moon and the tides." for n in range(3_000)]
-    piped = book.with_name("piped")
-    piped.write_bytes(book.read_bytes())
     sent = "".join(f"type end en {text}\n" for text in texts).encode()
-    started = time.monotonic()
-    subprocess.run(
-        [program, "session", piped], input=sent, check=True, stdout=subprocess.DEVNULL
+
+    def by_pipe() -> None:
+        piped = shutil.copyfile(book, book.with_name("piped"))
+        words = [program, "session", str(piped)]
+        subprocess.run(words, input=sent, check=True, stdout=subprocess.DEVNULL)
+
+    def by_client() -> None:
+        with Session(shutil.copyfile(book, book.with_name("asked"))) as session:
+            asked = (requests.Type("end", "en", text) for text in texts)
+            assert all(isinstance(answer, Typed) for answer in session.each(asked))
+            assert session.version() == 3_001
+
+    # other work of the machine may hold up one of them: the best of three counts
+    best_pipe, best_client = (
+        min(seconds(action) for _ in range(3)) for action in (by_pipe, by_client)
     )
-    by_pipe = time.monotonic() - started
-    started = time.monotonic()
-    with Session(book) as session:
-        asked = (requests.Type("end", "en", text) for text in texts)
-        assert sum(isinstance(answer, Typed) for answer in session.each(asked)) == 3_000
-    by_client = time.monotonic() - started
-    assert by_client < 2 * by_pipe, (by_client, by_pipe)
+    assert best_client < 2 * best_pipe, (best_client, best_pipe)
