@@ -99,8 +99,8 @@ def test_columns_count_characters_of_the_file(empty_book: Path) -> None:
     ran = put(empty_book, "שש e\u0301e\u0301 月?\n月q\u0307 ש")
     assert [line[:46] for line in ran.said.split("\n")[:3]] == [
         "text.txt, line 1, column 10: “?” (U+003F QUEST",
-        "text.txt, line 2, column 2: “q” (U+0071 LATIN ",
         "text.txt, line 2, column 2: U+0307 COMBINING D",
+        "text.txt, line 2, column 2: “q” (U+0071 LATIN ",
     ]
 
 
