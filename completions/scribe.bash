@@ -4,7 +4,7 @@
 _scribe() {
     local word=${COMP_WORDS[COMP_CWORD]} words=''
     local commands='new run talk table import show find change mark marks undo resolve strike
-        restore heading body volume move retable pages export copy'
+        restore heading body volume move retable pages export copy bring'
     if ((COMP_CWORD == 1)); then
         words="$commands --help"
     elif [[ $word == -* ]]; then
@@ -19,6 +19,7 @@ _scribe() {
             mark) words='--nth --width' ;;
             undo | resolve | strike | restore | heading | body | volume | move | retable) words='--width' ;;
             pages) words='--width --lines --page --paragraph' ;;
+            bring) words='--list --words --learn --anyway' ;;
             export) words='--width --lines' ;;
         esac
         words+=' --help'

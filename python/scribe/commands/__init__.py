@@ -4,6 +4,7 @@ from argparse import ArgumentParser, Namespace
 from typing import Protocol
 
 from scribe.commands import (
+    bring,
     change,
     copy,
     edits,
@@ -49,4 +50,5 @@ COMMANDS: tuple[Command, ...] = (
     pages,
     export,
     copy,
+    bring,
 )

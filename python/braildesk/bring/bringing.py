@@ -1,0 +1,139 @@
+"""Bringing a table over, from its file to a text that was compared with liblouis."""
+
+from __future__ import annotations
+
+import zlib
+from dataclasses import dataclass
+from pathlib import Path
+from tempfile import TemporaryDirectory
+from typing import Final
+
+from braildesk.bring import report
+from braildesk.bring.comparison import Comparison, compare
+from braildesk.bring.draft import Draft
+from braildesk.bring.learning import learn
+from braildesk.bring.making import Made, make
+from braildesk.bring.oracle import Liblouis
+from braildesk.bring.shapes import ASKED, UNSEEN, Material, Shape, lines_of
+from braildesk.bring.shipped import shipped_table
+from braildesk.bring.subject import Subject, read_subject
+from braildesk.bring.trial import Trial
+from braildesk.bring.words import (
+    FEWEST_WORDS,
+    installed_words,
+    own_words,
+    usable,
+    words_in,
+)
+
+LIMIT: Final = 0.99
+"""The share of lines that has to agree, those aside that need what the profile leaves out for good."""
+
+FEWEST: Final = 0.5
+"""The share of all lines that has to agree, so that the limit doesn't speak of a few lines alone."""
+
+EACH: Final = 25
+"""How many lines of each shape are compared."""
+
+
+class NoWords(Exception):
+    """The words that were given can't be used."""
+
+
+@dataclass(frozen=True)
+class Options:
+    """How a table is brought over."""
+
+    words: Path | None = None
+    learn: bool = False
+    each: int = EACH
+
+
+@dataclass(frozen=True)
+class Brought:
+    """A table as a text of the profile, and how it compares with liblouis."""
+
+    text: str
+    losses: tuple[str, ...]
+    asked: Comparison
+    unseen: Comparison
+    source_of_words: str
+
+    @property
+    def is_good(self) -> bool:
+        """Whether the text may be used without another look."""
+        return self.unseen.share >= LIMIT and self.unseen.share_of_all >= FEWEST
+
+
+def bring(table: Path, options: Options = Options()) -> Brought:
+    """Brings a table over."""
+    with Liblouis(table) as liblouis, TemporaryDirectory() as name:
+        subject = read_subject(table, liblouis)
+        return _Job(subject, options, Path(name)).run()
+
+
+@dataclass(frozen=True)
+class _Job:
+    subject: Subject
+    options: Options
+    folder: Path
+
+    def run(self) -> Brought:
+        trial = Trial(self.folder)
+        made = make(self.subject, trial)
+        seed = zlib.crc32(self.subject.source.path.name.encode())
+        source_of_words, words = self._words(made.draft, seed)
+        if self.options.learn:
+            learn(self.subject, made.draft, trial, words[::2])
+            words = words[1::2]
+        asked, unseen = (
+            self._compare(made, trial, shapes, words, seed + place)
+            for place, shapes in enumerate((ASKED, UNSEEN))
+        )
+        agreement = report.agreement(unseen)
+        comments = report.comments(made, self.subject, agreement)
+        losses = [*report.losses(made, self.subject), *report.unsettled(made)]
+        text = made.draft.text(comments)
+        return Brought(text, tuple(losses), asked, unseen, source_of_words)
+
+    def _compare(
+        self,
+        made: Made,
+        trial: Trial,
+        shapes: tuple[Shape, ...],
+        words: list[str],
+        seed: int,
+    ) -> Comparison:
+        draft = made.draft
+        if not words:
+            return Comparison(0, (), {})
+        upper = {lower: capital for capital, lower in draft.lower.items()}
+        letters = sorted({one for word in words for one in word})
+        plain = [one for one in letters if one.isascii()] or letters
+        material = Material(words, plain, upper)
+        samples = lines_of(shapes, material, draft.cells, self.options.each, seed)
+        return compare(self.subject, draft, trial, samples, self.folder)
+
+    def _words(self, draft: Draft, seed: int) -> tuple[str, list[str]]:
+        """The words to compare with, and where they are from."""
+        if self.options.words is not None:
+            words = usable(words_in(self.options.words), draft)
+            if len(words) < FEWEST_WORDS:
+                raise NoWords(
+                    f"Of the words in {self.options.words} the table can write {len(words)}, and"
+                    f" {FEWEST_WORDS} are needed to compare with. Give a list of words of the"
+                    " table's language, one on a line."
+                )
+            return str(self.options.words), words
+        installed = installed_words(shipped_table(self.subject.source.path).language)
+        if installed is not None:
+            words = usable(words_in(installed), draft)
+            if len(words) >= FEWEST_WORDS:
+                return str(installed), words
+        if self.options.learn:
+            raise NoWords(
+                "Rules are guessed from words of the table's language, and no list of them is"
+                " installed. Give one by --words, one word on a line."
+            )
+        made_up = usable(own_words(self.subject, draft, seed), draft)
+        return "made-up words of the table's own letters", made_up

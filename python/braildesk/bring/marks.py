@@ -1,0 +1,168 @@
+"""Marks in their places: beside blanks, letters and digits, and beside other marks.
+
+The profile has a kind of rule for each place between edges of words and letters, and none beside a
+digit. So what a mark is before a digit is its definition, or an `always` rule; after a digit it is a
+rule for each digit; all other places have rules of their own kind.
+"""
+
+from __future__ import annotations
+
+from collections.abc import Iterable, Sequence
+from typing import Final
+
+from braildesk.bring.draft import Draft, Origin
+from braildesk.bring.operands import Cells
+from braildesk.bring.places import most_common
+from braildesk.bring.probes import Place, Probe, Probes, Side, Wanted
+from braildesk.bring.subject import Subject
+from braildesk.bring.trial import Trial
+
+IN_PLACES: Final = Origin("Marks in their places, by asking liblouis.")
+WITH_BLANKS: Final = Origin("Marks with blanks beside them, by asking liblouis.")
+PAIRED: Final = Origin("Pairs of marks, by asking liblouis.")
+
+JOINING: Final = "-/+*=:<>(\u2013\u00b7\u00d7\u00f7\u2212"
+"""Marks that between digits rather join numbers than end one."""
+
+USUAL: Final = (
+    ".,;:?!-'\"()[]/%\u2013\u2014\u2026"
+    "\u2018\u2019\u201a\u201c\u201d\u201e\u00ab\u00bb"
+)
+"""The marks that are asked for in pairs."""
+
+
+_BEFORE_DIGIT: Final = ((Side.EDGE, Side.DIGIT), (Side.LETTER, Side.DIGIT))
+
+KIND_OF: Final = {
+    (Side.EDGE, Side.EDGE): "word",
+    (Side.EDGE, Side.LETTER): "begword",
+    (Side.LETTER, Side.LETTER): "midword",
+    (Side.LETTER, Side.EDGE): "endword",
+}
+
+
+class Marks:
+    """Asks for marks in their places, and adds what they need to a draft."""
+
+    def __init__(self, subject: Subject, draft: Draft, trial: Trial) -> None:
+        self.subject: Final = subject
+        self.draft: Final = draft
+        self.trial: Final = trial
+        self._probes: Final = Probes(subject, draft)
+        self._once_different: Final[list[Probe]] = []
+
+    def define(self, marks: Iterable[str]) -> list[str]:
+        """Defines the marks by their cells before a digit. Returns those without cells."""
+        missing = []
+        for mark in marks:
+            cells = self._default(mark) or self.subject.written_cells(mark)
+            if not cells or not self.draft.define(mark, "punctuation", cells):
+                missing.append(mark)
+        return missing
+
+    def settle(
+        self, strings: Sequence[str], places: Sequence[Place], origin: Origin
+    ) -> None:
+        """Asks for strings in places, and adds rules where the draft differs."""
+        probes = [
+            probe
+            for characters in strings
+            for place in places
+            for probe in self._probes.of(characters, place)[:1]
+        ]
+        different: dict[str, set[Place]] = {}
+        for probe in self._different(probes):
+            self._once_different.append(probe)
+            different.setdefault(probe.characters, set()).add(probe.place)
+        for characters, where in different.items():
+            wanted = {place: self._probes.wanted(characters, place) for place in places}
+            self._add_rules(characters, wanted, where, origin)
+
+    def unsettled(self) -> list[str]:
+        """The lines for which rules were looked for, and that differ in the end."""
+        return [probe.line for probe in self._different(self._once_different)]
+
+    def _different(self, probes: Sequence[Probe]) -> list[Probe]:
+        lines = [probe.line for probe in probes]
+        theirs = self.subject.liblouis.ask(lines)
+        ours = self.trial.cells(self.draft, lines)
+        return [
+            probe
+            for probe, want, have in zip(probes, theirs, ours, strict=True)
+            if want is not None and want != have
+        ]
+
+    def _default(self, mark: str) -> Cells | None:
+        """A mark's cells before a digit, or else where it most often has them."""
+        self.draft.define(mark, "punctuation", (0,))
+        found = {
+            place: self._probes.wanted(mark, place)
+            for place in (*_BEFORE_DIGIT, *KIND_OF)
+        }
+        self.draft.drop(mark)
+        before_digit = found[Side.EDGE, Side.DIGIT] or found[Side.LETTER, Side.DIGIT]
+        alone = self.subject.liblouis.cells(mark)
+        return before_digit or most_common(found.values(), share=0.3) or alone
+
+    def _add_rules(
+        self, characters: str, wanted: Wanted, where: set[Place], origin: Origin
+    ) -> None:
+        """Adds rules for the places in which the draft differs."""
+        bound = where
+        if len(characters) > 1 and where & set(_BEFORE_DIGIT):
+            cells = wanted.get(_BEFORE_DIGIT[0]) or wanted.get(_BEFORE_DIGIT[1])
+            if cells and self.draft.add_rule("always", characters, cells, origin):
+                bound = set(wanted)
+        for place, kind in KIND_OF.items():
+            if place in bound and (bound_cells := wanted.get(place)):
+                self.draft.add_rule(kind, characters, bound_cells, origin)
+        if any(left is Side.DIGIT for left, _ in bound):
+            self._add_after_digits(characters, wanted, origin)
+
+    def _add_after_digits(
+        self, characters: str, wanted: Wanted, origin: Origin
+    ) -> None:
+        """Rules for each digit before the characters, if they have other cells there."""
+        inner = wanted.get((Side.DIGIT, Side.DIGIT))
+        ending = wanted.get((Side.DIGIT, Side.EDGE))
+        leading = wanted.get((Side.DIGIT, Side.LETTER))
+        goes_on = characters in self.draft.mode
+        if characters.endswith(" "):
+            usual = _first(leading, inner)
+        elif characters[0] in JOINING and not goes_on:
+            usual = _first(inner, ending, leading)
+        else:
+            usual = _first(ending, inner, leading)
+        if usual is None:
+            return
+        digits = self._digits()
+        if len(characters) > 1 or usual != self.draft.cells[characters]:
+            for digit in digits:
+                cells = self.draft.cells[digit] + usual
+                self.draft.add_rule("always", digit + characters, cells, origin)
+        if goes_on and inner is not None and inner != usual:
+            self._add_between_digits(characters, inner, origin)
+        elif ending is not None and ending != usual and " " in self.draft.cells:
+            for digit in digits:
+                cells = self.draft.cells[digit] + ending + self.draft.cells[" "]
+                self.draft.add_rule("always", f"{digit}{characters} ", cells, origin)
+
+    def _digits(self) -> list[str]:
+        """The digits that texts have, or those that the table has."""
+        digits = [one for one, kind in self.draft.classes.items() if kind == "digit"]
+        return [one for one in digits if one.isascii()] or digits
+
+    def _add_between_digits(
+        self, characters: str, inner: Cells, origin: Origin
+    ) -> None:
+        for first in self._digits():
+            for second in self._digits():
+                cells = self.draft.cells[first] + inner + self.draft.cells[second]
+                self.draft.add_rule(
+                    "always", first + characters + second, cells, origin
+                )
+
+
+def _first(*found: Cells | None) -> Cells | None:
+    """The first that there is. It may have no cells, as a colon that goes between digits."""
+    return next((cells for cells in found if cells is not None), None)

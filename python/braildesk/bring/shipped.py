@@ -1,0 +1,87 @@
+"""The tables that the installed liblouis has, by language, with what was measured of them."""
+
+from __future__ import annotations
+
+import csv
+import re
+from collections.abc import Iterator, Mapping
+from dataclasses import dataclass
+from pathlib import Path
+from typing import Final
+
+from braildesk.bring.source import INSTALLED
+
+MEASURED: Final = Path(__file__).with_name("measured.tsv")
+"""What `tests/bring_all.sh` found, a row a table."""
+
+_ENDINGS: Final = (".tbl", ".utb", ".ctb")
+_ENTRY: Final = re.compile(r"#[-+]([a-z-]+):\s*(.*?)\s*$")
+
+
+@dataclass(frozen=True)
+class Shipped:
+    """A table with what its head says of it."""
+
+    path: Path
+    language: str
+    title: str
+    contraction: str
+    """`no`, `full`, `partial`, or empty where the head doesn't say."""
+
+    @property
+    def name(self) -> str:
+        return self.path.name
+
+
+@dataclass(frozen=True)
+class Measured:
+    """The shares of lines that agreed when a table was brought over."""
+
+    asked: float
+    unseen: float
+    others: float
+    """The share on unseen lines, those aside that need what the profile leaves out for good."""
+    differs: str
+
+
+def head_of(path: Path) -> dict[str, str]:
+    """The entries at the head of a table, as `language` or `display-name`."""
+    found: dict[str, str] = {}
+    for line in path.read_text(encoding="utf-8", errors="replace").splitlines():
+        if entry := _ENTRY.match(line):
+            found.setdefault(entry[1], entry[2])
+        elif line.strip() and not line.startswith("#"):
+            break
+    return found
+
+
+def shipped_table(path: Path) -> Shipped:
+    """A table with its head."""
+    head = head_of(path)
+    language = head.get("language") or re.split(r"[-_.]", path.name)[0].lower()
+    title = head.get("display-name") or head.get("index-name") or ""
+    return Shipped(path, language, title, head.get("contraction", ""))
+
+
+def shipped_tables(folder: Path = INSTALLED) -> list[Shipped]:
+    """All tables of a folder that stand for themselves, by language and name."""
+    found = [
+        shipped_table(path)
+        for path in sorted(folder.iterdir() if folder.is_dir() else ())
+        if path.suffix in _ENDINGS
+    ]
+    return sorted(found, key=lambda one: (one.language, one.name))
+
+
+def measured_tables(path: Path = MEASURED) -> Mapping[str, Measured]:
+    """What was measured, by the names of the tables."""
+    return dict(_rows(path)) if path.is_file() else {}
+
+
+def _rows(path: Path) -> Iterator[tuple[str, Measured]]:
+    with path.open(encoding="utf-8", newline="") as file:
+        for row in csv.DictReader(file, delimiter="\t"):
+            asked, unseen, others = (
+                float(row[key]) for key in ("asked", "unseen", "others")
+            )
+            yield row["table"], Measured(asked, unseen, others, row["differs"])

@@ -1,0 +1,57 @@
+"""A table that is being brought over: what it says, and liblouis to ask about it."""
+
+from __future__ import annotations
+
+from dataclasses import dataclass
+from pathlib import Path
+
+from braildesk.bring.alphabet import Alphabet, make_alphabet
+from braildesk.bring.operands import (
+    BadOperand,
+    Cells,
+    read_dots,
+    without_virtual_dots,
+)
+from braildesk.bring.oracle import Liblouis
+from braildesk.bring.source import Source, read_source
+from braildesk.bring.table import Table, read_table
+
+
+@dataclass(frozen=True)
+class Subject:
+    """A table of liblouis from three sides: its lines, what they say, and what liblouis makes of them."""
+
+    source: Source
+    table: Table
+    alphabet: Alphabet
+    liblouis: Liblouis
+
+    def written_cells(self, character: str) -> Cells | None:
+        """The cells that the lines give a character, in whatever place."""
+        for rule in self.table.rules:
+            if rule.line.opcode == "always" and rule.characters == character:
+                found = _read(rule.dots)
+                if found is not None:
+                    return found
+        seen = set()
+        while character not in seen:
+            seen.add(character)
+            dots = self.table.dots.get(character)
+            if dots is not None and dots != "=":
+                return _read(dots)
+            character = self.table.lower.get(character, character)
+        return None
+
+
+def _read(dots: str) -> Cells | None:
+    try:
+        return read_dots(without_virtual_dots(dots))
+    except BadOperand:
+        return None
+
+
+def read_subject(path: Path, liblouis: Liblouis) -> Subject:
+    """Reads a table that liblouis has open."""
+    source = read_source(path)
+    table = read_table(source)
+    return Subject(source, table, make_alphabet(table, path.name), liblouis)

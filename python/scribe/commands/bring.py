@@ -1,0 +1,152 @@
+"""`scribe bring`: a table of liblouis made one text that braildesk reads."""
+
+import os
+from argparse import ArgumentParser, ArgumentTypeError, Namespace
+from pathlib import Path
+
+from braildesk.bring import report
+from braildesk.bring.bringing import LIMIT, Brought, NoWords, Options, bring
+from braildesk.bring.oracle import NoLiblouis
+from braildesk.bring.shipped import measured_tables, shipped_tables
+from braildesk.bring.source import NoTable, find_table
+
+from scribe.console import Console
+from scribe.parser import Subparsers, command_parser
+from scribe.status import Status, Stop
+from scribe.whole_file import write_whole
+
+MORE = """\
+TABLE is the name of a table that liblouis has, as de-g0.utb, or a file. Its characters
+and rules are read, with all that it includes, and liblouis is asked for the cells of each
+character in its places. The text is then compared with liblouis, through the program, on
+lines that were not used for making it. It is written to FILE, or to standard output,
+where at least 99 of 100 lines agree; lines that need what a table of braildesk can't have
+(passages of capitals, several passes, computer braille) are counted apart. What could not
+be carried over stands in comments at the top of the text. The text is under the licence
+of the table that it was made from."""
+EXAMPLE = """\
+scribe bring --list
+scribe bring es-g1.ctb spanish.utb"""
+NOT_WRITTEN = (
+    "Nothing was written, since fewer than 99 of 100 lines agree. With --anyway the text is"
+    " written as it is."
+)
+NO_LINES = (
+    "Nothing was written, since no line could be compared: the table lacks letters, blanks or"
+    " the marks of sentences. With --anyway the text is written as it is."
+)
+FEW_LINES = (
+    "Nothing was written, since fewer than half of all lines agree. With --anyway the text is"
+    " written as it is."
+)
+
+
+def add_parser(subparsers: Subparsers) -> ArgumentParser:
+    """Adds the words of `bring`."""
+    parser = command_parser(
+        subparsers, "bring", "Brings a table of liblouis over.", EXAMPLE, MORE
+    )
+    parser.add_argument(
+        "table", metavar="TABLE", nargs="?", help="the table, by its name or its file"
+    )
+    parser.add_argument(
+        "file", metavar="FILE", nargs="?", type=Path, help="where the text is written"
+    )
+    parser.add_argument(
+        "--list",
+        action="store_true",
+        help="show the tables of the installed liblouis instead",
+    )
+    parser.add_argument(
+        "--words",
+        metavar="WORDS",
+        type=_readable,
+        help="a file of words to compare with, one on a line",
+    )
+    parser.add_argument(
+        "--learn",
+        action="store_true",
+        help="guess rules from half of the words too, and mark each in the text",
+    )
+    parser.add_argument(
+        "--anyway",
+        action="store_true",
+        help="write the text however few lines agree",
+    )
+    return parser
+
+
+def run(arguments: Namespace, console: Console) -> Status:
+    """Shows the tables, or brings one over."""
+    if arguments.list:
+        console.show(*listed())
+        return Status.DONE
+    if arguments.table is None:
+        raise Stop(
+            "Which table is to be brought over? `scribe bring --list` shows those that the"
+            " installed liblouis has."
+        )
+    try:
+        table = find_table(arguments.table)
+        brought = bring(table, Options(arguments.words, arguments.learn))
+    except (NoTable, NoLiblouis, NoWords) as found:
+        raise Stop(str(found)) from found
+    console.say(*said_of(brought))
+    if not brought.is_good and not arguments.anyway:
+        raise Stop(_why_not(brought))
+    return _written(brought, arguments.file, console)
+
+
+def listed() -> list[str]:
+    """The installed tables by language, each with the share that was measured."""
+    measured = measured_tables()
+    lines = []
+    for table in shipped_tables():
+        row = measured.get(table.name)
+        share = "not measured" if row is None else report.percent(row.others)
+        title = table.title or "-"
+        lines.append(f"{table.language:<8} {table.name:<34} {share:>12}  {title}")
+    if not lines:
+        return ["No tables of liblouis are installed: apt-get install liblouis-data."]
+    head = f"{'language':<8} {'table':<34} {'lines agree':>12}  title"
+    return [head, *lines]
+
+
+def said_of(brought: Brought) -> list[str]:
+    """What is said of a table that was brought over."""
+    lines = [*brought.losses, *report.agreement(brought.unseen)]
+    lines.append(f"The words of these lines are from {brought.source_of_words}.")
+    if brought.unseen.others:
+        lines.append("Lines that differ:")
+        lines += report.examples(brought.unseen.others)
+    elif brought.unseen.differences:
+        lines.append("Lines that differ:")
+        lines += report.examples(brought.unseen.differences, most=3)
+    return lines
+
+
+def _why_not(brought: Brought) -> str:
+    if not brought.unseen.lines:
+        return NO_LINES
+    return FEW_LINES if brought.unseen.share >= LIMIT else NOT_WRITTEN
+
+
+def _written(brought: Brought, file: Path | None, console: Console) -> Status:
+    if file is None:
+        console.show(brought.text.removesuffix("\n"))
+        return Status.DONE
+    try:
+        write_whole(file, brought.text.encode())
+    except OSError as error:
+        raise Stop(
+            f"{file} could not be written: {error.strerror}.", Status.FAILED
+        ) from error
+    console.say(f"{file} was written, {brought.text.count(chr(10)):,} lines.")
+    return Status.DONE
+
+
+def _readable(word: str) -> Path:
+    path = Path(word)
+    if not path.is_file():
+        raise ArgumentTypeError(f"there is no file {word}")
+    return path

@@ -1,0 +1,201 @@
+"""scribe bring: tables of the installed liblouis, and small ones, brought over by the real program."""
+
+from collections.abc import Mapping
+from concurrent.futures import ThreadPoolExecutor
+from pathlib import Path
+
+import pytest
+
+import braildesk
+from braildesk.bring.bringing import Brought, Options, bring
+from braildesk.bring.source import find_table
+from tool import Ran, scribe
+
+EACH = 4
+NAMES = (
+    "Es-Es-G0.utb",
+    "Pl-Pl-g1.utb",
+    "bg.ctb",
+    "ca-g1.ctb",
+    "cs-g1.ctb",
+    "es-g1.ctb",
+    "fi.utb",
+    "is.ctb",
+    "nl-NL-g0.utb",
+    "pt-pt-g1.utb",
+    "ro.ctb",
+    "sv-g0.utb",
+)
+BY_HAND = {
+    "es-g1.ctb": {
+        "El niño bebe 25 vasos.": "⠨⠑⠇⠀⠝⠊⠻⠕⠀⠃⠑⠃⠑⠀⠼⠃⠑⠀⠧⠁⠎⠕⠎⠄",
+        "¿Qué?": "⠢⠨⠟⠥⠮⠢",
+    },
+    "sv-g0.utb": {
+        "Åsa är 7 år.": "⠠⠡⠎⠁⠀⠜⠗⠀⠼⠛⠀⠡⠗⠄",
+        "NATO": "⠠⠠⠝⠁⠞⠕",
+    },
+    "Pl-Pl-g1.utb": {
+        "Żółw ma 3 lata.": "⠨⠯⠬⠣⠺⠀⠍⠁⠀⠼⠉⠀⠇⠁⠞⠁⠄",
+    },
+}
+"""Lines with the cells that the braille codes of the languages give them."""
+
+
+@pytest.fixture(scope="session")
+def brought(program: str) -> Mapping[str, Brought]:
+    """The twelve tables, two at a time."""
+
+    def one(name: str) -> Brought:
+        return bring(find_table(name), Options(each=EACH))
+
+    with ThreadPoolExecutor(2) as pool:
+        return dict(zip(NAMES, pool.map(one, NAMES), strict=True))
+
+
+@pytest.mark.parametrize("name", NAMES)
+def test_a_table_agrees_with_liblouis_on_lines_that_it_was_not_made_from(
+    name: str, brought: Mapping[str, Brought]
+) -> None:
+    found = brought[name]
+    assert found.unseen.lines >= 60
+    assert found.asked.share >= 0.999
+    assert found.unseen.share >= 0.995
+    assert found.unseen.share_of_all >= 0.9
+    assert found.is_good
+
+
+@pytest.mark.parametrize("name", NAMES)
+def test_a_text_says_where_it_is_from(
+    name: str, brought: Mapping[str, Brought]
+) -> None:
+    comments = [line for line in brought[name].text.splitlines() if line[:1] == "#"]
+    top = " ".join(line.lstrip("# ") for line in comments[:12])
+    assert f"{name} of liblouis" in top
+    assert "is under the licence that they state" in top
+
+
+@pytest.mark.parametrize("name", BY_HAND)
+def test_the_cells_are_those_of_the_braille_code(
+    name: str, brought: Mapping[str, Brought], tmp_path: Path
+) -> None:
+    (tmp_path / "table.utb").write_text(brought[name].text, encoding="utf-8")
+    lines = list(BY_HAND[name])
+    found = braildesk.translate(tmp_path / "table.utb", lines)
+    assert dict(zip(lines, found, strict=True)) == BY_HAND[name]
+
+
+SMALL = """\
+space \\s 0
+lowercase a 1
+lowercase x 1346
+lowercase q 12345
+lowercase z 1356
+base uppercase A a
+base uppercase X x
+base uppercase Q q
+base uppercase Z z
+capsletter 6
+punctuation . 256
+punctuation , 2
+punctuation - 36
+"""
+
+
+def small(folder: Path, more: str = "") -> Path:
+    path = folder / "small.utb"
+    path.write_text(SMALL + more)
+    return path
+
+
+def test_a_table_is_written_to_a_file(tmp_path: Path) -> None:
+    ran = scribe("bring", small(tmp_path), "out.utb", folder=tmp_path)
+    assert (ran.status, ran.shown) == (0, "")
+    assert "the cells are those of liblouis on 100%." in ran.said
+    assert ran.said.splitlines()[-1].startswith("out.utb was written, ")
+    lines = (tmp_path / "out.utb").read_text().splitlines()
+    assert [line for line in lines if not line.startswith("#")] == [
+        "capsletter 6",
+        "uplow Aa 1",
+        "uplow Xx 1346",
+        "uplow Qq 12345",
+        "uplow Zz 1356",
+        "space \\s 0",
+        "punctuation . 256",
+        "punctuation , 2",
+        "punctuation - 36",
+    ]
+
+
+def test_a_table_is_shown_without_a_file(tmp_path: Path) -> None:
+    ran = scribe("bring", small(tmp_path), folder=tmp_path)
+    assert ran.status == 0
+    assert ran.shown.endswith("punctuation - 36\n")
+
+
+def test_a_table_on_which_too_few_lines_agree_is_not_written(tmp_path: Path) -> None:
+    table = small(tmp_path, "match - x %a 16\n")
+    ran = scribe("bring", table, "out.utb", folder=tmp_path)
+    assert (ran.status, ran.shown) == (2, "")
+    assert "Not carried over: match, 1 line (small.utb 14)." in ran.said
+    assert "Lines that differ:\n  print     " in ran.said
+    assert ran.said.splitlines()[-1] == (
+        "Nothing was written, since fewer than 99 of 100 lines agree. With --anyway the"
+        " text is written as it is."
+    )
+    assert not (tmp_path / "out.utb").exists()
+
+
+def test_such_a_table_is_written_where_that_is_asked_for(tmp_path: Path) -> None:
+    table = small(tmp_path, "match - x %a 16\n")
+    ran = scribe("bring", table, "out.utb", "--anyway", folder=tmp_path)
+    assert ran.status == 0
+    assert "always" not in (tmp_path / "out.utb").read_text()
+
+
+def test_a_file_that_cannot_be_written_is_said(tmp_path: Path) -> None:
+    ran = scribe("bring", small(tmp_path), "none/out.utb", folder=tmp_path)
+    assert ran.status == 3
+    assert ran.said.splitlines()[-1] == (
+        "none/out.utb could not be written: No such file or directory."
+    )
+
+
+def refused(folder: Path, *words: str | Path) -> str:
+    ran = scribe("bring", *words, folder=folder)
+    assert (ran.status, ran.shown) == (2, "")
+    return ran.said.removesuffix("\n")
+
+
+def test_a_table_that_is_not_there_is_refused(tmp_path: Path) -> None:
+    assert refused(tmp_path, "none.utb").startswith("There is no table none.utb, ")
+
+
+def test_a_table_that_liblouis_refuses_is_refused(tmp_path: Path) -> None:
+    (tmp_path / "bad.utb").write_text("no such opcode\n")
+    assert refused(tmp_path, "bad.utb") == "liblouis refuses the table bad.utb."
+
+
+def test_too_few_words_are_refused(tmp_path: Path) -> None:
+    (tmp_path / "words").write_text("ax\nqz\nbook\n")
+    said = refused(tmp_path, small(tmp_path), "--words", "words")
+    assert said.startswith("Of the words in words the table can write 2, and 200 are")
+
+
+def test_rules_are_not_guessed_from_made_up_words(tmp_path: Path) -> None:
+    said = refused(tmp_path, small(tmp_path), "--learn")
+    assert said.startswith("Rules are guessed from words of the table's language, and")
+
+
+def test_without_a_table_the_list_is_named(tmp_path: Path) -> None:
+    assert refused(tmp_path).startswith("Which table is to be brought over?")
+
+
+def test_the_installed_tables_are_listed_by_language(tmp_path: Path) -> None:
+    ran = scribe("bring", "--list", folder=tmp_path)
+    assert ran.status == 0
+    head, *lines = ran.shown.splitlines()
+    assert head.split() == ["language", "table", "lines", "agree", "title"]
+    (spanish,) = [line for line in lines if " es-g1.ctb " in line]
+    assert spanish.startswith("es ")
+    assert [line[:8] for line in lines] == sorted(line[:8] for line in lines)

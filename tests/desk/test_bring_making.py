@@ -1,0 +1,248 @@
+"""What is made of small tables of liblouis: each expected line is written by hand."""
+
+from collections.abc import Sequence
+from pathlib import Path
+from tempfile import TemporaryDirectory
+
+import pytest
+
+from braildesk.bring.comparison import compare, what_differs
+from braildesk.bring.draft import Draft, Origin, comment_lines
+from braildesk.bring.learning import learn
+from braildesk.bring.making import Made, make
+from braildesk.bring.oracle import Liblouis, NoLiblouis
+from braildesk.bring.reduced import needs, text_without
+from braildesk.bring.shapes import Sample
+from braildesk.bring.source import find_table, read_source
+from braildesk.bring.subject import read_subject
+from braildesk.bring.trial import Trial
+
+LETTERS = """\
+space \\s 0
+lowercase a 1
+lowercase x 1346
+lowercase q 12345
+lowercase z 1356
+"""
+CAPITALS = """\
+base uppercase A a
+base uppercase X x
+base uppercase Q q
+base uppercase Z z
+capsletter 6
+begcapsword 6-6
+"""
+DIGITS = """\
+digit 1 16
+digit 2 126
+digit 3 146
+litdigit 1 1
+litdigit 2 12
+litdigit 3 14
+numsign 3456
+"""
+
+
+def made(folder: Path, text: str) -> Made:
+    """What a table's text is made into."""
+    (folder / "table.utb").write_text(text)
+    with Liblouis(folder / "table.utb") as liblouis, TemporaryDirectory() as scratch:
+        return make(read_subject(folder / "table.utb", liblouis), Trial(Path(scratch)))
+
+
+def lines_of(folder: Path, text: str) -> list[str]:
+    """The lines of that, comments aside."""
+    lines = made(folder, text).draft.text().splitlines()
+    return [line for line in lines if not line.startswith("#")]
+
+
+def test_capitals_become_pairs_with_their_signs(tmp_path: Path) -> None:
+    assert lines_of(tmp_path, LETTERS + CAPITALS) == [
+        "capsletter 6",
+        "begcapsword 6-6",
+        "uplow Aa 1",
+        "uplow Xx 1346",
+        "uplow Qq 12345",
+        "uplow Zz 1356",
+        "space \\s 0",
+    ]
+
+
+def test_digits_get_their_sign(tmp_path: Path) -> None:
+    assert lines_of(tmp_path, LETTERS + DIGITS)[:1] == ["numsign 3456"]
+    assert lines_of(tmp_path, LETTERS + DIGITS)[-3:] == [
+        "digit 1 1",
+        "digit 2 12",
+        "digit 3 14",
+    ]
+
+
+def test_a_mark_within_numbers_goes_on_with_them(tmp_path: Path) -> None:
+    text = LETTERS + DIGITS + "punctuation , 2\nmidnum , 2\n"
+    assert "numericmodechars ," in lines_of(tmp_path, text)
+
+
+def test_a_letter_that_stands_alone_gets_a_rule(tmp_path: Path) -> None:
+    text = LETTERS + "word x 56-1346\n"
+    assert lines_of(tmp_path, text)[-1:] == ["word x 56-1346"]
+
+
+def test_a_quotation_mark_gets_a_rule_for_each_place(tmp_path: Path) -> None:
+    text = LETTERS + 'punctuation " 4\nprepunc " 236\npostpunc " 356\n'
+    lines = lines_of(tmp_path, text)
+    assert 'begword " 236' in lines
+    assert 'endword " 356' in lines
+    assert made(tmp_path, text).uncarried == ()
+
+
+def test_a_blank_that_goes_after_a_sign_goes_by_a_rule(tmp_path: Path) -> None:
+    text = LETTERS + DIGITS + 'sign + 235\nnoback correct "+\\s" "+"\n'
+    lines = lines_of(tmp_path, text)
+    assert "always +\\s 235" in lines
+
+
+def test_a_mark_that_goes_between_digits_goes_by_rules(tmp_path: Path) -> None:
+    two = "digit 1 16\ndigit 2 126\nlitdigit 1 1\nlitdigit 2 12\nnumsign 3456\n"
+    drop = 'sign + 235\nnoback correct $d["+"]$d ?\n'
+    lines = lines_of(tmp_path, LETTERS + two + drop)
+    assert "numericmodechars +" in lines
+    assert [line for line in lines if line.startswith("always")] == [
+        "always 1+1 1-1",
+        "always 1+2 1-12",
+        "always 2+1 12-1",
+        "always 2+2 12-12",
+    ]
+
+
+def test_rules_of_contractions_are_read(tmp_path: Path) -> None:
+    text = LETTERS + "always xq 16\nsufword qz 34\nbegword zz 9-1\n"
+    result = made(tmp_path, text)
+    lines = result.draft.text().splitlines()
+    assert [line for line in lines if line.split()[0].endswith(("word", "always"))] == [
+        "word qz 34",
+        "begword qz 34",
+        "begword zz 0-1",
+        "always xq 16",
+    ]
+    assert result.uncarried == ()
+
+
+def test_a_rule_with_characters_that_have_no_cells_is_reported(tmp_path: Path) -> None:
+    (found,) = made(tmp_path, LETTERS + "always xy 16\n").uncarried
+    assert found[0] == "always with characters that have no cells"
+    assert found[1].number == 6
+
+
+def test_rules_bound_to_a_place_stand_before_always() -> None:
+    draft = Draft()
+    for letter, cell in (("a", 1), ("b", 3)):
+        draft.define(letter, "letter", (cell,))
+    draft.add_rule("always", "ab", (7,), Origin("Read."))
+    draft.add_rule("word", "ab", (15,), Origin("Guessed.", mark="guessed"))
+    assert draft.text(["# top"]).splitlines() == [
+        "# top",
+        "letter a 1",
+        "letter b 12",
+        "# Guessed.",
+        "word ab 1234 guessed",
+        "# Read.",
+        "always ab 123",
+    ]
+
+
+def test_a_draft_refuses_what_the_profile_cannot_have() -> None:
+    draft = Draft()
+    assert not draft.define("a", "letter", ())
+    assert not draft.define("a", "letter", (1,) * 21)
+    assert draft.define("a", "letter", (1,) * 20)
+    assert not draft.add_rule("always", "a" * 61, (1,), Origin("Read."))
+    assert draft.add_rule("always", "a" * 60, (1,), Origin("Read."))
+    assert not draft.add_rule("always", "ab", (1,), Origin("Read."))
+    assert not draft.add_rule("always", "aa", (), Origin("Read."))
+
+
+def test_a_draft_has_no_more_lines_than_a_table_may_have() -> None:
+    draft = Draft()
+    defined = [draft.define(chr(0x4E00 + n), "letter", (1,)) for n in range(20_000)]
+    assert defined == [True] * 19_000 + [False] * 1_000
+    assert not draft.add_rule("always", chr(0x4E00), (1,), Origin("Read."))
+    assert len(draft.text().splitlines()) == 19_000
+
+
+def test_comments_are_cut_between_words() -> None:
+    assert comment_lines("word " * 25) == [
+        "# " + " ".join(["word"] * 19),
+        "#   " + " ".join(["word"] * 6),
+    ]
+
+
+def test_liblouis_answers_what_the_manual_says() -> None:
+    with Liblouis(find_table("es-g1.ctb")) as liblouis:
+        assert liblouis.version
+        assert liblouis.cells("") == ()
+        assert liblouis.ask(["ab", "a b"]) == [(1, 3), (1, 0, 3)]
+
+
+def test_a_text_on_which_liblouis_loops_is_lost_and_no_other(tmp_path: Path) -> None:
+    loop = LETTERS + 'sign ? 26\nnoback correct "?" "x?"\n'
+    (tmp_path / "loop.utb").write_text(loop)
+    with Liblouis(find_table("de-g0.utb")) as liblouis:
+        assert liblouis.ask(["ab", "xx ?@xx", "ba"]) == [(1, 3), None, (3, 1)]
+        assert liblouis.lost == ["xx ?@xx"]
+
+
+def test_a_table_that_liblouis_refuses_is_refused(tmp_path: Path) -> None:
+    (tmp_path / "bad.utb").write_text("no such opcode\n")
+    with pytest.raises(NoLiblouis, match="refuses the table"):
+        Liblouis(tmp_path / "bad.utb")
+
+
+PASSAGES = """\
+begcapsphrase 6-6-6
+endcapsphrase after 6-3
+lencapsphrase 3
+"""
+
+
+def test_lines_of_passages_of_capitals_need_what_the_profile_leaves_out(
+    tmp_path: Path,
+) -> None:
+    table = tmp_path / "table.utb"
+    table.write_text(LETTERS + CAPITALS + PASSAGES)
+    lines = ["AX QZ", "AX QZ ZZ AA", "ax qz zz aa"]
+    with Liblouis(table) as liblouis:
+        found = needs(read_source(table), lines, liblouis, tmp_path)
+    assert found == {"AX QZ ZZ AA": "passages of capitals"}
+
+
+def test_a_reduced_table_lacks_the_lines_of_the_opcodes(tmp_path: Path) -> None:
+    (tmp_path / "a.utb").write_text("letter a 1\nendcapsword 6-3\ncapsletter 6\n")
+    text = text_without(read_source(tmp_path / "a.utb"), ("endcapsword",))
+    assert text == "letter a 1\ncapsletter 6\n"
+
+
+def compared(folder: Path, draft: Draft, lines: Sequence[str]) -> tuple[float, str]:
+    with Liblouis(folder / "table.utb") as liblouis:
+        subject = read_subject(folder / "table.utb", liblouis)
+        samples = [Sample(line, "words") for line in lines]
+        result = compare(subject, draft, Trial(folder), samples, folder)
+    return result.share, what_differs(result)
+
+
+def test_a_line_with_other_cells_is_a_difference(tmp_path: Path) -> None:
+    draft = made(tmp_path, LETTERS).draft
+    assert compared(tmp_path, draft, ["ax", "qz", "xq", "zz"]) == (1.0, "")
+    draft.cells["z"] = (1,)
+    assert compared(tmp_path, draft, ["ax", "qz", "xq", "zz"]) == (0.5, "words 2 of 4")
+
+
+def test_guessed_rules_are_marked_and_set_words_right(tmp_path: Path) -> None:
+    text = LETTERS + "match - xq %a 16\n"
+    draft = made(tmp_path, text).draft
+    words = ["xqa", "xqaz", "axqa", "axqaz", "zxqa", "xqaa", "qqxqa"]
+    with Liblouis(tmp_path / "table.utb") as liblouis:
+        subject = read_subject(tmp_path / "table.utb", liblouis)
+        assert learn(subject, draft, Trial(tmp_path), words) > 0
+    guessed = [line for line in draft.text().splitlines() if " xq " in line]
+    assert guessed
+    assert all(line.endswith(" 16 guessed") for line in guessed)
