@@ -99,8 +99,8 @@ class _Fields:
                 return _plain(name)
             case requests.Type(table=name) | requests.Retable(table=name):
                 return _plain(name)
-            case Line(table=name) | TableFile(path=name):
-                return _plain(name)
+            case Line(table=path) | TableFile(path=path):
+                return path if path == "@en" else shortened(path, len(path))
             case requests.OfParagraph():
                 return f"of paragraph {self.paragraph}"
         return "of this name"
@@ -349,7 +349,7 @@ class _Fields:
 
 def _plain(name: str) -> str:
     """A name, in quotation marks only where it isn't plain."""
-    return name if re.fullmatch("[@./a-z0-9_-]{1,32}", name) else shortened(name)
+    return name if re.fullmatch("[a-z0-9_-]{1,32}", name) else shortened(name)
 
 
 def _text(asked: Asked) -> str:
