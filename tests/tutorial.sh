@@ -13,7 +13,7 @@ cd "$(dirname "$0")/.."
 scratch=$(mktemp -d); trap 'rm -rf "$scratch"' EXIT
 mkdir "$scratch/bin" "$scratch/found"
 ln -s "$program" "$scratch/bin/braildesk"
-python=${PYTHON:-$([ -x /usr/bin/python3 ] && echo /usr/bin/python3 || echo python3)}
+python=${PYTHON:-$(tests/python.sh)}
 printf '#!/bin/sh\nPYTHONPATH=%s exec %s -m scribe "$@"\n' "$PWD/python" "$python" > "$scratch/bin/scribe"
 chmod +x "$scratch/bin/scribe"
 unset COLUMNS
