@@ -177,4 +177,6 @@ def _rows(
     except sqlite3.OperationalError:
         raise refused(92, (), book) from None
     except sqlite3.DatabaseError:
-        raise cannot_open(book, opening.why(book)) from None
+        # the file is held here, so its lock says nothing
+        with open(book.path, "rb") as file:
+            raise cannot_open(book, opening.why_contents(file)) from None

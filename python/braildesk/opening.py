@@ -3,6 +3,7 @@
 import os
 import stat
 from os import PathLike, fsencode, fspath
+from typing import BinaryIO
 
 from braildesk import limits, locks
 from braildesk.asked import AskedOfFile, NewBook, TableFile
@@ -57,15 +58,22 @@ def _why_regular(asked: AskedOfFile) -> Why:
                 else Why.UNKNOWN
             )
     with open(asked.path, "rb") as file:
-        size = os.fstat(file.fileno()).st_size
         if locks.is_used(file):
             return Why.IN_USE
-        header = file.read(100)
+        found = why_contents(file)
+    if found is not Why.UNKNOWN or _may_write(asked.path):
+        return found
+    return Why.DENIED
+
+
+def why_contents(file: BinaryIO) -> Why:
+    """Why what stands in a file can't be read as a database."""
+    size = os.fstat(file.fileno()).st_size
+    file.seek(0)
+    header = file.read(100)
     if size and not header.startswith(_MAGIC):
         return Why.NO_DATABASE
-    if size < _size_in(header):
-        return Why.CUT_SHORT
-    return Why.UNKNOWN if _may_write(asked.path) else Why.DENIED
+    return Why.CUT_SHORT if size < _size_in(header) else Why.UNKNOWN
 
 
 def _size_in(header: bytes) -> int:
