@@ -5,8 +5,8 @@
 #               client and rows of requests, words and ends, stops its files, refuses it memory and kills sessions of it
 # make attacks  tries the wrong bodies that the gate leaves out, and those that only a test sees
 # make bench    measures speed
-# make install  copies the program and the manual pages below $(DESTDIR)$(PREFIX), with tables/ and the command scribe of python/
-#               where they are; make uninstall takes them away
+# make install  copies the program and the manual pages below $(DESTDIR)$(PREFIX), with tables/, the command scribe of python/ and
+#               its completion for bash; make uninstall takes them away
 
 PREFIX ?= /usr/local
 RT ?= rt
@@ -80,6 +80,7 @@ bench: $(PROGRAM)
 bin = $(DESTDIR)$(PREFIX)/bin
 share = $(DESTDIR)$(PREFIX)/share/braildesk
 man = $(DESTDIR)$(PREFIX)/share/man/man1
+completions = $(DESTDIR)$(PREFIX)/share/bash-completion/completions
 tables = $(wildcard tables/*.utb)
 pages = $(wildcard docs/*.1)
 has_scribe = $(wildcard python/scribe/__main__.py)
@@ -105,10 +106,12 @@ ifneq ($(has_scribe),)
 	cd python && find braildesk scribe -type f -not -name '*.pyc' -exec install -D -m 644 '{}' '$(share)/python/{}' ';'
 	printf '%s\n' "$$SCRIBE" > '$(bin)/scribe'
 	chmod 755 '$(bin)/scribe'
+	install -d '$(completions)'
+	install -m 644 completions/scribe.bash '$(completions)/scribe'
 endif
 
 uninstall:
-	rm -f '$(bin)/braildesk' '$(bin)/scribe' $(foreach page,$(notdir $(pages)),'$(man)/$(page)')
+	rm -f '$(bin)/braildesk' '$(bin)/scribe' '$(completions)/scribe' $(foreach page,$(notdir $(pages)),'$(man)/$(page)')
 	rm -f $(foreach table,$(notdir $(tables)),'$(share)/tables/$(table)')
 	rm -rf '$(share)/python'
 	[ ! -d '$(share)' ] || find '$(share)' -depth -type d -empty -delete
