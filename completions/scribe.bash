@@ -3,15 +3,17 @@
 
 _scribe() {
     local word=${COMP_WORDS[COMP_CWORD]} words=''
-    local commands='new run talk table import show find change mark marks undo resolve strike
-        restore heading body volume move retable pages export copy bring'
+    local commands='new run talk table check-table try import show find change mark marks undo
+        resolve strike restore heading body volume move retable pages export copy
+        bring'
     if ((COMP_CWORD == 1)); then
         words="$commands --help"
     elif [[ $word == -* ]]; then
         case ${COMP_WORDS[1]} in
             run) words='--keep-going' ;;
             talk) words='--by --width' ;;
-            table) words='--width' ;;
+            table | try) words='--width' ;;
+            check-table) words='--display --width' ;;
             import) words='--lines --table --after --dry-run --from' ;;
             show) words='--paragraphs --print --braille --ascii --width' ;;
             find) words='--braille --width' ;;

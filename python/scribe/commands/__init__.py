@@ -6,6 +6,7 @@ from typing import Protocol
 from scribe.commands import (
     bring,
     change,
+    check_table,
     copy,
     edits,
     export,
@@ -19,6 +20,7 @@ from scribe.commands import (
     show,
     table,
     talk,
+    try_table,
 )
 from scribe.console import Console
 from scribe.parser import Subparsers
@@ -40,6 +42,8 @@ COMMANDS: tuple[Command, ...] = (
     run,
     talk,
     table,
+    check_table,
+    try_table,
     import_text,
     show,
     find,

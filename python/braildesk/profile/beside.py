@@ -1,0 +1,155 @@
+"""What is found here beside what the program answers: where the two differ, nothing is answered."""
+
+import tempfile
+from contextlib import AbstractContextManager
+from dataclasses import dataclass, replace
+from os import fspath
+from types import TracebackType
+
+from braildesk import limits, opening
+from braildesk import program as programs
+from braildesk.asked import Line, TableFile
+from braildesk.characters import shortened
+from braildesk.profile.reading import Reading, read
+from braildesk.profile.tiling import Piece, braille, pieces, undefined_place
+from braildesk.program import StrPath
+from braildesk.refusals import Failed, Refused, cannot_open, refused_as
+from braildesk.sentences import Why
+
+_UNREADABLE = 1
+_BAD_TABLE = 8
+_UNDEFINED = 7
+_TOO_LONG = 14
+
+
+class Disagreement(Failed):
+    """The program and the reading in Python answer differently, so one of them is wrong."""
+
+
+@dataclass(frozen=True, slots=True)
+class _Refusal:
+    """A line is refused by a code, where it names one at a place."""
+
+    code: int
+    place: int | None = None
+
+
+class TableText(AbstractContextManager["TableText"]):
+    """The text of a table at one moment, read here and by the program.
+
+    The program reads a copy, so that both read the same whatever is saved meanwhile.
+    """
+
+    def __init__(self, path: StrPath, text: bytes) -> None:
+        self.path = fspath(path)
+        self.text = text
+        self._copy = tempfile.NamedTemporaryFile(suffix=".utb")
+        try:
+            self._copy.write(text)
+            self._copy.flush()
+            self.reading = self._read()
+        except BaseException:
+            self._copy.close()
+            raise
+
+    def __exit__(
+        self,
+        kind: type[BaseException] | None,
+        error: BaseException | None,
+        trace: TracebackType | None,
+    ) -> None:
+        self.close()
+
+    def close(self) -> None:
+        """Removes the copy."""
+        self._copy.close()
+
+    def pieces(self, line: str) -> tuple[str, list[Piece]]:
+        """The program's braille of a line, and the pieces that it is made of.
+
+        It is an error, Refused, where the line has no braille, and Disagreement where the two
+        differ. The table has to be one that is accepted.
+        """
+        found = _found(self.reading, line)
+        (answer,) = programs.translate(self._copy.name, [line])
+        if isinstance(answer, Refused):
+            if found == _Refusal(answer.code, answer.place):
+                asked = Line(self.path, line)
+                raise refused_as(replace(answer.refusal, asked=asked))
+        elif isinstance(found, list) and braille(found) == answer:
+            return answer, found
+        raise self._differs(
+            f"for {shortened(line)} braildesk {_answer(answer)}, and scribe {_answer(found)}"
+        )
+
+    def _read(self) -> Reading:
+        """The reading, once the program's answer is seen to be the same."""
+        reading = read(self.text)
+        first = reading.first
+        found = None if first is None else (first.line, int(first.cause))
+        if found != (said := self._said()):
+            raise self._differs(
+                f"braildesk {_judgement(said)}, and scribe {_judgement(found)}"
+            )
+        return reading
+
+    def _said(self) -> tuple[int, int | None] | None:
+        """The line and the cause by which the program refuses the text, if it does."""
+        try:
+            programs.translate(self._copy.name, [])
+        except Refused as refused:
+            if refused.code != _BAD_TABLE or refused.line is None:
+                raise
+            return refused.line, refused.cause
+        return None
+
+    def _differs(self, what: str) -> Disagreement:
+        path = shortened(self.path, len(self.path))
+        return Disagreement(
+            f"braildesk and scribe differ on the table {path}: {what}. One of the two is"
+            " wrong, so this is no answer. Please report it with the table."
+        )
+
+
+def _found(reading: Reading, line: str) -> list[Piece] | _Refusal:
+    """The pieces of a line, or the code and the place by which it is refused."""
+    if len(line.encode()) > limits.LINE_BYTES:
+        return _Refusal(_UNREADABLE)
+    if len(line) > limits.PRINT_CHARACTERS:
+        return _Refusal(_TOO_LONG)
+    if (place := undefined_place(reading.table, line)) is not None:
+        return _Refusal(_UNDEFINED, place)
+    return pieces(reading.table, line)
+
+
+def _answer(answer: str | Refused | list[Piece] | _Refusal) -> str:
+    """What was answered to a line, in words."""
+    match answer:
+        case str():
+            return f"gives the cells {answer}"
+        case Refused():
+            return _answer(_Refusal(answer.code, answer.place))
+        case _Refusal(code, place):
+            at = "" if place is None else f" at character {place + 1}"
+            return f"refuses it by code {code}{at}"
+    return f"gives the cells {braille(answer)}"
+
+
+def _judgement(fault: tuple[int, int | None] | None) -> str:
+    """What was found in a table, in words."""
+    if fault is None:
+        return "finds nothing wrong in it"
+    return f"refuses its line {fault[0]:,} by cause {fault[1]}"
+
+
+def text_at(path: StrPath) -> bytes:
+    """The text of a table in a file."""
+    asked = TableFile(fspath(path))
+    try:
+        with open(path, "rb") as file:
+            text = file.read(limits.TABLE_BYTES + 1)
+    except (OSError, ValueError) as error:
+        raise cannot_open(asked, opening.why(asked)) from error
+    if len(text) > limits.TABLE_BYTES:
+        raise cannot_open(asked, Why.TOO_LARGE)
+    return text

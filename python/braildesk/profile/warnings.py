@@ -1,0 +1,156 @@
+"""What a table may have but is rarely meant, each with a sentence."""
+
+from collections.abc import Iterator
+from dataclasses import dataclass
+
+from braildesk.characters import named
+from braildesk.profile.entries import (
+    Class,
+    Definition,
+    Kind,
+    Rule,
+    SetName,
+    Sign,
+    SignName,
+)
+from braildesk.profile.operands import Cells
+from braildesk.profile.table import Table
+
+_BESIDE_LETTERS = (Kind.BEGWORD, Kind.MIDWORD, Kind.ENDWORD)
+_DOT_7 = 0x40
+
+
+@dataclass(frozen=True, slots=True)
+class Warning:
+    """A line is accepted but rarely meant. The earlier line is one that it has to do with."""
+
+    line: int
+    sentence: str
+    earlier: int | None = None
+
+
+def warnings(table: Table, is_for_embosser: bool) -> list[Warning]:
+    """All warnings, by line."""
+    found = [*_repeated(table), *_never_fitting(table), *_capitals(table)]
+    if is_for_embosser:
+        found += _eight_dots(table)
+    return sorted(found, key=lambda warning: warning.line)
+
+
+def _repeated(table: Table) -> Iterator[Warning]:
+    """Rules of the same characters as an earlier one that fits wherever they do."""
+    seen: dict[tuple[str, Kind], int] = {}
+    for rule in table.rules:
+        earlier = [
+            seen[rule.characters, kind]
+            for kind in (Kind.ALWAYS, rule.kind)
+            if (rule.characters, kind) in seen
+        ]
+        if earlier:
+            yield Warning(
+                rule.line,
+                f"This rule is never chosen. Line {min(earlier):,} has the same characters, fits"
+                " wherever this one does, and of two such rules the earlier line is chosen.",
+                min(earlier),
+            )
+        else:
+            seen[rule.characters, rule.kind] = rule.line
+
+
+def _never_fitting(table: Table) -> Iterator[Warning]:
+    """Rules that fit nowhere."""
+    has_letters = any(each.kind is Class.LETTER for each in table.definitions.values())
+    for rule in table.rules:
+        if rule.kind in _BESIDE_LETTERS and not has_letters:
+            yield Warning(
+                rule.line,
+                f"This rule is never chosen: {rule.kind} needs a letter beside it, and the table"
+                " defines no character as letter.",
+            )
+        elif (sign := _sign_inside(table, rule.characters)) is not None:
+            yield Warning(
+                rule.line,
+                f"This rule is never chosen: inside it always stands {sign.name}, and no rule"
+                " covers a sign.",
+                sign.line,
+            )
+
+
+def _capitals(table: Table) -> Iterator[Warning]:
+    """Capitals that get no sign, though the table has one, and pairs the wrong way round."""
+    sign = table.signs.get(SignName.CAPITAL) or table.signs.get(SignName.CAPITALS)
+    for character, definition in table.definitions.items():
+        small = character.lower()
+        if small == character or table.is_capital(character):
+            continue
+        if character in table.lower.values():
+            yield Warning(
+                definition.line,
+                f"uplow takes the capital first: by this line {named(character)} is the small"
+                " letter of its pair.",
+            )
+        elif sign is not None and definition.kind is Class.LETTER:
+            yield Warning(
+                definition.line,
+                f"{named(character)} is a capital but defined by letter, so {sign.name} never"
+                " stands before it. A capital and its small letter are defined by one line"
+                " uplow.",
+                sign.line,
+            )
+
+
+def _eight_dots(table: Table) -> Iterator[Warning]:
+    """Cells that pages for an embosser can't have."""
+    found: dict[int, Cells] = {}
+    entries: list[Definition | Rule | Sign] = [*table.definitions.values()]
+    for entry in [*entries, *table.rules, *table.signs.values()]:
+        found[entry.line] = found.get(entry.line, ()) + (entry.cells or ())
+    for line, cells in found.items():
+        if any(cell >= _DOT_7 for cell in cells):
+            yield Warning(
+                line,
+                "A cell has dot 7 or 8. Pages for an embosser can't have these, and a volume"
+                " with such a cell isn't exported.",
+            )
+
+
+def _sign_inside(table: Table, characters: str) -> Sign | None:
+    """A sign that stands inside a rule of these characters wherever they stand in a print."""
+    variants = [_variants(table, each) for each in characters]
+    numeric = _is_numeric(table, variants[0])
+    for each in variants[1:]:
+        follows_number, numeric = numeric, _is_numeric(table, each, numeric)
+        if _all_of(table, each, Class.DIGIT):
+            if follows_number is False and SignName.NUMBER in table.signs:
+                return table.signs[SignName.NUMBER]
+        elif (
+            follows_number
+            and numeric is False
+            and SignName.LETTER_AFTER_NUMBER in table.signs
+            and len(each) == 1
+            and table.has(SetName.NEED_SIGN, each)
+        ):
+            return table.signs[SignName.LETTER_AFTER_NUMBER]
+    return None
+
+
+def _variants(table: Table, character: str) -> str:
+    """The characters of a print that a folded one stands for: itself, and its capital."""
+    uppers = (upper for upper, lower in table.lower.items() if lower == character)
+    return character + "".join(uppers)
+
+
+def _is_numeric(
+    table: Table, variants: str, is_before: bool | None = None
+) -> bool | None:
+    """Whether a place is in numeric mode, by the place before it; None where that isn't known."""
+    if _all_of(table, variants, Class.DIGIT):
+        return True
+    go_on = {table.has(SetName.GO_ON, each) for each in variants}
+    if go_on == {False}:
+        return False
+    return is_before if go_on == {True} or is_before is False else None
+
+
+def _all_of(table: Table, variants: str, kind: Class) -> bool:
+    return all(table.is_of(kind, each) for each in variants)

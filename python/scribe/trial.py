@@ -1,0 +1,69 @@
+"""A table that is tried at a prompt, and read again whenever its file has changed."""
+
+from contextlib import AbstractContextManager
+from pathlib import Path
+from types import TracebackType
+
+from braildesk.profile import TableText, text_at
+
+from scribe.complaints import counted, fault_line
+from scribe.pieces import piece_lines
+from scribe.status import Status
+
+
+class Trial(AbstractContextManager["Trial"]):
+    """The table of a file, as its text was when it was last read."""
+
+    def __init__(self, path: Path) -> None:
+        self._path = path
+        self._table = TableText(path, text_at(path))
+        #: What the last line, or the last reading of the table, came to.
+        self.status = Status.DONE
+
+    def __exit__(
+        self,
+        kind: type[BaseException] | None,
+        error: BaseException | None,
+        trace: TracebackType | None,
+    ) -> None:
+        self._table.close()
+
+    def state(self) -> list[str]:
+        """What there is to say of the table: how many lines it has, or why it is refused."""
+        reading = self._table.reading
+        name = self._path.name
+        if (first := reading.first) is None:
+            self.status = Status.DONE
+            return [f"{name}: {counted(len(reading.lines), 'line')}, accepted."]
+        self.status = Status.REFUSED
+        more = len(reading.faults) - 1
+        others = (
+            f" It has {counted(more, 'other fault')}: scribe check-table shows all."
+            if more
+            else ""
+        )
+        return [
+            fault_line(first, reading),
+            f"{name} is refused, so nothing can be translated.{others} Save it corrected, and"
+            " go on here.",
+        ]
+
+    def reread(self) -> bool:
+        """Reads the file again; whether its text is another one than before."""
+        if self._path.exists() and not self._path.is_file():
+            return False  # a pipe, which is read once
+        text = text_at(self._path)
+        if text == self._table.text:
+            return False
+        table = TableText(self._path, text)
+        self._table.close()
+        self._table = table
+        return True
+
+    def answer(self, text: str) -> list[str]:
+        """The braille of a text, and the lines of the table by which it came about."""
+        if self._table.reading.faults:
+            return self.state()
+        cells, pieces = self._table.pieces(text)
+        self.status = Status.DONE
+        return [cells, *piece_lines(pieces, self._table.reading)]

@@ -1,0 +1,225 @@
+"""scribe try, by what a person sees at a terminal."""
+
+import os
+import sys
+from collections.abc import Iterator
+from pathlib import Path
+
+import pexpect  # type: ignore[import]
+import pytest
+
+from tool import Ran, environment, scribe
+
+TABLE = """\
+space \\s 0
+punctuation . 256
+digit 5 15
+uplow Aa 1
+uplow Hh 125
+uplow Ee 15
+uplow Tt 2345
+letter \\x00e9 123456
+numsign 3456
+capsletter 6
+word the 2346 the contraction
+always he 1-2
+"""
+
+
+class Trying:
+    """A person at a terminal at which a table is tried."""
+
+    def __init__(self, path: Path, *words: str, **more: str) -> None:
+        self._child = pexpect.spawn(
+            sys.executable,
+            ["-m", "scribe", "try", path.name, *words],
+            cwd=str(path.parent),
+            env=environment(TERM="xterm-256color", INPUTRC="/dev/null", **more),
+            encoding="utf-8",
+            timeout=60,
+            dimensions=(24, 200),
+        )
+        self.greeting = self._answer()
+
+    def type(self, line: str) -> list[str]:
+        """Types a line, and gives the lines that are written before the next prompt."""
+        self._child.send(line + "\r")
+        _, *answer = self._answer()
+        return answer
+
+    def keys(self, keys: str) -> None:
+        """Types keys without the one that ends the line."""
+        self._child.send(keys)
+        self._child.expect_exact(keys)
+
+    def end(self, keys: str) -> Ran:
+        """Types the last keys, and gives how scribe ended and what it wrote."""
+        self._child.send(keys)
+        self._child.expect(pexpect.EOF)
+        self._child.close()
+        assert self._child.exitstatus is not None
+        return Ran(self._child.exitstatus, self._child.before, "")
+
+    def close(self) -> None:
+        self._child.close(force=True)
+
+    def _answer(self) -> list[str]:
+        self._child.expect("(?:^|\n)> ")
+        lines: list[str] = self._child.before.replace("\r", "").split("\n")
+        return lines
+
+
+@pytest.fixture
+def own(tmp_path: Path) -> Path:
+    """The file of a table."""
+    path = tmp_path / "own.utb"
+    path.write_text(TABLE)
+    return path
+
+
+@pytest.fixture
+def trying(own: Path) -> Iterator[Trying]:
+    """A person who tries that table."""
+    opened = Trying(own)
+    yield opened
+    opened.close()
+
+
+def test_print_is_answered_by_braille_and_the_lines_that_made_it(
+    trying: Trying,
+) -> None:
+    assert trying.greeting == [
+        "own.utb: 12 lines, accepted.",
+        "Type print, or quit to end.",
+    ]
+    assert trying.type("The heat. 5") == [
+        "⠠⠮⠀⠁⠂⠁⠞⠲⠀⠼⠑",
+        "“The” ⠠⠮: line 11, word the 2346, after line 10, capsletter 6",
+        "“ ” ⠀: line 1, space \\s 0",
+        "“he” ⠁⠂: line 12, always he 1-2",
+        "“at. ” ⠁⠞⠲⠀: each by itself, lines 4, 7, 2 and 1",
+        "“5” ⠼⠑: line 3, digit 5 15, after line 9, numsign 3456",
+    ]
+
+
+def test_a_file_that_was_saved_is_read_again_by_itself(
+    trying: Trying, own: Path
+) -> None:
+    assert trying.type("the")[0] == "⠮"
+    own.write_text(TABLE.replace("word the 2346", "word the 1-1"))
+    assert trying.type("") == [
+        "The file was saved, and is read again.",
+        "own.utb: 12 lines, accepted.",
+        "⠁⠁",
+        "“the” ⠁⠁: line 11, word the 1-1",
+    ]
+    own.with_name("new").write_text("# mine\n" + TABLE)
+    os.replace(own.with_name("new"), own)
+    assert trying.type("the") == [
+        "The file was saved, and is read again.",
+        "own.utb: 13 lines, accepted.",
+        "⠮",
+        "“the” ⠮: line 12, word the 2346",
+    ]
+
+
+def test_a_fault_is_shown_until_it_is_gone(trying: Trying, own: Path) -> None:
+    own.write_text(TABLE + "always the 9\nalways x 1\n")
+    refused = [
+        "Line 13: “9” is no cell: a cell is 0, or some of the digits 1 to 8. It reads “always"
+        " the 9”.",
+        "own.utb is refused, so nothing can be translated. It has 1 other fault: scribe"
+        " check-table shows all. Save it corrected, and go on here.",
+    ]
+    assert trying.type("the") == ["The file was saved, and is read again.", *refused]
+    assert trying.type("the") == refused
+    own.write_text(TABLE)
+    assert trying.type("")[-1] == "“the” ⠮: line 11, word the 2346"
+
+
+def test_a_table_with_a_fault_may_be_corrected_at_the_prompt(own: Path) -> None:
+    own.write_text("letter a\n")
+    trying = Trying(own)
+    assert trying.greeting[0].startswith("Line 1: An operand is missing.")
+    own.write_text("letter a 1\n")
+    assert trying.type("a")[-1] == "“a” ⠁: line 1, letter a 1"
+    assert trying.end("quit\r").status == 0
+
+
+def test_a_file_that_is_gone_is_said(trying: Trying, own: Path) -> None:
+    own.rename(own.with_name("other"))
+    assert trying.type("the") == [
+        "There is no file “own.utb”. Check that the path is right."
+    ]
+    own.with_name("other").rename(own)
+    assert trying.type("")[0] == "⠮"
+
+
+def test_a_character_that_is_not_defined_is_named(trying: Trying) -> None:
+    assert trying.type("the cat") == [
+        "The table “own.utb” has no cells for “c” (U+0063 LATIN SMALL LETTER C), character 5 of"
+        " the line: “the cat”. This line was not translated."
+    ]
+    assert trying.end("\x04").status == 2
+
+
+def test_print_is_taken_in_normal_form_c(trying: Trying) -> None:
+    assert trying.type("e\u0301")[0] == "⠿"
+
+
+def test_ctrl_c_gives_up_the_line_and_not_the_trial(trying: Trying) -> None:
+    trying.keys("the")
+    assert trying.type("\x03")[-1] == "Given up."
+    assert trying.type("a")[0] == "⠁"
+
+
+def test_the_line_before_comes_back(trying: Trying) -> None:
+    trying.type("the")
+    trying.type("a")
+    assert trying.type("\x1b[A\x1b[A")[0] == "⠮"
+
+
+def test_quit_and_the_end_of_the_input_end_it(trying: Trying, own: Path) -> None:
+    assert trying.end("quit\r").status == 0
+    assert Trying(own).end("\x04").status == 0
+
+
+def test_lines_come_from_a_pipe_too(own: Path) -> None:
+    ran = scribe("try", "own.utb", folder=own.parent, given="the\r\n\nx")
+    answer = "⠮\n“the” ⠮: line 11, word the 2346\n"
+    assert ran.shown == (
+        f"own.utb: 12 lines, accepted.\nType print, or quit to end.\n{answer}{answer}"
+    )
+    assert ran.status == 2 and ran.said.startswith(
+        "The table “own.utb” has no cells for"
+    )
+
+
+def test_a_blank_alone_is_a_cell_without_dots(own: Path) -> None:
+    shown = scribe("try", "own.utb", folder=own.parent, given=" \n").shown
+    assert shown.splitlines()[2:] == ["⠀", "“ ” ⠀: line 1, space \\s 0"]
+
+
+def test_no_line_is_over_the_width_and_nothing_moves_the_cursor(own: Path) -> None:
+    given = "The heat. " * 20 + "\nthe cat\n"
+    ran = scribe("try", "own.utb", "--width", "24", folder=own.parent, given=given)
+    lines = (ran.shown + ran.said).splitlines()
+    assert len(lines) > 60 and max(map(len, lines)) <= 24
+    assert "\x1b" not in ran.shown + ran.said
+
+
+@pytest.mark.parametrize("cells", ["⠁⠁", "no 14"])
+def test_a_difference_is_reported_and_is_no_answer(own: Path, cells: str) -> None:
+    program = own.with_name("otherwise")
+    program.write_text(f"#!/bin/sh\nif read -r line; then echo '{cells}'; fi\n")
+    program.chmod(0o755)
+    ran = scribe("try", own, folder=own.parent, given="the\n", BRAILDESK=str(program))
+    assert (ran.status, len(ran.shown.splitlines())) == (3, 2)
+    assert "differ on the table" in ran.said and "this is no answer" in ran.said
+
+
+def test_a_file_that_is_not_there_is_refused(tmp_path: Path) -> None:
+    ran = scribe("try", "none.utb", folder=tmp_path, given="the\n")
+    assert ran == Ran(
+        2, "", "There is no file “none.utb”. Check that the path is right.\n"
+    )
