@@ -8,6 +8,7 @@ from scribe.commands import (
     change,
     check_table,
     copy,
+    edit,
     edits,
     export,
     find,
@@ -39,6 +40,7 @@ class Command(Protocol):
 
 COMMANDS: tuple[Command, ...] = (
     new,
+    edit,
     run,
     talk,
     table,

@@ -1,0 +1,73 @@
+"""What is done with the session closed: an export, and an import."""
+
+from argparse import Namespace
+from collections.abc import Callable, Iterable
+from dataclasses import dataclass
+from io import BytesIO, StringIO
+from pathlib import Path
+
+from braildesk import DeskError
+
+from scribe.commands import export, import_text
+from scribe.console import Console
+from scribe.screen.errands import ExportTo, ImportFrom
+from scribe.status import Stop
+
+
+@dataclass(frozen=True)
+class Ending:
+    """What is shown of an errand, and what was kept by it, if anything was."""
+
+    title: str
+    lines: tuple[str, ...]
+    kept: str = ""
+
+
+class Heard(StringIO):
+    """A stream whose lines are reported as they are written."""
+
+    def __init__(self, report: Callable[[str], None]) -> None:
+        super().__init__()
+        self._report = report
+
+    def writelines(self, lines: Iterable[str]) -> None:  # type: ignore[override]
+        """Writes lines."""
+        for line in lines:
+            self.write(line)
+            self._report(line.rstrip("\n"))
+
+    def isatty(self) -> bool:
+        """Whether a person follows it, as one does here."""
+        return True
+
+
+def done_aside(
+    path: Path, errand: ExportTo | ImportFrom, report: Callable[[str], None]
+) -> Ending:
+    """Does an errand by the command of the same name."""
+    shown, said = Heard(report), Heard(report)
+    console = Console(BytesIO(), shown, said)
+    try:
+        if isinstance(errand, ExportTo):
+            words = Namespace(file=path, folder=errand.folder, width=40, lines=25)
+            export.run(words, console)
+        else:
+            import_text.run(_import_words(path, errand), console)
+    except (Stop, DeskError) as ended:
+        said.write(ended.sentence + "\n")
+    what = "Export." if isinstance(errand, ExportTo) else "Import."
+    lines = shown.getvalue().splitlines()
+    kept = lines[-1].rstrip(".") if lines and isinstance(errand, ImportFrom) else ""
+    return Ending(what, (*lines, *said.getvalue().splitlines()), kept)
+
+
+def _import_words(path: Path, errand: ImportFrom) -> Namespace:
+    return Namespace(
+        file=path,
+        text=errand.path,
+        lines=False,
+        table=None,
+        after=errand.after,
+        dry_run=False,
+        line=None,
+    )

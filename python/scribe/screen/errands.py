@@ -1,0 +1,80 @@
+"""What a key may ask for beside one command: errands of more than one request, or of none."""
+
+from dataclasses import dataclass
+from pathlib import Path
+
+from braildesk import After
+
+from scribe.screen.field import Purpose
+
+
+@dataclass(frozen=True)
+class ToFound:
+    """To the next place of what is looked for."""
+
+    sought: str
+
+
+@dataclass(frozen=True)
+class ToMark:
+    """To the next open mark, or to the one before."""
+
+    is_back: bool
+
+
+@dataclass(frozen=True)
+class ShowHistory:
+    """Looks at the history of the chosen paragraph."""
+
+
+@dataclass(frozen=True)
+class ShowPage:
+    """Looks at the page on which the chosen paragraph begins."""
+
+
+@dataclass(frozen=True)
+class GiveTable:
+    """Gives the chosen paragraph a table, or puts an installed one into the book."""
+
+    name: str
+
+
+@dataclass(frozen=True)
+class TypeAll:
+    """Types several paragraphs, one after the other."""
+
+    purpose: Purpose
+    lines: tuple[str, ...]
+
+
+@dataclass(frozen=True)
+class ExportTo:
+    """Exports all volumes to a folder, with the session closed meanwhile."""
+
+    folder: Path
+
+
+@dataclass(frozen=True)
+class ImportFrom:
+    """Imports a text file after a paragraph, with the session closed meanwhile."""
+
+    path: Path
+    after: After
+
+
+@dataclass(frozen=True)
+class Quit:
+    """Ends."""
+
+
+Errand = (
+    ToFound
+    | ToMark
+    | ShowHistory
+    | ShowPage
+    | GiveTable
+    | TypeAll
+    | ExportTo
+    | ImportFrom
+    | Quit
+)

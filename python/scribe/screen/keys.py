@@ -1,0 +1,445 @@
+"""What each key asks for: a function from the state to the state after it, and what goes with it."""
+
+from collections.abc import Callable
+from dataclasses import dataclass, replace
+from pathlib import Path
+from typing import Any
+
+from braildesk import After, Paragraph, Style, requests
+from braildesk.requests import Command
+
+from scribe.correction import replaced, smallest_correction
+from scribe.screen.errands import (
+    Errand,
+    ExportTo,
+    GiveTable,
+    ImportFrom,
+    Quit,
+    ShowHistory,
+    ShowPage,
+    ToFound,
+    ToMark,
+    TypeAll,
+)
+from scribe.screen.field import Field, Purpose
+from scribe.screen.state import Pages, Pane, Question, State
+from scribe.sequences import composed, seams
+from scribe.visible import control_refused
+
+
+@dataclass(frozen=True)
+class Step:
+    """What a key asks for: the state after it, and a command or an errand that goes with it."""
+
+    state: State
+    asked: Command[Any] | Errand | None = None
+
+
+def step(state: State, key: str) -> Step:
+    """What a key asks for in a state. A key is a character, or the name of another key."""
+    if _is_cut(key):
+        return Step(state.saying("What came isn't UTF-8, and was left out."))
+    state = replace(state, message="")
+    if state.is_lost and key in ("q", "escape"):
+        return Step(state, Quit())
+    if state.question:
+        return _answered(state, state.question, key)
+    if state.pages:
+        return Step(_looking(state, state.pages, key))
+    if state.typed:
+        return _typing(state, state.typed, key)
+    bound = KEYS.get(key)
+    if bound is None:
+        return Step(state.saying("That key does nothing here. ? shows all keys."))
+    if bound.needs_paragraph and state.paragraph is None:
+        return Step(state.saying("The book has no paragraphs. o types the first one."))
+    return bound.does(state)
+
+
+def pasted(state: State, text: str) -> Step:
+    """What text that is pasted asks for: lines of a new paragraph may become several."""
+    if _is_cut(text):
+        return Step(state.saying("What came isn't UTF-8, and was left out."))
+    typed = state.typed
+    if typed is None or state.question or state.is_lost:
+        return Step(
+            state.saying("Pasted text goes in after Enter or o. None was taken.")
+        )
+    lines = [line.strip() for line in text.replace("\r", "\n").split("\n")]
+    lines = [line.replace("\t", " ") for line in lines if line]
+    if not typed.purpose.is_new or len(lines) < 2:
+        return Step(replace(state, typed=typed.inserted(" ".join(lines))))
+    lines[0] = typed.text[: typed.place] + lines[0]
+    lines[-1] += typed.text[typed.place :]
+    sentence = (
+        f"The pasted text has {len(lines)} lines. Are they {len(lines)} paragraphs?"
+    )
+    return Step(replace(state, question=Question(sentence, tuple(lines))))
+
+
+def _is_cut(text: str) -> bool:
+    """Whether it came in bytes that aren't UTF-8."""
+    return any("\ud800" <= each <= "\udfff" for each in text)
+
+
+def _answered(state: State, question: Question, key: str) -> Step:
+    if key not in ("y", "n"):
+        return Step(state.saying("y is yes, and n is no."))
+    state = replace(state, question=None)
+    if question.draft is not None:
+        if key == "y":
+            return Step(replace(state, typed=question.draft))
+        return Step(state.saying("The text was left out. Nothing was sent."))
+    assert state.typed is not None
+    if key == "y":
+        return Step(state, TypeAll(state.typed.purpose, question.lines))
+    text = " ".join(question.lines)
+    return Step(replace(state, typed=replace(state.typed, text=text, place=len(text))))
+
+
+def _looking(state: State, pages: Pages, key: str) -> State:
+    moves = {"up": -1, "down": 1, "pageup": -10, "pagedown": 10}
+    if key in moves:
+        top = max(0, min(pages.top + moves[key], len(pages.lines) - 1))
+        return replace(state, pages=replace(pages, top=top))
+    is_left = key in ("escape", "q", "enter") and not state.is_lost
+    return replace(state, pages=None) if is_left else state
+
+
+def _typing(state: State, typed: Field, key: str) -> Step:
+    if key == "escape":
+        said = "Given up. Nothing was sent."
+        return Step(replace(state, typed=None, preview=None).saying(said))
+    if key == "enter":
+        refused = control_refused(typed.text.encode())
+        return Step(state.saying(refused)) if refused else _entered(state, typed)
+    moved = typed.moved(key)
+    if moved is not None:
+        return Step(replace(state, typed=moved))
+    if len(key) == 1:
+        return Step(replace(state, typed=typed.inserted(key)))
+    return Step(state.saying("Enter keeps what is typed, Escape gives it up."))
+
+
+def _entered(state: State, typed: Field) -> Step:
+    """What a text asks for when Enter ends it. Print stays on the screen until it is kept."""
+    match typed.purpose:
+        case Purpose.EDIT:
+            return _corrected(state, typed)
+        case Purpose.AFTER | Purpose.BEFORE:
+            table = state.table
+            assert table is not None
+            command = requests.Type(after(state, typed), table, typed.text)
+            return Step(state, replace(command, expect=state.version))
+    state = replace(state, typed=None)
+    if not typed.text and typed.purpose is not Purpose.NOTE:
+        return Step(state.saying("Nothing was typed, so nothing was done."))
+    return _answering(state, typed)
+
+
+def _answering(state: State, typed: Field) -> Step:
+    match typed.purpose:
+        case Purpose.NOTE:
+            return _marked(state, typed.text)
+        case Purpose.NUMBER:
+            return Step(_at_number(state, typed.text.strip()))
+        case Purpose.TABLE:
+            return Step(state, GiveTable(typed.text.strip()))
+        case Purpose.WORDS:
+            return Step(replace(state, sought=typed.text), ToFound(typed.text))
+        case Purpose.FOLDER:
+            return Step(state, ExportTo(Path(typed.text).expanduser()))
+    place: After = state.paragraph.id if state.paragraph else "end"
+    return Step(state, ImportFrom(Path(typed.text).expanduser(), place))
+
+
+def after(state: State, typed: Field) -> After:
+    """Where a new paragraph goes."""
+    if state.paragraph is None:
+        return "end"
+    if typed.purpose is Purpose.AFTER:
+        return state.paragraph.id
+    return state.book[state.chosen - 1].id if state.chosen else "front"
+
+
+def print_of(state: State, typed: Field) -> str:
+    """The print that what is typed will be: what is new in normal form C, as the book keeps it."""
+    if typed.purpose is not Purpose.EDIT or state.reading is None:
+        return composed(typed.text)
+    old = state.reading.text
+    least = smallest_correction(old, typed.text)
+    if least is None:
+        return old
+    return replaced(old, least.start, least.stop, least.text)
+
+
+def _corrected(state: State, typed: Field) -> Step:
+    assert state.reading is not None
+    least = smallest_correction(state.reading.text, print_of(state, typed))
+    if least is None:
+        said = "The print reads as before, so nothing was sent."
+        return Step(replace(state, typed=None, preview=None).saying(said))
+    number, by = state.reading.paragraph.id, state.by
+    span = (number, least.start, least.count, least.text)
+    if by is None:
+        return Step(state, requests.Correct(*span, expect=state.version))
+    return Step(state, requests.CorrectBy(*span, who=by, expect=state.version))
+
+
+def _marked(state: State, note: str) -> Step:
+    cells = state.chosen_cells
+    assert cells is not None and state.paragraph is not None
+    count = cells.stop - cells.start
+    command = requests.Mark(state.paragraph.id, cells.start, count, note)
+    return Step(state, replace(command, expect=state.version))
+
+
+def _at_number(state: State, word: str) -> State:
+    for place, paragraph in enumerate(state.book):
+        if str(paragraph.id) == word:
+            return state.at(place)
+    return state.saying(f"There is no paragraph {word}. The cursor stays where it is.")
+
+
+def _typed_for(purpose: Purpose) -> Callable[[State], Step]:
+    return lambda state: Step(replace(state, typed=Field(purpose)))
+
+
+def _edit(state: State) -> Step:
+    paragraph, reading = _chosen(state), state.reading
+    if paragraph.struck:
+        said = f"Paragraph {paragraph.id} is struck. s restores it, and then it can be edited."
+        return Step(state.saying(said))
+    assert reading is not None
+    place = state.place if state.pane is Pane.PRINT else _lit_start(state)
+    return Step(replace(state, typed=Field(Purpose.EDIT, reading.text, place)))
+
+
+def _lit_start(state: State) -> int:
+    return state.lit.words.start if state.lit else 0
+
+
+def _new(purpose: Purpose) -> Callable[[State], Step]:
+    def typed(state: State) -> Step:
+        table = state.paragraph.table if state.paragraph else state.table
+        if table is None and len(state.tables) == 1:
+            table = state.tables[0]
+        if table is None:
+            names = ", ".join(state.tables)
+            what = f"has the tables {names}" if names else "has no table yet"
+            return Step(state.saying(f"The book {what}. t chooses one."))
+        return Step(replace(state, table=table, typed=Field(purpose)))
+
+    return typed
+
+
+def _moved(by: int) -> Callable[[State], Step]:
+    return lambda state: Step(state.at(state.chosen + by))
+
+
+def _paged(by: int) -> Callable[[State], Step]:
+    return lambda state: Step(state.at(state.chosen + by * state.list_lines))
+
+
+def _along(state: State, is_back: bool) -> Step:
+    """To the character or the cell beside; cells are single, and characters are sequences."""
+    text = _text(state)
+    places = seams(text) if state.pane is Pane.PRINT else list(range(len(text)))
+    others = [n for n in places if n < len(text)]
+    nearer = [n for n in others if (n < state.place if is_back else n > state.place)]
+    if not nearer:
+        return Step(state)
+    place = max(nearer) if is_back else min(nearer)
+    return Step(replace(state, place=place, lit=None))
+
+
+def _to_end(state: State, is_back: bool) -> Step:
+    text = _text(state)
+    last = seams(text)[-2] if text and state.pane is Pane.PRINT else len(text) - 1
+    place = 0 if is_back else max(0, last)
+    return Step(replace(state, place=place, lit=None))
+
+
+def _by_word(state: State, is_back: bool) -> Step:
+    text = _text(state).replace("\u2800", " ")
+    moved = Field(Purpose.EDIT, text, state.place).moved(
+        "c-left" if is_back else "c-right"
+    )
+    assert moved is not None
+    place = min(moved.place, max(0, len(text) - 1))
+    return Step(replace(state, place=place, lit=None))
+
+
+def _text(state: State) -> str:
+    if state.reading is None:
+        return ""
+    return state.reading.text if state.pane is Pane.PRINT else state.reading.braille
+
+
+def _other_pane(state: State) -> Step:
+    pane = Pane.CELLS if state.pane is Pane.PRINT else Pane.PRINT
+    place = 0
+    if state.lit:
+        lit = state.lit.cells if pane is Pane.CELLS else state.lit.words
+        place = lit.start
+    return Step(replace(state, pane=pane, place=place, anchor=None, lit=None))
+
+
+def _choose_cells(state: State) -> Step:
+    if state.pane is Pane.PRINT:
+        state = _other_pane(state).state
+        return Step(replace(state, anchor=state.place))
+    if state.anchor is not None:
+        return Step(replace(state, anchor=None))
+    return Step(replace(state, anchor=state.place))
+
+
+def _mark(state: State) -> Step:
+    cells = state.chosen_cells
+    if cells is None or cells.stop <= cells.start:
+        return Step(state.saying("There is no cell here that a mark could stand on."))
+    return Step(replace(state, typed=Field(Purpose.NOTE)))
+
+
+def _resolve(state: State) -> Step:
+    for mark in state.marks_here:
+        if not mark.resolved:
+            return Step(state, requests.Resolve(mark.id, expect=state.version))
+    return Step(state.saying("There is no open mark here. n goes to the next one."))
+
+
+def _chosen(state: State) -> Paragraph:
+    assert state.paragraph is not None
+    return state.paragraph
+
+
+def _undo(state: State) -> Step:
+    return Step(state, requests.Undo(_chosen(state).id, expect=state.version))
+
+
+def _strike(state: State) -> Step:
+    its = _chosen(state)
+    request = requests.Restore if its.struck else requests.Strike
+    return Step(state, request(its.id, expect=state.version))
+
+
+def _style(state: State) -> Step:
+    its = _chosen(state)
+    other = Style.BODY if its.style is Style.HEADING else Style.HEADING
+    return Step(state, requests.Style(its.id, other, expect=state.version))
+
+
+def _volume(state: State) -> Step:
+    its = _chosen(state)
+    begins = not its.begins_volume
+    return Step(state, requests.Volume(its.id, begins, expect=state.version))
+
+
+def _carried(by: int) -> Callable[[State], Step]:
+    """Moves the paragraph one place up or down."""
+
+    def moved(state: State) -> Step:
+        place = state.chosen + by
+        if not 0 <= place < len(state.book):
+            where = "first" if by < 0 else "last"
+            return Step(state.saying(f"It is the {where} paragraph of the book."))
+        before = place - 1 if by < 0 else place
+        where_to: After = state.book[before].id if before >= 0 else "front"
+        number = _chosen(state).id
+        return Step(state, requests.Move(number, where_to, expect=state.version))
+
+    return moved
+
+
+def _again(state: State) -> Step:
+    if not state.sought:
+        return Step(state.saying("Nothing was looked for yet. / looks for words."))
+    return Step(state, ToFound(state.sought))
+
+
+def _ascii(state: State) -> Step:
+    return Step(replace(state, is_ascii=not state.is_ascii))
+
+
+def _help(state: State) -> Step:
+    return Step(replace(state, pages=Pages("All keys.", help_lines())))
+
+
+def help_lines() -> tuple[str, ...]:
+    """A line for each key."""
+    seen: dict[str, list[str]] = {}
+    for key, bound in KEYS.items():
+        seen.setdefault(bound.says, []).append(NAMES.get(key, key))
+    return tuple(f"{', '.join(keys)}: {says}" for says, keys in seen.items())
+
+
+@dataclass(frozen=True)
+class Bound:
+    """What a key does, and what is said of it."""
+
+    says: str
+    does: Callable[[State], Step]
+    needs_paragraph: bool = True
+
+
+NAMES = {
+    "up": "Up",
+    "down": "Down",
+    "left": "Left",
+    "right": "Right",
+    "c-left": "Ctrl-Left",
+    "c-right": "Ctrl-Right",
+    "home": "Home",
+    "end": "End",
+    "c-home": "Ctrl-Home",
+    "c-end": "Ctrl-End",
+    "pageup": "Page Up",
+    "pagedown": "Page Down",
+    "a-up": "Alt-Up",
+    "a-down": "Alt-Down",
+    "enter": "Enter",
+    "tab": "Tab",
+    " ": "Space",
+}
+KEYS = {
+    "up": Bound("to the paragraph before", _moved(-1)),
+    "down": Bound("to the paragraph after", _moved(1)),
+    "left": Bound("to the character or cell before", lambda s: _along(s, True)),
+    "right": Bound("to the character or cell after", lambda s: _along(s, False)),
+    "c-left": Bound("to the word before", lambda s: _by_word(s, True)),
+    "c-right": Bound("to the word after", lambda s: _by_word(s, False)),
+    "home": Bound("to the front of the paragraph", lambda s: _to_end(s, True)),
+    "end": Bound("to the end of the paragraph", lambda s: _to_end(s, False)),
+    "pageup": Bound("a list of paragraphs back", _paged(-1)),
+    "pagedown": Bound("a list of paragraphs on", _paged(1)),
+    "c-home": Bound("to the first paragraph", lambda s: Step(s.at(0))),
+    "c-end": Bound("to the last paragraph", lambda s: Step(s.at(len(s.book)))),
+    "g": Bound("goes to a paragraph by its number", _typed_for(Purpose.NUMBER)),
+    "tab": Bound("from the print to the cells, and back", _other_pane),
+    "a": Bound("cells in Braille ASCII, or as Unicode characters", _ascii, False),
+    "enter": Bound("edits the print; Enter keeps it, Escape doesn't", _edit),
+    "o": Bound("a new paragraph after this one", _new(Purpose.AFTER), False),
+    "O": Bound("a new paragraph before this one", _new(Purpose.BEFORE), False),
+    "u": Bound("takes back the newest correction", _undo),
+    "h": Bound("the history of the paragraph", lambda s: Step(s, ShowHistory())),
+    " ": Bound("begins or ends a choice of cells, for m", _choose_cells),
+    "m": Bound("puts a mark on the cells, with a note", _mark),
+    "n": Bound("to the next open mark", lambda s: Step(s, ToMark(False))),
+    "N": Bound("to the open mark before", lambda s: Step(s, ToMark(True))),
+    "r": Bound("says that the mark here is dealt with", _resolve),
+    "s": Bound("strikes the paragraph, or restores it", _strike),
+    "b": Bound("makes it a heading, or body text", _style),
+    "v": Bound("has it begin a volume, or not", _volume),
+    "t": Bound("gives it a table", _typed_for(Purpose.TABLE), False),
+    "a-up": Bound("moves the paragraph up", _carried(-1)),
+    "a-down": Bound("moves the paragraph down", _carried(1)),
+    "/": Bound("finds words, or cells while on the cells", _typed_for(Purpose.WORDS)),
+    "*": Bound("finds the same again", _again),
+    "p": Bound("the page on which it stands", lambda s: Step(s, ShowPage())),
+    "x": Bound("exports all volumes to a folder", _typed_for(Purpose.FOLDER)),
+    "i": Bound("imports a text file", _typed_for(Purpose.TEXT_FILE), False),
+    "?": Bound("shows all keys", _help, False),
+    "q": Bound(
+        "ends; all that was kept is in the book", lambda s: Step(s, Quit()), False
+    ),
+}

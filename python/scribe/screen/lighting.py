@@ -1,0 +1,34 @@
+"""Which cells belong to a character, and which characters to a cell."""
+
+from braildesk import Session
+
+from scribe.occurrences import Occurrence
+from scribe.places import words_of
+from scribe.readings import Reading
+from scribe.screen.state import Lit, Pane
+from scribe.sequences import seams
+
+_NOTHING = Lit(Occurrence(0, 0), Occurrence(0, 0))
+
+
+def lit(session: Session, reading: Reading, pane: Pane, place: int) -> Lit:
+    """What is lit where the cursor stands on a character, or on a cell."""
+    text, cells = reading.text, reading.braille
+    if not text or not cells:
+        return _NOTHING
+    if pane is Pane.CELLS:
+        cell = Occurrence(place, place + 1)
+        return Lit(words_of(session, reading.paragraph.id, cell, text, cells), cell)
+    after = min(each for each in seams(text) if each > place)
+    return Lit(Occurrence(place, after), _cells(session, reading, place, after))
+
+
+def _cells(session: Session, reading: Reading, place: int, after: int) -> Occurrence:
+    """The cells of a character, with the signs before it."""
+    number = reading.paragraph.id
+    start = session.where(number, place)
+    for later in range(after, len(reading.text)):
+        stop = session.where(number, later)
+        if stop != start:
+            return Occurrence(start, stop)
+    return Occurrence(start, len(reading.braille))

@@ -1,0 +1,47 @@
+"""Which places of a text stand on which line of a width."""
+
+from scribe.cells import EMPTY_CELL
+from scribe.occurrences import Occurrence
+from scribe.sequences import seams
+from scribe.visible import visible
+from scribe.wrapping import columns
+
+_BLANKS = (" ", "\t", EMPTY_CELL)
+
+
+def shown(character: str) -> str:
+    """What stands on the screen for a character: a tab is a blank there."""
+    return " " if character == "\t" else visible(character)
+
+
+def rows(text: str, width: int) -> list[Occurrence]:
+    """The places on each line, all of them, broken after blanks; at least one line.
+
+    The last column is left free for a blank at which a line is broken, and for the place after the
+    text. A word that is longer than a line is cut, and no combining sequence is.
+    """
+    room = max(1, width - 1)
+    found: list[Occurrence] = []
+    start = broken = taken = since = 0
+    places = seams(text)
+    for place, stop in zip(places, places[1:]):
+        size = sum(columns(shown(each)) for each in text[place:stop])
+        is_blank = text[place] in _BLANKS
+        if taken + size > room and place > start and not (is_blank and taken <= room):
+            if broken <= start:
+                broken, since = place, taken
+            found.append(Occurrence(start, broken))
+            start, taken = broken, taken - since
+            since = 0
+        taken += size
+        if is_blank:
+            broken, since = stop, taken
+    return [*found, Occurrence(start, len(text))]
+
+
+def row_of(lines: list[Occurrence], place: int) -> int:
+    """The line on which a place stands; the last one for the place after the text."""
+    for number, line in enumerate(lines):
+        if place < line.stop:
+            return number
+    return len(lines) - 1

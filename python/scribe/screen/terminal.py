@@ -1,0 +1,235 @@
+"""The terminal: keys come in, and what is drawn goes out."""
+
+import asyncio
+import os
+import signal
+from collections.abc import Mapping
+from dataclasses import replace
+
+from prompt_toolkit.application import Application
+from prompt_toolkit.data_structures import Point
+from prompt_toolkit.formatted_text import StyleAndTextTuples
+from prompt_toolkit.key_binding import KeyBindings, KeyPressEvent
+from prompt_toolkit.keys import Keys
+from prompt_toolkit.layout import FormattedTextControl, Layout, Window
+from prompt_toolkit.styles import Style
+
+from scribe.screen.desk import Desk, preview_of
+from scribe.screen.drawing import CHOSEN, HEAD, LIT, MARKED, PLAIN, Drawing, draw
+from scribe.screen.state import Size, State
+
+# no colours: what is lit is reversed, what is marked is underlined
+_STYLE = Style(
+    [(LIT, "reverse"), (MARKED, "underline"), (CHOSEN, "bold"), (HEAD, "reverse")]
+)
+_CLASSES = {
+    PLAIN: "",
+    **{each: f"class:{each}" for each in (LIT, MARKED, CHOSEN, HEAD)},
+}
+_KEYS = (
+    "up down left right home end pageup pagedown c-home c-end c-left c-right escape delete"
+).split()
+_OTHERS = {"c-m": "enter", "c-i": "tab", "c-h": "backspace"}
+# how often what is typed is kept beside the book
+_SAVE_SECONDS = 1.0
+# how long Escape waits for a key that would make it Alt
+_ESCAPE_SECONDS = 0.1
+
+
+class Screen:
+    """A book on the terminal of this process, until the person ends it."""
+
+    def __init__(self, desk: Desk, state: State) -> None:
+        self._desk = desk
+        self.state = state
+        self._watched: int | None = None
+        self._translates = False
+        control = FormattedTextControl(
+            self._fragments, show_cursor=True, get_cursor_position=self._cursor
+        )
+        self._app: Application[None] = Application(
+            layout=Layout(Window(control)),
+            key_bindings=self._bindings(),
+            style=_STYLE,
+            full_screen=True,
+            before_render=lambda app: self._fit(),
+        )
+        self._app.ttimeoutlen = self._app.timeoutlen = _ESCAPE_SECONDS
+
+    def run(self) -> None:
+        """Shows the book until it is left, or until the terminal hangs up."""
+        is_hung_up = False
+        try:
+            self._app.run(pre_run=self._begin)
+        except (EOFError, OSError):
+            # the terminal is gone, and nobody is there who could be told
+            is_hung_up = True
+        finally:
+            self.state = self._desk.save_draft(self.state)
+        if is_hung_up:
+            self.state = replace(self.state, is_over=True)
+
+    def _begin(self) -> None:
+        loop = asyncio.get_running_loop()
+        for number in (signal.SIGHUP, signal.SIGTERM):
+            loop.add_signal_handler(number, self._leave)
+        self._watch()
+        self._app.create_background_task(self._keep())
+        self._look_ahead()
+
+    def _drawing(self) -> Drawing:
+        return draw(self.state)
+
+    def _fragments(self) -> StyleAndTextTuples:
+        fragments: StyleAndTextTuples = []
+        for line in self._drawing().lines:
+            fragments += [(_CLASSES[piece.look], piece.text) for piece in line]
+            fragments.append(("", " \n"))
+        fragments.pop()
+        return fragments
+
+    def _cursor(self) -> Point:
+        line, place = self._drawing().cursor
+        return Point(x=place, y=line)
+
+    def _fit(self) -> None:
+        """Takes the size of the terminal, which may have changed."""
+        found = self._app.output.get_size()
+        size = Size(max(10, found.columns), max(8, found.rows))
+        if size == self.state.size:
+            return
+        if self.state.away or self.state.is_lost:
+            self.state = replace(self.state, size=size)
+        else:
+            self.state = self._desk.resized(self.state, size)
+
+    def _bindings(self) -> KeyBindings:
+        bindings = KeyBindings()
+        for key in _KEYS:
+            self._bind(bindings, (key,), key)
+        for key, name in _OTHERS.items():
+            self._bind(bindings, (key,), name)
+        self._bind(bindings, ("escape", "up"), "a-up")
+        self._bind(bindings, ("escape", "down"), "a-down")
+
+        @bindings.add(Keys.Any)
+        def typed(event: KeyPressEvent) -> None:
+            if len(event.data) == 1:
+                self._press(event.data)
+
+        @bindings.add(Keys.BracketedPaste)
+        def pasted(event: KeyPressEvent) -> None:
+            if not self.state.away:
+                self._become(self._desk.paste(self.state, event.data))
+
+        return bindings
+
+    def _bind(self, bindings: KeyBindings, keys: tuple[str, ...], name: str) -> None:
+        @bindings.add(*keys)
+        def pressed(event: KeyPressEvent) -> None:
+            self._press(name)
+
+    def _press(self, key: str) -> None:
+        if not self.state.away and not self.state.is_over:
+            self._become(self._desk.press(self.state, key))
+
+    def _become(self, state: State) -> None:
+        self.state = state
+        if state.is_over:
+            self._app.exit()
+        elif state.away:
+            self._unwatch()
+            self._app.create_background_task(self._go_away())
+        else:
+            self._look_ahead()
+        self._app.invalidate()
+
+    async def _go_away(self) -> None:
+        """Does what needs the session closed beside the terminal, which goes on."""
+        loop = asyncio.get_running_loop()
+
+        def report(line: str) -> None:
+            loop.call_soon_threadsafe(self._say, line)
+
+        state = await loop.run_in_executor(None, self._desk.away, self.state, report)
+        self._watch()
+        self._become(replace(state, message=""))
+
+    def _say(self, line: str) -> None:
+        if self.state.away:
+            self.state = self.state.saying(line)
+            self._app.invalidate()
+
+    def _look_ahead(self) -> None:
+        """Translates what is typed, where it isn't that already."""
+        typed, preview = self.state.typed, self.state.preview
+        if typed is None or not typed.purpose.is_print or self._translates:
+            return
+        if preview is None or preview.text != typed.text:
+            self._translates = True
+            self._app.create_background_task(self._translate())
+
+    async def _translate(self) -> None:
+        asked = self.state
+        typed = asked.typed
+        if typed is not None:
+            words = preview_of(asked, typed)
+            loop = asyncio.get_running_loop()
+            preview = await loop.run_in_executor(
+                None, self._desk.tables.preview, *words
+            )
+            if self.state.typed is not None:
+                self.state = replace(self.state, preview=preview)
+        self._translates = False
+        self._look_ahead()
+        self._app.invalidate()
+
+    async def _keep(self) -> None:
+        """Keeps what is typed beside the book, again and again."""
+        while True:
+            await asyncio.sleep(_SAVE_SECONDS)
+            if self.state.typed:
+                self.state = self._desk.save_draft(self.state)
+
+    def _leave(self) -> None:
+        """What ends scribe from outside: what is typed is kept beside the book."""
+        self.state = self._desk.save_draft(self.state)
+        self.state = replace(self.state, is_over=True)
+        if self._app.is_running:
+            self._app.exit()
+
+    def _watch(self) -> None:
+        """Watches the session, so that its end is seen when it comes."""
+        if self.state.is_lost:
+            return
+        self._watched = os.pidfd_open(self._desk.pid)
+        asyncio.get_running_loop().add_reader(self._watched, self._ended)
+
+    def _unwatch(self) -> None:
+        if self._watched is not None:
+            asyncio.get_running_loop().remove_reader(self._watched)
+            os.close(self._watched)
+            self._watched = None
+
+    def _ended(self) -> None:
+        self._unwatch()
+        if not self.state.is_lost and not self.state.is_over:
+            self._become(self._desk.lost(self.state))
+
+
+def is_plain(environment: Mapping[str, str]) -> bool:
+    """Whether a terminal shows no Unicode patterns: the locale isn't UTF-8, or TERM is linux."""
+    names = ("LC_ALL", "LC_CTYPE", "LANG")
+    found = next((environment[name] for name in names if environment.get(name)), "")
+    is_utf8 = found.lower().replace("-", "").endswith("utf8")
+    return not is_utf8 or environment.get("TERM") == "linux"
+
+
+def first_environment() -> dict[str, str]:
+    """The environment as scribe was started with it, before Python took another locale."""
+    try:
+        with open("/proc/self/environ", "rb") as file:
+            words = file.read().decode(errors="replace").split("\0")
+    except OSError:
+        return dict(os.environ)
+    return dict(word.split("=", 1) for word in words if "=" in word)
