@@ -7,8 +7,6 @@ from braildesk import Lost
 
 from scribe.console import Console
 from scribe.parser import Subparsers, add_file, command_parser
-from scribe.screen.desk import Desk
-from scribe.screen.state import Size
 from scribe.status import Status, Stop
 from scribe.terminal import are_typed
 from scribe.texts import words
@@ -44,7 +42,9 @@ def run(arguments: Namespace, console: Console) -> Status:
             " run and scribe talk work without one. Nothing was changed."
         )
     try:
-        # imported here, since only this command needs it
+        # imported here, since only this command needs prompt_toolkit
+        from scribe.screen.desk import Desk
+        from scribe.screen.state import Size
         from scribe.screen.terminal import Screen, first_environment, is_plain
     except ImportError:
         raise Stop(

@@ -42,6 +42,15 @@ from scribe.visible import named, visible
 _WORDS = 300
 
 
+class _Interrupted(Exception):
+    """The session failed in the middle of a step, with the state in which it did."""
+
+    def __init__(self, state: State, cause: Lost | Refused) -> None:
+        super().__init__()
+        self.state = state
+        self.cause = cause
+
+
 class Desk:
     """The session with a book, and the texts of its tables."""
 
@@ -79,17 +88,17 @@ class Desk:
 
     def press(self, state: State, key: str) -> State:
         """The state after a key, once what it asks for was answered."""
-        return self._taken(state, keys.step(state, key))
+        return self._taken(keys.step(state, key))
 
     def paste(self, state: State, text: str) -> State:
         """The state after text was pasted."""
-        return self._taken(state, keys.pasted(state, text))
+        return self._taken(keys.pasted(state, text))
 
     def resized(self, state: State, size: Size) -> State:
         """The state on a terminal of another size."""
         place, span = state.place, state.anchor
         state = replace(state, size=size).at(state.chosen, place)
-        return self._taken(state, Step(replace(state, anchor=span)))
+        return self._taken(Step(replace(state, anchor=span)))
 
     def previewed(self, state: State) -> State:
         """The state with the braille of what is typed."""
@@ -227,24 +236,36 @@ class Desk:
         state = replace(state, table=saved.table or state.table)
         return replace(state, message="", question=Question(sentence, draft=field))
 
-    def _taken(self, before: State, step: Step) -> State:
+    def _taken(self, step: Step) -> State:
         """The state after a step: what it asks for is sent, and what is drawn is asked for."""
         state = step.state
         try:
-            if isinstance(step.asked, Command):
-                state = self._sent(state, step.asked)
-            elif step.asked is not None:
-                state = self._run(state, step.asked)
-            if state.is_lost or state.is_over or state.away:
-                return state
-            state = self.refreshed(state)
-        except Refused as refused:
-            state = self.refreshed(state.saying(refused.sentence))
+            state = self._done(state, step.asked)
+        except _Interrupted as interrupted:
+            state = self._after_failure(interrupted.state, interrupted.cause)
         except Stop as stop:
             state = state.saying(stop.sentence)
-        except Lost as lost:
-            return self._after_loss(state, lost)
+        except (Lost, Refused) as failed:
+            state = self._after_failure(state, failed)
+        if not (state.is_lost or state.is_over or state.away):
+            state = self._drawn(state)
         return state if state.typed else self.save_draft(state)
+
+    def _done(self, state: State, asked: Command[Any] | Errand | None) -> State:
+        if isinstance(asked, Command):
+            return self._sent(state, asked)
+        return state if asked is None else self._run(state, asked)
+
+    def _drawn(self, state: State) -> State:
+        try:
+            return self.refreshed(state)
+        except (Lost, Refused) as failed:
+            return self._after_failure(state, failed)
+
+    def _after_failure(self, state: State, failed: Lost | Refused) -> State:
+        if isinstance(failed, Lost):
+            return self._after_loss(state, failed)
+        return state.saying(failed.sentence)
 
     def _after_loss(self, state: State, lost: Lost) -> State:
         """What the screen says when the session ended by itself."""
@@ -267,21 +288,26 @@ class Desk:
 
     def _sent(self, state: State, command: Command[Any]) -> State:
         """Sends a command; only what its `ok` says is said to be kept."""
-        before = state.reading
-        answer = self._session.ask(command)
-        state = replace(
-            state,
-            version=self._session.seen,
-            kept=kept(command, answer),
-            typed=None,
-            preview=None,
-        )
-        number = getattr(command, "paragraph", None)
-        if isinstance(command, requests.Type):
-            number = answer.id
-        elif isinstance(command, requests.Resolve) and before:
-            number = before.paragraph.id
-        return self._changed(state, number, before)
+        before, typed = state.reading, state.typed
+        try:
+            answer = self._session.ask(command)
+            state = replace(
+                state,
+                version=self._session.seen,
+                kept=kept(command, answer),
+                typed=None,
+                preview=None,
+            )
+            number = getattr(command, "paragraph", None)
+            if isinstance(command, requests.Type):
+                number = answer.id
+            elif isinstance(command, requests.Resolve) and before:
+                number = before.paragraph.id
+            elif typed is not None and typed.purpose is Purpose.EDIT:
+                state = replace(state, pane=Pane.PRINT, place=typed.place)
+            return self._changed(state, number, before)
+        except (Lost, Refused) as failed:
+            raise _Interrupted(state, failed) from failed
 
     def _changed(
         self, state: State, number: int | None, before: Reading | None
@@ -393,9 +419,11 @@ class Desk:
             command = requests.Type(place, table, line, expect=state.version)
             try:
                 state = self._sent(replace(state, typed=field), command)
-            except Refused as refused:
-                again = replace(state, typed=field, table=table)
-                return again.saying(f"{count} typed. {refused.sentence}")
+            except _Interrupted as interrupted:
+                if isinstance(interrupted.cause, Lost) or not interrupted.state.typed:
+                    raise
+                said = f"{count} typed. {interrupted.cause.sentence}"
+                return interrupted.state.saying(said)
             assert state.paragraph is not None
             place = state.paragraph.id
         return state

@@ -1,0 +1,407 @@
+"""Keys that are carried out on a book by the program, and what the screen shows after each."""
+
+import os
+import signal
+from collections.abc import Callable, Iterator
+from dataclasses import dataclass
+from pathlib import Path
+
+import pytest
+
+import braildesk
+from braildesk import Kind, Session, requests
+from scribe.cells import braille_patterns
+from scribe.screen.desk import Desk
+from scribe.screen.drawing import LIT, draw
+from scribe.screen.state import Size, State
+
+SMALL = (
+    "space \\s 0\nletter a 1\nletter b 12\nuplow Tt 2345\nletter h 125\nletter e 15\n"
+)
+
+
+@dataclass
+class Sat:
+    """Somebody who sits at a book: presses keys, and reads the lines."""
+
+    desk: Desk
+    state: State
+
+    def press(self, *keys: str) -> None:
+        for key in keys:
+            self.state = self.desk.press(self.state, key)
+
+    def write(self, text: str) -> None:
+        self.press(*text)
+
+    @property
+    def lines(self) -> list[str]:
+        return draw(self.state).texts()
+
+    @property
+    def lit(self) -> list[str]:
+        lines = draw(self.state).lines
+        return [each.text for line in lines for each in line if each.look == LIT]
+
+
+Sit = Callable[..., Sat]
+
+
+@pytest.fixture
+def sit() -> Iterator[Sit]:
+    """Opens a book as the screen does, and closes it at the end."""
+    desks: list[Desk] = []
+
+    def opened(path: Path, by: str | None = None, size: Size = Size(80, 24)) -> Sat:
+        desks.append(Desk(path))
+        return Sat(desks[-1], desks[-1].first_state(size, by, False))
+
+    yield opened
+    for desk in desks:
+        try:
+            desk.close()
+        except braildesk.Lost:
+            pass
+
+
+def closed(sat: Sat) -> Path:
+    """Ends, and gives the book for another session."""
+    sat.desk.close()
+    return sat.desk.path
+
+
+def test_the_book_is_shown_as_it_is_opened(moon: Path, sit: Sit) -> None:
+    sat = sit(moon)
+    assert sat.lines[:10] == [
+        "moon.braildesk, version 7, table en, nothing sent yet",
+        ">    1 body, 1 open mark: The moon is far away.",
+        "     2 body: The Tides",
+        "     3 body: Twice a day the sea comes up.",
+        "",
+        "",
+        "",
+        "-- Paragraph 1, body, table en " + "-" * 49,
+        "The moon is far away.",
+        "⠠⠞⠓⠑⠀⠍⠕⠕⠝⠀⠊⠎⠀⠋⠁⠗⠀⠁⠺⠁⠽⠲",
+    ]
+    # the T with its sign
+    assert sat.lit == ["T", "⠠⠞"]
+    sat.press("tab")
+    assert sat.lit == ["T", "⠠"]
+    sat.press("right", "right")
+    assert sat.lit == ["h", "⠓"]
+
+
+def test_a_correction_is_kept_with_its_name_and_then_undone(
+    moon: Path, sit: Sit
+) -> None:
+    sat = sit(moon, by="anna")
+    sat.press("c-right", "enter", "delete")
+    sat.write("M")
+    assert sat.state.version == 7 and sat.state.kept == ""
+    sat.press("enter")
+    assert "kept: correction 2 of paragraph 1" in sat.lines[0]
+    assert sat.lines[8] == "The Moon is far away."
+    assert "Mark 1, open, touched, on “Moon”: spelled so?" in sat.lines
+    sat.press("u")
+    assert "version 9, table en, kept: undo in paragraph 1" in sat.lines[0]
+    assert sat.lines[8] == "The moon is far away."
+    sat.press("h")
+    assert sat.lines[1:5] == [
+        "History of paragraph 1, places counted from 0. Lines 1 to 3 of 3.",
+        "1: “moon” for 3 characters from place 4 on",
+        "2: “M” for 1 character from place 4 on, by anna",
+        "3: correction 2 taken back",
+    ]
+    with Session(closed(sat)) as session:
+        entries = session.history(1)
+    assert [(each.kind, each.who) for each in entries] == [
+        (Kind.CORRECT, None),
+        (Kind.CORRECT, "anna"),
+        (Kind.UNDO, None),
+    ]
+
+
+def test_a_refusal_is_a_sentence_and_what_was_typed_stays(moon: Path, sit: Sit) -> None:
+    sat = sit(moon)
+    sat.press("enter")
+    sat.write("ě")
+    sat.state = sat.desk.previewed(sat.state)
+    wanted = (
+        "The table en has no cells for “ě” (U+011B LATIN SMALL LETTER E WITH CARON),"
+    )
+    assert wanted in sat.lines and "character 1." in sat.lines
+    sat.press("enter")
+    assert sat.state.typed and sat.state.typed.text == "ěThe moon is far away."
+    assert "Nothing was changed." in " ".join(sat.lines)
+    assert (sat.state.version, sat.state.kept) == (7, "")
+    sat.press("backspace", "u")
+    assert sat.state.typed and sat.state.typed.text == "uThe moon is far away."
+    sat.press("escape", "down", "u")
+    assert "Paragraph 2 has no correction that could be taken back." in " ".join(
+        sat.lines
+    )
+
+
+def test_paragraphs_are_typed_after_and_before(moon: Path, sit: Sit) -> None:
+    sat = sit(moon)
+    sat.press("o")
+    sat.write("It rose.")
+    sat.state = sat.desk.previewed(sat.state)
+    assert sat.lines[7].startswith("-- New paragraph after paragraph 1, table en ")
+    assert sat.lines[8:10] == ["It rose.", "⠠⠊⠞⠀⠗⠕⠎⠑⠲"]
+    sat.press("enter", "O")
+    sat.write("Soon.")
+    sat.press("enter")
+    assert "kept: paragraph 5" in sat.lines[0]
+    sat.press("o")
+    sat.state = sat.desk.paste(sat.state, "One.\nTwo.\n")
+    sat.press("y")
+    with Session(closed(sat)) as session:
+        found = [(each.id, session.print(each.id)) for each in session.list()]
+    assert found == [
+        (1, "The moon is far away."),
+        (5, "Soon."),
+        (6, "One."),
+        (7, "Two."),
+        (4, "It rose."),
+        (2, "The Tides"),
+        (3, "Twice a day the sea comes up."),
+    ]
+
+
+def test_pasted_paragraphs_stop_at_the_one_that_is_refused(
+    moon: Path, sit: Sit
+) -> None:
+    sat = sit(moon)
+    sat.press("o")
+    sat.state = sat.desk.paste(sat.state, "One.\nTěo.\nThree.")
+    sat.press("y")
+    assert sat.state.typed and sat.state.typed.text == "Těo. Three."
+    assert sat.state.message.startswith("1 typed. The table en has no cells for “ě”")
+    assert "kept: paragraph 4" in sat.lines[0]
+
+
+@pytest.mark.parametrize(
+    "keys, kept, listed",
+    [
+        ("s", "paragraph 2 struck", "body, struck: The Tides"),
+        ("s s", "paragraph 2 restored", "body: The Tides"),
+        ("b", "paragraph 2 a heading", "heading: The Tides"),
+        ("b b", "paragraph 2 body text", "body: The Tides"),
+        ("v", "paragraph 2 begins a volume", "body, volume: The Tides"),
+        ("v v", "paragraph 2 begins no volume", "body: The Tides"),
+        ("t p l a i n enter", "paragraph 2 with table plain", "body: The Tides"),
+        ("a-up", "paragraph 2 moved", "body: The Tides"),
+        ("a-down", "paragraph 2 moved", "body: The Tides"),
+    ],
+)
+def test_each_key_for_a_paragraph_is_kept_and_shown(
+    moon: Path, sit: Sit, keys: str, kept: str, listed: str
+) -> None:
+    sat = sit(moon)
+    sat.press("down", *keys.split())
+    assert sat.lines[0].endswith(f", kept: {kept}")
+    assert f">    2 {listed}" in sat.lines
+    places = {"a-up": 1, "a-down": 3}
+    assert sat.lines.index(f">    2 {listed}") == places.get(keys, 2)
+
+
+def test_marks_are_put_on_chosen_cells_gone_to_and_resolved(
+    moon: Path, sit: Sit
+) -> None:
+    sat = sit(moon)
+    sat.press("down", "down", " ", "right", "right", "m")
+    sat.write("who?")
+    sat.press("enter")
+    assert sat.lines[0].endswith("kept: mark 2")
+    sat.press("c-home", "n")
+    assert "Mark 1, open, on “moon”: spelled so?" in sat.lines
+    sat.press("n")
+    assert (sat.state.chosen, sat.state.place) == (2, 0)
+    assert "Mark 2, open, on “Tw”: who?" in sat.lines
+    sat.press("N")
+    assert (sat.state.chosen, sat.state.place) == (0, 4)
+    sat.press("r")
+    assert sat.lines[0].endswith("kept: mark 1 resolved")
+    assert "Mark 1, resolved, on “moon”: spelled so?" in sat.lines
+    sat.press("n", "n")
+    assert sat.state.chosen == 2
+    with Session(closed(sat)) as session:
+        (mark,) = session.marks(3)
+    assert (mark.start, mark.stop, mark.note) == (0, 2, "who?")
+
+
+def test_words_and_cells_are_found_and_found_again(moon: Path, sit: Sit) -> None:
+    sat = sit(moon)
+    sat.press("/")
+    sat.write("a")
+    sat.press("enter")
+    spots = [(sat.state.chosen, sat.state.place)]
+    for _ in range(5):
+        sat.press("*")
+        spots.append((sat.state.chosen, sat.state.place))
+    assert spots == [(0, 14), (0, 17), (0, 19), (2, 6), (2, 9), (2, 18)]
+    sat.press("*")
+    assert (sat.state.chosen, sat.state.place) == (0, 14)
+    assert "Found again from the front of the book on." in sat.lines
+    sat.press("tab", "/")
+    sat.write("tides")
+    sat.press("enter")
+    assert (sat.state.chosen, sat.state.place) == (1, 6)
+    sat.press("/", "é", "enter")
+    assert "is no cell in Braille ASCII or Unicode" in " ".join(sat.lines)
+    sat.press("tab", "/", "z", "enter")
+    assert "“z” stands nowhere in the print of the book." in sat.lines
+
+
+def test_the_page_is_that_of_the_export(moon: Path, sit: Sit) -> None:
+    sat = sit(moon)
+    sat.press("down", "p")
+    assert sat.lines[1].startswith("Paragraph 2: volume 1, page 1, line 2, of 25 lines")
+    assert sat.state.pages
+    shown = sat.state.pages.lines
+    pages = braildesk.export(closed(sat), 1).decode().split("\r\n")
+    assert [line.strip() for line in pages[:3]] == [
+        ",THE MOON IS FAR AWAY4",
+        ",THE ,TIDES",
+        ",TWICE A DAY THE SEA COMES UP4",
+    ]
+    assert shown == tuple(braille_patterns(line) for line in pages[:25])
+
+
+def test_a_table_is_put_into_an_empty_book_and_the_first_paragraph_typed(
+    empty_book: Path, sit: Sit
+) -> None:
+    sat = sit(empty_book)
+    assert sat.lines[1].startswith("The book has no paragraphs.")
+    sat.press("o")
+    assert "The book has no table yet. t chooses one." in sat.lines
+    sat.press("t", "x", "y", "enter")
+    assert "There is no table xy in" in " ".join(sat.lines)
+    sat.press("t", "e", "n", "enter")
+    assert sat.lines[0] == "empty.braildesk, version 1, table en, kept: table en"
+    sat.press("o")
+    sat.write("ab 5")
+    sat.state = sat.desk.previewed(sat.state)
+    assert "⠁⠃⠀⠼⠑" in sat.lines
+    sat.press("enter")
+    assert sat.lines[1] == ">    1 body: ab 5"
+
+
+def test_the_preview_is_by_the_table_of_the_paragraph(book: Path, sit: Sit) -> None:
+    with Session(book) as session:
+        session.table("small", SMALL.encode())
+        session.type("end", "small", "the")
+    sat = sit(book)
+    sat.press("enter", "end", "b")
+    sat.state = sat.desk.previewed(sat.state)
+    assert sat.lines[8:10] == ["theb", "⠞⠓⠑⠃"]
+    sat.press("c")
+    sat.state = sat.desk.previewed(sat.state)
+    wanted = "The table small has no cells for “c” (U+0063 LATIN SMALL LETTER C)"
+    assert any(line.startswith(wanted) for line in sat.lines)
+
+
+def test_an_export_and_an_import_are_done_and_the_book_is_open_again(
+    moon: Path, sit: Sit
+) -> None:
+    sat = sit(moon)
+    heard: list[str] = []
+    sat.press("x")
+    sat.write(str(moon.parent / "pages"))
+    sat.press("enter")
+    sat.state = sat.desk.away(sat.state, heard.append)
+    file = moon.parent / "pages" / "moon-1.brf"
+    assert heard == [f"{file}: volume 1, 1 page, 53 cells with dots."]
+    assert file.read_bytes().startswith(b"  ,THE MOON IS FAR AWAY4\r\n")
+    text = moon.parent / "more.txt"
+    text.write_text("The sun\n\nThe stars…\n")
+    sat.press("escape", "i")
+    sat.write(str(text))
+    sat.press("enter")
+    sat.state = sat.desk.away(sat.state, heard.append)
+    assert "line 3, column 10: “…” (U+2026" in " ".join(sat.lines).replace("  ", " ")
+    assert sat.lines[0] == "moon.braildesk, version 7, table en, nothing sent yet"
+    text.write_text("The sun\n\nThe stars.\n")
+    sat.press("escape", "i")
+    sat.write(str(text))
+    sat.press("enter")
+    sat.state = sat.desk.away(sat.state, heard.append)
+    sat.press("escape", "s")
+    assert sat.lines[1:4] == [
+        ">    1 body, struck, 1 open mark: The moon is far away.",
+        "     4 body: The sun",
+        "     5 body: The stars.",
+    ]
+
+
+def test_only_the_listed_paragraphs_are_asked_for(
+    big_book: Path, sit: Sit, monkeypatch: pytest.MonkeyPatch
+) -> None:
+    sat = sit(big_book)
+    asked: list[int] = []
+    print_fields = requests.Print.fields
+
+    def noted(request: requests.Print) -> list[str]:
+        asked.append(request.paragraph)
+        return print_fields(request)
+
+    monkeypatch.setattr(requests.Print, "fields", noted)
+    sat.press("c-end")
+    assert sorted(set(asked)) == list(range(19_995, 20_001))
+    assert sat.lines[6] == ">20000 body: Paragraph number 20000 of the moon."
+    asked.clear()
+    sat.press("up")
+    assert asked == [19_999]
+
+
+def test_a_killed_session_says_what_was_kept_and_keeps_what_was_typed(
+    moon: Path, sit: Sit
+) -> None:
+    sat = sit(moon)
+    sat.press("down", "s", "s", "o")
+    sat.write("It rose.")
+    os.kill(sat.desk.pid, signal.SIGKILL)
+    sat.press("enter")
+    text = " ".join(sat.lines)
+    assert "The session was ended by signal 9." in text
+    assert "“restore 2”, by which the book came to version 9." in text
+    assert "This was typed, and was not reported as kept: It rose." in text
+    assert sat.lines[0].endswith("kept: paragraph 2 restored")
+    sat.press("s", "enter")
+    assert sat.state.is_lost and not sat.state.is_over
+    sat.press("q")
+    assert sat.state.is_over
+    again = sit(moon)
+    assert again.state.version == 9
+    assert again.lines[-2:] == [
+        "A text of a new paragraph was typed and not sent: “It rose.”. Shall it be typed",
+        "further? y is yes, n is no.",
+    ]
+    again.press("y", "enter")
+    assert again.lines[0].endswith("kept: paragraph 4")
+    assert [each.id for each in again.state.book] == [1, 2, 4, 3]
+    assert not again.desk.draft_path.exists()
+
+
+def test_a_text_that_was_left_waits_and_can_be_left_out(moon: Path, sit: Sit) -> None:
+    sat = sit(moon)
+    sat.press("enter", "x")
+    sat.state = sat.desk.save_draft(sat.state)
+    path = closed(sat)
+    again = sit(path)
+    assert "A text of paragraph 1 was typed and not sent" in " ".join(again.lines)
+    again.press("q", "n")
+    assert again.state.typed is None and not again.desk.draft_path.exists()
+    assert again.lines[8] == "The moon is far away."
+
+
+def test_a_resize_lists_more_and_the_choice_stays(moon: Path, sit: Sit) -> None:
+    sat = sit(moon, size=Size(40, 12))
+    sat.press("down", "right", " ", "right")
+    before = sat.state.chosen_cells
+    sat.state = sat.desk.resized(sat.state, Size(200, 60))
+    assert len(sat.lines) == 60
+    assert sat.state.chosen_cells == before
+    assert sat.lines[2] == ">    2 body: The Tides"

@@ -1,0 +1,199 @@
+"""The lines of the screen, from a state that is written by hand, without a terminal or a book."""
+
+from dataclasses import replace
+
+import pytest
+
+from braildesk import Mark, Paragraph, Style
+from scribe.occurrences import Occurrence
+from scribe.readings import Reading
+from scribe.screen.drawing import LIT, MARKED, Drawing, draw
+from scribe.screen.field import Field, Purpose
+from scribe.screen.rows import rows
+from scribe.screen.state import (
+    Lit,
+    Opening,
+    Pages,
+    Pane,
+    Preview,
+    Question,
+    Size,
+    State,
+)
+from scribe.wrapping import columns
+
+PRINT = "The moon is far away."
+CELLS = "⠠⠞⠓⠑⠀⠍⠕⠕⠝⠀⠊⠎⠀⠋⠁⠗⠀⠁⠺⠁⠽⠲"
+FIRST = Paragraph(1, "en", Style.BODY, False, False, 21)
+SECOND = Paragraph(2, "en", Style.HEADING, True, True, 9)
+MARK = Mark(1, 4, 8, False, False, "spelled so?")
+STATE = State(
+    "moon.braildesk",
+    7,
+    (FIRST, SECOND),
+    ("en",),
+    Size(80, 24),
+    openings={1: Opening(PRINT, 1), 2: Opening("The Tides", 0)},
+    reading=Reading(FIRST, PRINT, CELLS, (MARK,)),
+    place=5,
+    lit=Lit(Occurrence(5, 6), Occurrence(6, 7)),
+    kept="kept: mark 1",
+)
+SIZES = {
+    (80, 24): [
+        "moon.braildesk, version 7, table en, kept: mark 1",
+        ">    1 body, 1 open mark: The moon is far away.",
+        "     2 heading, volume, struck: The Tides",
+        *[""] * 4,
+        "-- Paragraph 1, body, table en " + "-" * 49,
+        PRINT,
+        CELLS,
+        *[""] * 11,
+        "Character 6 “o”, cell 7 ⠕",
+        "Mark 1, open, on “moon”: spelled so?",
+        "Enter edits  o new  u undo  Tab cells  m mark  n next mark  / find  x export  ?…",
+    ],
+    (40, 12): [
+        "moon.braildesk, version 7, table en,…",
+        ">    1 body, 1 open mark: The moon is…",
+        "     2 heading, volume, struck: The…",
+        "",
+        "-- Paragraph 1, body, table en ---------",
+        PRINT,
+        CELLS,
+        "",
+        "",
+        "Character 6 “o”, cell 7 ⠕",
+        "Mark 1, open, on “moon”: spelled so?",
+        "Enter edits  o new  u undo  Tab cells …",
+    ],
+    (200, 60): [
+        "moon.braildesk, version 7, table en, kept: mark 1",
+        ">    1 body, 1 open mark: The moon is far away.",
+        "     2 heading, volume, struck: The Tides",
+        *[""] * 16,
+        "-- Paragraph 1, body, table en " + "-" * 169,
+        PRINT,
+        CELLS,
+        *[""] * 35,
+        "Character 6 “o”, cell 7 ⠕",
+        "Mark 1, open, on “moon”: spelled so?",
+        "Enter edits  o new  u undo  Tab cells  m mark  n next mark  / find  x export"
+        "  ? keys  q ends",
+    ],
+}
+
+
+def looks(drawing: Drawing, look: str) -> list[str]:
+    """All text that has a look, in its order."""
+    return [each.text for line in drawing.lines for each in line if each.look == look]
+
+
+@pytest.mark.parametrize("size", SIZES)
+def test_each_line_is_what_has_to_be_there_at_each_size(size: tuple[int, int]) -> None:
+    drawn = draw(replace(STATE, size=Size(*size)))
+    assert drawn.texts() == SIZES[size]
+    assert all(columns(line) <= size[0] for line in drawn.texts())
+
+
+def test_the_character_of_the_cursor_its_cells_and_the_marked_words_are_lit() -> None:
+    drawn = draw(STATE)
+    assert looks(drawn, LIT) == ["o", "⠕"]
+    assert looks(drawn, MARKED) == ["m", "on"]
+    assert drawn.cursor == (8, 5)
+
+
+def test_on_cells_the_cursor_stands_on_the_cell_and_its_characters_are_lit() -> None:
+    lit = Lit(Occurrence(0, 1), Occurrence(0, 1))
+    drawn = draw(replace(STATE, pane=Pane.CELLS, place=0, lit=lit))
+    assert looks(drawn, LIT) == ["T", "⠠"]
+    assert drawn.cursor == (9, 0)
+
+
+def test_chosen_cells_are_lit_and_counted() -> None:
+    lit = Lit(Occurrence(7, 8), Occurrence(8, 9))
+    drawn = draw(replace(STATE, pane=Pane.CELLS, place=8, anchor=5, lit=lit))
+    assert looks(drawn, LIT) == ["n", "⠍⠕⠕⠝"]
+    assert "Character 8 “n”, cell 9 ⠝, 4 cells chosen" in drawn.texts()
+
+
+def test_braille_ascii_is_shown_where_it_is_wanted() -> None:
+    drawn = draw(replace(STATE, is_ascii=True))
+    assert ",THE MOON IS FAR AWAY4" in drawn.texts()
+    assert "Character 6 “o”, cell 7 O" in drawn.texts()
+    assert "".join(drawn.texts()[:-1]).count("⠕") == 0
+
+
+def test_what_is_typed_stands_in_place_of_the_print_with_its_braille() -> None:
+    typed = Field(Purpose.EDIT, "The mo", 6)
+    drawn = draw(replace(STATE, typed=typed, preview=Preview("The mo", "⠠⠞⠓⠑⠀⠍⠕")))
+    lines = drawn.texts()
+    assert "-- Paragraph 1, body, table en, being edited " + "-" * 35 in lines
+    assert lines[8:10] == ["The mo", "⠠⠞⠓⠑⠀⠍⠕"]
+    assert drawn.cursor == (8, 6)
+
+
+def test_a_character_that_the_table_lacks_is_said_while_typing() -> None:
+    fault = "The table en has no cells for “ö”."
+    typed = Field(Purpose.EDIT, "ö", 1)
+    drawn = draw(replace(STATE, typed=typed, preview=Preview("ö", fault=fault)))
+    assert fault in drawn.texts()
+
+
+def test_a_note_is_typed_on_the_last_line_and_the_cursor_stands_there() -> None:
+    drawn = draw(replace(STATE, typed=Field(Purpose.NOTE, "why?", 2)))
+    assert drawn.texts()[-1] == "Note of the mark: why?"
+    assert drawn.cursor == (23, 20)
+
+
+def test_a_long_paragraph_is_shown_around_the_cursor() -> None:
+    text = " ".join(f"word{n:04}" for n in range(444))
+    cells = text.replace(" ", "\u2800")
+    reading = Reading(FIRST, text, cells, ())
+    lit = Lit(Occurrence(3990, 3991), Occurrence(3990, 3991))
+    drawn = draw(replace(STATE, reading=reading, place=3990, lit=lit))
+    line, place = drawn.cursor
+    assert drawn.texts()[line].startswith("word") and "word0443" in drawn.texts()[line]
+    assert drawn.texts()[line][place - 3 : place + 5] == "word0443"
+    assert len(drawn.lines) == 24
+
+
+def test_wide_and_combining_characters_take_their_columns_and_are_not_cut() -> None:
+    text = "月" * 20 + "e\u0301" * 20
+    # of 22 columns the last is left free: 10 wide ones; 10 wide ones and one sequence; the others
+    assert rows(text, 22) == [
+        Occurrence(0, 10),
+        Occurrence(10, 22),
+        Occurrence(22, 60),
+    ]
+
+
+def test_an_empty_book_says_what_to_do() -> None:
+    state = replace(STATE, book=(), openings={}, reading=None, lit=None)
+    lines = draw(state).texts()
+    assert lines[1].startswith("The book has no paragraphs. o types the first one")
+
+
+def test_a_question_is_asked_on_the_last_line() -> None:
+    drawn = draw(replace(STATE, question=Question("Are they 2 paragraphs?")))
+    assert drawn.texts()[-1] == "Are they 2 paragraphs? y is yes, n is no."
+
+
+def test_pages_are_looked_at_from_their_top_on() -> None:
+    lines = tuple(f"line {n}" for n in range(1, 41))
+    drawn = draw(replace(STATE, pages=Pages("All keys.", lines, 10)))
+    assert drawn.texts()[1:3] == ["All keys. Lines 11 to 31 of 40.", "line 11"]
+
+
+def test_a_long_refusal_leaves_room_for_the_book() -> None:
+    drawn = draw(replace(STATE, size=Size(40, 12), message="No, never again. " * 40))
+    assert len(drawn.lines) == 12
+    assert PRINT in drawn.texts()
+
+
+def test_control_characters_are_written_out_and_the_cursor_stands_after_them() -> None:
+    reading = Reading(FIRST, "a\u200bb", "⠁⠁⠃", ())
+    lit = Lit(Occurrence(2, 3), Occurrence(2, 3))
+    drawn = draw(replace(STATE, reading=reading, place=2, lit=lit))
+    assert drawn.texts()[8] == "a<U+200B>b"
+    assert drawn.cursor == (8, 9)

@@ -1,0 +1,316 @@
+"""What each key asks for, from a state that is written by hand."""
+
+from dataclasses import replace
+from pathlib import Path
+
+import pytest
+
+from braildesk import Mark, Paragraph, Style, requests
+from scribe.occurrences import Occurrence
+from scribe.readings import Reading
+from scribe.screen.errands import (
+    ExportTo,
+    GiveTable,
+    ImportFrom,
+    Quit,
+    ShowHistory,
+    ShowPage,
+    ToFound,
+    ToMark,
+    TypeAll,
+)
+from scribe.screen.field import Field, Purpose
+from scribe.screen.keys import KEYS, help_lines, pasted, step
+from scribe.screen.state import Lit, Opening, Pages, Pane, Question, Size, State
+
+PRINT = "The moon is far away."
+CELLS = "⠠⠞⠓⠑⠀⠍⠕⠕⠝⠀⠊⠎⠀⠋⠁⠗⠀⠁⠺⠁⠽⠲"
+BOOK = (
+    Paragraph(4, "en", Style.BODY, False, False, 21),
+    Paragraph(2, "en", Style.HEADING, True, True, 9),
+    Paragraph(3, "own", Style.BODY, False, False, 9),
+)
+STATE = State(
+    "moon.braildesk",
+    7,
+    BOOK,
+    ("en", "own"),
+    Size(80, 24),
+    reading=Reading(BOOK[0], PRINT, CELLS, (Mark(1, 4, 8, False, False, "so?"),)),
+    place=5,
+    lit=Lit(Occurrence(5, 6), Occurrence(6, 7)),
+)
+EMPTY = replace(STATE, book=(), reading=None, lit=None)
+AT_SECOND = STATE.at(1)
+
+
+def typed(purpose: Purpose, text: str = "", place: int | None = None) -> State:
+    """The state in which a text is typed."""
+    field = Field(purpose, text, len(text) if place is None else place)
+    return replace(STATE, typed=field, table="en")
+
+
+ASKED = {
+    "u takes back a correction": (STATE, "u", requests.Undo(4, expect=7)),
+    "s strikes": (STATE, "s", requests.Strike(4, expect=7)),
+    "s restores what is struck": (AT_SECOND, "s", requests.Restore(2, expect=7)),
+    "b makes a heading": (STATE, "b", requests.Style(4, Style.HEADING, expect=7)),
+    "b makes body text of a heading": (
+        AT_SECOND,
+        "b",
+        requests.Style(2, Style.BODY, expect=7),
+    ),
+    "v begins a volume": (STATE, "v", requests.Volume(4, True, expect=7)),
+    "v ends one": (AT_SECOND, "v", requests.Volume(2, False, expect=7)),
+    "Alt-Down moves down": (STATE, "a-down", requests.Move(4, 2, expect=7)),
+    "Alt-Up moves up to the front": (
+        AT_SECOND,
+        "a-up",
+        requests.Move(2, "front", expect=7),
+    ),
+    "Alt-Up moves up": (STATE.at(2), "a-up", requests.Move(3, 4, expect=7)),
+    "r resolves the mark at the cursor": (STATE, "r", requests.Resolve(1, expect=7)),
+    "h looks at the history": (STATE, "h", ShowHistory()),
+    "p looks at the page": (STATE, "p", ShowPage()),
+    "n goes to the next mark": (STATE, "n", ToMark(False)),
+    "N goes to the mark before": (STATE, "N", ToMark(True)),
+    "* finds again": (replace(STATE, sought="moon"), "*", ToFound("moon")),
+    "q ends": (STATE, "q", Quit()),
+    "Enter keeps an edit as the smallest correction": (
+        typed(Purpose.EDIT, "The moons is far away."),
+        "enter",
+        requests.Correct(4, 8, 0, "s", expect=7),
+    ),
+    "Enter keeps it with the name of the proofreader": (
+        replace(typed(Purpose.EDIT, "The moons is far away."), by="anna"),
+        "enter",
+        requests.CorrectBy(4, 8, 0, "s", who="anna", expect=7),
+    ),
+    "what is edited is in normal form C": (
+        typed(Purpose.EDIT, "The moon is fa\u0308r away."),
+        "enter",
+        requests.Correct(4, 13, 1, "ä", expect=7),
+    ),
+    "Enter types a paragraph after": (
+        typed(Purpose.AFTER, "It rose."),
+        "enter",
+        requests.Type(4, "en", "It rose.", expect=7),
+    ),
+    "Enter types a paragraph before": (
+        typed(Purpose.BEFORE, "It rose."),
+        "enter",
+        requests.Type("front", "en", "It rose.", expect=7),
+    ),
+    "a note is put on the cells of the cursor": (
+        typed(Purpose.NOTE, "why?"),
+        "enter",
+        requests.Mark(4, 6, 1, "why?", expect=7),
+    ),
+    "a note is put on the chosen cells": (
+        replace(typed(Purpose.NOTE), pane=Pane.CELLS, anchor=8, place=5),
+        "enter",
+        requests.Mark(4, 5, 4, "", expect=7),
+    ),
+    "a table is given": (typed(Purpose.TABLE, "own"), "enter", GiveTable("own")),
+    "words are looked for": (typed(Purpose.WORDS, "far"), "enter", ToFound("far")),
+    "a folder is exported to": (
+        typed(Purpose.FOLDER, "pages"),
+        "enter",
+        ExportTo(Path("pages")),
+    ),
+    "a text file is imported after the paragraph": (
+        typed(Purpose.TEXT_FILE, "a.txt"),
+        "enter",
+        ImportFrom(Path("a.txt"), 4),
+    ),
+    "yes types pasted lines as paragraphs": (
+        replace(typed(Purpose.AFTER), question=Question("?", ("a", "b"))),
+        "y",
+        TypeAll(Purpose.AFTER, ("a", "b")),
+    ),
+}
+SAID = {
+    "an unknown key": (STATE, "z", "That key does nothing here. ? shows all keys."),
+    "r without a mark": (
+        replace(STATE, lit=Lit(Occurrence(0, 1), Occurrence(0, 2))),
+        "r",
+        "There is no open mark here. n goes to the next one.",
+    ),
+    "Enter on a struck paragraph": (
+        AT_SECOND,
+        "enter",
+        "Paragraph 2 is struck. s restores it, and then it can be edited.",
+    ),
+    "Alt-Up at the front": (STATE, "a-up", "It is the first paragraph of the book."),
+    "Alt-Down at the end": (
+        STATE.at(2),
+        "a-down",
+        "It is the last paragraph of the book.",
+    ),
+    "o without a table": (
+        replace(EMPTY, tables=()),
+        "o",
+        "The book has no table yet. t chooses one.",
+    ),
+    "o with two tables": (
+        EMPTY,
+        "o",
+        "The book has the tables en, own. t chooses one.",
+    ),
+    "u in an empty book": (
+        EMPTY,
+        "u",
+        "The book has no paragraphs. o types the first one.",
+    ),
+    "Escape while typing": (
+        typed(Purpose.EDIT, "x"),
+        "escape",
+        "Given up. Nothing was sent.",
+    ),
+    "an edit that changes nothing": (
+        typed(Purpose.EDIT, PRINT),
+        "enter",
+        "The print reads as before, so nothing was sent.",
+    ),
+    "a number that isn't there": (
+        typed(Purpose.NUMBER, "9"),
+        "enter",
+        "There is no paragraph 9. The cursor stays where it is.",
+    ),
+    "* at first": (STATE, "*", "Nothing was looked for yet. / looks for words."),
+    "bytes that aren't UTF-8": (
+        typed(Purpose.EDIT, "x"),
+        "\udcff",
+        "What came isn't UTF-8, and was left out.",
+    ),
+}
+
+
+@pytest.mark.parametrize("name", ASKED)
+def test_a_key_asks_for_its_command(name: str) -> None:
+    state, key, wanted = ASKED[name]
+    assert step(state, key).asked == wanted
+
+
+@pytest.mark.parametrize("name", SAID)
+def test_a_key_that_asks_for_nothing_says_why(name: str) -> None:
+    state, key, sentence = SAID[name]
+    taken = step(state, key)
+    assert (taken.asked, taken.state.message) == (None, sentence)
+
+
+@pytest.mark.parametrize(
+    "keys, place",
+    [
+        ("right", 6),
+        ("left", 4),
+        ("home", 0),
+        ("end", 20),
+        ("c-right", 9),
+        ("c-left", 4),
+        ("home left", 0),
+        ("end right", 20),
+        ("tab", 6),
+        ("tab right right", 8),
+        ("tab end", 21),
+        ("tab tab", 0),
+    ],
+)
+def test_keys_move_along_the_paragraph(keys: str, place: int) -> None:
+    state = STATE
+    for key in keys.split():
+        state = step(state, key).state
+    assert state.place == place
+
+
+@pytest.mark.parametrize(
+    "keys, chosen",
+    [
+        ("down", 1),
+        ("down down down", 2),
+        ("up", 0),
+        ("pagedown", 2),
+        ("pagedown pageup", 0),
+        ("c-end", 2),
+        ("c-end c-home", 0),
+        ("g 2 enter", 1),
+        ("g 3 enter", 2),
+    ],
+)
+def test_keys_move_through_the_book(keys: str, chosen: int) -> None:
+    state = STATE
+    for key in keys.split():
+        state = step(state, key).state
+    assert (state.chosen, state.typed) == (chosen, None)
+
+
+def test_only_as_many_paragraphs_are_listed_as_there_is_room_for() -> None:
+    book = tuple(replace_id(number) for number in range(1, 20_001))
+    state = replace(STATE, book=book)
+    assert [each.id for each in state.listed] == [1, 2, 3, 4, 5, 6]
+    state = step(state, "c-end").state
+    assert [each.id for each in state.listed] == list(range(19_995, 20_001))
+
+
+def replace_id(number: int) -> Paragraph:
+    return Paragraph(number, "en", Style.BODY, False, False, 1)
+
+
+def test_a_combining_sequence_is_one_character_for_the_cursor() -> None:
+    field = Field(Purpose.EDIT, "ae\u0301b", 4)
+    left = field.moved("left")
+    assert left and left.place == 3
+    left = left.moved("left")
+    assert left and left.place == 1
+    gone = left.moved("delete")
+    assert gone and gone.text == "ab"
+
+
+def test_space_begins_and_ends_a_choice_of_cells() -> None:
+    state = step(STATE, " ").state
+    assert (state.pane, state.anchor) == (Pane.CELLS, 6)
+    state = step(step(state, "right").state, "right").state
+    assert state.chosen_cells == Occurrence(6, 9)
+    assert step(state, " ").state.anchor is None
+
+
+def test_pasted_lines_of_a_new_paragraph_are_asked_about() -> None:
+    state = pasted(typed(Purpose.AFTER, "It. ", 0), "One\r\n\r\nTwo\nThree ").state
+    assert state.question == Question(
+        "The pasted text has 3 lines. Are they 3 paragraphs?",
+        ("One", "Two", "ThreeIt. "),
+    )
+    joined = step(state, "n").state
+    assert joined.typed and joined.typed.text == "One Two ThreeIt. "
+
+
+def test_pasted_lines_are_joined_where_print_is_edited() -> None:
+    state = pasted(typed(Purpose.EDIT, "ab", 1), "x\ny").state
+    assert state.typed and state.typed.text == "ax yb"
+
+
+def test_no_other_key_answers_a_question() -> None:
+    draft = Field(Purpose.EDIT, "text")
+    asked = replace(STATE, question=Question("Further?", draft=draft))
+    assert step(asked, "x").state.question == asked.question
+    assert step(asked, "y").state.typed == draft
+
+
+def test_all_keys_are_in_the_help() -> None:
+    shown = "\n".join(help_lines())
+    assert all(bound.says in shown for bound in KEYS.values())
+    assert len(help_lines()) == len({bound.says for bound in KEYS.values()})
+    assert step(STATE, "?").state.pages == Pages("All keys.", help_lines())
+
+
+def test_nothing_is_sent_once_the_session_is_lost() -> None:
+    pages = Pages("The session ended.", ("Because.",))
+    lost = replace(STATE, is_lost=True, pages=pages)
+    for key in [*KEYS, "y", "x"]:
+        asked = step(lost, key).asked
+        assert asked == (Quit() if key == "q" else None)
+
+
+def test_the_openings_of_other_paragraphs_stay() -> None:
+    state = replace(STATE, openings={4: Opening("The moon", 1)})
+    assert step(state, "down").state.openings == {4: Opening("The moon", 1)}
