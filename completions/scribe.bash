@@ -3,7 +3,7 @@
 
 _scribe() {
     local word=${COMP_WORDS[COMP_CWORD]} words=''
-    local commands='new run talk table check-table try import show find change mark marks undo
+    local commands='new edit run talk table check-table try import show find change mark marks undo
         resolve strike restore heading body volume move retable pages export copy
         bring'
     if ((COMP_CWORD == 1)); then
@@ -11,6 +11,7 @@ _scribe() {
     elif [[ $word == -* ]]; then
         case ${COMP_WORDS[1]} in
             run) words='--keep-going' ;;
+            edit) words='--by' ;;
             talk) words='--by --width' ;;
             table | try) words='--width' ;;
             check-table) words='--display --width' ;;

@@ -6,7 +6,7 @@ set -eu
 cd "$(dirname "$0")/.."
 program=$(realpath "${PROGRAM:-build/braildesk}")
 [ -x "$program" ] || { echo "tests/desk.sh: $program is missing: make builds it" >&2; exit 1; }
-tests/needs.sh python black mypy pytest hypothesis pexpect louis
+tests/needs.sh python black mypy pytest hypothesis pexpect prompt_toolkit pyte louis
 python=${PYTHON:-$(tests/python.sh)}
 export BRAILDESK=$program PYTHONPATH=$PWD/python
 files=(python tests/desk sample/client.py)

@@ -16,7 +16,7 @@ from tool import ROOT, Ran, environment, scribe
 NAMES = make_parser()[1]
 #: The commands of the desk.
 ALL = (
-    "new run talk import table check-table try show find change undo resolve strike restore heading body"
+    "new edit run talk import table check-table try show find change undo resolve strike restore heading body"
     " volume move retable mark marks pages export copy bring"
 ).split()
 
