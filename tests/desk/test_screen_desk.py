@@ -1,6 +1,7 @@
 """Keys that are carried out on a book by the program, and what the screen shows after each."""
 
 import os
+import shutil
 import signal
 from collections.abc import Callable, Iterator
 from dataclasses import dataclass
@@ -12,8 +13,11 @@ import braildesk
 from braildesk import Kind, Session, requests
 from scribe.cells import braille_patterns
 from scribe.screen.desk import Desk
+from scribe.screen.draft import Draft, path_beside, save
 from scribe.screen.drawing import LIT, draw
-from scribe.screen.state import Size, State
+from scribe.screen.field import Purpose
+from scribe.screen.preview import Tables
+from scribe.screen.state import Preview, Size, State
 
 SMALL = (
     "space \\s 0\nletter a 1\nletter b 12\nuplow Tt 2345\nletter h 125\nletter e 15\n"
@@ -64,14 +68,31 @@ def sit() -> Iterator[Sit]:
             pass
 
 
+@pytest.fixture(scope="module")
+def read_desk(
+    moon_once: Path, tmp_path_factory: pytest.TempPathFactory
+) -> Iterator[Desk]:
+    """A book that is open once for all tests that change nothing."""
+    folder = tmp_path_factory.mktemp("read")
+    desk = Desk(Path(shutil.copyfile(moon_once, folder / "moon.braildesk")))
+    yield desk
+    desk.close()
+
+
+@pytest.fixture
+def reader(read_desk: Desk) -> Sat:
+    """Somebody who has just opened that book."""
+    return Sat(read_desk, read_desk.first_state(Size(80, 24), None, False))
+
+
 def closed(sat: Sat) -> Path:
     """Ends, and gives the book for another session."""
     sat.desk.close()
     return sat.desk.path
 
 
-def test_the_book_is_shown_as_it_is_opened(moon: Path, sit: Sit) -> None:
-    sat = sit(moon)
+def test_the_book_is_shown_as_it_is_opened(reader: Sat) -> None:
+    sat = reader
     assert sat.lines[:10] == [
         "moon.braildesk, version 7, table en, nothing sent yet",
         ">    1 body, 1 open mark: The moon is far away.",
@@ -122,8 +143,8 @@ def test_a_correction_is_kept_with_its_name_and_then_undone(
     ]
 
 
-def test_a_refusal_is_a_sentence_and_what_was_typed_stays(moon: Path, sit: Sit) -> None:
-    sat = sit(moon)
+def test_a_refusal_is_a_sentence_and_what_was_typed_stays(reader: Sat) -> None:
+    sat = reader
     sat.press("enter")
     sat.write("ě")
     sat.state = sat.desk.previewed(sat.state)
@@ -143,7 +164,9 @@ def test_a_refusal_is_a_sentence_and_what_was_typed_stays(moon: Path, sit: Sit) 
     )
 
 
-def test_paragraphs_are_typed_after_and_before(moon: Path, sit: Sit) -> None:
+def test_paragraphs_are_typed_and_pasted_up_to_one_that_is_refused(
+    moon: Path, sit: Sit
+) -> None:
     sat = sit(moon)
     sat.press("o")
     sat.write("It rose.")
@@ -156,7 +179,12 @@ def test_paragraphs_are_typed_after_and_before(moon: Path, sit: Sit) -> None:
     assert "kept: paragraph 5" in sat.lines[0]
     sat.press("o")
     sat.state = sat.desk.paste(sat.state, "One.\nTwo.\n")
+    sat.press("y", "o")
+    sat.state = sat.desk.paste(sat.state, "Three.\nTěo.\nFour.")
     sat.press("y")
+    assert sat.state.typed and sat.state.typed.text == "Těo. Four."
+    assert sat.state.message.startswith("1 typed. The table en has no cells for “ě”")
+    assert "kept: paragraph 8" in sat.lines[0]
     with Session(closed(sat)) as session:
         found = [(each.id, session.print(each.id)) for each in session.list()]
     assert found == [
@@ -164,47 +192,35 @@ def test_paragraphs_are_typed_after_and_before(moon: Path, sit: Sit) -> None:
         (5, "Soon."),
         (6, "One."),
         (7, "Two."),
+        (8, "Three."),
         (4, "It rose."),
         (2, "The Tides"),
         (3, "Twice a day the sea comes up."),
     ]
 
 
-def test_pasted_paragraphs_stop_at_the_one_that_is_refused(
-    moon: Path, sit: Sit
-) -> None:
+def test_each_key_for_a_paragraph_is_kept_and_shown(moon: Path, sit: Sit) -> None:
     sat = sit(moon)
-    sat.press("o")
-    sat.state = sat.desk.paste(sat.state, "One.\nTěo.\nThree.")
-    sat.press("y")
-    assert sat.state.typed and sat.state.typed.text == "Těo. Three."
-    assert sat.state.message.startswith("1 typed. The table en has no cells for “ě”")
-    assert "kept: paragraph 4" in sat.lines[0]
-
-
-@pytest.mark.parametrize(
-    "keys, kept, listed",
-    [
-        ("s", "paragraph 2 struck", "body, struck: The Tides"),
-        ("s s", "paragraph 2 restored", "body: The Tides"),
-        ("b", "paragraph 2 a heading", "heading: The Tides"),
-        ("b b", "paragraph 2 body text", "body: The Tides"),
-        ("v", "paragraph 2 begins a volume", "body, volume: The Tides"),
-        ("v v", "paragraph 2 begins no volume", "body: The Tides"),
-        ("t p l a i n enter", "paragraph 2 with table plain", "body: The Tides"),
-        ("a-up", "paragraph 2 moved", "body: The Tides"),
-        ("a-down", "paragraph 2 moved", "body: The Tides"),
-    ],
-)
-def test_each_key_for_a_paragraph_is_kept_and_shown(
-    moon: Path, sit: Sit, keys: str, kept: str, listed: str
-) -> None:
-    sat = sit(moon)
-    sat.press("down", *keys.split())
-    assert sat.lines[0].endswith(f", kept: {kept}")
-    assert f">    2 {listed}" in sat.lines
-    places = {"a-up": 1, "a-down": 3}
-    assert sat.lines.index(f">    2 {listed}") == places.get(keys, 2)
+    sat.press("down")
+    version = 7
+    for keys, kept, listed, line in (
+        ("s", "struck", "body, struck: The Tides", 2),
+        ("s", "restored", "body: The Tides", 2),
+        ("b", "a heading", "heading: The Tides", 2),
+        ("b", "body text", "body: The Tides", 2),
+        ("v", "begins a volume", "body, volume: The Tides", 2),
+        ("v", "begins no volume", "body: The Tides", 2),
+        ("t p l a i n enter", "with table plain", "body: The Tides", 2),
+        ("a-up", "moved", "body: The Tides", 1),
+        ("a-down", "moved", "body: The Tides", 2),
+        ("a-down", "moved", "body: The Tides", 3),
+    ):
+        sat.press(*keys.split())
+        version += 1
+        assert f"version {version}, " in sat.lines[0]
+        assert sat.lines[0].endswith(f", kept: paragraph 2 {kept}")
+        assert sat.lines[line] == f">    2 {listed}"
+    assert "table plain" in sat.lines[0]
 
 
 def test_marks_are_put_on_chosen_cells_gone_to_and_resolved(
@@ -227,13 +243,10 @@ def test_marks_are_put_on_chosen_cells_gone_to_and_resolved(
     assert "Mark 1, resolved, on “moon”: spelled so?" in sat.lines
     sat.press("n", "n")
     assert sat.state.chosen == 2
-    with Session(closed(sat)) as session:
-        (mark,) = session.marks(3)
-    assert (mark.start, mark.stop, mark.note) == (0, 2, "who?")
 
 
-def test_words_and_cells_are_found_and_found_again(moon: Path, sit: Sit) -> None:
-    sat = sit(moon)
+def test_words_and_cells_are_found_and_found_again(reader: Sat) -> None:
+    sat = reader
     sat.press("/")
     sat.write("a")
     sat.press("enter")
@@ -241,9 +254,9 @@ def test_words_and_cells_are_found_and_found_again(moon: Path, sit: Sit) -> None
     for _ in range(5):
         sat.press("*")
         spots.append((sat.state.chosen, sat.state.place))
-    assert spots == [(0, 14), (0, 17), (0, 19), (2, 6), (2, 9), (2, 18)]
+    assert spots == [(0, 13), (0, 16), (0, 18), (2, 6), (2, 9), (2, 18)]
     sat.press("*")
-    assert (sat.state.chosen, sat.state.place) == (0, 14)
+    assert (sat.state.chosen, sat.state.place) == (0, 13)
     assert "Found again from the front of the book on." in sat.lines
     sat.press("tab", "/")
     sat.write("tides")
@@ -255,19 +268,17 @@ def test_words_and_cells_are_found_and_found_again(moon: Path, sit: Sit) -> None
     assert "“z” stands nowhere in the print of the book." in sat.lines
 
 
-def test_the_page_is_that_of_the_export(moon: Path, sit: Sit) -> None:
-    sat = sit(moon)
-    sat.press("down", "p")
-    assert sat.lines[1].startswith("Paragraph 2: volume 1, page 1, line 2, of 25 lines")
-    assert sat.state.pages
-    shown = sat.state.pages.lines
-    pages = braildesk.export(closed(sat), 1).decode().split("\r\n")
+def test_the_page_is_that_of_the_export(reader: Sat, moon: Path) -> None:
+    reader.press("down", "p")
+    assert reader.lines[1].startswith("Paragraph 2: volume 1, page 1, line 2, of 25")
+    pages = braildesk.export(moon, 1).decode().split("\r\n")
     assert [line.strip() for line in pages[:3]] == [
         ",THE MOON IS FAR AWAY4",
         ",THE ,TIDES",
         ",TWICE A DAY THE SEA COMES UP4",
     ]
-    assert shown == tuple(braille_patterns(line) for line in pages[:25])
+    assert reader.state.pages
+    assert reader.state.pages.lines == tuple(map(braille_patterns, pages[:25]))
 
 
 def test_a_table_is_put_into_an_empty_book_and_the_first_paragraph_typed(
@@ -289,18 +300,17 @@ def test_a_table_is_put_into_an_empty_book_and_the_first_paragraph_typed(
     assert sat.lines[1] == ">    1 body: ab 5"
 
 
-def test_the_preview_is_by_the_table_of_the_paragraph(book: Path, sit: Sit) -> None:
-    with Session(book) as session:
-        session.table("small", SMALL.encode())
-        session.type("end", "small", "the")
-    sat = sit(book)
-    sat.press("enter", "end", "b")
-    sat.state = sat.desk.previewed(sat.state)
-    assert sat.lines[8:10] == ["theb", "⠞⠓⠑⠃"]
-    sat.press("c")
-    sat.state = sat.desk.previewed(sat.state)
-    wanted = "The table small has no cells for “c” (U+0063 LATIN SMALL LETTER C)"
-    assert any(line.startswith(wanted) for line in sat.lines)
+def test_the_preview_is_by_the_text_of_a_table(program: str) -> None:
+    tables = Tables()
+    tables.put("small", SMALL.encode())
+    assert tables.preview("small", "The", "The") == Preview("The", "⠞⠓⠑")
+    lacking = tables.preview("small", "thea c", "thea c")
+    assert lacking.fault == (
+        "The table small has no cells for “c” (U+0063 LATIN SMALL LETTER C), character 6."
+    )
+    tables.put("small", b"letter c 14\n")
+    assert tables.preview("small", "c", "c") == Preview("c", "⠉")
+    tables.close()
 
 
 def test_an_export_and_an_import_are_done_and_the_book_is_open_again(
@@ -313,7 +323,7 @@ def test_an_export_and_an_import_are_done_and_the_book_is_open_again(
     sat.press("enter")
     sat.state = sat.desk.away(sat.state, heard.append)
     file = moon.parent / "pages" / "moon-1.brf"
-    assert heard == [f"{file}: volume 1, 1 page, 53 cells with dots."]
+    assert heard == [f"{file}: volume 1, 1 page, 54 cells with dots."]
     assert file.read_bytes().startswith(b"  ,THE MOON IS FAR AWAY4\r\n")
     text = moon.parent / "more.txt"
     text.write_text("The sun\n\nThe stars…\n")
@@ -385,20 +395,21 @@ def test_a_killed_session_says_what_was_kept_and_keeps_what_was_typed(
     assert not again.desk.draft_path.exists()
 
 
-def test_a_text_that_was_left_waits_and_can_be_left_out(moon: Path, sit: Sit) -> None:
+def test_a_text_that_waits_can_be_left_out(moon: Path, sit: Sit) -> None:
+    save(path_beside(moon), Draft(Purpose.EDIT, 2, "en", "The Tides", "The Tide"))
     sat = sit(moon)
-    sat.press("enter", "x")
-    sat.state = sat.desk.save_draft(sat.state)
-    path = closed(sat)
-    again = sit(path)
-    assert "A text of paragraph 1 was typed and not sent" in " ".join(again.lines)
-    again.press("q", "n")
-    assert again.state.typed is None and not again.desk.draft_path.exists()
-    assert again.lines[8] == "The moon is far away."
+    assert sat.lines[-2:] == [
+        "A text of paragraph 2 was typed and not sent: “The Tide”. Shall it be typed",
+        "further? y is yes, n is no.",
+    ]
+    sat.press("q", "n")
+    assert sat.state.typed is None and not sat.desk.draft_path.exists()
+    assert sat.lines[8] == "The Tides"
 
 
-def test_a_resize_lists_more_and_the_choice_stays(moon: Path, sit: Sit) -> None:
-    sat = sit(moon, size=Size(40, 12))
+def test_a_resize_lists_more_and_the_choice_stays(reader: Sat) -> None:
+    sat = reader
+    sat.state = sat.desk.resized(sat.state, Size(40, 12))
     sat.press("down", "right", " ", "right")
     before = sat.state.chosen_cells
     sat.state = sat.desk.resized(sat.state, Size(200, 60))
