@@ -55,7 +55,7 @@ SIZES = {
         "Enter edits  o new  u undo  Tab cells  m mark  n next mark  / find  x export  ?…",
     ],
     (40, 12): [
-        "moon.braildesk, version 7, table en,…",
+        "version 7, table en, kept: mark 1",
         ">    1 body, 1 open mark: The moon is…",
         "     2 heading, volume, struck: The…",
         "",

@@ -15,7 +15,7 @@ import pytest
 from braildesk import Session
 from tool import environment
 
-WAIT_SECONDS = 90
+WAIT_SECONDS = 180
 #: What sets a colour of letters or of what is behind them.
 COLOURS = re.compile(rb"\x1b\[(?:[0-9]+;)*(?:3[0-8]|4[0-8]|9[0-7]|10[0-7])[;m]")
 KEYS = {

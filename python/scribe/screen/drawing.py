@@ -84,6 +84,9 @@ def _title(state: State) -> Line:
     if table:
         parts.append(f"table {table}")
     parts.append(state.kept or "nothing sent yet")
+    # what was last kept stands there at any width
+    while len(parts) > 1 and columns(visible(", ".join(parts))) > state.size.columns:
+        parts.pop(0)
     text = opening(visible(", ".join(parts)), state.size.columns)
     return (Piece(text + " " * (state.size.columns - columns(text)), HEAD),)
 
