@@ -216,3 +216,11 @@ def test_control_characters_are_written_out_and_the_cursor_stands_after_them() -
     drawn = draw(replace(STATE, reading=reading, place=2, lit=lit))
     assert drawn.texts()[8] == "a<U+200B>b"
     assert drawn.cursor == (8, 9)
+
+
+def test_a_lost_session_is_said_and_nothing_more_is_asked_for() -> None:
+    pages = Pages("The session ended.", ("Because.",))
+    typed = Field(Purpose.NOTE, "why?", 4)
+    drawn = draw(replace(STATE, is_lost=True, pages=pages, typed=typed))
+    assert drawn.texts()[1:3] == ["The session ended. Lines 1 to 1 of 1.", "Because."]
+    assert drawn.texts()[-1] == "Up, Down look further  q ends"

@@ -271,18 +271,18 @@ class Desk:
         """What the screen says when the session ended by itself."""
         state = self.save_draft(state)
         lines = [lost.sentence]
-        typed = draft.draft_of(state)
-        if typed is not None:
+        if state.typed is not None and state.typed.text:
             lines += [
                 "This was typed, and was not reported as kept:",
-                visible(typed.text),
-                (
-                    f"It is saved in {self.draft_path}, and is offered when the book is opened"
-                    " again."
-                    if self._saved == typed
-                    else state.message
-                ),
+                visible(state.typed.text),
             ]
+        if self._saved is not None and self._saved == draft.draft_of(state):
+            lines.append(
+                f"It is saved in {self.draft_path}, and is offered when the book is opened"
+                " again."
+            )
+        elif state.message:
+            lines.append(state.message)
         pages = Pages("The session ended.", tuple(lines))
         return replace(state, is_lost=True, question=None, pages=pages)
 
@@ -307,6 +307,9 @@ class Desk:
                 state = replace(state, pane=Pane.PRINT, place=typed.place)
             return self._changed(state, number, before)
         except (Lost, Refused) as failed:
+            if isinstance(command, requests.Mark) and state.version == command.expect:
+                note = Field(Purpose.NOTE, command.note, len(command.note))
+                state = replace(state, typed=note)
             raise _Interrupted(state, failed) from failed
 
     def _changed(

@@ -239,18 +239,18 @@ def _bottom(state: State) -> _Area:
     said = wrap(state.message, width) if state.message else []
     most = max(1, state.size.lines // 3)
     lines = [*_place_lines(state), *said[:most]]
-    typed = state.typed
+    typed = None if state.is_lost else state.typed
     if typed and not typed.purpose.is_print:
         prompt = PROMPTS[typed.purpose]
         text, place = _tail(prompt, typed, width)
         return _Area([(Piece(line),) for line in [*lines, text]], (len(lines), place))
     hint = HINT
-    if typed:
+    if state.is_lost:
+        hint = "Up, Down look further  q ends"
+    elif typed:
         hint = "Enter keeps it  Escape leaves the book as it was"
     elif state.pages:
         hint = "Up, Down, Page Up, Page Down look further  Escape goes back"
-    elif state.is_lost:
-        hint = "q ends"
     return _Area([(Piece(each),) for each in [*lines, opening(hint, width)]])
 
 
