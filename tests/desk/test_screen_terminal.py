@@ -9,7 +9,7 @@ from collections.abc import Callable, Iterator
 from pathlib import Path
 
 import pexpect  # type: ignore[import]
-import pyte
+import pyte  # type: ignore[import]
 import pytest
 
 from braildesk import Session
