@@ -41,7 +41,8 @@ def path(tmp_path_factory: pytest.TempPathFactory) -> str:
     return f"{folder}:{os.environ['PATH']}"
 
 
-@pytest.mark.parametrize("name", ALL)
+# edit needs a terminal, in which test_screen_terminal.py runs it
+@pytest.mark.parametrize("name", [name for name in ALL if name != "edit"])
 def test_the_example_of_each_command_works_as_it_stands(
     name: str, moon: Path, path: str
 ) -> None:
