@@ -64,7 +64,8 @@ def test_the_example_of_each_command_works_as_it_stands(
 def test_help_names_all_commands(tmp_path: Path) -> None:
     ran = scribe("--help", folder=tmp_path)
     assert ran.status == 0
-    assert all(f"\n    {name} " in ran.shown for name in ALL)
+    listed = [line.split()[0] for line in ran.shown.splitlines() if line[4:5].strip()]
+    assert all(name in listed for name in ALL)
 
 
 @pytest.mark.parametrize(
