@@ -53,7 +53,7 @@ test:
 trials:
 	RT='$(RT)' EVERY=23 tests/trials.sh
 # scripts over the built program, which run side by side
-SCRIPTS := prove tutorial client rows ueb stops memory kill desk
+SCRIPTS := prove tutorial client rows ueb stops memory kill desk instructions
 runs: $(SCRIPTS:%=run-%)
 run-tutorial run-client: run-%:
 	tests/$*.sh $(PROGRAM)

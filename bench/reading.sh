@@ -2,26 +2,16 @@
 # Counts with callgrind the instructions for reading a table with and without making the index of its rules, and letting all of it go: the
 # difference of once and not at all, so that starting and taking the bytes from the file are left out.
 #   bench/reading.sh [TABLE..]     the tables; without one: sample/plain.utb, which has no rules, bench/contracted.utb, and one of 20,000
-#                                  lines, 19,943 of them rules for words made of one to four syllables, `always` and `word` in turn
+#                                  lines, 19,943 of them rules (bench/table.sh)
+# PROGRAM is the program where it is built already.
 set -eu
 cd "$(dirname "$0")/.."
 command -v valgrind > /dev/null || { echo 'valgrind is missing: install it, as by apt-get install valgrind' >&2; exit 1; }
 scratch=$(mktemp -d); trap 'rm -rf "$scratch"' EXIT
-program=$(bench/build.sh reading index bench/contracted.utb 1)
+program=${PROGRAM:-$(bench/build.sh reading index bench/contracted.utb 1)}
 tables=("$@")
 if [ ${#tables[@]} -eq 0 ]; then
-    # the definitions of the table with contractions, and rules for the first words that its letters spell by syllables
-    grep -E '^(space|uplow|digit|punctuation|numsign|capsletter|begcapsword) ' bench/contracted.utb > "$scratch/many.utb"
-    awk -v have="$(wc -l < "$scratch/many.utb")" 'BEGIN {
-        count = split("ra to ne li su ma de ko vi pa en st or the ing", syllable, " ")
-        for (n = 1; have < 20000; n++) {
-            text = ""; cells = ""
-            for (rest = n; rest > 0; rest = int((rest - 1) / count)) {
-                text = text syllable[(rest - 1) % count + 1]
-                cells = cells (cells == "" ? "" : "-") (rest % 8 + 1)
-            }
-            print (n % 2 ? "always" : "word"), text, cells; have++
-        } }' >> "$scratch/many.utb"
+    bench/table.sh many > "$scratch/many.utb"
     tables=(sample/plain.utb bench/contracted.utb "$scratch/many.utb")
 fi
 instructions() { # WHAT TABLE TIMES

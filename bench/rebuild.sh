@@ -3,11 +3,12 @@
 # rows have and without it, beside those for translating the prints, with @en and with bench/contracted.utb: the difference to a run that
 # makes the rows and lets them go, so that starting and the rows themselves are left out.
 #   bench/rebuild.sh [COUNT]     how many paragraphs (10000)
+# PROGRAM is the program where it is built already.
 set -eu
 cd "$(dirname "$0")/.."
 command -v valgrind > /dev/null || { echo 'valgrind is missing: install it, as by apt-get install valgrind' >&2; exit 1; }
 count=${1:-10000}
-program=$(bench/build.sh rebuild rows @en 1)
+program=${PROGRAM:-$(bench/build.sh rebuild rows @en 1)}
 instructions() { # WHAT TABLE
     valgrind --tool=callgrind --callgrind-out-file=/dev/null "$program" "$1" "$2" "$count" 2>&1 > /dev/null |
         sed -n 's/.*refs: *//p' | tr -d ,

@@ -1,52 +1,35 @@
 #!/bin/bash
-# Times `build/braildesk translate` over a corpus made of the sample's own lines, beside `cat` over the same file, with three
-# tables: sample/plain.utb (definitions alone), @en (with signs) and, over a tenth of the corpus, bench/contracted.utb (some
-# 350 rules too). Counts instructions a character where valgrind is installed.
+# Times `build/braildesk translate` over a corpus of English prose in ASCII (bench/lines.sh), beside `cat` over the same file, with four
+# kinds of tables: definitions and signs alone, the supplied table @en, bench/contracted.utb (353 rules) and one of 20,000 lines
+# (bench/table.sh); and @en over the same prose with typographic quotes and dashes. The instructions are counted by tests/instructions.sh.
 #   bench/translate.sh     RUNS (5): timings of each, of which the best counts; MEGABYTES (10): size of the corpus
+# PROGRAM is the program (build/braildesk).
 set -eu
 cd "$(dirname "$0")/.."
-program=build/braildesk runs=${RUNS:-5} megabytes=${MEGABYTES:-10}
-[ -x "$program" ] || { echo "build it first: make" >&2; exit 1; }
+program=${PROGRAM:-build/braildesk} runs=${RUNS:-5} megabytes=${MEGABYTES:-10}
+[ -x "$program" ] || { echo "$program is missing: make builds it" >&2; exit 1; }
 scratch=$(mktemp -d); trap 'rm -rf "$scratch"' EXIT
+export LC_ALL=C.UTF-8
 
-# the sample's lines that the tables translate whole, again and again in lines of other lengths
-head -n 3 sample/print.txt | awk -v most=$((megabytes * 1000000)) '
-    { line[NR] = $0 }
-    END { for (n = 0; size < most; n++) {
-        text = line[n % NR + 1]
-        for (k = n % 7; k > 0; k--) text = text " " line[(n + k) % NR + 1]
-        print text; size += length(text) + 1 } }' > "$scratch/corpus.txt"
-lines=$(wc -l < "$scratch/corpus.txt")
-head -n $((lines / 10)) "$scratch/corpus.txt" > "$scratch/tenth.txt"
+bench/lines.sh $((megabytes * 1000000)) --ascii > "$scratch/ascii"
+bench/lines.sh $((megabytes * 1000000)) > "$scratch/quotes"
+bench/table.sh definitions > "$scratch/definitions.utb"
+bench/table.sh many > "$scratch/many.utb"
 characters() { echo $(($(wc -m < "$1") - $(wc -l < "$1"))); }
-echo "corpus: $(wc -c < "$scratch/corpus.txt") bytes, $lines lines, $(characters "$scratch/corpus.txt") characters"
 
 TIMEFORMAT='%U %S'
-report() { # NAME TEXT COMMAND..: the best of the timings, in milliseconds of processor time, user and system
-    local name=$1 text=$2 best= now k
-    shift 2
+report() { # LINES COMMAND..: the best of the timings, in milliseconds of processor time, user and system
+    local lines=$1 best= now k
+    shift
     for ((k = 0; k < runs; k++)); do
-        { time "$@" < "$text" > "$scratch/out"; } 2> "$scratch/time"
+        { time "$@" < "$scratch/$lines" > "$scratch/out"; } 2> "$scratch/time"
         now=$(awk '{ printf "%d", 1000 * ($1 + $2) }' "$scratch/time")
         [ "${best:-$now}" -lt "$now" ] || best=$now
     done
-    awk -v n="$name" -v c="$(characters "$text")" -v s="$best" \
-        'BEGIN { printf "%-20s %6d ms %12.0f characters/s\n", n, s, s ? c * 1e3 / s : 0 }'
+    awk -v name="${@: -1}" -v lines="$lines" -v count="$(characters "$scratch/$lines")" -v s="$best" 'BEGIN {
+        sub(/.*\//, "", name)
+        printf "%-16s %-6s %9d characters: %6d ms %12.0f characters/s\n", name, lines, count, s, s ? count * 1e3 / s : 0 }'
 }
-report cat "$scratch/corpus.txt" cat
-report sample/plain.utb "$scratch/corpus.txt" "$program" translate sample/plain.utb
-report @en "$scratch/corpus.txt" "$program" translate @en
-report bench/contracted.utb "$scratch/tenth.txt" "$program" translate bench/contracted.utb
-
-command -v valgrind > /dev/null || { echo "no valgrind: instructions are not counted"; exit 0; }
-head -n 1000 "$scratch/corpus.txt" > "$scratch/once.txt"
-cat "$scratch/once.txt" "$scratch/once.txt" > "$scratch/twice.txt"
-instructions() { # TABLE TEXT
-    valgrind --tool=callgrind --callgrind-out-file=/dev/null "$program" translate "$1" < "$2" 2>&1 > /dev/null |
-        sed -n 's/.*refs: *//p' | tr -d ,
-}
-for table in sample/plain.utb @en bench/contracted.utb; do
-    awk -v t="$table" -v n="$(characters "$scratch/once.txt")" \
-        -v once="$(instructions "$table" "$scratch/once.txt")" -v twice="$(instructions "$table" "$scratch/twice.txt")" \
-        'BEGIN { printf "%-20s %6.0f instructions a character, %d to start and read the table\n", t, (twice - once) / n, 2 * once - twice }'
-done
+report ascii cat
+for table in "$scratch/definitions.utb" @en bench/contracted.utb "$scratch/many.utb"; do report ascii "$program" translate "$table"; done
+report quotes "$program" translate @en

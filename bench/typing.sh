@@ -3,7 +3,8 @@
 # commands a second were planned and put in; then makes 5,000 corrections in books of 100 and of 10,000 such paragraphs, of which every
 # tenth has five marks.
 #   bench/typing.sh
+# PROGRAM is the program where it is built already.
 set -eu
 cd "$(dirname "$0")/.."
-program=$(bench/build.sh typing)
+program=${PROGRAM:-$(bench/build.sh typing)}
 "$program" 10 100 1000 10000 100+5000 10000+5000
