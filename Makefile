@@ -68,8 +68,6 @@ bench: $(PROGRAM)
 	bench/translate.sh
 	bench/tables.sh
 	bench/reading.sh
-	bench/typing.sh
-	bench/requests.sh
 	bench/pages.sh
 	bench/rows.sh
 	bench/session.sh
