@@ -37,7 +37,7 @@ $(PROGRAM): $(SOURCES)
 
 demo:
 	$(need_rt)
-	@echo 'This runs the program on a file, as the sources are, with checks as it runs. It proves nothing. The build takes a minute or two.'
+	@echo 'This runs the program on a file, as the sources are, with checks as it runs. It proves nothing, and takes two or three minutes.'
 	@echo "'make' proves what the program needs, and builds $(PROGRAM)."
 	@RT='$(RT)' sample/demo.sh
 
