@@ -1,7 +1,7 @@
 #!/bin/bash
 # Looks at the layout and the types of the Python of python/ and tests/desk, and runs the tests of tests/desk by the program.
-#   tests/desk.sh     PROGRAM: the program (build/braildesk); PYTHON: the interpreter (that of tests/python.sh); the words of the
-#                     command go to pytest
+#   tests/desk.sh     PROGRAM: the program (build/braildesk); PYTHON: the interpreter (that of tests/python.sh); SEED (1): of the
+#                     random cases; the words of the command go to pytest
 set -eu
 cd "$(dirname "$0")/.."
 program=$(realpath "${PROGRAM:-build/braildesk}")
@@ -16,4 +16,4 @@ files=(python tests/desk sample/client.py)
     exit 1
 }
 "$python" -m mypy --strict "${files[@]}"
-exec "$python" -m pytest -q -p no:cacheprovider tests/desk "$@"
+exec "$python" -m pytest -q -p no:cacheprovider --hypothesis-seed="${SEED:-1}" tests/desk "$@"
