@@ -1,6 +1,7 @@
 #!/bin/bash
-# Proves the crates of crates.txt side by side, each once those that it stands on are proved, and builds the program. Where a crate isn't
-# proved, the others are stopped, and what `rt` wrote of it is shown.
+# Proves the crates of crates.txt side by side, each once those that it stands on are proved, and builds the program. A crate that begins
+# has its part of the processors, or all of them where none is proved beside it. Where a crate isn't proved, the others are stopped, and
+# what `rt` wrote of it is shown.
 #   scripts/prove.sh     JOBS (1): how many crates at a time; RT (rt): the toolchain's command
 # Only one `rt` at a time works in the folder of a crate and in those of the crates below it. So each crate is proved in a room of its
 # own under build/: copies of its texts and of those below it, and links to the libraries that were built of these. The folder out/,
@@ -60,12 +61,12 @@ leave_rooms() {
     rm -rf "$rooms"
 }
 
-prove() { # CRATE
+prove() { # CRATE CHECKS
     exec 9< "crates/$1"
     flock 9
     enter_room "$1"
     cd "$rooms/$1/crates/$1"
-    if [ -e src/main.rt ]; then "$rt" run -- --help; else "$rt" lib; fi
+    if [ -e src/main.rt ]; then "$rt" run --jobs "$2" -- --help; else "$rt" lib --jobs "$2"; fi
 }
 
 # One run of this script at a time works in build/. It begins with what one that was killed left in its rooms.
@@ -97,7 +98,8 @@ while [ $((${#waiting[@]} + ${#running[@]})) -gt 0 ]; do
             unset "waiting[$i]"
             count=$((count + 1))
             echo "[$count of ${#crates[@]}] $crate" >&2
-            prove "$crate" > "$rooms/$crate.log" 2>&1 < /dev/null &
+            beside=${#running[@]}
+            prove "$crate" $(((jobs + beside) / (beside + 1))) > "$rooms/$crate.log" 2>&1 < /dev/null &
             running[$!]=$crate
         fi
     done

@@ -67,7 +67,8 @@ echo 'ok  a crate that is not proved'
 
 # an interrupt
 rm "$LOG"
-PAUSE=30 "$scratch/scripts/prove.sh" 2> "$scratch/shown" &
+# SIGINT ends it also where the shell that runs this ignores the signal
+PAUSE=30 env --default-signal=INT "$scratch/scripts/prove.sh" 2> "$scratch/shown" &
 until [ "$(grep -c begin "$LOG" 2> /dev/null)" = 2 ]; do sleep 0.1; done
 kill -INT $!
 status=0

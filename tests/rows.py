@@ -1,4 +1,4 @@
-"""Rows of what goes into the program and what has to come out of it, byte for byte.
+"""Rows of what goes into the program and what has to come out of it, byte for byte, and whole helps.
 
 Each wrong one names itself. The rows of sessions over the first book have to hold of tests/plain too,
 from which other tests take what they want.
@@ -6,6 +6,7 @@ from which other tests take what they want.
 
 import argparse
 import contextlib
+import itertools
 import os
 import pathlib
 import re
@@ -286,14 +287,26 @@ class Rows:
 
     # ---- helps
 
-    def help(self) -> None:
-        """The help of each command has its codes and statuses, and an example that works."""
+    def help(self, folder: pathlib.Path) -> None:
+        """The help of the program and of each command is that of its file, by either flag, and has
+        its codes and statuses, and an example that works."""
+        names = {it or "braildesk" for it in HELP}
+        self.judge("the files of helps", names, {it.name for it in folder.iterdir()})
         for command, codes in HELP.items():
+            wanted = (folder / (command or "braildesk")).read_bytes().decode()
             for flag in ("--help", "-h"):
                 name = f"{command} {flag}".strip()
                 status, written, errors = self.run(name.encode().split())
                 self.judge(name, (0, b""), (status, errors))
+                self.judge_text(name, wanted, written.decode())
                 self.judge_help(name, command, codes, written.decode())
+
+    def judge_text(self, name: str, wanted: str, found: str) -> None:
+        """Takes down the first line in which a text is wrong."""
+        lines = itertools.zip_longest(wanted.split("\n"), found.split("\n"))
+        wrong = [it for it in enumerate(lines, 1) if it[1][0] != it[1][1]]
+        at, (line, other) = wrong[0] if wrong else (0, ("", ""))
+        self.judge(f"line {at} of {name}" if wrong else name, line, other)
 
     def judge_help(self, name: str, command: str, codes: set[int], text: str) -> None:
         found = {int(it) for it in re.findall(r"\bno (\d+)", text)}
@@ -335,7 +348,7 @@ def main() -> None:
         rows.words(given.rows / "words")
         rows.sessions(given.rows / "sessions")
         rows.ends(given.rows / "ends")
-        rows.help()
+        rows.help(given.rows / "helps")
     for it in rows.wrong:
         print(f"tests/rows.sh: {it}", file=sys.stderr)
     if rows.wrong:

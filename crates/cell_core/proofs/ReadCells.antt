@@ -3,8 +3,8 @@ use Rattle.std.proofs.Common.{◌≡◌, ℕ, suc, ◌+◌, ◌<◌, ◌≤◌, 
 use Rattle.std.specs.List.{slice_split}
 use Rattle.std.specs.Option.{option_map}
 use Rattle.std.proofs.lemmas.List.{append-nil, drop_all, length-set, take-append-le, take_all, take_more_set}
+use Rattle.cell_core.specs.Dots.{most_cells}
 use Rattle.cell_core.specs.Reading.{HasRead, cell_in, cells_of, is_hyphen}
-use Rattle.cell_core.specs.declared.dots.TheConstants.{MOST_CELLS}
 
 -- so many pieces were read as cells, and the row has the first cells, as far as it has room
 pub record ReadSoFar (pieces : List (List ℕ)) (row : List ℕ) (count : ℕ) : Type 0 where
@@ -70,7 +70,7 @@ cells_of-at_none pieces row count piece h within is bad =
     h.left ∙ (ap (option_map (λ more. h.cells ++ more)) (cells_of-drop pieces count piece within is) ∙ rw bad refl)
 
 -- all pieces
-pub HasRead-all : (text row : List ℕ) (count : ℕ) → ReadSoFar (slice_split is_hyphen text) row count → length (slice_split is_hyphen text) ≤ count → length row ≡ MOST_CELLS → HasRead text row count
+pub HasRead-all : (text row : List ℕ) (count : ℕ) → ReadSoFar (slice_split is_hyphen text) row count → length (slice_split is_hyphen text) ≤ count → length row ≡ most_cells → HasRead text row count
 HasRead-all text row count h all room =
     record {
       cells = h.cells;
@@ -80,5 +80,5 @@ HasRead-all text row count h all room =
     }
 
 -- a row has all cells that it has room for
-pub HasRead-take : (text row : List ℕ) (count : ℕ) → (h : HasRead text row count) → count ≤ MOST_CELLS → take count row ≡ h.cells
-HasRead-take text row count h room = let counted = h.counted in h.kept ∙ take_all MOST_CELLS h.cells (omega arith)
+pub HasRead-take : (text row : List ℕ) (count : ℕ) → (h : HasRead text row count) → count ≤ most_cells → take count row ≡ h.cells
+HasRead-take text row count h room = let counted = h.counted in h.kept ∙ take_all most_cells h.cells (omega arith)

@@ -1,11 +1,10 @@
 -- A dots operand: cells joined by hyphens, each as the digits of its dots.
 use Rattle.std.specs.Prelude.{◌≡◌, ◌≢◌, ℕ, ◌+◌, ◌≤◌, List, [], ◌∷◌, ◌++◌}
 use Rattle.cell_core.specs.Cell.{HasDot, dot_value}
-use Rattle.cell_core.specs.declared.dots.TheConstants.{MOST_CELLS}
 
 -- how many cells a dots operand may have
 abbrev pub most_cells : ℕ
-most_cells = MOST_CELLS
+most_cells = 20
 
 -- the digits of the dots of a mask in any order, each dot once
 abbrev pub ListsDots : List ℕ → ℕ → Type 0

@@ -3,7 +3,7 @@ use Rattle.std.specs.Prelude.{◌≡◌, ℕ, ◌+◌, ◌-◌, ◌/◌, ◌%◌
 use Rattle.std.specs.List.{slice_split}
 use Rattle.std.specs.Option.{option_and_then}
 use Rattle.cell_core.specs.Cell.{dot_value}
-use Rattle.cell_core.specs.declared.dots.TheConstants.{MOST_CELLS}
+use Rattle.cell_core.specs.Dots.{most_cells}
 
 -- the mask with the dot of a digit, unless the digit names no dot or one that is there
 abbrev pub with_digit : ℕ → ℕ → Option ℕ
@@ -41,4 +41,4 @@ pub record HasRead (text row : List ℕ) (count : ℕ) : Type 0 where
   pub cells : List ℕ
   pub read : cells_in text ≡ Some cells
   pub counted : count ≡ length cells
-  pub kept : take count row ≡ take MOST_CELLS cells
+  pub kept : take count row ≡ take most_cells cells

@@ -1,7 +1,8 @@
 //! Laws of cells and of dots operands.
 ghost use Rattle.cell_core.specs.Ascii.{ascii_cell};
 ghost use Rattle.cell_core.specs.Cell.{HasDot};
-ghost use Rattle.cell_core.specs.Dots.{Dots, ListsDots};
+ghost use Rattle.cell_core.specs.Dots.{Dots, ListsDots, most_cells};
+ghost use Rattle.cell_core.specs.declared.dots.TheConstants.{MOST_CELLS};
 ghost use Rattle.std.specs.Prelude.{Some, ◌≡◌, ◌≤◌, ◌<◌, ◌+◌, ◌^◌, ◌↔◌, ℕ, List, Contains};
 
 /// A text is the dots operand of at most one list of cells.
@@ -27,4 +28,9 @@ pub fn one_byte()
     ensures one { (byte other mask : ℕ) → ascii_cell byte ≡ Some mask → ascii_cell other ≡ Some mask → byte ≡ other }
     ensures some { (byte : ℕ) → 0x20 ≤ byte → byte ≤ 0x5F
         → (mask : ℕ) × (ascii_cell byte ≡ Some mask) × (¬ HasDot mask 7) × (¬ HasDot mask 8) }
+{}
+
+/// The limit that the code compares with is the one that the definitions write.
+pub fn limits()
+    ensures { MOST_CELLS ≡ most_cells }
 {}

@@ -1,5 +1,5 @@
 -- How a correction is judged while no version is expected.
-use Rattle.std.proofs.Common.{◌≡◌, ℕ, ◌+◌, ◌<◌, ◌≤◌, false, List, length, Some, None, refl, sym, ap, subst, ◌∙◌, arith, inl}
+use Rattle.std.proofs.Common.{◌≡◌, ℕ, ◌+◌, ◌-◌, ◌<◌, ◌≤◌, false, List, length, Some, None, refl, sym, ap, subst, ◌∙◌, arith, inl, lit≤}
 use Rattle.std.specs.Prelude.{option_map}
 use Rattle.louis_table.specs.Meaning.{Meaning}
 use Rattle.louis_translate.specs.Position.{AreDefined}
@@ -12,7 +12,7 @@ use Rattle.desk_command.specs.declared.refusal.Refusal.{Refusal}
 use Rattle.desk_command.specs.declared.refusal.Refusal.TheVariants.{BadReader, BadSpan, NoMemory, TooLong}
 use Rattle.desk_book.specs.Book.{Book, Corrects, Paragraph, Replacement, paragraph_of}
 use Rattle.desk_book.specs.Changes.{Does}
-use Rattle.desk_book.specs.Corrected.{HaltsEntry, IsEntered, IsUnfit}
+use Rattle.desk_book.specs.Corrected.{HaltsEntry, HaltsPrint, IsEntered, IsUnfit, TakesEntry}
 use Rattle.desk_book.specs.Histories.{TookFrom, entry_kept}
 use Rattle.desk_book.specs.Judging.{Passes}
 use Rattle.desk_book.specs.Limits.{most_print}
@@ -26,10 +26,11 @@ use Rattle.desk_book.specs.Step.{next_with_entry, replacement_by}
 use Rattle.desk_book.specs.Stored.{IsUnbarred, stored}
 use Rattle.desk_command.specs.Characters.{AreCharacters}
 use Rattle.desk_book.proofs.EntryPlanned.{ChangesPrint-entered, short-sound}
-use Rattle.desk_book.proofs.EntryPlanning.{entered, halted, past_fit, unfit}
+use Rattle.desk_book.proofs.EntryPlanning.{entered, halted, past_fit, undefined, unfit}
 use Rattle.desk_book.proofs.HistoryLists.{corrected-corrects}
 use Rattle.desk_book.proofs.Judging.{Passes-bad_reader, Passes-bad_span}
 use Rattle.desk_book.proofs.Planning.{no_memory, passes_to, past_text, same_some, short_text, to_turn, turned_down}
+use Rattle.desk_book.proofs.SoundEntries.{length-replaced}
 
 module _ (book : Book) (id start count : ℕ) (text who : List ℕ) where
   abbrev command : Command
@@ -75,6 +76,13 @@ module _ (book : Book) (id start count : ℕ) (text who : List ℕ) where
               let past = b.past in
               omega arith))
 
+          -- so many characters the print has after it
+          pub counted : (len put : ℕ) → len ≡ length kept.print → put ≡ length (stored text) → (len - count) + put ≡ length (replaced (print_of p) r)
+          counted len put a b =
+              let same = ap length shown.print in
+              let sum = length-replaced (print_of p) r (subst (λ (t : List ℕ). start + count ≤ length t) shown.print span) in
+              omega (arith, a, b)
+
           pub no_memory_here : (told : Refusal) → told ≡ NoMemory → IsTurnedDown book command told
           no_memory_here told is = no_memory book command told 110 refl spanned is
 
@@ -92,10 +100,15 @@ module _ (book : Book) (id start count : ℕ) (text who : List ℕ) where
             no_note : ¬ HasLongNote command
             no_note l = let given = l.given in cc
 
-            pub halted_here : (told : Refusal) → HaltsEntry book kept meaning print told → IsTurnedDown book command told
+            pub halted_here : (told : Refusal) → HaltsEntry book kept (length print) told → IsTurnedDown book command told
             halted_here told =
                 halted book command id p shown.found kept shown.kept_is print shown.translated.text meaning shown.translated.found shown.translated.means refl made to_show
-                (short_text book command (stored text) refl short) no_note spanned refl refl refl refl refl told
+                (short_text book command (stored text) refl short) no_note spanned refl refl refl refl told
+
+            pub undefined_here : TakesEntry book kept (length print) → (told : Refusal) → HaltsPrint meaning print told → IsTurnedDown book command told
+            undefined_here takes told =
+                undefined book command id p shown.found kept shown.kept_is print shown.translated.text meaning shown.translated.found shown.translated.means refl made to_show
+                (short_text book command (stored text) refl short) no_note spanned refl refl refl refl 110 refl (lit≤ tt) takes told
 
             pub planned_here : (new : NewEntry) (effect : Effect) → new.print.items ≡ print → IsEntered book id kept meaning new effect → entry_kept new.entry ≡ Corrects r who → TookFrom (print_of p) new.entry
                 → new.start ≡ start → new.removed ≡ count → new.added ≡ length (stored text) → AreCharacters (stored text) × AreCharacters who → IsPlanned book command effect

@@ -11,9 +11,9 @@ use Rattle.desk_book.specs.declared.paragraphs.Paragraph.{Paragraph as KeptParag
 use Rattle.desk_book.specs.declared.tables.BookTable.{BookTable}
 use Rattle.desk_command.specs.declared.refusal.Limit.TheVariants.{Entries}
 use Rattle.desk_command.specs.declared.refusal.Refusal.{Refusal}
-use Rattle.desk_command.specs.declared.refusal.Refusal.TheVariants.{Full, Struck, Undefined}
+use Rattle.desk_command.specs.declared.refusal.Refusal.TheVariants.{Full, NoMemory, Struck, Undefined}
 use Rattle.desk_book.specs.Book.{Book, Paragraph, paragraph_of, text_of}
-use Rattle.desk_book.specs.Corrected.{HaltsEntry, IsUnfit}
+use Rattle.desk_book.specs.Corrected.{HaltsEntry, HaltsPrint, IsUnfit, TakesEntry}
 use Rattle.desk_book.specs.Histories.{entry_kept}
 use Rattle.desk_book.specs.Judging.{Passes, first_turn_after_asking}
 use Rattle.desk_book.specs.Kept.{paragraph_kept}
@@ -71,15 +71,21 @@ module _ (book : Book) (command : Command) (id : ℕ) (p : Paragraph) (there : p
   left : length print ≤ most_print → length kept.history < most_entries → book.version < most_version → Passes book None command 180
   left h room version = to_turn book command 170 180 to_print (past_version book command 150 (few h room) to_version version)
 
-  pub halted : first_turn_after_asking command ≡ Some 110 → (told : Refusal) → HaltsEntry book kept meaning print told → IsTurnedDown book command told
-  halted asks told (inl (is, long)) = too_long book command told print passes made long is
-  halted asks told (inr (inl (is, h, full))) =
+  pub halted : (told : Refusal) → HaltsEntry book kept (length print) told → IsTurnedDown book command told
+  halted told (inl (is, long)) = too_long book command told print passes made long is
+  halted told (inr (inl (is, h, full))) =
       turned_down book command 140 (Full Entries) told (short h) refl (record { id = id; paragraph = p; grows = grows; found = there; full = omega (arith, count, full) }) is
-  halted asks told (inr (inr (inl (is, h, room, full)))) = full_version book command 150 told (few h room) to_version full is
-  halted asks told (inr (inr (inr (inl (place, is, h, room, version, first))))) =
-      turned_down book command 180 (Undefined place) told (left h room version) refl
-      (record { print = print; name = p.table; print_is = shown; text = source; meaning = meaning; found = found; means = means; first = first }) is
-  halted asks told (inr (inr (inr (inr is)))) = no_memory book command told 110 asks passes is
+  halted told (inr (inr (is, h, room, full))) = full_version book command 150 told (few h room) to_version full is
+
+  module _ (n : ℕ) (asks : first_turn_after_asking command ≡ Some n) (soon : n ≤ 180) (takes : TakesEntry book kept (length print)) where
+    pub lacking : (told : Refusal) → told ≡ NoMemory → IsTurnedDown book command told
+    lacking told is = no_memory book command told n asks (λ other h. let after = left takes.short takes.few takes.left other h in omega arith) is
+
+    pub undefined : (told : Refusal) → HaltsPrint meaning print told → IsTurnedDown book command told
+    undefined told (inl (place, is, first)) =
+        turned_down book command 180 (Undefined place) told (left takes.short takes.few takes.left) refl
+        (record { print = print; name = p.table; print_is = shown; text = source; meaning = meaning; found = found; means = means; first = first }) is
+    undefined told (inr is) = lacking told is
 
   pub entered : length print ≤ most_print → length kept.history < most_entries → book.version < most_version → AreDefined meaning print → IsAccepted book None command
   entered h room version defined =

@@ -25,6 +25,7 @@ pub mod KeptBooks
 pub mod KeptHistories
 pub mod KeptLookups
 pub mod KeptRows
+pub mod LentRows
 pub mod MarkIndexes
 pub mod MarkPlanning
 pub mod MarkRows

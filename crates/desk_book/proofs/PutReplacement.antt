@@ -145,10 +145,10 @@ module _ (book : Book) (name text : List ℕ) (meaning : Meaning) (sound : IsSou
 
   -- ---- all of them
 
-  renews-next : (n : ℕ) (item : Option (List ℕ)) (cells : List (Option (List ℕ))) → RenewsFrom book meaning name n (item ∷ cells) → RenewsFrom book meaning name (n + 1) cells
+  pub renews-next : (n : ℕ) (item : Option (List ℕ)) (cells : List (Option (List ℕ))) → RenewsFrom book meaning name n (item ∷ cells) → RenewsFrom book meaning name (n + 1) cells
   renews-next n item cells renews k next e = let same : n + suc k ≡ (n + 1) + k = omega arith in subst (λ (id : ℕ). Renews book meaning name id next) same (renews (suc k) next e)
 
-  renews-here : (n : ℕ) (item : Option (List ℕ)) (cells : List (Option (List ℕ))) → RenewsFrom book meaning name n (item ∷ cells) → Renews book meaning name n item
+  pub renews-here : (n : ℕ) (item : Option (List ℕ)) (cells : List (Option (List ℕ))) → RenewsFrom book meaning name n (item ∷ cells) → Renews book meaning name n item
   renews-here n item cells renews = let same : n + 0 ≡ n = omega arith in subst (λ (id : ℕ). Renews book meaning name id item) same (renews 0 item refl)
 
   -- the cells that are put from this number on change `cache` alone, and what it has is below the last number
@@ -169,7 +169,7 @@ module _ (book : Book) (name text : List ℕ) (meaning : Meaning) (sound : IsSou
       (below-some n new found.0 found.1 (renews-here n (Some new) cells renews)))
 
   module _ (cells : List (Option (List ℕ))) (renewed : AreRenewed book name meaning cells) where
-    renews-all : RenewsFrom book meaning name 1 cells
+    pub renews-all : RenewsFrom book meaning name 1 cells
     renews-all k item e p at =
         let own : p.id ≡ 1 + k = id-found (1 + k) book.paragraphs p at in
         let index : p.id - 1 ≡ k = omega (arith, own) in

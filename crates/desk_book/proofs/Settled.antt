@@ -34,7 +34,7 @@ use Rattle.desk_book.specs.declared.paragraphs.Paragraph.{Paragraph as KeptParag
 use Rattle.desk_command.specs.declared.style.Style.{Style}
 use Rattle.desk_book.specs.declared.tables.BookTable.{BookTable}
 use Rattle.desk_book.specs.Book.{Book, Entry, Mark, Paragraph, text_of}
-use Rattle.desk_book.specs.Changes.{ChangesPrint, AreCellsOf, AreRenewed, AreCellsByTable, Carries, Change, IsKeptTyped, IsEffect, IsEffect-change_by, change_by}
+use Rattle.desk_book.specs.Changes.{ChangesPrint, AreCellsOf, AreRenewed, AreCellsByTable, Carries, Change, IsKeptTyped, IsEffect, IsEffect-change_by, change_by, Does, Does-change_by}
 use Rattle.desk_book.specs.Histories.{HaveTaken, TookFrom, entries_kept, entry_kept}
 use Rattle.desk_book.specs.KeptMarks.{AreWithin, indexes_on, with_kept_moved}
 use Rattle.desk_book.specs.KeptPrints.{HasRoomFor, HasRoomForMark, with_mark, with_print_changed}
@@ -184,6 +184,12 @@ pub IsEffect-carried : (book : Book) (command : Command) (next : Book) (version 
 IsEffect-carried book command next version number kept effect change shown is carries =
     subst (λ (e : Effect). IsEffect book version e next) is
     (IsEffect-change_by book command next version number kept (subst (Carries book command next) (sym shown) carries))
+
+pub Does-carried : (book : Book) (command : Command) (next : Book) (version : ℕ) (number : Option ℕ) (kept effect : Effect) (change : Change)
+    → change_by version number kept ≡ change → kept ≡ effect → Carries book command next change → Does book command next effect
+Does-carried book command next version number kept effect change shown is carries =
+    subst (λ (e : Effect). Does book command next e) is
+    (Does-change_by book command next version number kept (subst (Carries book command next) (sym shown) carries))
 
 pub some_effect : (book : Book) (version : ℕ) (number : Option ℕ) (kept effect : Effect) (change : Change)
     → change_by version number kept ≡ change → kept ≡ effect → (command : Command) × (next : Book) × Carries book command next change

@@ -1,5 +1,5 @@
 -- How an undo is judged while no version is expected.
-use Rattle.std.proofs.Common.{◌≡◌, ℕ, ◌+◌, ◌-◌, ◌≤◌, false, List, length, take, drop, Some, None, refl, sym, ap, subst, ◌∙◌, arith}
+use Rattle.std.proofs.Common.{◌≡◌, ℕ, ◌+◌, ◌-◌, ◌≤◌, false, List, length, take, drop, Some, None, refl, sym, ap, subst, ◌∙◌, arith, lit≤}
 use Rattle.std.specs.Option.{option_and_then}
 use Rattle.std.specs.Prelude.{option_map, slice_get}
 use Rattle.std.specs.List.{take-map}
@@ -17,7 +17,7 @@ use Rattle.desk_command.specs.declared.refusal.Refusal.{Refusal}
 use Rattle.desk_command.specs.declared.refusal.Refusal.TheVariants.{NoMemory, NothingToUndo}
 use Rattle.desk_book.specs.Book.{Book, Corrects, Entry, Undoes, Paragraph, Replacement, paragraph_of}
 use Rattle.desk_book.specs.Changes.{Does}
-use Rattle.desk_book.specs.Corrected.{HaltsEntry, IsEntered, IsUnfit, replaced_by}
+use Rattle.desk_book.specs.Corrected.{HaltsEntry, HaltsPrint, IsEntered, IsUnfit, TakesEntry, replaced_by}
 use Rattle.desk_book.specs.Histories.{IsNewestInForce, TookFrom, entries_kept, entry_kept, replacement_kept}
 use Rattle.desk_book.specs.Judging.{Passes}
 use Rattle.desk_book.specs.Limits.{most_print}
@@ -29,10 +29,10 @@ use Rattle.desk_book.specs.Shown.{IsShown}
 use Rattle.desk_book.specs.Sound.{AreSoundEntries}
 use Rattle.desk_book.specs.Step.{next_with_entry}
 use Rattle.desk_book.proofs.EntryPlanned.{ChangesPrint-entered, short-sound}
-use Rattle.desk_book.proofs.EntryPlanning.{entered, halted, past_fit, unfit}
+use Rattle.desk_book.proofs.EntryPlanning.{entered, halted, lacking, past_fit, undefined, unfit}
 use Rattle.desk_book.proofs.HistoryLists.{corrected-before, corrected-undone}
 use Rattle.desk_book.proofs.Judging.{Passes-nothing_to_undo}
-use Rattle.desk_book.proofs.Planning.{no_memory, passes_to, to_turn, turned_down}
+use Rattle.desk_book.proofs.Planning.{passes_to, to_turn, turned_down}
 use Rattle.desk_book.proofs.Replacing.{replaced-back}
 use Rattle.desk_book.proofs.SoundEntries.{length-replaced}
 
@@ -97,6 +97,10 @@ module _ (book : Book) (id : ℕ) where
       long : length (print_of p) + length c.taken ≡ length before + length c.text
       long = ap (λ (t : List ℕ). length t + length c.taken) now_is ∙ length-replaced before r span_before
 
+      -- so many characters the print has after it
+      pub counted : (len count taken : ℕ) → len ≡ length kept.print → count ≡ length c.text → taken ≡ length c.taken → (len - count) + taken ≡ length before
+      counted len count taken a b d = let within = span_before in let same = ap length shown.print in let sum = long in omega (arith, a, b, d)
+
       pub span_here : c.start + length c.text ≤ length kept.print
       span_here = let within = span_before in let same = ap length shown.print in let sum = long in omega arith
 
@@ -112,9 +116,6 @@ module _ (book : Book) (id : ℕ) where
           let same : p ≡ n.paragraph = cc in
           let none = sym newest_is ∙ (ap (λ (q : Paragraph). newest q.history) same ∙ n.none) in
           cc)
-
-      pub no_memory_here : (told : Refusal) → told ≡ NoMemory → IsTurnedDown book command told
-      no_memory_here told is = no_memory book command told 110 refl passed is
 
       no_text : ¬ HasLongText command
       no_text l = let given = l.given in cc
@@ -132,9 +133,17 @@ module _ (book : Book) (id : ℕ) where
         to_show : option_and_then (λ (q : Paragraph). option_map (pair q) (print_undone q)) (paragraph_of book id) ≡ Some (print, p.table)
         to_show = ap (option_and_then (λ (q : Paragraph). option_map (pair q) (print_undone q))) shown.found ∙ (ap (option_map (pair p)) undone ∙ ap (λ (t : List ℕ). Some (pair p t)) (sym print_is))
 
-        pub halted_here : (told : Refusal) → HaltsEntry book kept meaning print told → IsTurnedDown book command told
+        pub halted_here : (told : Refusal) → HaltsEntry book kept (length print) told → IsTurnedDown book command told
         halted_here told =
-            halted book command id p shown.found kept shown.kept_is print shown.translated.text meaning shown.translated.found shown.translated.means refl made to_show no_text no_note passed refl refl refl refl refl told
+            halted book command id p shown.found kept shown.kept_is print shown.translated.text meaning shown.translated.found shown.translated.means refl made to_show no_text no_note passed refl refl refl refl told
+
+        pub no_memory_here : TakesEntry book kept (length print) → (told : Refusal) → told ≡ NoMemory → IsTurnedDown book command told
+        no_memory_here takes told =
+            lacking book command id p shown.found kept shown.kept_is print shown.translated.text meaning shown.translated.found shown.translated.means refl made to_show no_text no_note passed refl refl refl refl 180 refl (lit≤ tt) takes told
+
+        pub undefined_here : TakesEntry book kept (length print) → (told : Refusal) → HaltsPrint meaning print told → IsTurnedDown book command told
+        undefined_here takes told =
+            undefined book command id p shown.found kept shown.kept_is print shown.translated.text meaning shown.translated.found shown.translated.means refl made to_show no_text no_note passed refl refl refl refl 180 refl (lit≤ tt) takes told
 
         pub planned_here : (new : NewEntry) (effect : Effect) → new.print.items ≡ print → IsEntered book id kept meaning new effect → new.entry ≡ KeptUndoes number
             → new.start ≡ c.start → new.removed ≡ length c.text → new.added ≡ length c.taken → IsPlanned book command effect

@@ -34,7 +34,7 @@ use Rattle.desk_command.specs.Numbers.{code_of}
 use Rattle.desk_book.specs.Step.{Makes, number_of}
 use Rattle.desk_book.specs.Stored.{IsUnbarred, is_barred}
 use Rattle.desk_book.proofs.CorrectPlanning.{past_proofreader}
-use Rattle.desk_book.proofs.EntryPlanning.{AreThere-one, halted, past_fit, unfit}
+use Rattle.desk_book.proofs.EntryPlanning.{AreThere-one, undefined as undefined_entry, past_fit, unfit}
 use Rattle.desk_book.proofs.Expecting.{moved}
 use Rattle.desk_book.proofs.Judging.{IsRefused-passes, Passes-nothing_to_undo}
 use Rattle.desk_book.proofs.Planning.{passes_to, past_paragraphs, past_text, same_some, to_turn}
@@ -288,5 +288,5 @@ undo-not-defined =
     (λ n. let same : p ≡ n.paragraph = same_some p n.paragraph n.found in let none : newest p.history ≡ None = ap (λ (q : Paragraph). newest q.history) same ∙ n.none in cc) in
     let first : IsFirstUndefined ab_meaning (99 ∷ []) 0 = record { within = lit< tt; undefined = refl; before = λ i lt. absurd (omega arith) } in
     first-told book (Undo 1) (Undefined 0) (λ same. cc)
-    (halted book (Undo 1) 1 p refl kept_c refl (99 ∷ []) ab_text ab_meaning refl ab-means refl refl refl (λ l. let given = l.given in cc) (λ l. let given = l.given in cc) passes refl refl refl refl refl (Undefined 0)
-    (inr (inr (inr (inl (0, refl, lit≤ tt, lit< tt, lit< tt, first))))))
+    (undefined_entry book (Undo 1) 1 p refl kept_c refl (99 ∷ []) ab_text ab_meaning refl ab-means refl refl refl (λ l. let given = l.given in cc) (λ l. let given = l.given in cc) passes refl refl refl refl
+    180 refl (lit≤ tt) (record { short = lit≤ tt; few = lit< tt; left = lit< tt }) (Undefined 0) (inl (0, refl, first)))

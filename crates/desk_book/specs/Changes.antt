@@ -181,3 +181,10 @@ IsEffect-change_by book command next version number effect carries = record {
   at = carries.version;
   does = carries.does;
 }
+
+-- and is what its command does
+pub Does-change_by : (book : Book) (command : Command) (next : Book)
+    → (version : ℕ) (number : Option ℕ) (effect : Effect)
+    → Carries book command next (change_by version number effect) → Does book command next effect
+unfolding change_by
+Does-change_by book command next version number effect carries = carries.does

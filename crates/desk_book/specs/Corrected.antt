@@ -53,13 +53,20 @@ pub record IsEntered (book : Book) (id : ℕ) (kept : KeptParagraph) (meaning : 
   pub left : book.version < most_version
   pub defined : AreDefined meaning new.print.items
 
--- the new print is too long; or it isn't, and the history is full; or it isn't either, and the version is; or the table
--- doesn't define the print; or memory was refused
-abbrev pub HaltsEntry : Book → KeptParagraph → Meaning → List ℕ → Refusal → Type 0
-HaltsEntry book kept meaning print refusal =
-    ((refusal ≡ TooLong) × (most_print < length print))
-    ⊎ (((refusal ≡ Full Entries) × (length print ≤ most_print) × (most_entries ≤ length kept.history))
-    ⊎ (((refusal ≡ Full Version) × (length print ≤ most_print) × (length kept.history < most_entries) × (most_version ≤ book.version))
-    ⊎ (((place : ℕ) × (refusal ≡ Undefined place) × (length print ≤ most_print) × (length kept.history < most_entries)
-    × (book.version < most_version) × IsFirstUndefined meaning print place)
-    ⊎ (refusal ≡ NoMemory))))
+-- a print of so many characters is too long; or it isn't, and the history is full; or it isn't either, and the version is
+abbrev pub HaltsEntry : Book → KeptParagraph → ℕ → Refusal → Type 0
+HaltsEntry book kept count refusal =
+    ((refusal ≡ TooLong) × (most_print < count))
+    ⊎ (((refusal ≡ Full Entries) × (count ≤ most_print) × (most_entries ≤ length kept.history))
+    ⊎ ((refusal ≡ Full Version) × (count ≤ most_print) × (length kept.history < most_entries) × (most_version ≤ book.version)))
+
+-- the history may have an entry more, after which the print has so many characters
+pub record TakesEntry (book : Book) (kept : KeptParagraph) (count : ℕ) : Type 0 where
+  pub short : count ≤ most_print
+  pub few : length kept.history < most_entries
+  pub left : book.version < most_version
+
+-- the table doesn't define the print, or memory was refused
+abbrev pub HaltsPrint : Meaning → List ℕ → Refusal → Type 0
+HaltsPrint meaning print refusal =
+    ((place : ℕ) × (refusal ≡ Undefined place) × IsFirstUndefined meaning print place) ⊎ (refusal ≡ NoMemory)

@@ -11,13 +11,13 @@ abbrev pub Passes : Book → Option ℕ → Command → ℕ → Type 0
 Passes book expect command n = (other : Refusal) → Holds book expect command other → n ≤ turn other
 
 -- the first turn that is judged after a command has asked for memory, if it asks for any: the text of a table is judged
--- while it is read, a typed text and a print after they are made, and nothing after a new mark, the braille by another
--- table and a new order
+-- while it is read, a typed text after it is made, of an undo the print alone, and nothing after a new mark, the braille by
+-- another table and a new order
 abbrev pub first_turn_after_asking : Command → Option ℕ
 first_turn_after_asking (Table name text) = Some 170
 first_turn_after_asking (TypeIn anchor table text) = Some 110
 first_turn_after_asking (Correct id start count text who) = Some 110
-first_turn_after_asking (Undo id) = Some 110
+first_turn_after_asking (Undo id) = Some 180
 first_turn_after_asking (Mark id cell count note) = Some 200
 first_turn_after_asking (Resolve id) = None
 first_turn_after_asking (Strike id) = None

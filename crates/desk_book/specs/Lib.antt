@@ -42,3 +42,4 @@ pub mod ChangePuts
 pub mod PutsLeft
 pub mod Outcome
 pub mod JudgedCaches
+pub mod Lent

@@ -1,36 +1,36 @@
--- How much a book may hold: the numbers are the code's.
+-- How much a book may hold.
 use Rattle.std.specs.Prelude.{ℕ}
-use Rattle.desk_book.specs.declared.limits.TheConstants.{MOST_ENTRIES, MOST_MARKS, MOST_NAME, MOST_NOTE, MOST_PARAGRAPHS, MOST_PRINT, MOST_PROOFREADER, MOST_TABLES, MOST_VERSION}
 
+-- 2 to the 53rd
 abbrev pub most_version : ℕ
-most_version = MOST_VERSION
+most_version = 9007199254740992
 
 abbrev pub most_tables : ℕ
-most_tables = MOST_TABLES
+most_tables = 16
 
 -- characters of a table's name
 abbrev pub most_name : ℕ
-most_name = MOST_NAME
+most_name = 32
 
 -- struck ones counted
 abbrev pub most_paragraphs : ℕ
-most_paragraphs = MOST_PARAGRAPHS
+most_paragraphs = 20000
 
 -- characters of a print
 abbrev pub most_print : ℕ
-most_print = MOST_PRINT
+most_print = 4000
 
 -- entries of a paragraph's history
 abbrev pub most_entries : ℕ
-most_entries = MOST_ENTRIES
+most_entries = 10000
 
 abbrev pub most_marks : ℕ
-most_marks = MOST_MARKS
+most_marks = 100000
 
 -- characters of a note
 abbrev pub most_note : ℕ
-most_note = MOST_NOTE
+most_note = 500
 
 -- characters of a proofreader's name
 abbrev pub most_proofreader : ℕ
-most_proofreader = MOST_PROOFREADER
+most_proofreader = 40

@@ -2,7 +2,7 @@
 ghost use Rattle.desk_book.specs.Book.{empty_book, paragraph_of, text_of};
 ghost use Rattle.desk_book.specs.Print.{print_of};
 ghost use Rattle.desk_book.specs.Sound.{IsSound};
-ghost use Rattle.std.specs.Prelude.{◌≡◌, None, Some, IfErr, IfOk, Err};
+ghost use Rattle.std.specs.Prelude.{◌≡◌, MatchResult, None, Some, IfErr, IfOk, Err};
 
 use super::marks::Marks;
 use super::paragraphs::{Paragraph, Paragraphs};
@@ -35,13 +35,9 @@ impl Model for Book {
 }
 
 impl Book {
-    /// A book without anything, at version 0.
-    ///
-    /// # Errors
-    ///
-    /// Where an allocation was refused.
+    /// A book without anything, at version 0. It takes no memory, so it is always `Ok`.
     pub fn new(alloc: Global) -> Result<Self, AllocError>
-        ensures { IfOk result (λ book. book ≡ empty_book) }
+        ensures { MatchResult result (λ book. book ≡ empty_book) (λ _. ⊥) }
     {
         Ok(Book {
             version: 0,

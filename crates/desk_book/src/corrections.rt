@@ -1,5 +1,5 @@
 //! Corrections of prints, and what takes them back.
-ghost use Rattle.desk_book.specs.Corrected.{HaltsEntry, IsCorrection, IsEntered, IsUnfit, replaced_by};
+ghost use Rattle.desk_book.specs.Corrected.{HaltsEntry, HaltsPrint, IsCorrection, IsEntered, IsUnfit, TakesEntry, replaced_by};
 ghost use Rattle.desk_book.specs.Limits.{most_entries};
 ghost use Rattle.desk_book.specs.Name.{IsProofreaderName};
 ghost use Rattle.desk_book.specs.Planned.{IsPlanned, IsTurnedDown};
@@ -10,7 +10,7 @@ use super::book::Book;
 use super::braille::cells_of;
 use super::change::{Effect, PrintChange};
 use super::history::{Correction, KeptEntry, newest};
-use super::limits::MOST_ENTRIES;
+use super::limits::{MOST_ENTRIES, MOST_PRINT};
 use super::paragraphs::Paragraph;
 use super::plan::{check_length, check_print, check_text, copy, text_of_print};
 use super::stored::{count_of, is_proofreader_name, stored};
@@ -123,7 +123,19 @@ impl Book {
         Ok((paragraph, rules))
     }
 
-    /// What a new entry does, where its print, its history, the version and the table let it come.
+    /// The history may have an entry more, after which the print has so many characters.
+    fn check_entry(&self, paragraph: &Paragraph, count: usize) -> Result<(), Refusal>
+        ensures takes { OnOk result (TakesEntry self.now paragraph.now count) }
+        ensures halted { IfErr result (HaltsEntry self.now paragraph.now count) }
+    {
+        if count > MOST_PRINT {
+            return Err(Refusal::TooLong);
+        }
+        check_entries(paragraph)?;
+        self.check_version()
+    }
+
+    /// What a new entry does, for which there is room, where the table defines its print.
     fn entered(
         &self,
         alloc: Global,
@@ -132,12 +144,10 @@ impl Book {
         rules: &RuleIndex,
         new: NewEntry,
     ) -> Result<Effect, Refusal>
+        requires { TakesEntry self.now paragraph.now (length new.print.items) }
         ensures planned { IfOk result (IsEntered self.now id paragraph.now rules.now new) }
-        ensures refused { IfErr result (HaltsEntry self.now paragraph.now rules.now new.print.items) }
+        ensures refused { IfErr result (HaltsPrint rules.now new.print.items) }
     {
-        check_length(&new.print)?;
-        check_entries(paragraph)?;
-        self.check_version()?;
         check_print(rules, &new.print)?;
         let cells = cells_of(alloc, rules, &new.print)?;
         let room = paragraph.history.room(alloc)?;
@@ -181,6 +191,7 @@ impl Book {
         check_span(old, start, count)?;
         let put = stored(alloc, text.as_str())?;
         check_length(&put)?;
+        self.check_entry(paragraph, old.len() - count + put.len())?;
         let print = replaced(alloc, old, start, count, &put)?;
         let new = NewEntry {
             entry: KeptEntry::Corrects(correction(alloc, old, start, count, &put, who)?),
@@ -203,6 +214,7 @@ impl Book {
         let count = count_of(correction.text.as_str());
         let taken = correction.taken.as_slice();
         let old = paragraph.print.as_slice();
+        self.check_entry(paragraph, old.len() - count + taken.len())?;
         let new = NewEntry {
             entry: KeptEntry::Undoes(number),
             print: replaced(alloc, old, correction.start, count, taken)?,

@@ -6,11 +6,13 @@ ghost use Rattle.std.specs.Prelude.{◌≡◌, MatchOption};
 
 use desk_parts::FileTable;
 use std::alloc::AllocError;
+use thiserror::Error;
 
 /// Why no book was made of parts.
-#[derive(Clone, Copy, Debug, PartialEq, Eq)]
+#[derive(Clone, Copy, Debug, PartialEq, Eq, Error)]
 pub enum PartsFault {
     /// The rows show no book.
+    #[error("the rows show no book")]
     Damaged {
         /// The first damaged table, in the order `book`, `tab`, `para`, `corr` or `corr2`, `mark`, `cache`.
         table: FileTable,
@@ -19,6 +21,7 @@ pub enum PartsFault {
         id: i64,
     },
     /// An allocation was refused.
+    #[error("out of memory")]
     NoMemory,
 }
 

@@ -9,6 +9,8 @@ ghost use Rattle.desk_parts.specs.FileRows.{AreTexts, FileRows, table_of};
 ghost use Rattle.desk_book.specs.FilledRows.{AreEntriesOf, Fills, in_second_format, new_rows};
 ghost use Rattle.desk_book.specs.FilledRows.{second_format_puts, with_caches, with_empty};
 ghost use Rattle.desk_book.specs.FilledRows.{with_new_entries, with_new_tables};
+ghost use Rattle.desk_book.specs.Limits.{most_entries, most_marks, most_name, most_note, most_paragraphs, most_print, most_proofreader, most_tables, most_version};
+ghost use Rattle.desk_book.specs.declared.limits.TheConstants.{MOST_ENTRIES, MOST_MARKS, MOST_NAME, MOST_NOTE, MOST_PARAGRAPHS, MOST_PRINT, MOST_PROOFREADER, MOST_TABLES, MOST_VERSION};
 ghost use Rattle.desk_book.specs.Outcome.{HasOneOutcome};
 ghost use Rattle.desk_parts.specs.Puts.{HasTheirTables, PutBook, PutCache, PutEntry, RowPuts, with_puts};
 ghost use Rattle.desk_book.specs.Refusals.{IsAccepted};
@@ -124,4 +126,17 @@ pub fn rows_in_any_order()
     ensures damage { (a b : FileRows) (table : FileTable) (id : ℤ) → AreSameRows a b
         → IsFirstDamage a table id → IsFirstDamage b table id }
     ensures turned { (a b : FileRows) → AreSameRows a b → AreSameRows b a }
+{}
+
+/// The limits that the code compares with are those that the definitions write.
+pub fn limits()
+    ensures version { MOST_VERSION ≡ most_version }
+    ensures tables { MOST_TABLES ≡ most_tables }
+    ensures name { MOST_NAME ≡ most_name }
+    ensures paragraphs { MOST_PARAGRAPHS ≡ most_paragraphs }
+    ensures print { MOST_PRINT ≡ most_print }
+    ensures entries { MOST_ENTRIES ≡ most_entries }
+    ensures marks { MOST_MARKS ≡ most_marks }
+    ensures note { MOST_NOTE ≡ most_note }
+    ensures proofreader { MOST_PROOFREADER ≡ most_proofreader }
 {}

@@ -1,6 +1,7 @@
 //! What a change puts into the rows of its book's file.
 ghost use Rattle.desk_book.specs.ChangePuts.{LeadTo, cache_put, cells_from, effect_puts, elsewhere_from, entry_row, further_from, kept_mark_row, kept_row, row_number, span_put, stays_in, tab_put};
 ghost use Rattle.desk_book.specs.Changes.{Carries, Does};
+ghost use Rattle.desk_book.specs.Lent.{AreLent};
 ghost use Rattle.desk_book.specs.Limits.{most_paragraphs, most_print};
 ghost use Rattle.desk_book.specs.ParagraphMarks.{marks_on};
 ghost use Rattle.desk_parts.specs.Puts.{LendsFirst, PutEntry, PutMark, PutPara, SetFlags, SetPlace, SetResolved, SetTable, SetVersion, put_of};
@@ -590,8 +591,12 @@ impl Change {
     /// each row among them, it makes rows that show the next book. It takes no memory.
     pub fn puts<'a>(&'a self, book: &'a Book) -> Puts<'a>
         requires { (command : _) × (next : _) × Carries book.now command next self.now }
-        ensures { (command : _) (next : _) → Carries book.now command next self.now
+        ensures leads { (command : _) (next : _) → Carries book.now command next self.now
             → LeadTo book.now result next }
+
+        // Only what the command changes is among it.
+        ensures lent { (command : _) (next : _) → Carries book.now command next self.now
+            → AreLent book.now next command result }
     {
         // it is sound
         let _ = &book.version;

@@ -1,24 +1,23 @@
 -- How large pages are.
 use Rattle.std.specs.Prelude.{ℕ, ◌-◌, ◌≤◌}
-use Rattle.desk_brf.specs.declared.layout.TheConstants.{LEAST_LINES, LEAST_WIDTH, MOST_LINES, MOST_WIDTH}
 
--- ---- the limits of a layout, whose numbers are the code's
+-- ---- the limits of a layout
 
 -- cells of a line
 
 abbrev pub least_width : ℕ
-least_width = LEAST_WIDTH
+least_width = 10
 
 abbrev pub most_width : ℕ
-most_width = MOST_WIDTH
+most_width = 60
 
 -- lines of a page
 
 abbrev pub least_lines : ℕ
-least_lines = LEAST_LINES
+least_lines = 5
 
 abbrev pub most_lines : ℕ
-most_lines = MOST_LINES
+most_lines = 40
 
 -- ---- layouts
 

@@ -1,7 +1,8 @@
 //! Laws of pages.
 ghost use Rattle.desk_book.specs.Book.{Book};
 ghost use Rattle.desk_brf.specs.Embossed.{AreBrailles, ArePageTexts, IsEmbossedByte, IsTextLine, dots_in};
-ghost use Rattle.desk_brf.specs.Layout.{IsLayout, Layout};
+ghost use Rattle.desk_brf.specs.Layout.{IsLayout, Layout, least_lines, least_width, most_lines, most_width};
+ghost use Rattle.desk_brf.specs.declared.layout.TheConstants.{LEAST_LINES, LEAST_WIDTH, MOST_LINES, MOST_WIDTH};
 ghost use Rattle.desk_brf.specs.Placing.{IsPlacing};
 ghost use Rattle.desk_brf.specs.Volume.{IsVolume};
 ghost use Rattle.desk_brf.specs.Volumes.{volume_of};
@@ -62,4 +63,12 @@ pub fn whole_volume()
         → (volume : IsVolume book layout number bytes pages)
         → (brailles : List (List ℕ)) × AreBrailles book (volume_of book number) brailles
         × (dots_in volume.lines ≡ flat_map (λ cells. filter (λ cell. not (is_blank cell)) cells) brailles) }
+{}
+
+/// The limits that the code compares with are those that the definitions write.
+pub fn limits()
+    ensures least_width { LEAST_WIDTH ≡ least_width }
+    ensures most_width { MOST_WIDTH ≡ most_width }
+    ensures least_lines { LEAST_LINES ≡ least_lines }
+    ensures most_lines { MOST_LINES ≡ most_lines }
 {}

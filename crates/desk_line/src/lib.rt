@@ -10,7 +10,8 @@
 //! let request = read_request(alloc, b"type end en Hello\n")?;
 //! ```
 //!
-//! What a request does to a book is `desk_book`'s; where requests come from and replies go, `braildesk`'s.
+//! `desk_book` says what a request does to a book, and `desk_session` takes requests from an input and sends their replies, by the ends
+//! of `desk_ends`.
 #![tactic(auto)]
 
 mod answer;

@@ -1,7 +1,7 @@
 -- Where no book or no table is found, where a session ends early, and what a refusal leaves.
 use Rattle.std.proofs.Common.{◌≡◌, ◌⊎◌, ℕ, Bool, true, false, List, refl, ap, subst, inl, inr}
 use Rattle.std.specs.Prelude.{IsErrAnd, MatchResult, Result, Ok, Err}
-use Rattle.sqlite_trees.specs.View.{IsRolledBack}
+use Rattle.sqlite_trees.specs.View.{IsQuiet, IsRolledBack}
 use Rattle.sqlite.specs.Held.{Held, state}
 use Rattle.desk_book.specs.Book.{Book}
 use Rattle.desk_brf.specs.Layout.{Layout}
@@ -59,9 +59,14 @@ module _ {D K : Type 0} (at : Place D) (sink : Sink K) (old : K) (stop : Stop) w
 
 -- a connection that was handed back, whose database was closed
 pub closed-as : {D : Type 0} (at : Place D) (held last : Held D) (left : D) → held ≡ last → at.Closes left
-    → IsRolledBack (at.store.view held.store) (at.store.view left) → Closed at last
-closed-as {D} at held last left same closes undone =
-    (left, closes, subst (λ (it : Held D). IsRolledBack (at.store.view it.store) (at.store.view left)) same undone)
+    → IsRolledBack (at.store.view held.store) (at.store.view left)
+    → IsQuiet at.store.view at.store.faults at.store.recovers at.store.is_shielded held.store left → Closed at last
+closed-as {D} at held last left same closes undone quiet = (
+  left,
+  closes,
+  subst (λ (it : Held D). IsRolledBack (at.store.view it.store) (at.store.view left)) same undone,
+  λ db here. subst (λ (it : Held D). at.store.recovers it.store db) same (quiet.outcomes db here),
+)
 
 -- a table that is refused
 pub Translates-refused : {S K : Type 0} (CanFail : Type 0) (shelf : List ℕ → Shelved) (source : Source S) (old_source : S)

@@ -1,6 +1,7 @@
 -- What is done with the book in a file, and why it isn't.
 use Rattle.std.specs.Prelude.{◌≡◌, ◌≢◌, ℕ, Bool, true, false, List, [], ◌∷◌, ◌++◌, codes, decimal, Result, Ok, Err}
 use Rattle.std.specs.Io.KnownBytes.{Appends}
+use Rattle.sqlite_trees.specs.Tree.{Trees}
 use Rattle.sqlite_trees.specs.View.{IsRolledBack}
 use Rattle.sqlite_trees.specs.declared.store.Store.{Ghosts as Database}
 use Rattle.sqlite.specs.Held.{Held, state}
@@ -83,9 +84,11 @@ pub record Opening {D : Type 0} (at : Place D) (make : Bool) (last : Held D) (bo
   pub opens : HasCleanDisk (state at.store last) → Opens at.store make first (state at.store last) (Ok book)
   pub crash : Survives (state at.store first) (state at.store last) (MayBring make (state at.store first))
 
--- the database of this connection was closed, without what wasn't committed
+-- The database of this connection was closed, without what wasn't committed, and whatever a crash leaves of it then it could have left before.
 abbrev pub Closed : {D : Type 0} → Place D → Held D → Type 0
-Closed {D} at last = (left : D) × at.Closes left × IsRolledBack (at.store.view last.store) (at.store.view left)
+Closed {D} at last =
+    (left : D) × at.Closes left × IsRolledBack (at.store.view last.store) (at.store.view left)
+    × ((db : Trees) → at.store.recovers left db → (state at.store last).may_leave db)
 
 -- this book was found, or made, and its database was closed as it was then
 abbrev pub Finds : {D : Type 0} → Place D → Bool → Book → Type 0

@@ -1,8 +1,6 @@
 -- What is written for an input line.
 use Rattle.std.specs.Prelude.{◌≡◌, ℕ, ◌<◌, ◌≤◌, ◌++◌, ◌∷◌, [], List, length, codes, decimal}
 use Rattle.std.specs.Str.{chars, IsUtf8}
-use Rattle.desk_program.specs.declared.line.TheConstants.{MOST_BYTES}
-use Rattle.desk_program.specs.declared.print.TheConstants.{MOST_CHARACTERS}
 use Rattle.desk_ends.specs.Cells.{text_of}
 use Rattle.louis_table.specs.Lines.{lines_of}
 use Rattle.louis_table.specs.Meaning.{Meaning}
@@ -11,15 +9,15 @@ use Rattle.louis_translate.specs.Position.{AreDefined, IsFirstUndefined}
 use Rattle.louis_translate.specs.Tiling.{Tiles}
 use Rattle.louis_translate.specs.Braille.{braille}
 
--- ---- the limits of a line, whose numbers are the code's
+-- ---- the limits of a line
 
 -- its bytes, without its ending
 abbrev pub most_bytes : ℕ
-most_bytes = MOST_BYTES
+most_bytes = 65536
 
 -- its characters
 abbrev pub most_characters : ℕ
-most_characters = MOST_CHARACTERS
+most_characters = 4000
 
 -- ---- the texts that are written
 

@@ -1,10 +1,9 @@
 -- What stands at a path, as far as that is known.
 use Rattle.std.specs.Prelude.{◌≡◌, ℕ, ◌≤◌, Bool, true, List, length, Option, Some, None}
-use Rattle.desk_program.specs.declared.table_file.TheConstants.{MOST_FILE_BYTES}
 
--- the bytes that a table file may have
+-- the bytes that a table file may have: 2 to the 27th
 abbrev pub most_file_bytes : ℕ
-most_file_bytes = MOST_FILE_BYTES
+most_file_bytes = 134217728
 
 -- nothing is known, no file, or a file with these bytes
 pub data Shelved : Type 0 where

@@ -1,27 +1,32 @@
 -- What is found of a book after a session, and what a session begins with.
-use Rattle.std.proofs.Common.{◌≡◌, ◌∙◌, ◌≤◌, Bool, true, false, List, [], ◌∷◌, ◌++◌, length, refl, sym, ap, subst, arith}
-use Rattle.std.specs.Prelude.{Ok}
+use Rattle.std.proofs.Common.{inl, ◌≡◌, ◌∙◌, ◌≤◌, Bool, false, List, [], ◌∷◌, ◌++◌, length, refl, sym, ap, subst, arith}
+use Rattle.std.specs.Prelude.{IfErr, IfOk, Ok, Result}
 use Rattle.std.specs.List.{All}
 use Rattle.std.proofs.lemmas.List.Elements.{All-cons, All-nil}
 use Rattle.sqlite_trees.specs.Tree.{Trees}
 use Rattle.sqlite_trees.specs.declared.store.Store.{Ghosts}
 use Rattle.sqlite.specs.Held.{Held, state}
-use Rattle.sqlite.specs.State.{State}
+use Rattle.sqlite.specs.State.{IsLive, State}
+use Rattle.sqlite.specs.State.{Opens as IsOpenedAnew}
+use Rattle.sql_tables.specs.States.{IsSettled, Leaves}
 use Rattle.desk_book.specs.Book.{Book}
 use Rattle.desk_store.specs.Books.{HasNewTables, LeavesBook}
+use Rattle.desk_store.proofs.Reopening.{finds_such, holds_new, keeps, second_format}
 use Rattle.desk_rows.specs.Contents.{Contents}
-use Rattle.desk_rows.specs.Described.{Which, books, tabs, paras, corrs, marks, caches, named_corrs}
-use Rattle.desk_store.specs.Formats.{IsOfFormat, named}
+use Rattle.desk_store.specs.Formats.{named}
 use Rattle.desk_store.specs.Found.{HasNone}
 use Rattle.desk_rows.specs.Layout.{Layout}
 use Rattle.desk_rows.specs.Making.{made}
-use Rattle.desk_store.specs.Opened.{Opens, Stands, completed}
+use Rattle.desk_store.specs.Opened.{HoldsEither, Opens, Stands, completed}
+use Rattle.desk_store.specs.Opening.{IsRefusal}
+use Rattle.desk_store.specs.Reopened.{IsKeptThere}
+use Rattle.desk_store.specs.declared.fault.OpenFault.{OpenFault}
 use Rattle.desk_rows.specs.States.{IsFile, Shows}
-use Rattle.desk_rows.specs.Tables.{is_there}
 use Rattle.desk_session.specs.declared.session.Ended.{Ended}
 use Rattle.desk_session.specs.declared.session.Ended.TheVariants as ended
 use Rattle.desk_session.specs.Served.{EndsAs, HoldsGiven, IsFound, MayLack, MayServe}
-use Rattle.desk_session.specs.Session.{EndsLost, Given, Gives, IsSession, Turn}
+use Rattle.desk_session.specs.Reopened.{IsKeptBook, MayBegin}
+use Rattle.desk_session.specs.Session.{EndsLost, Given, Gives, HoldsAcknowledged, IsSession, Turn}
 
 -- ---- a command that was lost is the last one, and wasn't acknowledged
 
@@ -88,20 +93,6 @@ missing_lost ended.Lost turns book last given kept missing session ends is lacks
     let it = last_lost turns book last given session ends in
     last_of kept missing it.front it.one (sym is ∙ it.is) lacks it.lost
 
--- ---- a file with the tables of a new one is of the second format
-
-there_by : (l : Layout) (c : Contents) (db : Trees) → IsFile l c db → (w : Which) → l.has w ≡ true → is_there l.schema w ≡ true
-there_by l c db is w there = rw (is.declared w there).named refl
-
-second_format : (l : Layout) (c : Contents) (db : Trees) → HasNewTables l → IsFile l c db → IsOfFormat named l
-second_format l c db tables is books = (tables.0 ∙ sym (there_by l c db is books tables.0), tables.0)
-second_format l c db tables is tabs = (tables.1.0 ∙ sym (there_by l c db is tabs tables.1.0), tables.1.0)
-second_format l c db tables is paras = (tables.1.1.0 ∙ sym (there_by l c db is paras tables.1.1.0), tables.1.1.0)
-second_format l c db tables is corrs = tt
-second_format l c db tables is marks = (tables.1.1.1.0 ∙ sym (there_by l c db is marks tables.1.1.1.0), tables.1.1.1.0)
-second_format l c db tables is caches = tables.1.1.1.1.0 ∙ sym (there_by l c db is caches tables.1.1.1.1.0)
-second_format l c db tables is named_corrs = (tables.1.1.1.1.1.0 ∙ sym (there_by l c db is named_corrs tables.1.1.1.1.1.0), tables.1.1.1.1.1.0)
-
 -- ---- what is found after a session
 
 pub is_found : (l : Layout) (book held : Book) (end : Ended) (turns : List Turn) (given : List Given) (db : Trees) (s : State)
@@ -126,12 +117,34 @@ is_found l book held end turns given db s tables session ends holds shows = reco
 -- ---- what a session begins with
 
 module _ {S : Type 0} (g : Ghosts S) (make : Bool) (book : Book) (old : Held S) (new : State) (opens : Opens g make old new (Ok book)) where
-  pub begins_opened : (l : Layout) → Stands l book (state g old) → LeavesBook l book (state g old) → MayServe (completed l) book new
-  begins_opened l (c, stands) leaves =
+  pub begins_again : (l : Layout) → Stands l book (state g old) → Leaves (HoldsEither l book) (state g old) → MayServe (completed l) book new
+  begins_again l (c, stands) leaves =
       let opened = opens.opened stands.format l c stands.of stands.shows in
       record { tables = opened.tables; kept = record { shows = (opened.shows.0, opened.shows.1, opened.shows.2); leaves = opened.leaves leaves } }
+
+  pub begins_opened : (l : Layout) → Stands l book (state g old) → LeavesBook l book (state g old) → MayServe (completed l) book new
+  begins_opened l stands leaves = begins_again l stands (λ db left. inl (leaves db left))
 
   pub begins_made : HasNone (state g old).now.schema → MayServe (made (state g old).now.schema) book new
   begins_made none =
       let is = opens.made none in
       record { tables = is.tables; kept = record { shows = is.shows; leaves = is.leaves } }
+
+pub begins_kept : (book : Book) (s : State) → IsKeptThere book s → MayBegin book s
+begins_kept book s (l, tables, kept) = (l, record { tables = tables; kept = kept })
+
+-- ---- what opening finds after a session
+
+module _ {S : Type 0} (g : Ghosts S) (make : Bool) (next : Held S) (after : State) (anew : IsOpenedAnew (state g next)) (live : IsLive (state g next)) (l : Layout) (tables : HasNewTables l)
+    (book : Book) (end : Ended) (given : List Given) (holds : HoldsGiven l book end given (state g next).committed.trees) where
+  pub finds_kept : (held : Book) (turns : List Turn) → IsSession book turns given held → EndsAs end turns → (result : Result Book OpenFault) → Opens g make next after result
+      → IfOk result (IsKeptBook book turns given) × IfErr result (λ fault. ¬ IsRefusal fault)
+  finds_kept held turns session ends =
+      let lost : HoldsAcknowledged (record { turns = turns; given = given; kept = holds.kept }) =
+      record { lost = holds.missing; front = holds.front; unacknowledged = missing_lost end turns book held given holds.kept holds.missing session ends holds.front holds.lacks } in
+      finds_such g make next after anew live (IsKeptBook book turns given) holds.next (holds.kept, lost, holds.after)
+      (holds_new l holds.next (state g next).committed.trees tables holds.holds)
+
+  pub begins_found : IsSettled (state g next) → (found : Book) → Opens g make next after (Ok found) → MayBegin found after
+  begins_found settled found opens =
+      begins_kept found after (keeps g make next after anew live holds.next found (holds_new l holds.next (state g next).committed.trees tables holds.holds) settled opens)

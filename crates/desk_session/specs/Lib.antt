@@ -3,3 +3,4 @@ pub mod Requests
 pub mod Reading
 pub mod Served
 pub mod Turns
+pub mod Reopened

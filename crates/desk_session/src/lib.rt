@@ -13,6 +13,7 @@
 #![tactic(auto)]
 
 mod chunk;
+pub mod found;
 mod input;
 pub mod laws;
 mod line;

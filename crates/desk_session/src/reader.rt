@@ -1,6 +1,6 @@
 //! The requests of an input.
 ghost use Rattle.desk_session.specs.Reading.{EndsLine, HoldsText, IsLine, ReadsBlock, ReadsRequest, kept};
-ghost use Rattle.std.specs.Prelude.{List, Some, [], false, ◌++◌, ◌≡◌, ℕ};
+ghost use Rattle.std.specs.Prelude.{Err, IfErr, List, None, OnOk, Some, [], false, ◌++◌, ◌≡◌, ℕ};
 
 use super::input::Input;
 use super::line::{Line, without_ending};
@@ -37,8 +37,11 @@ fn copy_line(alloc: Global, line: &[u8]) -> Result<Vec<u8>, Fault>
 
 /// Bytes with a line after them. With a line that is too long they are no request, and no more of them is held.
 fn add_line(text: Result<Vec<u8>, Fault>, line: &Line) -> Result<Vec<u8>, Fault>
-    ensures { (bytes more : List ℕ) → EndsLine bytes → IsLine more
+    ensures holds { (bytes more : List ℕ) → EndsLine bytes → IsLine more
         → HoldsText text bytes → line.now ≡ kept more → HoldsText result (bytes ++ more) }
+    // What is known of the block by then stays so, and a line that is too long is a fault of syntax.
+    ensures still { IfErr text (λ fault. result ≡ Err fault) }
+    ensures too_long { line.now ≡ None → OnOk text (result ≡ Err Fault.Syntax) }
 {
     match (text, line.bytes()) {
         (Ok(text), Some(bytes)) => append(text, bytes),

@@ -2,6 +2,7 @@
 ghost use Rattle.desk_session.specs.Served.{Served};
 ghost use Rattle.desk_book.specs.Book.{Book};
 ghost use Rattle.desk_store.specs.Books.{Store as Shown, shown_by};
+ghost use Rattle.std.specs.Prelude.{true, ◌≡◌};
 
 use super::reader::Reader;
 use super::turn::{answer_found, is_lost, reply};
@@ -38,9 +39,11 @@ pub fn serve<R: Source, W: Sink, S: Alter>(
     store: &mut Store<S>,
     book: Book,
 ) -> (Ended, Book)
-    ensures { Served book result.1 result.0 (R.remaining source.old) (R.remaining source.new)
+    ensures served { Served book result.1 result.0 (R.remaining source.old) (R.remaining source.new)
         (W.contents sink.old) (W.contents sink.new) (W.flushed sink.new) R.can_fail W.can_fail
         (shown_by S.Store store.old) (shown_by S.Store store.new) }
+    // Only a store on which a change was lost ends it so.
+    ensures lost { result.0 ≡ Ended.Lost → store.new.lost ≡ true }
 {
     let mut reader = Reader::new();
     let mut book = book;

@@ -3,7 +3,7 @@ ghost use Rattle.desk_line.specs.Request.{Reads};
 ghost use Rattle.desk_session.specs.Reading.{IsFound};
 ghost use Rattle.desk_session.specs.Turns.{HoldsHead, SendsReply, TakesTurn, fault_answer};
 ghost use Rattle.desk_store.specs.Books.{shown_by};
-ghost use Rattle.std.specs.Prelude.{IsTrue, List, is_ok, ◌≡◌, ◌↔◌, ℕ};
+ghost use Rattle.std.specs.Prelude.{IsTrue, List, is_ok, true, ◌≡◌, ◌≢◌, ◌↔◌, ℕ};
 
 use super::line::Line;
 use super::reader::Found;
@@ -24,8 +24,9 @@ pub(crate) fn answer_found<S: Alter>(
     found: Found,
 ) -> (Answer, Book)
     requires { HoldsHead line.now found }
-    ensures { (bytes : List ℕ) → IsFound line.now bytes found → TakesTurn bytes book result.1 result.0
+    ensures taken { (bytes : List ℕ) → IsFound line.now bytes found → TakesTurn bytes book result.1 result.0
         (shown_by S.Store store.old) (shown_by S.Store store.new) }
+    ensures lost { result.0 ≡ Answer.Lost → store.new.lost ≡ true }
 {
     match found {
         Found::Head => answer(alloc, store, book, line.held()),
@@ -41,8 +42,9 @@ fn answer<S: Alter>(
     book: Book,
     request: &[u8],
 ) -> (Answer, Book)
-    ensures { TakesTurn request.now book result.1 result.0
+    ensures taken { TakesTurn request.now book result.1 result.0
         (shown_by S.Store store.old) (shown_by S.Store store.new) }
+    ensures lost { result.0 ≡ Answer.Lost → store.new.lost ≡ true }
 {
     match read_request(alloc, request) {
         Ok(Request::Do { command, expect }) => carry_out(alloc, store, book, &command, expect),
@@ -53,7 +55,8 @@ fn answer<S: Alter>(
 
 /// What is answered to a request that wasn't read.
 fn fault_answer(fault: Fault) -> Answer
-    ensures { result ≡ fault_answer fault }
+    ensures is { result ≡ fault_answer fault }
+    ensures not_lost { result ≢ Answer.Lost }
 {
     match fault {
         Fault::Syntax => Answer::Syntax,
@@ -69,9 +72,10 @@ fn carry_out<S: Alter>(
     command: &Command,
     expect: Option<u64>,
 ) -> (Answer, Book)
-    ensures { (bytes : List ℕ) → Reads bytes (Request.Do command.now expect)
+    ensures taken { (bytes : List ℕ) → Reads bytes (Request.Do command.now expect)
         → TakesTurn bytes book result.1 result.0
         (shown_by S.Store store.old) (shown_by S.Store store.new) }
+    ensures lost { result.0 ≡ Answer.Lost → store.new.lost ≡ true }
 {
     let change = match book.plan(alloc, command, expect) {
         Ok(change) => change,

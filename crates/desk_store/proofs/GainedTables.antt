@@ -1,18 +1,19 @@
 -- A file that gains no table is as it was, and one that gained some, and is settled, leaves the book with them.
-use Rattle.std.proofs.Common.{◌≡◌, List, [], ◌∷◌, refl, sym, subst}
+use Rattle.std.proofs.Common.{◌≡◌, List, [], ◌∷◌, Option, None, inl, inr, ap, refl, sym, subst}
 use Rattle.std.specs.List.{AllByRecursion}
 use Rattle.sqlite_catalog.specs.Change.{KeepsRows}
 use Rattle.sqlite_schema.specs.declared.schema.Table.{Table}
 use Rattle.sqlite_trees.specs.Tree.{Trees}
 use Rattle.sqlite.specs.State.{State}
-use Rattle.sql_tables.specs.States.{IsSettled}
+use Rattle.sql_tables.specs.States.{IsSettled, Leaves}
 use Rattle.desk_book.specs.Book.{Book}
 use Rattle.desk_store.specs.Books.{HoldsBook, LeavesBook}
 use Rattle.desk_rows.specs.Contents.{Contents}
 use Rattle.desk_rows.specs.Described.{Which}
 use Rattle.desk_rows.specs.Layout.{IsOther, Layout}
 use Rattle.desk_rows.specs.Making.{with_tables}
-use Rattle.desk_store.specs.Opened.{HasGained, StandsAs}
+use Rattle.desk_book.specs.declared.filling.NewTables.{NewTables}
+use Rattle.desk_store.specs.Opened.{HasGained, HoldsEitherWith, StandsAs, which_lacked}
 use Rattle.desk_rows.specs.States.{Shows}
 
 own_rows : (tables : List Table) (rows : Trees) → KeepsRows tables rows rows
@@ -54,3 +55,10 @@ module _ (l : Layout) (c : Contents) (book : Book) (s : State) where
 
   pub leaves_gained : (ws : List Which) (rows : Trees) → HasGained ws l c book rows (λ after d. Shows after d s) → IsSettled s → LeavesBook (with_tables ws l) book s
   leaves_gained ws rows gained settled db left = subst (HoldsBook (with_tables ws l) book) (sym (settled db left)) (gained.0, gained.1.is, gained.2)
+
+-- one that lacks no table has just one form
+pub left_whole : (lacked : Option NewTables) (l : Layout) (book : Book) (s : State) → lacked ≡ None → Leaves (HoldsEitherWith (which_lacked lacked) l book) s
+    → LeavesBook (with_tables (which_lacked lacked) l) book s
+left_whole lacked l book s none leaves db left =
+    let same : with_tables (which_lacked lacked) l ≡ l = ap (λ (some : Option NewTables). with_tables (which_lacked some) l) none in
+    elim (leaves db left) [ inl old ↦ subst (λ (m : Layout). HoldsBook m book db) (sym same) old | inr new ↦ new ]

@@ -45,7 +45,7 @@ length_one x (y ∷ []) one all = ap (λ z. z ∷ []) all.0
 length_one x (y ∷ z ∷ zs) one all = absurd (omega (arith, one))
 
 -- a list that is one row but for the order is that row
-same_one : {X : Type 0} (xs ys : List X) (x : X) → IsPermutation xs ys → ys ≡ x ∷ [] → xs ≡ x ∷ []
+pub same_one : {X : Type 0} (xs ys : List X) (x : X) → IsPermutation xs ys → ys ≡ x ∷ [] → xs ≡ x ∷ []
 same_one {X} xs ys x same is =
     let back : IsPermutation (x ∷ []) xs = subst (λ (zs : List X). IsPermutation zs xs) is (IsPermutation-sym xs ys same) in
     length_one x xs (length_permutation (x ∷ []) xs back) (all-permutation (λ y. y ≡ x) (x ∷ []) xs back (refl, tt))
@@ -81,7 +81,7 @@ numbered : (entries : EntryRows) → format_in (pos (format_of entries)) ≡ for
 numbered (Unnamed rows) = refl
 numbered (Named rows) = refl
 
-number_of : (n : ℤ) → pos 1 ≤ℤ n → n ≤ℤ pos 2 → (entries : EntryRows) → format_kept entries ≡ format_in n → pos (format_of entries) ≡ n
+pub number_of : (n : ℤ) → pos 1 ≤ℤ n → n ≤ℤ pos 2 → (entries : EntryRows) → format_kept entries ≡ format_in n → pos (format_of entries) ≡ n
 number_of n low high entries kept = go (int_eq n (pos 1)) (Decides-int_eq n (pos 1)).0 (Decides-int_eq n (pos 1)).1 entries kept
   where
     go : (b : Bool) → (b ≡ true → n ≡ pos 1) → (n ≡ pos 1 → b ≡ true) → (entries : EntryRows) → format_kept entries ≡ (if b then unnamed else named) → pos (format_of entries) ≡ n
@@ -106,7 +106,7 @@ present foreign has there Utf8 same can = (same, can)
 present unread has there Utf8 same can = tt
 
 -- a file that can be read as one of a format is of it
-of_read : (f : Format) (l : Layout) (c : Contents) → HasThoseRead l → CanAllBeRead f l c → IsOfFormat f l
+pub of_read : (f : Format) (l : Layout) (c : Contents) → HasThoseRead l → CanAllBeRead f l c → IsOfFormat f l
 of_read f l c (inl exact) can = λ w. present (presence f w) (l.has w) (is_there l.schema w) _ (exact w) (can w)
 of_read f l c (inr other) can = go f other.0 other.1 can
   where
@@ -130,14 +130,14 @@ none_of : (b : Bool) → not b ≡ true → b ≡ false
 none_of true is = absurd (true≢false (sym is))
 none_of false is = refl
 
-tables_of : (f : Format) (l : Layout) → IsOfFormat f l → has_tables f l.schema ≡ true
+pub tables_of : (f : Format) (l : Layout) → IsOfFormat f l → has_tables f l.schema ≡ true
 tables_of unnamed l of =
     all_but_one _ _ _ _ _ (sym (of tabs).0 ∙ (of tabs).1) (sym (of paras).0 ∙ (of paras).1) (sym (of marks).0 ∙ (of marks).1) (sym (of corrs).0 ∙ (of corrs).1) (sym (of named_corrs).0 ∙ (of named_corrs).1)
 tables_of named l of =
     all_of_them _ _ _ _ (sym (of tabs).0 ∙ (of tabs).1) (sym (of paras).0 ∙ (of paras).1) (sym (of marks).0 ∙ (of marks).1) (sym (of named_corrs).0 ∙ (of named_corrs).1)
 
 -- the tables that are there are those of one format
-one_format : (f g : Format) (l : Layout) → has_tables f l.schema ≡ true → IsOfFormat g l → g ≡ f
+pub one_format : (f g : Format) (l : Layout) → has_tables f l.schema ≡ true → IsOfFormat g l → g ≡ f
 one_format unnamed unnamed l all of = refl
 one_format unnamed named l all of =
     absurd (true≢false (sym (of named_corrs).1 ∙ (of named_corrs).0 ∙ none_of (is_there l.schema named_corrs) (right_of (is_there l.schema corrs) _ (right_of _ _ all))))
@@ -148,7 +148,7 @@ books_as_there : (f : Format) (l : Layout) → IsOfFormat f l → l.has books �
 books_as_there unnamed l of = (of books).0
 books_as_there named l of = (of books).0
 
-books_there : (l : Layout) → HasThoseRead l → l.has books ≡ is_there l.schema books
+pub books_there : (l : Layout) → HasThoseRead l → l.has books ≡ is_there l.schema books
 books_there l (inl exact) = exact books
 books_there l (inr other) = books_as_there other.0 l other.1
 

@@ -12,3 +12,8 @@ pub mod FoundFormats
 pub mod GainedTables
 pub mod Opened
 pub mod Openings
+pub mod Reopening
+pub mod FileDamage
+pub mod InOrder
+pub mod ReadAnswers
+pub mod ShownRows

@@ -30,7 +30,7 @@ use Rattle.desk_store.specs.Formats.{Format, HasThoseRead, IsOfFormat}
 use Rattle.desk_store.specs.Found.{AreFileRows, HasNone, RowsShowIn}
 use Rattle.desk_rows.specs.Layout.{Layout}
 use Rattle.desk_rows.specs.Making.{IsMade, IsNew, made, new_tables, with_tables}
-use Rattle.desk_store.specs.Opened.{HasGained, HoldsEither, HoldsEmpty, HoldsNone, HoldsWith, IsMadeNew, IsReadOf, MayBring, Opens, Stands, StandsAs, TellsOf, TellsOfNone, TellsOfTables, lacked, lacked_by, which_lacked}
+use Rattle.desk_store.specs.Opened.{HasGained, HoldsEither, HoldsEitherWith, HoldsEmpty, HoldsNone, HoldsWith, IsMadeNew, IsReadOf, MayBring, Opens, Stands, StandsAs, TellsOf, TellsOfNone, TellsOfTables, lacked, lacked_by, which_lacked}
 use Rattle.desk_store.specs.Opening.{IsOpenedAs, IsRefusal, Stays, rebuilt_as}
 use Rattle.desk_rows.specs.States.{IsFile, Shows}
 use Rattle.desk_rows.specs.Tables.{is_there}
@@ -150,7 +150,7 @@ module _ {S : Type 0} (g : Ghosts S) (make : Bool) (old : Held S) (there : ¬ Ha
       }
 
       pub opens : (new : State) → ((l : Layout) (c : Contents) → StandsAs l c book mid → HasGained (which_lacked (lacked_by rows)) l c book mid.now.trees (λ after d. Shows after d new))
-          → ((l : Layout) (c : Contents) → StandsAs l c book mid → LeavesBook l book mid → LeavesBook (with_tables (which_lacked (lacked_by rows)) l) book new)
+          → ((l : Layout) (c : Contents) → StandsAs l c book mid → Leaves (HoldsEitherWith (which_lacked (lacked_by rows)) l book) mid → LeavesBook (with_tables (which_lacked (lacked_by rows)) l) book new)
           → ((db : Trees) → mid.may_leave db → s.may_leave db) → IsTrue new.is_open → Opens g make old new (Ok book)
       opens new filled leaves left is_open = record {
         found = inl (rows, found, shows_it);
@@ -167,7 +167,10 @@ module _ {S : Type 0} (g : Ghosts S) (make : Bool) (old : Held S) (there : ¬ Ha
               stood = st;
               tables = completed_tables format l of;
               shows = gained_same _ _ l c book book mid.now s.now (λ after d. Shows after d new) same refl stays.now (filled l c (still l c book st));
-              leaves = λ was. subst (λ (ws : List Which). LeavesBook (with_tables ws l) book new) same (leaves l c (still l c book st) (λ db here. was db (left db here)));
+              leaves = λ was.
+                  let here : Leaves (HoldsEither l book) mid = λ db here. was db (left db here) in
+                  let either = subst (λ (ws : List Which). Leaves (HoldsEitherWith ws l book) mid) (sym same) here in
+                  subst (λ (ws : List Which). LeavesBook (with_tables ws l) book new) same (leaves l c (still l c book st) either);
             };
         made = λ none. absurd (there none);
       }

@@ -1,6 +1,6 @@
 -- A book that stands in a file is never refused there.
 use Rattle.std.proofs.Common.{◌≡◌, ℤ, pos, Bool, true, false, List, [], ◌∷◌, map, inl, inr, arith, refl, sym, subst, ap, ◌∙◌, true≢false}
-use Rattle.std.specs.Prelude.{◌<ℤ◌, if◌then◌else◌, Result, Ok, Err, IfOk, IfErr}
+use Rattle.std.specs.Prelude.{◌<ℤ◌, ◌≤ℤ◌, if◌then◌else◌, Result, Ok, Err, IfOk, IfErr}
 use Rattle.std.specs.List.{AllByRecursion}
 use Rattle.std.proofs.lemmas.Int.{ints}
 use Rattle.std.proofs.lemmas.List.Elements.{recursion_from_All}
@@ -37,11 +37,11 @@ bodies (row ∷ rows) all = (all.0.0, bodies rows all.1)
 
 -- ---- its format
 
-number_of : Format → ℤ
+pub number_of : Format → ℤ
 number_of unnamed = pos 1
 number_of named = pos 2
 
-in_format : (f : Format) → format_in (number_of f) ≡ f
+pub in_format : (f : Format) → format_in (number_of f) ≡ f
 unfolding number_of
 in_format unnamed = refl
 in_format named = refl
@@ -54,6 +54,11 @@ no_later unnamed format is later =
 no_later named format is later =
     let bad : pos 2 <ℤ pos 2 = subst (λ (z : ℤ). pos 2 <ℤ z) is later in
     omega (arith, ints, bad)
+
+pub at_most_two : (f : Format) (format : ℤ) → format ≡ number_of f → format ≤ℤ pos 2
+unfolding number_of
+at_most_two unnamed format is = let one : format ≡ pos 1 = is in omega (arith, ints, one)
+at_most_two named format is = let two : format ≡ pos 2 = is in omega (arith, ints, two)
 
 alone : {X : Type 0} (x y : X) → x ∷ [] ≡ y ∷ [] → x ≡ y
 alone x y is = cc is
@@ -71,7 +76,7 @@ module _ (l : Layout) (c : Contents) (book : Book) (shows : RowsShow (rows_of l 
       let texts = recursion_from_All HasEntryTexts (entries_in (rows_of l c).entries) shows.texts.entries in
       subst (λ (has : Bool). AllByRecursion HasEntryTexts (entries_in (if has then Named (c.rows named_corrs) else Unnamed (c.rows corrs)))) there texts
 
-  can_be_read : (f : Format) → IsOfFormat f l → CanAllBeRead f l c
+  pub can_be_read : (f : Format) → IsOfFormat f l → CanAllBeRead f l c
   can_be_read f of =
       all_readable f l c of (recursion_from_All _ _ shows.texts.tabs) (recursion_from_All _ _ shows.texts.paras) (entries_read f of)
       (recursion_from_All _ _ shows.texts.marks)
@@ -81,7 +86,7 @@ module _ (l : Layout) (c : Contents) (book : Book) (shows : RowsShow (rows_of l 
   format_is unnamed of = rw (of named_corrs).1 refl
   format_is named of = rw (of named_corrs).1 refl
 
-  row_is : (f : Format) → IsOfFormat f l → (row : BookRow) → c.rows books ≡ row ∷ [] → row.format ≡ number_of f
+  pub row_is : (f : Format) → IsOfFormat f l → (row : BookRow) → c.rows books ≡ row ∷ [] → row.format ≡ number_of f
   row_is f of row is =
       ap (λ (r : BookRow). r.format) (alone row (book_row_of (format_of (rows_of l c).entries) book.version) (sym is ∙ shows.row)) ∙ format_is f of
 

@@ -4,3 +4,5 @@ pub mod Books
 pub mod Opening
 pub mod Found
 pub mod Opened
+pub mod Undamaged
+pub mod Reopened

@@ -9,7 +9,7 @@ use Rattle.sqlite.specs.declared.error.Error.{Error}
 use Rattle.sqlite.specs.Held.{Held, state}
 use Rattle.sqlite.specs.State.{HasCleanDisk, State, Survives}
 use Rattle.sql_tables.specs.Making.{KeepsAside}
-use Rattle.sql_tables.specs.States.{ShowsAsBefore}
+use Rattle.sql_tables.specs.States.{Leaves, ShowsAsBefore}
 use Rattle.desk_book.specs.Book.{Book, empty_book}
 use Rattle.desk_book.specs.Damage.{IsDamagedBook, IsFirstDamage}
 use Rattle.desk_parts.specs.FileRows.{EntryRows, FileRows, Named, Unnamed}
@@ -176,16 +176,21 @@ pub record MayBring (make : Bool) (s : State) (db : Trees) : Type 0 where
   pub old : (l : Layout) (c : Contents) (book : Book) → StandsAs l c book s
       → HasGained (lacked l) l c book s.now.trees (λ after d. IsFile after d db)
 
+-- the book in the file as it was, or with these tables
+abbrev pub HoldsEitherWith : List Which → Layout → Book → Trees → Type 0
+HoldsEitherWith ws l book db = HoldsBook l book db ⊎ HoldsBook (with_tables ws l) book db
+
 -- the book in the file as it was, or with the tables that it lacked
 abbrev pub HoldsEither : Layout → Book → Trees → Type 0
-HoldsEither l book db = HoldsBook l book db ⊎ HoldsBook (completed l) book db
+HoldsEither l = HoldsEitherWith (lacked l) l
 
--- the book stood there, it stands there in a file with the tables of a new one, and a crash leaves it so
+-- The book stood there, it stands there in a file with the tables of a new one, and a crash leaves it so, also where it left it in either
+-- form before.
 pub record IsOpened (l : Layout) (c : Contents) (book : Book) (old new : State) : Type 0 where
   pub stood : StandsAs l c book old
   pub tables : HasNewTables (completed l)
   pub shows : HasGained (lacked l) l c book old.now.trees (λ after d. Shows after d new)
-  pub leaves : LeavesBook l book old → LeavesBook (completed l) book new
+  pub leaves : Leaves (HoldsEither l book) old → LeavesBook (completed l) book new
 
 -- a new book was made where none of the tables was there, the empty one, and a crash leaves it
 pub record IsMadeNew (make : Bool) (book : Book) (old new : State) : Type 0 where

@@ -11,9 +11,10 @@ ghost use Rattle.desk_rows.specs.Described.{Which, caches, named_corrs};
 ghost use Rattle.desk_rows.specs.Layout.{Layout};
 ghost use Rattle.desk_store.specs.Formats.{Format, IsExact, IsOfFormat, named, unnamed};
 ghost use Rattle.desk_rows.specs.Making.{after, is_among, made, with_tables};
-ghost use Rattle.desk_store.specs.Opened.{IsMadeNew, IsOpened, Opens as OpensSo, Stands, completed};
+ghost use Rattle.desk_store.specs.Opened.{HoldsEither, IsMadeNew, IsOpened, Opens as OpensSo, Stands, completed};
 ghost use Rattle.desk_store.specs.Opening.{IsRefusal};
 ghost use Rattle.desk_store.specs.declared.fault.OpenFault.{OpenFault};
+ghost use Rattle.sql_tables.specs.States.{Leaves};
 ghost use Rattle.sqlite.specs.Held.{state};
 ghost use Rattle.sqlite.specs.State.{HasCleanDisk, Opens, Survives};
 ghost use Rattle.sqlite_schema.specs.declared.schema.Schema.{Schema};
@@ -62,7 +63,7 @@ pub fn kept_then_opened<S: Alter, T: Alter>(last: &Store<S>, next: &Connection<T
 }
 
 /// Where a book was opened or made, a change that leads on from it may be kept; and a crash leaves the book, where one before
-/// it was opened did.
+/// it was opened did, in the form that its file had or with the tables that it lacked.
 pub fn opened_then_kept<S: Alter>(before: &Connection<S>, after: &Store<S>, change: &Change)
     ensures opened { (l : Layout) (c : Contents) (book next : Book)
         → IsOpened l c book (state S.Store before.now) (shown_by S.Store after.now)
@@ -70,7 +71,7 @@ pub fn opened_then_kept<S: Alter>(before: &Connection<S>, after: &Store<S>, chan
         → MayKeep (completed l) book change.now next (shown_by S.Store after.now) }
     ensures left { (l : Layout) (c : Contents) (book : Book)
         → IsOpened l c book (state S.Store before.now) (shown_by S.Store after.now)
-        → LeavesBook l book (state S.Store before.now)
+        → Leaves (HoldsEither l book) (state S.Store before.now)
         → IsKept (completed l) book (shown_by S.Store after.now) }
     ensures made { (make : Bool) (book next : Book)
         → IsMadeNew make book (state S.Store before.now) (shown_by S.Store after.now)

@@ -7,6 +7,7 @@
 mod book_file;
 mod fault;
 mod fill;
+pub mod found;
 pub mod laws;
 mod make;
 mod opening;

@@ -13,6 +13,7 @@ ghost use Rattle.desk_rows.specs.States.{Shows};
 ghost use Rattle.sql_tables.specs.States.{Leaves};
 ghost use Rattle.sqlite.specs.Held.{Held, state};
 ghost use Rattle.sqlite.specs.State.{HasCleanDisk, Survives};
+ghost use Rattle.desk_store.specs.Opened.{HoldsEitherWith};
 
 use crate::book_file::{has_any, read_parts};
 use crate::fault::OpenFault;
@@ -51,7 +52,7 @@ fn complete<S: Alter>(
         → OnOk result (IsTrue (state S.Store conn.new).is_open) }
     ensures leaves { HasCleanDisk (state S.Store conn.new) → (l : Layout) (c : Contents)
         → StandsAs l c book.now (state S.Store conn.old)
-        → LeavesBook l book.now (state S.Store conn.old) → OnOk result
+        → Leaves (HoldsEitherWith (which_lacked lacked) l book.now) (state S.Store conn.old) → OnOk result
         (LeavesBook (with_tables (which_lacked lacked) l) book.now (state S.Store conn.new)) }
     // Of a crash at any exit: nothing new is left but all of it.
     ensures crash { Survives (state S.Store conn.old) (state S.Store conn.new)

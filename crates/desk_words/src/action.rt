@@ -33,7 +33,7 @@ pub enum Action<'a> {
     Translate {
         table: &'a str,
     },
-    /// Says which version the book in a file has.
+    /// Checks a book's file and says which version the book has.
     Check {
         file: &'a str,
     },

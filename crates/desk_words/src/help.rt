@@ -16,7 +16,7 @@ pub const EXPORT_ABOUT: &str = "Writes a volume of the book in a file as pages f
 pub const TRANSLATE_ABOUT: &str = "Writes the braille of each line of standard input by a table";
 
 /// What `check` does.
-pub const CHECK_ABOUT: &str = "Says which version the book in a file has";
+pub const CHECK_ABOUT: &str = "Checks a book's file and says how many changes were made to it";
 
 /// What the operand of `translate` is.
 pub const TABLE: &str = "A table file, or @en for the supplied table of uncontracted English";
@@ -49,10 +49,10 @@ Exit status:
   1  the words were refused
   2  one line on standard error, 'braildesk: ' and
      no 90           there was no memory
-     no 92           the file is not a book, and can't be made one
+     no 92           the file is a database that can't be made a book
      no 93 TABLE ID  the book in the file is damaged
      no 94           the book is of a newer format
-     no 98           the file can't be opened, or is in use
+     no 98           the file can't be opened or written, is in use, or is no database
      no 99 VERSION   the file holds a book already
   3  the file could not be written, or standard output failed";
 
@@ -69,10 +69,10 @@ Exit status:
   1  the words were refused
   2  one line on standard error, 'braildesk: ' and
      no 90           there was no memory
-     no 92           the file is not a book
+     no 92           the file is a database but no book
      no 93 TABLE ID  the book in the file is damaged
      no 94           the book is of a newer format
-     no 98           the file is not there, can't be opened, or is in use
+     no 98           the file is not there, can't be opened or written, is in use, or is no database
   3  the file could not be read, the book could not be kept, or standard input or standard output failed";
 
 /// The end of the help of `export`.
@@ -87,12 +87,12 @@ Exit status:
   1  the words were refused
   2  one line on standard error, 'braildesk: ' and
      no 90            there was no memory
-     no 92            the file is not a book
+     no 92            the file is a database but no book
      no 93 TABLE ID   the book in the file is damaged
      no 94            the book is of a newer format
      no 95 PARA CELL  a cell of the volume has dot 7 or 8
      no 96            the book has no such volume
-     no 98            the file is not there, can't be opened, or is in use
+     no 98            the file is not there, can't be opened or written, is in use, or is no database
   3  the file could not be read, or standard output failed";
 
 /// The end of the help of `translate`.
@@ -116,7 +116,7 @@ Exit status:
 
 /// The end of the help of `check`.
 pub const CHECK: &str = "\
-The answer is 'ok VERSION'.
+The answer is 'ok VERSION': as many changes as were made to the book.
 
 Example:
   braildesk check book.braildesk
@@ -126,8 +126,8 @@ Exit status:
   1  the words were refused
   2  one line on standard error, 'braildesk: ' and
      no 90           there was no memory
-     no 92           the file is not a book
+     no 92           the file is a database but no book
      no 93 TABLE ID  the book in the file is damaged
      no 94           the book is of a newer format
-     no 98           the file is not there, can't be opened, or is in use
+     no 98           the file is not there, can't be opened or written, is in use, or is no database
   3  the file could not be read, or standard output failed";

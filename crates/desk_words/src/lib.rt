@@ -9,7 +9,7 @@
 //! }
 //! ```
 //!
-//! What an action does is left to `braildesk`.
+//! `desk_program` carries an action out.
 #![tactic(auto)]
 
 mod action;

@@ -8,7 +8,7 @@ use Rattle.std.proofs.lemmas.List.Concat.{length-flat_map}
 use Rattle.std.proofs.lemmas.List.Elements.{All-nil, All-cons, All-head, All-tail, All-append, All-weaker}
 use Rattle.std.proofs.lemmas.List.Sums.{sum_by-le}
 use Rattle.std.proofs.lemmas.Map.Entries.{All-lookup}
-use Rattle.cell_core.specs.Dots.{Dots, SpellsCell, blank, dotted}
+use Rattle.cell_core.specs.Dots.{Dots, blank, dotted}
 use Rattle.louis_table.specs.declared.definition.Class.TheVariants.{Letter}
 use Rattle.louis_table.specs.declared.definition.Definition.{Definition}
 use Rattle.louis_table.specs.declared.rule.Rule.{Rule}

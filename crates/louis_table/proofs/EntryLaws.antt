@@ -1,6 +1,5 @@
 -- What is read of a line is what it says.
 use Rattle.std.proofs.Common.{◌≡◌, ◌≢◌, ℕ, ◌<◌, ◌≤◌, Bool, true, false, ◌||◌, eqb, ltb, List, [], ◌∷◌, length, Option, Some, None, option_map, Result, Ok, Err, refl, sym, ap, subst, ◌∙◌, ◌⊎◌, inl, inr, arith, lit≤}
-use Rattle.std.specs.Prelude.{map}
 use Rattle.std.specs.Str.{bytes_eq}
 use Rattle.std.proofs.lemmas.Bool.{cases_Bool, eqb-true, eqb-false, eq-eqb, ne_eqb, lt-ltb, ltb-true}
 use Rattle.std.proofs.lemmas.Slice.Eq.{bytes_eq-Decides}
@@ -16,18 +15,25 @@ use Rattle.louis_table.specs.declared.character_set.CharacterSet.{CharacterSet}
 use Rattle.louis_table.specs.declared.character_set.CharacterSet.TheVariants as sets
 use Rattle.louis_table.specs.declared.opcode.Opcode.{Opcode}
 use Rattle.louis_table.specs.declared.opcode.Opcode.TheVariants.{Define, UpLow, Replace, Announce, Collect}
-use Rattle.louis_table.specs.declared.opcode.TheConstants.{OPCODES}
 use Rattle.louis_table.specs.Fields.{IsGap, IsField, Begins, HasFields}
 use Rattle.louis_table.specs.Characters.{Spells}
-use Rattle.louis_table.specs.Profile.{WithNumericMode}
-use Rattle.louis_table.specs.Opcode.{name_of, HasOpcode}
-use Rattle.louis_table.specs.Reading.{field_at, characters_in, opcode_among, opcode_named, pair_in, rule_in, or_cause, entry_from, entry_with, entry_of_two, entry_of_one, entry_of_set, entry_of_fields, entry_at, as_some, opcode_gives, fields_give, line_gives, are_many, are_many_written, is_large}
+use Rattle.louis_table.specs.Profile.{Profile, WithoutNumericMode, WithNumericMode, Includes}
+use Rattle.louis_table.specs.Opcode.{name_of, profile_of, HasOpcode}
+use Rattle.louis_table.specs.Reading.{field_at, characters_in, opcode_among, opcodes, opcode_named, pair_in, rule_in, or_cause, entry_from, entry_with, entry_of_two, entry_of_one, entry_of_set, entry_of_fields, entry_at, as_some, opcode_gives, fields_give, line_gives, are_many, are_many_written, is_large}
 use Rattle.louis_table.specs.Table.{Entry, Defines, Pairs, Replaces, Announces, Collects, AreCharactersFor, HasCharacters, HasDots, HasOperands, AreTooManyFor, RuleDots, IsDotsFor, WritesCells, most_rule_characters, IsComment, SaysNothing, blank, comment, Gives, definition_line, pair_line, rule_line, sign_line, set_line, Fault, unknown_opcode, missing_operand, bad_characters, bad_dots, many_characters, many_cells}
 use Rattle.louis_table.proofs.FieldLaws.{field_at-Begins, Begins-field_at, IsGap-field_at, field_at-gap, gap_without_field}
 use Rattle.louis_table.proofs.CharacterLaws.{chosen, map_some, characters_in-Spells, Spells-characters_in}
 use Rattle.louis_table.proofs.OperandLaws.{pair_in-PairDots, PairDots-pair_in, rule_in-RuleDots, RuleDots-rule_in}
 
 -- ---- opcodes
+
+includes : (earlier : Profile) → Includes WithNumericMode earlier
+includes WithoutNumericMode = tt
+includes WithNumericMode = tt
+
+-- the last profile has every opcode
+pub has_opcode : (opcode : Opcode) → HasOpcode WithNumericMode opcode
+has_opcode opcode = includes (profile_of opcode)
 
 pub opcode_named-name_of : (opcode : Opcode) → opcode_named (name_of opcode) ≡ Some opcode
 unfolding opcode_named
@@ -64,7 +70,7 @@ opcode_among-Some (first ∷ opcodes) field opcode named e =
 pub opcode_named-Some : (field : List ℕ) (opcode : Opcode) → opcode_named field ≡ Some opcode → field ≡ name_of opcode
 unfolding opcode_named
 opcode_named-Some field opcode e =
-    opcode_among-Some (map (λ o. (o.0.now, o.1)) OPCODES) field opcode (refl, (refl, (refl, (refl, (refl, (refl, (refl, (refl, (refl, (refl, (refl, (refl, (refl, (refl, (refl, (refl, tt)))))))))))))))) e
+    opcode_among-Some opcodes field opcode (refl, (refl, (refl, (refl, (refl, (refl, (refl, (refl, (refl, (refl, (refl, (refl, (refl, (refl, (refl, (refl, tt)))))))))))))))) e
 
 opcode_named-None : (field : List ℕ) → opcode_named field ≡ None → (opcode : Opcode) → HasOpcode WithNumericMode opcode → field ≢ name_of opcode
 opcode_named-None field e opcode has h = let s : opcode_named field ≡ Some opcode = ap opcode_named h ∙ opcode_named-name_of opcode in absurd cc
@@ -132,7 +138,7 @@ module _ (line characters dots : List ℕ) where
   wrong_says : (opcode : Opcode) (text : List ℕ) → TakesBoth opcode → HasFields line (name_of opcode ∷ characters ∷ dots ∷ []) → characters_in characters ≡ Some text
       → ¬ AreCharactersFor opcode text → (before : List (List ℕ)) → Fault before line 3
   wrong_says opcode text b h e n before =
-      bad_characters opcode characters tt (HasCharacters-both line characters opcode b (front_field line (name_of opcode) characters dots h)) (wrong_length opcode characters text e n) refl
+      bad_characters opcode characters (has_opcode opcode) (HasCharacters-both line characters opcode b (front_field line (name_of opcode) characters dots h)) (wrong_length opcode characters text e n) refl
 
   text_says : (opcode : Opcode) (text : List ℕ) → TakesBoth opcode → HasFields line (name_of opcode ∷ characters ∷ dots ∷ []) → characters_in characters ≡ Some text
       → Says line (as_some (entry_from opcode text dots))
@@ -140,29 +146,29 @@ module _ (line characters dots : List ℕ) where
   text_says (Define class) (c ∷ []) b h e =
       or_cause_says line 4 _
       (λ entry s. let m = map_some (λ (cells : List ℕ). Defines c (record { class = class; cells = cells })) (cells_in dots) entry s in
-      definition_line class characters dots c m.0 tt h (characters_in-Spells characters (c ∷ []) e) (Dots-from_cells_in dots m.0 m.1) (sym m.2))
-      (λ n before. bad_dots (Define class) dots tt (characters, h) (λ d. unread (cells_in dots) d.0 (map_none _ _ n) (cells_in-from_Dots dots d.0 d.1)) refl)
+      definition_line class characters dots c m.0 (has_opcode (Define class)) h (characters_in-Spells characters (c ∷ []) e) (Dots-from_cells_in dots m.0 m.1) (sym m.2))
+      (λ n before. bad_dots (Define class) dots (has_opcode (Define class)) (characters, h) (λ d. unread (cells_in dots) d.0 (map_none _ _ n) (cells_in-from_Dots dots d.0 d.1)) refl)
   text_says (Define class) (c ∷ d ∷ text) b h e = wrong_says (Define class) (c ∷ d ∷ text) tt h e (λ n. omega arith)
   text_says UpLow [] b h e = wrong_says UpLow [] tt h e (λ n. omega arith)
   text_says UpLow (u ∷ []) b h e = wrong_says UpLow (u ∷ []) tt h e (λ n. omega arith)
   text_says UpLow (u ∷ l ∷ []) b h e =
       or_cause_says line 4 _
       (λ entry s. let m = map_some (λ (cells : List ℕ × List ℕ). Pairs u cells.0 l cells.1) (pair_in dots) entry s in
-      pair_line characters dots u l m.0.0 m.0.1 tt h (characters_in-Spells characters (u ∷ l ∷ []) e) (pair_in-PairDots dots m.0.0 m.0.1 m.1) (sym m.2))
-      (λ n before. bad_dots UpLow dots tt (characters, h) (λ d. unread (pair_in dots) (d.0, d.1) (map_none _ _ n) (PairDots-pair_in dots d.0 d.1 d.2)) refl)
+      pair_line characters dots u l m.0.0 m.0.1 (has_opcode UpLow) h (characters_in-Spells characters (u ∷ l ∷ []) e) (pair_in-PairDots dots m.0.0 m.0.1 m.1) (sym m.2))
+      (λ n before. bad_dots UpLow dots (has_opcode UpLow) (characters, h) (λ d. unread (pair_in dots) (d.0, d.1) (map_none _ _ n) (PairDots-pair_in dots d.0 d.1 d.2)) refl)
   text_says UpLow (u ∷ l ∷ d ∷ text) b h e = wrong_says UpLow (u ∷ l ∷ d ∷ text) tt h e (λ n. omega arith)
   text_says (Replace kind) text b h e =
       or_cause_says line 4 _
       (λ entry s. let m = map_some (λ (cells : Option (List ℕ)). Replaces kind text cells) (rule_in dots) entry s in
-      rule_line kind characters dots text m.0 tt h (characters_in-Spells characters text e) (rule_in-RuleDots dots m.0 m.1) (sym m.2))
-      (λ n before. bad_dots (Replace kind) dots tt (characters, h) (λ d. unread (rule_in dots) d.0 (map_none _ _ n) (RuleDots-rule_in dots d.0 d.1)) refl)
+      rule_line kind characters dots text m.0 (has_opcode (Replace kind)) h (characters_in-Spells characters text e) (rule_in-RuleDots dots m.0 m.1) (sym m.2))
+      (λ n before. bad_dots (Replace kind) dots (has_opcode (Replace kind)) (characters, h) (λ d. unread (rule_in dots) d.0 (map_none _ _ n) (RuleDots-rule_in dots d.0 d.1)) refl)
   text_says (Announce sign) text b h e = absurd b
   text_says (Collect set) text b h e = absurd b
 
   both_says : (opcode : Opcode) (o : Option (List ℕ)) → characters_in characters ≡ o → TakesBoth opcode → HasFields line (name_of opcode ∷ characters ∷ dots ∷ [])
       → Says line (as_some (entry_with opcode o dots))
   both_says opcode None e b h =
-      λ before. bad_characters opcode characters tt (HasCharacters-both line characters opcode b (front_field line (name_of opcode) characters dots h))
+      λ before. bad_characters opcode characters (has_opcode opcode) (HasCharacters-both line characters opcode b (front_field line (name_of opcode) characters dots h))
       (λ text a s. unread (characters_in characters) text e (Spells-characters_in characters text s)) refl
   both_says opcode (Some text) e b h = text_says opcode text b h e
 
@@ -170,8 +176,8 @@ module _ (line characters dots : List ℕ) where
   sign_says sign h =
       or_cause_says line 4 _
       (λ entry s. let m = map_some (λ (cells : List ℕ). Announces sign cells) (cells_in dots) entry s in
-      sign_line sign dots m.0 tt h (Dots-from_cells_in dots m.0 m.1) (sym m.2))
-      (λ n before. bad_dots (Announce sign) dots tt h (λ d. unread (cells_in dots) d.0 (map_none _ _ n) (cells_in-from_Dots dots d.0 d.1)) refl)
+      sign_line sign dots m.0 (has_opcode (Announce sign)) h (Dots-from_cells_in dots m.0 m.1) (sym m.2))
+      (λ n before. bad_dots (Announce sign) dots (has_opcode (Announce sign)) h (λ d. unread (cells_in dots) d.0 (map_none _ _ n) (cells_in-from_Dots dots d.0 d.1)) refl)
 
 -- what a set's operand gives is said
 set_says : (line characters : List ℕ) (set : CharacterSet) → HasFields line (name_of (Collect set) ∷ characters ∷ [])
@@ -179,8 +185,8 @@ set_says : (line characters : List ℕ) (set : CharacterSet) → HasFields line 
 set_says line characters set h =
     or_cause_says line 3 _
     (λ entry s. let m = map_some (λ (text : List ℕ). Collects set text) (characters_in characters) entry s in
-    set_line set characters m.0 tt h (characters_in-Spells characters m.0 m.1) (sym m.2))
-    (λ n before. bad_characters (Collect set) characters tt h (λ text a s. unread (characters_in characters) text (map_none _ _ n) (Spells-characters_in characters text s)) refl)
+    set_line set characters m.0 (has_opcode (Collect set)) h (characters_in-Spells characters m.0 m.1) (sym m.2))
+    (λ n before. bad_characters (Collect set) characters (has_opcode (Collect set)) h (λ text a s. unread (characters_in characters) text (map_none _ _ n) (Spells-characters_in characters text s)) refl)
 
 same_rest : (text field rest other : List ℕ) → Begins text field rest → Begins text field other → other ≡ rest
 same_rest text field rest other b d = sym (Begins-field_at text field other d).1 ∙ (Begins-field_at text field rest b).1
@@ -215,9 +221,9 @@ two_say : (line rest characters more dots end : List ℕ) (opcode : Opcode) → 
     → (dots ≢ [] → Begins more dots end) → (dots ≡ [] → IsGap more)
     → Says line (as_some (entry_of_two opcode characters dots))
 two_say line rest [] more dots end opcode two b f n g m =
-    λ before. missing_operand opcode rest tt b (missing_both line rest opcode two b (λ characters dots h. gap_without_field rest characters h.0 (n refl) h.1)) refl
+    λ before. missing_operand opcode rest (has_opcode opcode) b (missing_both line rest opcode two b (λ characters dots h. gap_without_field rest characters h.0 (n refl) h.1)) refl
 two_say line rest (x ∷ characters) more [] end opcode two b f n g m =
-    λ before. missing_operand opcode rest tt b
+    λ before. missing_operand opcode rest (has_opcode opcode) b
     (missing_both line rest opcode two b (λ others dots h. gap_without_field h.0 dots h.2.0 (subst IsGap (sym (same_rest_of rest (x ∷ characters) more others h.0 (f (λ e. cc)) h.1)) (m refl)) h.2.1)) refl
 two_say line rest (x ∷ characters) more (y ∷ dots) end opcode two b f n g m =
     both_says line (x ∷ characters) (y ∷ dots) opcode _ refl two (rest, b, (more, f (λ e. cc), (end, g (λ e. cc), tt)))
@@ -225,14 +231,14 @@ two_say line rest (x ∷ characters) more (y ∷ dots) end opcode two b f n g m 
 one_say : (line rest dots more : List ℕ) (sign : Sign) → Begins line (name_of (Announce sign)) rest → (dots ≢ [] → Begins rest dots more) → (dots ≡ [] → IsGap rest)
     → Says line (as_some (entry_of_one (Announce sign) dots))
 one_say line rest [] more sign b f n =
-    λ before. missing_operand (Announce sign) rest tt b
+    λ before. missing_operand (Announce sign) rest (has_opcode (Announce sign)) b
     (λ (dots, h). gap_without_field h.0 dots h.2.0 (subst IsGap (sym (same_rest line (name_of (Announce sign)) rest h.0 b h.1)) (n refl)) h.2.1) refl
 one_say line rest (y ∷ dots) more sign b f n = sign_says line [] (y ∷ dots) sign (rest, b, (more, f (λ e. cc), tt))
 
 set_say : (line rest characters more : List ℕ) (set : CharacterSet) → Begins line (name_of (Collect set)) rest → (characters ≢ [] → Begins rest characters more) → (characters ≡ [] → IsGap rest)
     → Says line (as_some (entry_of_set set characters))
 set_say line rest [] more set b f n =
-    λ before. missing_operand (Collect set) rest tt b
+    λ before. missing_operand (Collect set) rest (has_opcode (Collect set)) b
     (λ (characters, h). gap_without_field h.0 characters h.2.0 (subst IsGap (sym (same_rest line (name_of (Collect set)) rest h.0 b h.1)) (n refl)) h.2.1) refl
 set_say line rest (y ∷ characters) more set b f n = set_says line (y ∷ characters) set (rest, b, (more, f (λ e. cc), tt))
 
@@ -412,7 +418,7 @@ unknown_fails line field rest b n u = (1, first_gives line field rest b ∙ unkn
   where
     no_opcode : (field : List ℕ) → ((opcode : Opcode) → HasOpcode WithNumericMode opcode → field ≢ name_of opcode) → (o : Option Opcode) → opcode_named field ≡ o → opcode_gives o rest ≡ Err 1
     no_opcode field u None e = refl
-    no_opcode field u (Some opcode) e = absurd (u opcode tt (opcode_named-Some field opcode e))
+    no_opcode field u (Some opcode) e = absurd (u opcode (has_opcode opcode) (opcode_named-Some field opcode e))
 
     unknown : (field : List ℕ) → IsField field → ¬ IsComment field → ((opcode : Opcode) → HasOpcode WithNumericMode opcode → field ≢ name_of opcode) → fields_give field rest ≡ Err 1
     unknown [] f n u = absurd f
@@ -632,22 +638,22 @@ many_cells_large line dots cells (Collect set) h w lt = absurd h
 -- an entry with an operand beyond its limit is a fault
 pub large_fault : (before : List (List ℕ)) (line : List ℕ) (entry : Entry) → Gives line entry → is_large entry ≡ true → Fault before line 8
 large_fault before line entry (definition_line class characters dots c cells has h s d e) t =
-    many_cells (Define class) dots cells tt (characters, h) d (ltb-true _ _ (sym (ap is_large e) ∙ t)) refl
+    many_cells (Define class) dots cells (has_opcode (Define class)) (characters, h) d (ltb-true _ _ (sym (ap is_large e) ∙ t)) refl
 large_fault before line entry (pair_line characters dots upper lower upper_cells lower_cells has h s d e) t =
     elim (or_cases (are_many upper_cells) (are_many lower_cells) (sym (ap is_large e) ∙ t)) [
-      | inl m ↦ many_cells UpLow dots upper_cells tt (characters, h) (upper_cells, lower_cells, d, inl refl) (ltb-true _ _ m) refl
-      | inr m ↦ many_cells UpLow dots lower_cells tt (characters, h) (upper_cells, lower_cells, d, inr refl) (ltb-true _ _ m) refl
+      | inl m ↦ many_cells UpLow dots upper_cells (has_opcode UpLow) (characters, h) (upper_cells, lower_cells, d, inl refl) (ltb-true _ _ m) refl
+      | inr m ↦ many_cells UpLow dots lower_cells (has_opcode UpLow) (characters, h) (upper_cells, lower_cells, d, inr refl) (ltb-true _ _ m) refl
     ]
 large_fault before line entry (rule_line kind characters dots text cells has h s d e) t =
     elim (or_cases (ltb most_rule_characters (length text)) (are_many_written cells) (sym (ap is_large e) ∙ t)) [
-      | inl m ↦ many_characters (Replace kind) characters text tt (front_field line (name_of (Replace kind)) characters dots h) s (ltb-true _ _ m) refl
+      | inl m ↦ many_characters (Replace kind) characters text (has_opcode (Replace kind)) (front_field line (name_of (Replace kind)) characters dots h) s (ltb-true _ _ m) refl
       | inr m ↦ written cells d m
     ]
   where
     written : (cells : Option (List ℕ)) → RuleDots dots cells → are_many_written cells ≡ true → Fault before line 8
     written None d m = absurd cc
-    written (Some cells) d m = many_cells (Replace kind) dots cells tt (characters, h) d (ltb-true _ _ m) refl
+    written (Some cells) d m = many_cells (Replace kind) dots cells (has_opcode (Replace kind)) (characters, h) d (ltb-true _ _ m) refl
 large_fault before line entry (sign_line sign dots cells has h d e) t =
-    many_cells (Announce sign) dots cells tt h d (ltb-true _ _ (sym (ap is_large e) ∙ t)) refl
+    many_cells (Announce sign) dots cells (has_opcode (Announce sign)) h d (ltb-true _ _ (sym (ap is_large e) ∙ t)) refl
 large_fault before line entry (set_line set characters text has h s e) t =
-    many_characters (Collect set) characters text tt h s (ltb-true _ _ (sym (ap is_large e) ∙ t)) refl
+    many_characters (Collect set) characters text (has_opcode (Collect set)) h s (ltb-true _ _ (sym (ap is_large e) ∙ t)) refl

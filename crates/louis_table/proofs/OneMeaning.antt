@@ -22,6 +22,8 @@ use Rattle.louis_table.specs.Profile.{Profile, WithNumericMode}
 use Rattle.louis_table.specs.Reading.{no_meaning, with_given, written_in, is_known, are_defined, finished, first_lacking, is_complete, line_of, Gathers, LinesGive, LinesMean, IsTold, IsLackingIn, LinesTell, judge}
 use Rattle.louis_table.specs.Table.{Entry, Defines, Pairs, Replaces, Announces, Collects, Gives, GivesIn, definition_line, pair_line, rule_line, sign_line, set_line, GiveFromIn, rules_in, IsToldNoLater, text_lines, line_of_stop, without_byte_order_mark, IsMadeOf, IsLacking, Bad, BadIn, no_text, bad_line, undefined_character, Means, MeansIn}
 use Rattle.louis_table.specs.Tells.{Tells}
+use Rattle.louis_table.specs.declared.opcode.Opcode.TheVariants.{Define, UpLow, Replace, Announce, Collect}
+use Rattle.louis_table.proofs.EntryLaws.{has_opcode}
 use Rattle.louis_table.proofs.VerdictLaws.{one_entry, nothing_or_entry}
 use Rattle.louis_table.proofs.ReadingLaws.{Reached, Reached-none, Reached-more, Reached-fault, Reached-all}
 use Rattle.louis_table.proofs.RuleLaws.{finished_entries, first_in, first_lacking-first_in, first_in-None, first_in-Some}
@@ -30,11 +32,11 @@ use Rattle.louis_table.proofs.RuleLaws.{finished_entries, first_in, first_lackin
 
 -- what a line gives in a profile it gives in the last one too
 pub in_last : (profile : Profile) (line : List ℕ) (entry : Entry) → GivesIn profile line entry → Gives line entry
-in_last profile line entry (definition_line class characters dots c cells has h s d e) = definition_line class characters dots c cells tt h s d e
-in_last profile line entry (pair_line characters dots upper lower upper_cells lower_cells has h s d e) = pair_line characters dots upper lower upper_cells lower_cells tt h s d e
-in_last profile line entry (rule_line kind characters dots text cells has h s d e) = rule_line kind characters dots text cells tt h s d e
-in_last profile line entry (sign_line sign dots cells has h d e) = sign_line sign dots cells tt h d e
-in_last profile line entry (set_line set characters text has h s e) = set_line set characters text tt h s e
+in_last profile line entry (definition_line class characters dots c cells has h s d e) = definition_line class characters dots c cells (has_opcode (Define class)) h s d e
+in_last profile line entry (pair_line characters dots upper lower upper_cells lower_cells has h s d e) = pair_line characters dots upper lower upper_cells lower_cells (has_opcode UpLow) h s d e
+in_last profile line entry (rule_line kind characters dots text cells has h s d e) = rule_line kind characters dots text cells (has_opcode (Replace kind)) h s d e
+in_last profile line entry (sign_line sign dots cells has h d e) = sign_line sign dots cells (has_opcode (Announce sign)) h d e
+in_last profile line entry (set_line set characters text has h s e) = set_line set characters text (has_opcode (Collect set)) h s e
 
 same_entries : (profile : Profile) (n : ℕ) (lines : List (List ℕ)) (es fs : List (ℕ × Entry)) → GiveFromIn profile n lines es → GiveFromIn profile n lines fs → es ≡ fs
 same_entries profile n [] es fs g h = g ∙ sym h

@@ -15,7 +15,7 @@ use Rattle.louis_table.specs.Profile.{Profile, WithoutNumericMode}
 use Rattle.louis_table.specs.Reading.{as_some, opcode_named}
 use Rattle.louis_table.specs.Table.{Entry, SaysNothing, Gives, GivesIn, definition_line, pair_line, rule_line, sign_line, set_line, GiveFrom, GiveFromIn, SomeGives, SomeGivesIn, cells_for, characters_for, is_same_sign, HasCharacters, HasDots, Fault, FaultIn, unknown_opcode, missing_operand, bad_characters, bad_dots, defined_before, defined_twice, given_before, long_line, line_too_many, many_characters, many_cells, HasCause, HasCauseIn, on_line, text_lines, Means, MeansIn}
 use Rattle.louis_table.proofs.FieldLaws.{Begins-field_at}
-use Rattle.louis_table.proofs.EntryLaws.{opcode_named-name_of, opcode_line, line_gives-nothing}
+use Rattle.louis_table.proofs.EntryLaws.{has_opcode, opcode_named-name_of, opcode_line, line_gives-nothing}
 use Rattle.louis_table.proofs.VerdictLaws.{only_one}
 use Rattle.louis_table.proofs.OneMeaning.{in_last}
 
@@ -94,7 +94,7 @@ module _ (before : List (List ℕ)) (line : List ℕ) (others : (other : List �
   by_dots dots opcode h = let b = dots_begin line dots opcode h in early opcode b.0 b.1
 
   pub early_fault : (cause : ℕ) → Fault before line cause → FaultIn WithoutNumericMode before line cause
-  early_fault cause (unknown_opcode field rest b n u e) = unknown_opcode field rest b n (λ opcode has. u opcode tt) e
+  early_fault cause (unknown_opcode field rest b n u e) = unknown_opcode field rest b n (λ opcode has. u opcode (has_opcode opcode)) e
   early_fault cause (missing_operand opcode rest has b n e) = missing_operand opcode rest (early opcode rest b) b n e
   early_fault cause (bad_characters opcode characters has h n e) = bad_characters opcode characters (by_characters characters opcode h) h n e
   early_fault cause (bad_dots opcode dots has h n e) = bad_dots opcode dots (by_dots dots opcode h) h n e
@@ -113,16 +113,16 @@ module _ (before : List (List ℕ)) (line : List ℕ) (others : (other : List �
   pub late_fault : (cause : ℕ) → FaultIn WithoutNumericMode before line cause → Fault before line cause
   late_fault cause (unknown_opcode field rest b n u e) =
       unknown_opcode field rest b n (λ opcode has same. u opcode (early opcode rest (subst (λ (f : List ℕ). Begins line f rest) same b)) same) e
-  late_fault cause (missing_operand opcode rest has b n e) = missing_operand opcode rest tt b n e
-  late_fault cause (bad_characters opcode characters has h n e) = bad_characters opcode characters tt h n e
-  late_fault cause (bad_dots opcode dots has h n e) = bad_dots opcode dots tt h n e
+  late_fault cause (missing_operand opcode rest has b n e) = missing_operand opcode rest (has_opcode opcode) b n e
+  late_fault cause (bad_characters opcode characters has h n e) = bad_characters opcode characters (has_opcode opcode) h n e
+  late_fault cause (bad_dots opcode dots has h n e) = bad_dots opcode dots (has_opcode opcode) h n e
   late_fault cause (defined_before entry c g i s e) = defined_before entry c (in_last WithoutNumericMode line entry g) i (late_some _ s) e
   late_fault cause (defined_twice c upper_cells lower_cells g e) = defined_twice c upper_cells lower_cells (in_last WithoutNumericMode line _ g) e
   late_fault cause (given_before entry g s e) = given_before entry (in_last WithoutNumericMode line entry g) (late_some _ s) e
   late_fault cause (long_line h e) = long_line h e
   late_fault cause (line_too_many h e) = line_too_many h e
-  late_fault cause (many_characters opcode characters text has h s many e) = many_characters opcode characters text tt h s many e
-  late_fault cause (many_cells opcode dots cells has h w lt e) = many_cells opcode dots cells tt h w lt e
+  late_fault cause (many_characters opcode characters text has h s many e) = many_characters opcode characters text (has_opcode opcode) h s many e
+  late_fault cause (many_cells opcode dots cells has h w lt e) = many_cells opcode dots cells (has_opcode opcode) h w lt e
 
 pub early_cause : (lines : List (List ℕ)) (n cause : ℕ) → ((line : List ℕ) → Contains lines line → StartsEarly line) → HasCause lines n cause → HasCauseIn WithoutNumericMode lines n cause
 early_cause lines n cause early (on_line before line after e at f) =

@@ -30,7 +30,8 @@ pub record StartsLate (line : List ℕ) : Type 0 where
 included : (profile earlier : Profile) → Includes profile earlier ⊎ (¬ Includes profile earlier)
 included WithoutNumericMode WithoutNumericMode = inl tt
 included WithoutNumericMode WithNumericMode = inr (λ h. h)
-included WithNumericMode earlier = inl tt
+included WithNumericMode WithoutNumericMode = inl tt
+included WithNumericMode WithNumericMode = inl tt
 
 -- no opcode has an empty name
 named_field : (field : List ℕ) (opcode : Opcode) → opcode_named field ≡ Some opcode → field ≢ []

@@ -1,32 +1,31 @@
 -- The opcodes: how they are written, and which profiles have them.
-use Rattle.std.specs.Prelude.{ℕ, List}
+use Rattle.std.specs.Prelude.{ℕ, List, codes}
 use Rattle.louis_table.specs.declared.definition.Class.TheVariants.{Space, Punctuation, Digit, Letter}
 use Rattle.louis_table.specs.declared.rule.RuleKind.TheVariants.{Always, Word, BegWord, MidWord, EndWord}
 use Rattle.louis_table.specs.declared.sign.Sign.TheVariants.{Number, Capital, CapitalWord, NoContraction}
 use Rattle.louis_table.specs.declared.character_set.CharacterSet.TheVariants as sets
 use Rattle.louis_table.specs.declared.opcode.Opcode.{Opcode}
 use Rattle.louis_table.specs.declared.opcode.Opcode.TheVariants as opcodes
-use Rattle.louis_table.specs.declared.opcode.TheConstants as names
 use Rattle.louis_table.specs.Profile.{Profile, WithoutNumericMode, WithNumericMode, Includes}
 
 -- the opcode as it is written
 abbrev pub name_of : Opcode → List ℕ
-name_of (opcodes.Define Space) = names.SPACE.now
-name_of (opcodes.Define Punctuation) = names.PUNCTUATION.now
-name_of (opcodes.Define Digit) = names.DIGIT.now
-name_of (opcodes.Define Letter) = names.LETTER.now
-name_of opcodes.UpLow = names.UPLOW.now
-name_of (opcodes.Replace Always) = names.ALWAYS.now
-name_of (opcodes.Replace Word) = names.WORD.now
-name_of (opcodes.Replace BegWord) = names.BEGWORD.now
-name_of (opcodes.Replace MidWord) = names.MIDWORD.now
-name_of (opcodes.Replace EndWord) = names.ENDWORD.now
-name_of (opcodes.Announce Number) = names.NUMSIGN.now
-name_of (opcodes.Announce Capital) = names.CAPSLETTER.now
-name_of (opcodes.Announce CapitalWord) = names.BEGCAPSWORD.now
-name_of (opcodes.Announce NoContraction) = names.NOCONTRACTSIGN.now
-name_of (opcodes.Collect sets.NumericMode) = names.NUMERICMODECHARS.now
-name_of (opcodes.Collect sets.NoContraction) = names.NUMERICNOCONTCHARS.now
+name_of (opcodes.Define Space) = codes "space"
+name_of (opcodes.Define Punctuation) = codes "punctuation"
+name_of (opcodes.Define Digit) = codes "digit"
+name_of (opcodes.Define Letter) = codes "letter"
+name_of opcodes.UpLow = codes "uplow"
+name_of (opcodes.Replace Always) = codes "always"
+name_of (opcodes.Replace Word) = codes "word"
+name_of (opcodes.Replace BegWord) = codes "begword"
+name_of (opcodes.Replace MidWord) = codes "midword"
+name_of (opcodes.Replace EndWord) = codes "endword"
+name_of (opcodes.Announce Number) = codes "numsign"
+name_of (opcodes.Announce Capital) = codes "capsletter"
+name_of (opcodes.Announce CapitalWord) = codes "begcapsword"
+name_of (opcodes.Announce NoContraction) = codes "nocontractsign"
+name_of (opcodes.Collect sets.NumericMode) = codes "numericmodechars"
+name_of (opcodes.Collect sets.NoContraction) = codes "numericnocontchars"
 
 -- the first profile that has the opcode
 abbrev pub profile_of : Opcode → Profile

@@ -9,4 +9,5 @@ pub data Profile : Type 0 where
 abbrev pub Includes : Profile → Profile → Type 0
 Includes WithoutNumericMode WithoutNumericMode = Unit {0}
 Includes WithoutNumericMode WithNumericMode = ⊥
-Includes WithNumericMode earlier = Unit {0}
+Includes WithNumericMode WithoutNumericMode = Unit {0}
+Includes WithNumericMode WithNumericMode = Unit {0}

@@ -9,14 +9,15 @@ use Rattle.std.specs.declared.alloc.Global.{Global}
 use Rattle.cell_core.specs.Reading.{cells_in}
 use Rattle.cell_core.specs.Dots.{most_cells}
 use Rattle.louis_table.specs.declared.definition.Definition.{Definition}
+use Rattle.louis_table.specs.declared.definition.Class.TheVariants.{Space, Punctuation, Digit, Letter}
 use Rattle.louis_table.specs.declared.rule.Rule.{Rule}
+use Rattle.louis_table.specs.declared.rule.RuleKind.TheVariants.{Always, Word, BegWord, MidWord, EndWord}
 use Rattle.louis_table.specs.declared.sign.Sign.{Sign}
 use Rattle.louis_table.specs.declared.sign.Sign.TheVariants as signs
 use Rattle.louis_table.specs.declared.character_set.CharacterSet.{CharacterSet}
 use Rattle.louis_table.specs.declared.character_set.CharacterSet.TheVariants as sets
 use Rattle.louis_table.specs.declared.opcode.Opcode.{Opcode}
 use Rattle.louis_table.specs.declared.opcode.Opcode.TheVariants.{Define, UpLow, Replace, Announce, Collect}
-use Rattle.louis_table.specs.declared.opcode.TheConstants.{OPCODES}
 use Rattle.louis_table.specs.declared.written.Written.{Written}
 use Rattle.louis_table.specs.declared.written.Written.TheVariants as written
 use Rattle.louis_table.specs.declared.written.WrittenRule.{WrittenRule}
@@ -32,6 +33,7 @@ use Rattle.louis_table.specs.declared.line.Given.{Given}
 use Rattle.louis_table.specs.declared.line.Given.TheVariants as givens
 use Rattle.louis_table.specs.Fields.{is_gap}
 use Rattle.louis_table.specs.Characters.{digits_behind, escaped}
+use Rattle.louis_table.specs.Opcode.{name_of}
 use Rattle.louis_table.specs.Meaning.{Meaning, definition_of, folded, partner_of, sign_cells, set_characters}
 use Rattle.louis_table.specs.Table.{most_lines, most_line_characters, most_rule_characters, most_set_characters, Entry, Defines, Pairs, Replaces, Announces, Collects, GiveFrom, HasCause, IsToldNoLater, cells_in_definition, rule_cells, definitions_in, partners_in, cells_for, characters_for}
 
@@ -112,9 +114,17 @@ abbrev pub opcode_among : List (List ℕ × Opcode) → List ℕ → Option Opco
 opcode_among [] name = None
 opcode_among (opcode ∷ opcodes) name = if bytes_eq name opcode.0 then Some opcode.1 else opcode_among opcodes name
 
+-- every opcode beside its name
+abbrev pub opcodes : List (List ℕ × Opcode)
+opcodes = map (λ opcode. (name_of opcode, opcode)) (
+    Define Space ∷ Define Punctuation ∷ Define Digit ∷ Define Letter ∷ UpLow
+    ∷ Replace Always ∷ Replace Word ∷ Replace BegWord ∷ Replace MidWord ∷ Replace EndWord
+    ∷ Announce signs.Number ∷ Announce signs.Capital ∷ Announce signs.CapitalWord ∷ Announce signs.NoContraction
+    ∷ Collect sets.NumericMode ∷ Collect sets.NoContraction ∷ [])
+
 -- the opcode with the name
 unfoldable pub opcode_named : List ℕ → Option Opcode
-opcode_named = opcode_among (map (λ o. (o.0.now, o.1)) OPCODES)
+opcode_named = opcode_among opcodes
 
 -- ---- dots operands
 

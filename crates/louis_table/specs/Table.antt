@@ -15,8 +15,6 @@ use Rattle.louis_table.specs.declared.character_set.CharacterSet.{CharacterSet}
 use Rattle.louis_table.specs.declared.character_set.CharacterSet.TheVariants as sets
 use Rattle.louis_table.specs.declared.opcode.Opcode.{Opcode}
 use Rattle.louis_table.specs.declared.opcode.Opcode.TheVariants.{Define, UpLow, Replace, Announce, Collect}
-use Rattle.louis_table.specs.declared.line.TheConstants.{MOST_RULE_CHARACTERS, MOST_SET_CHARACTERS}
-use Rattle.louis_table.specs.declared.read.TheConstants.{MOST_LINES, MOST_LINE_CHARACTERS}
 use Rattle.louis_table.specs.Lines.{lines_of}
 use Rattle.louis_table.specs.Fields.{IsGap, Begins, HasFields}
 use Rattle.louis_table.specs.Characters.{Spells}
@@ -27,19 +25,19 @@ use Rattle.louis_table.specs.Meaning.{Meaning, definition_of, folded, sign_cells
 -- ---- the limits
 
 abbrev pub most_lines : ℕ
-most_lines = MOST_LINES
+most_lines = 20000
 
 -- characters of a line, comments too
 abbrev pub most_line_characters : ℕ
-most_line_characters = MOST_LINE_CHARACTERS
+most_line_characters = 1000
 
 -- characters of a rule
 abbrev pub most_rule_characters : ℕ
-most_rule_characters = MOST_RULE_CHARACTERS
+most_rule_characters = 60
 
 -- characters of a set
 abbrev pub most_set_characters : ℕ
-most_set_characters = MOST_SET_CHARACTERS
+most_set_characters = 60
 
 -- ---- the lines
 

@@ -2,8 +2,10 @@
 ghost use Rattle.louis_table.specs.Meaning.{HasCells, Meaning};
 ghost use Rattle.louis_table.specs.Profile.{Profile, WithoutNumericMode};
 ghost use Rattle.louis_table.specs.SuppliedTable.{english};
-ghost use Rattle.louis_table.specs.Table.{Bad, BadIn, Means, MeansIn};
+ghost use Rattle.louis_table.specs.Table.{Bad, BadIn, Means, MeansIn, most_line_characters, most_lines, most_rule_characters, most_set_characters};
 ghost use Rattle.louis_table.specs.declared.en.TheConstants.{EN};
+ghost use Rattle.louis_table.specs.declared.line.TheConstants.{MOST_RULE_CHARACTERS, MOST_SET_CHARACTERS};
+ghost use Rattle.louis_table.specs.declared.read.TheConstants.{MOST_LINES, MOST_LINE_CHARACTERS};
 ghost use Rattle.std.specs.Prelude.{◌≡◌, ◌⊎◌, ℕ, List, []};
 
 /// Bytes are a table with one meaning, or have one fault that is told, and never both.
@@ -38,4 +40,12 @@ pub fn cells()
 /// The supplied table means uncontracted English, as it is written out in the definitions.
 pub fn supplied_table()
     ensures { Means EN.now english }
+{}
+
+/// The limits that the code compares with are those that the definitions write.
+pub fn limits()
+    ensures lines { MOST_LINES ≡ most_lines }
+    ensures line_characters { MOST_LINE_CHARACTERS ≡ most_line_characters }
+    ensures rule_characters { MOST_RULE_CHARACTERS ≡ most_rule_characters }
+    ensures set_characters { MOST_SET_CHARACTERS ≡ most_set_characters }
 {}

@@ -3,8 +3,8 @@ use Rattle.desk_session.proofs.Blocks.{fault-stays}
 use Rattle.desk_session.proofs.OneLine.{long-after}
 use Rattle.desk_session.proofs.reader.add_line.Goals as goal
 
-pub returns-in-Ok-None : goal.returns-in-Ok-None
-returns-in-Ok-None c = λ bytes more ends is holds keeps. long-after bytes more ends is (c.in-Ok-None.ensures ∙ keeps)
+pub returns-in-Ok-None-clause-holds : goal.returns-in-Ok-None-clause-holds
+returns-in-Ok-None-clause-holds c = λ bytes more ends is holds keeps. long-after bytes more ends is (c.in-Ok-None.ensures ∙ keeps)
 
-pub returns-in-Err-default : goal.returns-in-Err-default
-returns-in-Err-default c = λ bytes more ends is holds keeps. fault-stays c.in-Err-default.fault bytes more ends (rw c.in-Err-default.is-0 at holds)
+pub returns-in-Err-default-clause-holds : goal.returns-in-Err-default-clause-holds
+returns-in-Err-default-clause-holds c = λ bytes more ends is holds keeps. fault-stays c.in-Err-default.fault bytes more ends (rw c.in-Err-default.is-0 at holds)

@@ -3,17 +3,17 @@ use Rattle.desk_ends.proofs.Sending.{at_ok}
 use Rattle.desk_session.proofs.TurnsTaken.{done-turn, lost-turn, refused-turn}
 use Rattle.desk_session.proofs.turn.carry_out.Goals as goal
 
-pub returns-in-Err : goal.returns-in-Err
-returns-in-Err g c = λ bytes reads. refused-turn bytes c.args.book c.args.command.now c.args.expect c.in-Err.refusal _ reads c.in-Err.ensures.refused
+pub returns-in-Err-clause-taken : goal.returns-in-Err-clause-taken
+returns-in-Err-clause-taken g c = λ bytes reads. refused-turn bytes c.args.book c.args.command.now c.args.expect c.in-Err.refusal _ reads c.in-Err.ensures.refused
 
-pub returns-then-is_err : goal.returns-then-is_err
-returns-then-is_err g c =
+pub returns-then-is_err-clause-taken : goal.returns-then-is_err-clause-taken
+returns-then-is_err-clause-taken g c =
     let planned = c.in-Ok.ensures.accepted in
     λ bytes reads.
     lost-turn bytes c.args.book c.args.command.now c.args.expect planned.1.0 c.in-Ok.change _ _ reads planned.0 planned.1.1 _ c.keep.ensures.survives c.keep.ensures.either
 
-pub returns : goal.returns
-returns g c =
+pub returns-clause-taken : goal.returns-clause-taken
+returns-clause-taken g c =
     let planned = c.in-Ok.ensures.accepted in
     let ok : is_ok c.keep.result ≡ true = c.is_err.ensures.negation ∙ ap not c.if-is_err.false in
     λ bytes reads.

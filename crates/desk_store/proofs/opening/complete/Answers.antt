@@ -1,7 +1,7 @@
 use Rattle.sqlite.specs.Held.{state}
 use Rattle.desk_store.specs.Opened.{which_new}
 use Rattle.desk_rows.proofs.Both.{on_ok_both}
-use Rattle.desk_store.proofs.GainedTables.{gains_none, leaves_gained}
+use Rattle.desk_store.proofs.GainedTables.{gains_none, leaves_gained, left_whole}
 use Rattle.desk_store.proofs.opening.complete.Goals as goal
 
 pub returns-in-Some-clause-filled : goal.returns-in-Some-clause-filled
@@ -20,4 +20,5 @@ returns-in-None-clause-filled g c clean l contents stands =
     rw c.in-None.is (gains_none l contents c.args.book.now (state g.S.Store c.args.conn.now) stands)
 
 pub returns-in-None-clause-leaves : goal.returns-in-None-clause-leaves
-returns-in-None-clause-leaves g c clean l contents stands left = rw c.in-None.is left
+returns-in-None-clause-leaves g c clean l contents stands left =
+    left_whole c.args.lacked l c.args.book.now (state g.S.Store c.args.conn.now) c.in-None.is left

@@ -9,7 +9,8 @@ use Rattle.desk_store.specs.Books.{LeavesBook}
 use Rattle.desk_rows.specs.Contents.{Contents}
 use Rattle.desk_rows.specs.Layout.{Layout}
 use Rattle.desk_rows.specs.Making.{with_tables}
-use Rattle.desk_store.specs.Opened.{HasGained, StandsAs, which_lacked}
+use Rattle.sql_tables.specs.States.{Leaves}
+use Rattle.desk_store.specs.Opened.{HasGained, HoldsEitherWith, StandsAs, which_lacked}
 use Rattle.desk_rows.specs.States.{Shows}
 use Rattle.desk_store.proofs.Openings.{fills, opens, refuses, refuses_damaged, tells, tells_no_refusal}
 use Rattle.desk_store.proofs.opening.open_book.Goals as goal
@@ -79,7 +80,7 @@ returns-clause-opens g c clean make =
     book c.in_ok-book.ensures.shown mid (read.unchanged early) new
     (subst (λ (x : Option NewTables). (l : Layout) (d : Contents) → StandsAs l d book mid → HasGained (which_lacked x) l d book mid.now.trees (λ after e. Shows after e new))
     c.lacked_by-lacked.ensures (done.filled clean))
-    (subst (λ (x : Option NewTables). (l : Layout) (d : Contents) → StandsAs l d book mid → LeavesBook l book mid → LeavesBook (with_tables (which_lacked x) l) book new)
+    (subst (λ (x : Option NewTables). (l : Layout) (d : Contents) → StandsAs l d book mid → Leaves (HoldsEitherWith (which_lacked x) l book) mid → LeavesBook (with_tables (which_lacked x) l) book new)
     c.lacked_by-lacked.ensures (done.leaves clean))
     (λ db here. elim (c.read_parts.ensures.survives.crash early db here) [ inl before ↦ before | inr none ↦ absurd none ])
     (done.open clean (read.is_open early))

@@ -13,7 +13,7 @@ returns-clause-kept g c clean l next may =
     let old = state g.S.Store c.args.conn.now in
     let new = state g.S.Store c.write.new.conn in
     let puts = c.puts.result in
-    let leads = c.puts.ensures may.leads.0 next may.leads.1 in
+    let leads = c.puts.ensures.leads may.leads.0 next may.leads.1 in
     on_ok_both c.write.result _ _ _ (λ written settled.
     let writes = subst (λ (xs : List RowPut). Writes xs old new) (all_lent puts written.0 written.1) written.2 in
     is_kept l may.tables puts c.args.book.now next leads old new writes settled may.shows)
@@ -26,14 +26,14 @@ returns-clause-survives g c =
     let puts = c.puts.result in
     survives_weaker old new _ _ (λ clean db left l next may.
     let file = subst (λ (xs : List RowPut). IsFileWith xs old db) (all_lent puts left.0 left.1) left.2.0 in
-    holds_next l may.tables puts c.args.book.now next (c.puts.ensures may.leads.0 next may.leads.1) old db file may.shows)
+    holds_next l may.tables puts c.args.book.now next (c.puts.ensures.leads may.leads.0 next may.leads.1) old db file may.shows)
     c.write.ensures.crash
 
 pub returns-clause-told : goal.returns-clause-told
 returns-clause-told g c clean =
     if_err_both c.write.result _ _ _ (λ e fails counts. record {
       puts = c.puts.result;
-      are = λ next leads. c.puts.ensures leads.0 next leads.1;
+      are = λ next leads. c.puts.ensures.leads leads.0 next leads.1;
       fails = fails;
       counts = counts;
     }) (c.write.ensures.told clean) (c.write.ensures.lost clean)

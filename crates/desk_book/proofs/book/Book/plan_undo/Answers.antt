@@ -1,16 +1,25 @@
 use Rattle.std.proofs.Common.{◌≡◌, length, sym, ap, subst, ◌∙◌, refl, arith}
 use Rattle.std.proofs.lemmas.Result.{err_from_is_err_and}
-use Rattle.desk_book.specs.Corrected.{replaced_by}
+use Rattle.desk_book.specs.Corrected.{HaltsEntry, TakesEntry, replaced_by}
 use Rattle.desk_book.specs.Histories.{IsNewestInForce, entries_kept}
 use Rattle.desk_book.specs.Sound.{AreSoundEntries}
 use Rattle.desk_book.proofs.KeptLookups.{IfErr-weaker, IfOk-weaker}
-use Rattle.desk_book.proofs.UndoPlanning.{back, halted_here, no_memory_here, planned_here, sound_kept, span_here}
+use Rattle.desk_book.proofs.UndoPlanning.{back, counted, halted_here, no_memory_here, planned_here, sound_kept, span_here, undefined_here}
 use Rattle.desk_book.proofs.book.Book.plan_undo.Goals as goal
 
 pub newest-requires : goal.newest-requires
 newest-requires c =
     let shown = c.in_ok-paragraph.ensures.found.0 in
     (c.in_ok-paragraph.paragraph.now.original, subst (λ h. AreSoundEntries c.in_ok-paragraph.paragraph.now.original (entries_kept h)) (sym c.as_slice.ensures) (sound_kept c.args.self.now c.args.id _ _ shown c.in_ok-paragraph.ensures.found.1))
+
+pub overflow_sub-old : goal.overflow_sub-old
+overflow_sub-old c =
+    let found = c.in_ok-paragraph.ensures.found in
+    let force = subst (λ h. IsNewestInForce h c.in-Some.number c.in-Some.correction.now) c.as_slice.ensures c.in-Some.ensures.found in
+    let old = ap length c.as_slice-old.ensures in
+    let count : c.count_of-count.result ≡ length c.in-Some.correction.now.text = c.count_of-count.ensures ∙ ap length c.as_str.ensures in
+    let span = span_here c.args.self.now c.args.id _ _ found.0 found.1 c.in-Some.number c.in-Some.correction.now force in
+    omega arith
 
 pub replaced-requires : goal.replaced-requires
 replaced-requires c =
@@ -33,6 +42,29 @@ returns-clause-planned c =
     IfOk-weaker c.entered.result _ _
     (λ effect is. planned_here c.args.self.now c.args.id _ _ found.0 found.1 c.in-Some.number correction force c.in_ok-replaced.field-0.items printed _ effect refl is refl refl count (ap length c.as_slice-taken.ensures)) c.entered.ensures.planned
 
+pub returns-in_err-check_entry-clause-refused : goal.returns-in_err-check_entry-clause-refused
+returns-in_err-check_entry-clause-refused c =
+    let p = err_from_is_err_and c.from_residual-in_err-check_entry.result c.from_residual-in_err-check_entry.ensures.1 in
+    let found = c.in_ok-paragraph.ensures.found in
+    let correction = c.in-Some.correction.now in
+    let force = subst (λ h. IsNewestInForce h c.in-Some.number correction) c.as_slice.ensures c.in-Some.ensures.found in
+    let old = c.as_slice-old.ensures ∙ found.0.print in
+    let count : c.count_of-count.result ≡ length correction.text = c.count_of-count.ensures ∙ ap length c.as_str.ensures in
+    let many = counted c.args.self.now c.args.id _ _ found.0 found.1 c.in-Some.number correction force _ _ _ (ap length c.as_slice-old.ensures) count (ap length c.as_slice-taken.ensures) in
+    rw (p.1, p.2) (halted_here c.args.self.now c.args.id _ _ found.0 found.1 c.in-Some.number correction force _ refl _
+    (subst (λ n. HaltsEntry c.args.self.now c.in_ok-paragraph.paragraph.now n c.in_err-check_entry.field-0.0) many c.in_err-check_entry.ensures.halted))
+
+pub entered-requires : goal.entered-requires
+entered-requires c =
+    let found = c.in_ok-paragraph.ensures.found in
+    let correction = c.in-Some.correction.now in
+    let force = subst (λ h. IsNewestInForce h c.in-Some.number correction) c.as_slice.ensures c.in-Some.ensures.found in
+    let old = c.as_slice-old.ensures ∙ found.0.print in
+    let count : c.count_of-count.result ≡ length correction.text = c.count_of-count.ensures ∙ ap length c.as_str.ensures in
+    let many = counted c.args.self.now c.args.id _ _ found.0 found.1 c.in-Some.number correction force _ _ _ (ap length c.as_slice-old.ensures) count (ap length c.as_slice-taken.ensures) in
+    let printed = c.in_ok-replaced.ensures ∙ ((λ i. replaced_by correction.start (count i) (c.as_slice-taken.ensures i) (old i)) ∙ back c.args.self.now c.args.id _ _ found.0 found.1 c.in-Some.number correction force) in
+    subst (TakesEntry c.args.self.now c.in_ok-paragraph.paragraph.now) (many ∙ sym (ap length printed)) c.in_ok-check_entry.ensures.takes
+
 pub returns-clause-refused : goal.returns-clause-refused
 returns-clause-refused c =
     let found = c.in_ok-paragraph.ensures.found in
@@ -40,13 +72,20 @@ returns-clause-refused c =
     let force = subst (λ h. IsNewestInForce h c.in-Some.number correction) c.as_slice.ensures c.in-Some.ensures.found in
     let old = c.as_slice-old.ensures ∙ found.0.print in
     let count : c.count_of-count.result ≡ length correction.text = c.count_of-count.ensures ∙ ap length c.as_str.ensures in
+    let many = counted c.args.self.now c.args.id _ _ found.0 found.1 c.in-Some.number correction force _ _ _ (ap length c.as_slice-old.ensures) count (ap length c.as_slice-taken.ensures) in
     let printed = c.in_ok-replaced.ensures ∙ ((λ i. replaced_by correction.start (count i) (c.as_slice-taken.ensures i) (old i)) ∙ back c.args.self.now c.args.id _ _ found.0 found.1 c.in-Some.number correction force) in
+    let takes = subst (TakesEntry c.args.self.now c.in_ok-paragraph.paragraph.now) (many ∙ sym (ap length printed)) c.in_ok-check_entry.ensures.takes in
     IfErr-weaker c.entered.result _ _
-    (λ told halts. halted_here c.args.self.now c.args.id _ _ found.0 found.1 c.in-Some.number correction force c.in_ok-replaced.field-0.items printed told halts) c.entered.ensures.refused
+    (λ told halts. undefined_here c.args.self.now c.args.id _ _ found.0 found.1 c.in-Some.number correction force c.in_ok-replaced.field-0.items printed takes told halts) c.entered.ensures.refused
 
 pub returns-in_err-replaced-clause-refused : goal.returns-in_err-replaced-clause-refused
 returns-in_err-replaced-clause-refused c =
     let p = err_from_is_err_and c.from_residual-in_err-replaced.result c.from_residual-in_err-replaced.ensures.1 in
     let found = c.in_ok-paragraph.ensures.found in
-    let force = subst (λ h. IsNewestInForce h c.in-Some.number c.in-Some.correction.now) c.as_slice.ensures c.in-Some.ensures.found in
-    rw p.1 (no_memory_here c.args.self.now c.args.id _ _ found.0 found.1 c.in-Some.number c.in-Some.correction.now force _ p.2)
+    let correction = c.in-Some.correction.now in
+    let force = subst (λ h. IsNewestInForce h c.in-Some.number correction) c.as_slice.ensures c.in-Some.ensures.found in
+    let old = c.as_slice-old.ensures ∙ found.0.print in
+    let count : c.count_of-count.result ≡ length correction.text = c.count_of-count.ensures ∙ ap length c.as_str.ensures in
+    let many = counted c.args.self.now c.args.id _ _ found.0 found.1 c.in-Some.number correction force _ _ _ (ap length c.as_slice-old.ensures) count (ap length c.as_slice-taken.ensures) in
+    let takes = subst (TakesEntry c.args.self.now c.in_ok-paragraph.paragraph.now) many c.in_ok-check_entry.ensures.takes in
+    rw p.1 (no_memory_here c.args.self.now c.args.id _ _ found.0 found.1 c.in-Some.number correction force _ refl takes _ p.2)

@@ -13,9 +13,9 @@ returns-in_err-is_whole g c =
 pub returns-then-not-is_whole : goal.returns-then-not-is_whole
 returns-then-not-is_whole g c =
     ReadsBlock-short _ _ _ _ _ _ _ _ _ _ _ _ c.loop-left.invariant c.loop-left-test.true g.S.Source.can_fail
-    (rw (c.in_ok-is_whole.was ∙ ap Ok c.if-not-is_whole.true) at c.read_line.ensures) c.add_line-text.ensures
+    (rw (c.in_ok-is_whole.was ∙ ap Ok c.if-not-is_whole.true) at c.read_line.ensures) c.add_line-text.ensures.holds
 
 pub loop-left-preserved : goal.loop-left-preserved
 loop-left-preserved g c =
     IsFilling-line _ _ _ _ _ _ _ _ _ _ _ _ c.loop-left.invariant c.loop-left-test.true g.S.Source.can_fail
-    (rw (c.in_ok-is_whole.was ∙ ap Ok c.if-not-is_whole.false) at c.read_line.ensures) c.add_line-text.ensures
+    (rw (c.in_ok-is_whole.was ∙ ap Ok c.if-not-is_whole.false) at c.read_line.ensures) c.add_line-text.ensures.holds

@@ -1,0 +1,56 @@
+//! Laws of what the next session finds.
+ghost use Rattle.desk_book.specs.Book.{Book};
+ghost use Rattle.desk_rows.specs.Layout.{Layout};
+ghost use Rattle.desk_session.specs.Reopened.{IsKeptBook, MayBegin};
+ghost use Rattle.desk_session.specs.Served.{EndsAs, IsLeft, MayServe};
+ghost use Rattle.desk_session.specs.Session.{Given, IsSession, Turn};
+ghost use Rattle.desk_session.specs.declared.session.Ended.{Ended};
+ghost use Rattle.desk_store.specs.Books.{HasNewTables, shown_by};
+ghost use Rattle.desk_store.specs.Opened.{HoldsEither, Opens as OpensSo, Stands, completed};
+ghost use Rattle.desk_store.specs.Opening.{IsRefusal};
+ghost use Rattle.desk_store.specs.Reopened.{IsKeptThere};
+ghost use Rattle.desk_store.specs.declared.fault.OpenFault.{OpenFault};
+ghost use Rattle.sql_tables.specs.States.{IsSettled, Leaves};
+ghost use Rattle.sqlite.specs.Held.{state};
+ghost use Rattle.sqlite.specs.State.{Opens};
+ghost use Rattle.std.specs.Prelude.{Bool, IfErr, IfOk, List, Ok, Result};
+
+use desk_store::Store;
+use sqlite::{Alter, Connection};
+
+/// Whatever a crash leaves after a session, however that ended: where a connection opened at it and the book is opened, the book after the
+/// first of the commands that the session gave is found, with all that were acknowledged and at most one more, or no refusal is told. The
+/// next session may begin with that book, where a crash of the new connection leaves just what it shows.
+pub fn opened_after_a_session<S: Alter, T: Alter>(
+    last: &Store<S>,
+    next: &Connection<T>,
+    opened: &Connection<T>,
+)
+    ensures found { (l : Layout) (book held : Book) (ended : Ended) (turns : List Turn) (given : List Given)
+        → HasNewTables l → IsSession book turns given held → EndsAs ended turns
+        → IsLeft l book held ended given (shown_by S.Store last.now)
+        → (shown_by S.Store last.now).may_leave (state T.Store next.now).committed.trees
+        → Opens (state T.Store next.now) → (make : Bool) (result : Result Book OpenFault)
+        → OpensSo T.Store make next.now (state T.Store opened.now) result
+        → IfOk result (IsKeptBook book turns given) × IfErr result (λ fault. ¬ IsRefusal fault) }
+    ensures begins { (l : Layout) (book held : Book) (ended : Ended) (given : List Given)
+        → HasNewTables l → IsLeft l book held ended given (shown_by S.Store last.now)
+        → (shown_by S.Store last.now).may_leave (state T.Store next.now).committed.trees
+        → Opens (state T.Store next.now) → IsSettled (state T.Store next.now)
+        → (make : Bool) (found : Book)
+        → OpensSo T.Store make next.now (state T.Store opened.now) (Ok found)
+        → MayBegin found (state T.Store opened.now) }
+{
+    let _ = next.schema();
+}
+
+/// A session may begin where a book is opened again after its file was left in either form, as by an opening that failed to bring it to the
+/// new one; and with each book that is kept in a file with the tables of a new one.
+pub fn begins_after_a_failed_opening<S: Alter>(old: &Connection<S>, new: &Connection<S>)
+    ensures opened { (make : Bool) (book : Book)
+        → OpensSo S.Store make old.now (state S.Store new.now) (Ok book) → (l : Layout)
+        → Stands l book (state S.Store old.now) → Leaves (HoldsEither l book) (state S.Store old.now)
+        → MayServe (completed l) book (state S.Store new.now) }
+    ensures kept { (book : Book) → IsKeptThere book (state S.Store new.now)
+        → MayBegin book (state S.Store new.now) }
+{}

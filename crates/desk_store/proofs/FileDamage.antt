@@ -1,0 +1,143 @@
+-- When a file shows a book, and that at most one refusal is told of any other.
+use Rattle.std.proofs.Common.{◌≡◌, ◌∙◌, ℤ, pos, ◌≤ℤ◌, Bool, true, false, if◌then◌else◌, List, [], ◌∷◌, map, inl, inr, arith, refl, sym, subst, ap, ap₂, true≢false}
+use Rattle.std.specs.List.{AllByRecursion}
+use Rattle.std.proofs.lemmas.Int.{ints}
+use Rattle.std.proofs.lemmas.List.Elements.{All-from_recursion}
+use Rattle.desk_book.specs.Damage.{HasItsTables, IsDamagedBook}
+use Rattle.desk_book.proofs.FirstDamage.{one_damage}
+use Rattle.desk_book.proofs.SoundEntryRows.{sound}
+use Rattle.desk_book.proofs.UndamagedBook.{shown}
+use Rattle.desk_book.proofs.UndamagedRows.{sound-book}
+use Rattle.desk_parts.specs.FileRows.{AreTexts, HasEntryTexts, Named, Unnamed, entries_in, unnamed as without_name}
+use Rattle.desk_parts.specs.Rows.{Corr}
+use Rattle.desk_parts.specs.declared.file_table.FileTable.{FileTable}
+use Rattle.desk_parts.specs.declared.file_table.FileTable.TheVariants as file
+use Rattle.desk_parts.specs.declared.rows.BookRow.{BookRow}
+use Rattle.desk_rows.specs.Contents.{Contents}
+use Rattle.desk_rows.specs.Described.{Which, books, corrs, marks, named_corrs, paras, tabs}
+use Rattle.desk_rows.specs.Layout.{Layout}
+use Rattle.desk_rows.specs.Whole.{IsUtf8Row}
+use Rattle.desk_store.specs.BookFile.{rows_of}
+use Rattle.desk_store.specs.Formats.{Format, HasThoseRead, IsOfFormat, Presence, named, needed, presence, unnamed}
+use Rattle.desk_store.specs.Found.{format_kept}
+use Rattle.desk_store.specs.Opened.{LacksTables, TellsOf}
+use Rattle.desk_store.specs.Opening.{CanAllBeRead, CanBeRead, IsBookRow, IsNewer, IsRefusal, format_in}
+use Rattle.desk_store.specs.Undamaged.{HasBook, IsUndamaged}
+use Rattle.desk_store.specs.declared.fault.OpenFault.{OpenFault}
+use Rattle.desk_store.specs.declared.fault.OpenFault.TheVariants.{NotABook, Damaged, NewerFormat, Lost, NoMemory}
+use Rattle.desk_store.proofs.JudgedTables.{number_of as row_number, of_read}
+use Rattle.desk_store.proofs.Opened.{needs_marks, needs_paras, needs_tabs}
+use Rattle.desk_store.proofs.StandingBooks.{at_most_two, can_be_read, in_format, never_refused, row_is}
+
+-- ---- the row of `book`
+
+same_head : {X : Type 0} (x y : X) → x ∷ [] ≡ y ∷ [] → x ≡ y
+same_head x y same = cc
+
+not_newer : (rows : List BookRow) (row : BookRow) → IsBookRow rows row → ¬ IsNewer rows
+not_newer rows row is (other, alone, later) =
+    let low : row.format ≤ℤ pos 2 = is.format in
+    let same : row.format ≡ other.format = ap (λ (r : BookRow). r.format) (same_head row other (sym is.alone ∙ alone)) in
+    omega (arith, ints, low, same, later)
+
+not_damaged : (rows : List BookRow) (row : BookRow) (id : ℤ) → IsBookRow rows row → ¬ IsDamagedBook rows id
+not_damaged rows row id is damaged = damaged.1 (row, is.alone, is.sound)
+
+-- ---- a file that shows a book has no damage
+
+pub undamaged : (l : Layout) (c : Contents) → HasBook l c → IsUndamaged l c
+undamaged l c (f, of, (book, shows)) =
+    let head = sound-book (c.rows books) (λ id. sound (rows_of l c) book shows file.Book id) in
+    let format = row_is l c book shows f of head.0 head.1 in
+    record {
+      row = head.0;
+      book = record { alone = head.1; sound = head.2; format = at_most_two f head.0.format format };
+      readable = subst (λ (g : Format). CanAllBeRead g l c) (sym (in_format f) ∙ ap format_in (sym format)) (can_be_read l c book shows f of);
+      none = sound (rows_of l c) book shows;
+    }
+
+pub unrefused : (l : Layout) (c : Contents) (fault : OpenFault) → HasBook l c → TellsOf l c fault → ¬ IsRefusal fault
+unrefused l c fault (f, of, (book, shows)) = never_refused l c book shows f of fault
+
+-- ---- and one without damage shows a book
+
+module _ (l : Layout) (c : Contents) where
+  texts_in : (f : Format) (w : Which) → presence f w ≡ needed → CanAllBeRead f l c → AllByRecursion (IsUtf8Row w) (c.rows w)
+  texts_in f w has_to can = (subst (λ (p : Presence). CanBeRead p (l.has w) (AllByRecursion (IsUtf8Row w) (c.rows w))) has_to (can w)).1
+
+  unnamed_texts : (rows : List Corr) → AllByRecursion (IsUtf8Row corrs) rows → AllByRecursion HasEntryTexts (map without_name rows)
+  unnamed_texts [] all = tt
+  unnamed_texts (row ∷ rows) all = ((all.0, ([], (refl, refl))), unnamed_texts rows all.1)
+
+  entries_are : (f : Format) → IsOfFormat f l → format_kept (rows_of l c).entries ≡ f
+  entries_are unnamed of = rw (of named_corrs).1 refl
+  entries_are named of = rw (of named_corrs).1 refl
+
+  entry_texts : (f : Format) → IsOfFormat f l → CanAllBeRead f l c → AllByRecursion HasEntryTexts (entries_in (rows_of l c).entries)
+  entry_texts unnamed of can =
+      subst (λ (has : Bool). AllByRecursion HasEntryTexts (entries_in (if has then Named (c.rows named_corrs) else Unnamed (c.rows corrs)))) (sym (of named_corrs).1)
+      (unnamed_texts (c.rows corrs) (can corrs).1)
+  entry_texts named of can =
+      subst (λ (has : Bool). AllByRecursion HasEntryTexts (entries_in (if has then Named (c.rows named_corrs) else Unnamed (c.rows corrs)))) (sym (of named_corrs).1)
+      (can named_corrs).1
+
+  texts : (f : Format) → IsOfFormat f l → CanAllBeRead f l c → AreTexts (rows_of l c)
+  texts f of can = record {
+    tabs = All-from_recursion _ _ (texts_in f tabs (needs_tabs f) can);
+    paras = All-from_recursion _ _ (texts_in f paras (needs_paras f) can);
+    entries = All-from_recursion _ _ (entry_texts f of can);
+    marks = All-from_recursion _ _ (texts_in f marks (needs_marks f) can);
+  }
+
+  pub has_book : HasThoseRead l → IsUndamaged l c → HasBook l c
+  has_book those u =
+      let f = format_in u.row.format in
+      let of = of_read f l c those u.readable in
+      let its : HasItsTables (rows_of l c) = λ row alone low.
+      let same : row ≡ u.row = same_head row u.row (sym alone ∙ u.book.alone) in
+      ap (λ (r : BookRow). r.format) same ∙ sym (row_number u.row.format u.book.sound.format u.book.format (rows_of l c).entries (entries_are f of)) in
+      (f, of, shown (rows_of l c) (texts f of u.readable) its u.none)
+
+  -- ---- at most one refusal is told
+
+  readable_books : (f : Format) → CanAllBeRead f l c → l.has books ≡ true
+  readable_books unnamed can = (can books).0
+  readable_books named can = (can books).0
+
+  lacks_damaged : (table : FileTable) (id : ℤ) → LacksTables l c → ¬ TellsOf l c (Damaged table id)
+  lacks_damaged table id (inl none) (inl (has, is_book, damaged, known)) = true≢false (sym has ∙ none)
+  lacks_damaged table id (inl none) (inr at) = true≢false (sym (readable_books (format_in at.row.format) at.readable) ∙ none)
+  lacks_damaged table id (inr (row, there, is, not)) (inl (has, is_book, damaged, known)) = not_damaged (c.rows books) row id is damaged
+  lacks_damaged table id (inr (row, there, is, not)) (inr at) =
+      not (subst (λ (r : BookRow). CanAllBeRead (format_in r.format) l c) (same_head at.row row (sym at.book.alone ∙ is.alone)) at.readable)
+
+  lacks_newer : LacksTables l c → ¬ TellsOf l c NewerFormat
+  lacks_newer (inl none) (has, newer) = true≢false (sym has ∙ none)
+  lacks_newer (inr (row, there, is, not)) (has, newer) = not_newer (c.rows books) row is newer
+
+  damaged_newer : (table : FileTable) (id : ℤ) → TellsOf l c (Damaged table id) → ¬ TellsOf l c NewerFormat
+  damaged_newer table id (inl (has, is_book, damaged, known)) (there, newer) = known newer
+  damaged_newer table id (inr at) (there, newer) = not_newer (c.rows books) at.row at.book newer
+
+  one_place : (table other : FileTable) (id n : ℤ) → TellsOf l c (Damaged table id) → TellsOf l c (Damaged other n) → Damaged table id ≡ Damaged other n
+  one_place table other id n (inl (has, is_book, damaged, known)) (inl (has', is_book', damaged', known')) =
+      ap₂ Damaged (is_book ∙ sym is_book') (damaged.0 ∙ sym damaged'.0)
+  one_place table other id n (inl (has, is_book, damaged, known)) (inr at) = absurd (not_damaged (c.rows books) at.row id at.book damaged)
+  one_place table other id n (inr at) (inl (has, is_book, damaged, known)) = absurd (not_damaged (c.rows books) at.row n at.book damaged)
+  one_place table other id n (inr at) (inr too) =
+      let same = one_damage (rows_of l c) table other id n at.first too.first in ap₂ Damaged same.0 same.1
+
+  pub one_refusal : (fault other : OpenFault) → IsRefusal fault → IsRefusal other → TellsOf l c fault → TellsOf l c other → fault ≡ other
+  one_refusal Lost other is is' told told' = absurd is
+  one_refusal NoMemory other is is' told told' = absurd is
+  one_refusal fault Lost is is' told told' = absurd is'
+  one_refusal fault NoMemory is is' told told' = absurd is'
+  one_refusal NotABook NotABook is is' told told' = refl
+  one_refusal NotABook (Damaged other n) is is' told told' = absurd (lacks_damaged other n told told')
+  one_refusal NotABook NewerFormat is is' told told' = absurd (lacks_newer told told')
+  one_refusal (Damaged table id) NotABook is is' told told' = absurd (lacks_damaged table id told' told)
+  one_refusal (Damaged table id) (Damaged other n) is is' told told' = one_place table other id n told told'
+  one_refusal (Damaged table id) NewerFormat is is' told told' = absurd (damaged_newer table id told told')
+  one_refusal NewerFormat NotABook is is' told told' = absurd (lacks_newer told' told)
+  one_refusal NewerFormat (Damaged other n) is is' told told' = absurd (damaged_newer other n told' told)
+  one_refusal NewerFormat NewerFormat is is' told told' = refl

@@ -1,0 +1,162 @@
+-- A text that reads a table whole has an answer, over any connection that is open.
+use Rattle.std.specs.List.{Any, flat_map}
+use Rattle.std.proofs.lemmas.List.Sorted.{IsPermutation-map}
+use Rattle.std.proofs.Common.{suc, ◌≡◌, ℕ, ◌<◌, Bool, true, false, List, [], ◌∷◌, map, length, Option, None, Ok, IsTrue, refl, sym, ap, ap₂, subst, ◌∙◌, inl, inr, is_lt, true≢false, IsPermutation}
+use Rattle.std.specs.Ordering.{ordering_reverse, ordering_then}
+use Rattle.std.specs.declared.cmp.Ordering.{Ordering}
+use Rattle.std.specs.declared.cmp.Ordering.TheVariants.{Less, Equal, Greater}
+use Rattle.sqlite_value.specs.declared.keys.Collation.TheVariants.{Binary}
+use Rattle.sqlite_value.specs.declared.keys.Key.{Key}
+use Rattle.sqlite_value.specs.declared.keys.Order.{Order}
+use Rattle.sqlite_value.specs.declared.value.Value.{Value}
+use Rattle.sqlite_value.specs.Keys.{ascending}
+use Rattle.sqlite_value.specs.Order.{Row, column}
+use Rattle.sqlite_value.proofs.KeyLemmas.{by_key_total}
+use Rattle.sqlite_ast.specs.declared.Statement.TheVariants.{Select}
+use Rattle.sqlite_sql.specs.Program.{overlay, QueryOverflows}
+use Rattle.sqlite_sql.specs.Query.{IsAnswerAs, Output, end, inner, key_cmp, matches, output, output_cmp}
+use Rattle.sqlite_sql.specs.Term.{eval_all}
+use Rattle.sqlite_schema.specs.declared.command.Command.TheVariants.{Select as Select'}
+use Rattle.sqlite_schema.specs.declared.schema.Column.{Column}
+use Rattle.sqlite_schema.specs.declared.schema.Schema.{Schema}
+use Rattle.sqlite_schema.specs.declared.schema.Table.{Table}
+use Rattle.sqlite_resolve.specs.declared.compiled.Compiled.{Compiled}
+use Rattle.sqlite_resolve.specs.Compile.{command, with_command}
+use Rattle.sqlite_catalog.specs.Listing.{IsSound}
+use Rattle.sqlite_trees.specs.Tree.{Trees}
+use Rattle.sqlite_typing.specs.Types.{accepts_program}
+use Rattle.sqlite.specs.declared.error.Error.{Error}
+use Rattle.sqlite.specs.Effect.{Database, Reads, RefusesToRead}
+use Rattle.sqlite.specs.Listing.{IsSourceOf, reads_listing, understood}
+use Rattle.sqlite.specs.State.{IsStatement, IsUnchanged, Shown, State}
+use Rattle.sql_tables.specs.States.{HasAnswer}
+use Rattle.sql_tables.specs.Tables.{IsDeclared, plain_table}
+use Rattle.sql_tables.proofs.Declaring.{classes_are, low_tree, uncovered, under}
+use Rattle.sql_tables.proofs.Meaning.{parse_of, select_is}
+use Rattle.sql_tables.proofs.OneTable.{Parts, program_is, program_on, query_on, typed_as}
+use Rattle.sql_tables.proofs.Orders.{sorted}
+use Rattle.sql_tables.proofs.Running.{Means}
+use Rattle.sql_tables.proofs.Selecting.{query_of, select_command, shown_by, sorts_of}
+use Rattle.sql_tables.proofs.WholeTables.{IsRead}
+use Rattle.desk_store.proofs.InOrder.{in_order, rises_so, same_list}
+
+-- ---- the order of a query
+
+turned : (a b : Ordering) → ordering_then (ordering_reverse a) (ordering_reverse b) ≡ ordering_reverse (ordering_then a b)
+turned Less b = refl
+turned Equal b = refl
+turned Greater b = refl
+
+keys_turned : (at : ℕ) (keys : List Key) (a b : Row) → key_cmp at keys a b ≡ ordering_reverse (key_cmp at keys b a)
+keys_turned at [] a b = refl
+keys_turned at (k ∷ ks) a b = ap₂ ordering_then ((by_key_total k).antisymm (column a at) (column b at)) (keys_turned (suc at) ks a b) ∙ turned _ _
+
+not_both : (o p : Ordering) → o ≡ ordering_reverse p → is_lt o ≡ true → is_lt p ≡ false
+not_both o Less is less = absurd (true≢false (sym less ∙ ap is_lt is))
+not_both o Equal is less = refl
+not_both o Greater is less = refl
+
+-- ---- the answer of a query on one table
+
+module _ (tree : ℕ) (p : Parts) where
+  abbrev below : Output → Output → Bool
+  below a b = is_lt (output_cmp (query_on tree p) a b)
+
+  one_way : (a b : Output) → below a b ≡ true → below b a ≡ false
+  one_way a b = not_both _ _ (keys_turned 0 (map (λ k. k.1) p.order) a.0 b.0)
+
+  abbrev outputs : Trees → List Output
+  outputs db = map (output (query_on tree p)) (matches db p.tests (inner tree end) ([] ∷ []))
+
+  abbrev answer : Trees → List Row
+  answer db = map (λ (o : Output). o.1) (in_order below one_way (outputs db))
+
+  answers : (db : Trees) (lost : Value) → IsAnswerAs lost (query_on tree p) db [] (answer db)
+  answers db lost = record {
+    staged = matches db p.tests (inner tree end) ([] ∷ []);
+    grouped = refl;
+    kept = outputs db;
+    distinct = refl;
+    ordered = in_order below one_way (outputs db);
+    same = same_list below one_way (outputs db);
+    sorted = sorted below _ (rises_so below one_way (outputs db));
+    shown = refl;
+  }
+
+  no_any : {X : Type 0} (xs : List X) → ¬ Any (λ _. ⊥) xs
+  no_any xs h = h.4
+
+  never_overflows : (db : Trees) → ¬ QueryOverflows (query_on tree p) db []
+  never_overflows db h = elim h [ inl group ↦ group | inr fold ↦ no_any (db tree) fold ]
+
+-- ---- a text that reads a table whole
+
+module _ (name : List ℕ) (columns : List Column) (key : Option ℕ) (primary : List ℕ) (uniques : List (List ℕ)) (orders : List Order) (text : List ℕ)
+    (u : IsRead name columns key primary uniques orders text) (schema : Schema) (tree : ℕ) (d : IsDeclared schema (plain_table name columns key primary uniques orders tree))
+    (s : State) (has : s.now.schema ≡ schema) (sound : IsSound schema s.now.trees) where
+  abbrev table : Table
+  table = plain_table name columns key primary uniques orders tree
+
+  abbrev parts : Parts
+  parts = record { tests = []; project = u.project; order = map (λ t. (t, ascending Binary)) u.terms }
+
+  low : tree < 65536
+  low = low_tree schema table d s.now.trees sound
+
+  text_means : Means schema text (Select' (program_on tree parts) u.names) × (reads_listing schema text ≡ false)
+  text_means =
+      let columns = u.columns_are schema d.at tree d.there (under schema table d low) in
+      let keys = u.keys_are schema d.at tree d.there (under schema table d low) in
+      let typed = program_is schema table (classes_are schema table d low) parts (u.typed tree) in
+      select_is schema text (query_of text) _ u.is_text (λ formats base.
+      subst (λ names. command schema formats base (Select (query_of text)) ≡ Ok (Select' (program_on tree parts) names)) (u.names_are tree)
+      (select_command schema d.at table d.named d.there formats base (query_of text) (shown_by text) (sorts_of text) (u.is_plain schema d.at tree d.named d.there) (u.outs tree) columns u.terms keys u.few (program_on tree parts)
+      (rw (u.projects tree) typed)))
+
+  abbrev meant : Compiled
+  meant = with_command (parse_of text) ([], (Select' (program_on tree parts) u.names, None))
+
+  is_one : IsStatement s text [] meant
+  is_one = record { is = ap (λ (x : Schema). understood x text) has ∙ text_means.0; whole = u.whole; given = sym (ap length u.unnamed); now = 0 }
+
+  unlisted : reads_listing s.now.schema text ≡ false
+  unlisted = ap (λ (x : Schema). reads_listing x text) has ∙ text_means.1
+
+  typed : accepts_program s.now.schema [] (query_on tree parts) [] ≡ true
+  typed = ap (λ (x : Schema). accepts_program x [] (query_on tree parts) []) has ∙ typed_as schema table (classes_are schema table d low) parts [] (u.typed tree)
+
+  unrefused : (db : Database) → IsSourceOf (reads_listing s.now.schema text) s.now db → (e : Error) → ¬ RefusesToRead None meant.command db [] e
+  unrefused db from e refused =
+      let same : db ≡ s.now = subst (λ (b : Bool). IsSourceOf b s.now db) unlisted from in
+      let here : RefusesToRead None meant.command s.now [] e = subst (λ (x : Database). RefusesToRead None meant.command x [] e) same refused in
+      elim here [
+        | inl wrong ↦ true≢false (sym typed ∙ wrong.1)
+        | inr (inl over) ↦ never_overflows tree parts (overlay s.now.trees []) over.1
+        | inr (inr late) ↦ true≢false (sym late.1)
+      ]
+
+  pub can_answer : HasAnswer text s
+  can_answer = record { compiled = meant; is = is_one; timeless = refl; unrefused = unrefused }
+
+  -- what the query shows are the rows of the tree
+  module _ (show : Row → Row) (shows : (r : Row) → eval_all u.project ([] ∷ r ∷ []) ≡ show r) where
+    outputs_are : (rows : List Row) → map (λ (o : Output). o.1) (map (output (query_on tree parts)) (flat_map (λ r. ([] ∷ r ∷ []) ∷ []) rows)) ≡ map show rows
+    outputs_are [] = refl
+    outputs_are (r ∷ rows) = rw (shows r, outputs_are rows)
+
+    all_are : IsPermutation (map show (s.now.trees tree)) (answer tree parts (overlay s.now.trees []))
+    all_are =
+        let db = overlay s.now.trees [] in
+        let same = IsPermutation-map (λ (o : Output). o.1) _ _ (same_list (below tree parts) (one_way tree parts) (outputs tree parts db)) in
+        subst (λ (rows : List Row). IsPermutation (map show rows) (answer tree parts db)) (uncovered schema table d low s.now.trees)
+        (subst (λ (rows : List Row). IsPermutation rows (answer tree parts db)) (outputs_are (db tree)) same)
+
+    -- there is an answer, where the connection is open
+    pub answered : IsTrue s.is_open → (rows : List Row) × Shown text [] s s rows × IsPermutation (map show (s.now.trees tree)) rows
+    unfolding Shown
+    answered is_open =
+        let unchanged : IsUnchanged s s =
+        (record { was_open = is_open; is_open = is_open; now_is = refl; committed_is = refl; mode = refl }, record { changes = refl; last_rowid = refl }, refl) in
+        let from : IsSourceOf (reads_listing s.now.schema text) s.now s.now = subst (λ (b : Bool). IsSourceOf b s.now s.now) (sym unlisted) refl in
+        let reads : Reads meant.command s.now [] (answer tree parts (overlay s.now.trees [])) = record { typed = typed; answer = answers tree parts (overlay s.now.trees []) } in
+        (answer tree parts (overlay s.now.trees []), (meant, is_one, (s.now, from, reads, unchanged)), all_are)

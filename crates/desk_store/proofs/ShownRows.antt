@@ -1,0 +1,240 @@
+-- The rows that the statements give of a file in which a book stands.
+use Rattle.std.proofs.Common.{◌≡◌, ◌∙◌, ℕ, Bool, true, false, List, [], ◌∷◌, map, Option, Some, None, IsTrue, IsPermutation, refl, sym, ap, ap₂, subst}
+use Rattle.std.specs.List.{AllByRecursion}
+use Rattle.std.proofs.lemmas.List.Sorted.{IsPermutation-sym}
+use Rattle.sqlite_value.specs.declared.value.Value.{Value}
+use Rattle.sqlite_value.specs.Order.{Row, column}
+use Rattle.sqlite_schema.specs.declared.schema.Schema.{Schema}
+use Rattle.sqlite_sql.specs.Term.{col, eval_all}
+use Rattle.sqlite_trees.specs.Tree.{rowid}
+use Rattle.sqlite_trees.specs.View.{is_int}
+use Rattle.sqlite_trees.proofs.ListLemmas.{all-map, all-permutation, all_from_map}
+use Rattle.sqlite.specs.State.{Shown, State}
+use Rattle.sqlite.specs.Values.{IsInt}
+use Rattle.sql_tables.specs.Rows.{Lists, picked}
+use Rattle.sql_tables.specs.States.{HasTable}
+use Rattle.sql_tables.proofs.RowKinds.{integer_of}
+use Rattle.desk_book.specs.Book.{Book}
+use Rattle.desk_book.specs.SameRows.{AreSameCaches, AreSameEntries, AreSameRows}
+use Rattle.desk_book.specs.Shows.{Shows as RowsShow, book_row_of}
+use Rattle.desk_book.proofs.SameRows.{shown as shown_too}
+use Rattle.desk_parts.specs.FileRows.{EntryRows, FileRows, Named, Unnamed, format_of}
+use Rattle.desk_parts.specs.Rows.{Cached, StoredTab}
+use Rattle.desk_rows.specs.Asked.{Gives, asked, given}
+use Rattle.desk_rows.specs.Contents.{Contents}
+use Rattle.desk_rows.specs.Described.{Which, books, tabs, paras, corrs, marks, caches, named_corrs, described, shows_rowid, table_of}
+use Rattle.desk_rows.specs.Layout.{Layout}
+use Rattle.desk_rows.specs.Rows.{RowOf, ShownOf, own, shown, written}
+use Rattle.desk_rows.specs.States.{Shows}
+use Rattle.desk_rows.specs.Tables.{is_there}
+use Rattle.desk_rows.specs.Whole.{IsUtf8Row}
+use Rattle.desk_rows.proofs.Answering.{has_table}
+use Rattle.desk_rows.proofs.FileTexts.{readable_table, rowids}
+use Rattle.desk_rows.proofs.OneList.{one_list}
+use Rattle.desk_rows.proofs.PlainReads.{is_read}
+use Rattle.desk_rows.proofs.WholeFile.{own_listed, tabs_apart}
+use Rattle.desk_rows.proofs.WholeReads.{rows_cmp, table_kinds, table_read}
+use Rattle.desk_store.specs.BookFile.{rows_of}
+use Rattle.desk_store.specs.Formats.{Format, IsOfFormat, IsPresent, Presence, foreign, named, needed, optional, presence, unnamed, unread}
+use Rattle.desk_store.specs.Found.{AreCellsIn, AreEntriesIn, AreFileRows, AreOtherRows, AreRowsIn, AreToldApart, CanAllAnswer, CanAnswer, IsReadAs, RowsShowIn, format_kept}
+use Rattle.desk_store.specs.Opened.{Stands}
+use Rattle.desk_store.specs.Opening.{CanAllBeRead, CanBeRead, has_tables}
+use Rattle.desk_store.proofs.FoundFormats.{books_there}
+use Rattle.desk_store.proofs.JudgedTables.{one_format, same_one, tables_of}
+use Rattle.desk_store.proofs.Opened.{as_listed, has_caches, has_needed, needs_marks, needs_paras, needs_tabs}
+use Rattle.desk_store.proofs.ReadAnswers.{answered, can_answer}
+use Rattle.desk_store.proofs.StandingBooks.{can_be_read}
+
+-- ---- each table
+
+-- a row of the tree, whose columns are a row of the table, is shown as one
+shown_row : (w : Which) (r : Row) → (shows_rowid w ≡ true → IsInt (rowid r)) → (y : RowOf w) × (picked (described w).own r ≡ written w y)
+    → (x : ShownOf w) × (given w (picked (described w).shown r) ≡ shown w x)
+shown_row books r id (y, is) = (y, is)
+shown_row tabs r id (y, is) = let n = id refl in (record { rowid = n.0; row = y }, ap₂ (λ (v : Value) (vs : Row). v ∷ vs) n.1 is)
+shown_row paras r id (y, is) = (y, is)
+shown_row corrs r id (y, is) = (y, is)
+shown_row marks r id (y, is) = (y, is)
+shown_row caches r id (y, is) = (y, is)
+shown_row named_corrs r id (y, is) = (y, is)
+
+-- ---- lists of rows
+
+all_written : {X : Type 0} (f : X → Row) (xs : List X) → AllByRecursion (λ r. (x : X) × (r ≡ f x)) (map f xs)
+all_written f [] = tt
+all_written f (x ∷ xs) = ((x, refl), all_written f xs)
+
+collected : {X : Type 0} (columns : Row → Row) (f : X → Row) (rows : List Row) → AllByRecursion (λ r. (x : X) × (columns r ≡ f x)) rows
+    → (xs : List X) × (map columns rows ≡ map f xs)
+collected columns f [] all = ([], refl)
+collected columns f (r ∷ rows) all =
+    let more = collected columns f rows all.1 in
+    (all.0.0 ∷ more.0, ap₂ (λ (v : Row) (vs : List Row). v ∷ vs) all.0.1 more.1)
+
+columns_are : (ps : List ℕ) (r : Row) → eval_all (map (col 1) ps) ([] ∷ r ∷ []) ≡ picked ps r
+columns_are [] r = refl
+columns_are (p ∷ ps) r = ap (λ (vs : Row). column r p ∷ vs) (columns_are ps r)
+
+all_shown_rows : (w : Which) (rows : List Row) → (shows_rowid w ≡ true → AllByRecursion (λ r. IsTrue (is_int (rowid r))) rows)
+    → AllByRecursion (λ r. (y : RowOf w) × (picked (described w).own r ≡ written w y)) rows
+    → AllByRecursion (λ r. (x : ShownOf w) × (given w (picked (described w).shown r) ≡ shown w x)) rows
+all_shown_rows w [] ids owns = tt
+all_shown_rows w (r ∷ rows) ids owns = (shown_row w r (λ is. integer_of (rowid r) (ids is).0) owns.0, all_shown_rows w rows (λ is. (ids is).1) owns.1)
+
+-- ---- a table of a file
+
+module _ (l : Layout) (c : Contents) (s : State) (is_open : IsTrue s.is_open) (shows : Shows l c s) where
+  module _ (w : Which) (there : l.has w ≡ true) where
+    abbrev tree : List Row
+    tree = s.now.trees (l.tree w)
+
+    has : HasTable (table_of w (l.tree w)) s
+    has = has_table w l c s there shows
+
+    owns : AllByRecursion (λ r. (y : RowOf w) × (picked (described w).own r ≡ written w y)) tree
+    owns =
+        all_from_map (λ v. (y : RowOf w) × (v ≡ written w y)) (picked (described w).own) tree
+        (all-permutation (λ v. (y : RowOf w) × (v ≡ written w y)) _ _ (shows.is.holds.tables w there) (all_written (written w) (c.rows w)))
+
+    answer : (rows : List Row) × Shown (described w).read [] s s rows × IsPermutation (map (picked (described w).shown) tree) rows
+    unfolding is_read
+    answer =
+        answered (described w).name (described w).columns (described w).key (described w).primary (described w).uniques (described w).orders (described w).read (is_read w)
+        s.now.schema (l.tree w) has.declared s refl has.sound (picked (described w).shown) (columns_are (described w).shown) is_open
+
+    -- there are rows that its statement gives
+    gives : (xs : List (ShownOf w)) × Gives (asked w) (shown w) s s xs
+    gives =
+        let all = all_shown_rows w tree (rowids l c s.now.trees shows.is w there) owns in
+        let shown_all = all-permutation (λ v. (x : ShownOf w) × (given w v ≡ shown w x)) _ _ answer.2
+        (all-map (λ v. (x : ShownOf w) × (given w v ≡ shown w x)) (picked (described w).shown) tree all) in
+        let xs = collected (given w) (shown w) answer.0 shown_all in
+        (xs.0, (answer.0, answer.1, xs.1))
+
+    listed : (xs : List (ShownOf w)) → Gives (asked w) (shown w) s s xs → Lists (shown w) (picked (described w).shown) xs tree
+    listed xs (rows, seen, is) =
+        (table_read w s.now.schema (l.tree w) has.declared s s refl has.sound (shown w) (λ a b. rows_cmp w (shown w a) (shown w b)) (λ a b. refl) rows xs seen is).0
+
+    -- what it gives are the table's rows
+    same_rows : (xs : List (ShownOf w)) → Gives (asked w) (shown w) s s xs → IsPermutation (c.rows w) (map (own w) xs)
+    same_rows xs gives_xs =
+        one_list w (picked (described w).own) (c.rows w) (map (own w) xs) tree (shows.is.holds.tables w there) (own_listed w xs tree (listed xs gives_xs))
+
+  apart : (w : Which) → l.has w ≡ true → (xs : List (ShownOf w)) → Gives (asked w) (shown w) s s xs → AreToldApart w xs
+  apart books there xs gives_xs = tt
+  apart tabs there xs gives_xs = tabs_apart l c s.now.trees shows.is there xs (listed tabs there xs gives_xs)
+  apart paras there xs gives_xs = tt
+  apart corrs there xs gives_xs = tt
+  apart marks there xs gives_xs = tt
+  apart caches there xs gives_xs = tt
+  apart named_corrs there xs gives_xs = tt
+
+  can : (w : Which) → l.has w ≡ true → AllByRecursion (IsUtf8Row w) (c.rows w) → CanAnswer s w
+  can w there utf8 = record {
+    has =
+        can_answer (described w).name (described w).columns (described w).key (described w).primary (described w).uniques (described w).orders (described w).read (is_read w)
+        s.now.schema (l.tree w) (has w there).declared s refl (has w there).sound;
+    kinds = λ rows seen.
+        table_kinds w s.now.schema (l.tree w) (has w there).declared s s refl (has w there).sound rows seen (readable_table l c s.now.trees shows.is w there utf8);
+    apart = apart w there;
+  }
+
+  rows_in : (w : Which) → l.has w ≡ true → (xs : List (ShownOf w)) × AreRowsIn s w xs
+  rows_in w there = let got = gives w there in (got.0, (got.1, apart w there got.0 got.1))
+
+  -- ---- the tables of a format
+
+  has_if : (p : Presence) (it is : Bool) → IsPresent p it is → IsReadAs p is → it ≡ true
+  has_if needed it is present read = present.1
+  has_if optional it is present read = present ∙ read
+  has_if foreign it is present read = absurd read
+  has_if unread it is present read = absurd read
+
+  utf8_if : (p : Presence) (it is : Bool) (Utf8 : Type 0) → IsReadAs p is → it ≡ true → CanBeRead p it Utf8 → Utf8
+  utf8_if needed it is Utf8 read there can_be = can_be.1
+  utf8_if optional it is Utf8 read there can_be = can_be there
+  utf8_if foreign it is Utf8 read there can_be = absurd read
+  utf8_if unread it is Utf8 read there can_be = absurd read
+
+  can_all : (f : Format) → IsOfFormat f l → CanAllBeRead f l c → CanAllAnswer f s
+  can_all f of readable w read =
+      let here : IsReadAs (presence f w) (is_there l.schema w) = subst (λ (x : Schema). IsReadAs (presence f w) (is_there x w)) shows.schema read in
+      let there = has_if (presence f w) (l.has w) (is_there l.schema w) (of w) here in
+      can w there (utf8_if (presence f w) (l.has w) (is_there l.schema w) _ here there (readable w))
+
+  entries_in_file : (f : Format) → IsOfFormat f l → (entries : EntryRows) × (format_kept entries ≡ f) × AreEntriesIn s entries
+  entries_in_file unnamed of = let got = rows_in corrs (of corrs).1 in (Unnamed got.0, refl, got.1)
+  entries_in_file named of = let got = rows_in named_corrs (of named_corrs).1 in (Named got.0, refl, got.1)
+
+  caches_there : (f : Format) → IsOfFormat f l → l.has caches ≡ is_there s.now.schema caches
+  caches_there f of = has_caches f l of ∙ ap (λ (x : Schema). is_there x caches) (sym shows.schema)
+
+  cells_in_file : (f : Format) → IsOfFormat f l → (has : Bool) → l.has caches ≡ has → (cells : Option (List Cached)) × AreCellsIn s cells
+  cells_in_file f of true is = let got = rows_in caches is in (Some got.0, (sym (caches_there f of) ∙ is, got.1))
+  cells_in_file f of false is = (None, sym (caches_there f of) ∙ is)
+
+  has_books : (f : Format) → IsOfFormat f l → l.has books ≡ true
+  has_books unnamed of = (of books).1
+  has_books named of = (of books).1
+
+  -- some rows of the file
+  some_rows : (f : Format) → IsOfFormat f l → (rows : FileRows) × AreFileRows s rows × (format_kept rows.entries ≡ f)
+  some_rows f of =
+      let head = rows_in books (has_books f of) in
+      let stored = rows_in tabs (has_needed f l tabs of (needs_tabs f)) in
+      let texts = rows_in paras (has_needed f l paras of (needs_paras f)) in
+      let entries = entries_in_file f of in
+      let notes = rows_in marks (has_needed f l marks of (needs_marks f)) in
+      let cells = cells_in_file f of (l.has caches) refl in
+      let rows : FileRows = record { books = head.0; tabs = map (λ (tab : StoredTab). tab.row) stored.0; paras = texts.0; entries = entries.0; marks = notes.0; caches = cells.0 } in
+      let others : AreOtherRows s rows =
+      record { stored = stored.0; tabs_are = refl; tabs = stored.1; paras = texts.1; entries = entries.2; marks = notes.1; caches = cells.1 } in
+      let here = subst (λ (x : Schema). is_there x books ≡ true) (sym shows.schema) (books_there f l of) in
+      let tables = subst (λ (x : Schema). has_tables f x ≡ true) (sym shows.schema) (tables_of f l of) in
+      let are : AreFileRows s rows =
+      record { book = here; tables = subst (λ (g : Format). has_tables g s.now.schema ≡ true) (sym entries.1) tables; books = head.1; others = others } in
+      (rows, are, entries.1)
+
+  -- ---- any rows of it are the same
+
+  same_entries : (f : Format) → IsOfFormat f l → (entries : EntryRows) → f ≡ format_kept entries → AreEntriesIn s entries → AreSameEntries (rows_of l c).entries entries
+  same_entries unnamed of (Unnamed rows) is are = rw (of named_corrs).1 (as_listed _ _ (same_rows corrs (of corrs).1 rows are.0))
+  same_entries unnamed of (Named rows) is are = absurd (cc)
+  same_entries named of (Unnamed rows) is are = absurd (cc)
+  same_entries named of (Named rows) is are = rw (of named_corrs).1 (as_listed _ _ (same_rows named_corrs (of named_corrs).1 rows are.0))
+
+  same_cells : (f : Format) → IsOfFormat f l → (cells : Option (List Cached)) → AreCellsIn s cells → AreSameCaches (rows_of l c).caches cells
+  same_cells f of None none = let lacks : l.has caches ≡ false = caches_there f of ∙ none in rw lacks tt
+  same_cells f of (Some rows) are =
+      let there : l.has caches ≡ true = caches_there f of ∙ are.0 in
+      rw there (as_listed _ _ (same_rows caches there rows are.1.0))
+
+  same_file : (f : Format) (book : Book) → IsOfFormat f l → RowsShow (rows_of l c) book → (others : FileRows) → AreFileRows s others → AreSameRows (rows_of l c) others
+  same_file f book of stands others are =
+      let row = book_row_of (format_of (rows_of l c).entries) book.version in
+      let heads = as_listed _ _ (same_rows books (has_books f of) others.books are.books.0) in
+      let its : has_tables (format_kept others.entries) l.schema ≡ true = subst (λ (x : Schema). has_tables (format_kept others.entries) x ≡ true) shows.schema are.tables in
+      let rest = are.others in
+      let names = same_rows tabs (has_needed f l tabs of (needs_tabs f)) rest.stored rest.tabs.0 in
+      record {
+        books = stands.row ∙ sym (same_one others.books (c.rows books) row (IsPermutation-sym _ _ heads) stands.row);
+        tabs = subst (IsPermutation (c.rows tabs)) (sym rest.tabs_are) names;
+        paras = as_listed _ _ (same_rows paras (has_needed f l paras of (needs_paras f)) others.paras rest.paras.0);
+        entries = same_entries f of others.entries (one_format (format_kept others.entries) f l its of) rest.entries;
+        marks = as_listed _ _ (same_rows marks (has_needed f l marks of (needs_marks f)) others.marks rest.marks.0);
+        caches = same_cells f of others.caches rest.caches;
+      }
+
+-- ---- a book that stands in a file
+
+pub shown_where_it_stands : (s : State) → IsTrue s.is_open → (l : Layout) (book : Book) → Stands l book s → RowsShowIn s book
+shown_where_it_stands s is_open l book (c, stands) =
+    let f = stands.format in
+    let some = some_rows l c s is_open stands.shows f stands.of in
+    let readable = can_be_read l c book stands.rows f stands.of in
+    record {
+      rows = some.0;
+      are = some.1;
+      answer = subst (λ (g : Format). CanAllAnswer g s) (sym some.2) (can_all l c s is_open stands.shows f stands.of readable);
+      each = λ others are. shown_too (rows_of l c) others (same_file l c s is_open stands.shows f book stands.of stands.rows others are) book stands.rows;
+    }

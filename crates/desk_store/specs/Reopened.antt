@@ -1,0 +1,26 @@
+-- What a crash may leave of a book whose file is of either format.
+use Rattle.std.specs.Prelude.{List}
+use Rattle.std.specs.List.{Contains}
+use Rattle.sqlite_trees.specs.Tree.{Trees}
+use Rattle.sqlite.specs.State.{State}
+use Rattle.sql_tables.specs.States.{Leaves}
+use Rattle.desk_book.specs.Book.{Book}
+use Rattle.desk_rows.specs.Layout.{Layout}
+use Rattle.desk_store.specs.Books.{HasNewTables, HoldsBook, IsKept}
+use Rattle.desk_store.specs.Formats.{Format, IsOfFormat}
+
+-- the trees are a file of either format, whose rows show the book
+abbrev pub HoldsStanding : Book → Trees → Type 0
+HoldsStanding book db = (format : Format) × (l : Layout) × IsOfFormat format l × HoldsBook l book db
+
+-- they show one of these books
+abbrev pub HoldsOneOf : List Book → Trees → Type 0
+HoldsOneOf books db = (book : Book) × Contains books book × HoldsStanding book db
+
+-- a crash now leaves one of these books, in a file of either format
+abbrev pub LeavesOneOf : List Book → State → Type 0
+LeavesOneOf books = Leaves (HoldsOneOf books)
+
+-- the connection shows the book in some file with the tables of a new one, and so does whatever a crash leaves
+abbrev pub IsKeptThere : Book → State → Type 0
+IsKeptThere book s = (l : Layout) × HasNewTables l × IsKept l book s
