@@ -2,9 +2,9 @@
 # Brings all tables of the installed liblouis over by the built program, compares the cells with those of liblouis, and writes
 # docs/TABLES.md and the figures that `scribe bring --list` shows.
 #   tests/bring_all.sh [FOLDER]
-# In FOLDER each table gets a file with its figures, and a table that has one is left out; without FOLDER all are measured anew. This
-# takes an hour or so on two processors. PROCESSES says how many tables are brought over at once, EACH how many lines of a shape are
-# compared. The gate doesn't run this.
+# In FOLDER each table gets a file with its figures, and a table that has one is left out, so that a run which was stopped goes on;
+# without FOLDER all are measured anew. This takes some ten minutes of a processor. PROCESSES (1) says how many tables are brought over
+# at once, EACH (10) how many lines of a shape are compared. The gate doesn't run this.
 set -eu
 cd "$(dirname "$0")/.."
 python=${PYTHON:-/usr/bin/python3}

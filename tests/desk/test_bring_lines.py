@@ -6,7 +6,7 @@ from braildesk.bring.comparison import Comparison, Difference
 from braildesk.bring.draft import Draft
 from braildesk.bring.report import agreement, examples, percent
 from braildesk.bring.shapes import ASKED, UNSEEN, Material, Shape, lines_of
-from braildesk.bring.shipped import measured_tables, shipped_table
+from braildesk.bring.shipped import measured_tables, shipped_table, shipped_tables
 from braildesk.bring.words import usable, words_in
 
 MATERIAL = Material(["ab"], ["c"], {"a": "A", "b": "B", "c": "C"})
@@ -102,6 +102,20 @@ def test_the_head_of_a_table_says_its_language_and_title(tmp_path: Path) -> None
         "Great Braille",
         "",
     )
+
+
+def test_a_table_without_a_head_has_that_of_the_table_that_includes_it(
+    tmp_path: Path,
+) -> None:
+    (tmp_path / "ka-in-g1.utb").write_text("# Kannada\nletter a 1\n")
+    head = "#-display-name: Kannada braille\n#+language: kn\n\n"
+    (tmp_path / "kn.tbl").write_text(f"{head}include ka-in-g1.utb\n")
+    (tmp_path / "en-g1.ctb").write_text("include ka-in-g1.utb\n")
+    found = {table.name: table for table in shipped_tables(tmp_path)}
+    assert found["ka-in-g1.utb"].language == found["kn.tbl"].language == "kn"
+    assert found["ka-in-g1.utb"].title == "Kannada braille"
+    assert found["en-g1.ctb"].language == "en"
+    assert shipped_table(tmp_path / "ka-in-g1.utb") == found["ka-in-g1.utb"]
 
 
 def test_what_was_measured_is_read_by_the_names_of_tables(tmp_path: Path) -> None:

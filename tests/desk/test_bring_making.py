@@ -82,9 +82,60 @@ def test_a_mark_within_numbers_goes_on_with_them(tmp_path: Path) -> None:
     assert "numericmodechars ," in lines_of(tmp_path, text)
 
 
+def test_usual_marks_have_their_places_where_there_are_thousands_of_characters(
+    tmp_path: Path, monkeypatch: pytest.MonkeyPatch
+) -> None:
+    monkeypatch.setattr("braildesk.bring.alphabet.MANY", 1)
+    text = LETTERS + DIGITS + "punctuation , 2\nmidnum , 2\npunctuation _ 456\n"
+    lines = lines_of(tmp_path, text + 'punctuation " 4\npostpunc " 356\n')
+    assert "numericmodechars ," in lines
+    assert 'endword " 356' in lines
+
+
 def test_a_letter_that_stands_alone_gets_a_rule(tmp_path: Path) -> None:
     text = LETTERS + "word x 56-1346\n"
     assert lines_of(tmp_path, text)[-1:] == ["word x 56-1346"]
+
+
+def test_a_letter_that_stands_alone_may_be_without_its_sign_before_a_mark(
+    tmp_path: Path,
+) -> None:
+    point = 'punctuation . 256\nnoback correct "x" "x"\nalways x. 1346-256\n'
+    lines = lines_of(tmp_path, LETTERS + "word x 56-1346\n" + point)
+    assert "word x. 1346-256" in lines or "always x. 1346-256" in lines
+
+
+def test_a_digit_alone_may_have_a_sign_where_numbers_have_none(tmp_path: Path) -> None:
+    digits = "digit 1 2\ndigit 2 23\npunctuation . 256\nword 1 456-2\n"
+    lines = lines_of(tmp_path, LETTERS + digits)
+    assert "digit 1 2" in lines
+    assert "midword \\s1\\s 0-456-2-0" in lines
+
+
+def test_a_mark_after_some_letters_gets_rules_with_these(tmp_path: Path) -> None:
+    text = "attribute joining z\npunctuation ) 356\nafter joining always ) 6-356\n"
+    lines = lines_of(tmp_path, LETTERS + text)
+    assert [line for line in lines if line.split()[1].endswith(")")] == [
+        "punctuation ) 356",
+        "word z) 1356-6-356",
+        "endword z) 1356-6-356",
+    ]
+
+
+def test_a_letter_before_others_gets_rules_with_these(tmp_path: Path) -> None:
+    text = "attribute vowel a\nbefore vowel always z 1356-3\n"
+    lines = lines_of(tmp_path, LETTERS + text)
+    assert [line for line in lines if " za " in line] == [
+        "midword za 1356-3-1",
+        "word za 1356-3-1",
+        "begword za 1356-3-1",
+        "endword za 1356-3-1",
+    ]
+
+
+def test_a_mark_three_times_gets_a_rule(tmp_path: Path) -> None:
+    text = "punctuation . 256\nalways ... 3-3-3\n"
+    assert "always ... 3-3-3" in lines_of(tmp_path, LETTERS + text)
 
 
 def test_a_quotation_mark_gets_a_rule_for_each_place(tmp_path: Path) -> None:
@@ -107,11 +158,32 @@ def test_a_mark_that_goes_between_digits_goes_by_rules(tmp_path: Path) -> None:
     lines = lines_of(tmp_path, LETTERS + two + drop)
     assert "numericmodechars +" in lines
     assert [line for line in lines if line.startswith("always")] == [
-        "always 1+1 1-1",
-        "always 1+2 1-12",
-        "always 2+1 12-1",
-        "always 2+2 12-12",
+        "always +1 1",
+        "always +2 12",
     ]
+
+
+def test_a_mark_within_a_number_may_differ_from_that_at_its_end(tmp_path: Path) -> None:
+    ends = "punctuation . 256\nmidnum . 46\nendnum . 6-256\n"
+    lines = lines_of(tmp_path, LETTERS + DIGITS + ends)
+    assert [line for line in lines if line.split()[1] in (".", ".1", ".2", ".3")] == [
+        "punctuation . 6-256",
+        "numericmodechars .",
+        "word . 256",
+        "begword . 256",
+        "midword . 256",
+        "endword . 256",
+        "always .1 46-1",
+        "always .2 46-12",
+        "always .3 46-14",
+    ]
+
+
+def test_a_number_of_a_list_is_not_taken_for_one_in_a_sentence(tmp_path: Path) -> None:
+    ends = "punctuation . 256\nendnum . 6-256\n"
+    at_front = 'noback correct `$D["."] "\\x2832"\nsign \\x2832 256\n'
+    lines = lines_of(tmp_path, LETTERS + DIGITS + ends + at_front)
+    assert "always 1. 1-6-256" in lines
 
 
 def test_rules_of_contractions_are_read(tmp_path: Path) -> None:
@@ -189,6 +261,24 @@ def test_a_text_on_which_liblouis_loops_is_lost_and_no_other(tmp_path: Path) -> 
     with Liblouis(find_table("de-g0.utb")) as liblouis:
         assert liblouis.ask(["ab", "xx ?@xx", "ba"]) == [(1, 3), None, (3, 1)]
         assert liblouis.lost == ["xx ?@xx"]
+
+
+def test_many_texts_are_answered_in_their_order() -> None:
+    texts = [f"a{number:04}" for number in range(2_500)]
+    with Liblouis(find_table("es-g1.ctb")) as liblouis:
+        found = liblouis.ask(texts)
+        assert found == [liblouis.cells(text) for text in texts]
+        assert found[0] == (1, 60, 26, 26, 26, 26)
+        assert found[2_345] == (1, 60, 3, 9, 25, 17)
+
+
+def test_a_second_table_is_read_beside_the_first(tmp_path: Path) -> None:
+    (tmp_path / "second.utb").write_text(LETTERS)
+    with Liblouis(find_table("de-g0.utb")) as first:
+        second = first.beside(tmp_path / "second.utb")
+        assert (first.cells("x"), second.cells("q")) == ((45,), (31,))
+        assert first.ask(["xx ?@xx"]) == [None]
+        assert (first.cells("q"), second.cells("z")) == ((31,), (53,))
 
 
 def test_a_table_that_liblouis_refuses_is_refused(tmp_path: Path) -> None:

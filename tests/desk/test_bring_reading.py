@@ -165,6 +165,21 @@ def test_characters_have_the_classes_of_the_profile(tmp_path: Path) -> None:
     assert alphabet.carriers("+") == ("a", "b")
 
 
+def test_letters_that_a_table_calls_signs_are_letters_where_it_has_no_others(
+    tmp_path: Path,
+) -> None:
+    text = "sign \\s 0\nsign a 1\nsign A 17\nsign 1 2\nsign . 256\n"
+    (tmp_path / "a.utb").write_text(text)
+    alphabet = make_alphabet(read_table(read_source(tmp_path / "a.utb")), "a.utb")
+    assert alphabet.kinds == {
+        " ": "space",
+        "a": "letter",
+        "A": "letter",
+        "1": "punctuation",
+        ".": "punctuation",
+    }
+
+
 @pytest.mark.parametrize(
     ("name", "script"),
     [

@@ -2,7 +2,8 @@
 
 A line is running English where it has eight words or more, at least two of them among
 the commonest, and nine in ten of its words are letters, or numbers, once the marks at
-their ends are taken off. Three groups are told apart by the form of their words alone.
+their ends are taken off. The documents are taken in the order of the digests of their
+paths, so that no hand chooses them, and of each its first lines of running English.
 """
 
 import enum
@@ -13,6 +14,8 @@ import pathlib
 import re
 from collections.abc import Iterator
 
+import capitals
+
 ROOTS = (
     "/usr/share/common-licenses",
     "/usr/share/doc",
@@ -20,10 +23,13 @@ ROOTS = (
     "/usr/share/perl",
 )
 
-# which files of documentation have text for people, by their names
+# how many lines of a document are taken at most
+OF_A_DOCUMENT = 40
+
+# which files of documentation have text for people, by their names: those named copyright
+# aren't among them, since they repeat the same licences, which have a folder of their own
 DOCUMENT = re.compile(
-    r"(README|NEWS|FAQ|TODO|THANKS|AUTHORS|HACKING|INSTALL|copyright"
-    r"|.*\.(txt|md|rst|pod))(\.gz)?",
+    r"(README|NEWS|FAQ|TODO|THANKS|AUTHORS|HACKING|INSTALL|.*\.(txt|md|rst|pod))(\.gz)?",
     re.I,
 )
 # the manual pages in English, whose lines of text have no mark-up
@@ -37,19 +43,16 @@ COMMONEST = frozenset(
 MARKS = "\"'“”‘’().,;:?!…[]"
 WORD = re.compile(r"[^\W\d_]+(?:['’-][^\W\d_]+)*|\d+(?:[.,:]\d+)*")
 
-# a word in which capitals and small letters are mixed otherwise than in a name
-MIXED = re.compile(r"[^\W\d_]*(?:[a-z][A-Z]|[A-Z]{2}[a-z])")
-
 FEWEST_WORDS = 8
 FEWEST_COMMON = 2
 
 
-class Group(enum.Enum):
-    """What the words of a line look like."""
+class Need(enum.Enum):
+    """What a line needs that no table of the profile has."""
 
-    PROSE = "prose"
-    NAMES = "lines with capitals inside a word (CMake, PDFs)"
-    CAPITALS = "lines with more capitals than small letters"
+    PASSAGE = "lines with a passage of capitals"
+    TERMINATOR = "lines with capitals that small letters follow in the word (PDFs)"
+    NOTHING = "lines that need neither"
 
 
 def is_running(line: str) -> bool:
@@ -64,33 +67,34 @@ def is_running(line: str) -> bool:
     )
 
 
-def group_of(line: str) -> Group:
-    """The group of a line."""
-    if sum(map(str.isupper, line)) > sum(map(str.islower, line)):
-        return Group.CAPITALS
-    return Group.NAMES if MIXED.search(line) else Group.PROSE
+def need_of(line: str) -> Need:
+    """What a line needs, by its print alone."""
+    if capitals.passages(line):
+        return Need.PASSAGE
+    return Need.TERMINATOR if capitals.runs_before_small_letters(line) else Need.NOTHING
 
 
-def documents() -> Iterator[pathlib.Path]:
-    """The documents of the machine, in the order of their paths."""
+def documents() -> list[pathlib.Path]:
+    """The documents of the machine, in the order of the digests of their paths."""
+    found = []
     for root in ROOTS:
-        for folder, folders, files in os.walk(root):
-            folders.sort()
-            for name in sorted(files):
-                path = pathlib.Path(folder, name)
-                if path.is_file() and not path.is_symlink() and is_document(path):
-                    yield path
+        for folder, _, files in os.walk(root):
+            paths = (pathlib.Path(folder, name) for name in files)
+            found += [path for path in paths if is_document(path)]
+    return sorted(found, key=lambda it: hashlib.sha256(str(it).encode()).digest())
 
 
 def is_document(path: pathlib.Path) -> bool:
     """Whether a file has text for people in English."""
     text = str(path)
+    if path.is_symlink() or not path.is_file():
+        return False
     if text.startswith("/usr/share/man/"):
         return bool(MANUAL.match(text))
     return "/doc/" not in text or bool(DOCUMENT.fullmatch(path.name))
 
 
-def lines_of(path: pathlib.Path) -> list[str]:
+def lines_of(path: pathlib.Path) -> Iterator[str]:
     """The lines of a document, of which those that can't be read have none."""
     try:
         written = path.read_bytes()
@@ -98,15 +102,20 @@ def lines_of(path: pathlib.Path) -> list[str]:
             written = gzip.decompress(written)
         lines = written.decode("utf-8").split("\n")
     except (UnicodeDecodeError, gzip.BadGzipFile, EOFError, PermissionError):
-        return []
-    if str(path).startswith("/usr/share/man/"):
-        lines = [line for line in lines if not MARKED_UP.match(line)]
-    return [line.strip() for line in lines]
+        return
+    is_manual = str(path).startswith("/usr/share/man/")
+    for line in lines:
+        if not is_manual or not MARKED_UP.match(line):
+            yield line.strip()
 
 
-def running_lines(most: int) -> list[str]:
-    """At most so many lines of running English: those of the smallest digests."""
-    found = {
-        line for path in documents() for line in lines_of(path) if is_running(line)
-    }
-    return sorted(found, key=lambda it: hashlib.sha256(it.encode()).digest())[:most]
+def running_lines(most: int | None) -> tuple[list[str], int]:
+    """At most so many lines of running English, none twice, and of how many documents."""
+    found: dict[str, None] = {}
+    for count, path in enumerate(documents(), 1):
+        new = (line for line in lines_of(path) if line not in found)
+        for _, line in zip(range(OF_A_DOCUMENT), filter(is_running, new)):
+            found.setdefault(line)
+            if len(found) == most:
+                return [*found], count
+    return [*found], len(documents())

@@ -52,6 +52,24 @@ def rows_have_their_cells(program: Program) -> list[str]:
     return wrong_rows(program, rows.of_file(ROOT / "tests/rows/ueb"))
 
 
+def every_character_stands_in_a_row(_: Program) -> list[str]:
+    """Each character that is claimed has cells that were written by hand.
+
+    A capital's are those of its small letter, as another check sees.
+    """
+    written = "".join(row.print for row in rows.of_file(ROOT / "tests/rows/ueb"))
+    smalls = {
+        capital: small
+        for capital, small in claims.pairs()
+        if capital not in claims.TWO_CAPITALS
+    }
+    return [
+        f"U+{ord(it):04X} stands in no row"
+        for it in claims.characters()
+        if it not in written and smalls.get(it, it) not in written
+    ]
+
+
 def examples_of_the_document_have_their_cells(program: Program) -> list[str]:
     """Each example of docs/LIBLOUIS.md for this table has the cells that it shows."""
     wanted = rows.of_document(ROOT / "docs/LIBLOUIS.md", "The table `ueb.utb`")
@@ -99,6 +117,7 @@ CHECKS = (
     the_table_defines_what_it_claims,
     a_capital_is_its_small_letter_with_the_sign,
     rows_have_their_cells,
+    every_character_stands_in_a_row,
     examples_of_the_document_have_their_cells,
     a_book_with_every_character_goes_to_an_embosser,
 )

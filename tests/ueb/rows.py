@@ -2,8 +2,13 @@
 
 import dataclasses
 import pathlib
+import re
 
 import cells
+
+
+# a character in the print of a row, by its number
+ESCAPE = re.compile(r"\\x([0-9A-F]{4})")
 
 
 class NoRow(Exception):
@@ -29,7 +34,8 @@ def of_file(path: pathlib.Path) -> list[Row]:
         print_, arrow, written = line.partition(" => ")
         if not arrow:
             raise NoRow(f"{path.name}:{at} has no ' => '.")
-        rows.append(Row(f"{path.name}:{at}", print_, cells.from_ascii(written)))
+        shown = ESCAPE.sub(lambda it: chr(int(it[1], 16)), print_)
+        rows.append(Row(f"{path.name}:{at}", shown, cells.from_ascii(written)))
     return rows
 
 

@@ -12,7 +12,7 @@ liblouis in a process of its own (`worker`), `alphabet` sorts the characters, an
 all that together. `draft` is the table that is made. `places` and `probes` ask for cells in places;
 `letters`, `capitals`, `numbers`, `marks` and `contractions` fill the draft, `trial` asks the program
 what it gives by it, `making` is the order of these steps, and `learning` guesses more where that is
-asked for. `words` and `shapes` give lines, `comparison` compares on them, and `reduced` says which
-need what the profile leaves out. `bringing` is the whole, `report` what is said of it, and
-`shipped` the list of the tables that liblouis has.
+asked for. `words` and `shapes` give lines, `comparison` compares on them, and `reduced` and
+`beyond` say which need what the profile leaves out. `bringing` is the whole, `report` what is said
+of it, `shipped` the list of the tables that liblouis has, and `naming` finds one of them.
 """

@@ -52,6 +52,11 @@ _SCRIPTS: Final[Mapping[str, str]] = {
 _NOT_TO_BE_DEFINED: Final = "\n\r\x00\ufffd"
 
 
+def is_pattern(character: str) -> bool:
+    """Whether a character is one of Braille Patterns, which is its own cell wherever it stands."""
+    return 0x2800 <= ord(character) <= 0x28FF
+
+
 def script_of(character: str) -> str:
     """The script of a character, by the first word of its name."""
     return unicodedata.name(character, "?").split(" ", 1)[0]
@@ -104,6 +109,8 @@ def make_alphabet(table: Table, name: str) -> Alphabet:
         for one in table.classes
         if one not in _NOT_TO_BE_DEFINED and not 0xD800 <= ord(one) <= 0xDFFF
     }
+    if "letter" not in kinds.values():
+        kinds |= {one: _kind_by_itself(one) for one in kinds}
     lower = _pairs(table, kinds)
     groups: dict[str, list[str]] = {}
     for one, kind in kinds.items():
@@ -128,6 +135,13 @@ def _kind(character: str, table: Table, depth: int = 0) -> str:
     if base is not None and base in table.classes and depth < DEEPEST_BASE:
         return _kind(base, table, depth + 1)
     return "punctuation"
+
+
+def _kind_by_itself(character: str) -> str:
+    """The class of a character of a table that calls all of them signs, as some of computer braille do."""
+    if character.isalpha():
+        return "letter"
+    return "space" if character == " " else "punctuation"
 
 
 def _pairs(table: Table, kinds: Mapping[str, str]) -> dict[str, str]:

@@ -24,6 +24,12 @@ def ask_capitals(subject: Subject, draft: Draft) -> list[str]:
         for upper, lower in subject.alphabet.lower.items()
         if lower in draft.cells
     }
+    subject.liblouis.ask(
+        text
+        for upper, lower in pairs.items()
+        for tail in [_tail(subject, upper)]
+        for text in (upper + tail, lower + tail, tail)
+    )
     sample = _sample(subject, pairs)
     sign = most_common(
         [_sign(subject, upper, pairs[upper]) for upper in sample], share=0.3
@@ -79,9 +85,12 @@ def _run_sign(subject: Subject, draft: Draft, sample: Sequence[str]) -> Cells | 
     if len(sample) < 3:
         return None
     found = []
-    for place in range(min(RUNS, len(sample))):
-        run = [sample[(place * step) % len(sample)] for step in (1, 3, 7)]
-        whole = subject.liblouis.cells("".join(run))
+    runs = [
+        [sample[(place * step) % len(sample)] for step in (1, 3, 7)]
+        for place in range(min(RUNS, len(sample)))
+    ]
+    wholes = subject.liblouis.ask("".join(run) for run in runs)
+    for run, whole in zip(runs, wholes, strict=True):
         plain = tuple(cell for one in run for cell in draft.cells[one])
         found.append(None if whole is None else stripped(whole, (), plain))
     return most_common(found) if any(one is not None for one in found) else None

@@ -7,6 +7,7 @@ from collections.abc import Mapping, Sequence
 from dataclasses import dataclass
 from pathlib import Path
 
+from braildesk.bring.beyond import needs_beyond
 from braildesk.bring.draft import Draft
 from braildesk.bring.operands import Cells
 from braildesk.bring.reduced import needs
@@ -88,6 +89,8 @@ def compare(
         subject.liblouis,
         folder,
     )
+    others = [sample.line for sample, _, _ in different if sample.line not in need]
+    need |= needs_beyond(subject, draft, trial, others)
     differences = tuple(
         Difference(one.line, one.shape, want, have, need.get(one.line))
         for one, want, have in different

@@ -6,7 +6,7 @@ from typing import Final
 
 from braildesk.bring.draft import Draft, Origin
 from braildesk.bring.operands import BadOperand, Cells, read_dots
-from braildesk.bring.places import between
+from braildesk.bring.places import Frame, between
 from braildesk.bring.source import Line
 from braildesk.bring.subject import Subject
 from braildesk.bring.table import INEXACT, KINDS, Rule
@@ -68,4 +68,4 @@ def _cells(
         letters = carriers[0] * 2
         left = "" if kind in ("word", "begword") else letters
         right = "" if kind in ("word", "endword") else letters
-        return between(subject.liblouis, left, folded, right)
+        return between(subject.liblouis, Frame(left, folded, right))

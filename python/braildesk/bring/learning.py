@@ -12,15 +12,19 @@ from typing import Final
 
 from braildesk.bring.draft import Draft, Origin
 from braildesk.bring.operands import Cells
+from braildesk.bring.oracle import Piece
 from braildesk.bring.subject import Subject
 from braildesk.bring.trial import Trial
 
 GUESSED: Final = Origin(
     "Guessed from examples, by --learn. These may be wrong elsewhere.", mark="guessed"
 )
-ROUNDS: Final = 4
-EXAMPLES: Final = 2_000
-GUESSES: Final = 400
+ROUNDS: Final = 8
+EXAMPLES: Final = 4_000
+GUESSES: Final = 1_500
+TOGETHER: Final = 3
+"""How many pieces make a guess, at most."""
+
 FEWEST: Final = 2
 """How many words a guess has to set right."""
 
@@ -53,19 +57,31 @@ def _right(
 def _guesses(
     subject: Subject, words: Sequence[str], tried: set[_Guess]
 ) -> list[_Guess]:
-    counted = Counter(guess for word in words for guess in _pieces(subject, word))
+    pieces = subject.liblouis.pieces(words)
+    counted = Counter(
+        guess
+        for word, of_word in zip(words, pieces, strict=True)
+        for guess in _guesses_of(word, of_word)
+    )
     often = [guess for guess, count in counted.most_common() if count >= FEWEST]
     return [guess for guess in often if guess not in tried][:GUESSES]
 
 
-def _pieces(subject: Subject, word: str) -> Iterator[_Guess]:
-    """The pieces of a word, each as a rule of the kind of its place."""
+def _guesses_of(word: str, pieces: Sequence[Piece]) -> Iterator[_Guess]:
+    """The pieces of a word and those that follow one another, each as a rule of the kind of its place.
+
+    Several pieces together make a rule where liblouis takes a shorter piece first, as t and en of ten.
+    """
     start = 0
-    for piece, cells in subject.liblouis.pieces(word):
-        end = start + len(piece)
-        if len(piece) > 1 and cells:
-            yield _kind(start == 0, end == len(word)), piece, cells
-        start = end
+    for first in range(len(pieces)):
+        end = start
+        cells: Cells = ()
+        for piece, its_cells in pieces[first : first + TOGETHER]:
+            end += len(piece)
+            cells += its_cells
+            if end - start > 1 and cells:
+                yield _kind(start == 0, end == len(word)), word[start:end], cells
+        start += len(pieces[first][0])
 
 
 def _kind(begins: bool, ends: bool) -> str:

@@ -6,7 +6,7 @@ from typing import Final
 
 from braildesk.bring.draft import Draft, Origin
 from braildesk.bring.operands import Cells
-from braildesk.bring.places import between, most_common
+from braildesk.bring.places import Frame, ask_frames, between, most_common
 from braildesk.bring.subject import Subject
 
 ALONE: Final = Origin("Letters that stand alone, by asking liblouis.")
@@ -16,9 +16,16 @@ def ask_letters(subject: Subject, draft: Draft) -> list[str]:
     """Defines the letters that are no capitals, and the blanks. Returns those without cells."""
     alphabet = subject.alphabet
     missing = []
-    for one in [*alphabet.of("letter"), *alphabet.of("space")]:
-        if one in alphabet.lower:
-            continue
+    asked = [
+        one
+        for one in [*alphabet.of("letter"), *alphabet.of("space")]
+        if one not in alphabet.lower
+    ]
+    ask_frames(
+        subject.liblouis, [frame for one in asked for frame in _frames(subject, one)]
+    )
+    subject.liblouis.ask(asked)
+    for one in asked:
         cells = _within(subject, one) or subject.written_cells(one)
         if not cells or not draft.define(one, alphabet.kinds[one], cells):
             missing.append(one)
@@ -37,11 +44,15 @@ def ask_lone_letters(subject: Subject, draft: Draft) -> None:
             draft.add_rule("word", one, alone, ALONE)
 
 
-def _within(subject: Subject, one: str) -> Cells | None:
-    """A character's cells between doubled letters: a single letter may carry a sign of its own."""
-    found = [
-        between(subject.liblouis, letter * 2, one, letter * 2)
-        for letter in subject.alphabet.carriers(one)
+def _frames(subject: Subject, one: str) -> list[Frame]:
+    """A character between doubled letters: a single letter may carry a sign of its own."""
+    return [
+        Frame(letter * 2, one, letter * 2) for letter in subject.alphabet.carriers(one)
     ]
+
+
+def _within(subject: Subject, one: str) -> Cells | None:
+    """A character's cells between letters, or else alone."""
+    found = [between(subject.liblouis, frame) for frame in _frames(subject, one)]
     alone = subject.liblouis.cells(one)
     return most_common([cells for cells in found if cells]) or alone

@@ -10,15 +10,18 @@ from __future__ import annotations
 from collections.abc import Iterable, Sequence
 from typing import Final
 
+from braildesk.bring.alphabet import is_pattern
 from braildesk.bring.draft import Draft, Origin
 from braildesk.bring.operands import Cells
 from braildesk.bring.places import most_common
-from braildesk.bring.probes import Place, Probe, Probes, Side, Wanted
+from braildesk.bring.probes import CLOSING, Place, Probe, Probes, Side, Wanted
 from braildesk.bring.subject import Subject
 from braildesk.bring.trial import Trial
 
 IN_PLACES: Final = Origin("Marks in their places, by asking liblouis.")
 WITH_BLANKS: Final = Origin("Marks with blanks beside them, by asking liblouis.")
+WITH_LETTERS: Final = Origin("Marks right after letters, by asking liblouis.")
+AFTER_LETTERS: Final = Origin("Letters right after others, by asking liblouis.")
 PAIRED: Final = Origin("Pairs of marks, by asking liblouis.")
 
 JOINING: Final = "-/+*=:<>(\u2013\u00b7\u00d7\u00f7\u2212"
@@ -30,6 +33,9 @@ USUAL: Final = (
 )
 """The marks that are asked for in pairs."""
 
+
+ENDING: Final = ",;:.?!"
+"""The marks that are asked for after a closing one with a blank after them."""
 
 _BEFORE_DIGIT: Final = ((Side.EDGE, Side.DIGIT), (Side.LETTER, Side.DIGIT))
 
@@ -54,16 +60,16 @@ class Marks:
     def define(self, marks: Iterable[str]) -> list[str]:
         """Defines the marks by their cells before a digit. Returns those without cells."""
         missing = []
-        for mark in marks:
-            cells = self._default(mark) or self.subject.written_cells(mark)
+        for mark, usual in self._usual(list(marks)).items():
+            cells = usual or self.subject.written_cells(mark)
             if not cells or not self.draft.define(mark, "punctuation", cells):
                 missing.append(mark)
         return missing
 
     def settle(
         self, strings: Sequence[str], places: Sequence[Place], origin: Origin
-    ) -> None:
-        """Asks for strings in places, and adds rules where the draft differs."""
+    ) -> list[str]:
+        """Asks for strings in places, and adds rules where the draft differs. Returns those strings."""
         probes = [
             probe
             for characters in strings
@@ -74,9 +80,11 @@ class Marks:
         for probe in self._different(probes):
             self._once_different.append(probe)
             different.setdefault(probe.characters, set()).add(probe.place)
+        self._probes.ask(different, places)
         for characters, where in different.items():
             wanted = {place: self._probes.wanted(characters, place) for place in places}
             self._add_rules(characters, wanted, where, origin)
+        return list(different)
 
     def unsettled(self) -> list[str]:
         """The lines for which rules were looked for, and that differ in the end."""
@@ -92,14 +100,27 @@ class Marks:
             if want is not None and want != have
         ]
 
-    def _default(self, mark: str) -> Cells | None:
-        """A mark's cells before a digit, or else where it most often has them."""
-        self.draft.define(mark, "punctuation", (0,))
-        found = {
-            place: self._probes.wanted(mark, place)
-            for place in (*_BEFORE_DIGIT, *KIND_OF)
+    def _usual(self, marks: Sequence[str]) -> dict[str, Cells | None]:
+        """The cells of each mark before a digit, or else where it most often has them."""
+        for mark in marks:
+            self.draft.define(mark, "punctuation", (0,))
+        places = (*_BEFORE_DIGIT, *KIND_OF)
+        self._probes.ask((mark for mark in marks if not is_pattern(mark)), places)
+        self.subject.liblouis.ask(marks)
+        usual = {
+            mark: (
+                self.subject.liblouis.cells(mark)
+                if is_pattern(mark)
+                else self._usual_of(mark, places)
+            )
+            for mark in marks
         }
-        self.draft.drop(mark)
+        for mark in marks:
+            self.draft.drop(mark)
+        return usual
+
+    def _usual_of(self, mark: str, places: Sequence[Place]) -> Cells | None:
+        found = {place: self._probes.wanted(mark, place) for place in places}
         before_digit = found[Side.EDGE, Side.DIGIT] or found[Side.LETTER, Side.DIGIT]
         alone = self.subject.liblouis.cells(mark)
         return before_digit or most_common(found.values(), share=0.3) or alone
@@ -109,8 +130,12 @@ class Marks:
     ) -> None:
         """Adds rules for the places in which the draft differs."""
         bound = where
-        if len(characters) > 1 and where & set(_BEFORE_DIGIT):
-            cells = wanted.get(_BEFORE_DIGIT[0]) or wanted.get(_BEFORE_DIGIT[1])
+        usual = next(
+            (place for place in _places_before_digit(characters) if wanted.get(place)),
+            None,
+        )
+        if len(characters) > 1 and usual in where:
+            cells = wanted[usual]
             if cells and self.draft.add_rule("always", characters, cells, origin):
                 bound = set(wanted)
         for place, kind in KIND_OF.items():
@@ -126,10 +151,12 @@ class Marks:
         inner = wanted.get((Side.DIGIT, Side.DIGIT))
         ending = wanted.get((Side.DIGIT, Side.EDGE))
         leading = wanted.get((Side.DIGIT, Side.LETTER))
-        goes_on = characters in self.draft.mode
+        if len(characters) == 1 and characters in self.draft.mode:
+            self._add_going_on(characters, wanted, origin)
+            return
         if characters.endswith(" "):
             usual = _first(leading, inner)
-        elif characters[0] in JOINING and not goes_on:
+        elif characters[0] in JOINING:
             usual = _first(inner, ending, leading)
         else:
             usual = _first(ending, inner, leading)
@@ -140,9 +167,7 @@ class Marks:
             for digit in digits:
                 cells = self.draft.cells[digit] + usual
                 self.draft.add_rule("always", digit + characters, cells, origin)
-        if goes_on and inner is not None and inner != usual:
-            self._add_between_digits(characters, inner, origin)
-        elif ending is not None and ending != usual and " " in self.draft.cells:
+        if ending is not None and ending != usual and " " in self.draft.cells:
             for digit in digits:
                 cells = self.draft.cells[digit] + ending + self.draft.cells[" "]
                 self.draft.add_rule("always", f"{digit}{characters} ", cells, origin)
@@ -152,15 +177,33 @@ class Marks:
         digits = [one for one, kind in self.draft.classes.items() if kind == "digit"]
         return [one for one in digits if one.isascii()] or digits
 
-    def _add_between_digits(
-        self, characters: str, inner: Cells, origin: Origin
-    ) -> None:
-        for first in self._digits():
-            for second in self._digits():
-                cells = self.draft.cells[first] + inner + self.draft.cells[second]
-                self.draft.add_rule(
-                    "always", first + characters + second, cells, origin
-                )
+    def _add_going_on(self, mark: str, wanted: Wanted, origin: Origin) -> None:
+        """A mark after which a number goes on: its definition is what it is at the end of a number.
+
+        A rule of the mark and a digit is for its place within a number, since no rule covers a digit
+        that has a sign. All other places have rules of their own kind.
+        """
+        inner = wanted.get((Side.DIGIT, Side.DIGIT))
+        ending = wanted.get((Side.DIGIT, Side.EDGE)) or wanted.get(
+            (Side.DIGIT, Side.LETTER)
+        )
+        before = self.draft.cells[mark]
+        if (
+            ending
+            and ending != before
+            and self.draft.define(mark, "punctuation", ending)
+        ):
+            for place, kind in KIND_OF.items():
+                self.draft.add_rule(kind, mark, wanted.get(place) or before, origin)
+        if inner is not None and inner != self.draft.cells[mark]:
+            for digit in self._digits():
+                cells = inner + self.draft.cells[digit]
+                self.draft.add_rule("always", mark + digit, cells, origin)
+
+
+def _places_before_digit(characters: str) -> Sequence[Place]:
+    """The places before a digit, that first where the characters mostly stand: closing marks after words."""
+    return _BEFORE_DIGIT[::-1] if characters[0] in CLOSING else _BEFORE_DIGIT
 
 
 def _first(*found: Cells | None) -> Cells | None:

@@ -8,7 +8,13 @@ from typing import Final
 from braildesk.bring.alphabet import script_of
 from braildesk.bring.draft import MOST_CHARACTERS, Draft, Origin
 from braildesk.bring.operands import Cells
-from braildesk.bring.places import between, most_common, stripped
+from braildesk.bring.places import (
+    Frame,
+    ask_frames,
+    between,
+    most_common,
+    stripped,
+)
 from braildesk.bring.subject import Subject
 
 AFTER_NUMBERS: Final = Origin("Letters after digits, by asking liblouis.")
@@ -18,6 +24,9 @@ def ask_digits(subject: Subject, draft: Draft) -> list[str]:
     """Defines the digits and the sign of numbers. Returns the digits without cells."""
     missing = []
     signs = []
+    subject.liblouis.ask(
+        text for digit in subject.alphabet.of("digit") for text in (digit, digit * 2)
+    )
     for digit in subject.alphabet.of("digit"):
         sign, cells = _digit(subject, digit)
         if not draft.define(
@@ -57,15 +66,21 @@ def ask_mode(subject: Subject, draft: Draft, marks: list[str]) -> None:
     digits = sample_digits(draft)
     if len(digits) < 2 or not draft.signs["numsign"]:
         return
-    found = [mark for mark in marks if _goes_on(subject, draft, mark, digits)]
+    pairs = list(zip(digits, digits[1:]))
+    subject.liblouis.ask(
+        first + mark + second for mark in marks for first, second in pairs
+    )
+    found = [mark for mark in marks if _goes_on(subject, draft, mark, pairs)]
     if len(found) > 1:
         found = [mark for mark in found if draft.classes[mark] != "space"]
     draft.mode = "".join(found[:MOST_CHARACTERS])
 
 
-def _goes_on(subject: Subject, draft: Draft, mark: str, digits: list[str]) -> bool:
+def _goes_on(
+    subject: Subject, draft: Draft, mark: str, pairs: list[tuple[str, str]]
+) -> bool:
     sign = draft.signs["numsign"]
-    for first, second in zip(digits, digits[1:]):
+    for first, second in pairs:
         whole = subject.liblouis.cells(first + mark + second)
         before = subject.liblouis.cells(first)
         if whole is None or before is None:
@@ -82,12 +97,17 @@ def ask_signed_letters(subject: Subject, draft: Draft) -> None:
     if not digits or subject.alphabet.is_large:
         return
     signs: dict[str, Cells] = {}
-    for one in subject.alphabet.of("letter"):
-        if one in draft.cells and one not in draft.lower and _own(subject, one):
-            sign = between(subject.liblouis, digits[0], one, "")
-            lone = stripped(sign, (), draft.cells[one]) if sign else None
-            if lone:
-                signs[one] = lone
+    frames = {
+        one: Frame(digits[0], one, "")
+        for one in subject.alphabet.of("letter")
+        if one in draft.cells and one not in draft.lower and _own(subject, one)
+    }
+    ask_frames(subject.liblouis, frames.values())
+    for one, frame in frames.items():
+        sign = between(subject.liblouis, frame)
+        lone = stripped(sign, (), draft.cells[one]) if sign else None
+        if lone:
+            signs[one] = lone
     if not signs:
         return
     common = Counter(signs.values()).most_common(1)[0][0]
@@ -110,7 +130,7 @@ def _mode_differs(subject: Subject, draft: Draft, letter: str) -> bool:
     """Whether a letter has no sign after a mark that goes on with a number."""
     digit = sample_digits(draft)[0]
     for mark in draft.mode[:3]:
-        cells = between(subject.liblouis, digit + mark, letter, "")
+        cells = between(subject.liblouis, Frame(digit + mark, letter, ""))
         if cells == draft.cells[letter]:
             return True
     return False

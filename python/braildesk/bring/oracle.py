@@ -1,6 +1,7 @@
 """Asking liblouis for cells, in a process of its own with a time limit.
 
-Some tables crash liblouis or keep it busy for ever; then one question is lost and no more.
+Some tables crash liblouis or keep it busy for ever; then one question is lost and no more. One
+process reads all the tables that are asked about, since it takes longer to start than to answer.
 """
 
 from __future__ import annotations
@@ -10,7 +11,7 @@ import select
 import subprocess
 import sys
 import time
-from collections.abc import Iterable, Sequence
+from collections.abc import Iterable, Iterator, Sequence
 from pathlib import Path
 from types import TracebackType
 from typing import Any, Final
@@ -23,10 +24,13 @@ FIRST_SECONDS: Final = 120.0
 SECONDS: Final = 20.0
 """How long an answer may take on a busy machine; the process ends itself well before."""
 
-PARCEL: Final = 400
+PARCEL: Final = 1_000
 """How many questions are asked at once."""
 
 _WORKER: Final = Path(__file__).with_name("worker.py")
+
+Piece = tuple[str, Cells]
+"""Print that liblouis takes together, with its cells."""
 
 
 class NoLiblouis(Exception):
@@ -40,13 +44,17 @@ class _Silent(Exception):
 class Liblouis:
     """A table as liblouis reads it. What was asked once is remembered."""
 
-    def __init__(self, table: Path) -> None:
+    def __init__(self, table: Path, process: _Process | None = None) -> None:
         self.table: Final = table
-        self._worker: subprocess.Popen[bytes] | None = None
-        self._unread = b""
+        self._process: Final = process if process is not None else _Process()
         self._known: dict[str, Cells | None] = {}
         self.lost: Final[list[str]] = []
-        self.version: Final = self._begin()
+        try:
+            self.version: Final = self._process.read(table)
+        except NoLiblouis:
+            if process is None:
+                self.close()
+            raise
 
     def __enter__(self) -> Liblouis:
         return self
@@ -60,12 +68,12 @@ class Liblouis:
         self.close()
 
     def close(self) -> None:
-        """Ends the process."""
-        if self._worker is not None:
-            self._worker.kill()
-            self._worker.communicate()
-            self._worker = None
-            self._unread = b""
+        """Ends the process, which another question would start again."""
+        self._process.close()
+
+    def beside(self, table: Path) -> Liblouis:
+        """Another table, as the same process reads it."""
+        return Liblouis(table, self._process)
 
     def cells(self, text: str) -> Cells | None:
         """The cells of a text, or None where liblouis gives none."""
@@ -74,60 +82,91 @@ class Liblouis:
         return self._known[text]
 
     def ask(self, texts: Iterable[str]) -> list[Cells | None]:
-        """The cells of several texts."""
+        """The cells of several texts, which takes far less time than to ask for each."""
         wanted = list(texts)
         new = [text for text in dict.fromkeys(wanted) if text not in self._known]
-        for start in range(0, len(new), PARCEL):
-            self._learn(new[start : start + PARCEL])
+        for text, answer in self._answers("cells", new):
+            self._known[text] = None if answer is None else _cells(answer)
         return [self._known[text] for text in wanted]
 
-    def pieces(self, text: str) -> list[tuple[str, Cells]]:
-        """The pieces of print that liblouis takes together, each with its cells."""
-        try:
-            self._send({"pieces": text})
-            return [(piece, tuple(cells)) for piece, cells in self._answer(SECONDS)]
-        except _Silent:
-            return []
+    def pieces(self, texts: Iterable[str]) -> list[list[Piece]]:
+        """The pieces of print that liblouis takes together in each text."""
+        return [
+            [(piece, _cells(braille)) for piece, braille in answer or ()]
+            for _, answer in self._answers("pieces", list(texts))
+        ]
 
-    def _learn(self, texts: Sequence[str]) -> None:
-        """Asks for a parcel of texts. The one at which the process ends is lost, and the next one goes on."""
+    def _answers(self, kind: str, texts: Sequence[str]) -> Iterator[tuple[str, Any]]:
+        """Each text with its answer. The one at which the process ends has none, and the next one goes on."""
         place = 0
+        careful = False
         while place < len(texts):
+            parcel = texts[place : place + PARCEL]
+            answers = self._process.answers(self.table, kind, parcel, careful)
             try:
-                self._send({"texts": list(texts[place:])})
-                while place < len(texts):
-                    cells = self._answer(SECONDS)
-                    self._known[texts[place]] = None if cells is None else tuple(cells)
+                for answer in answers:
+                    yield texts[place], answer
                     place += 1
             except _Silent:
-                self._known[texts[place]] = None
-                self.lost.append(texts[place])
-                place += 1
+                if careful:
+                    self.lost.append(texts[place])
+                    yield texts[place], None
+                    place += 1
+                careful = not careful
 
-    def _begin(self) -> str:
-        self._worker = subprocess.Popen(
-            [sys.executable, str(_WORKER), str(self.table)],
-            stdin=subprocess.PIPE,
-            stdout=subprocess.PIPE,
-            stderr=subprocess.DEVNULL,
-        )
+
+class _Process:
+    """The process, which is started when it is needed and has ended."""
+
+    def __init__(self) -> None:
+        self._running: subprocess.Popen[bytes] | None = None
+        self._unread = b""
+        self._read: set[Path] = set()
+
+    def close(self) -> None:
+        if self._running is not None:
+            self._running.kill()
+            self._running.communicate()
+        self._running = None
+        self._unread = b""
+        self._read.clear()
+
+    def read(self, table: Path) -> str:
+        """Has liblouis read a table, and says the version of liblouis."""
         try:
+            self._send({"table": str(table)})
             answer = self._answer(FIRST_SECONDS)
         except _Silent as silent:
             raise NoLiblouis(
-                f"liblouis gives no answer for {self.table}: it may loop or break off on this table."
+                f"liblouis gives no answer for {table}: it may loop or break off on this table."
             ) from silent
         if "fault" in answer:
             raise NoLiblouis(str(answer["fault"]))
+        self._read.add(table)
         return str(answer["version"])
 
+    def answers(
+        self, table: Path, kind: str, texts: Sequence[str], careful: bool
+    ) -> Iterator[Any]:
+        """The answers to texts. Careful, each comes at once, so that none is lost but that of the end."""
+        if table not in self._read:
+            self.read(table)
+        self._send({"table": str(table), kind: list(texts), "careful": careful})
+        for _ in texts:
+            yield self._answer(SECONDS)
+
     def _send(self, question: dict[str, object]) -> None:
-        if self._worker is None:
-            self._begin()
-        assert self._worker is not None and self._worker.stdin is not None
+        if self._running is None:
+            self._running = subprocess.Popen(
+                [sys.executable, str(_WORKER)],
+                stdin=subprocess.PIPE,
+                stdout=subprocess.PIPE,
+                stderr=subprocess.DEVNULL,
+            )
+        assert self._running.stdin is not None
         try:
-            self._worker.stdin.write(json.dumps(question).encode() + b"\n")
-            self._worker.stdin.flush()
+            self._running.stdin.write(json.dumps(question).encode() + b"\n")
+            self._running.stdin.flush()
         except BrokenPipeError as error:
             self.close()
             raise _Silent from error
@@ -136,8 +175,8 @@ class Liblouis:
         return json.loads(self._line(seconds))
 
     def _line(self, seconds: float) -> bytes:
-        assert self._worker is not None and self._worker.stdout is not None
-        stream = self._worker.stdout
+        assert self._running is not None and self._running.stdout is not None
+        stream = self._running.stdout
         end = time.monotonic() + seconds
         while b"\n" not in self._unread:
             left = end - time.monotonic()
@@ -149,3 +188,8 @@ class Liblouis:
             self._unread += more
         line, _, self._unread = self._unread.partition(b"\n")
         return line
+
+
+def _cells(braille: str) -> Cells:
+    """The cells of braille. The dots that no page has are masked, as liblouis masks them."""
+    return tuple(ord(cell) & 255 for cell in braille)

@@ -4,16 +4,34 @@ from __future__ import annotations
 
 from collections import Counter
 from collections.abc import Iterable
+from dataclasses import dataclass
 
 from braildesk.bring.operands import Cells
 from braildesk.bring.oracle import Liblouis
 
 
-def between(liblouis: Liblouis, left: str, middle: str, right: str) -> Cells | None:
+@dataclass(frozen=True)
+class Frame:
+    """Print with what stands before and after it."""
+
+    left: str
+    middle: str
+    right: str
+
+    @property
+    def texts(self) -> tuple[str, str, str]:
+        """What is asked for to know the cells of the middle: the whole, and what stands around."""
+        return self.left + self.middle + self.right, self.left, self.right
+
+
+def ask_frames(liblouis: Liblouis, frames: Iterable[Frame]) -> None:
+    """Asks at once for what `between` then finds remembered."""
+    liblouis.ask(text for frame in frames for text in frame.texts)
+
+
+def between(liblouis: Liblouis, frame: Frame) -> Cells | None:
     """The cells of the middle, or None where those of the left or the right change beside it."""
-    whole = liblouis.cells(left + middle + right)
-    before = liblouis.cells(left)
-    after = liblouis.cells(right)
+    whole, before, after = liblouis.ask(frame.texts)
     if whole is None or before is None or after is None:
         return None
     return stripped(whole, before, after)

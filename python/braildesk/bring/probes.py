@@ -3,14 +3,14 @@
 from __future__ import annotations
 
 import enum
-from collections.abc import Sequence
+from collections.abc import Iterable, Sequence
 from dataclasses import dataclass, replace
 from typing import Final
 
 from braildesk.bring.draft import Draft
 from braildesk.bring.numbers import sample_digits
 from braildesk.bring.operands import Cells
-from braildesk.bring.places import stripped
+from braildesk.bring.places import Frame, ask_frames, stripped
 from braildesk.bring.subject import Subject
 
 CLOSING: Final = ".,;:?!)]}\"'%\u00b0\u2019\u201d\u00bb\u2026"
@@ -41,6 +41,10 @@ class Probe:
     after: str
 
     @property
+    def frame(self) -> Frame:
+        return Frame(self.before, self.characters, self.after)
+
+    @property
     def line(self) -> str:
         return self.before + self.characters + self.after
 
@@ -50,15 +54,23 @@ class Probe:
 
 
 class Probes:
-    """The lines by which characters are asked for in their places."""
+    """The lines by which characters are asked for in their places.
+
+    Where numbers have no sign, a single digit may have one of its own, so two stand beside a character.
+    """
 
     def __init__(self, subject: Subject, draft: Draft) -> None:
         self._liblouis: Final = subject.liblouis
         self._draft: Final = draft
         carriers = subject.alphabet.carriers() or ("",)
         digits = sample_digits(draft) or [""]
+        many = 1 if draft.signs.get("numsign") else 2
         self._samples: Final = [
-            (carriers[place % len(carriers)], digits[place % len(digits)], digits[-1])
+            (
+                carriers[place % len(carriers)],
+                digits[place % len(digits)] * many,
+                digits[-1] * many,
+            )
             for place in (0, 1)
         ]
 
@@ -83,9 +95,10 @@ class Probes:
         return [probe for probe in probes if self._is_whole(probe)]
 
     def _before(self, side: Side, letter: str, digit: str) -> str:
-        if side is Side.EDGE:
-            return f"{letter * 2} " if letter else ""
-        return letter * 2 if side is Side.LETTER else digit
+        """What stands before, within a line: a number at the beginning of one may be that of a list."""
+        if side is Side.LETTER or not letter:
+            return "" if side is Side.EDGE else letter * 2 or digit
+        return f"{letter * 2} {digit if side is Side.DIGIT else ''}"
 
     def _after(self, side: Side, letter: str, digit: str) -> str:
         if side is Side.EDGE:
@@ -107,22 +120,29 @@ class Probes:
                 return replace(probe, after=neighbour + probe.after.lstrip())
         return probe
 
+    def ask(self, strings: Iterable[str], places: Sequence[Place]) -> None:
+        """Asks at once for what `wanted` then finds remembered."""
+        frames = [
+            probe.frame
+            for characters in strings
+            for place in places
+            for probe in self.of(characters, place)
+        ]
+        ask_frames(self._liblouis, frames)
+
     def wanted(self, characters: str, place: Place) -> Cells | None:
         """What liblouis gives for the characters in one place, whichever letter or digit stands there."""
         found = {self._middle(probe) for probe in self.of(characters, place)}
         return found.pop() if len(found) == 1 else None
 
     def _middle(self, probe: Probe) -> Cells | None:
-        whole = self._liblouis.cells(probe.line)
-        before = self._liblouis.cells(probe.before)
-        after = self._liblouis.cells(probe.after)
+        whole, before, after = self._liblouis.ask(probe.frame.texts)
         if whole is None or before is None or after is None:
             return None
         found = stripped(whole, before, after)
         if found is None and probe.right is Side.DIGIT:
-            return self._going_on(
-                stripped(whole, before, self._draft.cells[probe.after])
-            )
+            digits = [cell for one in probe.after for cell in self._draft.cells[one]]
+            return self._going_on(stripped(whole, before, tuple(digits)))
         return found
 
     def _going_on(self, cells: Cells | None) -> Cells | None:

@@ -6,7 +6,6 @@ A line needs such an opcode where liblouis gives it other cells without the opco
 from __future__ import annotations
 
 from collections.abc import Iterator, Mapping, Sequence
-from contextlib import ExitStack
 from pathlib import Path
 from typing import Final
 
@@ -30,23 +29,20 @@ def needs(
         return {}
     found: dict[str, str] = {}
     theirs = liblouis.ask(lines)
-    with ExitStack() as stack:
-        whole = _open(source, (), folder / "whole.ctb", stack)
-        if whole is None:
-            return {}
-        same = {
-            line
-            for line, cells, again in zip(lines, theirs, whole.ask(lines), strict=True)
-            if cells is not None and cells == again
-        }
-        for name, opcodes in _present(source):
-            less = _open(source, opcodes, folder / "less.ctb", stack)
-            if less is not None:
-                for line, cells, other in zip(
-                    lines, theirs, less.ask(lines), strict=True
-                ):
-                    if line in same and other != cells:
-                        found.setdefault(line, name)
+    whole = _beside(liblouis, source, (), folder / "whole.ctb")
+    if whole is None:
+        return {}
+    same = {
+        line
+        for line, cells, again in zip(lines, theirs, whole.ask(lines), strict=True)
+        if cells is not None and cells == again
+    }
+    for place, (name, opcodes) in enumerate(_present(source)):
+        less = _beside(liblouis, source, opcodes, folder / f"less{place}.ctb")
+        if less is not None:
+            for line, cells, other in zip(lines, theirs, less.ask(lines), strict=True):
+                if line in same and other != cells:
+                    found.setdefault(line, name)
     return found
 
 
@@ -57,13 +53,13 @@ def _present(source: Source) -> Iterator[tuple[str, tuple[str, ...]]]:
             yield name, group
 
 
-def _open(
-    source: Source, without: tuple[str, ...], path: Path, stack: ExitStack
+def _beside(
+    liblouis: Liblouis, source: Source, without: tuple[str, ...], path: Path
 ) -> Liblouis | None:
     """The table in one file without these opcodes, or None where liblouis refuses that."""
     path.write_text(text_without(source, without), encoding="utf-8", newline="\n")
     try:
-        return stack.enter_context(Liblouis(path))
+        return liblouis.beside(path)
     except NoLiblouis:
         return None
 

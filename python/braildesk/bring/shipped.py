@@ -15,6 +15,7 @@ MEASURED: Final = Path(__file__).with_name("measured.tsv")
 """What `tests/bring_all.sh` found, a row a table."""
 
 _ENDINGS: Final = (".tbl", ".utb", ".ctb")
+_INCLUDE: Final = re.compile(r"^include\s+(\S+\.[uc]tb)", re.MULTILINE)
 _ENTRY: Final = re.compile(r"#[-+]([a-z-]+):\s*(.*?)\s*$")
 
 
@@ -27,6 +28,8 @@ class Shipped:
     title: str
     contraction: str
     """`no`, `full`, `partial`, or empty where the head doesn't say."""
+    index: str
+    """What an index calls it, the language first, as `German, uncontracted`."""
 
     @property
     def name(self) -> str:
@@ -56,17 +59,35 @@ def head_of(path: Path) -> dict[str, str]:
 
 
 def shipped_table(path: Path) -> Shipped:
-    """A table with its head."""
-    head = head_of(path)
+    """A table with its head, or with that of a table which does little more than include it."""
+    return _with_head(path, _heads_of_included(path.parent))
+
+
+def _with_head(path: Path, included: Mapping[str, Mapping[str, str]]) -> Shipped:
+    head: Mapping[str, str] = head_of(path)
+    if "language" not in head:
+        head = included.get(path.name, head)
     language = head.get("language") or re.split(r"[-_.]", path.name)[0].lower()
     title = head.get("display-name") or head.get("index-name") or ""
-    return Shipped(path, language, title, head.get("contraction", ""))
+    index = head.get("index-name", "")
+    return Shipped(path, language, title, head.get("contraction", ""), index)
+
+
+def _heads_of_included(folder: Path) -> dict[str, dict[str, str]]:
+    """By the first table that each table with the ending .tbl includes, the head of the latter."""
+    heads = {}
+    for path in sorted(folder.glob("*.tbl")):
+        text = path.read_text(encoding="utf-8", errors="replace")
+        if included := _INCLUDE.search(text):
+            heads[included[1]] = head_of(path)
+    return heads
 
 
 def shipped_tables(folder: Path = INSTALLED) -> list[Shipped]:
     """All tables of a folder that stand for themselves, by language and name."""
+    included = _heads_of_included(folder)
     found = [
-        shipped_table(path)
+        _with_head(path, included)
         for path in sorted(folder.iterdir() if folder.is_dir() else ())
         if path.suffix in _ENDINGS
     ]

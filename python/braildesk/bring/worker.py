@@ -1,7 +1,8 @@
-"""The process that asks liblouis, started by `oracle` with the path of a table.
+"""The process that asks liblouis, started by `oracle`.
 
-Each line of standard input is a question in JSON. Each text of it is answered by a line of its own,
-so that the one at which liblouis breaks off or loops is known.
+Each line of standard input is a question in JSON: a table alone is read, and answered by the version
+of liblouis or by what is wrong; with texts, each text is answered by a line of its own. Where liblouis
+breaks off or loops, the answers that were written show at which text, if it was asked carefully.
 """
 
 from __future__ import annotations
@@ -10,60 +11,73 @@ import json
 import os
 import signal
 import sys
+import time
+from collections.abc import Iterator
 from typing import Any, Final
 
 SECONDS: Final = 0.25
 """The time of the processor that a text may take. The system ends the process after that."""
 
+PAUSE: Final = 0.1
+"""How long answers may be kept back, in seconds, where they needn't be written one by one."""
+
 
 def main() -> None:
     answers = os.fdopen(os.dup(1), "w", encoding="utf-8")
     os.dup2(2, 1)
-
-    def say(answer: object) -> None:
-        answers.write(json.dumps(answer) + "\n")
-        answers.flush()
-
     try:
         import louis  # type: ignore[import]
     except ImportError:
-        say(
-            {
-                "fault": "liblouis for Python is missing: install it, as by apt-get install python3-louis."
-            }
-        )
-        return
-    tables = [sys.argv[1]]
+        louis = None
+    for line in sys.stdin:
+        question = json.loads(line)
+        written = time.monotonic()
+        for answer in answered(louis, question):
+            answers.write(json.dumps(answer) + "\n")
+            if question.get("careful") or time.monotonic() - written > PAUSE:
+                answers.flush()
+                written = time.monotonic()
+        answers.flush()
+
+
+def answered(louis: Any, question: dict[str, Any]) -> Iterator[object]:
+    """The answers to a question, one after another."""
+    tables = [question["table"]]
+    if "cells" in question:
+        return (cells(louis, tables, text) for text in question["cells"])
+    if "pieces" in question:
+        return (pieces(louis, tables, text) for text in question["pieces"])
+    return iter([read(louis, tables)])
+
+
+def read(louis: Any, tables: list[str]) -> dict[str, str]:
+    """The version of liblouis where it reads a table, or else what is wrong."""
+    if louis is None:
+        return {
+            "fault": "liblouis for Python is missing: install it, as by apt-get install python3-louis."
+        }
+    signal.setitimer(signal.ITIMER_PROF, 0)
     try:
         louis.checkTable(tables)
     except RuntimeError:
-        say({"fault": f"liblouis refuses the table {sys.argv[1]}."})
-        return
-    say({"version": louis.version()})
-    for line in sys.stdin:
-        question = json.loads(line)
-        if "texts" in question:
-            for text in question["texts"]:
-                signal.setitimer(signal.ITIMER_PROF, SECONDS)
-                say(cells(louis, tables, text))
-        else:
-            signal.setitimer(signal.ITIMER_PROF, SECONDS)
-            say(pieces(louis, tables, question["pieces"]))
+        return {"fault": f"liblouis refuses the table {tables[0]}."}
+    return {"version": str(louis.version())}
 
 
-def cells(louis: Any, tables: list[str], text: str) -> list[int] | None:
-    """The cells of a text. The dots that no page has are masked, as liblouis masks them."""
+def cells(louis: Any, tables: list[str], text: str) -> str | None:
+    """The braille of a text."""
     if not text:
-        return []
+        return ""
+    signal.setitimer(signal.ITIMER_PROF, SECONDS)
     try:
-        braille = louis.translateString(tables, text, mode=louis.dotsIO | louis.ucBrl)
+        return str(louis.translateString(tables, text, mode=louis.dotsIO | louis.ucBrl))
     except RuntimeError:
         return None
-    return [ord(cell) & 255 for cell in braille]
 
 
-def pieces(louis: Any, tables: list[str], text: str) -> list[tuple[str, list[int]]]:
-    """The runs of print that share their first cell, each with the cells up to the next run."""
+def pieces(louis: Any, tables: list[str], text: str) -> list[tuple[str, str]]:
+    """The runs of print that share their first cell, each with the braille up to the next run."""
+    signal.setitimer(signal.ITIMER_PROF, SECONDS)
     try:
         braille, _, starts, _ = louis.translate(
             tables, text, mode=louis.dotsIO | louis.ucBrl
@@ -78,12 +92,7 @@ def pieces(louis: Any, tables: list[str], text: str) -> list[tuple[str, list[int
     found = []
     for start, end in zip(edges, [*edges[1:], len(text)]):
         stop = starts[end] if end < len(text) else len(braille)
-        found.append(
-            (
-                text[start:end],
-                [ord(cell) & 255 for cell in braille[starts[start] : stop]],
-            )
-        )
+        found.append((text[start:end], braille[starts[start] : stop]))
     return found
 
 

@@ -1,0 +1,87 @@
+"""How a table of liblouis is named: by a file, an installed name, its title, or its language."""
+
+from pathlib import Path
+
+import pytest
+
+from braildesk.bring.naming import named_table, of_language
+from braildesk.bring.shipped import shipped_tables
+from braildesk.bring.source import NoTable
+
+TABLES = {
+    "da-g1.utb": ("da", "Danish, uncontracted", "Danish uncontracted braille"),
+    "de-g0.utb": ("de", "German, uncontracted", "German uncontracted braille"),
+    "de-g2.ctb": ("de", "German, contracted", "German contracted braille"),
+    "Fi-g1.utb": ("fi", "Finnish", "Finnish braille"),
+}
+
+
+@pytest.fixture
+def folder(tmp_path: Path, monkeypatch: pytest.MonkeyPatch) -> Path:
+    for name, (language, index, title) in TABLES.items():
+        head = (
+            f"#-index-name: {index}\n#-display-name: {title}\n#+language: {language}\n"
+        )
+        (tmp_path / name).write_text(f"{head}\nletter a 1\n")
+    (tmp_path / "de-chess.ctb").write_text("letter a 1\n")
+    monkeypatch.setattr("braildesk.bring.source.INSTALLED", tmp_path)
+    return tmp_path
+
+
+@pytest.mark.parametrize(
+    ("name", "file"),
+    [
+        ("de-g0.utb", "de-g0.utb"),
+        ("de-g0", "de-g0.utb"),
+        ("DE-G2", "de-g2.ctb"),
+        ("fi-g1.utb", "Fi-g1.utb"),
+        ("German contracted braille", "de-g2.ctb"),
+        ("german, uncontracted", "de-g0.utb"),
+        ("Finnish", "Fi-g1.utb"),
+        ("da", "da-g1.utb"),
+    ],
+)
+def test_a_table_is_found_by_what_people_call_it(
+    folder: Path, name: str, file: str
+) -> None:
+    assert named_table(name) == folder / file
+
+
+def test_a_file_is_found_by_its_path(folder: Path) -> None:
+    assert named_table(str(folder / "de-g2.ctb")) == folder / "de-g2.ctb"
+
+
+def test_a_language_of_several_tables_names_them(folder: Path) -> None:
+    with pytest.raises(NoTable) as found:
+        named_table("German")
+    assert str(found.value).splitlines() == [
+        "3 tables are called German. Name one of these:",
+        "  de-chess.ctb",
+        "  de-g0.utb                German uncontracted braille",
+        "  de-g2.ctb                German contracted braille",
+    ]
+
+
+def test_a_name_that_is_none_shows_those_that_are_like_it(folder: Path) -> None:
+    with pytest.raises(NoTable) as found:
+        named_table("Finish")
+    assert str(found.value).splitlines() == [
+        f"There is no table Finish, neither as a file nor in {folder}. Tables with a name"
+        " like it:",
+        "  Fi-g1.utb                Finnish braille",
+        "`scribe bring --list` shows all that are installed.",
+    ]
+
+
+def test_a_name_like_no_other_shows_none(folder: Path) -> None:
+    with pytest.raises(NoTable) as found:
+        named_table("qqqq")
+    assert str(found.value).splitlines() == [
+        f"There is no table qqqq, neither as a file nor in {folder}.",
+        "`scribe bring --list` shows all that are installed.",
+    ]
+
+
+def test_tables_without_a_head_are_of_the_language_of_their_names(folder: Path) -> None:
+    found = of_language("German", shipped_tables(folder))
+    assert [table.name for table in found] == ["de-chess.ctb", "de-g0.utb", "de-g2.ctb"]
