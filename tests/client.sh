@@ -31,6 +31,29 @@ printf 'print 1\nprint 2\nprint 3\n' | "$program" session "$scratch/book.brailde
 printf '| Hello\nend 4\n| \nend 4\n| ab 5a\nend 4\n' > "$scratch/expected"
 same 'what it typed' "$scratch/expected" "$scratch/kept"
 
+# each line that is written is answered before the next, as at a terminal
+answered() { # WHAT WRITTEN EXPECTED COMMAND..: writes the line twice and waits for its answer each time
+    local what=$1 written=$2 expected=$3 answer; shift 3
+    coproc answering { exec "$@"; }
+    local reading=${answering[0]} writing=${answering[1]} running=$answering_PID
+    for _ in 1 2; do
+        echo "$written" >&"$writing"
+        IFS= read -r -t 60 answer <&"$reading" && [ "$answer" = "$expected" ] \
+            || { echo "tests/client.sh: $what: no \"$expected\" came before the next line" >&2; exit 1; }
+    done
+    exec {writing}>&-
+    wait "$running"
+    echo "ok  $what"
+}
+answered 'translate answers a line before it reads the next' Hello '⠠⠓⠑⠇⠇⠕' "$program" translate @en
+answered 'session answers a request before it reads the next' version 'end 4' "$program" session "$scratch/book.braildesk"
+
+# a copy of the file without the log beside it
+cp "$scratch/book.braildesk" "$scratch/copy"
+"$program" check "$scratch/book.braildesk" > "$scratch/expected"
+"$program" check "$scratch/copy" > "$scratch/written"
+same 'the versions of a book and of a copy of its closed file alone' "$scratch/expected" "$scratch/written"
+
 # a file that isn't there
 client "$scratch/none" < /dev/null
 printf 'There is no file “%s”. Check that the path is right.\n2\n' "$scratch/none" > "$scratch/expected"

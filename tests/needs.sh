@@ -16,6 +16,8 @@ command   bash            bash
 command   awk             mawk
 command   sqlite3         sqlite3
 command   valgrind        valgrind
+command   dpkg-deb        dpkg
+command   strip           binutils
 compiler  cc              gcc libc6-dev
 python    python          python3
 '

@@ -3,21 +3,25 @@
 # so that none goes stale; and compares the volumes of the sample book with those in sample/. The commands are those of the blocks
 # fenced by ```console: a line that begins with '$ ' begins one, lines that begin with '> ' go on with it, and the lines after
 # it are what it prints.
-#   tests/tutorial.sh PROGRAM [--write]
-# Each document is run by one shell in a folder of its own, which has the files of sample/, finds PROGRAM as braildesk, and scribe
-# by PYTHON. With --write a document gets what its commands print now: read what that changes before it is kept.
+#   tests/tutorial.sh PROGRAM|--installed [--write]
+# Each document is run by one shell in a folder of its own, which has the files of sample/, by PROGRAM and scribe as make install puts
+# them in place, for PYTHON, or by those that are installed already. With --write a document gets what its commands print now: read what
+# that changes before it is kept.
 set -eu
-program=$(realpath "${1:?the path of the program is missing}")
+program=${1:?the path of the program is missing}
+[ "$program" = --installed ] || program=$(realpath "$program")
 action=${2:---compare}
 cd "$(dirname "$0")/.."
 scratch=$(mktemp -d); trap 'rm -rf "$scratch"' EXIT
-mkdir "$scratch/bin" "$scratch/found"
-ln -s "$program" "$scratch/bin/braildesk"
-python=${PYTHON:-$(tests/python.sh)}
-printf '#!/bin/sh\nPYTHONPATH=%s exec %s -m scribe "$@"\n' "$PWD/python" "$python" > "$scratch/bin/scribe"
-chmod +x "$scratch/bin/scribe"
-unset COLUMNS
-export BRAILDESK="$scratch/bin/braildesk" PATH="$scratch/bin:$PATH" LC_ALL=C.UTF-8
+mkdir "$scratch/found"
+unset COLUMNS BRAILDESK MAKEFLAGS MAKELEVEL
+export LC_ALL=C.UTF-8
+if [ "$program" != --installed ]; then
+    tests/needs.sh python louis
+    PYTHON=${PYTHON:-$(tests/python.sh)}
+    make --silent --old-file="$program" install PROGRAM="$program" DESTDIR= PREFIX="$scratch/usr" PYTHON="$PYTHON"
+    export PATH="$scratch/usr/bin:$PATH"
+fi
 
 # Prints a document with what its commands print now.
 replay() { # DOCUMENT

@@ -82,25 +82,42 @@ class Pipe:
         return dropped
 
     def reply(self) -> Reply | None:
-        """The next reply, or None where the program ended before it."""
-        while (reply := self._reader.next()) is None:
+        """The next reply, or None where the program ended before it.
+
+        The pipes are torn until the caller has noted the reply, and mends them.
+        """
+        while not self._reader.has_reply:
             if self._output not in self._open:
                 return None
             self._move()
-        return reply
+        self.tear()
+        return self._reader.next()
+
+    @property
+    def is_torn(self) -> bool:
+        """Whether an interrupt, as Ctrl-C, came between steps that belong together."""
+        return self._torn
+
+    def tear(self) -> None:
+        """Says that steps begin, here or of the caller, of which all are done or the pipes are torn."""
+        self._torn = True
+
+    def mend(self) -> None:
+        """Says that all of these steps are done."""
+        self._torn = False
 
     def push(self) -> None:
         """Writes what can be written without waiting."""
         while self._writable and self._fill():
-            self._torn = True
+            self.tear()
             try:
                 self._chunk = self._chunk[os.write(self._input, self._chunk) :]
             except BlockingIOError:
-                self._torn = False
+                self.mend()
                 return
             except BrokenPipeError:
                 self._writable = False
-            self._torn = False
+            self.mend()
 
     def close(self) -> Ending:
         """Ends the input, and waits for the program to end.
@@ -128,6 +145,7 @@ class Pipe:
     def _fill(self) -> bool:
         """Whether there is a chunk to write, which is made of whole requests."""
         if not self._chunk and self._queue:
+            self.tear()
             parts = [self._queue.popleft()]
             size = len(parts[0])
             while self._queue and size + len(self._queue[0]) <= _WHOLE:
@@ -135,6 +153,7 @@ class Pipe:
                 size += len(parts[-1])
             self._queued_bytes -= size
             self._chunk = memoryview(b"".join(parts))
+            self.mend()
         return bool(self._chunk)
 
     def _move(self) -> None:
@@ -155,7 +174,7 @@ class Pipe:
                 self._take(stream)
 
     def _take(self, stream: int) -> None:
-        self._torn = True
+        self.tear()
         data = os.read(stream, _READ)
         if not data:
             self._poll.unregister(stream)
@@ -164,7 +183,7 @@ class Pipe:
             self._error_bytes += data
         elif not self._is_closing:
             self._reader.feed(data)
-        self._torn = False
+        self.mend()
 
     def _stop_writing(self) -> None:
         self._writable = False

@@ -35,6 +35,11 @@ class Reader:
         for line in lines:
             self._take(line)
 
+    @property
+    def has_reply(self) -> bool:
+        """Whether a reply is there whole."""
+        return bool(self._replies)
+
     def next(self) -> Reply | None:
         """The next reply that is there whole."""
         return self._replies.popleft() if self._replies else None

@@ -100,8 +100,7 @@ class Session:
         """Sends a request, and gives what it is answered by; raises ``Refused`` or ``Lost``."""
         data = self._ready(request)
         self._settle()
-        self._sent.append(request)
-        self._pipe.send(data)
+        self._send(request, data)
         reply = self._take(request)
         if reply.word != "no":
             return answer(request, reply)
@@ -146,6 +145,7 @@ class Session:
             ending = self._pipe.close()
             raise programs.unopened(ending.status, ending.errors, self._book)
         self._seen = answer(version, reply)
+        self._pipe.mend()
 
     def _ready(self, request: Request[Any]) -> bytes:
         """The bytes of a request, where the session can take it."""
@@ -165,11 +165,17 @@ class Session:
             except Refused as refusal:
                 self._sent.append(refusal)
             else:
-                self._sent.append(request)
-                self._pipe.send(data)
+                self._send(request, data)
         if self._pipe.queued >= _GROUP:
             self._pipe.push()
         return bool(self._sent)
+
+    def _send(self, request: Request[Any], data: bytes) -> None:
+        """Queues a request, whose reply is waited for after those of the earlier ones."""
+        self._pipe.tear()
+        self._sent.append(request)
+        self._pipe.send(data)
+        self._pipe.mend()
 
     def _next_value(self) -> Any:
         """The answer to the first request that waits for one, or its refusal."""
@@ -186,15 +192,21 @@ class Session:
         """Whether the session can go on."""
         if self._lost is not None:
             raise self._lost
+        if self._pipe.is_torn:
+            raise self._lose(
+                SessionEnded, f"{_ended(self._pipe.close())} {self._kept()}"
+            )
         if self._is_closed:
             raise RuntimeError("the session is closed")
 
     def _settle(self) -> None:
         """Drops requests of ``each`` that weren't begun, and takes the replies to the others."""
         self._judge_open()
+        self._pipe.tear()
         for _ in range(self._pipe.drop()):
             while isinstance(self._sent.pop(), Refused):
                 pass
+        self._pipe.mend()
         while self._sent:
             request = self._sent[0]
             if isinstance(request, Refused):
@@ -220,7 +232,8 @@ class Session:
             self._seen = reply.numbers[0]
             if reply.word == "ok":
                 self._acknowledged = request
-        elif reply.numbers[0] == 91:
+        self._pipe.mend()
+        if reply.word == "no" and reply.numbers[0] == 91:
             self._pipe.close()
             raise self._lose(Lost, refused(91, (), request).sentence)
         return reply

@@ -9,7 +9,7 @@ from braildesk import DeskError, Failed, NoProgram
 
 from scribe.commands import COMMANDS
 from scribe.console import Console, OutputFailed
-from scribe.parser import HelpAsked, Parser, WordsRefused, unknown_command
+from scribe.parser import Parser, TextAsked, WordsRefused, unknown_command
 from scribe.status import Status, Stop
 
 DESCRIPTION = """\
@@ -26,6 +26,7 @@ statuses:
 def make_parser() -> tuple[Parser, list[str]]:
     """The parser of all words, and the names of the commands."""
     parser = Parser(prog="scribe", description=DESCRIPTION, epilog=STATUSES)
+    parser.add_version()
     subparsers = parser.add_subparsers(
         title="commands", metavar="COMMAND", dest="command", required=True
     )
@@ -44,7 +45,7 @@ def run_words(words: Sequence[str], console: Console) -> Status:
         status: Status = arguments.run(arguments, console)
         console.flush()
         return status
-    except HelpAsked as asked:
+    except TextAsked as asked:
         console.show(asked.text.rstrip("\n"))
         return Status.DONE
     except WordsRefused as refused:

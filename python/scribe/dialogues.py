@@ -17,6 +17,7 @@ from scribe.excerpt import excerpt
 from scribe.occurrences import Occurrence, occurrences
 from scribe.paragraph import mark_line
 from scribe.parser import number
+from scribe.paths import typed_path
 from scribe.places import cells_of
 from scribe.readings import answers, prints, readings
 from scribe.status import Stop
@@ -148,7 +149,7 @@ def _parts(answer: str) -> tuple[Stretch, ...]:
 
 
 def _path(answer: str) -> Path:
-    path = Path(answer).expanduser()
+    path = typed_path(answer)
     if not path.is_file():
         raise ArgumentTypeError(f"there is no file {answer}")
     return path

@@ -62,14 +62,22 @@ class Layout:
 
     def brf(self) -> bytes:
         """The volume in Braille Ready Format."""
-        lines = {(row.page, row.line): row.shown for row in self.rows}
-        return b"".join(self._page(page, lines) for page in range(1, self.pages + 1))
+        shown = {(row.page, row.line): row.shown for row in self.rows}
+        pages = (self._page(page, shown) for page in range(1, self.pages + 1))
+        return b"".join(
+            "".join(line + "\r\n" for line in page).encode("ascii") + b"\f"
+            for page in pages
+        )
 
-    def _page(self, page: int, lines: dict[tuple[int, int], str]) -> bytes:
-        texts = [lines.get((page, n + 1), "") for n in range(self.sheet.text_lines)]
+    def page(self, page: int) -> list[str]:
+        """The lines of a page in Braille ASCII, the last of them with its number."""
+        rows = (row for row in self.rows if row.page == page)
+        return self._page(page, {(row.page, row.line): row.shown for row in rows})
+
+    def _page(self, page: int, shown: dict[tuple[int, int], str]) -> list[str]:
+        texts = [shown.get((page, n + 1), "") for n in range(self.sheet.text_lines)]
         number = "#" + str(page).translate(_DIGITS)
-        written = [*texts, number.rjust(self.sheet.width)]
-        return "".join(line + "\r\n" for line in written).encode("ascii") + b"\f"
+        return [*texts, number.rjust(self.sheet.width)]
 
 
 def lay_out(sections: Iterable[Section], sheet: Sheet) -> Layout:

@@ -8,6 +8,8 @@ from typing import Any, NoReturn
 
 from braildesk import After
 
+from scribe.version import version
+
 # The object on which a command calls add_parser.
 Subparsers = Any
 
@@ -21,8 +23,8 @@ class WordsRefused(Exception):
         self.usage = usage
 
 
-class HelpAsked(Exception):
-    """The words ask for help, and nothing else is done."""
+class TextAsked(Exception):
+    """The words ask for a text, as that of the help, and nothing else is done."""
 
     def __init__(self, text: str) -> None:
         super().__init__(text)
@@ -31,7 +33,12 @@ class HelpAsked(Exception):
 
 class _Help(argparse.Action):
     def __call__(self, parser: argparse.ArgumentParser, *_: Any) -> NoReturn:
-        raise HelpAsked(parser.format_help())
+        raise TextAsked(parser.format_help())
+
+
+class _Version(argparse.Action):
+    def __call__(self, parser: argparse.ArgumentParser, *_: Any) -> NoReturn:
+        raise TextAsked(f"{parser.prog} {version()}")
 
 
 class Parser(argparse.ArgumentParser):
@@ -46,6 +53,12 @@ class Parser(argparse.ArgumentParser):
             action=_Help,
             nargs=0,
             help="say what this does, with an example",
+        )
+
+    def add_version(self) -> None:
+        """Adds the option that shows the version."""
+        self.add_argument(
+            "--version", action=_Version, nargs=0, help="show the version of scribe"
         )
 
     def refuse(self, sentence: str) -> NoReturn:

@@ -6,11 +6,14 @@ to the one before it. The places between sequences are the seams of a text.
 """
 
 import unicodedata
+from functools import lru_cache
 
 _JOINING_JAMO = range(0x1160, 0x1200)
 _MORE_JOINING_JAMO = range(0xD7B0, 0xD800)
 
 
+# the same few pairs of characters stand all over a text
+@lru_cache(maxsize=4096)
 def belongs(before: str, character: str) -> bool:
     """Whether a character belongs to the sequence of the one before it."""
     if character < "\u0300":
@@ -26,6 +29,8 @@ def belongs(before: str, character: str) -> bool:
 
 def seams(text: str) -> list[int]:
     """The places of a text where no sequence is cut, its front and its end among them."""
+    if text.isascii():
+        return list(range(len(text) + 1))
     between = (n for n in range(1, len(text)) if not belongs(text[n - 1], text[n]))
     return [0, *between, len(text)] if text else [0]
 

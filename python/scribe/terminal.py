@@ -11,7 +11,7 @@ import os
 import signal
 import sys
 import termios
-from collections.abc import Iterator
+from collections.abc import Callable, Iterator
 from contextlib import AbstractContextManager, contextmanager, suppress
 from io import TextIOWrapper
 from types import FrameType, TracebackType
@@ -22,6 +22,8 @@ from scribe.status import Status, Stop
 
 # where a terminal that collects lines cuts them, by n_tty(4)
 CUT_BYTES = 4_095
+# how often, in seconds, it is asked whether something came about before a line is begun
+_TICK = 0.5
 _SETTINGS = (
     # pasted lines are lines of their own, and nothing is written that isn't text
     "set enable-bracketed-paste off",
@@ -38,13 +40,28 @@ class GivenUp(Exception):
     """The person gave up the line, by Ctrl-C."""
 
 
+class Due(Exception):
+    """Something came about while no line was begun."""
+
+
+def never() -> bool:
+    """Nothing comes about."""
+    return False
+
+
 class Lines(Protocol):
     """Where lines come from."""
 
-    def line(self, prompt: str, is_kept: bool = False) -> bytes | None:
+    def line(
+        self,
+        prompt: str,
+        is_kept: bool = False,
+        is_due: Callable[[], bool] = never,
+    ) -> bytes | None:
         """The next line without its ending, or None at the end; GivenUp where it is given up.
 
-        A line that is kept is one of those that the arrow keys bring back.
+        A line that is kept is one of those that the arrow keys bring back. At a terminal it is
+        asked now and then whether something is due, until the line is begun, and Due is raised.
         """
 
 
@@ -55,7 +72,12 @@ class PipedLines:
         self._console = console
         self._may_be_cut = console.input.isatty()
 
-    def line(self, prompt: str, is_kept: bool = False) -> bytes | None:
+    def line(
+        self,
+        prompt: str,
+        is_kept: bool = False,
+        is_due: Callable[[], bool] = never,
+    ) -> bytes | None:
         """The next line."""
         line = self._console.read_line()
         if self._may_be_cut and len(line) >= CUT_BYTES:
@@ -103,14 +125,22 @@ class TypedLines(AbstractContextManager["TypedLines"]):
         for number, handler in self._handlers.items():
             signal.signal(number, handler)
 
-    def line(self, prompt: str, is_kept: bool = False) -> bytes | None:
+    def line(
+        self,
+        prompt: str,
+        is_kept: bool = False,
+        is_due: Callable[[], bool] = never,
+    ) -> bytes | None:
         """The next line, edited by readline."""
         try:
-            with self._typing():
+            with self._typing(), self._asking(is_due):
                 line = input(prompt)
         except EOFError:
             print()
             return None
+        except Due:
+            print()
+            raise
         except KeyboardInterrupt:
             print()
             raise GivenUp from None
@@ -130,6 +160,25 @@ class TypedLines(AbstractContextManager["TypedLines"]):
         finally:
             signal.signal(signal.SIGINT, _nothing)
             self._set(echoes=False)
+
+    @contextmanager
+    def _asking(self, is_due: Callable[[], bool]) -> Iterator[None]:
+        """While a line isn't begun it is asked whether something is due."""
+
+        def ask(number: int, frame: FrameType | None) -> None:
+            if not self._readline.get_line_buffer() and is_due():
+                raise Due
+
+        if is_due is never:
+            yield
+            return
+        before = signal.signal(signal.SIGALRM, ask)
+        signal.setitimer(signal.ITIMER_REAL, _TICK, _TICK)
+        try:
+            yield
+        finally:
+            signal.setitimer(signal.ITIMER_REAL, 0)
+            signal.signal(signal.SIGALRM, before)
 
     def _set(self, echoes: bool) -> None:
         mode = termios.tcgetattr(0)

@@ -1,9 +1,11 @@
 """A table that is tried at a prompt, and read again whenever its file has changed."""
 
-from contextlib import AbstractContextManager
+from contextlib import AbstractContextManager, suppress
 from pathlib import Path
 from types import TracebackType
+from typing import TypeAlias
 
+from braildesk import DeskError
 from braildesk.profile import TableText, text_at
 
 from scribe.complaints import counted, fault_line
@@ -11,11 +13,16 @@ from scribe.pieces import piece_lines
 from scribe.status import Status
 
 
+#: When a file was saved, by which it is seen that it was saved again.
+_Saved: TypeAlias = tuple[int, int, int]
+
+
 class Trial(AbstractContextManager["Trial"]):
     """The table of a file, as its text was when it was last read."""
 
     def __init__(self, path: Path) -> None:
         self._path = path
+        self._seen = self._read = self._saved()
         self._table = TableText(path, text_at(path))
         #: What the last line, or the last reading of the table, came to.
         self.status = Status.DONE
@@ -48,10 +55,25 @@ class Trial(AbstractContextManager["Trial"]):
             " go on here.",
         ]
 
+    def is_saved(self) -> bool:
+        """Whether the file has another text, and was left alone since this was last asked.
+
+        So a text of which a part is still to be written isn't taken for the whole.
+        """
+        saved = self._saved()
+        is_settled, self._seen = saved == self._seen, saved
+        if saved is None or not is_settled or saved == self._read:
+            return False
+        self._read = saved
+        with suppress(DeskError):
+            return text_at(self._path) != self._table.text
+        return False
+
     def reread(self) -> bool:
         """Reads the file again; whether its text is another one than before."""
         if self._path.exists() and not self._path.is_file():
             return False  # a pipe, which is read once
+        self._read = self._saved()
         text = text_at(self._path)
         if text == self._table.text:
             return False
@@ -67,3 +89,13 @@ class Trial(AbstractContextManager["Trial"]):
         cells, pieces = self._table.pieces(text)
         self.status = Status.DONE
         return [cells, *piece_lines(pieces, self._table.reading)]
+
+    def _saved(self) -> _Saved | None:
+        """When the file was saved, where it is there and no pipe."""
+        try:
+            found = self._path.stat()
+        except OSError:
+            return None
+        if not self._path.is_file():
+            return None
+        return found.st_mtime_ns, found.st_size, found.st_ino

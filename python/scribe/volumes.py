@@ -1,6 +1,6 @@
 """The volumes of a book, each laid out on pages."""
 
-from collections.abc import Iterator, Sequence
+from collections.abc import Mapping, Sequence
 from dataclasses import dataclass
 
 from braildesk import Paragraph, Session, Style
@@ -39,9 +39,16 @@ def volume(
     ids = [paragraph.id for paragraph in paragraphs]
     texts = dict(zip(ids, prints(session, paragraphs)))
     cells = dict(zip(ids, brailles(session, paragraphs)))
+    layout = layout_of(paragraphs, cells, sheet)
+    return Volume(number, tuple(paragraphs), texts, cells, layout)
+
+
+def layout_of(
+    paragraphs: Sequence[Paragraph], cells: Mapping[int, str], sheet: Sheet
+) -> Layout:
+    """The paragraphs of a volume on pages, by the braille of each by its number."""
     sections = (
         Section(each.id, each.style is Style.HEADING, cells[each.id])
         for each in paragraphs
     )
-    layout = lay_out(sections, sheet)
-    return Volume(number, tuple(paragraphs), texts, cells, layout)
+    return lay_out(sections, sheet)

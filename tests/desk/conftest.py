@@ -1,14 +1,24 @@
 """What the tests of the desk share: the built program, and books made by it."""
 
+import os
 import shutil
+import signal
 from collections.abc import Callable, Iterator
 from pathlib import Path
+from tempfile import TemporaryDirectory
 
 import pytest
 
 import braildesk
 from braildesk import Session, Typed
 from braildesk.requests import Type
+from scribe.screen.desk import Desk
+from scribe.screen.state import Size
+from sitting import Sat, Sit
+from terminal import Open, Terminal
+
+# What the tests start is interrupted by SIGINT, also where a shell that runs them ignores it.
+signal.signal(signal.SIGINT, signal.default_int_handler)
 
 SAMPLE = Path(__file__).resolve().parents[2] / "sample"
 
@@ -76,15 +86,51 @@ def moon(moon_once: Path, tmp_path: Path) -> Path:
 
 
 @pytest.fixture(scope="session")
-def big_book(tmp_path_factory: pytest.TempPathFactory) -> Path:
-    """A book of 20,000 paragraphs, of which each names its number, and which no test changes."""
-    path = tmp_path_factory.mktemp("big") / "big.braildesk"
-    braildesk.new_book(path)
-    with Session(path) as session:
-        session.supply("en")
-        typed = session.each(
-            Type("end", "en", f"Paragraph number {number} of the moon.")
-            for number in range(1, 20_001)
-        )
-        assert all(isinstance(answer, Typed) for answer in typed)
-    return path
+def big_book() -> Iterator[Path]:
+    """A book of 20,000 paragraphs, of which each names its number, and which no test changes.
+
+    Each is kept before the next one, which takes a disk minutes and a disk of memory seconds.
+    """
+    memory = "/dev/shm" if os.access("/dev/shm", os.W_OK) else None
+    with TemporaryDirectory(prefix="scribe-big-", dir=memory) as folder:
+        path = Path(folder, "big.braildesk")
+        braildesk.new_book(path)
+        with Session(path) as session:
+            session.supply("en")
+            typed = session.each(
+                Type("end", "en", f"Paragraph number {number} of the moon.")
+                for number in range(1, 20_001)
+            )
+            assert all(isinstance(answer, Typed) for answer in typed)
+        yield path
+
+
+@pytest.fixture
+def at() -> Iterator[Open]:
+    """Opens a book in a terminal, and closes it at the end."""
+    terminals: list[Terminal] = []
+
+    def opened(book: Path, columns: int = 80, lines: int = 24, **more: str) -> Terminal:
+        terminals.append(Terminal(book, columns, lines, **more))
+        return terminals[-1]
+
+    yield opened
+    for terminal in terminals:
+        terminal.close()
+
+
+@pytest.fixture
+def sit() -> Iterator[Sit]:
+    """Opens a book as the screen does, and closes it at the end."""
+    desks: list[Desk] = []
+
+    def opened(path: Path, by: str | None = None, size: Size = Size(80, 24)) -> Sat:
+        desks.append(Desk(path))
+        return Sat(desks[-1], desks[-1].first_state(size, by, False))
+
+    yield opened
+    for desk in desks:
+        try:
+            desk.close()
+        except braildesk.Lost:
+            pass

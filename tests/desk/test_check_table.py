@@ -1,10 +1,11 @@
 """scribe check-table: faults and warnings of a table in words, with their lines."""
 
+from itertools import permutations, product
 from pathlib import Path
 
 import pytest
 
-from braildesk.profile import TableText, warnings
+from braildesk.profile import TableText, pieces, read, warnings
 from tool import Ran, scribe
 
 REFUSED = "braildesk refuses the table. Warnings come once it is accepted."
@@ -105,6 +106,12 @@ WARNINGS: dict[str, tuple[str, str]] = {
         " wherever this one does, and of two such rules the earlier line is chosen. It reads"
         " “begword and 1”. Line 6 reads “always and 12346”.",
     ),
+    "the same characters after rules for all places": (
+        "space \\s 0\nletter a 1\nword a 1\nbegword a 2\nmidword a 3\nendword a 4\nalways a 5\n",
+        "Line 7, a warning: This rule is never chosen. Lines 3, 4, 5 and 6 have the same"
+        " characters, one of them fits wherever this one does, and of such rules the earlier"
+        " line is chosen. It reads “always a 5”. Line 3 reads “word a 1”.",
+    ),
     "a digit inside": (
         LETTERS + "numsign 3456\nalways a5 1-2\n",
         "Line 7, a warning: This rule is never chosen: inside it always stands numsign, and no"
@@ -157,6 +164,8 @@ def test_each_warning_is_shown_with_its_line(name: str, tmp_path: Path) -> None:
 USUAL: dict[str, str] = {
     "an always after the rules that are bound to a place": LETTERS
     + "word and 1\nbegword and 2\nalways and 12346\n",
+    "an always after the rules for all places but those beside digits": LETTERS
+    + "word a 1\nbegword a 2\nmidword a 3\nendword a 4\nalways a 5\n",
     "digits that follow digits": LETTERS + "numsign 3456\nalways 55 1-2\n",
     "a digit that may follow a number": LETTERS
     + "punctuation . 256\nnumsign 3456\nnumericmodechars .\nalways .5 1-2\n",
@@ -171,6 +180,33 @@ def test_nothing_usual_is_warned_of(name: str) -> None:
     with TableText("own.utb", USUAL[name].encode()) as table:
         assert table.reading.faults == ()
         assert warnings(table.reading.table, is_for_embosser=True) == []
+
+
+#: The lines that define some classes, and a character of each.
+CLASSES = {
+    "marks alone": ("punctuation - 36\n", "-"),
+    "letters": ("punctuation - 36\nletter x 1346\n", "-x"),
+    "digits": ("punctuation - 36\ndigit 5 15\n", "-5"),
+    "letters and digits": ("punctuation - 36\nletter x 1346\ndigit 5 15\n", "-x5"),
+}
+KINDS = ("always", "word", "begword", "midword", "endword")
+
+
+@pytest.mark.parametrize("classes", CLASSES)
+def test_those_rules_are_warned_of_that_no_print_chooses(classes: str) -> None:
+    definitions, characters = CLASSES[classes]
+    first = definitions.count("\n") + 1
+    beside = ["", *characters]
+    prints = ["".join(each) for each in product(beside, characters, beside)]
+    for kinds in permutations(KINDS):
+        for character in characters:
+            rules = "".join(f"{kind} {character} 2\n" for kind in kinds)
+            table = read((definitions + rules).encode()).table
+            warned = {each.line for each in warnings(table, is_for_embosser=True)}
+            chosen = {
+                each.chosen.line for text in prints for each in pieces(table, text)
+            }
+            assert warned == {*range(first, first + len(KINDS))} - chosen, rules
 
 
 def test_dots_7_and_8_are_no_matter_on_a_display(tmp_path: Path) -> None:

@@ -1,8 +1,10 @@
-"""What bash completes of the words of scribe."""
+"""What bash completes of the words of scribe and of braildesk."""
 
 import argparse
+import re
 import subprocess
 
+import braildesk
 import pytest
 
 from scribe.cli import make_parser
@@ -14,8 +16,8 @@ PARSER, NAMES = make_parser()
 def completed(*words: str) -> list[str]:
     """What bash offers for the last of these words."""
     script = (
-        f"source '{ROOT}/completions/scribe.bash'; COMP_WORDS=(\"$@\");"
-        ' COMP_CWORD=$(($# - 1)); _scribe; printf "%s\\n" "${COMPREPLY[@]}"'
+        f"source '{ROOT}/completions/{words[0]}.bash'; COMP_WORDS=(\"$@\");"
+        f' COMP_CWORD=$(($# - 1)); _{words[0]}; printf "%s\\n" "${{COMPREPLY[@]}}"'
     )
     done = subprocess.run(
         ["bash", "-c", script, "bash", *words], capture_output=True, check=True
@@ -38,7 +40,7 @@ def options(name: str) -> set[str]:
 
 
 def test_each_command_is_offered() -> None:
-    assert completed("scribe", "") == [*NAMES, "--help"]
+    assert completed("scribe", "") == [*NAMES, "--help", "--version"]
 
 
 @pytest.mark.parametrize("name", NAMES)
@@ -54,3 +56,28 @@ def test_words_are_offered_by_what_was_typed() -> None:
 
 def test_files_are_left_to_bash() -> None:
     assert completed("scribe", "show", "") == []
+
+
+def program_help(*words: str) -> str:
+    """The help of the program."""
+    done = subprocess.run(
+        [braildesk.find(), *words, "--help"], capture_output=True, check=True
+    )
+    return done.stdout.decode()
+
+
+def test_each_command_of_the_program_is_offered() -> None:
+    _, _, listed = program_help().partition("Commands:\n")
+    names = re.findall(r"^  ([a-z]+) ", listed.partition("\n\n")[0], re.MULTILINE)
+    assert len(names) == 5
+    assert set(completed("braildesk", "")) == {*names, "--help"}
+
+
+@pytest.mark.parametrize("name", ["new", "session", "export", "translate", "check"])
+def test_each_option_of_a_command_of_the_program_is_offered(name: str) -> None:
+    long_options = re.findall(r"^ +(?:-[a-z], +)?(--[a-z]+)", program_help(name), re.M)
+    assert set(completed("braildesk", name, "--")) == set(long_options)
+
+
+def test_the_supplied_table_is_offered() -> None:
+    assert completed("braildesk", "translate", "@") == ["@en"]

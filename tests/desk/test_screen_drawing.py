@@ -7,7 +7,8 @@ import pytest
 from braildesk import Mark, Paragraph, Style
 from scribe.occurrences import Occurrence
 from scribe.readings import Reading
-from scribe.screen.drawing import LIT, MARKED, Drawing, draw
+from scribe.screen.drawing import Drawing, draw
+from scribe.screen.lines import LIT, MARKED
 from scribe.screen.field import Field, Purpose
 from scribe.screen.rows import rows
 from scribe.screen.state import (
@@ -27,7 +28,9 @@ PRINT = "The moon is far away."
 CELLS = "⠠⠞⠓⠑⠀⠍⠕⠕⠝⠀⠊⠎⠀⠋⠁⠗⠀⠁⠺⠁⠽⠲"
 FIRST = Paragraph(1, "en", Style.BODY, False, False, 21)
 SECOND = Paragraph(2, "en", Style.HEADING, True, True, 9)
+MARKED_CELLS = "⠠⠞⠓⠑⠀{⠍⠕⠕⠝}⠀⠊⠎⠀⠋⠁⠗⠀⠁⠺⠁⠽⠲"
 MARK = Mark(1, 4, 8, False, False, "spelled so?")
+READING = Reading(FIRST, PRINT, CELLS, (MARK,))
 STATE = State(
     "moon.braildesk",
     7,
@@ -35,7 +38,8 @@ STATE = State(
     ("en",),
     Size(80, 24),
     openings={1: Opening(PRINT, 1), 2: Opening("The Tides", 0)},
-    reading=Reading(FIRST, PRINT, CELLS, (MARK,)),
+    reading=READING,
+    marked_cells=(Occurrence(5, 9),),
     place=5,
     lit=Lit(Occurrence(5, 6), Occurrence(6, 7)),
     kept="kept: mark 1",
@@ -47,12 +51,12 @@ SIZES = {
         "     2 heading, volume, struck: The Tides",
         *[""] * 4,
         "-- Paragraph 1, body, table en " + "-" * 49,
-        PRINT,
-        CELLS,
+        "The {moon} is far away.",
+        "⠠⠞⠓⠑⠀{⠍|⠕|⠕⠝}⠀⠊⠎⠀⠋⠁⠗⠀⠁⠺⠁⠽⠲",
         *[""] * 11,
-        "Character 6 “o”, cell 7 ⠕",
+        "“o” ⠕, character 6, cell 7",
         "Mark 1, open, on “moon”: spelled so?",
-        "Enter edits  o new  u undo  Tab cells  m mark  n next mark  / find  x export  ?…",
+        "? keys  q ends  Enter edits  o new  u undo  Tab cells  m mark  n next mark  /…",
     ],
     (40, 12): [
         "version 7, table en, kept: mark 1",
@@ -60,13 +64,13 @@ SIZES = {
         "     2 heading, volume, struck: The…",
         "",
         "-- Paragraph 1, body, table en ---------",
-        PRINT,
-        CELLS,
+        "The {moon} is far away.",
+        "⠠⠞⠓⠑⠀{⠍|⠕|⠕⠝}⠀⠊⠎⠀⠋⠁⠗⠀⠁⠺⠁⠽⠲",
         "",
         "",
-        "Character 6 “o”, cell 7 ⠕",
+        "“o” ⠕, character 6, cell 7",
         "Mark 1, open, on “moon”: spelled so?",
-        "Enter edits  o new  u undo  Tab cells …",
+        "? keys  q ends  Enter edits  o new  u…",
     ],
     (200, 60): [
         "moon.braildesk, version 7, table en, kept: mark 1",
@@ -74,13 +78,13 @@ SIZES = {
         "     2 heading, volume, struck: The Tides",
         *[""] * 16,
         "-- Paragraph 1, body, table en " + "-" * 169,
-        PRINT,
-        CELLS,
+        "The {moon} is far away.",
+        "⠠⠞⠓⠑⠀{⠍|⠕|⠕⠝}⠀⠊⠎⠀⠋⠁⠗⠀⠁⠺⠁⠽⠲",
         *[""] * 35,
-        "Character 6 “o”, cell 7 ⠕",
+        "“o” ⠕, character 6, cell 7",
         "Mark 1, open, on “moon”: spelled so?",
-        "Enter edits  o new  u undo  Tab cells  m mark  n next mark  / find  x export"
-        "  ? keys  q ends",
+        "? keys  q ends  Enter edits  o new  u undo  Tab cells  m mark  n next mark  / find"
+        "  x export",
     ],
 }
 
@@ -118,28 +122,42 @@ def test_the_picture_of_the_page_of_the_desk_is_what_is_drawn() -> None:
 def test_the_character_of_the_cursor_its_cells_and_the_marked_words_are_lit() -> None:
     drawn = draw(STATE)
     assert looks(drawn, LIT) == ["o", "⠕"]
-    assert looks(drawn, MARKED) == ["m", "on"]
-    assert drawn.cursor == (8, 5)
+    assert looks(drawn, MARKED) == ["{m", "on}", "{⠍", "⠕⠝}"]
+    assert drawn.lines[8][2].text == "o" and drawn.cursor == (8, 6)
 
 
 def test_on_cells_the_cursor_stands_on_the_cell_and_its_characters_are_lit() -> None:
     lit = Lit(Occurrence(0, 1), Occurrence(0, 1))
     drawn = draw(replace(STATE, pane=Pane.CELLS, place=0, lit=lit))
     assert looks(drawn, LIT) == ["T", "⠠"]
+    assert drawn.texts()[8:10] == ["|T|he {moon} is far away.", MARKED_CELLS]
     assert drawn.cursor == (9, 0)
+
+
+def test_what_belongs_to_the_cursor_stands_between_bars_with_its_signs() -> None:
+    lit = Lit(Occurrence(0, 1), Occurrence(0, 2))
+    drawn = draw(replace(STATE, place=0, lit=lit))
+    assert drawn.texts()[8:10] == ["The {moon} is far away.", "|⠠⠞|" + MARKED_CELLS[2:]]
+    assert "“T” ⠠⠞, character 1, cells 1 to 2" in drawn.texts()
 
 
 def test_chosen_cells_are_lit_and_counted() -> None:
     lit = Lit(Occurrence(7, 8), Occurrence(8, 9))
     drawn = draw(replace(STATE, pane=Pane.CELLS, place=8, anchor=5, lit=lit))
     assert looks(drawn, LIT) == ["n", "⠍⠕⠕⠝"]
-    assert "Character 8 “n”, cell 9 ⠝, 4 cells chosen" in drawn.texts()
+    line, place = drawn.cursor
+    assert drawn.texts()[line] == "⠠⠞⠓⠑⠀{|⠍⠕⠕⠝|}⠀⠊⠎⠀⠋⠁⠗⠀⠁⠺⠁⠽⠲"
+    assert drawn.texts()[line][place] == "⠝"
+    assert "4 cells chosen, at ⠝ “n”, cell 9, character 8" in drawn.texts()
+    drawn = draw(replace(STATE, pane=Pane.CELLS, place=9, anchor=5, lit=lit))
+    line, place = drawn.cursor
+    assert drawn.texts()[line][:place] == "⠠⠞⠓⠑⠀{|⠍⠕⠕⠝}"
 
 
 def test_braille_ascii_is_shown_where_it_is_wanted() -> None:
     drawn = draw(replace(STATE, is_ascii=True))
-    assert ",THE MOON IS FAR AWAY4" in drawn.texts()
-    assert "Character 6 “o”, cell 7 O" in drawn.texts()
+    assert ",THE {M|O|ON} IS FAR AWAY4" in drawn.texts()
+    assert "“o” O, character 6, cell 7" in drawn.texts()
     assert "".join(drawn.texts()[:-1]).count("⠕") == 0
 
 
@@ -196,6 +214,8 @@ def test_an_empty_book_says_what_to_do() -> None:
 def test_a_question_is_asked_on_the_last_line() -> None:
     drawn = draw(replace(STATE, question=Question("Are they 2 paragraphs?")))
     assert drawn.texts()[-1] == "Are they 2 paragraphs? y is yes, n is no."
+    said = draw(replace(STATE, question=Question("Further?"), message="Changed."))
+    assert said.texts()[-2:] == ["Changed.", "Further? y is yes, n is no."]
 
 
 def test_pages_are_looked_at_from_their_top_on() -> None:
@@ -207,7 +227,42 @@ def test_pages_are_looked_at_from_their_top_on() -> None:
 def test_a_long_refusal_leaves_room_for_the_book() -> None:
     drawn = draw(replace(STATE, size=Size(40, 12), message="No, never again. " * 40))
     assert len(drawn.lines) == 12
-    assert PRINT in drawn.texts()
+    assert "The {moon} is far away." in drawn.texts()
+
+
+def test_several_marks_at_the_cursor_are_counted_and_a_long_note_is_wrapped() -> None:
+    second = Mark(2, 5, 6, False, False, "so? " * 100)
+    reading = replace(READING, marks=(second, MARK))
+    lines = draw(replace(STATE, size=Size(40, 24), reading=reading)).texts()
+    place = lines.index("“o” ⠕, character 6, cell 7")
+    assert lines[place + 1 : place + 3] == [
+        "2 marks here. Mark 2, open, on “o”: so?",
+        "so? so? so? so? so? so? so? so? so? so?",
+    ]
+    assert lines[-2].endswith("so…") and len(lines) - place == 8
+
+
+def test_a_character_that_can_not_be_seen_is_named_where_the_cursor_is() -> None:
+    reading = Reading(FIRST, "a\u00a0b", "⠁⠀⠃", ())
+    lit = Lit(Occurrence(1, 2), Occurrence(1, 2))
+    drawn = draw(replace(STATE, reading=reading, place=1, lit=lit, marked_cells=()))
+    assert "U+00A0 NO-BREAK SPACE ⠀, character 2, cell 2" in drawn.texts()
+
+
+def test_no_sentence_brings_a_control_character_to_the_screen() -> None:
+    evil = "one \u202etwo\x1b[2J"
+    for state in (
+        replace(STATE, message=evil),
+        replace(STATE, question=Question(evil)),
+        replace(STATE, pages=Pages(evil, (evil,))),
+        replace(STATE, name=evil, openings={1: Opening(evil, 0)}),
+        replace(STATE, typed=Field(Purpose.NOTE, evil, 4)),
+        replace(STATE, typed=Field(Purpose.EDIT, evil, 4)),
+        replace(STATE, kept=evil),
+    ):
+        text = "".join(draw(state).texts())
+        assert "\u202e" not in text and "\x1b" not in text
+        assert "<U+202E>two<U+001B>[2J" in text
 
 
 def test_control_characters_are_written_out_and_the_cursor_stands_after_them() -> None:
@@ -223,4 +278,6 @@ def test_a_lost_session_is_said_and_nothing_more_is_asked_for() -> None:
     typed = Field(Purpose.NOTE, "why?", 4)
     drawn = draw(replace(STATE, is_lost=True, pages=pages, typed=typed))
     assert drawn.texts()[1:3] == ["The session ended. Lines 1 to 1 of 1.", "Because."]
-    assert drawn.texts()[-1] == "Up, Down look further  q ends"
+    assert drawn.texts()[-1] == (
+        "Enter opens the book again  q ends  Up, Down look further"
+    )

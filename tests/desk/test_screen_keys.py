@@ -1,17 +1,20 @@
 """What each key asks for, from a state that is written by hand."""
 
+import re
 from dataclasses import replace
 from pathlib import Path
 
 import pytest
 
 from braildesk import Mark, Paragraph, Style, requests
+from scribe.layout import Sheet
 from scribe.occurrences import Occurrence
 from scribe.readings import Reading
 from scribe.screen.errands import (
     ExportTo,
     GiveTable,
     ImportFrom,
+    OpenAgain,
     Quit,
     ShowHistory,
     ShowPage,
@@ -20,8 +23,9 @@ from scribe.screen.errands import (
     TypeAll,
 )
 from scribe.screen.field import Field, Purpose
-from scribe.screen.keys import KEYS, help_lines, pasted, step
+from scribe.screen.keys import KEYS, NAMES, help_lines, pasted, step
 from scribe.screen.state import Lit, Opening, Pages, Pane, Question, Size, State
+from tool import ROOT
 
 PRINT = "The moon is far away."
 CELLS = "⠠⠞⠓⠑⠀⠍⠕⠕⠝⠀⠊⠎⠀⠋⠁⠗⠀⠁⠺⠁⠽⠲"
@@ -113,10 +117,21 @@ ASKED = {
     ),
     "a table is given": (typed(Purpose.TABLE, "own"), "enter", GiveTable("own")),
     "words are looked for": (typed(Purpose.WORDS, "far"), "enter", ToFound("far")),
+    "two blanks are looked for": (typed(Purpose.WORDS, "  "), "enter", ToFound("  ")),
+    "a folder of nobody is a path": (
+        typed(Purpose.FOLDER, "~nobody-here/pages"),
+        "enter",
+        ExportTo(Path("~nobody-here/pages")),
+    ),
     "a folder is exported to": (
         typed(Purpose.FOLDER, "pages"),
         "enter",
         ExportTo(Path("pages")),
+    ),
+    "a folder is exported to on pages of another size": (
+        replace(typed(Purpose.FOLDER, "pages"), sheet=Sheet(30, 10)),
+        "enter",
+        ExportTo(Path("pages"), Sheet(30, 10)),
     ),
     "a text file is imported after the paragraph": (
         typed(Purpose.TEXT_FILE, "a.txt"),
@@ -172,11 +187,43 @@ SAID = {
         "enter",
         "The print reads as before, so nothing was sent.",
     ),
+    "Enter on nothing, for a new paragraph": (
+        typed(Purpose.AFTER, "  "),
+        "enter",
+        "Nothing was typed, so nothing was done.",
+    ),
+    "Enter on a blank at a prompt": (
+        typed(Purpose.TABLE, " "),
+        "enter",
+        "Nothing was typed, so nothing was done.",
+    ),
+    "Ctrl-C while typing": (
+        typed(Purpose.EDIT, "x"),
+        "\x03",
+        "Enter keeps what is typed, Escape gives it up.",
+    ),
+    "Escape where pasted lines are asked about": (
+        replace(typed(Purpose.AFTER, "x"), question=Question("?", ("a", "b"))),
+        "escape",
+        "The pasted text was left out. Nothing was sent.",
+    ),
     "a number that isn't there": (
         typed(Purpose.NUMBER, "9"),
         "enter",
         "There is no paragraph 9. The cursor stays where it is.",
     ),
+    "a size of pages": (
+        typed(Purpose.SIZE, "30 10"),
+        "enter",
+        "Pages of 10 lines of 30 cells, for p and x.",
+    ),
+    "no size of pages": (
+        typed(Purpose.SIZE, "30"),
+        "enter",
+        "A line of a page has 10 to 60 cells, and a page 5 to 40 lines. Type both numbers with a"
+        " blank between them, as in 40 25.",
+    ),
+    "x": (STATE, "x", "Pages of 25 lines of 40 cells. Escape, then w, changes it."),
     "* at first": (STATE, "*", "Nothing was looked for yet. / looks for words."),
     "bytes that aren't UTF-8": (
         typed(Purpose.EDIT, "x"),
@@ -289,11 +336,30 @@ def test_pasted_lines_are_joined_where_print_is_edited() -> None:
     assert state.typed and state.typed.text == "ax yb"
 
 
+def test_a_size_of_pages_is_kept_and_what_is_none_is_typed_further() -> None:
+    asked = step(STATE, "w").state
+    assert asked.typed == Field(Purpose.SIZE, "40 25", 5)
+    given = step(typed(Purpose.SIZE, "30 10"), "enter").state
+    assert (given.sheet, given.typed) == (Sheet(30, 10), None)
+    further = step(typed(Purpose.SIZE, "30 1"), "enter").state
+    assert (further.sheet, further.typed) == (Sheet(), Field(Purpose.SIZE, "30 1", 4))
+
+
 def test_no_other_key_answers_a_question() -> None:
     draft = Field(Purpose.EDIT, "text")
     asked = replace(STATE, question=Question("Further?", draft=draft))
-    assert step(asked, "x").state.question == asked.question
+    for key in sorted({*KEYS, "x", "escape"} - {"n"}):
+        taken = step(asked, key)
+        assert (taken.state.question, taken.asked) == (asked.question, None)
     assert step(asked, "y").state.typed == draft
+
+
+def test_pasted_lines_that_wait_from_before_are_asked_about_again() -> None:
+    draft = Field(Purpose.BEFORE, "One.\nTwo.")
+    asked = replace(STATE, question=Question("Further?", draft=draft))
+    state = step(asked, "y").state
+    assert state.question and state.question.lines == ("One.", "Two.")
+    assert step(state, "y").asked == TypeAll(Purpose.BEFORE, ("One.", "Two."))
 
 
 def test_all_keys_are_in_the_help() -> None:
@@ -303,12 +369,13 @@ def test_all_keys_are_in_the_help() -> None:
     assert step(STATE, "?").state.pages == Pages("All keys.", help_lines())
 
 
-def test_nothing_is_sent_once_the_session_is_lost() -> None:
+def test_a_lost_session_is_left_or_opened_again_and_nothing_else() -> None:
     pages = Pages("The session ended.", ("Because.",))
     lost = replace(STATE, is_lost=True, pages=pages)
     for key in [*KEYS, "y", "x"]:
         asked = step(lost, key).asked
-        assert asked == (Quit() if key == "q" else None)
+        wanted = {"q": Quit(), "enter": OpenAgain()}
+        assert asked == wanted.get(key)
 
 
 def test_the_openings_of_other_paragraphs_stay() -> None:

@@ -2,6 +2,7 @@
 
 import os
 import sys
+import time
 from collections.abc import Iterator
 from pathlib import Path
 
@@ -44,6 +45,10 @@ class Trying:
     def type(self, line: str) -> list[str]:
         """Types a line, and gives the lines that are written before the next prompt."""
         self._child.send(line + "\r")
+        return self.wait()
+
+    def wait(self) -> list[str]:
+        """The lines that are written before the next prompt."""
         _, *answer = self._answer()
         return answer
 
@@ -107,7 +112,7 @@ def test_a_file_that_was_saved_is_read_again_by_itself(
 ) -> None:
     assert trying.type("the")[0] == "⠮"
     own.write_text(TABLE.replace("word the 2346", "word the 1-1"))
-    assert trying.type("") == [
+    assert trying.wait() == [
         "The file was saved, and is read again.",
         "own.utb: 12 lines, accepted.",
         "⠁⠁",
@@ -115,12 +120,32 @@ def test_a_file_that_was_saved_is_read_again_by_itself(
     ]
     own.with_name("new").write_text("# mine\n" + TABLE)
     os.replace(own.with_name("new"), own)
-    assert trying.type("the") == [
+    assert trying.wait() == [
         "The file was saved, and is read again.",
         "own.utb: 13 lines, accepted.",
         "⠮",
         "“the” ⠮: line 12, word the 2346",
     ]
+
+
+def test_a_file_that_is_saved_while_a_line_is_typed_is_read_with_the_line(
+    trying: Trying, own: Path
+) -> None:
+    trying.keys("th")
+    own.write_text(TABLE.replace("word the 2346", "word the 1-1"))
+    time.sleep(2)
+    assert trying.type("e") == [
+        "The file was saved, and is read again.",
+        "own.utb: 12 lines, accepted.",
+        "⠁⠁",
+        "“the” ⠁⠁: line 11, word the 1-1",
+    ]
+
+
+def test_a_file_that_is_saved_as_it_was_is_no_matter(trying: Trying, own: Path) -> None:
+    own.write_text(TABLE)
+    time.sleep(2)
+    assert trying.type("the")[0] == "⠮"
 
 
 def test_a_fault_is_shown_until_it_is_gone(trying: Trying, own: Path) -> None:
@@ -131,10 +156,10 @@ def test_a_fault_is_shown_until_it_is_gone(trying: Trying, own: Path) -> None:
         "own.utb is refused, so nothing can be translated. It has 1 other fault: scribe"
         " check-table shows all. Save it corrected, and go on here.",
     ]
-    assert trying.type("the") == ["The file was saved, and is read again.", *refused]
+    assert trying.wait() == ["The file was saved, and is read again.", *refused]
     assert trying.type("the") == refused
     own.write_text(TABLE)
-    assert trying.type("")[-1] == "“the” ⠮: line 11, word the 2346"
+    assert trying.wait()[-1] == "“the” ⠮: line 11, word the 2346"
 
 
 def test_a_table_with_a_fault_may_be_corrected_at_the_prompt(own: Path) -> None:
@@ -142,6 +167,7 @@ def test_a_table_with_a_fault_may_be_corrected_at_the_prompt(own: Path) -> None:
     trying = Trying(own)
     assert trying.greeting[0].startswith("Line 1: An operand is missing.")
     own.write_text("letter a 1\n")
+    assert trying.wait()[-1] == "own.utb: 1 line, accepted."
     assert trying.type("a")[-1] == "“a” ⠁: line 1, letter a 1"
     assert trying.end("quit\r").status == 0
 

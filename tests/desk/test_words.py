@@ -68,6 +68,12 @@ def test_help_names_all_commands(tmp_path: Path) -> None:
     assert all(name in listed for name in ALL)
 
 
+def test_the_version_is_shown(tmp_path: Path) -> None:
+    version = (ROOT / "VERSION").read_text()
+    ran = scribe("--version", folder=tmp_path)
+    assert (ran.status, ran.shown, ran.said) == (0, f"scribe {version}", "")
+
+
 @pytest.mark.parametrize(
     "words, sentence",
     [

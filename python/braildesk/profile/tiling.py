@@ -62,7 +62,7 @@ def _chosen(
         stop = place + len(rule.characters)
         if (
             folded.startswith(rule.characters, place)
-            and _fits(
+            and fits(
                 table, rule.kind, text[max(place - 1, 0) : place], text[stop : stop + 1]
             )
             and not any(before[place + 1 : stop])
@@ -71,7 +71,7 @@ def _chosen(
     return table.definitions[text[place]]
 
 
-def _fits(table: Table, kind: Kind, left: str, right: str) -> bool:
+def fits(table: Table, kind: Kind, left: str, right: str) -> bool:
     """Whether a rule may stand between two characters, which are empty at the print's ends."""
     match kind:
         case Kind.WORD:

@@ -1,7 +1,9 @@
 """What a table may have but is rarely meant, each with a sentence."""
 
-from collections.abc import Iterator
+from collections.abc import Iterator, Mapping
 from dataclasses import dataclass
+from itertools import product
+from typing import TypeAlias
 
 from braildesk.characters import named
 from braildesk.profile.entries import (
@@ -15,9 +17,13 @@ from braildesk.profile.entries import (
 )
 from braildesk.profile.operands import Cells
 from braildesk.profile.table import Table
+from braildesk.profile.tiling import fits
 
 _BESIDE_LETTERS = (Kind.BEGWORD, Kind.MIDWORD, Kind.ENDWORD)
 _DOT_7 = 0x40
+
+#: What stands on the left of a rule and on its right.
+_Place: TypeAlias = tuple[str, str]
 
 
 @dataclass(frozen=True, slots=True)
@@ -38,23 +44,68 @@ def warnings(table: Table, is_for_embosser: bool) -> list[Warning]:
 
 
 def _repeated(table: Table) -> Iterator[Warning]:
-    """Rules of the same characters as an earlier one that fits wherever they do."""
-    seen: dict[tuple[str, Kind], int] = {}
+    """Rules of the same characters as earlier ones, of which one fits wherever they do."""
+    places = {kind: _places(table, kind) for kind in Kind}
+    seen: dict[str, list[Rule]] = {}
     for rule in table.rules:
-        earlier = [
-            seen[rule.characters, kind]
-            for kind in (Kind.ALWAYS, rule.kind)
-            if (rule.characters, kind) in seen
-        ]
+        before = seen.setdefault(rule.characters, [])
+        earlier = _covering(places, rule, before)
         if earlier:
-            yield Warning(
-                rule.line,
-                f"This rule is never chosen. Line {min(earlier):,} has the same characters, fits"
-                " wherever this one does, and of two such rules the earlier line is chosen.",
-                min(earlier),
-            )
+            yield _repeating(rule, [each.line for each in earlier])
         else:
-            seen[rule.characters, rule.kind] = rule.line
+            before.append(rule)
+
+
+def _covering(
+    places: Mapping[Kind, set[_Place]], rule: Rule, before: list[Rule]
+) -> list[Rule]:
+    """An earlier rule that fits wherever a rule does, or some that do together, or none."""
+    wanted = places[rule.kind]
+    near = [each for each in before if wanted & places[each.kind]]
+    for each in near:
+        if wanted <= places[each.kind]:
+            return [each]
+    together: set[_Place] = set()
+    for each in near:
+        together |= places[each.kind]
+    return near if wanted <= together else []
+
+
+def _repeating(rule: Rule, earlier: list[int]) -> Warning:
+    """A rule is never chosen for the sake of some earlier lines."""
+    numbers = [f"{line:,}" for line in earlier]
+    if len(earlier) == 1:
+        which = (
+            f"Line {numbers[0]} has the same characters, fits wherever this one does"
+        )
+        of = "two such rules"
+    else:
+        which = (
+            f"Lines {', '.join(numbers[:-1])} and {numbers[-1]} have the same characters, one of"
+            " them fits wherever this one does"
+        )
+        of = "such rules"
+    return Warning(
+        rule.line,
+        f"This rule is never chosen. {which}, and of {of} the earlier line is chosen.",
+        earlier[0],
+    )
+
+
+def _places(table: Table, kind: Kind) -> set[_Place]:
+    """Where a rule of a kind fits.
+
+    The end of the print stands for blanks and punctuation too, and one letter and one digit for
+    all.
+    """
+    sides = [""]
+    for each in (Class.LETTER, Class.DIGIT):
+        sides += [it for it in table.definitions if table.is_of(each, it)][:1]
+    return {
+        (left, right)
+        for left, right in product(sides, repeat=2)
+        if fits(table, kind, left, right)
+    }
 
 
 def _never_fitting(table: Table) -> Iterator[Warning]:

@@ -6,9 +6,10 @@ from pathlib import Path
 
 from braildesk.bring import report
 from braildesk.bring.bringing import LIMIT, Brought, NoWords, Options, bring
+from braildesk.bring.naming import named_table, of_language
 from braildesk.bring.oracle import NoLiblouis
 from braildesk.bring.shipped import measured_tables, shipped_tables
-from braildesk.bring.source import NoTable, find_table
+from braildesk.bring.source import NoTable
 
 from scribe.console import Console
 from scribe.parser import Subparsers, command_parser
@@ -16,16 +17,17 @@ from scribe.status import Status, Stop
 from scribe.whole_file import write_whole
 
 MORE = """\
-TABLE is the name of a table that liblouis has, as de-g0.utb, or a file. Its characters
-and rules are read, with all that it includes, and liblouis is asked for the cells of each
-character in its places. The text is then compared with liblouis, through the program, on
-lines that were not used for making it. It is written to FILE, or to standard output,
-where at least 99 of 100 lines agree; lines that need what a table of braildesk can't have
-(passages of capitals, several passes, computer braille) are counted apart. What could not
-be carried over stands in comments at the top of the text. The text is under the licence
-of the table that it was made from."""
+TABLE is a table that liblouis has, by its name, as de-g0.utb or de-g0, or its title, or a
+file. Its characters and rules are read, with all that it includes, and liblouis is asked
+for the cells of each character in its places. The text is then compared with liblouis,
+through the program, on lines that were not used for making it. It is written to FILE, or
+to standard output, where at least 99 of 100 lines agree; lines that need what a table of
+braildesk can't have (passages of capitals, several passes, computer braille) are counted
+apart. What could not be carried over stands in comments at the top of the text. The text
+is under the licence of the table that it was made from."""
 EXAMPLE = """\
 scribe bring --list
+scribe bring --list Spanish
 scribe bring es-g1.ctb spanish.utb"""
 NOT_WRITTEN = (
     "Nothing was written, since fewer than 99 of 100 lines agree. With --anyway the text is"
@@ -55,7 +57,7 @@ def add_parser(subparsers: Subparsers) -> ArgumentParser:
     parser.add_argument(
         "--list",
         action="store_true",
-        help="show the tables of the installed liblouis instead",
+        help="show the installed tables instead, or those of the language TABLE",
     )
     parser.add_argument(
         "--words",
@@ -79,7 +81,7 @@ def add_parser(subparsers: Subparsers) -> ArgumentParser:
 def run(arguments: Namespace, console: Console) -> Status:
     """Shows the tables, or brings one over."""
     if arguments.list:
-        console.show(*listed())
+        console.show(*listed(arguments.table))
         return Status.DONE
     if arguments.table is None:
         raise Stop(
@@ -87,7 +89,7 @@ def run(arguments: Namespace, console: Console) -> Status:
             " installed liblouis has."
         )
     try:
-        table = find_table(arguments.table)
+        table = named_table(arguments.table)
         brought = bring(table, Options(arguments.words, arguments.learn))
     except (NoTable, NoLiblouis, NoWords) as found:
         raise Stop(str(found)) from found
@@ -97,11 +99,19 @@ def run(arguments: Namespace, console: Console) -> Status:
     return _written(brought, arguments.file, console)
 
 
-def listed() -> list[str]:
-    """The installed tables by language, each with the share that was measured."""
+def listed(language: str | None = None) -> list[str]:
+    """The installed tables by language, each with the share that was measured, or those of one language."""
     measured = measured_tables()
+    tables = shipped_tables()
+    if language is not None and tables:
+        tables = of_language(language, tables)
+        if not tables:
+            raise Stop(
+                f"No installed table is for the language {language}. `scribe bring --list`"
+                " shows the languages in its first column."
+            )
     lines = []
-    for table in shipped_tables():
+    for table in tables:
         row = measured.get(table.name)
         share = "not measured" if row is None else report.percent(row.others)
         title = table.title or "-"
@@ -114,7 +124,7 @@ def listed() -> list[str]:
 
 def said_of(brought: Brought) -> list[str]:
     """What is said of a table that was brought over."""
-    lines = [*brought.losses, *report.agreement(brought.unseen)]
+    lines = report.agreement(brought.unseen)
     lines.append(f"The words of these lines are from {brought.source_of_words}.")
     if brought.unseen.others:
         lines.append("Lines that differ:")
@@ -122,7 +132,7 @@ def said_of(brought: Brought) -> list[str]:
     elif brought.unseen.differences:
         lines.append("Lines that differ:")
         lines += report.examples(brought.unseen.differences, most=3)
-    return lines
+    return [*lines, *brought.losses]
 
 
 def _why_not(brought: Brought) -> str:

@@ -1,15 +1,24 @@
 """`scribe edit`: the book on the screen."""
 
 import shutil
+import sys
 from argparse import ArgumentParser, Namespace
+from dataclasses import replace
+from io import TextIOWrapper
+from typing import TYPE_CHECKING
 
 from braildesk import Lost
 
 from scribe.console import Console
+from scribe.page_size import add_page_size, sheet_of
 from scribe.parser import Subparsers, add_file, command_parser
 from scribe.status import Status, Stop
 from scribe.terminal import are_typed
 from scribe.texts import words
+
+if TYPE_CHECKING:
+    from scribe.screen.desk import Desk
+    from scribe.screen.terminal import Screen
 
 MORE = """\
 The paragraphs are listed, and of the chosen one the print and the braille are shown. The
@@ -31,6 +40,7 @@ def add_parser(subparsers: Subparsers) -> ArgumentParser:
         type=words,
         help="the proofreader, whose name corrections keep",
     )
+    add_page_size(parser)
     return parser
 
 
@@ -45,7 +55,8 @@ def run(arguments: Namespace, console: Console) -> Status:
         # imported here, since only this command needs prompt_toolkit
         from scribe.screen.desk import Desk
         from scribe.screen.state import Size
-        from scribe.screen.terminal import Screen, first_environment, is_plain
+        from scribe.screen.encoding import encoding_of, is_plain
+        from scribe.screen.terminal import Screen, first_environment
     except ImportError:
         raise Stop(
             "scribe edit needs prompt_toolkit, which is not installed. Debian has it as"
@@ -54,18 +65,37 @@ def run(arguments: Namespace, console: Console) -> Status:
         ) from None
     desk = Desk(arguments.file)
     columns, lines = shutil.get_terminal_size()
-    is_ascii = is_plain(first_environment())
+    environment = first_environment()
+    is_ascii = is_plain(environment)
+    encoding = encoding_of(environment, sys.stdout.encoding)
+    _take_encoding(encoding)
     state = desk.first_state(Size(columns, lines), arguments.by, is_ascii)
+    state = replace(state, sheet=sheet_of(arguments), encoding=encoding)
     screen = Screen(desk, state)
     screen.run()
+    return _end(desk, screen, arguments.file.name, console)
+
+
+def _end(desk: "Desk", screen: "Screen", name: str, console: Console) -> Status:
+    """Closes the book, and says how its session ended, where somebody is there to read it."""
     try:
         desk.close()
     except Lost as lost:
-        console.say(lost.sentence)
+        if not screen.is_hung_up:
+            console.say(lost.sentence)
+        return Status.FAILED
+    if screen.is_hung_up:
         return Status.FAILED
     if screen.state.is_lost:
         lines_said = screen.state.pages.lines if screen.state.pages else ()
         console.say(*lines_said)
         return Status.FAILED
-    console.show(f"{arguments.file.name} is at version {screen.state.version:,}.")
+    console.show(f"{name} is at version {screen.state.version:,}.")
     return Status.DONE
+
+
+def _take_encoding(encoding: str) -> None:
+    """Has keys and the screen be in an encoding."""
+    for stream in (sys.stdin, sys.stdout):
+        if isinstance(stream, TextIOWrapper):
+            stream.reconfigure(encoding=encoding)

@@ -1,15 +1,16 @@
 """`scribe export`: all volumes of a book as pages for an embosser."""
 
 import re
-from argparse import ArgumentParser, ArgumentTypeError, Namespace
-from collections.abc import Callable
+from argparse import ArgumentParser, Namespace
 from dataclasses import dataclass
 from pathlib import Path
 
-from braildesk import Failed, Refused, check, export, limits
+from braildesk import Failed, Refused, check, export
 
 from scribe.console import Console
-from scribe.parser import Subparsers, add_file, command_parser, number
+from scribe.layout import Sheet
+from scribe.page_size import add_page_size, sheet_of
+from scribe.parser import Subparsers, add_file, command_parser
 from scribe.status import Status, Stop
 from scribe.whole_file import write_whole
 
@@ -35,23 +36,13 @@ def add_parser(subparsers: Subparsers) -> ArgumentParser:
     parser.add_argument(
         "folder", metavar="FOLDER", type=Path, help="where the volumes are written"
     )
-    for name, what, limit, usual in (
-        ("--width", "cells of a line", limits.WIDTHS, 40),
-        ("--lines", "lines of a page", limits.PAGE_LINES, 25),
-    ):
-        parser.add_argument(
-            name,
-            metavar="N",
-            type=_within(limit),
-            default=usual,
-            help=f"the {what}, {limit[0]} to {limit[1]}; {usual} where it isn't given",
-        )
+    add_page_size(parser)
     return parser
 
 
 def run(arguments: Namespace, console: Console) -> Status:
     """Writes each volume, and says what became of it."""
-    job = Job(arguments.file, arguments.folder, arguments.width, arguments.lines)
+    job = Job(arguments.file, arguments.folder, sheet_of(arguments))
     version = check(job.book)
     _make_folder(job.folder)
     status = Status.DONE
@@ -73,8 +64,7 @@ class Job:
 
     book: Path
     folder: Path
-    width: int
-    lines: int
+    sheet: Sheet
 
     @property
     def name(self) -> str:
@@ -106,7 +96,7 @@ def described(pages: bytes) -> str:
 def _pages(job: Job, volume: int, console: Console) -> bytes | Refused | None:
     """The pages of a volume, or why it is refused, or None where the book has no such volume."""
     try:
-        return export(job.book, volume, job.width, job.lines)
+        return export(job.book, volume, job.sheet.width, job.sheet.lines)
     except Refused as refused:
         if refused.code == NO_SUCH_VOLUME:
             return None
@@ -165,13 +155,3 @@ def _ending(job: Job, volumes: int, version: int) -> list[str]:
             f" {', '.join(later)}."
         )
     return sentences
-
-
-def _within(limit: tuple[int, int]) -> Callable[[str], int]:
-    def size(word: str) -> int:
-        value = number(word)
-        if not limit[0] <= value <= limit[1]:
-            raise ArgumentTypeError(f"{word} is not {limit[0]} to {limit[1]}")
-        return value
-
-    return size

@@ -1,15 +1,16 @@
 """`scribe pages`: on which page and line each paragraph stands, and what stands on a page."""
 
-from argparse import ArgumentParser, ArgumentTypeError, Namespace
+from argparse import ArgumentParser, Namespace
 from collections.abc import Callable, Iterator, Sequence
 from itertools import groupby
 
-from braildesk import Session, export, limits
+from braildesk import Session, export
 
 from scribe.console import Console
 from scribe.excerpt import opening
 from scribe.layout import Row, Sheet
 from scribe.occurrences import Occurrence
+from scribe.page_size import add_page_size, described, sheet_of
 from scribe.parser import Subparsers, add_file, command_parser, number
 from scribe.places import words_of
 from scribe.status import Status, Stop
@@ -35,8 +36,7 @@ def add_parser(subparsers: Subparsers) -> ArgumentParser:
     parser.add_argument(
         "volume", metavar="VOLUME", type=number, nargs="?", help="only this volume"
     )
-    _add_size(parser, "--width", limits.WIDTHS, 40, "the cells of a line")
-    _add_size(parser, "--lines", limits.PAGE_LINES, 25, "the lines of a page")
+    add_page_size(parser)
     which = parser.add_mutually_exclusive_group()
     which.add_argument("--page", metavar="N", type=number, help="the lines of a page")
     which.add_argument(
@@ -46,7 +46,7 @@ def add_parser(subparsers: Subparsers) -> ArgumentParser:
 
 
 def run(arguments: Namespace, console: Console) -> Status:
-    sheet = Sheet(arguments.width, arguments.lines)
+    sheet = sheet_of(arguments)
     with Session(arguments.file) as session:
         volumes = laid_out(session, arguments.volume, sheet)
         lines = shown(session, volumes, arguments.page, arguments.paragraph)
@@ -137,32 +137,10 @@ def _row_line(session: Session, its: Volume, row: Row) -> str:
 def _title(its: Volume) -> str:
     sheet, pages = its.layout.sheet, its.layout.pages
     count = "1 page" if pages == 1 else f"{pages:,} pages"
-    return (
-        f"Volume {its.number}: {count} of {sheet.lines} lines of {sheet.width} cells."
-    )
+    return f"Volume {its.number}: {count} of {described(sheet)}."
 
 
 def _not_there(volumes: Sequence[Volume], what: str) -> str:
     if len(volumes) > 1:
         return f"No volume has {what}."
     return f"Volume {volumes[0].number} has no {what}."
-
-
-def _add_size(
-    parser: ArgumentParser, name: str, ends: tuple[int, int], usual: int, what: str
-) -> None:
-    least, most = ends
-
-    def size(word: str) -> int:
-        value = number(word)
-        if not least <= value <= most:
-            raise ArgumentTypeError(f"{value} is not between {least} and {most}")
-        return value
-
-    parser.add_argument(
-        name,
-        metavar="N",
-        type=size,
-        default=usual,
-        help=f"{what}, {least} to {most}, {usual} where it isn't given",
-    )

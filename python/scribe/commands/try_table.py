@@ -11,7 +11,7 @@ from scribe.console import Console
 from scribe.parser import Subparsers, command_parser
 from scribe.sequences import composed
 from scribe.status import Status, Stop
-from scribe.terminal import GivenUp, Lines, PipedLines, TypedLines, are_typed
+from scribe.terminal import Due, GivenUp, Lines, PipedLines, TypedLines, are_typed
 from scribe.trial import Trial
 from scribe.width import add_width
 from scribe.wrapping import columns, wrap
@@ -19,9 +19,11 @@ from scribe.wrapping import columns, wrap
 MORE = """\
 Print is typed at a prompt. The answer is its braille, as braildesk translates it, and
 then the lines of the table by which its cells came about, from left to right. A file
-that was saved meanwhile is read again by itself, and an empty line translates the last
-print once more. Print is taken in normal form C, as a book keeps it. quit or Ctrl-D
-ends, Ctrl-C gives up the line that is typed. The status is that of the last answer."""
+that is saved is read again by itself: while nothing is typed at once, and the last print
+is translated once more, else with the line that is typed. An empty line too translates
+the last print once more. Print is taken in normal form C, as a book keeps it. quit or
+Ctrl-D ends, Ctrl-C gives up the line that is typed. The status is that of the last
+answer."""
 EXAMPLE = "echo 'The sea' | scribe try plain.utb"
 PROMPT = "> "
 _INDENT = "  "
@@ -48,9 +50,15 @@ class _Talk:
         self.console.say(*wrap(sentence, self.width, _INDENT))
 
     def next_line(self) -> bytes | None:
-        """The next line that is typed, or None where the person ends."""
+        """The next line that is typed, or None where the person ends.
+
+        It is an empty one too where the file was saved before a line is begun.
+        """
         self.console.flush()
-        line = self.lines.line(PROMPT, is_kept=True)
+        try:
+            line = self.lines.line(PROMPT, is_kept=True, is_due=self.trial.is_saved)
+        except Due:
+            return b""
         if line is None or line.strip() == _QUIT:
             return None
         return line.removesuffix(b"\r")

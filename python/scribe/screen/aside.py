@@ -49,8 +49,7 @@ def done_aside(
     console = Console(BytesIO(), shown, said)
     try:
         if isinstance(errand, ExportTo):
-            words = Namespace(file=path, folder=errand.folder, width=40, lines=25)
-            export.run(words, console)
+            export.run(_export_words(path, errand), console)
         else:
             import_text.run(_import_words(path, errand), console)
     except (Stop, DeskError) as ended:
@@ -59,6 +58,13 @@ def done_aside(
     lines = shown.getvalue().splitlines()
     kept = lines[-1].rstrip(".") if lines and isinstance(errand, ImportFrom) else ""
     return Ending(what, (*lines, *said.getvalue().splitlines()), kept)
+
+
+def _export_words(path: Path, errand: ExportTo) -> Namespace:
+    sheet = errand.sheet
+    return Namespace(
+        file=path, folder=errand.folder, width=sheet.width, lines=sheet.lines
+    )
 
 
 def _import_words(path: Path, errand: ImportFrom) -> Namespace:

@@ -10,17 +10,19 @@ from braildesk.requests import Command, Request
 
 from scribe.cells import NotCells, braille_patterns
 from scribe.excerpt import opening
-from scribe.layout import Sheet
+from scribe.occurrences import Occurrence
 from scribe.paragraph import mark_line, quoted
 from scribe.queries import shown
 from scribe.readings import Reading, answers
-from scribe.screen import draft, keys, pagelook, search
+from scribe.screen import draft, keys, pagelook, pager, search
 from scribe.screen.aside import done_aside
+from scribe.screen.draft import Draft
 from scribe.screen.errands import (
     Errand,
     ExportTo,
     GiveTable,
     ImportFrom,
+    OpenAgain,
     Quit,
     ShowHistory,
     ShowPage,
@@ -30,14 +32,18 @@ from scribe.screen.errands import (
 )
 from scribe.screen.field import Field, Purpose
 from scribe.screen.keys import Step
-from scribe.screen.lighting import lit
+from scribe.screen.lighting import cells_of_marks, lit
 from scribe.screen.preview import Tables
 from scribe.screen.sentences import kept
 from scribe.screen.state import Opening, Pages, Pane, Question, Size, State
+from scribe.sequences import composed
 from scribe.status import Stop
 from scribe.tables import table_request
 from scribe.visible import named, visible
 
+_WHILE_OPENED = "Another program changed the book while it was being opened, so it was read once more."
+# the refusal of a command that expects another version of the book
+_OTHER_VERSION = 16
 # the first words of a listed paragraph are kept as long as any line may be
 _WORDS = 300
 
@@ -60,7 +66,7 @@ class Desk:
         self.tables = Tables()
         self._session: Session
         self._saved = draft.read(self.draft_path)
-        self._open()
+        self._was_changed = self._open()
 
     @property
     def pid(self) -> int:
@@ -82,17 +88,25 @@ class Desk:
             size,
             by=by,
             is_ascii=is_ascii,
-            message="? shows all keys.",
+            message=_WHILE_OPENED if self._was_changed else self._greeting(),
         )
-        return self.refreshed(self._offered(state))
+        return self.refreshed(self._offered(state, self._saved))
 
     def press(self, state: State, key: str) -> State:
         """The state after a key, once what it asks for was answered."""
         return self._taken(keys.step(state, key))
 
     def paste(self, state: State, text: str) -> State:
-        """The state after text was pasted."""
-        return self._taken(keys.pasted(state, text))
+        """The state after text was pasted, with what its table lacks before it is sent."""
+        step = keys.pasted(state, text)
+        question = step.state.question
+        if question is not None and question.lines and not state.question:
+            fault = self.tables.first_fault(state.table or "", question.lines)
+            if fault:
+                sentence = f"{fault} {question.sentence}"
+                question = replace(question, sentence=sentence)
+                step = Step(replace(step.state, question=question))
+        return self._taken(step)
 
     def resized(self, state: State, size: Size) -> State:
         """The state on a terminal of another size."""
@@ -141,6 +155,7 @@ class Desk:
             self._session.close()
             ending = done_aside(self.path, errand, report)
             self._open()
+            before = state
             state = self._opened_again(state)
         except Lost as lost:
             return self._after_loss(state, lost)
@@ -148,8 +163,9 @@ class Desk:
             return _closed(state, failed.sentence)
         if ending.kept:
             state = replace(state, kept=f"kept: {ending.kept}")
-        if ending.lines:
-            state = replace(state, pages=Pages(ending.title, ending.lines))
+        lines = (*_changed_between(before, state), *ending.lines)
+        if lines:
+            state = replace(state, pages=Pages(ending.title, lines))
         return self.refreshed(state)
 
     def refreshed(self, state: State) -> State:
@@ -164,7 +180,8 @@ class Desk:
         if state.reading is None or state.reading.paragraph != paragraph:
             text, cells, marks = answers(self._session, _of(paragraph.id))
             reading = Reading(paragraph, text, cells, marks)
-            state = replace(state, reading=reading, lit=None)
+            marked = cells_of_marks(self._session, reading)
+            state = replace(state, reading=reading, marked_cells=marked, lit=None)
         assert state.reading is not None
         if state.lit is None:
             its = state.reading
@@ -173,6 +190,9 @@ class Desk:
             light = lit(self._session, its, state.pane, place)
             state = replace(state, place=place, lit=light)
         return state
+
+    def _greeting(self) -> str:
+        return "" if self._saved else "? shows all keys."
 
     def _openings(self, numbers: list[int]) -> dict[int, Opening]:
         asked: list[Request[Any]] = []
@@ -186,8 +206,12 @@ class Desk:
             for number, text, marks in zip(numbers, found, found)
         }
 
-    def _open(self) -> None:
-        """Reads the tables, then opens the session, until both are of one version."""
+    def _open(self) -> bool:
+        """Reads the tables, then opens the session, until both are of one version.
+
+        The answer is whether they were of two versions at first.
+        """
+        was_changed = False
         while True:
             version = check(self.path)
             found = tables(self.path)
@@ -195,9 +219,11 @@ class Desk:
             if session.seen == version:
                 break
             session.close()
+            was_changed = True
         self._session = session
         for table in found:
             self.tables.put(table.name, table.text)
+        return was_changed
 
     def _opened_again(self, state: State) -> State:
         book = self._session.list()
@@ -211,30 +237,74 @@ class Desk:
             reading=None,
         )
         places = [n for n, each in enumerate(book) if each.id == number]
-        return state.at(places[0] if places else 0)
+        return state.at(places[0], state.place) if places else state.at(0)
 
-    def _offered(self, state: State) -> State:
-        """Asks whether a text that waits from before is taken up."""
-        saved = self._saved
+    def _offered(self, state: State, saved: Draft | None) -> State:
+        """Asks whether a text that waits is taken up, unless the book has it by now."""
         if saved is None:
             return state
+        where = self._where_kept(state, saved)
+        if where:
+            rest = saved.after_first_line(max(each.id for each in state.book))
+            if rest is None:
+                said = f"What was typed last is in the book, {where}: {quoted(saved.text)}."
+                return self.save_draft(state.saying(said))
+            saved = rest
+        return self._asked_about(state, saved)
+
+    def _asked_about(self, state: State, saved: Draft) -> State:
+        """Asks whether a text that waits is taken up, at its paragraph."""
         places = [n for n, each in enumerate(state.book) if each.id == saved.paragraph]
+        changed = ""
         if places:
             state = state.at(places[0])
-        changed = ""
-        if places and self._session.print(state.book[places[0]].id) != saved.before:
-            changed = " The print there has been changed since."
-        where = f" of paragraph {saved.paragraph}" if saved.paragraph else ""
-        if saved.purpose.is_new:
-            where = " of a new paragraph"
+            now = self._session.print(state.book[places[0]].id)
+            if not saved.purpose.is_new and now != saved.before:
+                changed = " The print there has been changed since."
         sentence = (
-            f"A text{where} was typed and not sent: {quoted(saved.text)}.{changed} Shall it be"
+            f"{saved.what} was typed and not sent: {quoted(saved.joined)}.{changed} Shall it be"
             " typed further?"
         )
-        field = saved.field if places or saved.purpose.is_new else None
-        field = field or Field(Purpose.AFTER, saved.text, len(saved.text))
+        field = saved.field
+        if saved.purpose is Purpose.NOTE and places:
+            state = self._on_cells(state, saved)
+        elif not places and not saved.purpose.is_new:
+            field = Field(Purpose.AFTER, saved.text, len(saved.text))
         state = replace(state, table=saved.table or state.table)
-        return replace(state, message="", question=Question(sentence, draft=field))
+        return replace(state, question=Question(sentence, draft=field))
+
+    def _where_kept(self, state: State, saved: Draft) -> str:
+        """Where a text that waits, or its first line, is in the book, in words; or nothing.
+
+        It may be there where the session ended after it was kept, and before that was reported.
+        """
+        numbers = [each.id for each in state.book]
+        if saved.version is None or state.version <= saved.version or not numbers:
+            return ""
+        text = composed(saved.first_line)
+        if saved.purpose.is_new:
+            newest = max(numbers)
+            is_there = composed(self._session.print(newest)) == text
+            return f"as paragraph {newest}" if is_there else ""
+        number = saved.paragraph
+        if number is None or number not in numbers:
+            return ""
+        if saved.purpose is Purpose.EDIT:
+            is_there = composed(self._session.print(number)) == text
+            return f"in paragraph {number}" if is_there else ""
+        marks = self._session.marks(number)
+        is_there = bool(marks) and marks[-1].note == saved.text
+        return f"as mark {marks[-1].id}" if is_there else ""
+
+    def _on_cells(self, state: State, saved: Draft) -> State:
+        """The state with the cells chosen on which a note would stand."""
+        cells = saved.cells or Occurrence(0, 1)
+        assert state.paragraph is not None
+        if cells.stop > len(self._session.braille(state.paragraph.id)):
+            cells = Occurrence(0, 1)
+        return replace(
+            state, pane=Pane.CELLS, anchor=cells.start, place=cells.stop - 1, lit=None
+        )
 
     def _taken(self, step: Step) -> State:
         """The state after a step: what it asks for is sent, and what is drawn is asked for."""
@@ -265,7 +335,30 @@ class Desk:
     def _after_failure(self, state: State, failed: Lost | Refused) -> State:
         if isinstance(failed, Lost):
             return self._after_loss(state, failed)
+        if failed.code == _OTHER_VERSION:
+            said = "Another program changed the book, so it was opened again."
+            return self._opened_anew(state, said)
         return state.saying(failed.sentence)
+
+    def _opened_anew(self, state: State, said: str) -> State:
+        """The book as it is now, in another session, with what was typed offered again."""
+        waits = draft.draft_of(state) or self._saved
+        try:
+            self._session.close()
+            self._open()
+            found = replace(state, typed=None, preview=None, question=None, pages=None)
+            found = self._opened_again(replace(found, is_lost=False))
+            is_same = found.version == state.version
+            now = f"It is at version {found.version:,}" + (
+                ", as the screen said last."
+                if is_same
+                else f" now; the screen said {state.version:,} last."
+            )
+            return self._offered(found.saying(f"{said} {now}"), waits)
+        except Lost as lost:
+            return self._after_loss(state, lost)
+        except DeskError as failed:
+            return _closed(state, failed.sentence)
 
     def _after_loss(self, state: State, lost: Lost) -> State:
         """What the screen says when the session ended by itself."""
@@ -284,10 +377,12 @@ class Desk:
         elif state.message:
             lines.append(state.message)
         pages = Pages("The session ended.", tuple(lines))
-        return replace(state, is_lost=True, question=None, pages=pages)
+        return replace(state, is_lost=True, pages=pages)
 
     def _sent(self, state: State, command: Command[Any]) -> State:
         """Sends a command; only what its `ok` says is said to be kept."""
+        # what is sent is kept beside the book until the book has it
+        state = self.save_draft(state)
         before, typed = state.reading, state.typed
         try:
             answer = self._session.ask(command)
@@ -307,9 +402,6 @@ class Desk:
                 state = replace(state, pane=Pane.PRINT, place=typed.place)
             return self._changed(state, number, before)
         except (Lost, Refused) as failed:
-            if isinstance(command, requests.Mark) and state.version == command.expect:
-                note = Field(Purpose.NOTE, command.note, len(command.note))
-                state = replace(state, typed=note)
             raise _Interrupted(state, failed) from failed
 
     def _changed(
@@ -353,6 +445,8 @@ class Desk:
                 return self._typed_all(state, errand)
             case ExportTo() | ImportFrom():
                 return replace(state, away=errand, message="Please wait.")
+            case OpenAgain():
+                return self._opened_anew(state, "The book is open again.")
 
     def _to_found(self, state: State, sought: str) -> State:
         try:
@@ -384,13 +478,16 @@ class Desk:
     def _to_page(self, state: State) -> State:
         its = state.paragraph
         assert its is not None
-        found = pagelook.page_of(self._session, state.book, its, Sheet())
+        found = pagelook.page_of(self._session, state.book, its, state.sheet)
         if found is None:
             return state.saying(f"Paragraph {its.id} is struck, and stands on no page.")
-        if found.lines and not state.is_ascii:
-            cells = tuple(braille_patterns(line) for line in found.lines)
-            return replace(state, pages=Pages(found.title, cells))
-        return replace(state, pages=Pages(found.title, found.lines))
+        if found.line is None:
+            return state.saying(found.title)
+        lines = found.lines
+        if not state.is_ascii:
+            lines = tuple(map(braille_patterns, lines))
+        pages = pager.at_line(Pages(found.title, lines), state.size, found.line)
+        return replace(state, pages=pages)
 
     def _with_table(self, state: State, name: str) -> State:
         """Puts an installed table into the book where it has none of that name, then gives it."""
@@ -417,16 +514,18 @@ class Desk:
         table = state.table
         assert table is not None
         for count, line in enumerate(errand.lines):
-            rest = " ".join(errand.lines[count:])
+            lines = errand.lines[count:]
+            rest = " ".join(lines)
             field = Field(Purpose.AFTER if count else errand.purpose, rest, len(rest))
+            waiting = replace(state, typed=field, question=keys.about_lines(lines))
             command = requests.Type(place, table, line, expect=state.version)
             try:
-                state = self._sent(replace(state, typed=field), command)
+                state = replace(self._sent(waiting, command), question=None)
             except _Interrupted as interrupted:
                 if isinstance(interrupted.cause, Lost) or not interrupted.state.typed:
                     raise
                 said = f"{count} typed. {interrupted.cause.sentence}"
-                return interrupted.state.saying(said)
+                return replace(interrupted.state, question=None).saying(said)
             assert state.paragraph is not None
             place = state.paragraph.id
         return state
@@ -444,7 +543,22 @@ def _of(number: int) -> list[Request[Any]]:
     return [requests.Print(number), requests.Braille(number), requests.Marks(number)]
 
 
+def _changed_between(before: State, after: State) -> tuple[str, ...]:
+    """What is said where the book has been changed by more than the paragraphs of an import."""
+    typed = len(after.book) - len(before.book)
+    if after.version - before.version == typed:
+        return ()
+    return (
+        f"Another program changed the book meanwhile. It is at version {after.version:,} now,"
+        " and is shown as it is.",
+    )
+
+
 def _closed(state: State, sentence: str) -> State:
     """The state where the book could not be opened again."""
-    pages = Pages("The book is closed.", tuple(sentence.split("\n")))
-    return replace(state, is_lost=True, pages=pages)
+    before = state.pages.lines if state.is_lost and state.pages else ()
+    # what was said before is still true, and is said once
+    lines = dict.fromkeys((*sentence.split("\n"), *before))
+    return replace(
+        state, is_lost=True, pages=Pages("The book is closed.", tuple(lines))
+    )

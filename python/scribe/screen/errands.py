@@ -5,6 +5,7 @@ from pathlib import Path
 
 from braildesk import After
 
+from scribe.layout import Sheet
 from scribe.screen.field import Purpose
 
 
@@ -49,9 +50,10 @@ class TypeAll:
 
 @dataclass(frozen=True)
 class ExportTo:
-    """Exports all volumes to a folder, with the session closed meanwhile."""
+    """Exports all volumes to a folder on pages of a size, with the session closed meanwhile."""
 
     folder: Path
+    sheet: Sheet = Sheet()
 
 
 @dataclass(frozen=True)
@@ -60,6 +62,11 @@ class ImportFrom:
 
     path: Path
     after: After
+
+
+@dataclass(frozen=True)
+class OpenAgain:
+    """Opens the book again after the session ended by itself."""
 
 
 @dataclass(frozen=True)
@@ -76,5 +83,6 @@ Errand = (
     | TypeAll
     | ExportTo
     | ImportFrom
+    | OpenAgain
     | Quit
 )

@@ -16,6 +16,7 @@ class Purpose(Enum):
     NUMBER = auto()
     TABLE = auto()
     WORDS = auto()
+    SIZE = auto()
     FOLDER = auto()
     TEXT_FILE = auto()
 
@@ -23,6 +24,11 @@ class Purpose(Enum):
     def is_print(self) -> bool:
         """Whether it is print of the book."""
         return self in (Purpose.EDIT, Purpose.AFTER, Purpose.BEFORE)
+
+    @property
+    def is_for_book(self) -> bool:
+        """Whether it goes into the book: a print, or a note."""
+        return self.is_print or self is Purpose.NOTE
 
     @property
     def is_new(self) -> bool:

@@ -1,19 +1,22 @@
 """What each key asks for: a function from the state to the state after it, and what goes with it."""
 
-from collections.abc import Callable
+from collections.abc import Callable, Sequence
 from dataclasses import dataclass, replace
-from pathlib import Path
 from typing import Any
 
 from braildesk import After, Paragraph, Style, requests
 from braildesk.requests import Command
 
 from scribe.correction import replaced, smallest_correction
+from scribe.page_size import NoSize, described, typed_sheet
+from scribe.paths import typed_path
+from scribe.screen import pager
 from scribe.screen.errands import (
     Errand,
     ExportTo,
     GiveTable,
     ImportFrom,
+    OpenAgain,
     Quit,
     ShowHistory,
     ShowPage,
@@ -42,7 +45,9 @@ def step(state: State, key: str) -> Step:
     state = replace(state, message="")
     if state.is_lost and key in ("q", "escape"):
         return Step(state, Quit())
-    if state.question:
+    if state.is_lost and key == "enter":
+        return Step(state, OpenAgain())
+    if state.question and not state.is_lost:
         return _answered(state, state.question, key)
     if state.pages:
         return Step(_looking(state, state.pages, key))
@@ -71,10 +76,14 @@ def pasted(state: State, text: str) -> Step:
         return Step(replace(state, typed=typed.inserted(" ".join(lines))))
     lines[0] = typed.text[: typed.place] + lines[0]
     lines[-1] += typed.text[typed.place :]
-    sentence = (
-        f"The pasted text has {len(lines)} lines. Are they {len(lines)} paragraphs?"
-    )
-    return Step(replace(state, question=Question(sentence, tuple(lines))))
+    return Step(replace(state, question=about_lines(lines)))
+
+
+def about_lines(lines: Sequence[str]) -> Question:
+    """Whether lines that were pasted are paragraphs."""
+    count = len(lines)
+    sentence = f"The pasted text has {count} lines. Are they {count} paragraphs?"
+    return Question(sentence, tuple(lines))
 
 
 def _is_cut(text: str) -> bool:
@@ -83,13 +92,13 @@ def _is_cut(text: str) -> bool:
 
 
 def _answered(state: State, question: Question, key: str) -> Step:
-    if key not in ("y", "n"):
-        return Step(state.saying("y is yes, and n is no."))
     state = replace(state, question=None)
+    if key == "escape" and question.draft is None:
+        return Step(state.saying("The pasted text was left out. Nothing was sent."))
+    if key not in ("y", "n"):
+        return Step(replace(state, question=question))
     if question.draft is not None:
-        if key == "y":
-            return Step(replace(state, typed=question.draft))
-        return Step(state.saying("The text was left out. Nothing was sent."))
+        return _taken_up(state, question.draft, key)
     assert state.typed is not None
     if key == "y":
         return Step(state, TypeAll(state.typed.purpose, question.lines))
@@ -97,11 +106,22 @@ def _answered(state: State, question: Question, key: str) -> Step:
     return Step(replace(state, typed=replace(state.typed, text=text, place=len(text))))
 
 
+def _taken_up(state: State, draft: Field, key: str) -> Step:
+    """A text that waits from before: it is typed further, or left out."""
+    if key == "n":
+        left = replace(state, anchor=None)
+        return Step(left.saying("The text was left out. Nothing was sent."))
+    lines = draft.text.split("\n")
+    if len(lines) == 1:
+        return Step(replace(state, typed=draft))
+    typed = Field(draft.purpose)
+    return Step(replace(state, typed=typed, question=about_lines(lines)))
+
+
 def _looking(state: State, pages: Pages, key: str) -> State:
-    moves = {"up": -1, "down": 1, "pageup": -10, "pagedown": 10}
-    if key in moves:
-        top = max(0, min(pages.top + moves[key], len(pages.lines) - 1))
-        return replace(state, pages=replace(pages, top=top))
+    moved = pager.moved(pages, state.size, key)
+    if moved is not None:
+        return replace(state, pages=moved)
     is_left = key in ("escape", "q", "enter") and not state.is_lost
     return replace(state, pages=None) if is_left else state
 
@@ -116,7 +136,7 @@ def _typing(state: State, typed: Field, key: str) -> Step:
     moved = typed.moved(key)
     if moved is not None:
         return Step(replace(state, typed=moved))
-    if len(key) == 1:
+    if len(key) == 1 and (key >= " " and not "\x7f" <= key < "\xa0"):
         return Step(replace(state, typed=typed.inserted(key)))
     return Step(state.saying("Enter keeps what is typed, Escape gives it up."))
 
@@ -126,31 +146,35 @@ def _entered(state: State, typed: Field) -> Step:
     match typed.purpose:
         case Purpose.EDIT:
             return _corrected(state, typed)
-        case Purpose.AFTER | Purpose.BEFORE:
+        case Purpose.AFTER | Purpose.BEFORE if typed.text.strip():
             table = state.table
             assert table is not None
             command = requests.Type(after(state, typed), table, typed.text)
             return Step(state, replace(command, expect=state.version))
-    state = replace(state, typed=None)
-    if not typed.text and typed.purpose is not Purpose.NOTE:
+        case Purpose.NOTE:
+            return _marked(state, typed.text)
+    state = replace(state, typed=None, preview=None)
+    # blanks may be looked for
+    is_looked_for = typed.purpose is Purpose.WORDS and typed.text
+    if not (typed.text.strip() or is_looked_for):
         return Step(state.saying("Nothing was typed, so nothing was done."))
     return _answering(state, typed)
 
 
 def _answering(state: State, typed: Field) -> Step:
     match typed.purpose:
-        case Purpose.NOTE:
-            return _marked(state, typed.text)
         case Purpose.NUMBER:
             return Step(_at_number(state, typed.text.strip()))
         case Purpose.TABLE:
             return Step(state, GiveTable(typed.text.strip()))
         case Purpose.WORDS:
             return Step(replace(state, sought=typed.text), ToFound(typed.text))
+        case Purpose.SIZE:
+            return Step(_with_sheet(state, typed))
         case Purpose.FOLDER:
-            return Step(state, ExportTo(Path(typed.text).expanduser()))
+            return Step(state, ExportTo(typed_path(typed.text), state.sheet))
     place: After = state.paragraph.id if state.paragraph else "end"
-    return Step(state, ImportFrom(Path(typed.text).expanduser(), place))
+    return Step(state, ImportFrom(typed_path(typed.text), place))
 
 
 def after(state: State, typed: Field) -> After:
@@ -199,6 +223,25 @@ def _at_number(state: State, word: str) -> State:
         if str(paragraph.id) == word:
             return state.at(place)
     return state.saying(f"There is no paragraph {word}. The cursor stays where it is.")
+
+
+def _with_sheet(state: State, typed: Field) -> State:
+    """The size of pages that was typed, or what is wrong with it, to be typed further."""
+    try:
+        state = replace(state, sheet=typed_sheet(typed.text))
+    except NoSize as fault:
+        return replace(state, typed=typed).saying(fault.sentence)
+    return state.saying(f"Pages of {described(state.sheet)}, for p and x.")
+
+
+def _size(state: State) -> Step:
+    text = f"{state.sheet.width} {state.sheet.lines}"
+    return Step(replace(state, typed=Field(Purpose.SIZE, text, len(text))))
+
+
+def _folder(state: State) -> Step:
+    said = f"Pages of {described(state.sheet)}. Escape, then w, changes it."
+    return Step(replace(state, typed=Field(Purpose.FOLDER)).saying(said))
 
 
 def _typed_for(purpose: Purpose) -> Callable[[State], Step]:
@@ -436,7 +479,8 @@ KEYS = {
     "/": Bound("finds words, or cells while on the cells", _typed_for(Purpose.WORDS)),
     "*": Bound("finds the same again", _again),
     "p": Bound("the page on which it stands", lambda s: Step(s, ShowPage())),
-    "x": Bound("exports all volumes to a folder", _typed_for(Purpose.FOLDER)),
+    "w": Bound("the size of pages, for p and x", _size, False),
+    "x": Bound("exports all volumes to a folder", _folder),
     "i": Bound("imports a text file", _typed_for(Purpose.TEXT_FILE), False),
     "?": Bound("shows all keys", _help, False),
     "q": Bound(

@@ -1,12 +1,17 @@
 """The braille of print that isn't in the book yet, by `braildesk translate`."""
 
 import tempfile
+from collections.abc import Sequence
 from pathlib import Path
 
 from braildesk import DeskError, Refused, translate
-from braildesk.characters import named
+from braildesk.characters import around, named
 
 from scribe.screen.state import Preview
+from scribe.sequences import composed
+
+# the number of a refusal that names a character which the table lacks
+_UNDEFINED = 7
 
 
 class Tables:
@@ -35,22 +40,41 @@ class Tables:
 
     def preview(self, name: str, typed: str, text: str) -> Preview:
         """The braille of a print, for what is typed; or the first character that is lacking."""
-        path = self._path(name)
-        table: Path | str = path if path.exists() else "@en"
         try:
-            (answer,) = translate(table, [text])
+            (answer,) = self._answers(name, [text])
         except (DeskError, OSError) as failed:
             return Preview(typed, fault=f"There is no preview: {failed}")
         if not isinstance(answer, Refused):
             return Preview(typed, answer)
-        if answer.code == 7 and answer.place is not None:
-            place = answer.place
-            return Preview(
-                typed,
-                fault=f"The table {name} has no cells for {named(text[place])}, character"
-                f" {place + 1:,}.",
-            )
-        return Preview(typed, fault=answer.sentence)
+        return Preview(typed, fault=_fault(name, text, answer))
+
+    def first_fault(self, name: str, lines: Sequence[str]) -> str:
+        """Why one of several prints would be refused, with its line; nothing where none would."""
+        texts = list(map(composed, lines))
+        try:
+            found = self._answers(name, texts)
+        except (DeskError, OSError):
+            # each line is judged again when it is sent
+            return ""
+        for number, (text, answer) in enumerate(zip(texts, found), 1):
+            if isinstance(answer, Refused):
+                return f"Line {number:,}: {_fault(name, text, answer)}"
+        return ""
+
+    def _answers(self, name: str, texts: Sequence[str]) -> list[str | Refused]:
+        path = self._path(name)
+        return translate(path if path.exists() else "@en", texts)
 
     def _path(self, name: str) -> Path:
         return Path(self._folder.name, f"{name}.utb")
+
+
+def _fault(name: str, text: str, refused: Refused) -> str:
+    """Why a print is refused, with the place of the character that its table lacks first."""
+    place = refused.place
+    if refused.code != _UNDEFINED or place is None:
+        return refused.sentence
+    return (
+        f"Character {place + 1:,}, in {around(text, place)}: the table {name} has no cells for"
+        f" {named(text[place])}."
+    )

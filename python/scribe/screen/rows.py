@@ -1,5 +1,7 @@
 """Which places of a text stand on which line of a width."""
 
+from functools import lru_cache
+
 from scribe.cells import EMPTY_CELL
 from scribe.occurrences import Occurrence
 from scribe.sequences import seams
@@ -25,7 +27,7 @@ def rows(text: str, width: int) -> list[Occurrence]:
     start = broken = taken = since = 0
     places = seams(text)
     for place, stop in zip(places, places[1:]):
-        size = sum(columns(shown(each)) for each in text[place:stop])
+        size = sum(map(_size, text[place:stop]))
         is_blank = text[place] in _BLANKS
         if taken + size > room and place > start and not (is_blank and taken <= room):
             if broken <= start:
@@ -37,6 +39,12 @@ def rows(text: str, width: int) -> list[Occurrence]:
         if is_blank:
             broken, since = stop, taken
     return [*found, Occurrence(start, len(text))]
+
+
+# a long text is parted again at each key
+@lru_cache(maxsize=4096)
+def _size(character: str) -> int:
+    return columns(shown(character))
 
 
 def row_of(lines: list[Occurrence], place: int) -> int:

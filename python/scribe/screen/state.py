@@ -6,6 +6,7 @@ from enum import Enum, auto
 
 from braildesk import Mark, Paragraph
 
+from scribe.layout import Sheet
 from scribe.occurrences import Occurrence
 from scribe.readings import Reading
 from scribe.screen.errands import ExportTo, ImportFrom
@@ -61,13 +62,22 @@ class Question:
     draft: Field | None = None
 
 
+#: Where the cursor stands when it is on what is said above the lines that are looked at.
+HEAD_LINE = -1
+
+
 @dataclass(frozen=True)
 class Pages:
-    """Lines that are looked at in place of the book, from the one at the top on."""
+    """Lines that are looked at in place of the book.
+
+    The top, and the place of the cursor, are lines as they stand on the screen, where a long one
+    takes several; they are counted from 0.
+    """
 
     title: str
     lines: tuple[str, ...]
     top: int = 0
+    place: int = HEAD_LINE
 
 
 @dataclass(frozen=True)
@@ -81,6 +91,10 @@ class State:
     size: Size
     by: str | None = None
     is_ascii: bool = False
+    #: The encoding of the terminal.
+    encoding: str = "utf-8"
+    #: The size of the pages that are looked at and exported.
+    sheet: Sheet = Sheet()
     #: The place of the chosen paragraph in the book, and of the first that is listed.
     chosen: int = 0
     top: int = 0
@@ -91,6 +105,8 @@ class State:
     anchor: int | None = None
     openings: Mapping[int, Opening] = field(default_factory=dict)
     reading: Reading | None = None
+    #: The cells of the open marks of the paragraph.
+    marked_cells: tuple[Occurrence, ...] = ()
     lit: Lit | None = None
     typed: Field | None = None
     preview: Preview | None = None
@@ -144,6 +160,12 @@ class State:
             if mark.start <= words.start < max(mark.stop, mark.start + 1)
         )
         return tuple(sorted(found, key=lambda mark: mark.resolved))
+
+    @property
+    def marked_words(self) -> tuple[Occurrence, ...]:
+        """The words of the open marks of the paragraph."""
+        marks = self.reading.marks if self.reading else ()
+        return tuple(Occurrence(m.start, m.stop) for m in marks if not m.resolved)
 
     def saying(self, sentence: str) -> "State":
         """The state with something to say."""

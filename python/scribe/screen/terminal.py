@@ -3,8 +3,9 @@
 import asyncio
 import os
 import signal
-from collections.abc import Mapping
 from dataclasses import replace
+from types import FrameType
+from typing import Any
 
 from prompt_toolkit.application import Application
 from prompt_toolkit.data_structures import Point
@@ -15,7 +16,9 @@ from prompt_toolkit.layout import FormattedTextControl, Layout, Window
 from prompt_toolkit.styles import Style
 
 from scribe.screen.desk import Desk, preview_of
-from scribe.screen.drawing import CHOSEN, HEAD, LIT, MARKED, PLAIN, Drawing, draw
+from scribe.screen.drawing import Drawing, draw
+from scribe.screen.encoding import in_encoding
+from scribe.screen.lines import CHOSEN, HEAD, LIT, MARKED, PLAIN
 from scribe.screen.state import Size, State
 
 # no colours: what is lit is reversed, what is marked is underlined
@@ -42,7 +45,10 @@ class Screen:
     def __init__(self, desk: Desk, state: State) -> None:
         self._desk = desk
         self.state = state
+        #: Whether the terminal was closed, so that nobody reads what is said.
+        self.is_hung_up = False
         self._watched: int | None = None
+        self._drawn = (state, draw(state))
         self._translates = False
         control = FormattedTextControl(
             self._fragments, show_cursor=True, get_cursor_position=self._cursor
@@ -58,34 +64,44 @@ class Screen:
 
     def run(self) -> None:
         """Shows the book until it is left, or until the terminal hangs up."""
-        is_hung_up = False
         try:
-            self._app.run(pre_run=self._begin)
+            self._app.run(pre_run=self._begin, set_exception_handler=False)
         except (EOFError, OSError):
-            # the terminal is gone, and nobody is there who could be told
-            is_hung_up = True
+            self.is_hung_up = True
         finally:
             self.state = self._desk.save_draft(self.state)
-        if is_hung_up:
-            self.state = replace(self.state, is_over=True)
 
     def _begin(self) -> None:
         loop = asyncio.get_running_loop()
+        loop.set_exception_handler(self._fail)
+
+        # kept to the end, so that no second signal cuts short what the first one began
+        def ended(number: int, frame: FrameType | None) -> None:
+            leave = self._hang_up if number == signal.SIGHUP else self._leave
+            if not loop.is_closed():
+                loop.call_soon_threadsafe(leave)
+
         for number in (signal.SIGHUP, signal.SIGTERM):
-            loop.add_signal_handler(number, self._leave)
+            signal.signal(number, ended)
         self._watch()
         self._app.create_background_task(self._keep())
         self._look_ahead()
 
     def _drawing(self) -> Drawing:
-        return draw(self.state)
+        if self._drawn[0] is not self.state:
+            self._drawn = (self.state, draw(self.state))
+        return self._drawn[1]
 
     def _fragments(self) -> StyleAndTextTuples:
         fragments: StyleAndTextTuples = []
+        encoding = self.state.encoding
         for line in self._drawing().lines:
-            fragments += [(_CLASSES[piece.look], piece.text) for piece in line]
+            for piece in line:
+                text = in_encoding(encoding, piece.text)
+                fragments.append((_CLASSES[piece.look], text))
+            # a blank, so that the cursor can stand after the last character of any line
             fragments.append(("", " \n"))
-        fragments.pop()
+        fragments[-1] = ("", " ")
         return fragments
 
     def _cursor(self) -> Point:
@@ -141,6 +157,7 @@ class Screen:
             self._unwatch()
             self._app.create_background_task(self._go_away())
         else:
+            self._watch()
             self._look_ahead()
         self._app.invalidate()
 
@@ -152,7 +169,6 @@ class Screen:
             loop.call_soon_threadsafe(self._say, line)
 
         state = await loop.run_in_executor(None, self._desk.away, self.state, report)
-        self._watch()
         self._become(replace(state, message=""))
 
     def _say(self, line: str) -> None:
@@ -191,16 +207,33 @@ class Screen:
             if self.state.typed:
                 self.state = self._desk.save_draft(self.state)
 
+    def _fail(self, loop: asyncio.AbstractEventLoop, context: dict[str, Any]) -> None:
+        """What can't be drawn on a terminal that is gone, or any other failure: all ends."""
+        cause = context.get("exception")
+        if isinstance(cause, OSError):
+            self._hang_up()
+        elif not isinstance(cause, Exception):
+            loop.default_exception_handler(context)
+        elif self._app.is_running and not self.state.is_over:
+            self.state = replace(self.state, is_over=True)
+            self._app.exit(exception=cause)
+
+    def _hang_up(self) -> None:
+        self.is_hung_up = True
+        self._leave()
+
     def _leave(self) -> None:
         """What ends scribe from outside: what is typed is kept beside the book."""
         self.state = self._desk.save_draft(self.state)
-        self.state = replace(self.state, is_over=True)
-        if self._app.is_running:
-            self._app.exit()
+        # a terminal that is closed and a shell that ends may both send a signal
+        if not self.state.is_over:
+            self.state = replace(self.state, is_over=True)
+            if self._app.is_running:
+                self._app.exit()
 
     def _watch(self) -> None:
         """Watches the session, so that its end is seen when it comes."""
-        if self.state.is_lost:
+        if self.state.is_lost or self._watched is not None:
             return
         self._watched = os.pidfd_open(self._desk.pid)
         asyncio.get_running_loop().add_reader(self._watched, self._ended)
@@ -215,14 +248,6 @@ class Screen:
         self._unwatch()
         if not self.state.is_lost and not self.state.is_over:
             self._become(self._desk.lost(self.state))
-
-
-def is_plain(environment: Mapping[str, str]) -> bool:
-    """Whether a terminal shows no Unicode patterns: the locale isn't UTF-8, or TERM is linux."""
-    names = ("LC_ALL", "LC_CTYPE", "LANG")
-    found = next((environment[name] for name in names if environment.get(name)), "")
-    is_utf8 = found.lower().replace("-", "").endswith("utf8")
-    return not is_utf8 or environment.get("TERM") == "linux"
 
 
 def first_environment() -> dict[str, str]:

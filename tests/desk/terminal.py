@@ -1,0 +1,205 @@
+"""A terminal that a program reads, with scribe in it."""
+
+import os
+import signal
+import sys
+import time
+from collections.abc import Callable
+from pathlib import Path
+
+import pexpect  # type: ignore[import]
+import pyte  # type: ignore[import]
+
+import braildesk
+from braildesk import CannotOpen, Session
+from braildesk.sentences import Why
+from tool import environment
+
+WAIT_SECONDS = 60
+STAND_IN = Path(__file__).with_name("stand_in.py")
+KEYS = {
+    "enter": "\r",
+    "tab": "\t",
+    "escape": "\x1b",
+    "backspace": "\x7f",
+    "delete": "\x1b[3~",
+    "up": "\x1b[A",
+    "down": "\x1b[B",
+    "right": "\x1b[C",
+    "left": "\x1b[D",
+    "home": "\x1b[H",
+    "end": "\x1b[F",
+    "pageup": "\x1b[5~",
+    "pagedown": "\x1b[6~",
+    "c-home": "\x1b[1;5H",
+    "c-end": "\x1b[1;5F",
+    "c-right": "\x1b[1;5C",
+    "c-left": "\x1b[1;5D",
+    "a-up": "\x1b[1;3A",
+    "a-down": "\x1b[1;3B",
+}
+
+
+class Terminal:
+    """A terminal with scribe in it, and what its screen shows."""
+
+    def __init__(self, book: Path, columns: int, lines: int, **more: str) -> None:
+        # what scribe leaves where it is killed goes with the book
+        beside = str(book.parent)
+        settings = {"TERM": "xterm-256color", "LC_ALL": "C.UTF-8", "TMPDIR": beside}
+        settings |= more
+        self._screen = pyte.Screen(columns, lines)
+        self._stream = pyte.ByteStream(self._screen)
+        self.written = b""
+        self._errors = book.parent / "errors"
+        self._child = pexpect.spawn(
+            "/bin/sh",
+            ["-c", 'exec "$@" 2> errors', "sh"]
+            + [sys.executable, "-m", "scribe", "edit", str(book)],
+            cwd=str(book.parent),
+            env=environment(**settings),
+            dimensions=(lines, columns),
+            timeout=WAIT_SECONDS,
+        )
+        # keys are sent once the screen is there, and need no pause
+        self._child.delaybeforesend = None
+        self._child.ptyproc.delayafterclose = 0
+
+    @property
+    def lines(self) -> list[str]:
+        """The lines of the screen."""
+        return [line.rstrip() for line in self._screen.display]
+
+    @property
+    def cursor(self) -> tuple[int, int]:
+        """The line and the column of the terminal's cursor."""
+        return self._screen.cursor.y, self._screen.cursor.x
+
+    @property
+    def said(self) -> str:
+        """What scribe has written on standard error."""
+        return self._errors.read_text(encoding="utf-8")
+
+    def keys(self, *names: str) -> None:
+        """Presses keys, each by its name or its character; more characters are typed."""
+        for name in names:
+            self._child.send(KEYS.get(name, name))
+
+    def paste(self, text: str) -> None:
+        """Pastes a text as a terminal does, with an ending of each line that is that of Enter."""
+        self._child.send("\x1b[200~" + text.replace("\n", "\r") + "\x1b[201~")
+
+    def wait(self, wanted: str) -> list[str]:
+        """The lines, once one of them has what is waited for and the screen is drawn to its end."""
+        end = time.monotonic() + WAIT_SECONDS
+        while not any(wanted in line for line in self.lines):
+            assert time.monotonic() < end, (wanted, self.lines)
+            self._read()
+        while not self._is_drawn and self._read():
+            pass
+        return self.lines
+
+    @property
+    def _is_drawn(self) -> bool:
+        """Whether the screen is drawn to its end: its cursor is hidden while it is drawn."""
+        return self.written.rfind(b"\x1b[?25h") >= self.written.rfind(b"\x1b[?25l")
+
+    def wait_for(self, lines: list[str], cursor: tuple[int, int], what: str) -> None:
+        """Waits until the lines and the cursor are these."""
+        end = time.monotonic() + WAIT_SECONDS
+        while (self.lines, self.cursor) != (lines, cursor) and time.monotonic() < end:
+            self._read()
+        assert (what, self.lines, self.cursor) == (what, lines, cursor)
+
+    def wait_cursor(self, cursor: tuple[int, int]) -> None:
+        """Waits until the cursor is there."""
+        end = time.monotonic() + WAIT_SECONDS
+        while self.cursor != cursor and time.monotonic() < end:
+            self._read()
+        assert self.cursor == cursor
+
+    def settle(self) -> None:
+        """Waits until nothing more is written for a while."""
+        while self._read():
+            pass
+
+    def resize(self, columns: int, lines: int) -> None:
+        """Gives the terminal another size."""
+        self._screen.resize(lines, columns)
+        self._child.setwinsize(lines, columns)
+
+    def program(self) -> int:
+        """The process of the session."""
+        children = Path(f"/proc/{self._child.pid}/task/{self._child.pid}/children")
+        return int(children.read_text().split()[0])
+
+    def hang_up(self) -> None:
+        """Closes the terminal, as its window does."""
+        self._child.ptyproc.fileobj.close()
+
+    def send_signal(self, number: signal.Signals) -> None:
+        """Sends scribe a signal."""
+        os.kill(self._child.pid, number)
+
+    def left(self) -> int:
+        """The status with which scribe ends where its terminal is closed."""
+        status = os.waitstatus_to_exitcode(os.waitpid(self._child.pid, 0)[1])
+        self._child.ptyproc.terminated = True
+        return status
+
+    def ended(self) -> int:
+        """The status with which scribe ends by itself, or the signal with a minus before it."""
+        while True:
+            try:
+                self._read()
+            except pexpect.EOF:
+                break
+        self._child.wait()
+        self._child.close()
+        if self._child.signalstatus is not None:
+            return -int(self._child.signalstatus)
+        return int(self._child.exitstatus)
+
+    def close(self) -> None:
+        """Ends scribe, where it hasn't ended yet."""
+        if not self._child.ptyproc.terminated:
+            self._child.kill(signal.SIGKILL)
+            self._child.wait()
+        self._child.close()
+
+    def _read(self) -> bool:
+        """Reads what is written within half a second, and says whether anything was."""
+        try:
+            data = self._child.read_nonblocking(65_536, timeout=0.5)
+        except pexpect.TIMEOUT:
+            return False
+        self.written += data
+        self._stream.feed(data)
+        return True
+
+
+#: What opens a terminal: a book, the columns, the lines, and settings of the environment.
+Open = Callable[..., Terminal]
+
+
+def standing_in(number: int, far: str, *deed: str) -> dict[str, str]:
+    """The settings by which a stand-in does a deed when a command has come so far."""
+    moment = " ".join([str(number), far, *deed])
+    return {
+        "BRAILDESK": str(STAND_IN),
+        "STAND_IN_FOR": braildesk.find(),
+        "STAND_IN_AT": moment,
+    }
+
+
+def once_free(path: Path) -> Session:
+    """A session with a book, as soon as no other program has it."""
+    end = time.monotonic() + WAIT_SECONDS
+    while True:
+        try:
+            return Session(path)
+        except CannotOpen as refused:
+            # the other one may have ended before it was looked for
+            if refused.why not in (Why.IN_USE, Why.UNKNOWN) or time.monotonic() > end:
+                raise
+            time.sleep(0.01)

@@ -1,0 +1,99 @@
+"""make install: what it puts in place, and the commands as a person finds them there."""
+
+import os
+import shutil
+import subprocess
+from pathlib import Path
+
+import pytest
+
+import braildesk
+from tool import ROOT, Ran
+
+
+def make(target: str, program: str, prefix: Path, stage: Path) -> None:
+    """Runs make with the program as it is, for a folder that is filled below another one."""
+    words = [f"PREFIX={prefix}", f"DESTDIR={stage}", f"PROGRAM={program}"]
+    environment = {key: it for key, it in os.environ.items() if key[:4] != "MAKE"}
+    subprocess.run(
+        ["make", "--silent", f"--old-file={program}", target, *words],
+        cwd=ROOT,
+        env=environment,
+        check=True,
+    )
+
+
+def files(folder: Path) -> list[str]:
+    """The files below a folder."""
+    return sorted(
+        str(path.relative_to(folder)) for path in folder.rglob("*") if path.is_file()
+    )
+
+
+@pytest.fixture(scope="module")
+def prefix(program: str, tmp_path_factory: pytest.TempPathFactory) -> Path:
+    """A folder with what is installed: filled elsewhere, and moved to its place as packages are."""
+    folder = tmp_path_factory.mktemp("installed")
+    prefix, stage = folder / "usr", folder / "stage"
+    make("install", program, prefix, stage)
+    assert not prefix.exists()
+    shutil.move(f"{stage}{prefix}", prefix)
+    return prefix
+
+
+def scribe(prefix: Path, folder: Path, *words: str) -> Ran:
+    """Runs scribe as it is installed, by nothing but its name and the path."""
+    path = f"{prefix / 'bin'}:{os.environ['PATH']}"
+    ran = subprocess.run(
+        ["scribe", *words],
+        cwd=folder,
+        env={"PATH": path, "LC_ALL": "C.UTF-8"},
+        capture_output=True,
+        encoding="utf-8",
+    )
+    return Ran(ran.returncode, ran.stdout, ran.stderr)
+
+
+def test_programs_tables_and_manual_pages_are_put_in_place(prefix: Path) -> None:
+    found = files(prefix)
+    assert {
+        "bin/braildesk",
+        "bin/scribe",
+        "share/bash-completion/completions/scribe",
+        "share/braildesk/python/scribe/__main__.py",
+        "share/braildesk/tables/ueb.utb",
+        "share/man/man1/braildesk.1",
+    } <= {*found}
+    assert not [path for path in found if path.endswith(".pyc")]
+
+
+def test_the_table_ueb_is_found_by_its_name(prefix: Path, tmp_path: Path) -> None:
+    assert scribe(prefix, tmp_path, "new", "sea.braildesk") == Ran(
+        0, "sea.braildesk is a new book with the table ueb.\n", ""
+    )
+    assert scribe(prefix, tmp_path, "table", "sea.braildesk", "ueb") == Ran(
+        0,
+        "Table ueb is in the book. No paragraph has it yet.\nThe book is at version 2.\n",
+        "",
+    )
+    (table,) = braildesk.tables(tmp_path / "sea.braildesk")
+    assert table.text == (ROOT / "tables" / "ueb.utb").read_bytes()
+
+
+def test_a_text_becomes_pages(prefix: Path, tmp_path: Path) -> None:
+    (tmp_path / "sea.txt").write_text("“Élan” costs £5 – or €6…\n", encoding="utf-8")
+    scribe(prefix, tmp_path, "new", "sea.braildesk")
+    assert scribe(prefix, tmp_path, "import", "sea.braildesk", "sea.txt") == Ran(
+        0, "1 paragraph typed, number 1, by the table ueb.\n", ""
+    )
+    assert scribe(prefix, tmp_path, "export", "sea.braildesk", "pages").status == 0
+    page = (tmp_path / "pages" / "sea-1.brf").read_bytes()
+    assert page.startswith(b"  8,^/ELAN0 COSTS @L#E ,- OR @E#F444\r\n")
+
+
+def test_uninstall_takes_all_of_it_away(program: str, tmp_path: Path) -> None:
+    prefix, stage = Path("/usr"), tmp_path / "stage"
+    make("install", program, prefix, stage)
+    assert files(stage)
+    make("uninstall", program, prefix, stage)
+    assert files(stage) == []

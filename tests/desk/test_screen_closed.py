@@ -1,0 +1,147 @@
+"""A terminal that is closed, and scribe that is told to end, in the middle of the work."""
+
+import os
+import signal
+from pathlib import Path
+
+import pytest
+
+from stand_in import KEPT, READ, WAIT
+from terminal import Open, Terminal, once_free, standing_in
+
+HUNG_UP, SIGNALS = "hung up", ["SIGHUP", "SIGTERM", "SIGHUP SIGTERM"]
+WAYS = [HUNG_UP, *SIGNALS]
+
+
+def close(terminal: Terminal, way: str) -> None:
+    """Closes the terminal in one of the ways."""
+    if way == HUNG_UP:
+        terminal.hang_up()
+        return
+    for name in way.split():
+        terminal.send_signal(signal.Signals[name])
+
+
+def check_has_ended(terminal: Terminal, way: str) -> None:
+    """Waits until scribe has ended by itself, without what nobody understands."""
+    status = terminal.left() if way == HUNG_UP else terminal.ended()
+    assert status == (0 if way == "SIGTERM" else 3)
+    assert terminal.said == ""
+    assert b"Traceback" not in terminal.written
+    assert b"Unhandled" not in terminal.written
+
+
+@pytest.mark.parametrize("way", WAYS)
+def test_print_that_is_edited_is_offered_again(moon: Path, at: Open, way: str) -> None:
+    terminal = at(moon)
+    terminal.wait("? shows all keys.")
+    terminal.keys("s")
+    terminal.wait("kept: paragraph 1 struck")
+    terminal.keys("down", "enter", "Oh, ")
+    terminal.wait("Oh, The Tides")
+    close(terminal, way)
+    check_has_ended(terminal, way)
+    with once_free(moon) as session:
+        assert session.seen == 8 and session.print(2) == "The Tides"
+    again = at(moon)
+    again.wait("further? y is yes, n is no.")
+    again.keys("y")
+    again.wait("Oh, The Tides")
+    again.keys("enter")
+    again.wait("kept: correction 1 of paragraph 2")
+    with_draft = moon.with_name("moon.braildesk-unsent")
+    assert not with_draft.exists()
+
+
+@pytest.mark.parametrize("way", WAYS)
+@pytest.mark.parametrize("far", [READ, KEPT])
+def test_a_command_that_waits_for_its_reply_is_kept(
+    moon: Path, at: Open, far: str, way: str
+) -> None:
+    queue = moon.parent / "queue"
+    os.mkfifo(queue)
+    terminal = at(moon, **standing_in(1, far, WAIT, str(queue)))
+    terminal.wait("? shows all keys.")
+    terminal.keys("enter", "Oh, ", "enter")
+    # until the command is under way, and then until the stand-in goes on
+    queue.read_bytes()
+    close(terminal, way)
+    queue.write_bytes(b"")
+    check_has_ended(terminal, way)
+    with once_free(moon) as session:
+        assert session.seen == 8 and session.print(1) == "Oh, The moon is far away."
+    again = at(moon)
+    lines = again.wait("? shows all keys.")
+    assert lines[0] == "moon.braildesk, version 8, table en, nothing sent yet"
+
+
+def test_a_note_that_is_typed_is_offered_again_on_its_cells(
+    moon: Path, at: Open
+) -> None:
+    terminal = at(moon)
+    terminal.wait("? shows all keys.")
+    terminal.keys("down", " ", "right", "right", "m", "which?")
+    terminal.wait("Note of the mark: which?")
+    terminal.hang_up()
+    check_has_ended(terminal, HUNG_UP)
+    again = at(moon)
+    lines = again.wait("further? y is yes, n is no.")
+    assert "A note for a mark in paragraph 2 was typed and not sent: “which?”." in (
+        " ".join(lines)
+    )
+    again.keys("y")
+    again.wait("Note of the mark: which?")
+    again.keys("enter")
+    again.wait("kept: mark 2")
+    again.keys("q")
+    assert again.ended() == 0
+    with once_free(moon) as session:
+        (mark,) = session.marks(2)
+        assert session.print(2)[mark.start : mark.stop] == "Th"
+
+
+def test_lines_that_were_pasted_and_not_answered_for_are_asked_about_again(
+    moon: Path, at: Open
+) -> None:
+    terminal = at(moon)
+    terminal.wait("? shows all keys.")
+    terminal.keys("o")
+    terminal.wait("New paragraph after paragraph 1")
+    terminal.paste("It rose.\nIt set.\n")
+    terminal.wait("Are they 2 paragraphs? y is yes, n is no.")
+    terminal.hang_up()
+    check_has_ended(terminal, HUNG_UP)
+    again = at(moon)
+    again.wait("further? y is yes, n is no.")
+    again.keys("y")
+    again.wait("Are they 2 paragraphs? y is yes, n is no.")
+    again.keys("y")
+    again.wait("kept: paragraph 5")
+    again.keys("q")
+    assert again.ended() == 0
+    with once_free(moon) as session:
+        prints = [session.print(each.id) for each in session.list()]
+    assert prints[1:3] == ["It rose.", "It set."]
+
+
+def test_a_question_about_a_text_stays_where_it_isnt_answered(
+    moon: Path, at: Open
+) -> None:
+    terminal = at(moon)
+    terminal.wait("? shows all keys.")
+    terminal.keys("enter", "Oh, ")
+    terminal.wait("Oh, The moon is far away.")
+    terminal.hang_up()
+    check_has_ended(terminal, HUNG_UP)
+    for way in WAYS:
+        again = at(moon)
+        again.wait("further? y is yes, n is no.")
+        close(again, way)
+        check_has_ended(again, way)
+    again = at(moon)
+    again.wait("further? y is yes, n is no.")
+    os.kill(again.program(), signal.SIGKILL)
+    again.wait("The session ended.")
+    again.keys("q")
+    assert again.ended() == 3
+    assert "Oh, The moon" in moon.with_name("moon.braildesk-unsent").read_text()

@@ -1,0 +1,110 @@
+"""The page of a paragraph on the screen: it is that of an export of the same size."""
+
+import re
+from pathlib import Path
+
+import pytest
+
+import braildesk
+from braildesk import Session
+from scribe.layout import Sheet
+from scribe.screen.pager import seen
+from scribe.screen.state import Size
+from scribe.wrapping import wrap
+from sitting import Sat, Sit
+
+SHEETS = [Sheet(40, 25), Sheet(30, 10), Sheet(10, 5), Sheet(60, 40), Sheet(13, 6)]
+
+
+@pytest.fixture
+def tides(book: Path) -> Path:
+    """A book of two volumes, with headings, a long paragraph and one that is struck."""
+    with Session(book) as session:
+        session.type("end", "en", "The Moon")
+        session.style(1, "heading")
+        for count in (3, 40, 1):
+            session.type("end", "en", "Twice a day the sea comes up. " * count)
+        session.strike(4)
+        session.type("end", "en", "The Tides")
+        session.style(5, "heading")
+        session.volume(5, True)
+        session.type("end", "en", "It goes twice, and comes twice.")
+        session.type("end", "en", " ")
+    return book
+
+
+#: What the first line of each paragraph begins with, where it is long enough.
+FIRST = {
+    1: ",THE ,MOON",
+    2: ",TWICE A DAY",
+    3: ",TWICE A DAY",
+    5: ",THE ,TIDES",
+    6: ",IT GOES TWICE1",
+}
+
+
+def sized(sat: Sat, sheet: Sheet) -> None:
+    """Gives pages a size, by keys."""
+    before = f"{sat.state.sheet.width} {sat.state.sheet.lines}"
+    sat.press("w", *["backspace"] * len(before))
+    sat.write(f"{sheet.width} {sheet.lines}")
+    sat.press("enter")
+
+
+@pytest.mark.parametrize("size", [Size(80, 24), Size(40, 12)])
+def test_the_page_and_the_line_of_each_paragraph_are_those_of_an_export(
+    tides: Path, sit: Sit, size: Size
+) -> None:
+    exported = {
+        (sheet, volume): braildesk.export(tides, volume, sheet.width, sheet.lines)
+        for sheet in SHEETS
+        for volume in (1, 2)
+    }
+    sat = sit(tides, size=size)
+    sat.press("a")
+    for sheet in SHEETS:
+        sized(sat, sheet)
+        for number, first in FIRST.items():
+            sat.press("g", str(number), "enter", "p")
+            pages = sat.state.pages
+            assert pages is not None
+            found = re.fullmatch(
+                rf"Paragraph {number}: volume (\d), page (\d+), line (\d+), of"
+                rf" {sheet.lines} lines of {sheet.width} cells\.",
+                pages.title,
+            )
+            assert found is not None
+            volume, page, line = map(int, found.groups())
+            written = exported[sheet, volume].decode().split("\f")[page - 1]
+            assert pages.lines == tuple(written.split("\r\n")[:-1])
+            words = pages.lines[line - 1].strip()
+            assert words and (words.startswith(first) or first.startswith(words))
+            looked_at = seen(pages, size)
+            assert [*looked_at.head, *looked_at.lines][looked_at.cursor].strip() == (
+                wrap(pages.lines[line - 1], size.columns)[0].strip()
+            )
+            sat.press("escape")
+
+
+def test_a_paragraph_without_a_page_says_why(tides: Path, sit: Sit) -> None:
+    sat = sit(tides)
+    sat.press("g", "4", "enter", "p")
+    assert "Paragraph 4 is struck, and stands on no page." in sat.lines
+    sat.press("g", "7", "enter", "p")
+    assert "Paragraph 7 has no words, and takes no line." in sat.lines
+    assert sat.state.pages is None
+
+
+def test_a_cell_that_pages_can_not_have_is_said_where_it_is(
+    empty_book: Path, sit: Sit
+) -> None:
+    with Session(empty_book) as session:
+        session.table("own", b"letter a 1\nletter b 17\n")
+        session.type("end", "own", "a")
+        session.type("end", "own", "ab")
+    sat = sit(empty_book)
+    sat.press("p")
+    assert sat.state.message == (
+        "Cell 2 of paragraph 2 has dot 7 or 8, which pages for embossers can't have, so volume 1"
+        " has none. Correct the table of that paragraph."
+    )

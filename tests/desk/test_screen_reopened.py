@@ -1,0 +1,256 @@
+"""The book that is opened again: after its session ended by itself, or was of another version."""
+
+import os
+import signal
+from pathlib import Path
+
+import pytest
+
+import braildesk
+from braildesk import Session
+from scribe.screen import desk as desks
+from sitting import Sat, Sit
+from stand_in import HALF, KEPT, KILL_PROGRAM, READ, REPLY, SEND
+from terminal import Open, standing_in
+
+
+def killed(sat: Sat) -> None:
+    """Kills the session, and lets the screen see it."""
+    os.kill(sat.desk.pid, signal.SIGKILL)
+    sat.state = sat.desk.lost(sat.state)
+
+
+def test_enter_opens_the_book_again_with_what_was_typed(moon: Path, sit: Sit) -> None:
+    sat = sit(moon)
+    sat.press("s", "down", "enter")
+    sat.write("Oh, ")
+    killed(sat)
+    assert sat.lines[1].startswith("The session ended.")
+    assert "This was typed, and was not reported as kept:" in sat.lines
+    assert "Oh, The Tides" in sat.lines
+    assert sat.lines[-1] == "Enter opens the book again  q ends  Up, Down look further"
+    sat.press("enter")
+    assert sat.lines[-3:] == [
+        "The book is open again. It is at version 8, as the screen said last.",
+        "A text of paragraph 2 was typed and not sent: “Oh, The Tides”. Shall it be typed",
+        "further? y is yes, n is no.",
+    ]
+    sat.press("y", "enter")
+    assert sat.state.kept == "kept: correction 1 of paragraph 2"
+    assert not sat.desk.draft_path.exists()
+
+
+@pytest.mark.parametrize("far, version", [(READ, 7), (HALF, 7), (KEPT, 8)])
+@pytest.mark.parametrize(
+    "keys, offered, kept, where",
+    [
+        (
+            "enter O h , enter",
+            "A text of paragraph 1 was typed and not sent: “Oh,The moon is far away.”.",
+            "kept: correction 2 of paragraph 1",
+            "in paragraph 1: “Oh,The moon is far away.”.",
+        ),
+        (
+            "O S o o n . enter",
+            "A text of a new paragraph was typed and not sent: “Soon.”.",
+            "kept: paragraph 4",
+            "as paragraph 4: “Soon.”.",
+        ),
+        (
+            "m w h y ? enter",
+            "A note for a mark in paragraph 1 was typed and not sent: “why?”.",
+            "kept: mark 2",
+            "as mark 2: “why?”.",
+        ),
+    ],
+)
+def test_a_command_that_was_under_way_is_found_in_the_book_or_offered(
+    moon: Path,
+    sit: Sit,
+    monkeypatch: pytest.MonkeyPatch,
+    far: str,
+    version: int,
+    keys: str,
+    offered: str,
+    kept: str,
+    where: str,
+) -> None:
+    with monkeypatch.context() as patched:
+        for name, value in standing_in(1, far, KILL_PROGRAM).items():
+            patched.setenv(name, value)
+        sat = sit(moon)
+        sat.press(*keys.split())
+    assert sat.state.is_lost
+    sat.press("enter")
+    assert (sat.state.version, sat.state.is_lost) == (version, False)
+    if far == KEPT:
+        assert sat.state.message == f"What was typed last is in the book, {where}"
+        assert sat.state.question is None and not sat.desk.draft_path.exists()
+        return
+    assert sat.state.question and sat.state.question.sentence.startswith(offered)
+    sat.press("y", "enter")
+    assert sat.state.kept == kept
+
+
+def test_lines_that_were_cut_short_go_on_where_the_book_ends(
+    moon: Path, sit: Sit, monkeypatch: pytest.MonkeyPatch
+) -> None:
+    with monkeypatch.context() as patched:
+        for name, value in standing_in(2, KEPT, KILL_PROGRAM).items():
+            patched.setenv(name, value)
+        sat = sit(moon)
+        sat.press("o")
+        sat.state = sat.desk.paste(sat.state, "One.\nTwo.\nThree.\nFour.")
+        sat.press("y")
+    assert sat.state.is_lost
+    sat.press("enter", "y")
+    assert sat.state.question and sat.state.question.lines == ("Three.", "Four.")
+    sat.press("y")
+    prints = [sat.state.openings[each.id].words for each in sat.state.book]
+    assert prints[:5] == ["The moon is far away.", "One.", "Two.", "Three.", "Four."]
+
+
+@pytest.mark.parametrize(
+    "reply, said",
+    [
+        (
+            "no 91",
+            "“@7 correct 1 0 0 Oh,” could not be kept, since the file of the book could not be"
+            " written or read. All that was reported as kept before is in the book. See to the"
+            " disk, and open the book again: its version shows whether this is kept too.",
+        ),
+        ("what", "by this session"),
+    ],
+    ids=["a full disk", "nonsense"],
+)
+def test_a_session_that_fails_or_answers_nonsense_is_left_in_words(
+    moon: Path, sit: Sit, monkeypatch: pytest.MonkeyPatch, reply: str, said: str
+) -> None:
+    with monkeypatch.context() as patched:
+        for name, value in standing_in(1, READ, REPLY, reply).items():
+            patched.setenv(name, value)
+        sat = sit(moon)
+        sat.press("enter", "O", "h", ",", "enter")
+    assert sat.state.is_lost and sat.state.pages
+    assert said in sat.state.pages.lines[0]
+    assert "Oh,The moon is far away." in sat.state.pages.lines
+    sat.press("enter", "y", "enter")
+    assert sat.state.kept == "kept: correction 2 of paragraph 1"
+
+
+def test_what_was_typed_is_offered_where_it_could_not_be_kept_beside_the_book(
+    moon: Path, sit: Sit
+) -> None:
+    sat = sit(moon)
+    sat.desk.draft_path.mkdir()
+    sat.press("down", "enter")
+    sat.write("Oh, ")
+    killed(sat)
+    assert sat.state.pages and sat.state.pages.lines[1:] == (
+        "This was typed, and was not reported as kept:",
+        "Oh, The Tides",
+        "What is typed can't be kept beside the book: Is a directory.",
+    )
+    assert [each.name for each in moon.parent.glob(".moon*")] == []
+    sat.press("enter", "y", "enter")
+    assert sat.state.kept == "kept: correction 1 of paragraph 2"
+
+
+def test_a_book_that_cannot_be_opened_again_says_why_until_it_can(
+    moon: Path, sit: Sit
+) -> None:
+    sat = sit(moon)
+    sat.press("o")
+    sat.write("Soon.")
+    killed(sat)
+    with Session(moon):
+        sat.press("enter")
+        assert sat.state.is_lost and sat.state.pages
+        assert sat.state.pages.lines[0] == (
+            f"Another program has “{moon}” open. Nothing was changed. End that one first."
+        )
+        assert "Soon." in sat.state.pages.lines
+        sat.press("enter")
+        assert len(set(sat.state.pages.lines)) == len(sat.state.pages.lines)
+    sat.press("enter", "y", "enter")
+    assert sat.state.kept == "kept: paragraph 4"
+
+
+def test_a_change_by_another_program_meanwhile_is_said(moon: Path, sit: Sit) -> None:
+    sat = sit(moon)
+
+    def corrected(line: str) -> None:
+        with Session(moon) as session:
+            session.correct(2, 4, 5, "Tide")
+
+    sat.press("down", "x")
+    sat.write(str(moon.parent / "pages"))
+    sat.press("enter")
+    sat.state = sat.desk.away(sat.state, corrected)
+    assert sat.state.pages and sat.state.pages.lines[0] == (
+        "Another program changed the book meanwhile. It is at version 8 now, and is shown as it"
+        " is."
+    )
+    sat.press("escape")
+    assert sat.lines[0] == "moon.braildesk, version 8, table en, nothing sent yet"
+    assert sat.lines[2] == ">    2 body: The Tide" and sat.lines[8] == "The Tide"
+
+
+def test_a_change_while_the_book_is_being_opened_is_said(
+    moon: Path, sit: Sit, monkeypatch: pytest.MonkeyPatch
+) -> None:
+    checks: list[int] = []
+
+    def check_and_change(path: Path) -> int:
+        version = braildesk.check(path)
+        if not checks:
+            with Session(path) as session:
+                session.strike(3)
+        checks.append(version)
+        return version
+
+    monkeypatch.setattr(desks, "check", check_and_change)
+    sat = sit(moon)
+    assert checks == [7, 8]
+    assert sat.lines[0] == "moon.braildesk, version 8, table en, nothing sent yet"
+    assert sat.lines[3] == "     3 body, struck: Twice a day the sea comes up."
+    assert " ".join(sat.lines[-3:-1]) == (
+        "Another program changed the book while it was being opened, so it was read once more."
+    )
+
+
+def test_a_command_for_another_version_is_not_carried_out_and_the_book_is_shown_anew(
+    moon: Path, sit: Sit, monkeypatch: pytest.MonkeyPatch
+) -> None:
+    with monkeypatch.context() as patched:
+        for name, value in standing_in(1, READ, SEND, "correct 1 0 3 A").items():
+            patched.setenv(name, value)
+        sat = sit(moon)
+    sat.press("enter")
+    sat.write("Oh, ")
+    sat.press("enter")
+    assert (sat.state.version, sat.state.kept, sat.state.is_lost) == (8, "", False)
+    assert sat.lines[8] == "A {moon} is far away."
+    assert sat.state.message == (
+        "Another program changed the book, so it was opened again. It is at version 8 now; the"
+        " screen said 7 last."
+    )
+    assert (
+        sat.state.question and "has been changed since" in sat.state.question.sentence
+    )
+    sat.press("n", "s")
+    assert sat.state.kept == "kept: paragraph 1 struck"
+
+
+def test_the_book_is_opened_again_at_the_terminal(moon: Path, at: Open) -> None:
+    terminal = at(moon)
+    terminal.wait("? shows all keys.")
+    for number in (1, 2):
+        os.kill(terminal.program(), signal.SIGKILL)
+        terminal.wait("The session ended.")
+        terminal.keys("enter")
+        terminal.wait("The book is open again.")
+        terminal.keys("s")
+        terminal.wait(f"version {7 + number}, ")
+    terminal.keys("q")
+    assert terminal.ended() == 0

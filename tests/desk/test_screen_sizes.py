@@ -1,0 +1,150 @@
+"""Long, wide and many: what a terminal shows of them, and how much is asked for."""
+
+import shutil
+import time
+from pathlib import Path
+
+import pytest
+
+from braildesk import Session
+from braildesk.pipe import Pipe
+from scribe.screen.state import Size
+from sitting import Sit
+from terminal import Open
+
+#: How many requests show the screen of 80 by 24: two for each listed paragraph, and for the chosen
+#: one three and where its cells are.
+SHOWN = 2 * 6 + 3 + 2
+#: The CPU seconds that scribe never needs to open a book of 20,000, beside the program's own
+#: reading, and for a key: some ten times what they take, since a machine may be slow and busy.
+OPEN_SECONDS, KEY_SECONDS = 5.0, 0.5
+WIDE = """\
+space \\s 0
+letter a 1
+letter e 15
+letter q 12345
+letter 月 1346
+letter \\x0303 4
+"""
+
+
+def test_wide_and_combining_characters_stand_in_their_columns(
+    book: Path, at: Open
+) -> None:
+    with Session(book) as session:
+        session.table("wide", WIDE.encode())
+        session.type("end", "wide", "月 q\u0303月a")
+    terminal = at(book)
+    lines = terminal.wait("? shows all keys.")
+    assert lines[8] == "月 q\u0303月a" and terminal.cursor == (8, 0)
+    for column in (2, 3, 4, 6):
+        terminal.keys("right")
+        terminal.wait_cursor((8, column))
+    terminal.keys("enter", "left", "backspace", "\u6708", "enter")
+    lines = terminal.wait("kept: correction 1 of paragraph 1")
+    assert lines[8] == "月 月月a"
+    assert terminal.cursor == (8, 5)
+    terminal.keys("q")
+    assert terminal.ended() == 0
+
+
+@pytest.mark.parametrize("size", [(80, 24), (40, 12)])
+def test_a_paragraph_of_4000_characters_is_read_and_corrected_to_its_end(
+    book: Path, at: Open, size: tuple[int, int]
+) -> None:
+    words = " ".join(f"word {number:03}" for number in range(444)) + " end."
+    assert len(words) == 4_000
+    with Session(book) as session:
+        session.type("end", "en", words)
+    terminal = at(book, *size)
+    terminal.wait("? shows all keys.")
+    terminal.keys("end")
+    lines = terminal.wait("“.” ⠲, character 4000, cell 4444")
+    line, column = terminal.cursor
+    assert lines[line][: column + 1].endswith("end.")
+    terminal.keys("enter", "backspace", "!")
+    terminal.wait("en!.")
+    terminal.keys("enter")
+    terminal.wait("kept: correction 1 of paragraph 1")
+    terminal.keys("q")
+    assert terminal.ended() == 0
+    with Session(book) as session:
+        assert session.print(1) == words[:-2] + "!."
+
+
+def test_a_terminal_may_change_its_size_while_print_is_typed_or_a_question_waits(
+    moon: Path, at: Open
+) -> None:
+    terminal = at(moon)
+    terminal.wait("? shows all keys.")
+    terminal.keys("o", "It rose.")
+    terminal.wait("⠠⠊⠞⠀⠗⠕⠎⠑⠲")
+    terminal.resize(40, 12)
+    lines = terminal.wait("-- New paragraph after paragraph 1,…----")
+    assert lines[5:7] == ["It rose.", "⠠⠊⠞⠀⠗⠕⠎⠑⠲"]
+    assert terminal.cursor == (5, 8)
+    terminal.paste("Then\nit set.")
+    terminal.wait("y is yes, n is no.")
+    terminal.resize(200, 60)
+    lines = terminal.wait("-- New paragraph after paragraph 1, table en ----")
+    assert lines[-1] == (
+        "The pasted text has 2 lines. Are they 2 paragraphs? y is yes, n is no."
+    )
+    terminal.keys("y")
+    lines = terminal.wait("kept: paragraph 5")
+    assert lines[1:4] == [
+        "     1 body, 1 open mark: The moon is far away.",
+        "     4 body: It rose.Then",
+        ">    5 body: it set.",
+    ]
+    terminal.keys("q")
+    assert terminal.ended() == 0
+
+
+@pytest.fixture
+def asked(monkeypatch: pytest.MonkeyPatch) -> list[bytes]:
+    """The requests that are sent to the program from now on."""
+    sent: list[bytes] = []
+    send = Pipe.send
+
+    def noted(pipe: Pipe, request: bytes) -> None:
+        sent.append(request)
+        send(pipe, request)
+
+    monkeypatch.setattr(Pipe, "send", noted)
+    return sent
+
+
+def test_a_book_of_20000_is_opened_and_scrolled_without_delay(
+    big_book: Path, sit: Sit, asked: list[bytes]
+) -> None:
+    before = time.process_time()
+    sat = sit(big_book)
+    assert time.process_time() - before < OPEN_SECONDS
+    # the version and the list besides
+    assert len(asked) == 2 + SHOWN
+    keys = ["down"] * 20 + ["pagedown"] * 20 + ["c-end"] + ["pageup"] * 20 + ["up"] * 9
+    before = time.process_time()
+    for key in keys:
+        asked.clear()
+        sat.press(key)
+        assert len(asked) <= SHOWN
+    assert time.process_time() - before < KEY_SECONDS * len(keys)
+    sat.state = sat.desk.resized(sat.state, Size(200, 60))
+    assert len(sat.state.listed) == 18
+
+
+def test_a_command_in_a_book_of_20000_is_shown_without_delay(
+    big_book: Path, tmp_path: Path, sit: Sit, asked: list[bytes]
+) -> None:
+    sat = sit(Path(shutil.copyfile(big_book, tmp_path / "big.braildesk")))
+    sat.press("c-end")
+    keys = ["s", "s", "b", "b", "enter", "x", "enter"]
+    before = time.process_time()
+    for key in keys:
+        asked.clear()
+        sat.press(key)
+        print(key, len(asked))
+        assert len(asked) <= 1 + SHOWN
+    assert time.process_time() - before < KEY_SECONDS * len(keys)
+    assert sat.state.version == 20_001 + 5
