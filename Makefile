@@ -1,18 +1,19 @@
-# make          proves what the program needs and builds build/braildesk
-# make demo     shows a small book kept in a file and exported, by the sources as they are, without proofs
-# make test     the gate: looks for all that it needs; proves from nothing, tries the must-fail edits and runs the stored run;
-#               then it runs the tests, compares files with sqlite3, and by the built program runs the tutorial, the sample's
-#               client and rows of requests, words and ends, stops its files, refuses it memory and kills sessions of it
-# make attacks  tries the wrong bodies that the gate leaves out, and those that only a test sees
-# make bench    measures speed
-# make install  copies the program and the manual pages below $(DESTDIR)$(PREFIX), with tables/, the command scribe of python/ and
-#               its completion for bash; make uninstall takes them away
+# make            proves what the program needs and builds build/braildesk
+# make demo       shows a small book kept in a file and exported, by the sources as they are, without proofs
+# make install    installs the program, the command scribe, tables, manual pages and documents below $(DESTDIR)$(PREFIX)
+# make uninstall  takes away what was installed there
+# make deb        makes a package for Debian of what make built
+# make test       the gate: proves everything from nothing, tries the must-fail edits, and runs all tests
+# make attacks    tries the wrong bodies that the gate leaves out, and those that only a test sees
+# make bench      measures speed
+# make clean      takes away what make built and proved
+# make help       shows these lines
 
 PREFIX ?= /usr/local
 RT ?= rt
 # the Python that runs the tests and the command scribe
 PYTHON ?= $(shell tests/python.sh)
-export PYTHON
+export PREFIX DESTDIR PYTHON
 PROGRAM := build/braildesk
 SOURCES := crates.txt HANDLES $(shell find crates -type f \( -path '*/src/*' -o -path '*/specs/*' -o -path '*/proofs/*' \) -not -path '*/out/*')
 
@@ -20,7 +21,7 @@ SOURCES := crates.txt HANDLES $(shell find crates -type f \( -path '*/src/*' -o 
 # each. Left alone, rt ci allows up to 13 GB for one, of which few take 4 and none takes 7, and leaves processors idle.
 JOBS ?= $(shell awk -v n="$$(nproc)" '/^MemAvailable/ { m = int($$2 / 5000000); print m < 1 ? 1 : m < n ? m : n }' /proc/meminfo)
 
-.PHONY: all demo test trials runs attacks bench install uninstall clean
+.PHONY: all demo install uninstall deb test trials runs attacks bench clean help
 
 all: $(PROGRAM)
 
@@ -41,6 +42,15 @@ demo:
 	@echo "'make' proves what the program needs, and builds $(PROGRAM)."
 	@RT='$(RT)' sample/demo.sh
 
+install: $(PROGRAM)
+	scripts/install.sh install
+
+uninstall:
+	scripts/install.sh uninstall
+
+deb: $(PROGRAM)
+	scripts/deb.sh
+
 test:
 	RT='$(RT)' tests/needs.sh
 	rm -rf build/rooms
@@ -49,11 +59,12 @@ test:
 	@cp crates/braildesk/out/braildesk $(PROGRAM)
 	$(MAKE) --no-print-directory -j $(JOBS) trials runs
 
-# what the gate runs once all is proved; the tests stop files at each 23rd of their calls, and tests/stops.sh at each
+# what the gate runs once all is proved; the tests stop files at each 23rd of their calls, and at each where an older file is
+# completed, and tests/stops.sh at each
 trials:
 	RT='$(RT)' EVERY=23 tests/trials.sh
 # scripts over the built program, which run side by side
-SCRIPTS := prove tutorial client rows ueb stops memory kill desk instructions
+SCRIPTS := prove tutorial client rows ueb stops memory kill desk instructions package
 runs: $(SCRIPTS:%=run-%)
 run-tutorial run-client: run-%:
 	tests/$*.sh $(PROGRAM)
@@ -65,54 +76,10 @@ attacks:
 	RT='$(RT)' tests/attacks.sh
 
 bench: $(PROGRAM)
-	bench/translate.sh
-	bench/tables.sh
-	bench/reading.sh
-	bench/pages.sh
-	bench/rows.sh
-	bench/session.sh
-	bench/rebuild.sh
-	bench/keep.sh
-
-# What is installed: the program, the manual pages, and, where they are there, the tables, and the Python of the command scribe.
-bin = $(DESTDIR)$(PREFIX)/bin
-share = $(DESTDIR)$(PREFIX)/share/braildesk
-man = $(DESTDIR)$(PREFIX)/share/man/man1
-completions = $(DESTDIR)$(PREFIX)/share/bash-completion/completions
-tables = $(wildcard tables/*.utb)
-pages = $(wildcard docs/*.1)
-has_scribe = $(wildcard python/scribe/__main__.py)
-
-# the command scribe, which runs its modules where they are installed, and keeps nothing beside them
-define SCRIBE
-#!/bin/sh
-export BRAILDESK="$${BRAILDESK:-$(PREFIX)/bin/braildesk}" PYTHONPATH='$(PREFIX)/share/braildesk/python'
-exec '$(PYTHON)' -BP -m scribe "$$@"
-endef
-export SCRIBE
-
-install: $(PROGRAM)
-	install -d '$(bin)' '$(man)'
-	install -m 755 $(PROGRAM) '$(bin)/braildesk'
-	install -m 644 $(pages) '$(man)'
-ifneq ($(tables),)
-	install -d '$(share)/tables'
-	install -m 644 $(tables) '$(share)/tables'
-endif
-ifneq ($(has_scribe),)
-	rm -rf '$(share)/python'
-	cd python && find braildesk scribe -type f -not -name '*.pyc' -exec install -D -m 644 '{}' '$(share)/python/{}' ';'
-	printf '%s\n' "$$SCRIBE" > '$(bin)/scribe'
-	chmod 755 '$(bin)/scribe'
-	install -d '$(completions)'
-	install -m 644 completions/scribe.bash '$(completions)/scribe'
-endif
-
-uninstall:
-	rm -f '$(bin)/braildesk' '$(bin)/scribe' '$(completions)/scribe' $(foreach page,$(notdir $(pages)),'$(man)/$(page)')
-	rm -f $(foreach table,$(notdir $(tables)),'$(share)/tables/$(table)')
-	rm -rf '$(share)/python'
-	[ ! -d '$(share)' ] || find '$(share)' -depth -type d -empty -delete
+	for script in translate tables reading pages rows session rebuild keep; do bench/$$script.sh || exit 1; done
 
 clean:
 	rm -rf build crates/*/out
+
+help:
+	@sed -n 's/^# make/make/p' Makefile

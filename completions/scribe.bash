@@ -7,11 +7,11 @@ _scribe() {
         resolve strike restore heading body volume move retable pages export copy
         bring'
     if ((COMP_CWORD == 1)); then
-        words="$commands --help"
+        words="$commands --help --version"
     elif [[ $word == -* ]]; then
         case ${COMP_WORDS[1]} in
             run) words='--keep-going' ;;
-            edit) words='--by' ;;
+            edit) words='--by --width --lines' ;;
             talk) words='--by --width' ;;
             table | try) words='--width' ;;
             check-table) words='--display --width' ;;
