@@ -1,5 +1,6 @@
 -- What the words of the command line are read as.
-use Rattle.std.specs.Prelude.{◌≡◌, ◌≢◌, List, [], IsSomeAnd, Option}
+use Rattle.std.specs.Prelude.{◌≡◌, ◌≢◌, List, [], IsSomeAnd, Option, String, string_bytes}
+use Rattle.std.specs.declared.alloc.Global.{Global}
 use Rattle.clap.specs.Words.{App, IsAmong, Text, fault_of, subcommand_of, subcommand_rows_of}
 use Rattle.clap.specs.declared.error.kind.ErrorKind.{ErrorKind}
 use Rattle.clap.specs.declared.error.kind.ErrorKind.TheVariants.{DisplayHelp, OutOfMemory}
@@ -50,9 +51,16 @@ IsReading app words (Help text) = AskForHelp app words
 IsReading app words (Refused text) = AreRefused app words
 IsReading app words NoMemory = Unit {0}
 
--- an error of this kind is read so
+-- An error of this kind is read so. The text of help, and that of a refusal, isn't empty.
 abbrev pub IsError : ErrorKind → Reading → Type 0
 IsError kind (Asked action) = ⊥
-IsError kind (Help text) = kind ≡ DisplayHelp
-IsError kind (Refused text) = (kind ≢ DisplayHelp) × (kind ≢ OutOfMemory)
+IsError kind (Help text) = (kind ≡ DisplayHelp) × (string_bytes text ≢ [])
+IsError kind (Refused text) = (kind ≢ DisplayHelp) × (kind ≢ OutOfMemory) × (string_bytes text ≢ [])
 IsError kind NoMemory = Unit {0}
+
+-- an error of this kind, of which this text is shown, comes to just this
+abbrev pub IsShownAs : ErrorKind → String Global → Reading → Type 0
+IsShownAs kind text (Asked action) = ⊥
+IsShownAs kind text (Help shown) = (kind ≡ DisplayHelp) × (shown ≡ text)
+IsShownAs kind text (Refused shown) = (kind ≢ DisplayHelp) × (kind ≢ OutOfMemory) × (shown ≡ text)
+IsShownAs kind text NoMemory = kind ≡ OutOfMemory

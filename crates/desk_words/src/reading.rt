@@ -2,22 +2,23 @@
 ghost use Rattle.clap.specs.Walk.{texts};
 ghost use Rattle.clap.specs.Words.{kind_of};
 ghost use Rattle.desk_words.specs.Commands.{whole};
-ghost use Rattle.desk_words.specs.Reading.{IsError, IsReading};
+ghost use Rattle.desk_words.specs.Reading.{IsError, IsReading, IsShownAs};
+ghost use Rattle.std.specs.Prelude.{IfOk, [], string_bytes, ◌≢◌};
 
 use super::action::{Action, action_of};
 use super::command::whole_command;
 use clap::Error;
 use clap::error::ErrorKind;
-use std::alloc::Global;
+use std::alloc::{AllocError, Global};
 
 /// What the words are read as.
 #[derive(Debug, Drop)]
 pub enum Reading<'a> {
     /// They ask for an action.
     Asked(Action<'a>),
-    /// They ask for help, which is this text.
+    /// They ask for help, which is this text. It isn't empty.
     Help(String),
-    /// They are refused, and the text says why.
+    /// They are refused, and the text says why. It isn't empty.
     Refused(String),
     /// There was no memory to read them.
     NoMemory,
@@ -43,10 +44,28 @@ pub fn read_words<'a>(alloc: Global, words: &'a [&'a str]) -> Reading<'a>
 fn reading_of<'a>(alloc: Global, error: &Error) -> Reading<'a>
     ensures { IsError (kind_of error.now) result }
 {
-    let Ok(text) = format!(in alloc; "{error}") else {
+    let Ok(text) = text_of(alloc, error) else {
         return Reading::NoMemory;
     };
-    match error.kind() {
+    told_as(error.kind(), text)
+}
+
+/// What is shown of an error of the parse. It is never empty.
+fn text_of(alloc: Global, error: &Error) -> Result<String, AllocError>
+    ensures { IfOk result (λ text. string_bytes text ≢ []) }
+{
+    let text = format!(in alloc; "{error}")?;
+    if text.is_empty() {
+        return String::from_str(alloc, "the words can't be read\n");
+    }
+    Ok(text)
+}
+
+/// What an error of this kind comes to, of which this text is shown.
+fn told_as<'a>(kind: ErrorKind, text: String) -> Reading<'a>
+    ensures { IsShownAs kind text result }
+{
+    match kind {
         ErrorKind::DisplayHelp => Reading::Help(text),
         ErrorKind::OutOfMemory => Reading::NoMemory,
         _ => Reading::Refused(text),
