@@ -1,11 +1,13 @@
 -- What a read of a table answers, from what its query showed.
-use Rattle.std.proofs.Common.{◌≡◌, ◌≢◌, true, ap₂, ℕ, List, [], ◌∷◌, map, drop, Ok, Err, Result, IfOk, IfErr, refl, sym, subst, ◌∙◌, subst₂, IsPermutation}
+use Rattle.std.proofs.Common.{◌≡◌, ◌≢◌, Bool, true, false, MatchBool, OnErr, ap, ap₂, ℕ, List, [], ◌∷◌, map, drop, Ok, Err, Result, IfOk, IfErr, refl, sym, subst, ◌∙◌, subst₂, IsPermutation}
 use Rattle.std.specs.List.{AllByRecursion}
 use Rattle.sqlite_value.proofs.OrderLemmas.{value_cmp-Int, value_cmp-Text, then-Equal}
 use Rattle.std.proofs.lemmas.List.Sorted.{IsPermutation-map}
 use Rattle.std.proofs.lemmas.Result.{IfOk-weaker}
 use Rattle.std.specs.Ordering.{ordering_then}
-use Rattle.sqlite_value.specs.Order.{Row}
+use Rattle.sqlite_value.specs.Order.{Row, column}
+use Rattle.desk_parts.specs.Rows.{StoredTab}
+use Rattle.std.specs.declared.alloc.AllocError.{AllocError}
 use Rattle.sqlite_schema.specs.declared.schema.Schema.{Schema}
 use Rattle.sqlite_catalog.specs.Listing.{IsSound}
 use Rattle.sqlite.specs.declared.error.Error.{Error}
@@ -20,7 +22,7 @@ use Rattle.desk_rows.proofs.OneList.{one_list}
 use Rattle.desk_rows.proofs.Asking.{fails_to_read, fails_to_ask, refused_as_it_was, never_refused, not_refused}
 use Rattle.sql_tables.proofs.Answered.{answered_fails}
 use Rattle.sql_tables.proofs.Quiet.{on_ok, on_err, shown_quietly}
-use Rattle.desk_rows.specs.Asked.{AnswersRows, AnyRows, FailsAs, asked, failed, given, no_memory, together, unreadable}
+use Rattle.desk_rows.specs.Asked.{AnswersRows, AnyRows, BeginWith, FailsAs, asked, failed, given, no_memory, together, unreadable}
 use Rattle.desk_rows.specs.Whole.{IsUtf8Row}
 use Rattle.desk_rows.specs.Described.{Which, books, tabs, paras, corrs, marks, caches, named_corrs, described, table_of}
 use Rattle.sql_tables.specs.Rows.{picked}
@@ -29,6 +31,10 @@ use Rattle.desk_rows.specs.Contents.{Contents}
 use Rattle.desk_rows.specs.States.{Shows}
 use Rattle.desk_rows.specs.Rows.{ShownOf, shown, own, order, written}
 use Rattle.desk_rows.proofs.WholeReads.{rows_cmp, reads_only, table_read, table_kinds, table_fails}
+
+head_or : {X : Type 0} → X → List X → X
+head_or d [] = d
+head_or d (x ∷ xs) = x
 
 -- ---- each table
 
@@ -92,8 +98,9 @@ any_rows items (Err fault) = tt
 module _ {V X : Type 0} (items : V → List X) (w : Which) (view : X → ShownOf w) (old new : State) where
   pub answers : (rows : List Row) → Shown (described w).read [] old new rows → (r : Result V Fault) → IfOk r (λ xs. map (given w) rows ≡ map (λ x. shown w (view x)) (items xs))
       → (AllByRecursion (HasKinds (asked w).kinds) rows → IfErr r (λ fault. fault ≡ NoMemory)) → IfErr r (λ fault. fault ≢ Lost)
+      → IfErr r (λ fault. fault ≡ NoMemory → BeginWith (asked w).kinds rows)
       → IfOk r (λ xs. AllByRecursion (λ x. IsUtf8Row w (own w (view x))) (items xs)) → AnswersRows r items w view AnyRows old new
-  answers rows seen r reads kinds not_lost utf8 =
+  answers rows seen r reads kinds not_lost begins utf8 =
       let read = λ (tree : ℕ) (has : HasTable (table_of w tree) old). IfOk-weaker r _ _ (λ xs made. table_read w old.now.schema tree has.declared old new refl has.sound (λ x. shown w (view x)) (λ a b. order w (view a) (view b)) (λ a b. ordered w (view a) (view b)) rows (items xs) seen made) reads in record {
         gives = IfOk-weaker r _ _ (λ xs made. (rows, seen, made)) reads;
         apart = any_rows items r;
@@ -102,7 +109,7 @@ module _ {V X : Type 0} (items : V → List X) (w : Which) (view : X → ShownOf
         shows = λ l c there is. IfOk-weaker r _ _ (λ xs all. one_list w (picked (described w).own) (c.rows w) (map (λ x. own w (view x)) (items xs)) (old.now.trees (l.tree w)) (is.is.holds.tables w there)
             (subst₂ IsPermutation (maps_shown w view (items xs)) (maps_own w (old.now.trees (l.tree w))) (IsPermutation-map (own_of w) _ _ all.0))) (read (l.tree w) (has_table w l c old there is));
         unchanged = on_ok r _ (shown_quietly (described w).read (reads_only w) [] old new rows seen);
-        told = fails_to_read (asked w) (λ x. shown w (view x)) old new rows seen r not_lost kinds;
+        told = fails_to_read (asked w) (λ x. shown w (view x)) old new rows seen r not_lost kinds begins;
         refused = on_err r _ (λ fault refused. shown_quietly (described w).read (reads_only w) [] old new rows seen);
         answered = λ can unlimited readable apart. not_refused r (kinds (readable rows seen));
         cause = λ tree has unlimited readable apart. not_refused r (kinds (table_kinds w old.now.schema tree has.declared old new refl has.sound rows seen readable));
@@ -129,7 +136,7 @@ module _ {V X : Type 0} (items : V → List X) (w : Which) (view : X → ShownOf
   still_fails fault (failed e fails told) = failed e fails told
   still_fails fault (unreadable rows seen not is) = unreadable rows seen not is
   still_fails fault (together xs gives not is) = absurd (not tt)
-  still_fails fault (no_memory rows seen is) = no_memory rows seen is
+  still_fails fault (no_memory rows seen begins is) = no_memory rows seen begins is
 
   pub are_apart : (xs : V) → AnswersRows (Ok xs) items w view AnyRows old new → Apart (items xs) → AnswersRows (Ok xs) items w view Apart old new
   are_apart xs a is = record {
@@ -173,16 +180,36 @@ module _ {V X : Type 0} (items : V → List X) (w : Which) (view : X → ShownOf
     answered = λ can unlimited readable apart. absurd (not (apart (items xs) a.gives));
   }
 
-  pub not_judged : (xs : V) → AnswersRows (Ok xs) items w view AnyRows old new → AnswersRows (Err NoMemory) items w view Apart old new
-  not_judged xs a = record {
+  pub not_judged : (xs : V) (a : AnswersRows (Ok xs) items w view AnyRows old new) → BeginWith (asked w).kinds a.gives.0 → AnswersRows (Err NoMemory) items w view Apart old new
+  not_judged xs a begins = record {
     gives = tt;
     apart = tt;
     utf8 = tt;
     rows = λ tree has. tt;
     shows = λ l c there is. tt;
     unchanged = tt;
-    told = no_memory a.gives.0 a.gives.1 refl;
+    told = no_memory a.gives.0 a.gives.1 begins refl;
     refused = λ is. a.unchanged;
     cause = λ tree has unlimited readable apart is. absurd (cc);
     answered = λ can unlimited readable apart is. absurd (cc);
   }
+
+  -- by whether they were found to be apart, where memory for that is asked only once the first row begins with values of its kinds
+  pub judged : (xs : V) (apart : Result Bool AllocError) (r : Result V Fault) (a : AnswersRows (Ok xs) items w view AnyRows old new)
+      → IfOk apart (λ b. MatchBool b (Apart (items xs)) (¬ Apart (items xs))) → OnErr apart (BeginWith (asked w).kinds a.gives.0)
+      → (apart ≡ Ok true → r ≡ Ok xs) → (apart ≡ Ok false → r ≡ Err Refused) → OnErr apart (r ≡ Err NoMemory)
+      → AnswersRows r items w view Apart old new
+  judged xs (Ok true) r a is begins ok not none = subst (λ (s : Result V Fault). AnswersRows s items w view Apart old new) (sym (ok refl)) (are_apart xs a is)
+  judged xs (Ok false) r a is begins ok not none = subst (λ (s : Result V Fault). AnswersRows s items w view Apart old new) (sym (not refl)) (are_together xs a is)
+  judged xs (Err e) r a is begins ok not none = subst (λ (s : Result V Fault). AnswersRows s items w view Apart old new) (sym none) (not_judged xs a begins)
+
+-- ---- braille tables, of which memory is asked for the first
+
+pub tabs_begin : (rows : List Row) (xs : List StoredTab) → map (given tabs) rows ≡ map (shown tabs) xs → xs ≢ []
+    → AllByRecursion (λ x. IsUtf8Row tabs (own tabs x)) xs → BeginWith (asked tabs).kinds rows
+unfolding head_or
+tabs_begin rows [] same some utf8 = absurd (some refl)
+tabs_begin [] (x ∷ xs) same some utf8 = absurd (cc)
+tabs_begin (row ∷ rows) (x ∷ xs) same some utf8 =
+    let first : given tabs row ≡ shown tabs x = ap (head_or (shown tabs x)) same in
+    ((x.rowid, ap (λ (r : Row). column r 0) first), (x.row.name, ap (λ (r : Row). column r 1) first, utf8.0))

@@ -1,5 +1,6 @@
 pub mod Answering
 pub mod Asking
+pub mod Beginnings
 pub mod Both
 pub mod ByName
 pub mod Changing

@@ -1,13 +1,14 @@
 -- The statements that read the tables whole, and what they tell in any file.
-use Rattle.std.specs.Prelude.{◌≡◌, ◌≢◌, ℕ, true, None, List, [], map, Result, IfOk, IfErr, OnOk, IsPermutation, ⊤}
+use Rattle.std.specs.Prelude.{◌≡◌, ◌≢◌, ℕ, suc, true, None, List, [], ◌∷◌, map, Result, IfOk, IfErr, OnOk, IsPermutation, ⊤}
 use Rattle.std.specs.List.{AllByRecursion}
 use Rattle.std.specs.List.Sorted.{IsSortedBy}
 use Rattle.std.specs.Ordering.{is_lt}
-use Rattle.sqlite_value.specs.Order.{Row}
+use Rattle.sqlite_value.specs.Order.{Row, column}
 use Rattle.sqlite_schema.specs.declared.schema.Kind.{Kind}
+use Rattle.sqlite_schema.specs.declared.schema.Kind.TheVariants.{Integer, Real, Text, Blob, Any}
 use Rattle.sqlite.specs.declared.error.Error.{Error}
 use Rattle.sqlite.specs.State.{State, Shown, FailsToQuery, IsUnchanged}
-use Rattle.sql_tables.specs.Kinds.{HasKinds, HaveIntegerRowids, HaveUtf8Texts}
+use Rattle.sql_tables.specs.Kinds.{HasKinds, HaveIntegerRowids, HaveUtf8Texts, IsOfKind}
 use Rattle.sql_tables.specs.Rows.{Lists, picked, numbers_from}
 use Rattle.sql_tables.specs.States.{HasAnswer, HasTable}
 use Rattle.desk_rows.specs.Contents.{Contents}
@@ -37,14 +38,29 @@ asked w = record { text = (described w).read; columns = given w; kinds = map (ki
 abbrev pub Gives : {X : Type 0} → Asked → (X → Row) → State → State → List X → Type 0
 Gives asked written before after xs = (rows : List Row) × Shown asked.text [] before after rows × (map asked.columns rows ≡ map written xs)
 
+-- From this place on the values are of these kinds as far as the first text or bytes, for which memory is asked.
+abbrev pub Begins : ℕ → List Kind → Row → Type 0
+Begins at [] row = ⊤
+Begins at (Integer ∷ kinds) row = IsOfKind Integer (column row at) × Begins (suc at) kinds row
+Begins at (Real ∷ kinds) row = IsOfKind Real (column row at) × Begins (suc at) kinds row
+Begins at (Text ∷ kinds) row = IsOfKind Text (column row at)
+Begins at (Blob ∷ kinds) row = IsOfKind Blob (column row at)
+Begins at (Any ∷ kinds) row = Begins (suc at) kinds row
+
+-- there is a row, and the first of them begins so
+abbrev pub BeginWith : List Kind → List Row → Type 0
+BeginWith kinds [] = ⊥
+BeginWith kinds (row ∷ rows) = Begins 0 kinds row
+
 -- Why nothing is read: the statement failed, or of the rows that it showed not all have the kinds, or they aren't apart as they have to be,
--- or there was no memory for them.
+-- or there was no memory for them, which is asked for from the first row on.
 pub data FailsAs {X : Type 0} (asked : Asked) (written : X → Row) (Apart : List X → Type 0) (before after : State) (fault : Fault) : Type 0 where
   failed : (e : Error) → FailsToQuery asked.text [] before after e → IsToldAs e fault → FailsAs asked written Apart before after fault
   unreadable : (rows : List Row) → Shown asked.text [] before after rows → ¬ AllByRecursion (HasKinds asked.kinds) rows
       → fault ≡ Refused → FailsAs asked written Apart before after fault
   together : (xs : List X) → Gives asked written before after xs → ¬ Apart xs → fault ≡ Refused → FailsAs asked written Apart before after fault
-  no_memory : (rows : List Row) → Shown asked.text [] before after rows → fault ≡ NoMemory → FailsAs asked written Apart before after fault
+  no_memory : (rows : List Row) → Shown asked.text [] before after rows → BeginWith asked.kinds rows → fault ≡ NoMemory
+      → FailsAs asked written Apart before after fault
 
 -- The rows of a tree can be read: their rowids are integers where these are shown, and the texts are UTF-8 where there are any.
 pub record AreReadable (w : Which) (rows : List Row) : Type 0 where

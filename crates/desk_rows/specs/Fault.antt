@@ -24,3 +24,9 @@ abbrev pub FailsToReopen : ℕ → ℕ → Fault → Type 0
 FailsToReopen before after NoMemory = ⊤
 FailsToReopen before after Lost = MoreFaults before after
 FailsToReopen before after Refused = ⊥
+
+-- A value isn't read: it is refused where it isn't as it has to be, and only one that is can be told as want of memory.
+abbrev pub IsValueFault : Type 0 → Fault → Type 0
+IsValueFault IsSo NoMemory = IsSo
+IsValueFault IsSo Lost = ⊥
+IsValueFault IsSo Refused = ¬ IsSo

@@ -3,6 +3,7 @@
 ghost use Rattle.desk_rows.specs.Fault.{IsToldAs};
 
 use sqlite::{Error as Failure, ErrorCode};
+use std::alloc::AllocError;
 use thiserror::Error;
 
 /// Why a file can't be opened, or its rows can't be read.
@@ -36,5 +37,16 @@ impl Fault {
             ) => Fault::Lost,
             _ => Fault::Refused,
         }
+    }
+}
+
+impl From<AllocError> for Fault {
+    ghost use Rattle.desk_rows.specs.declared.fault.Fault.TheVariants.{NoMemory};
+    ghost use Rattle.std.specs.Prelude.{◌≡◌};
+
+    ghost from_gives = { λ _ fault. fault ≡ NoMemory };
+
+    fn from(_error: AllocError) -> Self {
+        Fault::NoMemory
     }
 }

@@ -7,13 +7,13 @@
 //!
 //! A statement that a limit on steps stops is told as refused.
 
-ghost use Rattle.std.specs.Prelude.{◌≡◌, ◌≢◌, false, [], IfOk, IfErr, MatchBool, map};
+ghost use Rattle.std.specs.Prelude.{◌≡◌, ◌≢◌, false, true, [], Err, IfErr, IfOk, MatchBool, Ok, OnErr, map};
 ghost use Rattle.std.specs.List.{AllByRecursion};
 ghost use Rattle.sqlite.specs.declared.error.Error.{Error as Failure};
 ghost use Rattle.sqlite.specs.Held.{state};
 ghost use Rattle.sqlite.specs.State.{HasCleanDisk, CommitsShowing, FailsToQuery, Shown, Survives};
 ghost use Rattle.sql_tables.specs.Kinds.{HasKinds};
-ghost use Rattle.desk_rows.specs.Asked.{AnswersRows, AnyRows, asked, given};
+ghost use Rattle.desk_rows.specs.Asked.{AnswersRows, AnyRows, BeginWith, asked, given};
 ghost use Rattle.desk_rows.specs.Described.{tabs};
 ghost use Rattle.desk_rows.specs.Fault.{IsToldAs};
 ghost use Rattle.desk_rows.specs.Rows.{own, shown};
@@ -45,18 +45,21 @@ fn ask<S: Alter>(conn: &mut Connection<S>, sql: &str) -> Result<Vec<Row>, Fault>
 }
 
 /// Each of the rows, in turn.
+#[tactic(auto, using(crate::proofs::Beginnings::begin_more, crate::proofs::Beginnings::begin_with))]
 fn all_of<T: TableRow>(alloc: Global, rows: &[Row]) -> Result<Vec<T>, Fault>
     ensures reads { IfOk result (λ xs. map (given T.which) rows.now ≡ map (λ x. shown T.which
         (T.view x)) xs.items) }
     ensures kinds { AllByRecursion (HasKinds (asked T.which).kinds) rows.now
         → IfErr result (λ fault. fault ≡ Fault.NoMemory) }
     ensures not_lost { IfErr result (λ fault. fault ≢ Fault.Lost) }
+    ensures no_memory { IfErr result (λ fault. fault ≡ Fault.NoMemory
+        → BeginWith (asked T.which).kinds rows.now) }
     ensures utf8 { IfOk result (λ xs. AllByRecursion (λ x. IsUtf8Row T.which (own T.which
         (T.view x))) xs.items) }
 {
     let mut all = Vec::new(alloc);
     for row in rows {
-        let one = T::from_row(row)?;
+        let one = T::from_row(alloc, row)?;
         if all.push(one).is_err() {
             return Err(Fault::NoMemory);
         }
@@ -82,8 +85,10 @@ pub fn read_rows<T: TableRow, S: Alter>(
 
 /// Whether no two braille tables have the same rowid.
 fn have_own_rowids(alloc: Global, tabs: &[StoredTab]) -> Result<bool, AllocError>
-    ensures { IfOk result (λ apart. MatchBool apart (HaveOwnRowids tabs.now)
+    ensures apart { IfOk result (λ apart. MatchBool apart (HaveOwnRowids tabs.now)
         (¬ HaveOwnRowids tabs.now)) }
+    // Memory is asked for only where there is a table.
+    ensures no_memory { OnErr result (tabs.now ≢ []) }
 {
     let mut seen = BTreeSet::new(alloc);
     for tab in tabs {
@@ -92,6 +97,22 @@ fn have_own_rowids(alloc: Global, tabs: &[StoredTab]) -> Result<bool, AllocError
         }
     }
     Ok(true)
+}
+
+/// The braille tables, of which it was asked whether no two have the same rowid.
+fn told_apart(
+    tabs: Vec<StoredTab>,
+    apart: Result<bool, AllocError>,
+) -> Result<Vec<StoredTab>, Fault>
+    ensures apart { apart ≡ Ok true → result ≡ Ok tabs }
+    ensures together { apart ≡ Ok false → result ≡ Err Fault.Refused }
+    ensures no_memory { OnErr apart (result ≡ Err Fault.NoMemory) }
+{
+    match apart {
+        Ok(true) => Ok(tabs),
+        Ok(false) => Err(Fault::Refused),
+        Err(_) => Err(Fault::NoMemory),
+    }
 }
 
 /// The braille tables, in order of the bytes of their names, which is that of the names' code points. Where two have one rowid, as only a
@@ -104,9 +125,6 @@ pub fn read_tabs<S: Alter>(alloc: Global, conn: &mut Connection<S>) -> Result<Ve
     ensures survives { Survives (state S.Store conn.old) (state S.Store conn.new) (λ _. ⊥) }
 {
     let tabs = read_rows(alloc, conn)?;
-    match have_own_rowids(alloc, &tabs) {
-        Ok(true) => Ok(tabs),
-        Ok(false) => Err(Fault::Refused),
-        Err(_) => Err(Fault::NoMemory),
-    }
+    let apart = have_own_rowids(alloc, &tabs);
+    told_apart(tabs, apart)
 }

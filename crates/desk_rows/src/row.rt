@@ -1,9 +1,13 @@
 //! The types of the rows: how each is read.
 
-ghost use Rattle.std.specs.Prelude.{◌≡◌, ◌≢◌, ◌<◌, true, length, IfErr, IfOk};
+ghost use Rattle.std.specs.Prelude.{◌≡◌, ◌≢◌, true, IfErr, IfOk, string_bytes};
 ghost use Rattle.sqlite_value.specs.Order.{column};
-ghost use Rattle.sql_tables.specs.Kinds.{HasKinds};
-ghost use Rattle.desk_rows.specs.Asked.{asked, given};
+ghost use Rattle.sqlite_value.specs.declared.value.Value.TheVariants.{Blob, Int, Text};
+ghost use Rattle.sqlite_schema.specs.declared.schema.Kind.{Kind};
+ghost use Rattle.sqlite.specs.Values.{IsInt};
+ghost use Rattle.sql_tables.specs.Kinds.{HasKinds, IsOfKind};
+ghost use Rattle.desk_rows.specs.Asked.{Begins, asked, given};
+ghost use Rattle.desk_rows.specs.Fault.{IsValueFault};
 ghost use Rattle.desk_rows.specs.Described.{Which, books, caches, corrs, described, marks, named_corrs, paras, tabs};
 ghost use Rattle.desk_rows.specs.Rows.{ShownOf, own, shown};
 ghost use Rattle.desk_rows.specs.Whole.{IsUtf8Row};
@@ -14,19 +18,45 @@ use crate::texts::{
 };
 use desk_parts::{BookRow, CacheRow, CorrRow, MarkRow, NamedCorrRow, ParaRow, StoredTab, TabRow};
 use sqlite::Row;
-use sqlite::types::FromSql;
+use sqlite::types::ValueRef;
+use std::alloc::Global;
 
-/// The value in a column.
-fn value<T: FromSql>(row: &Row, at: usize) -> Result<T, Fault>
-    ensures reads { IfOk result (λ x. T.FromSql.reads_as (column row.now at) x) }
-    ensures kind { at < length row.now → T.FromSql.is_readable (column row.now at)
-        → IfErr result (λ fault. fault ≡ Fault.NoMemory) }
-    ensures not_lost { IfErr result (λ fault. fault ≢ Fault.Lost) }
+/// The integer in a column.
+fn integer(row: &Row, at: usize) -> Result<i64, Fault>
+    ensures reads { IfOk result (λ number. column row.now at ≡ Int number) }
+    ensures kind { IfErr result (λ fault. (fault ≡ Fault.Refused) × ¬ IsInt (column row.now at)) }
 {
-    match row.get(at) {
-        Ok(value) => Ok(value),
-        Err(error) => Err(Fault::of(error)),
+    match row.get_ref(at) {
+        Ok(ValueRef::Int(number)) => Ok(number),
+        _ => Err(Fault::Refused),
     }
+}
+
+/// The text in a column, whose bytes have to be UTF-8. Memory is asked for only once they are.
+fn text(alloc: Global, row: &Row, at: usize) -> Result<String, Fault>
+    ensures reads { IfOk result (λ text. column row.now at ≡ Text (string_bytes text)) }
+    ensures kind { IfOk result (λ _. IsOfKind Kind.Text (column row.now at)) }
+    ensures told { IfErr result (IsValueFault (IsOfKind Kind.Text (column row.now at))) }
+{
+    let Ok(ValueRef::Text(bytes)) = row.get_ref(at) else {
+        return Err(Fault::Refused);
+    };
+    let Ok(text) = str::from_utf8(bytes) else {
+        return Err(Fault::Refused);
+    };
+    Ok(String::from_str(alloc, text)?)
+}
+
+/// The bytes in a column. Memory is asked for only once they are bytes.
+fn bytes(alloc: Global, row: &Row, at: usize) -> Result<Vec<u8>, Fault>
+    ensures reads { IfOk result (λ bytes. column row.now at ≡ Blob bytes.items) }
+    ensures kind { IfOk result (λ _. IsOfKind Kind.Blob (column row.now at)) }
+    ensures told { IfErr result (IsValueFault (IsOfKind Kind.Blob (column row.now at))) }
+{
+    let Ok(ValueRef::Blob(bytes)) = row.get_ref(at) else {
+        return Err(Fault::Refused);
+    };
+    Ok(Vec::from_slice(alloc, bytes)?)
 }
 
 /// A row of one of the tables, as its query shows it.
@@ -41,11 +71,15 @@ pub trait TableRow: Drop {
         ensures { result.now ≡ (described which).read };
 
     /// A row from what the query shows.
-    fn from_row(row: &Row) -> Result<Self, Fault>
+    fn from_row(alloc: Global, row: &Row) -> Result<Self, Fault>
         ensures reads { IfOk result (λ x. given which row.now ≡ shown which (view x)) }
         ensures kinds { HasKinds (asked which).kinds row.now
             → IfErr result (λ fault. fault ≡ Fault.NoMemory) }
         ensures not_lost { IfErr result (λ fault. fault ≢ Fault.Lost) }
+        // Memory is asked for only at the first text or bytes, once all before are of their kinds.
+        ensures begins { IfOk result (λ _. Begins 0 (asked which).kinds row.now) }
+        ensures no_memory { IfErr result (λ fault. fault ≡ Fault.NoMemory
+            → Begins 0 (asked which).kinds row.now) }
         ensures utf8 { IfOk result (λ x. IsUtf8Row which (own which (view x))) };
 }
 
@@ -58,11 +92,11 @@ impl TableRow for BookRow {
         READ_BOOKS
     }
 
-    fn from_row(row: &Row) -> Result<BookRow, Fault> {
+    fn from_row(_: Global, row: &Row) -> Result<BookRow, Fault> {
         Ok(BookRow {
-            id: value(row, 0)?,
-            format: value(row, 1)?,
-            version: value(row, 2)?,
+            id: integer(row, 0)?,
+            format: integer(row, 1)?,
+            version: integer(row, 2)?,
         })
     }
 }
@@ -76,12 +110,12 @@ impl TableRow for StoredTab {
         READ_TABS
     }
 
-    fn from_row(row: &Row) -> Result<StoredTab, Fault> {
+    fn from_row(alloc: Global, row: &Row) -> Result<StoredTab, Fault> {
         Ok(StoredTab {
-            rowid: value(row, 0)?,
+            rowid: integer(row, 0)?,
             row: TabRow {
-                name: value(row, 1)?,
-                body: value(row, 2)?,
+                name: text(alloc, row, 1)?,
+                body: bytes(alloc, row, 2)?,
             },
         })
     }
@@ -96,16 +130,16 @@ impl TableRow for ParaRow {
         READ_PARAS
     }
 
-    fn from_row(row: &Row) -> Result<ParaRow, Fault> {
+    fn from_row(alloc: Global, row: &Row) -> Result<ParaRow, Fault> {
         Ok(ParaRow {
-            id: value(row, 0)?,
-            place: value(row, 1)?,
-            tab: value(row, 2)?,
-            original: value(row, 3)?,
-            print: value(row, 4)?,
-            style: value(row, 5)?,
-            volume: value(row, 6)?,
-            struck: value(row, 7)?,
+            id: integer(row, 0)?,
+            place: integer(row, 1)?,
+            tab: text(alloc, row, 2)?,
+            original: text(alloc, row, 3)?,
+            print: text(alloc, row, 4)?,
+            style: integer(row, 5)?,
+            volume: integer(row, 6)?,
+            struck: integer(row, 7)?,
         })
     }
 }
@@ -119,14 +153,14 @@ impl TableRow for CorrRow {
         READ_CORRS
     }
 
-    fn from_row(row: &Row) -> Result<CorrRow, Fault> {
+    fn from_row(alloc: Global, row: &Row) -> Result<CorrRow, Fault> {
         Ok(CorrRow {
-            para: value(row, 0)?,
-            seq: value(row, 1)?,
-            kind: value(row, 2)?,
-            start: value(row, 3)?,
-            len: value(row, 4)?,
-            body: value(row, 5)?,
+            para: integer(row, 0)?,
+            seq: integer(row, 1)?,
+            kind: integer(row, 2)?,
+            start: integer(row, 3)?,
+            len: integer(row, 4)?,
+            body: text(alloc, row, 5)?,
         })
     }
 }
@@ -140,15 +174,15 @@ impl TableRow for MarkRow {
         READ_MARKS
     }
 
-    fn from_row(row: &Row) -> Result<MarkRow, Fault> {
+    fn from_row(alloc: Global, row: &Row) -> Result<MarkRow, Fault> {
         Ok(MarkRow {
-            id: value(row, 0)?,
-            para: value(row, 1)?,
-            start: value(row, 2)?,
-            stop: value(row, 3)?,
-            note: value(row, 4)?,
-            touched: value(row, 5)?,
-            resolved: value(row, 6)?,
+            id: integer(row, 0)?,
+            para: integer(row, 1)?,
+            start: integer(row, 2)?,
+            stop: integer(row, 3)?,
+            note: text(alloc, row, 4)?,
+            touched: integer(row, 5)?,
+            resolved: integer(row, 6)?,
         })
     }
 }
@@ -162,10 +196,10 @@ impl TableRow for CacheRow {
         READ_CACHES
     }
 
-    fn from_row(row: &Row) -> Result<CacheRow, Fault> {
+    fn from_row(alloc: Global, row: &Row) -> Result<CacheRow, Fault> {
         Ok(CacheRow {
-            para: value(row, 0)?,
-            cells: value(row, 1)?,
+            para: integer(row, 0)?,
+            cells: bytes(alloc, row, 1)?,
         })
     }
 }
@@ -179,17 +213,17 @@ impl TableRow for NamedCorrRow {
         READ_NAMED_CORRS
     }
 
-    fn from_row(row: &Row) -> Result<NamedCorrRow, Fault> {
+    fn from_row(alloc: Global, row: &Row) -> Result<NamedCorrRow, Fault> {
         Ok(NamedCorrRow {
             entry: CorrRow {
-                para: value(row, 0)?,
-                seq: value(row, 1)?,
-                kind: value(row, 2)?,
-                start: value(row, 3)?,
-                len: value(row, 4)?,
-                body: value(row, 5)?,
+                para: integer(row, 0)?,
+                seq: integer(row, 1)?,
+                kind: integer(row, 2)?,
+                start: integer(row, 3)?,
+                len: integer(row, 4)?,
+                body: text(alloc, row, 5)?,
             },
-            who: value(row, 6)?,
+            who: text(alloc, row, 6)?,
         })
     }
 }

@@ -1,8 +1,9 @@
 use Rattle.std.proofs.Common.{◌≡◌, map, take}
 use Rattle.std.specs.List.{AllByRecursion}
-use Rattle.desk_rows.specs.Asked.{given}
+use Rattle.desk_rows.specs.Asked.{asked, given}
 use Rattle.desk_rows.specs.Rows.{own, shown}
 use Rattle.desk_rows.specs.Whole.{IsUtf8Row}
+use Rattle.desk_rows.proofs.Beginnings.{MayBegin}
 use Rattle.desk_rows.proofs.read.all_of.Given as goal
 
 -- the rows so far are read
@@ -11,5 +12,6 @@ invariant-loop-row g l =
     let w = g.T.TableRow.which in
     record {
       rows : map (given w) (take l.row-index l.rows) ≡ map (λ x. shown w (g.T.TableRow.view x)) l.all.items;
+      begins : MayBegin (asked w).kinds (take l.row-index l.rows);
       utf8 : AllByRecursion (λ x. IsUtf8Row w (own w (g.T.TableRow.view x))) l.all.items;
     }

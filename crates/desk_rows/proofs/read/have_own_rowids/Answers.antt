@@ -37,8 +37,8 @@ pub loop-tab-init : goal.loop-tab-init
 unfolding IsDistinct
 loop-tab-init c = record { held = λ q. ap (list_any (is_at (int_cmp q))) c.new-seen.ensures.empty; apart = tt }
 
-pub returns-then-not-branch : goal.returns-then-not-branch
-returns-then-not-branch c all =
+pub returns-then-not-branch-clause-apart : goal.returns-then-not-branch-clause-apart
+returns-then-not-branch-clause-apart c all =
     let tabs = c.args.tabs.now in
     let at = c.loop-tab.tab-index in
     let t = c.tab-item.result in

@@ -1,11 +1,15 @@
-use Rattle.std.proofs.Common.{List, subst}
+use Rattle.std.proofs.Common.{◌≢◌, List, MatchBool, [], Err, IfOk, Ok, OnErr, Result, subst}
 use Rattle.std.proofs.lemmas.Result.{err_from_is_err_and}
 use Rattle.sqlite.specs.Held.{state}
 use Rattle.desk_parts.specs.Rows.{StoredTab}
 use Rattle.desk_rows.specs.Described.{tabs}
 use Rattle.desk_rows.specs.Whole.{HaveOwnRowids}
-use Rattle.desk_rows.proofs.Answering.{are_apart, are_together, not_judged, not_read}
+use Rattle.desk_rows.proofs.Answering.{judged, not_read, tabs_begin}
 use Rattle.desk_rows.proofs.read.read_tabs.Goals as goal
+
+on_err_so : {X E : Type 0} (r : Result X E) (P Q : Type 0) → (P → Q) → OnErr r P → OnErr r Q
+on_err_so (Ok x) P Q f h = tt
+on_err_so (Err e) P Q f h = f h
 
 pub returns-in_err-tabs-clause-answers : goal.returns-in_err-tabs-clause-answers
 returns-in_err-tabs-clause-answers g c clean =
@@ -13,16 +17,12 @@ returns-in_err-tabs-clause-answers g c clean =
     rw (p.1, p.2)
     (not_read (λ xs. xs.items) tabs (λ x. x) HaveOwnRowids (state g.S.Store c.args.conn.now) (state g.S.Store c.read_rows.new.conn) c.in_err-tabs.field-0.0 (c.in_err-tabs.ensures.answers clean))
 
-pub returns-in-Ok-true-clause-answers : goal.returns-in-Ok-true-clause-answers
-returns-in-Ok-true-clause-answers g c clean =
-    are_apart (λ xs. xs.items) tabs (λ x. x) HaveOwnRowids (state g.S.Store c.args.conn.now) (state g.S.Store c.read_rows.new.conn) c.in_ok-tabs.tabs (c.in_ok-tabs.ensures.answers clean)
-    (subst HaveOwnRowids c.deref.ensures.value (rw c.in-Ok-true.field-0-test at c.in-Ok-true.ensures))
-
-pub returns-in-Ok-false-clause-answers : goal.returns-in-Ok-false-clause-answers
-returns-in-Ok-false-clause-answers g c clean =
-    are_together (λ xs. xs.items) tabs (λ x. x) HaveOwnRowids (state g.S.Store c.args.conn.now) (state g.S.Store c.read_rows.new.conn) c.in_ok-tabs.tabs (c.in_ok-tabs.ensures.answers clean)
-    (subst (λ (xs : List StoredTab). ¬ HaveOwnRowids xs) c.deref.ensures.value (rw c.in-Ok-false.field-0-test at c.in-Ok-false.ensures))
-
-pub returns-in-Err-clause-answers : goal.returns-in-Err-clause-answers
-returns-in-Err-clause-answers g c clean =
-    not_judged (λ xs. xs.items) tabs (λ x. x) HaveOwnRowids (state g.S.Store c.args.conn.now) (state g.S.Store c.read_rows.new.conn) c.in_ok-tabs.tabs (c.in_ok-tabs.ensures.answers clean)
+pub returns-clause-answers : goal.returns-clause-answers
+returns-clause-answers g c clean =
+    let a = c.in_ok-tabs.ensures.answers clean in
+    let apart = c.have_own_rowids-apart.result in
+    judged (λ xs. xs.items) tabs (λ x. x) HaveOwnRowids (state g.S.Store c.args.conn.now) (state g.S.Store c.read_rows.new.conn) c.in_ok-tabs.tabs apart c.told_apart.result a
+    (subst (λ (xs : List StoredTab). IfOk apart (λ b. MatchBool b (HaveOwnRowids xs) (¬ HaveOwnRowids xs))) c.deref.ensures.value c.have_own_rowids-apart.ensures.apart)
+    (on_err_so apart _ _ (λ some. tabs_begin a.gives.0 c.in_ok-tabs.tabs.items a.gives.2 some a.utf8)
+    (subst (λ (xs : List StoredTab). OnErr apart (xs ≢ [])) c.deref.ensures.value c.have_own_rowids-apart.ensures.no_memory))
+    c.told_apart.ensures.apart c.told_apart.ensures.together c.told_apart.ensures.no_memory
