@@ -17,3 +17,4 @@ pub mod FileDamage
 pub mod InOrder
 pub mod ReadAnswers
 pub mod ShownRows
+pub mod StoppedOpenings

@@ -2,7 +2,9 @@
 use Rattle.std.proofs.Common.{[], ◌∷◌, ◌≡◌, ◌≢◌, true, List, Ok, Err, map, None, refl, sym, subst, ap, ◌∙◌, IsPermutation}
 use Rattle.std.specs.List.{AllByRecursion}
 use Rattle.sqlite_value.specs.Order.{Row}
+use Rattle.sqlite_trees.specs.declared.store.Store.{Ghosts}
 use Rattle.sqlite.specs.Effect.{Database}
+use Rattle.sqlite.specs.Held.{Held, state}
 use Rattle.sqlite.specs.State.{IsUnchanged, State}
 use Rattle.sql_tables.specs.Rows.{Lists, picked}
 use Rattle.desk_rows.specs.Asked.{AnswersRows, AnyRows}
@@ -10,6 +12,7 @@ use Rattle.desk_rows.specs.Contents.{Contents}
 use Rattle.desk_rows.specs.Described.{Which, tabs, paras, marks, caches, described}
 use Rattle.desk_rows.specs.Layout.{Layout}
 use Rattle.desk_store.specs.Formats.{Format, unnamed, named, Presence, needed, optional, presence, IsOfFormat, IsPresent}
+use Rattle.desk_store.specs.Opened.{StopsReading}
 use Rattle.desk_store.specs.Opening.{CanBeRead, ShowsReadable, Stays}
 use Rattle.desk_rows.specs.Tables.{is_there}
 use Rattle.desk_rows.specs.Rows.{ShownOf, own, shown}
@@ -30,6 +33,15 @@ same_state s = record { now = refl; committed = refl; is_open = refl }
 
 pub stays_then : (a b c : State) → Stays a b → Stays b c → Stays a c
 stays_then a b c p q = record { now = q.now ∙ p.now; committed = q.committed ∙ p.committed; is_open = q.is_open ∙ p.is_open }
+
+-- what stops a read stops it too of a connection that was as this one
+pub stops_after : {S : Type 0} (g : Ghosts S) (old mid : Held S) (new : State) (why : Fault) → Stays (state g old) (state g mid) → StopsReading g mid new why → StopsReading g old new why
+stops_after g old mid new why stays stops = record {
+  table = stops.table;
+  before = stops.before;
+  stays = stays_then (state g old) (state g mid) (state g stops.before) stays stops.stays;
+  fails = stops.fails;
+}
 
 pub shows_still : (old new : State) → Stays old new → (l : Layout) (c : Contents) → Shows l c old → Shows l c new
 shows_still old new same l c was = record {

@@ -13,6 +13,8 @@ use Rattle.sql_tables.specs.States.{Leaves, ShowsAsBefore}
 use Rattle.desk_book.specs.Book.{Book, empty_book}
 use Rattle.desk_book.specs.Damage.{IsDamagedBook, IsFirstDamage}
 use Rattle.desk_parts.specs.FileRows.{EntryRows, FileRows, Named, Unnamed}
+use Rattle.desk_parts.specs.Puts.{LendsFirst, RowPut}
+use Rattle.desk_book.specs.FilledRows.{Fills}
 use Rattle.desk_book.specs.SameRows.{AreSameRows}
 use Rattle.desk_book.specs.Shows.{Shows as RowsShow}
 use Rattle.desk_book.specs.declared.filling.NewTables.{NewTables}
@@ -24,13 +26,15 @@ use Rattle.desk_store.specs.BookFile.{rows_of}
 use Rattle.desk_store.specs.Books.{HasNewTables, HoldsBook, LeavesBook, ShowsBook}
 use Rattle.desk_rows.specs.Contents.{Contents}
 use Rattle.desk_rows.specs.Described.{Which, books, caches, corrs, named_corrs}
-use Rattle.desk_rows.specs.Failing.{FailsToChange, of_first_row}
+use Rattle.desk_rows.specs.Asked.{FailsAs, asked}
+use Rattle.desk_rows.specs.Failing.{FailsToChange, of_first_row, of_items}
 use Rattle.desk_rows.specs.Fault.{IsToldAs}
 use Rattle.desk_store.specs.Formats.{Format, HasThoseRead, IsOfFormat}
-use Rattle.desk_store.specs.Found.{HasNone, RowsShowIn, ShowsIn}
+use Rattle.desk_store.specs.Found.{AreFileRows, AreToldApart, HasNone, RowsShowIn, ShowsIn}
 use Rattle.desk_rows.specs.Layout.{Layout}
 use Rattle.desk_rows.specs.Making.{IsMade, IsNew, made, new_tables, with_tables}
-use Rattle.desk_store.specs.Opening.{CanAllBeRead, IsBookRow, IsNewer, IsRefusal, format_in}
+use Rattle.desk_store.specs.Opening.{CanAllBeRead, IsBookRow, IsNewer, IsRefusal, Stays, format_in, opened_as}
+use Rattle.desk_rows.specs.Rows.{shown}
 use Rattle.desk_rows.specs.States.{IsFile, Shows}
 use Rattle.desk_rows.specs.Tables.{is_there}
 use Rattle.desk_rows.specs.Turns.{begun}
@@ -202,6 +206,43 @@ pub record IsMadeNew (make : Bool) (book : Book) (old new : State) : Type 0 wher
   pub shows : ShowsBook (made old.now.schema) book new
   pub leaves : LeavesBook (made old.now.schema) book new
 
+-- ---- why it isn't opened, where it isn't refused
+
+-- The statement that reads a table failed so, or there was no memory for the rows that it showed. The connection was as at first.
+pub record StopsReading {S : Type 0} (g : Ghosts S) (old : Held S) (new : State) (why : Fault) : Type 0 where
+  pub table : Which
+  pub before : Held S
+  pub stays : Stays (state g old) (state g before)
+  pub fails : FailsAs (asked table) (shown table) (AreToldApart table) (state g before) new why
+
+-- how an error is told that stops the filling of a file which shows a book, so that it isn't refused
+abbrev pub filled_as : Fault → OpenFault
+filled_as fault.NoMemory = NoMemory
+filled_as fault.Lost = Lost
+filled_as fault.Refused = Lost
+
+abbrev pub IsFilledAs : Error → OpenFault → Type 0
+IsFilledAs e told = (why : Fault) × IsToldAs e why × (told ≡ filled_as why)
+
+-- A statement that makes these tables or puts what the book has for them failed with an error that is told so, or the commit did. If the
+-- connection is open still, it shows what it showed before.
+pub record StopsFilling {S : Type 0} (g : Ghosts S) (tables : NewTables) (book : Book) (old : Held S) (new : State) (told : OpenFault)
+    : Type 0 where
+  pub puts : List RowPut
+  pub fill : Fills tables book puts
+  pub error : Error
+  pub fails : FailsToChange g (which_new tables) (of_items g LendsFirst puts) (begun old) new error
+  pub is_told : IsFilledAs error told
+  pub as_before : ShowsAsBefore (state g old) new
+
+-- A table isn't read; or all of them are, and there is no memory for the book; or they show a book, and what the file lacks isn't filled.
+pub data StopsOpening {S : Type 0} (g : Ghosts S) (old : Held S) (new : State) (told : OpenFault) : Type 0 where
+  reading : (why : Fault) → StopsReading g old new why → told ≡ opened_as why → StopsOpening g old new told
+  rebuilding : (rows : FileRows) → AreFileRows (state g old) rows → Stays (state g old) new → told ≡ NoMemory → StopsOpening g old new told
+  filling : (rows : FileRows) (book : Book) (tables : NewTables) (before : Held S) → AreFileRows (state g old) rows → RowsShow rows book
+      → lacked_by rows ≡ Some tables → Stays (state g old) (state g before) → StopsFilling g tables book before new told
+      → StopsOpening g old new told
+
 -- ---- the whole
 
 -- What opening answers, and what the connection shows then.
@@ -221,8 +262,10 @@ pub record Opens {S : Type 0} (g : Ghosts S) (make : Bool) (old : Held S) (new :
       → IfOk result (λ book. IsOpened l c book (state g old) new)
   pub made : HasNone (state g old).now.schema → IfOk result (λ book. IsMadeNew make book (state g old) new)
 
--- No book is opened, this is told, and what a crash leaves is what opening may bring; after a refusal nothing new.
+-- No book is opened, this is told, and what a crash leaves is what opening may bring; after a refusal nothing new. Where a table of a book
+-- was there, and the file isn't refused, it has a cause.
 pub record IsRefusedWith {S : Type 0} (g : Ghosts S) (make : Bool) (old : Held S) (new : State) (fault : OpenFault) : Type 0 where
   pub opens : HasCleanDisk new → Opens g make old new (Err fault)
   pub crash : Survives (state g old) new (MayBring make (state g old))
   pub refused : HasCleanDisk new → IsRefusal fault → Survives (state g old) new (λ _. ⊥)
+  pub stopped : HasCleanDisk new → (¬ HasNone (state g old).now.schema) → (¬ IsRefusal fault) → StopsOpening g old new fault

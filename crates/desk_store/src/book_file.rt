@@ -14,7 +14,7 @@ ghost use Rattle.desk_rows.specs.Contents.{Contents};
 ghost use Rattle.desk_store.specs.Formats.{Format, HasThoseRead, IsOfFormat};
 ghost use Rattle.desk_store.specs.Found.{AreCellsIn, AreEntriesIn, AreFileRows, AreOtherRows, CanAllAnswer, RowsShowIn, format_kept};
 ghost use Rattle.desk_rows.specs.Layout.{Layout};
-ghost use Rattle.desk_store.specs.Opened.{IsReadOf, TellsOfTables};
+ghost use Rattle.desk_store.specs.Opened.{IsReadOf, StopsOpening, StopsReading, TellsOfTables};
 ghost use Rattle.desk_store.specs.Opening.{AreEntriesReadable, AreRead, CanAllBeRead, IsBookRow, IsRefusal, OfFile, ShowsReadable, Stays, TellsOfRow, format_in, format_read, has_tables};
 ghost use Rattle.desk_rows.specs.States.{Shows};
 ghost use Rattle.desk_rows.specs.Tables.{is_there, which};
@@ -124,6 +124,8 @@ fn read_entries<S: Alter>(
     ensures answered { HasCleanDisk (state S.Store conn.new)
         → (state S.Store conn.old).step_limit ≡ None → IfErr result (λ fault. fault ≡ Fault.Refused
         → ¬ CanAllAnswer (format_read format) (state S.Store conn.old)) }
+    ensures stops { HasCleanDisk (state S.Store conn.new)
+        → IfErr result (StopsReading S.Store conn.old (state S.Store conn.new)) }
     ensures mode { conn.old.in_transaction ≡ false → conn.new.in_transaction ≡ false }
     ensures survives { Survives (state S.Store conn.old) (state S.Store conn.new) (λ _. ⊥) }
 {
@@ -158,6 +160,8 @@ fn read_cells<S: Alter>(
     ensures answered { HasCleanDisk (state S.Store conn.new)
         → (state S.Store conn.old).step_limit ≡ None → IfErr result (λ fault. fault ≡ Fault.Refused
         → ¬ CanAllAnswer (format_read format) (state S.Store conn.old)) }
+    ensures stops { HasCleanDisk (state S.Store conn.new)
+        → IfErr result (StopsReading S.Store conn.old (state S.Store conn.new)) }
     ensures mode { conn.old.in_transaction ≡ false → conn.new.in_transaction ≡ false }
     ensures survives { Survives (state S.Store conn.old) (state S.Store conn.new) (λ _. ⊥) }
 {
@@ -193,6 +197,8 @@ fn read_rest<S: Alter>(
     ensures answered { HasCleanDisk (state S.Store conn.new)
         → (state S.Store conn.old).step_limit ≡ None → IfErr result (λ fault. fault ≡ Fault.Refused
         → ¬ CanAllAnswer (format_read format) (state S.Store conn.old)) }
+    ensures stops { HasCleanDisk (state S.Store conn.new)
+        → IfErr result (StopsReading S.Store conn.old (state S.Store conn.new)) }
     ensures mode { conn.old.in_transaction ≡ false → conn.new.in_transaction ≡ false }
     ensures survives { Survives (state S.Store conn.old) (state S.Store conn.new) (λ _. ⊥) }
 {
@@ -240,6 +246,9 @@ pub(crate) fn read_parts<S: Alter>(
         → Stays (state S.Store conn.old) (state S.Store conn.new)) }
     ensures unchanged { HasCleanDisk (state S.Store conn.new)
         → OnOk result (Stays (state S.Store conn.old) (state S.Store conn.new)) }
+    // What isn't refused has a cause.
+    ensures stops { HasCleanDisk (state S.Store conn.new) → IfErr result (λ fault. (¬ IsRefusal fault)
+        → StopsOpening S.Store conn.old (state S.Store conn.new) fault) }
     ensures mode { conn.old.in_transaction ≡ false → conn.new.in_transaction ≡ false }
     ensures survives { Survives (state S.Store conn.old) (state S.Store conn.new) (λ _. ⊥) }
 {

@@ -4,7 +4,7 @@ ghost use Rattle.std.specs.Prelude.{◌≡◌, false, IfErr, OnOk, map};
 ghost use Rattle.desk_parts.specs.Parts.{rows_in};
 ghost use Rattle.desk_rows.specs.Contents.{Contents};
 ghost use Rattle.desk_rows.specs.Layout.{Layout};
-ghost use Rattle.desk_store.specs.Opened.{HasGained, HoldsWith, StandsAs, lacked_by, which_new};
+ghost use Rattle.desk_store.specs.Opened.{HasGained, HoldsWith, IsFilledAs, StandsAs, StopsFilling, lacked_by, which_new};
 ghost use Rattle.desk_store.specs.Opening.{IsRefusal};
 ghost use Rattle.desk_rows.specs.States.{Shows};
 ghost use Rattle.desk_rows.specs.Tables.{which};
@@ -34,7 +34,8 @@ pub(crate) fn lacked_by(parts: &Parts) -> Option<NewTables>
 /// How an error is told that stopped the filling of a file which shows a book: that one is there is known by then, so no
 /// error says that there is none.
 fn stopped_by(error: Error) -> OpenFault
-    ensures { ¬ IsRefusal result }
+    ensures told { IsFilledAs error result }
+    ensures not_refused { ¬ IsRefusal result }
 {
     match Fault::of(error) {
         Fault::NoMemory => OpenFault::NoMemory,
@@ -78,6 +79,8 @@ pub(crate) fn fill<S: Alter>(
     ensures crash { Survives (state S.Store conn.old) (state S.Store conn.new)
         (HoldsWith (which_new tables) book.now (state S.Store conn.old)) }
     ensures told { IfErr result (λ fault. ¬ IsRefusal fault) }
+    ensures stops { HasCleanDisk (state S.Store conn.new) → IfErr result
+        (StopsFilling S.Store tables book.now conn.old (state S.Store conn.new)) }
 {
     match write_with_tables(alloc, conn, file_tables(tables), book.filling(tables)) {
         Ok(()) => Ok(()),

@@ -6,12 +6,12 @@ ghost use Rattle.desk_rows.specs.Layout.{Layout};
 ghost use Rattle.desk_store.specs.Books.{HasNewTables, LeavesBook, LeavesEither};
 ghost use Rattle.desk_store.specs.Formats.{Format, HasThoseRead, IsOfFormat};
 ghost use Rattle.desk_store.specs.Found.{HasNone, RowsShowIn};
-ghost use Rattle.desk_store.specs.Opened.{HoldsEither, HoldsEmpty, HoldsNone, Opens as OpensSo, Stands, TellsOf};
+ghost use Rattle.desk_store.specs.Opened.{HoldsEither, HoldsEmpty, HoldsNone, Opens as OpensSo, Stands, StopsOpening, TellsOf};
 ghost use Rattle.desk_store.specs.Opening.{IsRefusal};
 ghost use Rattle.desk_store.specs.Reopened.{IsKeptThere, LeavesOneOf};
 ghost use Rattle.desk_store.specs.Undamaged.{HasBook, IsUndamaged};
 ghost use Rattle.desk_store.specs.declared.fault.OpenFault.{OpenFault};
-ghost use Rattle.sql_tables.specs.States.{IsSettled, Leaves};
+ghost use Rattle.sql_tables.specs.States.{IsSettled, Leaves, ShowsAsBefore};
 ghost use Rattle.sqlite.specs.Held.{state};
 ghost use Rattle.sqlite.specs.State.{Opens};
 ghost use Rattle.std.specs.List.{Contains};
@@ -81,4 +81,12 @@ pub fn files_that_show_a_book()
 pub fn rows_of_a_standing_book<S: Alter>(conn: &Connection<S>)
     ensures { IsTrue (state S.Store conn.now).is_open → (l : Layout) (book : Book)
         → Stands l book (state S.Store conn.now) → RowsShowIn (state S.Store conn.now) book }
+{}
+
+/// A connection that showed its last commit, and whose file wasn't opened though it isn't refused: if it is open still, it shows what it
+/// showed before.
+pub fn still_shown_where_opening_stopped<S: Alter>(old: &Connection<S>, new: &Connection<S>)
+    ensures { (fault : OpenFault) → StopsOpening S.Store old.now (state S.Store new.now) fault
+        → (state S.Store old.now).now ≡ (state S.Store old.now).committed
+        → ShowsAsBefore (state S.Store old.now) (state S.Store new.now) }
 {}

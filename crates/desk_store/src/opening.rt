@@ -1,13 +1,14 @@
 //! A book's file opened: judged, read whole, and completed where it is of an older form; or made.
 
-ghost use Rattle.std.specs.Prelude.{◌≡◌, ◌⊎◌, Bool, None, false, true, IfErr, IfOk, IsTrue, Ok, OnOk};
+ghost use Rattle.std.specs.Prelude.{◌≡◌, ◌⊎◌, Bool, None, Some, false, true, IfErr, IfOk, IsTrue, Ok, OnOk};
+ghost use Rattle.desk_book.specs.declared.filling.NewTables.{NewTables};
 ghost use Rattle.desk_book.specs.Book.{Book as BookOf};
 ghost use Rattle.desk_store.specs.Books.{LeavesBook, shown_by};
 ghost use Rattle.desk_rows.specs.Contents.{Contents};
 ghost use Rattle.desk_store.specs.Found.{HasNone};
 ghost use Rattle.desk_rows.specs.Layout.{Layout};
 ghost use Rattle.desk_rows.specs.Making.{with_tables};
-ghost use Rattle.desk_store.specs.Opened.{HasGained, HoldsEither, HoldsEmpty, HoldsNone, HoldsWith, IsRefusedWith, MayBring, Opens, Stands, StandsAs, which_lacked};
+ghost use Rattle.desk_store.specs.Opened.{HasGained, HoldsEither, HoldsEmpty, HoldsNone, HoldsWith, IsRefusedWith, MayBring, Opens, Stands, StandsAs, StopsFilling, StopsOpening, which_lacked};
 ghost use Rattle.desk_store.specs.Opening.{IsRefusal};
 ghost use Rattle.desk_rows.specs.States.{Shows};
 ghost use Rattle.sql_tables.specs.States.{Leaves};
@@ -58,6 +59,9 @@ fn complete<S: Alter>(
     ensures crash { Survives (state S.Store conn.old) (state S.Store conn.new)
         (HoldsWith (which_lacked lacked) book.now (state S.Store conn.old)) }
     ensures told { IfErr result (λ fault. ¬ IsRefusal fault) }
+    ensures stops { HasCleanDisk (state S.Store conn.new) → IfErr result (λ fault. (tables : NewTables)
+        × (lacked ≡ Some tables)
+        × StopsFilling S.Store tables book.now conn.old (state S.Store conn.new) fault) }
 {
     match lacked {
         Some(tables) => fill(alloc, conn, book, tables),
@@ -77,6 +81,8 @@ fn open_book<S: Alter>(alloc: Global, conn: &mut Connection<S>) -> Result<Book, 
         (MayBring make (state S.Store conn.old)) }
     ensures refused { HasCleanDisk (state S.Store conn.new) → IfErr result (λ fault. IsRefusal fault
         → Survives (state S.Store conn.old) (state S.Store conn.new) (λ _. ⊥)) }
+    ensures stopped { HasCleanDisk (state S.Store conn.new) → IfErr result (λ fault.
+        (¬ IsRefusal fault) → StopsOpening S.Store conn.old (state S.Store conn.new) fault) }
 {
     let parts = read_parts(alloc, conn)?;
     let lacked = lacked_by(&parts);
@@ -140,6 +146,11 @@ impl<S: Alter> Store<S> {
         ensures refused { HasCleanDisk (state S.Store connection.new)
             → IfErr result (λ fault. IsRefusal fault
             → Survives (state S.Store connection.old) (state S.Store connection.new) (λ _. ⊥)) }
+        // Where a table of a book was there, what isn't refused has a cause.
+        ensures stopped { HasCleanDisk (state S.Store connection.new)
+            → (¬ HasNone (state S.Store connection.old).now.schema)
+            → IfErr result (λ fault. (¬ IsRefusal fault)
+            → StopsOpening S.Store connection.old (state S.Store connection.new) fault) }
     {
         if has_any(connection, &KNOWN_TABLES) {
             open_book(alloc, connection)

@@ -51,3 +51,9 @@ returns-clause-rows g c clean =
     let new = state g.S.Store c.read_rows.new.conn in
     let there : is_there old.now.schema caches ≡ true = sym c.has_table.ensures ∙ c.if-not-has_table.false in
     (there, rows_before caches (λ xs. xs.items) AnyRows old old new (same_state old) c.in_ok-cells.cells (λ apart. apart) (c.in_ok-cells.ensures.answers clean))
+
+pub returns-in_err-cells-clause-stops : goal.returns-in_err-cells-clause-stops
+returns-in_err-cells-clause-stops g c clean =
+    let p = err_from_is_err_and c.from_residual.result c.from_residual.ensures.1 in
+    rw (p.1, p.2)
+    (record { table = caches; before = c.args.conn.now; stays = same_state (state g.S.Store c.args.conn.now); fails = (c.in_err-cells.ensures.answers clean).told })

@@ -80,3 +80,15 @@ returns-in_ok-entries-in-Named-clause-readable g c clean =
     let new = state g.S.Store c.read_rows-in-Named.new.conn in
     rw c.in-Named.is (λ l file of was.
     texts_of named_corrs (λ xs. xs.items) AnyRows old new c.in_ok-entries-in-Named.entries (c.in_ok-entries-in-Named.ensures.answers clean) l file (of named_corrs).1 was)
+
+pub returns-in_err-entries-in-Unnamed-clause-stops : goal.returns-in_err-entries-in-Unnamed-clause-stops
+returns-in_err-entries-in-Unnamed-clause-stops g c clean =
+    let p = err_from_is_err_and c.from_residual.result c.from_residual.ensures.1 in
+    rw (p.1, p.2)
+    (record { table = corrs; before = c.args.conn.now; stays = same_state (state g.S.Store c.args.conn.now); fails = (c.in_err-entries-in-Unnamed.ensures.answers clean).told })
+
+pub returns-in_err-entries-in-Named-clause-stops : goal.returns-in_err-entries-in-Named-clause-stops
+returns-in_err-entries-in-Named-clause-stops g c clean =
+    let p = err_from_is_err_and c.from_residual-in_err-entries-in-Named.result c.from_residual-in_err-entries-in-Named.ensures.1 in
+    rw (p.1, p.2)
+    (record { table = named_corrs; before = c.args.conn.now; stays = same_state (state g.S.Store c.args.conn.now); fails = (c.in_err-entries-in-Named.ensures.answers clean).told })

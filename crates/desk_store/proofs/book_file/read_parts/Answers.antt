@@ -1,4 +1,4 @@
-use Rattle.std.proofs.Common.{arith, rules, w64, SFits, ◌≡◌, true, false, List, sym, subst, ◌∙◌, true≢false, IsPermutation}
+use Rattle.std.proofs.Common.{arith, rules, w64, SFits, ◌≡◌, true, false, List, sym, subst, ◌∙◌, true≢false, IsPermutation, refl}
 use Rattle.std.proofs.lemmas.Int.{to_z-of_z}
 use Rattle.std.proofs.lemmas.Result.{err_from_is_err_and}
 use Rattle.sqlite.proofs.StateLemmas.{survives_then}
@@ -11,8 +11,9 @@ use Rattle.desk_store.specs.Formats.{Format, IsOfFormat}
 use Rattle.desk_store.specs.Found.{CanAllAnswer}
 use Rattle.desk_store.specs.Opening.{CanAllBeRead, ShowsReadable, Stays, TellsOfRow, format_in, format_read, has_tables}
 use Rattle.desk_store.proofs.AnyFile.{can_all_still, readable_still}
-use Rattle.desk_store.proofs.JudgedTables.{books_answered, books_in, file_rows, has_books, has_its_tables, judged, kept_by_row, lacks_readable, lacks_tables, of_the_row, read_told, read_whole, refusal_is, row_is_sound, row_told, tables_there}
-use Rattle.desk_store.proofs.Opened.{as_listed, shows_still, stays_read, stays_then}
+use Rattle.desk_store.proofs.JudgedTables.{books_answered, books_in, file_rows, has_books, has_its_tables, judged, kept_by_row, lacks_readable, lacks_tables, of_the_row, read_told, read_whole, refusal_is, row_is_sound, row_refuses, row_told, tables_there}
+use Rattle.desk_store.proofs.Opened.{as_listed, same_state, shows_still, stays_read, stays_then, stops_after}
+use Rattle.desk_store.specs.Opened.{reading}
 use Rattle.desk_store.proofs.book_file.read_parts.Goals as goal
 
 pub returns-in_err-books-clause-unrefused : goal.returns-in_err-books-clause-unrefused
@@ -141,3 +142,24 @@ returns-clause-unchanged g c clean =
 pub returns-clause-survives : goal.returns-clause-survives
 returns-clause-survives g c =
     survives_then (state g.S.Store c.args.conn.now) (state g.S.Store c.read_rows.new.conn) (state g.S.Store c.read_rest.new.conn) _ _ _ (λ _ db none. none) (λ _ db none. none) c.read_rows.ensures.survives c.read_rest.ensures.survives
+
+pub returns-in_err-books-clause-stops : goal.returns-in_err-books-clause-stops
+returns-in_err-books-clause-stops g c clean =
+    let p = err_from_is_err_and c.from_residual.result c.from_residual.ensures.1 in
+    rw (p.1, p.2)
+    (λ none. reading _ (record { table = books; before = c.args.conn.now; stays = same_state (state g.S.Store c.args.conn.now); fails = (c.in_err-books.ensures.answers clean).told }) refl)
+
+pub returns-in_err-book-clause-stops : goal.returns-in_err-book-clause-stops
+returns-in_err-book-clause-stops g c clean =
+    let p = err_from_is_err_and c.from_residual-in_err-book.result c.from_residual-in_err-book.ensures.1 in
+    rw (p.1, p.2) (λ none. absurd (none (row_refuses c.deref.result.now c.in_err-book.field-0.0 c.in_err-book.ensures.told)))
+
+pub returns-in_err-parts-clause-stops : goal.returns-in_err-parts-clause-stops
+returns-in_err-parts-clause-stops g c clean =
+    let old = state g.S.Store c.args.conn.now in
+    let mid = state g.S.Store c.read_rows.new.conn in
+    let early : HasCleanDisk mid = omega (arith, clean, c.read_rest.ensures.survives.clean) in
+    let so_far : Stays old mid = stays_read (λ xs. xs.items) books (λ x. x) AnyRows old mid c.in_ok-books.books (c.in_ok-books.ensures.answers early) in
+    let p = err_from_is_err_and c.from_residual-in_err-parts.result c.from_residual-in_err-parts.ensures.1 in
+    rw (p.1, p.2)
+    (λ none. reading _ (stops_after g.S.Store c.args.conn.now c.read_rows.new.conn (state g.S.Store c.read_rest.new.conn) _ so_far (c.in_err-parts.ensures.stops clean)) refl)

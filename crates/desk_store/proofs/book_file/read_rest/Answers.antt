@@ -9,7 +9,7 @@ use Rattle.desk_store.specs.Opening.{Stays, format_read}
 use Rattle.desk_rows.specs.Rows.{shown}
 use Rattle.desk_rows.specs.Whole.{HaveOwnRowids}
 use Rattle.desk_store.proofs.AnyFile.{all_readable, can_all_still, cells_before, entries_before, never_refused_needed, readable_still, rows_before, texts_of}
-use Rattle.desk_store.proofs.Opened.{any_apart, as_listed, has_needed, needs_marks, needs_paras, needs_tabs, never_refused_of, own_rowids, same_state, shows_still, stays_read, stays_then}
+use Rattle.desk_store.proofs.Opened.{any_apart, as_listed, has_needed, needs_marks, needs_paras, needs_tabs, never_refused_of, own_rowids, same_state, shows_still, stays_read, stays_then, stops_after}
 use Rattle.desk_store.proofs.book_file.read_rest.Goals as goal
 
 pub returns-in_err-tabs-clause-refused : goal.returns-in_err-tabs-clause-refused
@@ -219,3 +219,67 @@ returns-clause-readable g c clean l file of was =
     (texts_of paras (λ xs. xs.items) AnyRows one two c.in_ok-paras.paras (c.in_ok-paras.ensures.answers second) l file (has_needed f l paras of (needs_paras f)) (shows_still old one to_one l file was))
     (c.in_ok-entries.ensures.readable third l file of (shows_still old two to_two l file was))
     (texts_of marks (λ xs. xs.items) AnyRows three four c.in_ok-marks.marks (c.in_ok-marks.ensures.answers fourth) l file (has_needed f l marks of (needs_marks f)) (shows_still old three to_three l file was))
+
+pub returns-in_err-tabs-clause-stops : goal.returns-in_err-tabs-clause-stops
+returns-in_err-tabs-clause-stops g c clean =
+    let p = err_from_is_err_and c.from_residual.result c.from_residual.ensures.1 in
+    rw (p.1, p.2)
+    (record { table = tabs; before = c.args.conn.now; stays = same_state (state g.S.Store c.args.conn.now); fails = (c.in_err-tabs.ensures.answers clean).told })
+
+pub returns-in_err-paras-clause-stops : goal.returns-in_err-paras-clause-stops
+returns-in_err-paras-clause-stops g c clean =
+    let old = state g.S.Store c.args.conn.now in
+    let one = state g.S.Store c.read_tabs.new.conn in
+    let first : HasCleanDisk one = omega (arith, clean, c.read_rows.ensures.survives.clean) in
+    let to_one : Stays old one = stays_read (λ xs. xs.items) tabs (λ x. x) HaveOwnRowids old one c.in_ok-tabs.tabs (c.in_ok-tabs.ensures.answers first) in
+    let p = err_from_is_err_and c.from_residual-in_err-paras.result c.from_residual-in_err-paras.ensures.1 in
+    rw (p.1, p.2)
+    (record { table = paras; before = c.read_tabs.new.conn; stays = to_one; fails = (c.in_err-paras.ensures.answers clean).told })
+
+pub returns-in_err-entries-clause-stops : goal.returns-in_err-entries-clause-stops
+returns-in_err-entries-clause-stops g c clean =
+    let old = state g.S.Store c.args.conn.now in
+    let one = state g.S.Store c.read_tabs.new.conn in
+    let two = state g.S.Store c.read_rows.new.conn in
+    let second : HasCleanDisk two = omega (arith, clean, c.read_entries.ensures.survives.clean) in
+    let first : HasCleanDisk one = omega (arith, second, c.read_rows.ensures.survives.clean) in
+    let to_one : Stays old one = stays_read (λ xs. xs.items) tabs (λ x. x) HaveOwnRowids old one c.in_ok-tabs.tabs (c.in_ok-tabs.ensures.answers first) in
+    let to_two : Stays old two = stays_then old one two to_one (stays_read (λ xs. xs.items) paras (λ x. x) AnyRows one two c.in_ok-paras.paras (c.in_ok-paras.ensures.answers second)) in
+    let p = err_from_is_err_and c.from_residual-in_err-entries.result c.from_residual-in_err-entries.ensures.1 in
+    rw (p.1, p.2)
+    (stops_after g.S.Store c.args.conn.now c.read_rows.new.conn (state g.S.Store c.read_entries.new.conn) _ to_two (c.in_err-entries.ensures.stops clean))
+
+pub returns-in_err-marks-clause-stops : goal.returns-in_err-marks-clause-stops
+returns-in_err-marks-clause-stops g c clean =
+    let old = state g.S.Store c.args.conn.now in
+    let one = state g.S.Store c.read_tabs.new.conn in
+    let two = state g.S.Store c.read_rows.new.conn in
+    let three = state g.S.Store c.read_entries.new.conn in
+    let third : HasCleanDisk three = omega (arith, clean, c.read_rows-2.ensures.survives.clean) in
+    let second : HasCleanDisk two = omega (arith, third, c.read_entries.ensures.survives.clean) in
+    let first : HasCleanDisk one = omega (arith, second, c.read_rows.ensures.survives.clean) in
+    let to_one : Stays old one = stays_read (λ xs. xs.items) tabs (λ x. x) HaveOwnRowids old one c.in_ok-tabs.tabs (c.in_ok-tabs.ensures.answers first) in
+    let to_two : Stays old two = stays_then old one two to_one (stays_read (λ xs. xs.items) paras (λ x. x) AnyRows one two c.in_ok-paras.paras (c.in_ok-paras.ensures.answers second)) in
+    let to_three : Stays old three = stays_then old two three to_two (c.in_ok-entries.ensures.unchanged third) in
+    let p = err_from_is_err_and c.from_residual-in_err-marks.result c.from_residual-in_err-marks.ensures.1 in
+    rw (p.1, p.2)
+    (record { table = marks; before = c.read_entries.new.conn; stays = to_three; fails = (c.in_err-marks.ensures.answers clean).told })
+
+pub returns-in_err-cache-clause-stops : goal.returns-in_err-cache-clause-stops
+returns-in_err-cache-clause-stops g c clean =
+    let old = state g.S.Store c.args.conn.now in
+    let one = state g.S.Store c.read_tabs.new.conn in
+    let two = state g.S.Store c.read_rows.new.conn in
+    let three = state g.S.Store c.read_entries.new.conn in
+    let four = state g.S.Store c.read_rows-2.new.conn in
+    let fourth : HasCleanDisk four = omega (arith, clean, c.read_cells.ensures.survives.clean) in
+    let third : HasCleanDisk three = omega (arith, fourth, c.read_rows-2.ensures.survives.clean) in
+    let second : HasCleanDisk two = omega (arith, third, c.read_entries.ensures.survives.clean) in
+    let first : HasCleanDisk one = omega (arith, second, c.read_rows.ensures.survives.clean) in
+    let to_one : Stays old one = stays_read (λ xs. xs.items) tabs (λ x. x) HaveOwnRowids old one c.in_ok-tabs.tabs (c.in_ok-tabs.ensures.answers first) in
+    let to_two : Stays old two = stays_then old one two to_one (stays_read (λ xs. xs.items) paras (λ x. x) AnyRows one two c.in_ok-paras.paras (c.in_ok-paras.ensures.answers second)) in
+    let to_three : Stays old three = stays_then old two three to_two (c.in_ok-entries.ensures.unchanged third) in
+    let to_four : Stays old four = stays_then old three four to_three (stays_read (λ xs. xs.items) marks (λ x. x) AnyRows three four c.in_ok-marks.marks (c.in_ok-marks.ensures.answers fourth)) in
+    let p = err_from_is_err_and c.from_residual-in_err-cache.result c.from_residual-in_err-cache.ensures.1 in
+    rw (p.1, p.2)
+    (stops_after g.S.Store c.args.conn.now c.read_rows-2.new.conn (state g.S.Store c.read_cells.new.conn) _ to_four (c.in_err-cache.ensures.stops clean))

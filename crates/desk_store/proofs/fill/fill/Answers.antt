@@ -1,7 +1,10 @@
 use Rattle.std.proofs.Common.{List, map, refl, subst}
 use Rattle.sqlite.specs.Held.{state}
 use Rattle.sqlite.proofs.StateLemmas.{survives_weaker}
-use Rattle.desk_parts.specs.Puts.{RowPut}
+use Rattle.desk_parts.specs.Puts.{LendsFirst, RowPut}
+use Rattle.desk_rows.specs.Described.{Which}
+use Rattle.desk_rows.specs.Failing.{FailsToChange, of_items}
+use Rattle.desk_rows.specs.Turns.{begun}
 use Rattle.desk_rows.specs.Making.{IsFileWithTables, WritesWithTables}
 use Rattle.desk_rows.specs.Tables.{which}
 use Rattle.desk_rows.proofs.LentPuts.{all_lent}
@@ -38,3 +41,14 @@ returns-in-Err-clause-crash g c =
     let file = subst (λ (xs : List RowPut). IsFileWithTables (map which c.file_tables.result.now) xs old db) (all_lent puts left.0 left.1) left.2.0 in
     holds_gained c.args.tables c.args.book.now puts c.filling.ensures c.file_tables.result.now c.file_tables.ensures old db file)
     c.write_with_tables.ensures.crash
+
+pub returns-in-Err-clause-stops : goal.returns-in-Err-clause-stops
+returns-in-Err-clause-stops g c clean = record {
+  puts = c.filling.result;
+  fill = c.filling.ensures;
+  error = c.in-Err.error;
+  fails = subst (λ (ws : List Which). FailsToChange g.S.Store ws (of_items g.S.Store LendsFirst c.filling.result) (begun c.args.conn.now) (state g.S.Store c.write_with_tables.new.conn) c.in-Err.error)
+      c.file_tables.ensures (c.in-Err.ensures.told clean);
+  is_told = c.stopped_by.ensures.told;
+  as_before = c.in-Err.ensures.as_before clean;
+}

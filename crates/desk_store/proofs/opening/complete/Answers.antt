@@ -1,3 +1,4 @@
+use Rattle.std.proofs.lemmas.Result.{IfErr-weaker}
 use Rattle.sqlite.specs.Held.{state}
 use Rattle.desk_store.specs.Opened.{which_new}
 use Rattle.desk_rows.proofs.Both.{on_ok_both}
@@ -22,3 +23,7 @@ returns-in-None-clause-filled g c clean l contents stands =
 pub returns-in-None-clause-leaves : goal.returns-in-None-clause-leaves
 returns-in-None-clause-leaves g c clean l contents stands left =
     left_whole c.args.lacked l c.args.book.now (state g.S.Store c.args.conn.now) c.in-None.is left
+
+pub returns-in-Some-clause-stops : goal.returns-in-Some-clause-stops
+returns-in-Some-clause-stops g c clean =
+    IfErr-weaker c.fill.result _ _ (λ fault stops. (c.in-Some.tables, c.in-Some.is, stops)) (c.fill.ensures.stops clean)

@@ -1,4 +1,4 @@
-use Rattle.std.proofs.Common.{Option, arith, inl, inr, subst}
+use Rattle.std.proofs.Common.{◌≡◌, ◌∙◌, Option, arith, inl, inr, refl, subst, sym}
 use Rattle.std.proofs.lemmas.Result.{err_from_is_err_and}
 use Rattle.sqlite.proofs.StateLemmas.{survives_weaker}
 use Rattle.sqlite.specs.Held.{state}
@@ -13,7 +13,17 @@ use Rattle.sql_tables.specs.States.{Leaves}
 use Rattle.desk_store.specs.Opened.{HasGained, HoldsEitherWith, StandsAs, which_lacked}
 use Rattle.desk_rows.specs.States.{Shows}
 use Rattle.desk_store.proofs.Openings.{fills, opens, refuses, refuses_damaged, tells, tells_no_refusal}
+use Rattle.desk_book.specs.declared.damage.PartsFault.{PartsFault}
+use Rattle.desk_book.specs.declared.damage.PartsFault.TheVariants as rebuilt
+use Rattle.desk_store.specs.Opened.{filling, rebuilding}
+use Rattle.desk_store.specs.Opening.{IsRefusal, rebuilt_as}
+use Rattle.desk_store.specs.declared.fault.OpenFault.TheVariants.{NoMemory}
 use Rattle.desk_store.proofs.opening.open_book.Goals as goal
+
+-- of what is told of rows that are read only want of memory is no refusal
+only_memory : (fault : PartsFault) → (¬ IsRefusal (rebuilt_as fault)) → rebuilt_as fault ≡ NoMemory
+only_memory (rebuilt.Damaged table id) none = absurd (none tt)
+only_memory rebuilt.NoMemory none = refl
 
 -- ---- nothing is read
 
@@ -91,3 +101,25 @@ returns-clause-crash g c make =
     fills g.S.Store make c.args.conn.now c.requires.there (rows_in c.in_ok-parts.parts) c.in_ok-book.book
     (state g.S.Store c.read_parts.new.conn) (state g.S.Store c.complete.new.conn) c.lacked_by-lacked.result c.lacked_by-lacked.ensures
     c.in_ok-book.ensures.shown read.found read.read read.unchanged c.read_parts.ensures.survives c.complete.ensures.crash
+
+-- ---- why it isn't opened, where it isn't refused
+
+pub returns-in_err-parts-clause-stopped : goal.returns-in_err-parts-clause-stopped
+returns-in_err-parts-clause-stopped g c clean =
+    let p = err_from_is_err_and c.from_residual.result c.from_residual.ensures.1 in
+    rw (p.1, p.2) (c.in_err-parts.ensures.stops clean)
+
+pub returns-in_err-book-clause-stopped : goal.returns-in_err-book-clause-stopped
+returns-in_err-book-clause-stopped g c clean =
+    let p = err_from_is_err_and c.from_residual-in_err-book.result c.from_residual-in_err-book.ensures.1 in
+    rw (p.1, p.2) (λ none. rebuilding (rows_in c.in_ok-parts.parts) (c.in_ok-parts.ensures.found clean) (c.in_ok-parts.ensures.unchanged clean) (only_memory c.in_err-book.field-0.0 none))
+
+pub returns-in_err-complete-clause-stopped : goal.returns-in_err-complete-clause-stopped
+returns-in_err-complete-clause-stopped g c clean =
+    let mid = state g.S.Store c.read_parts.new.conn in
+    let early : HasCleanDisk mid = omega (arith, clean, c.complete.ensures.crash.clean) in
+    let p = err_from_is_err_and c.from_residual-in_err-complete.result c.from_residual-in_err-complete.ensures.1 in
+    let stops = c.in_err-complete.ensures.stops clean in
+    rw (p.1, p.2)
+    (λ none. filling (rows_in c.in_ok-parts.parts) c.in_ok-book.book stops.0 c.read_parts.new.conn (c.in_ok-parts.ensures.found early)
+    c.in_ok-book.ensures.shown (sym c.lacked_by-lacked.ensures ∙ stops.1) (c.in_ok-parts.ensures.unchanged early) stops.2)

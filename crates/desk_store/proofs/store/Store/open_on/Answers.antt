@@ -1,4 +1,4 @@
-use Rattle.std.proofs.Common.{true}
+use Rattle.std.proofs.Common.{true, sym, ◌∙◌}
 use Rattle.sqlite.specs.Held.{state}
 use Rattle.desk_store.proofs.Openings.{leaves_either, leaves_none}
 use Rattle.desk_store.proofs.store.Store.open_on.Goals as goal
@@ -16,3 +16,9 @@ returns-then-has_any-clause-either g c clean =
 pub returns-then-make-clause-none : goal.returns-then-make-clause-none
 returns-then-make-clause-none g c clean =
     leaves_none true (state g.S.Store c.args.connection.now) (state g.S.Store c.open_new.new.conn) c.open_new.ensures.crash clean
+
+pub returns-then-has_any-clause-stopped : goal.returns-then-has_any-clause-stopped
+returns-then-has_any-clause-stopped g c clean there = c.open_book.ensures.stopped clean
+
+pub returns-then-make-clause-stopped : goal.returns-then-make-clause-stopped
+returns-then-make-clause-stopped g c clean there = absurd (there (sym c.has_any.ensures ∙ c.if-has_any.false))
