@@ -1,23 +1,25 @@
 -- What is found of a book after a session, and what a session begins with.
-use Rattle.std.proofs.Common.{inl, ◌≡◌, ◌∙◌, ◌≤◌, Bool, false, List, [], ◌∷◌, ◌++◌, length, refl, sym, ap, subst, arith}
+use Rattle.std.proofs.Common.{IsTrue, inl, ◌≡◌, ◌∙◌, ◌≤◌, Bool, false, List, [], ◌∷◌, ◌++◌, length, refl, sym, ap, subst, arith}
 use Rattle.std.specs.Prelude.{IfErr, IfOk, Ok, Result}
 use Rattle.std.specs.List.{All}
 use Rattle.std.proofs.lemmas.List.Elements.{All-cons, All-nil}
 use Rattle.sqlite_trees.specs.Tree.{Trees}
 use Rattle.sqlite_trees.specs.declared.store.Store.{Ghosts}
+use Rattle.sqlite.specs.Effect.{Database}
 use Rattle.sqlite.specs.Held.{Held, state}
 use Rattle.sqlite.specs.State.{IsLive, State}
 use Rattle.sqlite.specs.State.{Opens as IsOpenedAnew}
 use Rattle.sql_tables.specs.States.{IsSettled, Leaves}
 use Rattle.desk_book.specs.Book.{Book}
 use Rattle.desk_store.specs.Books.{HasNewTables, LeavesBook}
+use Rattle.desk_store.proofs.StoppedOpenings.{still_shown}
 use Rattle.desk_store.proofs.Reopening.{finds_such, holds_new, keeps, second_format}
 use Rattle.desk_rows.specs.Contents.{Contents}
 use Rattle.desk_store.specs.Formats.{named}
 use Rattle.desk_store.specs.Found.{HasNone}
 use Rattle.desk_rows.specs.Layout.{Layout}
 use Rattle.desk_rows.specs.Making.{made}
-use Rattle.desk_store.specs.Opened.{HoldsEither, Opens, Stands, completed}
+use Rattle.desk_store.specs.Opened.{HoldsEither, Opens, Stands, StopsOpening, completed}
 use Rattle.desk_store.specs.Opening.{IsRefusal}
 use Rattle.desk_store.specs.Reopened.{IsKeptThere}
 use Rattle.desk_store.specs.declared.fault.OpenFault.{OpenFault}
@@ -129,6 +131,27 @@ module _ {S : Type 0} (g : Ghosts S) (make : Bool) (book : Book) (old : Held S) 
   begins_made none =
       let is = opens.made none in
       record { tables = is.tables; kept = record { shows = is.shows; leaves = is.leaves } }
+
+-- a book that stands in what a connection shows stands where another shows the same
+stands_still : (l : Layout) (book : Book) (old new : State) → new.now ≡ old.now → Stands l book old → Stands l book new
+stands_still l book old new same (c, is) = (
+  c,
+  record {
+    format = is.format;
+    of = is.of;
+    shows = record {
+      schema = ap (λ (d : Database). d.schema) same ∙ is.shows.schema;
+      is = subst (λ (d : Database). IsFile l c d.trees) (sym same) is.shows.is;
+    };
+    rows = is.rows;
+  },
+)
+
+pub begins_after_a_stop : {S : Type 0} (g : Ghosts S) (make : Bool) (book : Book) (first old : Held S) (new : State) (fault : OpenFault) → StopsOpening g first (state g old) fault
+    → (state g first).now ≡ (state g first).committed → IsTrue (state g old).is_open → (l : Layout) → Stands l book (state g first) → Leaves (HoldsEither l book) (state g old)
+    → Opens g make old new (Ok book) → MayServe (completed l) book new
+begins_after_a_stop g make book first old new fault stops same opened l stands leaves opens =
+    begins_again g make book old new opens l (stands_still l book (state g first) (state g old) (still_shown g first (state g old) fault same stops opened) stands) leaves
 
 pub begins_kept : (book : Book) (s : State) → IsKeptThere book s → MayBegin book s
 begins_kept book s (l, tables, kept) = (l, record { tables = tables; kept = kept })

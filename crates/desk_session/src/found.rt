@@ -6,14 +6,14 @@ ghost use Rattle.desk_session.specs.Served.{EndsAs, IsLeft, MayServe};
 ghost use Rattle.desk_session.specs.Session.{Given, IsSession, Turn};
 ghost use Rattle.desk_session.specs.declared.session.Ended.{Ended};
 ghost use Rattle.desk_store.specs.Books.{HasNewTables, shown_by};
-ghost use Rattle.desk_store.specs.Opened.{HoldsEither, Opens as OpensSo, Stands, completed};
+ghost use Rattle.desk_store.specs.Opened.{HoldsEither, Opens as OpensSo, Stands, StopsOpening, completed};
 ghost use Rattle.desk_store.specs.Opening.{IsRefusal};
 ghost use Rattle.desk_store.specs.Reopened.{IsKeptThere};
 ghost use Rattle.desk_store.specs.declared.fault.OpenFault.{OpenFault};
 ghost use Rattle.sql_tables.specs.States.{IsSettled, Leaves};
 ghost use Rattle.sqlite.specs.Held.{state};
 ghost use Rattle.sqlite.specs.State.{Opens};
-ghost use Rattle.std.specs.Prelude.{Bool, IfErr, IfOk, List, Ok, Result};
+ghost use Rattle.std.specs.Prelude.{Bool, IfErr, IfOk, IsTrue, List, Ok, Result, ◌≡◌};
 
 use desk_store::Store;
 use sqlite::{Alter, Connection};
@@ -53,4 +53,20 @@ pub fn begins_after_a_failed_opening<S: Alter>(old: &Connection<S>, new: &Connec
         → MayServe (completed l) book (state S.Store new.now) }
     ensures kept { (book : Book) → IsKeptThere book (state S.Store new.now)
         → MayBegin book (state S.Store new.now) }
+{}
+
+/// A session may begin too where the file of a book wasn't opened at first, though it isn't refused, and the book is opened on the same
+/// connection then, which was open still. What a crash would leave in between is what opening leaves at any exit.
+pub fn begins_where_opening_stopped_first<S: Alter>(
+    first: &Connection<S>,
+    old: &Connection<S>,
+    new: &Connection<S>,
+)
+    ensures { (make : Bool) (book : Book) (fault : OpenFault)
+        → StopsOpening S.Store first.now (state S.Store old.now) fault
+        → (state S.Store first.now).now ≡ (state S.Store first.now).committed
+        → IsTrue (state S.Store old.now).is_open → (l : Layout)
+        → Stands l book (state S.Store first.now) → Leaves (HoldsEither l book) (state S.Store old.now)
+        → OpensSo S.Store make old.now (state S.Store new.now) (Ok book)
+        → MayServe (completed l) book (state S.Store new.now) }
 {}
