@@ -44,14 +44,14 @@ pub record AreRefused (app : App) (words : List Text) : Type 0 where
   pub other : kind ≢ DisplayHelp
   pub among : IsAmong kind (fault_of app words)
 
--- the words are read so
+-- The words are read so. The text of help, and that of a refusal, isn't empty.
 abbrev pub IsReading : App → List Text → Reading → Type 0
 IsReading app words (Asked action) = NamesWithinLimits app words action
-IsReading app words (Help text) = AskForHelp app words
-IsReading app words (Refused text) = AreRefused app words
+IsReading app words (Help text) = AskForHelp app words × (string_bytes text ≢ [])
+IsReading app words (Refused text) = AreRefused app words × (string_bytes text ≢ [])
 IsReading app words NoMemory = Unit {0}
 
--- An error of this kind is read so. The text of help, and that of a refusal, isn't empty.
+-- an error of this kind is read so
 abbrev pub IsError : ErrorKind → Reading → Type 0
 IsError kind (Asked action) = ⊥
 IsError kind (Help text) = (kind ≡ DisplayHelp) × (string_bytes text ≢ [])

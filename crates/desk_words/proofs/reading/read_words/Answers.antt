@@ -15,8 +15,8 @@ among app words kind (inr h) other = h
 
 failed : (app : App) (words : List Text) (kind : ErrorKind) (reading : Reading) → (kind ≡ OutOfMemory) ⊎ IsAmong kind (fault_of app words) → IsError kind reading → IsReading app words reading
 failed app words kind (Asked action) h e = absurd e
-failed app words kind (Help text) h e = record { help = subst (λ (k : ErrorKind). IsAmong k (fault_of app words)) e.0 (among app words kind h (λ memory. let bad = sym e.0 ∙ memory in cc)) }
-failed app words kind (Refused text) h e = record { kind = kind; other = e.0; among = among app words kind h e.1 }
+failed app words kind (Help text) h e = (record { help = subst (λ (k : ErrorKind). IsAmong k (fault_of app words)) e.0 (among app words kind h (λ memory. let bad = sym e.0 ∙ memory in cc)) }, e.1)
+failed app words kind (Refused text) h e = (record { kind = kind; other = e.0; among = among app words kind h e.1 }, e.2)
 failed app words kind NoMemory h e = tt
 
 simple : is_simple_and_free whole ≡ true
