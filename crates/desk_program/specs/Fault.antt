@@ -9,6 +9,8 @@ use Rattle.sqlite.specs.declared.error.Error.TheVariants.{SqliteFailure}
 use Rattle.sqlite.specs.declared.error.ErrorCode.TheVariants.{OutOfMemory}
 use Rattle.louis_table.specs.declared.en.TheConstants.{EN}
 use Rattle.louis_table.specs.Table.{Bad}
+use Rattle.louis_table.specs.declared.fault.ReadFault.{ReadFault}
+use Rattle.louis_table.specs.declared.fault.ReadFault.TheVariants as reading
 use Rattle.desk_program.specs.declared.fault.Fault.{Fault}
 use Rattle.desk_program.specs.declared.fault.Fault.TheVariants as faults
 use Rattle.desk_program.specs.Shelf.{Shelved, unknown, missing, holds, IsRead, MayConnect, most_file_bytes}
@@ -27,6 +29,11 @@ IsFaultOf text faults.NoVolume = ⊥
 IsFaultOf text faults.BadLayout = ⊥
 IsFaultOf text faults.File = ⊥
 IsFaultOf text (faults.Taken version) = ⊥
+
+-- how the fault of a text is told
+abbrev pub read_as : ReadFault → Fault
+read_as (reading.Table fault) = faults.Table fault
+read_as reading.NoMemory = faults.NoMemory
 
 -- ---- the fault of a file
 

@@ -1,5 +1,5 @@
 -- What the program does with its words and its ends.
-use Rattle.std.specs.Prelude.{◌≡◌, ℕ, ◌⊎◌, List, Bool, Ok, Err, map, ⊤}
+use Rattle.std.specs.Prelude.{◌≡◌, ◌≢◌, ℕ, ◌⊎◌, List, [], Bool, Ok, Err, map, ⊤}
 use Rattle.std.specs.Borrow.{Bor}
 use Rattle.sqlite_trees.specs.declared.store.Store.{Ghosts as Database}
 use Rattle.sqlite.specs.Held.{Held}
@@ -102,10 +102,10 @@ CarriesOut files source old_source new_source sink old new (Translate path) outc
 CarriesOut files source old_source new_source sink old new (Check path) outcome =
     Checks (place_of files path.now) sink old new outcome × (new_source ≡ old_source)
 
--- the words ask for help, which is shown, or for an action, which is carried out
+-- the words ask for help, which is a text that isn't empty and is shown, or for an action, which is carried out
 pub data Does {D S K : Type 0} (files : Files D) (source : Source S) (old_source new_source : S)
     (sink : Sink K) (old new : K) (words : List (List ℕ)) (outcome : Outcome) : Type 0 where
-  help : AskForHelp whole words → (text : List ℕ) → Says sink old new text outcome
+  help : AskForHelp whole words → (text : List ℕ) → text ≢ [] → Says sink old new text outcome
       → new_source ≡ old_source → Does files source old_source new_source sink old new words outcome
   action : (action : Action) → NamesWithinLimits whole words action
       → CarriesOut files source old_source new_source sink old new action outcome

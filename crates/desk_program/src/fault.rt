@@ -1,6 +1,6 @@
 //! Why the program refuses what is asked.
 use desk_parts::FileTable;
-use louis_table::TableFault;
+use louis_table::{ReadFault, TableFault};
 use sqlite::{Error as DatabaseError, ErrorCode};
 use std::alloc::AllocError;
 use std::io::{Error as IoError, ErrorKind};
@@ -76,6 +76,20 @@ impl From<AllocError> for Fault {
 
     fn from(_error: AllocError) -> Self {
         Fault::NoMemory
+    }
+}
+
+impl From<ReadFault> for Fault {
+    ghost use Rattle.desk_program.specs.Fault.{read_as};
+    ghost use Rattle.std.specs.Prelude.{◌≡◌};
+
+    ghost from_gives = { λ fault told. told ≡ read_as fault };
+
+    fn from(fault: ReadFault) -> Self {
+        match fault {
+            ReadFault::Table(fault) => Fault::Table(fault),
+            ReadFault::NoMemory => Fault::NoMemory,
+        }
     }
 }
 

@@ -47,9 +47,9 @@ pub fn run<'a, F: Databases + AllocGlobal, S: Source, K: Sink, E: Sink>(
 ) -> u8
     ensures status { result ≤ FAILED }
 
-    // Words are refused as the whole command refuses them, and why is reported.
+    // Words are refused as the whole command refuses them, and why is reported, by a text that isn't empty.
     ensures words { result ≡ OTHER_WORDS → AreRefused whole (texts_of words.now)
-        × ((text : List ℕ) × Tells E.Sink errors.old errors.new text) }
+        × ((text : List ℕ) × (text ≢ []) × Tells E.Sink errors.old errors.new text) }
 
     // What the words ask for is carried out, or something fails in it, which the status alone tells.
     ensures done { result ≡ DONE → Does

@@ -7,7 +7,7 @@ ghost use Rattle.std.specs.Prelude.{◌⊎◌, ℕ, List, MatchResult};
 use super::fault::Fault;
 use super::shelf::Shelf;
 use desk_ends::Source;
-use louis_table::{EN, ReadFault, Table};
+use louis_table::{EN, Table};
 use louis_translate::RuleIndex;
 use std::alloc::Global;
 
@@ -57,8 +57,7 @@ fn read_text(alloc: Global, text: &[u8]) -> Result<Table, Fault>
 {
     match Table::read(alloc, text) {
         Ok(table) => Ok(table),
-        Err(ReadFault::Table(fault)) => Err(Fault::Table(fault)),
-        Err(ReadFault::NoMemory) => Err(Fault::NoMemory),
+        Err(fault) => Err(Fault::from(fault)),
     }
 }
 

@@ -28,12 +28,12 @@ returns-in-Asked-clause-untouched g c status =
 
 pub returns-in-Help-clause-done : goal.returns-in-Help-clause-done
 returns-in-Help-clause-done g c status =
-    Does.help c.in-Help.ensures _ (rw (c.end-in-Help.ensures.done status) at c.show.ensures) refl
+    Does.help c.in-Help.ensures.0 _ (rw c.as_str.ensures.value c.in-Help.ensures.1) (rw (c.end-in-Help.ensures.done status) at c.show.ensures) refl
 
 pub returns-in-Help-clause-failed : goal.returns-in-Help-clause-failed
 returns-in-Help-clause-failed g c status =
     let stopped = c.end-in-Help.ensures.failed status in
-    (stopped.0, stopped.1, Does.help c.in-Help.ensures _ (rw stopped.2 at c.show.ensures) refl)
+    (stopped.0, stopped.1, Does.help c.in-Help.ensures.0 _ (rw c.as_str.ensures.value c.in-Help.ensures.1) (rw stopped.2 at c.show.ensures) refl)
 
 pub returns-in-NoMemory-clause-refused : goal.returns-in-NoMemory-clause-refused
 returns-in-NoMemory-clause-refused g c status = (NoMemory, inl refl, c.refuse.ensures.told)
