@@ -271,36 +271,36 @@ def summary(
 HEAD: Final = """\
 # Tables of liblouis, brought over
 
-`scribe bring TABLE FILE` makes one text that braildesk reads of a table of liblouis, with all that
-it includes, and compares the program's cells with those of liblouis. This is what it found for the
-tables that liblouis 3.24.0 has, by `tests/bring_all.sh`, which writes this file.
+`scribe bring TABLE FILE` makes one text that braildesk can read from a table of liblouis, with all
+that it includes, and compares the program's cells with those of liblouis. `tests/bring_all.sh` did
+this with the tables of liblouis 3.24.0, and wrote this file.
 
-- **asked**: the share of lines that agree, of the shapes that the making asks liblouis about:
-  words, capitals and numbers, each with one mark.
-- **unseen**: the same for shapes that the making has not seen: sentences, quotations, dates, hours,
+- **asked**: the share of lines that agree, of the shapes that `scribe bring` asks liblouis about to
+  make the table: words, capitals and numbers, each with one mark.
+- **unseen**: the same for shapes that it hasn't asked about: sentences, quotations, dates, hours,
   sums, addresses, initials, lists, and passages of capitals, {each} lines of each shape at most.
 - **others**: the same without the lines that differ and need what a table of braildesk can't have,
   which **apart** counts.
 
 A line needs passages of capitals, capitals that end or go on within a word, several passes or
-computer braille where liblouis gives it other cells without the lines of these opcodes. Four things
-more need no opcode of their own in liblouis: a number that begins with a mark, a mark after a number
-that depends on what follows, a sign of letters at a lone capital, and quotation marks that pair. A
-line needs such a thing where liblouis shows that it does it, and the two agree on the line once it
-is taken out.
+computer braille if liblouis gives it other cells without the lines of these opcodes. Four more things
+need no opcode of their own in liblouis: a number that begins with a mark, a mark after a number that
+depends on what follows, a sign of letters at a lone capital, and quotation marks that pair. A line
+needs such a thing if liblouis shows that it does it, and the two agree on the line once it is taken
+out.
 
-`scribe bring` writes a table where the share of the others is at least 99%, and that of all unseen
-lines at least 50%.
+`scribe bring` writes a table if the share of the others is at least 99%, and that of all unseen lines
+at least 50%.
 
-The words are made up of the table's own letters and of the letters of its rules, since no list of
-words was installed. So contracted tables are tried otherwise here than a book tries them: by
-`--words FILE` they are compared on words of the language.
+The words are made up from the table's own letters and the letters of its rules, since no word list
+was installed. So these are no words that a contracted table meets in a book: with `--words FILE` it
+is compared on words of its language.
 
-liblouis has {shipped} tables, of which {different} have other lines than an earlier one; those of the
-same lines have the same figures here. Of {found} that were measured {compared} could be compared:
-{asked} agree on at least 99.9% of the asked lines; {unseen_999} agree on at least 99.9% of all unseen
-lines, {unseen_99} on at least 99%, and {unseen_90} on at least 90%; {others} agree on at least 99.5%
-of the others, and {written} are written without `--anyway`.
+liblouis has {shipped} tables, of which {different} differ in their lines; a table with the lines of an
+earlier one has its figures here. Of {found} that were measured {compared} could be compared: {asked}
+agree on at least 99.9% of the asked lines; {unseen_999} agree on at least 99.9% of all unseen lines,
+{unseen_99} on at least 99%, and {unseen_90} on at least 90%; {others} agree on at least 99.5% of the
+others, and {written} are written without `--anyway`.
 
 Of the {europe} uncontracted tables of Europe {europe_all} agree on at least 99.5% of all unseen lines,
 and {europe_others} on at least 99.5% of the others. Below that: {below}.
