@@ -1,4 +1,4 @@
-// Puts paragraphs into a file as bench/rows.rattle does, and reads them as often as it is told, over the C library of
+// Puts paragraphs into a file as bench/rows.rattle does, and reads them as often as asked, over the C library of
 // SQLite: the same statements with the same parameters, a hundred rows to a transaction, the journal in mode WAL with
 // synchronous FULL. What is read is kept in memory, each text in a piece of its own.
 //   rows put FILE COUNT     rows read FILE TIMES

@@ -1,5 +1,5 @@
 // Puts the rows of a book's file as the commands of bench/session.sh make them, over the C library of SQLite: a transaction to a
-// command, with the statements of desk_store, the journal in mode WAL and synchronous FULL. Nothing is judged and nothing answered.
+// command, with the statements of desk_store, the journal in mode WAL and synchronous FULL. Nothing is checked or answered.
 //   session FILE type COUNT FIRST      types the paragraphs from the number FIRST on, in a new file where that is 1
 //   session FILE correct COUNT SIZE    corrects the first two characters of one paragraph after the other in a book of that size
 #include <sqlite3.h>

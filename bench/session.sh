@@ -4,8 +4,8 @@
 # that puts the same rows with one transaction a command (bench/session.c), the journal in mode WAL and synchronous FULL,
 # which is what a book's file has. Each is timed as a whole process, with opening the file. The rows of both files have to be
 # the same in the end.
-#   bench/session.sh     RUNS (3): timings of each, of which the best counts; FOLDER: where the files are, as a slow disk tells of
-#                        itself alone; SIZES; COUNT: how many corrections
+#   bench/session.sh     RUNS (3): timings of each, of which the best counts; FOLDER: where the files are, since on a slow disk
+#                        nothing but its syncs shows; SIZES; COUNT: how many corrections
 # PROGRAM is the program (build/braildesk).
 set -eu
 cd "$(dirname "$0")/.."

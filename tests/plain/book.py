@@ -14,7 +14,7 @@ MOST_PRINT, MOST_NOTE, MOST_NAME = 4_000, 500, 40
 
 
 class Refused(Exception):
-    """A request is refused, by a code and what is told with it."""
+    """A request is refused, by a code and the numbers that come with it."""
 
     def __init__(self, *numbers: int) -> None:
         super().__init__(f"refused by {numbers}")

@@ -35,7 +35,7 @@ class Cause:
     allowed: Callable[[str, Region], str] = lambda cells, _: cells
 
     def claims(self, region: Region, ours: str, theirs: str) -> bool:
-        """Whether cells of a region are the same but for what the cause changes."""
+        """Whether cells of a region are the same except for what the cause changes."""
         form = self.allowed(self.aside(theirs), region)
         return bool(re.fullmatch(form, self.aside(ours)))
 

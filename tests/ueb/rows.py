@@ -17,7 +17,7 @@ class NoRow(Exception):
 
 @dataclasses.dataclass(frozen=True)
 class Row:
-    """Print with its cells, those of liblouis where they are told, and its place."""
+    """Print with its cells, those of liblouis where they are given, and its place."""
 
     place: str
     print: str

@@ -37,7 +37,7 @@ def _numeric_mode(table: Table, text: str) -> list[bool]:
 
 
 def _signs_of_capitals(table: Table, text: str) -> list[Sign | None]:
-    """The signs of the capitals, which are judged in runs."""
+    """The signs of the capitals, which depend on their runs."""
     found: list[Sign | None] = []
     for are_capitals, group in groupby(text, table.is_capital):
         length = len(list(group))

@@ -54,7 +54,7 @@ class Tables:
         try:
             found = self._answers(name, texts)
         except (DeskError, OSError):
-            # each line is judged again when it is sent
+            # each line is checked again when it is sent
             return ""
         for number, (text, answer) in enumerate(zip(texts, found), 1):
             if isinstance(answer, Refused):
