@@ -6,7 +6,7 @@ use Rattle.std.proofs.lemmas.List.{append-nil, drop_all, length-set, take-append
 use Rattle.cell_core.specs.Dots.{most_cells}
 use Rattle.cell_core.specs.Reading.{HasRead, cell_in, cells_of, is_hyphen}
 
--- so many pieces were read as cells, and the row has the first cells, as far as it has room
+-- this many pieces were read as cells, and the row has the first cells, as far as it has room
 pub record ReadSoFar (pieces : List (List ℕ)) (row : List ℕ) (count : ℕ) : Type 0 where
   pub cells : List ℕ
   pub counted : count ≡ length cells
@@ -34,7 +34,7 @@ left_more pieces row count piece cell h within is read =
     h.left ∙ (ap (option_map (λ more. h.cells ++ more)) (cells_of-drop pieces count piece within is)
     ∙ rw read (option_map-push h.cells cell (cells_of (drop (count + 1) pieces))))
 
--- one more cell, where there is room
+-- one more cell, if there is room
 pub ReadSoFar-more_kept : (pieces : List (List ℕ)) (row : List ℕ) (count : ℕ) (piece : List ℕ) (cell : ℕ) → ReadSoFar pieces row count → count < length pieces → piece ≡ get_or pieces count piece → cell_in piece ≡ Some cell → count < length row → ReadSoFar pieces (set row count cell) (count + 1)
 ReadSoFar-more_kept pieces row count piece cell h within is read room =
     let size = length-append h.cells (cell ∷ []) in
@@ -64,7 +64,7 @@ ReadSoFar-more_past pieces row count piece cell h within is read full =
       left = left_more pieces row count piece cell h within is read;
     }
 
--- a piece that is no cell
+-- a piece that isn't a cell
 pub cells_of-at_none : (pieces : List (List ℕ)) (row : List ℕ) (count : ℕ) (piece : List ℕ) → ReadSoFar pieces row count → count < length pieces → piece ≡ get_or pieces count piece → cell_in piece ≡ None → cells_of pieces ≡ None
 cells_of-at_none pieces row count piece h within is bad =
     h.left ∙ (ap (option_map (λ more. h.cells ++ more)) (cells_of-drop pieces count piece within is) ∙ rw bad refl)

@@ -2,7 +2,7 @@
 use Rattle.std.specs.Prelude.{◌≡◌, ◌≢◌, ℕ, ◌+◌, ◌≤◌, List, [], ◌∷◌, ◌++◌}
 use Rattle.cell_core.specs.Cell.{HasDot, dot_value}
 
--- how many cells a dots operand may have
+-- the most cells that a dots operand may have
 abbrev pub most_cells : ℕ
 most_cells = 20
 

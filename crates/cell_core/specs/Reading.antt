@@ -5,7 +5,7 @@ use Rattle.std.specs.Option.{option_and_then}
 use Rattle.cell_core.specs.Cell.{dot_value}
 use Rattle.cell_core.specs.Dots.{most_cells}
 
--- the mask with the dot of a digit, unless the digit names no dot or one that is there
+-- the mask with the dot of a digit, unless the digit names no dot, or one that the mask has
 abbrev pub with_digit : ℕ → ℕ → Option ℕ
 with_digit mask digit =
     if nat_le 49 digit && nat_le digit 56 && not (mask / dot_value (digit - 48) % 2 == 1)
@@ -32,11 +32,11 @@ cells_of [] = Some []
 cells_of (piece ∷ pieces) =
     option_and_then (λ cell. option_map (λ cells. cell ∷ cells) (cells_of pieces)) (cell_in piece)
 
--- the masks of the cells of a dots operand, or nothing where the text is none
+-- the masks of the cells of a dots operand, or nothing if the text isn't one
 abbrev pub cells_in : List ℕ → Option (List ℕ)
 cells_in text = cells_of (slice_split is_hyphen text)
 
--- a text is a dots operand of so many cells, and the first of them are in the row
+-- a text is a dots operand of this many cells, and the first of them are in the row
 pub record HasRead (text row : List ℕ) (count : ℕ) : Type 0 where
   pub cells : List ℕ
   pub read : cells_in text ≡ Some cells

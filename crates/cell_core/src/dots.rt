@@ -10,16 +10,16 @@ use thiserror::Error;
 /// The most cells that a dots operand may have.
 pub const MOST_CELLS: usize = 20;
 
-/// Why a dots operand was not read.
+/// Why a dots operand wasn't read.
 #[derive(Clone, Copy, Debug, PartialEq, Eq, Error)]
 pub enum DotsFault {
-    /// The text is no dots operand.
+    /// The text isn't a dots operand.
     #[error("not the dots of cells")]
     Bad,
     /// The text is a dots operand of more than [`MOST_CELLS`] cells.
     #[error("more than {MOST_CELLS} cells")]
     TooMany,
-    /// An allocation was refused.
+    /// An allocation failed.
     #[error("out of memory")]
     NoMemory,
 }
@@ -73,24 +73,23 @@ fn read_cells(text: &str, cells: &mut [Cell; MOST_CELLS]) -> Option<usize>
 /// The cells that a dots operand names, in order.
 ///
 /// A dots operand is cells joined by hyphens. A cell is the digit `0` for the cell without dots, or the
-/// digits of its dots from 1 to 8 in any order, each once. The whole text is judged before any memory is
-/// asked for.
+/// digits of its dots from 1 to 8 in any order, each once. Nothing is allocated before all is checked.
 ///
 /// # Errors
 ///
-/// [`DotsFault::Bad`] where the text is no dots operand, [`DotsFault::TooMany`] where it is one of more
-/// than [`MOST_CELLS`] cells, and [`DotsFault::NoMemory`] where an allocation was refused.
+/// [`DotsFault::Bad`] if the text isn't a dots operand, [`DotsFault::TooMany`] if it is one of more
+/// than [`MOST_CELLS`] cells, and [`DotsFault::NoMemory`] if an allocation failed.
 pub fn read_dots(alloc: Global, text: &str) -> Result<Vec<Cell>, DotsFault>
     ensures cells { IfOk result (λ cells. Dots text.now cells.items × (length cells.items ≤ most_cells)) }
 
-    // Exactly where the text is no dots operand, whatever memory there is.
+    // Exactly if the text isn't a dots operand, whether or not an allocation would fail.
     ensures bad { IsErrOf result DotsFault.Bad ↔ ((cells : List ℕ) → ¬ Dots text.now cells) }
 
-    // Exactly where it is one of too many cells, whatever memory there is.
+    // Exactly if it is one of too many cells, whether or not an allocation would fail.
     ensures too_many { IsErrOf result DotsFault.TooMany
         ↔ ((cells : List ℕ) × Dots text.now cells × (most_cells < length cells)) }
 
-    // Only where it is one of few enough cells.
+    // Only if it is one of few enough cells.
     ensures no_memory { IsErrOf result DotsFault.NoMemory
         → ((cells : List ℕ) × Dots text.now cells × (length cells ≤ most_cells)) }
 {

@@ -30,7 +30,7 @@ pub fn one_byte()
         → (mask : ℕ) × (ascii_cell byte ≡ Some mask) × (¬ HasDot mask 7) × (¬ HasDot mask 8) }
 {}
 
-/// The limit that the code compares with is the one that the definitions write.
+/// The limit that the code compares with is the one in the definitions.
 pub fn limits()
     ensures { MOST_CELLS ≡ most_cells }
 {}

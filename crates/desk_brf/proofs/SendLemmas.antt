@@ -60,7 +60,7 @@ module _ (n t : ℕ) (some : 0 < t) where
       by zero = inl refl
       by (suc r) = inr (omega arith)
 
-  -- so many lines are missing on the page
+  -- this many lines are missing on the page
   pub missing-few : (t - n % t) % t < t
   missing-few = mod_below (t - n % t) t some
 
@@ -78,7 +78,7 @@ module _ (n t : ℕ) (some : 0 < t) where
             ap (λ k. k % t) (let e : n + (t - n % t) % t ≡ (n / t + 1) * t + 0 = omega arith in e) ∙ mod-mul-add (n / t + 1) t 0 some
       ]
 
--- the line of a page's number fits where a line of 60 cells does
+-- the line of a page's number fits if a line of 60 cells does
 pub number_line-short : (width number : ℕ) → width ≤ 60 → number < 2 ^ 64 → length (number_line width number) ≤ 60
 number_line-short width number narrow fits =
     let below : number < 10 ^ 20 = omega arith in
@@ -89,7 +89,7 @@ number_line-short width number narrow fits =
     let blanks = length-replicate {A = ℕ} (width - length (number_text number)) 32 in
     omega (arith, digits, text, all, blanks, narrow)
 
--- the same, told otherwise
+-- the same, said otherwise
 pub Sent-told : (F : Type 0) (a b : Option (List ℕ)) (x held : List ℕ) (ok told : Bool) → ok ≡ told → Sent F a b x held ok → Sent F a b x held told
 Sent-told F a b x held ok told e s = subst (λ (t : Bool). Sent F a b x held t) e s
 

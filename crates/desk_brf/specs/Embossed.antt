@@ -10,7 +10,7 @@ use Rattle.desk_brf.specs.Words.{is_blank}
 abbrev pub IsCellByte : ℕ → Type 0
 IsCellByte byte = (0x20 ≤ byte) × (byte ≤ 0x5F)
 
--- a line of cells, at most as many as the width, of which the last is no blank
+-- a line of cells, at most as many as the width, of which the last isn't a blank
 pub record IsTextLine (width : ℕ) (line : List ℕ) : Type 0 where
   pub narrow : length line ≤ width
   pub no_blank_at_end : (front : List ℕ) → line ≢ front ++ 0x20 ∷ []

@@ -9,7 +9,7 @@ use Rattle.desk_brf.specs.Pages.{ArePages, ended, number_line}
 use Rattle.desk_brf.specs.Placing.{IsAscii, IsText, IsLine, joined, first_indent, other_indent}
 use Rattle.desk_brf.specs.Volume.{AreLines, gap_before}
 
--- what stands after the line with a number, counted from 1: the end of its page, where it is the last one there
+-- what stands after the line with a number, counted from 1: the end of its page, if it is the last one there
 abbrev pub page_end : Layout → ℕ → List ℕ
 page_end layout line =
     if line % text_lines layout == 0
@@ -86,7 +86,7 @@ pub record PutsParagraphs (F : Type 0) (old new : Option (List ℕ)) (book : Boo
   pub sent : Sent F old new (written layout 0 lines) [] whole
   pub count : whole ≡ true → after ≡ length lines
 
--- the pages of a volume's paragraphs are sent, and their number is told, or a beginning of them is sent
+-- the pages of a volume's paragraphs are sent, and their number is given, or a beginning of them is sent
 pub record PutsPages (F : Type 0) (old new : Option (List ℕ)) (book : Book) (layout : Layout) (paragraphs : List Paragraph) {E : Type 0} (answer : Result ℕ E) : Type 0 where
   pub lines : List (List ℕ)
   pub placed : AreLines book layout 0 paragraphs lines

@@ -21,7 +21,7 @@ pub data IsLine (room : ℕ) (words pieces left : List (List ℕ)) : Type 0 wher
       → room < length (joined (pieces ++ next ∷ []))) → IsLine room words pieces left
 
 -- a placing of words: the pieces of each line, where the first line has room for so many cells and each other one for so
--- many; no word gives no line
+-- many; no words give no line
 abbrev pub IsPlacing : (first other : ℕ) → List (List ℕ) → List (List (List ℕ)) → Type 0
 IsPlacing first other words [] = words ≡ []
 IsPlacing first other words (pieces ∷ lines) =

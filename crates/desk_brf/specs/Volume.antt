@@ -1,4 +1,4 @@
--- A volume of a book in Braille ready format.
+-- A volume of a book in Braille Ready Format.
 use Rattle.std.specs.Prelude.{◌≡◌, ◌≢◌, ◌⊎◌, ℕ, ◌+◌, ◌<◌, ◌%◌, ◌==◌, if◌then◌else◌, List, [], ◌∷◌, ◌++◌, length, take, slice_index, All}
 use Rattle.cell_core.specs.Cell.{HasDot}
 use Rattle.desk_book.specs.Book.{Book, Paragraph}
@@ -39,7 +39,7 @@ pub record IsVolume (book : Book) (layout : Layout) (number : ℕ) (bytes : List
 abbrev pub IsSixDot : ℕ → Type 0
 IsSixDot cell = cell < 64
 
--- the paragraph's braille has cells of the dots 1 to 6 alone
+-- the paragraph's braille has only cells of the dots 1 to 6
 abbrev pub HasSixDotCells : Book → Paragraph → Type 0
 HasSixDotCells book paragraph = (cells : List ℕ) × IsBraille book paragraph cells × All IsSixDot cells
 

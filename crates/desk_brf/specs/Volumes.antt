@@ -15,6 +15,6 @@ opens_volume (place, paragraph) = (place == 0) || paragraph.begins_volume
 abbrev pub volume_number : Book → ℕ → ℕ
 volume_number book place = count_by opens_volume (take (place + 1) (remaining book))
 
--- the paragraphs of the volume with a number, in order; where there are none there is no such volume
+-- the paragraphs of the volume with a number, in order; if there are none there is no such volume
 abbrev pub volume_of : Book → ℕ → List Paragraph
 volume_of book number = map (λ e. e.1) (filter (λ e. volume_number book e.0 == number) (remaining book))

@@ -18,7 +18,7 @@ abbrev pub IsAtWord : List ℕ → Type 0
 IsAtWord [] = Unit {0}
 IsAtWord (cell ∷ cells) = is_blank cell ≡ false
 
--- a word ends here: there is no cell more, or a blank
+-- a word ends here: no cell follows, or a blank
 abbrev pub EndsWord : List ℕ → Type 0
 EndsWord [] = Unit {0}
 EndsWord (cell ∷ cells) = is_blank cell ≡ true

@@ -10,7 +10,7 @@ ghost use Rattle.desk_brf.specs.Words.{is_blank, words};
 ghost use Rattle.std.specs.List.{flat_map};
 ghost use Rattle.std.specs.Prelude.{◌≡◌, ◌<◌, ℕ, All, List, filter, not};
 
-/// The words of cells have exactly one placing on lines that have room for a cell at least, as all lines of a layout do.
+/// The words of cells have exactly one placing on lines that have room for at least one cell, as all lines of a layout do.
 pub fn one_placing()
     ensures { (first other : ℕ) (cells : List ℕ) → 0 < first → 0 < other
         → (placing : List (List (List ℕ))) × IsPlacing first other (words cells) placing
@@ -65,7 +65,7 @@ pub fn whole_volume()
         × (dots_in volume.lines ≡ flat_map (λ cells. filter (λ cell. not (is_blank cell)) cells) brailles) }
 {}
 
-/// The limits that the code compares with are those that the definitions write.
+/// The limits that the code compares with are those in the definitions.
 pub fn limits()
     ensures least_width { LEAST_WIDTH ≡ least_width }
     ensures most_width { MOST_WIDTH ≡ most_width }

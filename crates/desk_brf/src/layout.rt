@@ -15,7 +15,7 @@ const LEAST_LINES: u64 = 5;
 
 const MOST_LINES: u64 = 40;
 
-/// The width is not one from 10 to 60 cells, or the lines are not 5 to 40.
+/// The width isn't 10 to 60 cells, or the lines aren't 5 to 40.
 #[derive(Clone, Copy, Debug, PartialEq, Eq, Error)]
 #[error("a page has {LEAST_WIDTH} to {MOST_WIDTH} cells in a line and {LEAST_LINES} to {MOST_LINES} lines")]
 pub struct BadLayout;
@@ -42,7 +42,7 @@ impl Layout {
     ///
     /// # Errors
     ///
-    /// `BadLayout` exactly where the width is not one from 10 to 60, or the lines are not 5 to 40.
+    /// `BadLayout` exactly if the width isn't 10 to 60, or the lines aren't 5 to 40.
     pub fn new(width: u64, lines: u64) -> Result<Self, BadLayout>
         ensures layout { IfOk result (λ layout. layout ≡ record { width = width; lines = lines }) }
         ensures limits { IsOk result ↔ IsLayout width lines }

@@ -8,7 +8,7 @@
 //! let pages = export(&book, &layout, 1, sink)?;
 //! ```
 //!
-//! Nothing here takes memory: a line is laid in an array and written before the next. What the cells are is left to
+//! Nothing here allocates: a line is laid in an array and written before the next. What the cells are is left to
 //! `desk_book`, and where the bytes go to `desk_ends`.
 #![tactic(auto)]
 

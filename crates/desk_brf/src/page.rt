@@ -61,7 +61,7 @@ fn end_page<K: Sink>(sink: &mut K, line: &mut Line, width: usize, number: u64) -
     send(sink, &[FORM_FEED])
 }
 
-/// Sends a line of text, and the end of its page where it is the last one there. `lines` counts those of the volume.
+/// Sends a line of text, and the end of its page if it is the last one there. `lines` counts those of the volume.
 pub(crate) fn put_line<K: Sink>(
     sink: &mut K,
     layout: &Layout,

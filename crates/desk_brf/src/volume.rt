@@ -20,7 +20,7 @@ use thiserror::Error;
 /// How many cells have none of the dots 7 and 8.
 const SIX_DOT_CELLS: u8 = 64;
 
-/// Why a volume was not exported, or not whole.
+/// Why a volume wasn't exported, or not whole.
 #[derive(Clone, Copy, Debug, PartialEq, Eq, Error)]
 pub enum ExportFault {
     /// The book has no such volume. No byte was written.
@@ -39,7 +39,7 @@ pub enum ExportFault {
     Write,
 }
 
-/// Whether all cells have the dots 1 to 6 alone. It doesn't stop at one that has more, so that many cells are looked at
+/// Whether all cells have only the dots 1 to 6. It doesn't stop at one that has more, so that many cells are looked at
 /// together.
 fn are_six_dot(cells: &[Cell]) -> bool
     ensures { IsTrue result → All IsSixDot cells.now }
@@ -68,7 +68,7 @@ fn first_eight_dot(cells: &[Cell]) -> Option<usize>
     None
 }
 
-/// Says that the volume is there, and that its cells have the dots 1 to 6 alone.
+/// Says that the volume is there, and that its cells have only the dots 1 to 6.
 fn check_volume(book: &Book, volume: u64) -> Result<(), ExportFault>
     ensures { IsJudged book.now volume result }
 {
@@ -141,13 +141,13 @@ fn put_volume<K: Sink>(
     Ok(lines / text_lines)
 }
 
-/// Sends the volume with a number, counted from 1, and gives the number of its pages. It takes no memory, and doesn't
+/// Sends the volume with a number, counted from 1, and gives the number of its pages. It allocates nothing, and doesn't
 /// flush the sink.
 ///
 /// # Errors
 ///
-/// `NoVolume` exactly where the book has no such volume; else `NotSixDots` exactly where a cell of it has dot 7 or 8, with
-/// the first in the order of the volume. At both the sink is as it was. `Write` only where the sink can fail, and what
+/// `NoVolume` exactly if the book has no such volume; otherwise `NotSixDots` exactly if a cell of it has dot 7 or 8, with
+/// the first in the order of the volume. After either the sink is as it was. `Write` only if the sink can fail, and what
 /// went out is then a beginning of the volume.
 pub fn export<K: Sink>(
     book: &Book,

@@ -5,7 +5,7 @@ ghost use Rattle.std.specs.Prelude.{◌≡◌, ◌<◌, ◌≤◌, All, length};
 
 use cell_core::Cell;
 
-/// The cells from the first one on that is not blank.
+/// The cells from the first one on that isn't blank.
 pub(crate) fn skip_blanks(cells: &[Cell]) -> &[Cell]
     ensures words { words result.now ≡ words cells.now }
     ensures at_word { IsAtWord result.now }

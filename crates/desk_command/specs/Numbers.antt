@@ -1,4 +1,4 @@
--- The numbers by which limits and refusals are told.
+-- The numbers of limits and refusals in replies.
 use Rattle.std.specs.Prelude.{ℕ}
 use Rattle.desk_command.specs.declared.refusal.Limit.{Limit}
 use Rattle.desk_command.specs.declared.refusal.Limit.TheVariants.{Tables, Paragraphs, Entries, Marks, Version}

@@ -38,7 +38,7 @@ pub enum Command {
         paragraph: u64,
         /// The place of the first of the characters, from 0.
         start: usize,
-        /// How many characters give way.
+        /// How many characters are replaced.
         count: usize,
         /// What is put in their place; its Unicode normal form C is kept.
         text: Text,
@@ -46,8 +46,9 @@ pub enum Command {
         /// or U+0000.
         who: Text,
     },
-    /// Takes back the newest correction of a paragraph that is in force. It is one more entry of the history, moves marks as the
-    /// replacement that puts back what gave way, and is refused where the paragraph's table of now doesn't define the print.
+    /// Takes back the newest correction of a paragraph that is in force. It is one more entry of the history, moves marks like
+    /// the replacement that puts back what had been replaced, and is refused if the paragraph's present table doesn't define the
+    /// print.
     Undo {
         /// The paragraph.
         paragraph: u64,
@@ -63,7 +64,7 @@ pub enum Command {
         /// The proofreader's note, which is kept as it is given.
         note: Text,
     },
-    /// Says that a mark is dealt with.
+    /// Says that a mark has been dealt with.
     Resolve {
         /// The mark's id.
         mark: u64,

@@ -1,7 +1,7 @@
 //! What is asked of a book, and why it is refused.
 //!
 //! A command has texts, which contracts see as the codes of their characters, and a table's text, which is bytes. A
-//! refusal is told by its number, and some with further numbers: a place, a paragraph or what is at its limit.
+//! refusal is reported by its number, and some with further numbers: a place, a paragraph or what is at its limit.
 //!
 //! ```rust
 //! use desk_command::{Anchor, Command, Refusal, Text};
@@ -11,7 +11,7 @@
 //! assert_eq!(rt; Refusal::NoParagraph.code(), 2);
 //! ```
 //!
-//! When a command is refused, and what it does, is said by the book, in `desk_book`.
+//! `desk_book` says when a command is refused, and what it does.
 #![tactic(auto)]
 
 mod command;

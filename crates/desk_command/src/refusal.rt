@@ -6,7 +6,7 @@ use louis_table::TableFault;
 use std::alloc::AllocError;
 use thiserror::Error;
 
-/// What a book holds at most: a command that would add to it is refused.
+/// A limit of a book: a command that would go beyond it is refused.
 #[derive(Clone, Copy, Debug, PartialEq, Eq)]
 pub enum Limit {
     /// 16 tables.
@@ -104,7 +104,7 @@ pub enum Refusal {
         /// The first place of one, from 0.
         place: usize,
     },
-    /// An allocation was refused.
+    /// An allocation failed.
     #[error("out of memory")]
     NoMemory,
 }

@@ -1,4 +1,4 @@
--- An input is cut into requests in just one way, and so are the bytes before a read that failed.
+-- An input is cut into requests in exactly one way, and so are the bytes before a read that failed.
 use Rattle.std.proofs.Common.{◌≡◌, ◌≢◌, ℕ, zero, suc, ◌+◌, ◌≤◌, List, [], ◌∷◌, ◌++◌, length, Option, Some, None, refl, sym, ap, subst, ◌∙◌, append_assoc, inl, inr, arith}
 use Rattle.std.proofs.lemmas.List.{append-nil, length-append}
 use Rattle.louis_table.specs.Lines.{lines_of}

@@ -116,7 +116,7 @@ mark-says fields directive e =
 
 -- ---- the word of a command
 
--- the word is this text, and the command is so read; or another case tells it
+-- the word is this text, and the command is so read; or another case has it
 worded : (word text : List ℕ) (fields : List (List ℕ)) (directive : Directive) (this others : Option Directive) → (this ≡ Some directive → SaysDirective (text ∷ fields) directive)
     → (others ≡ Some directive → SaysDirective (word ∷ fields) directive) → cond (bytes_eq word text) this others ≡ Some directive → SaysDirective (word ∷ fields) directive
 worded word text fields directive this others f g e =

@@ -1,4 +1,4 @@
--- The fields after the word of a head line, and what is made of them.
+-- The fields after the word of a head line, and what they give.
 use Rattle.std.proofs.Common.{◌≡◌, ℕ, List, [], ◌∷◌, Option, Some, None, refl, ap, ◌∙◌}
 use Rattle.std.specs.Option.{option_and_then}
 use Rattle.desk_line.specs.Fields.{IsNumber}
@@ -6,7 +6,7 @@ use Rattle.desk_line.specs.Reading.{only_one, only_two, of_both, of_three, numbe
 use Rattle.desk_line.proofs.HeadLines.{some-is}
 use Rattle.desk_line.proofs.OperandLaws.{mapped, followed, number-read, number-found}
 
--- both of what is made of two
+-- both of what two give
 pub made-of-both : {A B C : Type 0} (make : A → B → C) (p : Option A) (q : Option B) (z : C) → of_both make p q ≡ Some z
     → (x : A) × (y : B) × (p ≡ Some x) × (q ≡ Some y) × (make x y ≡ z)
 made-of-both make None q z e = absurd cc
@@ -48,7 +48,7 @@ module _ {A B C : Type 0} (first : List ℕ → Option A) (second : List ℕ →
   pub two-found : (a b : List ℕ) (x : A) (y : B) → first a ≡ Some x → second b ≡ Some y → with_two first second make (a ∷ b ∷ []) ≡ Some (make x y)
   two-found a b x y e f = rw (e, f)
 
--- one number alone, and what is made of it
+-- one number alone, and what it gives
 pub numbered-read : {A : Type 0} (make : ℕ → Option A) (fields : List (List ℕ)) (z : A) → option_and_then make (paragraph_in fields) ≡ Some z
     → (number : List ℕ) × (id : ℕ) × IsNumber number id × (fields ≡ number ∷ []) × (make id ≡ Some z)
 numbered-read make fields z e =

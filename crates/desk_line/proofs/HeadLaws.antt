@@ -61,12 +61,12 @@ head-read line head e =
 
 -- ---- what is said is read
 
--- the fields are no query's, and no version stands before their word
+-- the fields aren't a query's, and no version stands before their word
 record IsCommandLike (fields : List (List ℕ)) : Type 0 where
   no_query : query_in fields ≡ None
   no_version : command_in fields ≡ option_map (λ directive. Do directive None) (directive_in fields)
 
--- a command's word is no query's, and begins with no at sign
+-- a command's word isn't a query's, and doesn't begin with an at sign
 like : (word : List ℕ) (fields : List (List ℕ)) → bytes_eq word (codes "where") ≡ false → bytes_eq word (codes "whence") ≡ false → lone_query word ≡ None
     → ((id : ℕ) → paragraph_query word id ≡ None)
     → command_in (word ∷ fields) ≡ option_map (λ directive. Do directive None) (directive_in (word ∷ fields)) → IsCommandLike (word ∷ fields)

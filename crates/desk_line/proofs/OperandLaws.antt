@@ -36,7 +36,7 @@ taken false x z e = absurd cc
 pub word-is : (field word : List ℕ) → bytes_eq field word ≡ true → field ≡ word
 word-is field word t = (bytes_eq-Decides field word).0 t
 
--- what is made of something that is there
+-- what something that is there gives
 pub mapped : {A B : Type 0} (make : A → B) (o : Option A) (z : B) → option_map make o ≡ Some z → (x : A) × (o ≡ Some x) × (make x ≡ z)
 mapped make None z e = absurd cc
 mapped make (Some x) z e = (x, refl, some-is (make x) z e)
@@ -167,7 +167,7 @@ flag-found field set (off e is) = ap flag_in e ∙ ap Some (sym is)
 some-none : {A : Type 0} (x : A) → Some x ≡ None → ⊥
 some-none x e = cc
 
--- digits are no word
+-- digits aren't a word
 not-a-word : (field word : List ℕ) (number : ℕ) → IsNumber field number → number_in word ≡ None → bytes_eq field word ≡ false
 not-a-word field word number h none =
     elim (cases_Bool (bytes_eq field word)) [

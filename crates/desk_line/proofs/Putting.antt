@@ -21,7 +21,7 @@ pub IsSent-same : (F : Type 0) (before now : Option (List ℕ)) (waiting : Waiti
     → IsSent F before now waiting text → IsSent F before now waiting other
 IsSent-same F before now waiting text other e h = subst (IsSent F before now waiting) e h
 
--- a byte waits more
+-- a further byte is in the output buffer
 pub IsSent-push : (F : Type 0) (before now : Option (List ℕ)) (was waiting : Waiting) (text piece : List ℕ) → waiting.block ≡ was.block ++ piece
     → waiting.is_broken ≡ was.is_broken → IsSent F before now was text → IsSent F before now waiting (text ++ piece)
 IsSent-push F before now was waiting text piece b s (going out appends begins e) =
@@ -35,7 +35,7 @@ pub IsSent-broken : (F : Type 0) (before now : Option (List ℕ)) (was waiting :
 IsSent-broken F before now was waiting text b s (going out appends begins e) = absurd (both_ways was.is_broken e b)
 IsSent-broken F before now was waiting text b s (broken out rest appends begins e f) = broken out rest appends begins s f
 
--- what waited is sent
+-- the output buffer is sent
 pub IsSent-passed : (F : Type 0) (before now new : Option (List ℕ)) (was waiting : Waiting) (text : List ℕ) (ok : Bool) → was.is_broken ≡ false
     → Sent F now new was.block [] ok → waiting.block ≡ [] → waiting.is_broken ≡ not ok → IsSent F before now was text → IsSent F before new waiting text
 IsSent-passed F before now new was waiting text true b s empty e (going out appends begins g) =

@@ -12,7 +12,7 @@ use Rattle.desk_line.proofs.HeadLines.{some-is}
 use Rattle.desk_line.proofs.FieldParts.{two-read, numbered-read, numbered-found}
 use Rattle.desk_line.proofs.OperandLaws.{chosen, word-is, mapped, number-read, number-found}
 
--- the word is this text, and the query is so read; or another case tells it
+-- the word is this text, and the query is so read; or another case has it
 worded : (word text : List ℕ) (fields : List (List ℕ)) (query : Query) (this others : Option Query) → (this ≡ Some query → SaysQuery (text ∷ fields) query)
     → (others ≡ Some query → SaysQuery (word ∷ fields) query) → cond (bytes_eq word text) this others ≡ Some query → SaysQuery (word ∷ fields) query
 worded word text fields query this others f g e =

@@ -119,7 +119,7 @@ pub no-paragraph-asked : (book : Book) (query : Query) (id : ℕ) (refusal : Ref
     → (refusal ≡ refusals.NoParagraph) × (paragraph_of book id ≡ None) → Refuses book query refusal
 no-paragraph-asked book query id refusal asks h = no_paragraph id asks h.1 h.0
 
--- a refusal that tells no more than its code
+-- a refusal with nothing but its code
 pub no-details : (refusal : Refusal)
     → (refusal ≡ refusals.BadName) ⊎ ((refusal ≡ refusals.BadReader) ⊎ ((refusal ≡ refusals.NoParagraph) ⊎ ((refusal ≡ refusals.NoTable)
     ⊎ ((refusal ≡ refusals.NoMark) ⊎ ((refusal ≡ refusals.Struck) ⊎ ((refusal ≡ refusals.NotStruck) ⊎ ((refusal ≡ refusals.Resolved)

@@ -90,7 +90,7 @@ request-found bytes request r =
     (ap (λ (lines : List (List ℕ)). are_lines lines (block_lines r.head)) (sym block) ∙ lines-tested r.block (block_lines r.head) r.whole r.short)
     ∙ ap Some (sym r.is))
 
--- bytes are one request at most
+-- bytes are at most one request
 pub one-request : (bytes : List ℕ) (this that : Request) → Reads bytes this → Reads bytes that → this ≡ that
 one-request bytes this that a b = some-is this that (sym (request-found bytes this a) ∙ request-found bytes that b)
 
@@ -110,7 +110,7 @@ takes-some line head e = said head (head-read line head e) refl
 pub takes-none : (line : List ℕ) → head_of line ≡ None → Takes line 0
 takes-none line e = unsaid (λ head s. some-none head (head_of line) (head-found line head s) e) refl
 
--- what takes lines asks for memory
+-- what takes lines allocates
 directive-asks : (directive : Directive) → 0 < directive_block_lines directive → HasText (command_of directive [])
 directive-asks (Table name count) some = tt
 directive-asks (Supply name) some = absurd (omega arith)

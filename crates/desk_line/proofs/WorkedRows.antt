@@ -278,7 +278,7 @@ table-of-a-bad-name =
     (does None (fields_of (codes "table T 1")) (directives.Table (codes "T") 1) (text-of-line (codes "table T 1") (lit≤ tt) refl refl)
     (nothing refl refl) (table (codes "T") (codes "1") 1 (λ n. cc) one-is-a-number (lit≤ tt) refl refl) refl) refl
 
--- of bytes after which a read failed, a line that is cut is no request
+-- of bytes after which a read failed, a line that is cut isn't a request
 none-within-a-line : (request later : List ℕ) → codes "strike" ≡ request ++ later → ¬ IsWhole request
 none-within-a-line request later e w =
     let feeds-of = feeds-append request later in
@@ -346,7 +346,8 @@ shown-quote = refl
 shown-nothing : shown_line [] ≡ codes "| \n"
 shown-nothing = refl
 
--- the replies to a query of the version, to one of a paragraph that isn't there, to what is no request, and where a command could not be kept
+-- the replies to a query of the version, to one of a paragraph that isn't there, to what isn't a request, and to a
+-- command that couldn't be kept
 reply-of-the-version : IsReply empty_book (answers.Asked queries.Version) (codes "end 0\n")
 unfolding digits
 reply-of-the-version = shown [] (shows_version refl refl) refl
@@ -365,7 +366,7 @@ reply-where-nothing-was-kept = refl
 
 -- ---- what is replied to requests
 
--- a query is answered on the book as it is, and what is no request by code 1
+-- a query is answered on the book as it is, and what isn't a request by code 1
 asked-and-replied : Replies (codes "version\n") empty_book empty_book (codes "end 0\n")
 unfolding encode_utf8
 asked-and-replied = record {

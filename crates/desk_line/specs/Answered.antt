@@ -1,4 +1,4 @@
--- What becomes of a request, and what is replied to it.
+-- What is answered to a request, and the reply to it.
 use Rattle.std.specs.Prelude.{◌≡◌, ℕ, List, Option}
 use Rattle.desk_command.specs.declared.command.Command.{Command}
 use Rattle.desk_command.specs.declared.refusal.Refusal.{Refusal}
@@ -16,8 +16,8 @@ use Rattle.desk_line.specs.Reply.{IsReply}
 use Rattle.desk_line.specs.Request.{AsksForMemory, Reads, Tells}
 
 -- a request of these bytes to a book is answered so, and this is the book after it: the next one with a command's own
--- number where it is accepted, and else the same, also where the store failed to keep what the command makes. Memory may be
--- wanting while a command with a text or a name is read, whatever the lines after its head line are, or while it is planned
+-- number if it is accepted, and else the same, also if the store failed to keep what the command makes. An allocation may
+-- fail while a command with a text or a name is read, whatever the lines after its head line are, or while it is planned
 pub data IsAnswered (bytes : List ℕ) (book next : Book) (answer : Answer) : Type 0 where
   accepted : (command : Command) (expect : Option ℕ) → Reads bytes (Do command expect) → IsAccepted book expect command
       → Makes book command next → answer ≡ answers.Done (number_of book command) → IsAnswered bytes book next answer

@@ -26,8 +26,8 @@ pub record IsSpanText (fields : List (List ℕ)) (span : SpanText) : Type 0 wher
   pub count : IsNumber size span.count
   pub text : span.text ≡ joined rest
 
--- the fields give this command; of a table, its text is still to come in so many lines. A typed text is the rest of the
--- line, with its blanks; before an empty one the blank may be missing
+-- the fields give this command; for a table, its text is still to come in this many lines. A typed text is the rest of
+-- the line, with its blanks; before an empty one the blank may be missing
 pub data SaysDirective (fields : List (List ℕ)) (directive : Directive) : Type 0 where
   table : (name number : List ℕ) (count : ℕ) → IsName name → IsNumber number count → count ≤ most_lines
       → fields ≡ codes "table" ∷ name ∷ number ∷ [] → directive ≡ Table name count → SaysDirective fields directive

@@ -1,4 +1,4 @@
--- How much a request may hold.
+-- How long a request may be.
 use Rattle.std.specs.Prelude.{ℕ}
 
 -- bytes of a line, its ending aside

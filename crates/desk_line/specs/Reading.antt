@@ -47,7 +47,7 @@ abbrev pub only_two : List (List ℕ) → Option (List ℕ × List ℕ)
 only_two [] = None
 only_two (x ∷ xs) = option_map (λ y. (x, y)) (only_one xs)
 
--- what is made of two, if both are there
+-- what two give, if both are there
 abbrev pub of_both : {A B C : Type 0} → (A → B → C) → Option A → Option B → Option C
 of_both make None b = None
 of_both make (Some a) b = option_map (make a) b
@@ -240,7 +240,7 @@ head_of line = if nat_le (length line) most_line_bytes && is_utf8 line then head
 abbrev pub head_line : List ℕ → List ℕ
 head_line bytes = strip_last 13 (before_first (λ b. b == 10) bytes)
 
--- whether the lines are so many, and none too long
+-- whether there are this many lines, none of them too long
 abbrev pub are_lines : List (List ℕ) → ℕ → Bool
 are_lines [] count = count == 0
 are_lines (line ∷ lines) count = nat_lt 0 count && nat_le (length line) most_line_bytes && are_lines lines (count - 1)
@@ -251,7 +251,7 @@ with_text text head = if are_lines (lines_of text) (block_lines head) then Some 
 unfoldable pub request_in : List ℕ → Option Request
 request_in bytes = option_and_then (with_text (after_first_line bytes)) (head_of (head_line bytes))
 
--- a result gives what was found; where it gives no memory, that is a command which has a text or a name
+-- a result gives what was found; if it is that an allocation failed, that is a command which has a text or a name
 abbrev pub Gives : Result Request Fault → Option Request → Type 0
 Gives (Ok request) found = found ≡ Some request
 Gives (Err Syntax) found = found ≡ None

@@ -35,7 +35,7 @@ word_and word numbers = line_of (word ∷ map decimal numbers)
 
 -- ---- refusals
 
--- the numbers that a refusal tells after its code
+-- the numbers of a refusal after its code
 abbrev pub details : Refusal → List ℕ
 details (refusals.Moved version) = version ∷ []
 details (refusals.BadText place) = place ∷ []
@@ -82,7 +82,7 @@ abbrev pub listed : Paragraph → List ℕ
 listed paragraph = joined (decimal paragraph.id ∷ shown_text paragraph.table ∷ style_word paragraph.style
     ∷ volume_word paragraph.begins_volume ∷ life_word paragraph.struck ∷ decimal (length (print_of paragraph)) ∷ [])
 
--- a correction, with the name of its proofreader where somebody is named
+-- a correction, with the name of its proofreader if somebody is named
 abbrev pub correction_line : ℕ → Replacement → List ℕ → List ℕ
 correction_line number r [] =
     joined (decimal number ∷ codes "correct" ∷ decimal r.start ∷ decimal r.count ∷ shown_text r.text ∷ [])
@@ -124,7 +124,7 @@ pub data ShowsLines (book : Book) (query : Query) (lines : List (List ℕ)) : Ty
   list : query ≡ queries.List → lines ≡ map listed book.paragraphs → ShowsLines book query lines
   version : query ≡ Version → lines ≡ [] → ShowsLines book query lines
 
--- the paragraph that a query asks of, if it asks of one
+-- the paragraph that a query names, if it names one
 abbrev pub paragraph_asked : Query → Option ℕ
 paragraph_asked (Print id) = Some id
 paragraph_asked (Braille id) = Some id
@@ -196,7 +196,7 @@ abbrev pub AddsReply : Type 0 → (now new : Option (List ℕ)) → (was waiting
 AddsReply CanFail now new was waiting book answer =
     (text : List ℕ) × IsReply book answer text × Adds CanFail now new was waiting text
 
--- what went out is a beginning of a reply to the request, and all of it where that succeeded
+-- what went out is a beginning of a reply to the request, and all of it if that succeeded
 pub record IsReplied (CanFail : Type 0) (old new : Option (List ℕ)) (book : Book) (answer : Answer) (whole : Bool) : Type 0 where
   pub text : List ℕ
   pub is : IsReply book answer text

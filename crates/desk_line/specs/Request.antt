@@ -40,14 +40,14 @@ abbrev pub block_lines : Head → ℕ
 block_lines (heads.Do directive expect) = directive_block_lines directive
 block_lines (heads.Ask query) = 0
 
--- how many lines a head line takes: those that it says, or none where it says nothing
+-- how many lines a head line takes: as many as it says, or none if it says nothing
 pub data Takes (line : List ℕ) (count : ℕ) : Type 0 where
   said : (head : Head) → Says line head → count ≡ block_lines head → Takes line count
   unsaid : ((head : Head) → ¬ Says line head) → count ≡ 0 → Takes line count
 
 -- ---- the requests of an input
 
--- a whole request: a head line and just as many lines after it as it takes, each ended by a line feed
+-- a whole request: a head line and exactly as many lines after it as it takes, each ended by a line feed
 pub record IsWhole (request : List ℕ) : Type 0 where
   pub line : List ℕ
   pub block : List (List ℕ)
@@ -111,7 +111,7 @@ abbrev pub request_of : Head → List ℕ → Request
 request_of (heads.Do directive expect) text = Do (command_of directive text) expect
 request_of (heads.Ask query) text = Ask query
 
--- the bytes are this request: a head line that says it, and just the lines that follow it, none of them too long
+-- the bytes are this request: a head line that says it, and exactly the lines that it takes, none of them too long
 pub record Reads (bytes : List ℕ) (request : Request) : Type 0 where
   pub line : List ℕ
   pub block : List (List ℕ)
@@ -122,7 +122,7 @@ pub record Reads (bytes : List ℕ) (request : Request) : Type 0 where
   pub short : AllByRecursion IsShort block
   pub is : request ≡ request_of head (after_first_line bytes)
 
--- the command has a text or a name, for which memory is taken
+-- the command has a text or a name, which is copied
 abbrev pub HasText : Command → Type 0
 HasText (commands.Table name text) = Unit {0}
 HasText (commands.TypeIn after table text) = Unit {0}
@@ -147,7 +147,8 @@ pub record AsksForMemory (bytes : List ℕ) : Type 0 where
   pub says : Says line (heads.Do directive expect)
   pub text : HasText (command_of directive [])
 
--- the fault is told of the bytes: they are no request; want of memory is told of commands alone that have a text or a name
+-- the fault is reported of the bytes: they aren't a request; a failed allocation is reported only of commands that have
+-- a text or a name
 abbrev pub Tells : List ℕ → Fault → Type 0
 Tells bytes Syntax = (request : Request) → ¬ Reads bytes request
 Tells bytes NoMemory = (command : Command) × (expect : Option ℕ) × Reads bytes (Do command expect) × HasText command

@@ -3,7 +3,8 @@ use Rattle.std.specs.Prelude.{◌≡◌, List, ℕ, ◌++◌, true, false, Optio
 use Rattle.std.specs.Io.KnownBytes.{Appends}
 use Rattle.desk_line.specs.declared.waiting.Waiting.{Waiting}
 
--- all of the text went out but what waits; or a beginning of it did, and sending was broken off
+-- all of the text went out except what is in the output buffer; or a beginning of it did, and
+-- sending was broken off
 pub data IsSent (CanFail : Type 0) (before now : Option (List ℕ)) (waiting : Waiting) (text : List ℕ) : Type 0 where
   going : (out : List ℕ) → Appends before now out → out ++ waiting.block ≡ text → waiting.is_broken ≡ false
       → IsSent CanFail before now waiting text

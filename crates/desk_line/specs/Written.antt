@@ -37,7 +37,7 @@ pub record IsWord (name : List ℕ) : Type 0 where
   pub some : name ≢ []
   pub no_blank : All (λ c. c ≢ 32) name
 
--- the name of a proofreader, where one is named
+-- the name of a proofreader, if one is named
 abbrev pub IsWordIfAny : List ℕ → Type 0
 IsWordIfAny [] = Unit {0}
 IsWordIfAny (c ∷ who) = IsWord (c ∷ who)
@@ -100,7 +100,7 @@ abbrev pub flag_field : Bool → List ℕ
 flag_field true = codes "on"
 flag_field false = codes "off"
 
--- a correction, with the name of its proofreader where somebody is named
+-- a correction, with the name of its proofreader if somebody is named
 abbrev pub correction_fields : (id start count : ℕ) → List ℕ → List ℕ → List (List ℕ)
 correction_fields id start count text [] =
     codes "correct" ∷ decimal id ∷ decimal start ∷ decimal count ∷ shown_text text ∷ []

@@ -19,7 +19,7 @@ pub(crate) struct SpanText<'a> {
     pub(crate) text: Field<'a>,
 }
 
-/// A command as its head line gives it: of a table, its text is still to come.
+/// A command as its head line gives it: for a table, its text is still to come.
 #[derive(Drop)]
 pub(crate) enum Directive<'a> {
     /// Adds or replaces a table, whose text are the next lines.
@@ -47,7 +47,7 @@ pub(crate) enum Directive<'a> {
     Correct {
         /// The characters and the text.
         span: SpanText<'a>,
-        /// The name of the proofreader who corrects, empty where nobody is named.
+        /// The name of the proofreader who corrects, empty if nobody is named.
         who: Field<'a>,
     },
     /// Takes back the newest correction of a paragraph that is in force.
@@ -60,7 +60,7 @@ pub(crate) enum Directive<'a> {
         /// The cells and the note.
         span: SpanText<'a>,
     },
-    /// Says that a mark is dealt with.
+    /// Says that a mark has been dealt with.
     Resolve {
         /// The mark.
         mark: u64,

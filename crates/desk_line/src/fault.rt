@@ -5,10 +5,10 @@ use thiserror::Error;
 /// Why bytes were not read as a request.
 #[derive(Clone, Copy, Debug, PartialEq, Eq, Error)]
 pub enum Fault {
-    /// They are no request.
+    /// They aren't a request.
     #[error("this is no request")]
     Syntax,
-    /// An allocation was refused. Only a command that has a text or a name takes memory.
+    /// An allocation failed. Only a command that has a text or a name allocates.
     #[error("out of memory")]
     NoMemory,
 }

@@ -89,7 +89,7 @@ impl<'a> Fields<'a> {
         self.rest.is_none()
     }
 
-    /// The field, if there is just one.
+    /// The field, if there is exactly one.
     pub(crate) fn one(self) -> Option<Field<'a>>
         ensures { result ≡ only_one self.entry }
     {
@@ -100,7 +100,7 @@ impl<'a> Fields<'a> {
         Some(field)
     }
 
-    /// Both fields, if there are just two.
+    /// Both fields, if there are exactly two.
     pub(crate) fn two(self) -> Option<(Field<'a>, Field<'a>)>
         ensures { result ≡ only_two self.entry }
     {

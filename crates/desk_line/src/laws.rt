@@ -10,7 +10,7 @@ ghost use Rattle.desk_line.specs.Written.{CanBeWritten, written};
 ghost use Rattle.desk_line.specs.declared.request.Request.{Request};
 ghost use Rattle.std.specs.Prelude.{◌≡◌, ◌++◌, ℕ, List};
 
-/// Bytes are one request at most.
+/// Bytes are at most one request.
 pub fn one_request()
     ensures { (bytes : List ℕ) (this that : Request) → Reads bytes this → Reads bytes that → this ≡ that }
 {}
@@ -21,7 +21,7 @@ pub fn requests_are_written()
     ensures { (request : Request) → CanBeWritten request → Reads (written request) request }
 {}
 
-/// An input is cut into requests in just one way.
+/// An input is cut into requests in exactly one way.
 pub fn one_cut()
     ensures some { (input : List ℕ) → (requests : List (List ℕ)) × Requests input requests }
     ensures one { (input : List ℕ) (this that : List (List ℕ)) → Requests input this → Requests input that → this ≡ that }
@@ -42,7 +42,7 @@ pub fn lines_after_bars()
         → IsSound book → RepliesToQuery book query text → EndsAfterBars text }
 {}
 
-/// The limits that the code compares with are those that the definitions write.
+/// The limits that the code compares with are those in the definitions.
 pub fn limits()
     ensures line_bytes { MOST_LINE_BYTES ≡ most_line_bytes }
     ensures digits { MOST_DIGITS ≡ most_digits }

@@ -1,4 +1,4 @@
-//! The requests that a book is asked in, and the replies, as lines of text.
+//! Requests to a book, and the replies, as lines of text.
 //!
 //! A request is a head line, and for `table` the lines that it announces. It is read whole into a command or a query; an
 //! answer is written as the lines of its reply.
@@ -10,8 +10,8 @@
 //! let request = read_request(alloc, b"type end en Hello\n")?;
 //! ```
 //!
-//! `desk_book` says what a request does to a book, and `desk_session` takes requests from an input and sends their replies, by the ends
-//! of `desk_ends`.
+//! `desk_book` says what a request does to a book; `desk_session` reads requests from an input and sends their replies, through the
+//! ends of `desk_ends`.
 #![tactic(auto)]
 
 mod answer;

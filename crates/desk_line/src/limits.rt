@@ -1,4 +1,4 @@
-//! How much a request may hold.
+//! How long a request may be.
 
 /// The most bytes that a line may have, its ending aside.
 pub const MOST_LINE_BYTES: usize = 65_536;

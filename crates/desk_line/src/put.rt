@@ -1,4 +1,4 @@
-//! Puts texts after what waits to be sent, without memory.
+//! Puts texts into the output buffer, and allocates nothing.
 ghost use Rattle.cell_core.specs.Cell.{braille_character};
 ghost use Rattle.desk_ends.specs.Cells.{text_of};
 ghost use Rattle.desk_ends.specs.Sent.{Sent};
@@ -14,7 +14,7 @@ use cell_core::Cell;
 use desk_ends::{Block, Sink, send};
 use itoa::Buffer;
 
-/// Sends what waits.
+/// Sends the output buffer.
 fn pass_on<K: Sink>(sink: &mut K, waiting: &mut Waiting)
     ensures sent { (before : Option (List ℕ)) (text : List ℕ)
         → IsSent K.can_fail before (K.contents sink.old) waiting.old text
@@ -29,7 +29,7 @@ fn pass_on<K: Sink>(sink: &mut K, waiting: &mut Waiting)
     waiting.block.clear();
 }
 
-/// Sends what waits if no cell more would fit.
+/// Sends the output buffer if no further cell would fit.
 #[inline(always)]
 fn make_room<K: Sink>(sink: &mut K, waiting: &mut Waiting)
     ensures sent { (before : Option (List ℕ)) (text : List ℕ)
@@ -165,7 +165,7 @@ pub(crate) fn put_fields<K: Sink>(sink: &mut K, waiting: &mut Waiting, fields: &
     put_byte(sink, waiting, b'\n');
 }
 
-/// Nothing that waits.
+/// An empty output buffer.
 pub(crate) fn nothing_waiting() -> Waiting
     ensures block { result.block ≡ [] }
     ensures going { result.is_broken ≡ false }

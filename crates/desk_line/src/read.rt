@@ -19,9 +19,9 @@ use louis_table::EN;
 use std::alloc::{AllocError, Global};
 
 /// How many lines follow a head line in its request. The head line is given without its ending, a line feed and one
-/// carriage return before it, and no line feed stands in it. It is 0 where the line takes none: a query, another command than
-/// `table`, a `table` line with the number 0, and a line that says nothing, as one that is too long, one that isn't UTF-8 and
-/// one that still has its ending.
+/// carriage return before it, and no line feed stands in it. It is 0 if the line takes none: a query, another command than
+/// `table`, a `table` line with the number 0, and a line that says nothing, such as one that is too long, isn't UTF-8 or
+/// still has its ending.
 pub fn lines_after(head: &[u8]) -> u64
     ensures { Takes head.now result }
 {
@@ -35,8 +35,7 @@ pub fn lines_after(head: &[u8]) -> u64
 ///
 /// # Errors
 ///
-/// `Syntax` exactly where the bytes are no request; `NoMemory` where an allocation for the text or a name of a command was
-/// refused.
+/// `Syntax` exactly if the bytes aren't a request; `NoMemory` if an allocation for the text or a name of a command failed.
 pub fn read_request(alloc: Global, bytes: &[u8]) -> Result<Request, Fault>
     ensures { MatchResult result (Reads bytes.now) (Tells bytes.now) }
 {
@@ -93,7 +92,7 @@ fn without_return(line: &[u8]) -> &[u8]
     }
 }
 
-/// Whether the bytes are so many lines, none of them too long.
+/// Whether the bytes are this many lines, none of them too long.
 fn are_lines(bytes: &[u8], count: u64) -> bool
     ensures { result ≡ are_lines (lines_of bytes.now) count }
 {

@@ -13,11 +13,11 @@ use desk_book::Book;
 use desk_command::Refusal;
 use desk_ends::Sink;
 
-/// Writes the reply to a request, by what became of it, on the book as it is then. It takes no memory.
+/// Writes the reply to a request, by the answer that it got, on the book as it is. It allocates nothing.
 ///
 /// # Errors
 ///
-/// Where a write failed. What went out is then a beginning of the reply.
+/// If a write failed. What went out is then a beginning of the reply.
 pub fn write_reply<K: Sink>(sink: &mut K, book: &Book, answer: &Answer) -> Result<(), Broken>
     ensures { IsReplied K.can_fail (K.contents sink.old) (K.contents sink.new)
         book.now answer.now (is_ok result) }
@@ -53,7 +53,7 @@ fn put_done<K: Sink>(sink: &mut K, waiting: &mut Waiting, book: &Book, number: O
     }
 }
 
-/// Puts a refusal with what it tells.
+/// Puts a refusal with its numbers.
 fn put_refusal<K: Sink>(sink: &mut K, waiting: &mut Waiting, refusal: Refusal)
     ensures { Adds K.can_fail (K.contents sink.old) (K.contents sink.new)
         waiting.old waiting.new (refusal_line refusal) }

@@ -1,7 +1,7 @@
 //! What is asked of a book.
 use desk_command::Command;
 
-/// What is asked of a book. No query changes it or takes memory.
+/// What is asked of a book. No query changes it or allocates.
 #[derive(Clone, Copy, Debug, PartialEq, Eq)]
 pub enum Query {
     /// The print of a paragraph.

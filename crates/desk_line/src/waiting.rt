@@ -1,10 +1,10 @@
-//! What waits to be sent.
+//! The output buffer.
 use desk_ends::Block;
 
-/// The end of a text that waits to be sent, and whether sending was broken off. Once it was, nothing more is sent.
+/// The end of a text that hasn't been sent yet, and whether sending was broken off. Then no more is sent.
 #[derive(Drop)]
 pub(crate) struct Waiting {
-    /// The bytes that wait.
+    /// The bytes that haven't been sent yet.
     pub(crate) block: Block,
     /// Whether a write failed.
     pub(crate) is_broken: bool,

@@ -12,7 +12,7 @@ pub data EntryRows : Type 0 where
   Unnamed : List Corr → EntryRows
   Named : List NamedCorr → EntryRows
 
--- The rows of the tables, those of each in any order; of `cache` where the file has it. The rowids of `tab` are hidden,
+-- The rows of the tables, those of each in any order; of `cache` if the file has it. The rowids of `tab` are hidden,
 -- and say nothing.
 pub record FileRows : Type 0 where
   pub books : List BookRow
@@ -27,7 +27,7 @@ abbrev pub format_of : EntryRows → ℕ
 format_of (Unnamed corrs) = 1
 format_of (Named corrs) = 2
 
--- the table that they are the rows of
+-- the table that has them as its rows
 abbrev pub table_of : EntryRows → FileTable
 table_of (Unnamed corrs) = CorrTable
 table_of (Named corrs) = NamedCorrTable

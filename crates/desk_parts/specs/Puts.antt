@@ -1,4 +1,4 @@
--- What is put into the rows of a book's file, and what becomes of them.
+-- What is put into the rows of a book's file, and the rows after it.
 use Rattle.std.specs.Prelude.{◌≡◌, ℕ, ℤ, pos, Bool, not, if◌then◌else◌, List, [], ◌∷◌, map, filter, fold, Option, option_map, option_to_list, MatchOption, IsSome, bytes_eq, encode_utf8_all}
 use Rattle.std.specs.List.{All}
 use Rattle.std.specs.Ordering.{int_eq}
@@ -14,7 +14,8 @@ use Rattle.desk_parts.specs.declared.put.Put.TheVariants as lent
 use Rattle.desk_parts.specs.FileRows.{EntryRows, FileRows, Named, Unnamed, table_of}
 use Rattle.desk_parts.specs.Rows.{Tab, Para, NamedCorr, Mark, Cached}
 
--- A row that is added, or replaces the one with its key, or columns that the row with a key gets. A text is its bytes.
+-- A row that is added, or replaces the one with its key, or columns that are set in the row with a key. A text is its
+-- bytes.
 pub data RowPut : Type 0 where
   PutBook : BookRow → RowPut
   PutTab : Tab → RowPut
@@ -117,7 +118,7 @@ with_para_set id set rows = record rows { paras = set_where (λ p. int_eq p.id i
 abbrev pub with_mark_set : ℤ → (Mark → Mark) → FileRows → FileRows
 with_mark_set id set rows = record rows { marks = set_where (λ m. int_eq m.id id) set rows.marks }
 
--- one entry more, where the table has names
+-- a further entry, if the table has names
 abbrev pub with_entry_row : NamedCorr → EntryRows → EntryRows
 with_entry_row row (Unnamed corrs) = Unnamed corrs
 with_entry_row row (Named corrs) = Named (row ∷ corrs)

@@ -3,7 +3,7 @@ use Rattle.std.specs.Prelude.{ℕ}
 use Rattle.desk_parts.specs.declared.file_table.FileTable.{FileTable}
 use Rattle.desk_parts.specs.declared.file_table.FileTable.TheVariants.{Book, Tab, Para, Corr, Mark, Cache, NamedCorr}
 
--- the number that stands for a table in a reply
+-- the number of a table in a reply
 abbrev pub table_number : FileTable → ℕ
 table_number Book = 1
 table_number Tab = 2

@@ -22,7 +22,7 @@ pub enum FileTable {
 }
 
 impl FileTable {
-    /// The number that stands for it in a reply, from 1.
+    /// Its number in a reply, from 1.
     pub fn number(self) -> u8
         ensures { result ≡ table_number self }
     {

@@ -1,7 +1,7 @@
 //! The parts of a book's file as plain values: its tables, their rows, and what is put into them.
 //!
-//! A row holds what stands in its table, whether it makes sense or not. What rows show of a book, and what is wrong with
-//! those that show none, is said by `desk_book`; how they are read from a file and put into it, by `desk_rows`.
+//! A row holds what stands in its table, whether it makes sense or not. `desk_book` says what rows show of a book, and
+//! what is wrong with those that show none; `desk_rows` reads them from a file and puts them into it.
 //!
 //! ```rust
 //! use desk_parts::{FileTable, Put};

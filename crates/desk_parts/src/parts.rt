@@ -16,7 +16,7 @@ pub enum EntryRows {
 }
 
 impl EntryRows {
-    /// The table that they are the rows of.
+    /// The table that has them as its rows.
     pub fn table(&self) -> FileTable
         ensures { result ≡ table_of (entry_rows self.now) }
     {
@@ -40,6 +40,6 @@ pub struct Parts {
     pub entries: EntryRows,
     /// The rows of `mark`.
     pub marks: Vec<MarkRow>,
-    /// The rows of `cache`, where the file has it.
+    /// The rows of `cache`, if the file has it.
     pub cache: Option<Vec<CacheRow>>,
 }

@@ -29,9 +29,9 @@ pub struct ParaPut<'a> {
     pub print: &'a [char],
     /// 0 for body, 1 for a heading.
     pub style: i64,
-    /// 1 where a volume begins.
+    /// 1 if a volume begins with it.
     pub volume: i64,
-    /// 1 where the paragraph is struck.
+    /// 1 if the paragraph is struck.
     pub struck: i64,
 }
 
@@ -48,9 +48,9 @@ pub struct MarkPut<'a> {
     pub stop: i64,
     /// The proofreader's note.
     pub note: &'a str,
-    /// 1 where a correction has touched the span.
+    /// 1 if a correction has touched the span.
     pub touched: i64,
-    /// 1 where the mark is resolved.
+    /// 1 if the mark is resolved.
     pub resolved: i64,
 }
 
@@ -74,7 +74,7 @@ pub struct NamedCorrPut<'a> {
     pub kind: i64,
     /// The place at which the correction begins, counted from 0, or the number of the entry that is undone.
     pub start: i64,
-    /// How many characters the correction takes away.
+    /// How many characters the correction replaces.
     pub len: i64,
     /// The text that the correction puts in.
     pub body: &'a str,
@@ -82,8 +82,7 @@ pub struct NamedCorrPut<'a> {
     pub who: &'a str,
 }
 
-/// A row that is added, or replaces the one with its key, or columns of a row that is there, which the row with that key
-/// gets.
+/// A row that is added, or replaces the one with its key, or columns that are set in the row with a key.
 #[derive(Clone, Copy, Debug)]
 pub enum Put<'a> {
     /// The row of `book`.
@@ -111,9 +110,9 @@ pub enum Put<'a> {
         id: i64,
         /// 0 for body, 1 for a heading.
         style: i64,
-        /// 1 where a volume begins.
+        /// 1 if a volume begins with it.
         volume: i64,
-        /// 1 where the paragraph is struck.
+        /// 1 if the paragraph is struck.
         struck: i64,
     },
     /// The braille table of a paragraph.
@@ -138,14 +137,14 @@ pub enum Put<'a> {
         start: i64,
         /// The place after the last character that is marked.
         stop: i64,
-        /// 1 where a correction has touched the span.
+        /// 1 if a correction has touched the span.
         touched: i64,
     },
     /// Whether a mark is resolved.
     Resolved {
         /// The mark's id.
         id: i64,
-        /// 1 where the mark is resolved.
+        /// 1 if the mark is resolved.
         resolved: i64,
     },
     /// The version of the book.

@@ -61,9 +61,9 @@ pub struct ParaRow {
     pub print: String,
     /// 0 for body, 1 for a heading.
     pub style: i64,
-    /// 1 where a volume begins.
+    /// 1 if a volume begins with it.
     pub volume: i64,
-    /// 1 where the paragraph is struck.
+    /// 1 if the paragraph is struck.
     pub struck: i64,
 }
 
@@ -84,7 +84,7 @@ pub struct CorrRow {
     pub kind: i64,
     /// The place at which the correction begins, counted from 0, or the number of the entry that is undone.
     pub start: i64,
-    /// How many characters the correction takes away.
+    /// How many characters the correction replaces.
     pub len: i64,
     /// The text that the correction puts in.
     pub body: String,
@@ -124,9 +124,9 @@ pub struct MarkRow {
     pub stop: i64,
     /// The proofreader's note.
     pub note: String,
-    /// 1 where a correction has touched the span.
+    /// 1 if a correction has touched the span.
     pub touched: i64,
-    /// 1 where the mark is resolved.
+    /// 1 if the mark is resolved.
     pub resolved: i64,
 }
 

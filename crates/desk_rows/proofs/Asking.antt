@@ -1,4 +1,4 @@
--- How a read that fails is told.
+-- How a read that fails is reported.
 use Rattle.std.proofs.Common.{◌≡◌, ◌≢◌, ℕ, List, [], Ok, Err, Result, IfErr, refl}
 use Rattle.std.specs.List.{AllByRecursion}
 use Rattle.sqlite_value.specs.Order.{Row}
@@ -27,17 +27,17 @@ module _ {X : Type 0} (asked : Asked) (written : X → Row) (before after : Stat
   fails_to_read rows shown (Err Lost) not_lost kinds begins = absurd (not_lost refl)
   fails_to_read rows shown (Err Refused) not_lost kinds begins = unreadable rows shown (λ all. absurd (let none = kinds all in cc)) refl
 
--- where only the store makes a query fail, it is told as that
+-- if only the store makes a query fail, it is reported as that
 pub never_refused : (text : List ℕ) (params : Row) (old new : State) (fault : Fault) → ((e : Error) → FailsToQuery text params old new e → (cause : StoreError) × (e ≡ store_error cause))
     → (e : Error) × FailsToQuery text params old new e × IsToldAs e fault → fault ≢ Refused
 never_refused text params old new fault fails (e, fails_so, told) refused = let store = fails e fails_so in subst (IsToldAs e) refused told store.0 store.1
 
--- want of memory is no refusal
+-- a failed allocation isn't a refusal
 pub not_refused : {A : Type 0} (r : Result A Fault) → IfErr r (λ fault. fault ≡ NoMemory) → IfErr r (λ fault. fault ≢ Refused)
 not_refused (Ok a) none = tt
 not_refused (Err fault) none = λ refused. absurd (let both = sym none ∙ refused in cc)
 
--- a fault of another cause than the store's is told of a file that is as it was
+-- a fault of another cause than the store's is reported of a file that is as it was
 pub refused_as_it_was : (text : List ℕ) (is : reads (first text) ≡ true) (params : Row) (old new : State) (fault : Fault) → (e : Error) × FailsToQuery text params old new e × IsToldAs e fault → fault ≡ Refused → IsUnchanged old new
 refused_as_it_was text is params old new fault (e, fails_so, told) refused = elim (refused_quietly text is params old new e fails_so) [
   | inl store ↦ absurd (subst (IsToldAs e) refused told store.0 store.1)

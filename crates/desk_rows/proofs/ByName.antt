@@ -1,4 +1,4 @@
--- What the statement that puts a braille table by its name makes of `tab`, whose rowid is hidden.
+-- What the statement that puts a braille table by its name does to `tab`, whose rowid is hidden.
 use Rattle.std.proofs.Common.{◌≡◌, inl, inr, ℕ, ℤ, ◌+◌, ◌<◌, ◌≤◌, false, ◌==◌, List, [], ◌∷◌, ◌++◌, Option, filter, drop, length, codes, bytes_eq, not, Some, Ok, refl, sym, ap, subst, ◌∙◌}
 use Rattle.sqlite_value.specs.declared.keys.Collation.TheVariants.{Binary}
 use Rattle.sqlite_value.specs.declared.value.Value.TheVariants.{Null, Int, Text, Blob}

@@ -1,4 +1,4 @@
--- What a statement that puts rows makes of the contents.
+-- What a statement that puts rows does to the contents.
 use Rattle.std.proofs.Common.{◌≡◌, ◌++◌, ◌≢◌, ◌⊎◌, inl, inr, ℕ, true, false, List, [], ◌∷◌, Ok, Err, IfErr, OnOk, refl, sym, subst, ◌∙◌, true≢false, bytes_eq, Result}
 use Rattle.std.specs.List.{AllByRecursion}
 use Rattle.sqlite_trees.specs.Tree.{Trees}
@@ -125,7 +125,7 @@ module _ (x : BookRow) (old new : State) where
   puts_row (Ok v) it = (it.put, it.ran)
   puts_row (Err e) it = tt
 
-  -- it takes no memory of its own
+  -- it allocates nothing of its own
   pub row_told : (r : Result (Unit {0}) Error) → IsPut r (PutBook x) old new → old.in_transaction ≡ true → IfErr r (Failed (row_put books x) old new)
   row_told (Ok v) it was = tt
   row_told (Err e) it was = elim (it.told was) [ inl failed ↦ failed | inr none ↦ absurd none.0 ]

@@ -1,4 +1,4 @@
--- The rows of a file can be read where the texts of its contents are UTF-8.
+-- The rows of a file can be read if the texts of its contents are UTF-8.
 use Rattle.std.proofs.Common.{◌≡◌, true, drop, refl, true≢false}
 use Rattle.std.specs.List.{AllByRecursion}
 use Rattle.sqlite_value.specs.Order.{Row}
@@ -61,7 +61,7 @@ module _ (l : Layout) (c : Contents) (db : Trees) (is : IsFile l c db) where
   pub rowids : (w : Which) → l.has w ≡ true → shows_rowid w ≡ true → HaveIntegerRowids (db (l.tree w))
   rowids w there shows = (is.holds.ids w there (is_changed w shows)).integers
 
-  -- those of one table, where its texts are UTF-8
+  -- those of one table, if its texts are UTF-8
   pub readable_table : (w : Which) → l.has w ≡ true → AllByRecursion (IsUtf8Row w) (c.rows w) → AreReadable w (db (l.tree w))
   readable_table w there utf8 =
       let texts = in_rows (written w) (picked (described w).own) (IsUtf8Row w) (columns_utf8 w) (c.rows w) (db (l.tree w)) utf8 (is.holds.tables w there) in

@@ -1,4 +1,4 @@
--- An error that is told as lost comes with a failure that the connection counts, or something was too big.
+-- An error that is reported as lost comes with a failure that the connection counts, or it was too big.
 use Rattle.std.proofs.Common.{◌≡◌, ◌≢◌, ◌⊎◌, inl, inr, ℕ, ◌≤◌, List, [], ◌∷◌, map, Option, arith, refl, sym, subst, ◌∙◌, true≢false}
 use Rattle.std.specs.Prelude.{⊤}
 use Rattle.sqlite_disk.specs.Disk.{MoreFaults}

@@ -296,7 +296,7 @@ begins_making g old sound = record {
 }
 
 module _ {S : Type 0} (g : Ghosts S) (old mid last : Held S) where
-  -- what the making within a transaction, and the putting of the row of a new book, made of what was there
+  -- what making tables within a transaction, and putting the row of a new book, did to what was there
   pub whole : MakesTables new_tables (state g (record old { in_transaction = true })) (state g mid) → IsTrue (state g old).is_open → PutsRow books first_row (state g mid) (state g last)
       → AreAbsent old.schema × (IsLive (state g old) → IsNew old.schema (state g old).now.trees (λ c. Shows (made old.schema) c (state g last)))
   whole makes is_open puts = (

@@ -1,4 +1,4 @@
--- What an upsert by the name makes of `tab`, whose rowid is hidden, in any schema that declares it so.
+-- What an upsert by the name does to `tab`, whose rowid is hidden, in any schema that declares it so.
 use Rattle.std.proofs.Common.{◌≡◌, inl, inr, ℕ, ℤ, ◌≤◌, Bool, true, false, not, ◌&&◌, ◌||◌, ◌==◌, List, [], ◌∷◌, map, filter, find, length, Some, refl, sym, ap, subst, ◌∙◌, is_eq, IsPermutation, eq-eqb, eqb-true, bytes_eq, Ordering, Less, Equal, Greater, arith}
 use Rattle.std.proofs.lemmas.List.{length-map}
 use Rattle.std.specs.List.{AllByRecursion, list_any}
@@ -46,7 +46,7 @@ tab_row = written tab_which
 abbrev pub tab_columns : Row → Row
 tab_columns = picked (described tab_which).own
 
--- SQL takes two texts as equal where they are the same
+-- SQL takes two texts as equal if they are the same
 pub same_text : (a b : List ℕ) → is_eq (value_cmp (Text a) (Text b)) ≡ bytes_eq a b
 same_text a b = ap is_eq (value_cmp-Text a b) ∙ is_eq-slice_cmp a b
 
@@ -95,7 +95,7 @@ module _ (schema : Schema) (tree : ℕ) (d : IsDeclared schema (tab tree)) where
   unfolding is_key_at
   key_index = sym (find_within (is_key_at (tab tree) (1 ∷ [])) (λ (i : Index). guards i (tab tree)) schema.indexes (λ i has other. rw other)) ∙ ap (find (is_key_at (tab tree) (1 ∷ []))) d.indexed ∙ rw own
 
-  -- a row is in the way where it has the name
+  -- a row is in the way if it has the name
   pub in_the_way : (r new : Row) (a b : List ℕ) → column r 1 ≡ Text a → column new 1 ≡ Text b → conflicts (Some (1 ∷ [])) schema.indexes (tab tree) new r ≡ true → a ≡ b
   in_the_way r new a b is is' h =
       let shared = some_has (shares (Some (1 ∷ [])) (tab tree) new r) schema.indexes h in
@@ -172,7 +172,7 @@ module _ (t : Tab) (tabs : List Tab) (rows : List Row) (lists : Lists tab_row ta
       subst (λ r. IsPermutation (r ∷ map tab_row (filter (λ s. not (bytes_eq s.name t.name)) tabs)) (map tab_columns (put_row new (without_rowid id rows)))) is
       (IsPermutation-trans _ _ _ first (IsPermutation-sym _ _ there))
 
-  -- where no row has the name, and none the number
+  -- if no row has the name, and none the number
   pub unnamed_rows : (id : ℤ) → list_any (has_rowid id) rows ≡ false → ((r : Row) → Has rows r → column r 1 ≡ Text t.name → ⊥) → without_rowid id rows ≡ filter (λ r. not (named t.name (tab_columns r))) rows
   unnamed_rows id none free = none_to_drop id rows none ∙ sym (filter_all _ rows (all_from_has _ rows other))
     where
@@ -185,7 +185,7 @@ module _ (t : Tab) (tabs : List Tab) (rows : List Row) (lists : Lists tab_row ta
         | inr is ↦ ap not is
       ]
 
-  -- where a row has both
+  -- if a row has both
   pub named_rows : HaveRowids rows → (r : Row) (id : ℤ) → Has rows r → rowid r ≡ Int id → column r 1 ≡ Text t.name → without_rowid id rows ≡ filter (λ r. not (named t.name (tab_columns r))) rows
   named_rows keyed r id has is name = filter_same _ _ rows (all_from_has _ rows alike)
     where

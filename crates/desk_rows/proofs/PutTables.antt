@@ -1,4 +1,4 @@
--- What the statements that put and set rows make of their tables.
+-- What the statements that put and set rows do to their tables.
 use Rattle.std.proofs.Common.{◌≡◌, ℕ, ℤ, pos, true, List, [], ◌∷◌, map, drop, codes, Ok, refl, IsPermutation}
 use Rattle.std.proofs.lemmas.List.Sorted.{IsPermutation-sym, IsPermutation-trans, IsPermutation-cons, IsPermutation-map}
 use Rattle.sqlite_value.specs.declared.value.Value.TheVariants.{Null, Int, Text}
@@ -446,7 +446,7 @@ sets_version version schema tree d old new count xs has sound ids lists h =
     set_did books schema tree _ old new
     (sets_by_rowid (described books).name (described books).columns (described books).own SET_VERSION.now (written books) (λ (b : BookRow). b.id) (Int (pos 1) ∷ Int version ∷ []) (pos 1) (at_version version) (version_sets (pos 1) version) schema tree d old new count xs has sound (ids refl) lists h)
 
--- what is put does with its table what it says, by its statement
+-- what is put does to its table what it says, by its statement
 pub does : (it : RowPut) → Does (table_put it) (change_of it) (statement it).text (statement it).params
 does (PutBook row) = puts books row refl
 does (PutTab row) = puts tabs row refl

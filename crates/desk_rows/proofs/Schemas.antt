@@ -1,4 +1,4 @@
--- Trees are a database of one schema at most, so a connection that is opened over them shows it.
+-- Trees are a database of at most one schema, so a connection that is opened over them shows it.
 use Rattle.std.proofs.Common.{◌≡◌, IsTrue, sym, subst}
 use Rattle.sqlite_trees.specs.Tree.{Trees}
 use Rattle.sqlite.specs.Effect.{Database}

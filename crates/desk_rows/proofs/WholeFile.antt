@@ -54,7 +54,7 @@ one_contents l c d db is = (
 
 -- ---- what was read
 
--- the rows that the query shows, less the rowid where it isn't the row's own
+-- the rows that the query shows, without the rowid if it isn't the row's own
 pub own_listed : (w : Which) (xs : List (ShownOf w)) (rows : List Row) → Lists (shown w) (picked (described w).shown) xs rows → Lists (written w) (picked (described w).own) (map (own w) xs) rows
 own_listed w xs rows lists = subst₂ IsPermutation (maps_shown w (λ x. x) xs) (maps_own w rows) (IsPermutation-map (own_of w) _ _ lists)
 

@@ -1,4 +1,4 @@
--- The statements that read the tables whole, and what they tell in any file.
+-- The statements that read the tables whole, and what they answer in any file.
 use Rattle.std.specs.Prelude.{◌≡◌, ◌≢◌, ℕ, suc, true, None, List, [], ◌∷◌, map, Result, IfOk, IfErr, OnOk, IsPermutation, ⊤}
 use Rattle.std.specs.List.{AllByRecursion}
 use Rattle.std.specs.List.Sorted.{IsSortedBy}
@@ -38,7 +38,7 @@ asked w = record { text = (described w).read; columns = given w; kinds = map (ki
 abbrev pub Gives : {X : Type 0} → Asked → (X → Row) → State → State → List X → Type 0
 Gives asked written before after xs = (rows : List Row) × Shown asked.text [] before after rows × (map asked.columns rows ≡ map written xs)
 
--- From this place on the values are of these kinds as far as the first text or bytes, for which memory is asked.
+-- From this place on the values are of these kinds as far as the first text or bytes, the first thing that is allocated.
 abbrev pub Begins : ℕ → List Kind → Row → Type 0
 Begins at [] row = ⊤
 Begins at (Integer ∷ kinds) row = IsOfKind Integer (column row at) × Begins (suc at) kinds row
@@ -52,8 +52,8 @@ abbrev pub BeginWith : List Kind → List Row → Type 0
 BeginWith kinds [] = ⊥
 BeginWith kinds (row ∷ rows) = Begins 0 kinds row
 
--- Why nothing is read: the statement failed, or of the rows that it showed not all have the kinds, or they aren't apart as they have to be,
--- or there was no memory for them, which is asked for from the first row on.
+-- Why nothing is read: the statement failed, or not all rows that it showed have the kinds, or they aren't apart as they have to be, or an
+-- allocation for them failed, the first of which is for the first row.
 pub data FailsAs {X : Type 0} (asked : Asked) (written : X → Row) (Apart : List X → Type 0) (before after : State) (fault : Fault) : Type 0 where
   failed : (e : Error) → FailsToQuery asked.text [] before after e → IsToldAs e fault → FailsAs asked written Apart before after fault
   unreadable : (rows : List Row) → Shown asked.text [] before after rows → ¬ AllByRecursion (HasKinds asked.kinds) rows

@@ -16,7 +16,7 @@ pub record Contents : Type 0 where
 -- the tables hold just this
 pub record Holds (l : Layout) (c : Contents) (db : Trees) : Type 0 where
   pub tables : (w : Which) → l.has w ≡ true → Lists (written w) (picked (described w).own) (c.rows w) (db (l.tree w))
-  -- the rows that may be changed are told apart, those of `tab` by their hidden rowids too
+  -- the rows that may be changed are distinguished, those of `tab` by their hidden rowids too
   pub ids : (w : Which) → l.has w ≡ true → (described w).is_changed ≡ true → HaveRowids (db (l.tree w))
   pub others : AllByRecursion (λ t. IsOther l t.tree → db t.tree ≡ c.others t.tree) l.schema.tables
   -- and each tree that is no index, among them those that the database keeps as they are, the list of its schema and its user version

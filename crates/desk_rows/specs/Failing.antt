@@ -1,4 +1,4 @@
--- Why a change as one transaction fails, in the database's words. Between two statements the connection keeps its limit on steps and counts
+-- Why a change in one transaction fails, in the database's words. Between two statements the connection keeps its limit on steps and counts
 -- its failures, and a crash leaves nothing new.
 use Rattle.std.specs.Prelude.{◌≡◌, ◌⊎◌, List, ◌∷◌, ◌++◌, map, Option}
 use Rattle.sqlite_trees.specs.declared.store.Store.{Ghosts}

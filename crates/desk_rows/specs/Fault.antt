@@ -1,4 +1,4 @@
--- How an error of the database is told.
+-- How an error of the database is reported.
 use Rattle.std.specs.Prelude.{◌≡◌, ◌≢◌, ◌⊎◌, ℕ, IsTrue, ⊤}
 use Rattle.sqlite_disk.specs.Disk.{MoreFaults}
 use Rattle.sqlite_trees.specs.declared.error.StoreError.{StoreError}
@@ -8,18 +8,20 @@ use Rattle.sqlite.specs.State.{State, store_error}
 use Rattle.desk_rows.specs.declared.fault.Fault.{Fault}
 use Rattle.desk_rows.specs.declared.fault.Fault.TheVariants.{NoMemory, Lost, Refused}
 
--- no memory where the store had none, lost where it failed for another cause, and refused where the error is none of the store's
+-- no memory if an allocation failed in the store, lost if the store failed for another cause, and refused if the error isn't the store's
 abbrev pub IsToldAs : Error → Fault → Type 0
 IsToldAs e NoMemory = e ≡ store_error OutOfMemory
 IsToldAs e Lost = (cause : StoreError) × (cause ≢ OutOfMemory) × (e ≡ store_error cause)
 IsToldAs e Refused = (cause : StoreError) → e ≢ store_error cause
 
--- Of a connection that was open: an error that is told as lost comes with a failure that it counts, or what was put was too big to be stored.
+-- Of a connection that was open: an error that is reported as lost comes with a failure that it counts, or what was put
+-- was too big to be stored.
 abbrev pub CountsLoss : State → State → Error → Type 0
 CountsLoss old new e =
     IsTrue old.is_open → IsToldAs e Lost → MoreFaults old.faults new.faults ⊎ (e ≡ store_error Unstorable)
 
--- What a crash left is always a database, so a store that crashed isn't opened again only for want of memory, or where it counts a failure.
+-- What a crash left is always a database, so a store that crashed can fail to be opened again only if an allocation
+-- failed, or if it counts a failure.
 abbrev pub FailsToReopen : ℕ → ℕ → Fault → Type 0
 FailsToReopen before after NoMemory = ⊤
 FailsToReopen before after Lost = MoreFaults before after

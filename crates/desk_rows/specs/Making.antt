@@ -1,4 +1,4 @@
--- What making tables makes of a file, and what making all of them makes of one that has none.
+-- What making tables does to a file, and what making all of them does to one that has none.
 use Rattle.std.specs.Prelude.{◌≡◌, ℕ, Bool, pos, true, false, if◌then◌else◌, List, [], ◌∷◌, ◌++◌, map, bytes_eq, ⊤}
 use Rattle.std.specs.List.{AllByRecursion, list_any}
 use Rattle.sqlite_trees.specs.declared.store.Store.{Ghosts}
@@ -30,7 +30,7 @@ AreFreeIn s = AllByRecursion (λ w. is_used s (described w).name ≡ false)
 abbrev pub AreAbsent : Schema → Type 0
 AreAbsent s = AreFreeIn s new_tables
 
--- The schema after these are made in turn, and with the first the database's counter of rowids, where a table counts its rowids and the
+-- The schema after these are made in turn, and with the first the database's counter of rowids, if a table counts its rowids and the
 -- counter isn't there.
 abbrev pub after : List Which → Schema → Schema
 after [] s = s
@@ -60,16 +60,16 @@ first_row = record { id = pos 1; format = pos 2; version = pos 0 }
 abbrev pub first_contents : Trees → Contents
 first_contents others = with_row books first_row (no_contents others)
 
--- The counter, where it was missing and is made, has no rows.
+-- The counter, if it was missing and is made, has no rows.
 abbrev pub CountsNone : Schema → Trees → Type 0
 CountsNone s db = lacks_sequence s ≡ true → db (next_tree (created s (table_of books 0))) ≡ []
 
--- The contents of a new file, beside the tables that were there with the rows that they had, an empty counter where it was missing, and
+-- The contents of a new file, beside the tables that were there with the rows that they had, an empty counter if it was missing, and
 -- what the database keeps aside.
 abbrev pub IsNew : Schema → Trees → (Contents → Type 0) → Type 0
 IsNew s rows P = (others : Trees) × KeepsRows s.tables rows others × CountsNone s others × KeepsAside s rows others × P (first_contents others)
 
--- each differs from those behind it
+-- each differs from those after it
 abbrev pub Differ : List Which → Type 0
 Differ [] = ⊤
 Differ (w ∷ ws) = AllByRecursion (λ v. bytes_eq (described w).name (described v).name ≡ false) ws × Differ ws
@@ -93,13 +93,13 @@ AreMade g ws old new = MakesTables ws (state g old) (state g new) × RunInTurn g
 abbrev pub making : List Statement
 making = map creation new_tables ++ row_put books first_row ∷ []
 
--- What making adds to what a crash may leave: only where the names were free, and then the file with the tables.
+-- What making adds to what a crash may leave: only if the names were free, and then the file with the tables.
 abbrev pub IsMade : State → Trees → Type 0
 IsMade s db = AreAbsent s.now.schema × IsNew s.now.schema s.now.trees (λ c. IsFile (made s.now.schema) c db)
 
 -- ---- tables that are made in a file
 
--- the layout with these tables more, and the contents with no rows in them
+-- the layout with these tables too, and the contents with no rows in them
 abbrev pub with_tables : List Which → Layout → Layout
 with_tables ws l = record {
   schema = after ws l.schema;

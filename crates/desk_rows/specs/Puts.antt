@@ -1,4 +1,4 @@
--- What rows that are put in turn make of the contents.
+-- The contents once rows are put in turn.
 use Rattle.std.specs.Prelude.{◌≡◌, ◌⊎◌, ℕ, ℤ, pos, true, List, [], ◌∷◌, map, fold, Option, Some, Result, Ok, Err, IfErr, IsTrue, OnOk, ⊤}
 use Rattle.std.specs.Iterator.{Drains, YieldsThen}
 use Rattle.std.specs.List.{AllByRecursion}
@@ -148,7 +148,7 @@ PutsRow w x old new =
     (committed : Database) (l : Layout) (c : Contents) → l.has w ≡ true
     → IsUnder committed l c old → IsUnder committed l (with_row w x c) new
 
--- A put that takes memory before its statement runs: a print is encoded, and cells are written as bytes.
+-- A put that allocates before its statement runs: a print is encoded, and cells are written as bytes.
 abbrev pub TakesMemory : RowPut → Type 0
 TakesMemory (PutBook row) = ⊥
 TakesMemory (PutTab row) = ⊥
@@ -172,12 +172,12 @@ pub record Rests (old new : State) : Type 0 where
   pub inside : new.in_transaction ≡ old.in_transaction
   pub faults : new.faults ≡ old.faults
 
--- Why something isn't put: the database answered the error to its statement, or there was no memory for it, and nothing was done.
+-- Why something isn't put: the database answered the error to its statement, or an allocation for it failed, and nothing was done.
 abbrev pub NotPut : RowPut → State → State → Error → Type 0
 NotPut it old new e =
     Failed (statement it) old new e ⊎ (TakesMemory it × (e ≡ store_error OutOfMemory) × Rests old new)
 
--- Something is put into the contents, over the same commit, where its table is there, and the transaction goes on; or it isn't put.
+-- Something is put into the contents, over the same commit, if its table is there, and the transaction goes on; or it isn't put.
 pub record IsPut {V : Type 0} (result : Result V Error) (it : RowPut) (old new : State) : Type 0 where
   pub put : (committed : Database) (l : Layout) (c : Contents) → l.has (table_put it) ≡ true
       → IsUnder committed l c old → OnOk result (IsUnder committed l (put_into c it) new)

@@ -22,7 +22,7 @@ which NamedCorr = named_corrs
 abbrev pub is_table_or_view : Stored → Bool
 is_table_or_view v = unwrap_or (option_map (λ owner. not v.binds && same_name owner v.name) v.foreign) true
 
--- a table or a view has its name, in either case of the letters
+-- a table or a view has its name, in whichever case of the letters
 abbrev pub is_there : Schema → Which → Bool
 is_there s w =
     let name = (described w).name in

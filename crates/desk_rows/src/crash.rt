@@ -22,8 +22,7 @@ use sqlite_trees::error::StoreError;
 use sqlite_trees::store::Reopen;
 use std::alloc::Global;
 
-/// Has the store crash under a connection, and opens what is left. The store comes back with an error, which is never that what is left is no
-/// database.
+/// Has the store crash under a connection, and opens what is left. The store comes back with an error, never that this is no database.
 pub fn reopen<S: Alter + Reopen + Drop>(
     alloc: Global,
     conn: Connection<S>,

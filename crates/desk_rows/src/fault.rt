@@ -9,20 +9,20 @@ use thiserror::Error;
 /// Why a file can't be opened, or its rows can't be read.
 #[derive(Clone, Copy, Debug, Error, PartialEq, Eq)]
 pub enum Fault {
-    /// A growth was refused.
+    /// An allocation failed.
     #[error("no memory")]
     NoMemory,
-    /// The store failed: reading or writing, damage of the pages, size, or a shut database.
+    /// The store failed: reading or writing, damage of the pages, size, or a closed database.
     #[error("the store failed")]
     Lost,
     /// The statement or a value was refused for another cause: a missing table or column, a limit on steps, or a value of
-    /// another kind; or what was opened is no database.
+    /// another kind; or what was opened isn't a database.
     #[error("the statement, a value or the file was refused")]
     Refused,
 }
 
 impl Fault {
-    /// How an error of the database is told.
+    /// How an error of the database is reported.
     pub fn of(error: Failure) -> Fault
         ensures { IsToldAs error result }
     {

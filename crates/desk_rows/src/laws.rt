@@ -28,7 +28,7 @@ ghost use Rattle.sqlite_catalog.specs.Change.{is_used};
 
 use sqlite::{Alter, Connection};
 
-/// Trees are a database of one schema at most.
+/// Trees are a database of at most one schema.
 pub fn one_schema()
     ensures { (a b : Schema) (db : Trees) → IsSound a db → IsSound b db → a ≡ b }
 {}
@@ -53,7 +53,7 @@ pub fn found_again<S: Alter, T: Alter>(last: &Connection<S>, next: &Connection<T
     let _ = next.schema();
 }
 
-/// A file has one contents, but for the order of the rows.
+/// A file has one contents, apart from the order of the rows.
 pub fn one_contents()
     ensures { (l : Layout) (c d : Contents) (db : Trees) → IsFile l c db
         → (IsFile l d db ↔ HaveSameRows l c d) }
@@ -65,7 +65,7 @@ pub fn read_whole()
         → AreRows l rows db → AreApart rows → IsFile l (contents_of rows db) db }
 {}
 
-/// The rows of a file can be read: the rowids that are read are integers, and the texts are UTF-8 where those of the file are; the rowids of
+/// The rows of a file can be read: the rowids that are read are integers, and the texts are UTF-8 if those of the file are; the rowids of
 /// the braille tables differ.
 pub fn texts_as_written()
     ensures readable { (l : Layout) (c : Contents) (db : Trees) → IsFile l c db → AreUtf8 c
@@ -108,7 +108,7 @@ pub fn texts_stay()
         → AreUtf8 (puts_into puts c) }
 {}
 
-/// A table that a file has is there by its schema, and one whose name is free isn't.
+/// A table that a file has is there for its schema, and one whose name is free isn't.
 pub fn tables_there()
     ensures has { (l : Layout) (c : Contents) (db : Trees) → IsFile l c db → (w : Which)
         → l.has w ≡ true → is_there l.schema w ≡ true }

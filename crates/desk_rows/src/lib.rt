@@ -1,8 +1,8 @@
-//! The rows of a book's file, as a SQLite database: its tables made, rows put and read, and what a crash leaves of them.
+//! The rows of a book's file, an SQLite database: its tables made, rows put and read, and what a crash leaves of them.
 //!
-//! A table is described once (`specs/Described.antt`), and so is the layout of a file that has these tables beside others. Each statement
-//! is proved over any such file, whatever else stands in it. Which rows show a book is `desk_book`'s, and how a book's file is opened and
-//! a change kept in it `desk_store`'s.
+//! Each table is described once (`specs/Described.antt`), and so is the layout of a file that has these tables beside others. Each
+//! statement is proved over any such file, whatever else stands in it. `desk_book` says which rows show a book, and `desk_store` opens a
+//! book's file and keeps changes in it.
 #![tactic(auto)]
 
 mod crash;

@@ -29,7 +29,7 @@ const NEW_TABLES: [FileTable; 6] = [
     FileTable::NamedCorr,
 ];
 
-/// Makes a table, and with it the counter of rowids where a table counts them and it is missing. The error is the database's.
+/// Makes a table, and with it the counter of rowids if a table counts them and it is missing. The error is the database's.
 fn create<S: Alter>(tx: &mut Transaction<'_, S>, table: FileTable) -> Result<(), Error>
     requires { (described (which table)).is_written ≡ true }
     ensures same_reference { tx.new.conn.ghost_name ≡ tx.old.conn.ghost_name }
@@ -119,13 +119,13 @@ fn make_all<S: Alter>(tx: &mut Transaction<'_, S>) -> Result<(), Error>
     put_first_row(tx)
 }
 
-/// Makes the six tables with the row of a new book, in format 2 and at version 0, as one. Where a table counts its rowids and the
-/// database's counter is missing, the counter is made too, with no rows. The error is the database's, and a crash then leaves none of the
-/// tables or all of them.
+/// Makes the six tables with the row of a new book, in format 2 and at version 0, as one. If a table counts its rowids and the database's
+/// counter is missing, the counter is made too, with no rows. The error is the database's, and a crash then leaves none of the tables or
+/// all of them.
 pub fn make_tables<S: Alter>(conn: &mut Connection<S>) -> Result<(), Error>
     requires { conn.old.in_transaction ≡ false }
     ensures idle { conn.new.in_transaction ≡ false }
-    // Where a name is taken, the answer is an error.
+    // If a name is taken, the answer is an error.
     ensures free { HasCleanDisk (state S.Store conn.new)
         → OnOk result (AreAbsent (state S.Store conn.old).now.schema) }
     ensures made { HasCleanDisk (state S.Store conn.new)
@@ -133,10 +133,10 @@ pub fn make_tables<S: Alter>(conn: &mut Connection<S>) -> Result<(), Error>
         (λ c. Shows (made (state S.Store conn.old).now.schema) c (state S.Store conn.new))) }
     ensures open { HasCleanDisk (state S.Store conn.new)
         → OnOk result (IsCommitted (state S.Store conn.new)) }
-    // In any file, at `Ok` the connection shows what the statements made of it in turn.
+    // In any file, at `Ok` the connection shows what the statements, in turn, made of it.
     ensures ran { HasCleanDisk (state S.Store conn.new)
         → OnOk result (AreRun S.Store making conn.old (state S.Store conn.new)) }
-    // Of a crash at any exit: nothing new is left but all of it, and that only where no name was taken.
+    // Of a crash at any exit: nothing new is left but all of it, and that only if no name was taken.
     ensures crash { Survives (state S.Store conn.old) (state S.Store conn.new)
         (λ db. IsMade (state S.Store conn.old) db × IsLeftBy S.Store making conn.old db) }
     // At `Ok` it leaves the trees that the connection shows.
@@ -148,7 +148,7 @@ pub fn make_tables<S: Alter>(conn: &mut Connection<S>) -> Result<(), Error>
         (state S.Store conn.new)) }
     ensures undone { HasCleanDisk (state S.Store conn.new)
         → OnErr result (IsUndone (state S.Store conn.old) (state S.Store conn.new)) }
-    // The connection shows what it showed before, if it is open still.
+    // The connection shows what it showed before, if it is still open.
     ensures as_before { HasCleanDisk (state S.Store conn.new)
         → OnErr result (ShowsAsBefore (state S.Store conn.old) (state S.Store conn.new)) }
     // What was lost is counted, or was too big.

@@ -43,7 +43,7 @@ pub fn open_file<S: Alter + Drop>(alloc: Global, store: S) -> Result<Connection<
     // What is a file of any layout is never refused.
     ensures refused { IfErr result (λ e. IsClean (S.Store.view e.1) → e.0 ≡ Fault.Refused
         → (l : Layout) (c : Contents) → ¬ IsFile l c (S.Store.view store).trees) }
-    // It is lost only where the store counts more failures, unless its count stands at its limit.
+    // It is lost only if the store counts more failures, unless its count is at its limit.
     ensures lost { IfErr result (λ e. IsClean (S.Store.view e.1) → e.0 ≡ Fault.Lost
         → S.Store.faults e.1 < 2 ^ 64 - 1 → S.Store.faults store < S.Store.faults e.1) }
     // After an error it leaves nothing new.

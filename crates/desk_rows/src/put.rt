@@ -1,9 +1,9 @@
 //! The statements that put rows.
 //!
-//! Each runs within a transaction, takes out no row and commits nothing. At `Ok` the rows of its table are those before with the row in
+//! Each runs within a transaction, deletes no row and commits nothing. At `Ok` the rows of its table are those before with the row in
 //! place of the one with its key, or with it more, or with the columns set of the row with that key, those of the other tables stay, and
-//! the transaction goes on. The error is the database's; where memory for a print or for cells is refused, it is want of memory, and
-//! nothing was done.
+//! the transaction goes on. The error is the database's; if an allocation for a print or for cells fails, that is the error, and nothing
+//! was done.
 
 ghost use Rattle.std.specs.Prelude.{◌≡◌, true, [], ◌∷◌, IfErr, IfOk, OnErr, OnOk, encode_utf8_all, string_bytes};
 ghost use Rattle.std.specs.Iterator.{IsFinite};
@@ -122,8 +122,8 @@ fn entry_columns<'a>(row: &NamedCorrPut<'a>) -> [ValueRef<'a>; 7]
     ]
 }
 
-/// Puts a row by its key, or sets columns of the row with a key, if it is there. Where a history has an entry of that number, the
-/// database refuses it.
+/// Puts a row by its key, or sets columns of the row with a key, if it is there. If a history has an entry of that number, the database
+/// refuses it.
 fn put<S: Alter>(alloc: Global, tx: &mut Transaction<'_, S>, put: Put<'_>) -> Result<(), Error>
     ensures same_reference { tx.new.conn.ghost_name ≡ tx.old.conn.ghost_name }
     ensures put { HasCleanDisk (seen S.Store tx.new)

@@ -1,11 +1,11 @@
 //! The statements that read a table whole.
 //!
-//! Each answers what its statement shows in any file, and changes nothing; a value that isn't of the kind that a new
-//! file declares for its column is refused. Over a clean disk, where the table is declared as in a new file, the answer
-//! is its rows as they stand, in order. Where these have integer rowids (of `corr`, any) and texts in UTF-8 too, and the
-//! steps have no limit, only memory or the store makes it fail.
+//! Each answers what its statement shows in any file, and changes nothing; a value that isn't of the kind that a new file declares for
+//! its column is refused. Over a clean disk, if the table is declared as in a new file, the answer is its rows as they stand, in order.
+//! If these also have integer rowids (of `corr`, any) and texts in UTF-8, and the steps have no limit, only an allocation or the store
+//! makes it fail.
 //!
-//! A statement that a limit on steps stops is told as refused.
+//! A statement that is stopped by a limit on its steps is reported as refused.
 
 ghost use Rattle.std.specs.Prelude.{◌≡◌, ◌≢◌, false, true, [], Err, IfErr, IfOk, MatchBool, Ok, OnErr, map};
 ghost use Rattle.std.specs.List.{AllByRecursion};
@@ -115,7 +115,7 @@ fn told_apart(
     }
 }
 
-/// The braille tables, in order of the bytes of their names, which is that of the names' code points. Where two have one rowid, as only a
+/// The braille tables, in order of the bytes of their names, which is that of the names' code points. If two have one rowid, as only a
 /// view shows them, they are refused.
 pub fn read_tabs<S: Alter>(alloc: Global, conn: &mut Connection<S>) -> Result<Vec<StoredTab>, Fault>
     ensures answers { HasCleanDisk (state S.Store conn.new)

@@ -30,7 +30,7 @@ pub fn table_name(table: FileTable) -> &'static str
     }
 }
 
-/// The statement that makes a table; no text for `corr`, which nothing makes.
+/// The statement that makes a table; empty for `corr`, which nothing makes.
 pub(crate) fn create_text(table: FileTable) -> &'static str
     ensures { result.now ≡ (described (which table)).create }
 {
@@ -62,8 +62,8 @@ fn has_named(views: &[View], name: &[u8]) -> bool
     views.iter().any(|v| same_name(v.name.as_slice(), name) && is_table_or_view(v))
 }
 
-/// Whether a table or a view has the name of this one, in either case of its letters, as the schema stands that was last read or made. A
-/// table that the database doesn't understand counts too; an index or a trigger doesn't. It takes no memory and asks the store nothing.
+/// Whether a table or a view has the name of this one, in whichever case of its letters, in the schema that was last read or made. A
+/// table that the database doesn't understand counts too; an index or a trigger doesn't. It allocates nothing and doesn't ask the store.
 pub fn has_table<S: Alter>(conn: &Connection<S>, table: FileTable) -> bool
     ensures { result ≡ is_there (state S.Store conn.now).now.schema (which table) }
 {

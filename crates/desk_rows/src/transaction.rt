@@ -20,7 +20,7 @@ use desk_parts::{FileTable, Put};
 use sqlite::{Alter, Connection, Error, Transaction};
 use std::alloc::Global;
 
-/// Begins a transaction of a connection, which is live and shows the last commit.
+/// Begins a transaction on a connection that is open and shows the last commit.
 pub(crate) fn begin<S: Alter>(conn: &mut Connection<S>) -> Transaction<'_, S>
     requires { conn.old.in_transaction ≡ false }
     ensures same_reference { result.conn.ghost_name ≡ conn.entry.ghost_name }
@@ -34,7 +34,7 @@ pub(crate) fn begin<S: Alter>(conn: &mut Connection<S>) -> Transaction<'_, S>
     conn.transaction()
 }
 
-/// Ends a transaction in which something ran with this answer: commits it, or undoes it where that failed. The error is that one, or the
+/// Ends a transaction in which something ran with this answer: commits it, or undoes it if that failed. The error is that one, or the
 /// database's.
 pub(crate) fn end<S: Alter>(tx: Transaction<'_, S>, ran: Result<(), Error>) -> Result<(), Error>
     ensures ended { tx.exit.0.now.in_transaction ≡ false }
@@ -48,8 +48,8 @@ pub(crate) fn end<S: Alter>(tx: Transaction<'_, S>, ran: Result<(), Error>) -> R
 }
 
 /// Puts in turn what an iterator lends and commits it, as one. The caller's condition: the iterator ends. The error is the database's, or
-/// want of memory for what is put. A connection that is open then shows the last commit, which is that of before, and a crash leaves the
-/// rows from before or, where the store failed, all of these.
+/// that an allocation for what is put failed. A connection that is open then shows the last commit, the one from before, and a crash
+/// leaves the rows from before or, if the store failed, all of these.
 pub fn write<'a, S: Alter, I: Iterator<Item = Put<'a>> + Drop>(
     alloc: Global,
     conn: &mut Connection<S>,
@@ -64,7 +64,7 @@ pub fn write<'a, S: Alter, I: Iterator<Item = Put<'a>> + Drop>(
         (state S.Store conn.new))) }
     ensures open { HasCleanDisk (state S.Store conn.new)
         → OnOk result (IsCommitted (state S.Store conn.new)) }
-    // In any file, at `Ok` the connection shows what the statements made of it in turn.
+    // In any file, at `Ok` the connection shows what the statements, in turn, made of it.
     ensures ran { HasCleanDisk (state S.Store conn.new)
         → OnOk result (OfItems I.next_gives puts (λ xs. AreRun S.Store (map statement xs) conn.old
         (state S.Store conn.new))) }
@@ -76,13 +76,13 @@ pub fn write<'a, S: Alter, I: Iterator<Item = Put<'a>> + Drop>(
     // At `Ok` it leaves the trees that the connection shows.
     ensures settled { HasCleanDisk (state S.Store conn.new)
         → OnOk result (IsSettled (state S.Store conn.new)) }
-    // The error is what the database answered to one of the statements or to the commit, or memory for what is put was refused.
+    // The error is what the database answered to one of the statements or to the commit, or an allocation for what is put failed.
     ensures told { HasCleanDisk (state S.Store conn.new)
         → IfErr result (FailsToPut S.Store (of_items S.Store I.next_gives puts) (begun conn.old)
         (state S.Store conn.new)) }
     ensures undone { HasCleanDisk (state S.Store conn.new)
         → OnErr result (IsUndone (state S.Store conn.old) (state S.Store conn.new)) }
-    // The connection shows what it showed before, if it is open still.
+    // The connection shows what it showed before, if it is still open.
     ensures as_before { HasCleanDisk (state S.Store conn.new)
         → OnErr result (ShowsAsBefore (state S.Store conn.old) (state S.Store conn.new)) }
     // What was lost is counted, or was too big.
@@ -98,7 +98,7 @@ pub fn write<'a, S: Alter, I: Iterator<Item = Put<'a>> + Drop>(
     end(tx, ran)
 }
 
-/// Makes these tables and puts in turn what an iterator lends. The error is the database's, or want of memory for what is put.
+/// Makes these tables and puts in turn what an iterator lends. The error is the database's, or that an allocation for what is put failed.
 fn make_and_put<'a, S: Alter, I: Iterator<Item = Put<'a>> + Drop>(
     alloc: Global,
     tx: &mut Transaction<'_, S>,
@@ -127,9 +127,9 @@ fn make_and_put<'a, S: Alter, I: Iterator<Item = Put<'a>> + Drop>(
 }
 
 /// Makes these tables, puts in turn what an iterator lends and commits all of it, as one: so a file gets the tables that it lacks together
-/// with their rows. The caller's conditions: `corr` isn't among the tables, and the iterator ends. The error is the database's, as where a
-/// name is taken. A connection that is open then shows the last commit, which is that of before, and a crash leaves the file from before
-/// or, where the store failed, the one with all of this.
+/// with their rows. The caller's conditions: `corr` isn't among the tables, and the iterator ends. The error is the database's, for
+/// instance if a name is taken. A connection that is open then shows the last commit, the one from before, and a crash leaves the file
+/// from before or, if the store failed, the one with all of this.
 pub fn write_with_tables<'a, S: Alter, I: Iterator<Item = Put<'a>> + Drop>(
     alloc: Global,
     conn: &mut Connection<S>,
@@ -146,7 +146,7 @@ pub fn write_with_tables<'a, S: Alter, I: Iterator<Item = Put<'a>> + Drop>(
         (state S.Store conn.old) (state S.Store conn.new))) }
     ensures open { HasCleanDisk (state S.Store conn.new)
         → OnOk result (IsCommitted (state S.Store conn.new)) }
-    // In any file, at `Ok` the connection shows what the statements made of it in turn.
+    // In any file, at `Ok` the connection shows what the statements, in turn, made of it.
     ensures ran { HasCleanDisk (state S.Store conn.new)
         → OnOk result (OfItems I.next_gives puts (λ xs.
         AreRun S.Store (map creation (map which tables.now) ++ map statement xs) conn.old (state S.Store conn.new))) }
@@ -158,13 +158,13 @@ pub fn write_with_tables<'a, S: Alter, I: Iterator<Item = Put<'a>> + Drop>(
     // At `Ok` it leaves the trees that the connection shows.
     ensures settled { HasCleanDisk (state S.Store conn.new)
         → OnOk result (IsSettled (state S.Store conn.new)) }
-    // The error is what the database answered to one of the statements or to the commit, or memory for what is put was refused.
+    // The error is what the database answered to one of the statements or to the commit, or an allocation for what is put failed.
     ensures told { HasCleanDisk (state S.Store conn.new)
         → IfErr result (FailsToChange S.Store (map which tables.now)
         (of_items S.Store I.next_gives puts) (begun conn.old) (state S.Store conn.new)) }
     ensures undone { HasCleanDisk (state S.Store conn.new)
         → OnErr result (IsUndone (state S.Store conn.old) (state S.Store conn.new)) }
-    // The connection shows what it showed before, if it is open still.
+    // The connection shows what it showed before, if it is still open.
     ensures as_before { HasCleanDisk (state S.Store conn.new)
         → OnErr result (ShowsAsBefore (state S.Store conn.old) (state S.Store conn.new)) }
     // What was lost is counted, or was too big.

@@ -91,7 +91,7 @@ module _ {V : Type 0} (w : Which) (items : V → List (ShownOf w)) (Apart : List
   pub rows_before : (v : V) → (Apart (items v) → AreToldApart w (items v)) → AnswersRows (Ok v) items w (λ x. x) Apart old new → AreRowsIn s w (items v)
   rows_before v apart answers = (gives_before s old same w new (items v) answers.gives, apart answers.apart)
 
-  -- it isn't refused where the statement has an answer that can be read
+  -- it isn't refused if the statement has an answer that can be read
   pub never_refused_any : (fault : Fault) → ((xs : List (ShownOf w)) → AreToldApart w xs → Apart xs) → AnswersRows (Err fault) items w (λ x. x) Apart old new
       → old.step_limit ≡ None → CanAnswer s w → fault ≢ Refused
   never_refused_any fault apart answers unlimited can =
@@ -106,7 +106,7 @@ module _ {V : Type 0} (w : Which) (items : V → List (ShownOf w)) (Apart : List
 
 -- ---- texts
 
--- the rows of a table are readable where those are that were read of it
+-- the rows of a table are readable if those are that were read of it
 pub texts_of : {V : Type 0} (w : Which) (items : V → List (ShownOf w)) (Apart : List (ShownOf w) → Type 0) (old new : State) (v : V) → AnswersRows (Ok v) items w (λ x. x) Apart old new
     → (l : Layout) (c : Contents) → l.has w ≡ true → Shows l c old → AllByRecursion (IsUtf8Row w) (c.rows w)
 texts_of w items Apart old new v answers l c there shows =
@@ -120,7 +120,7 @@ no_cell_texts : (rows : List (RowOf caches)) → AllByRecursion (IsUtf8Row cache
 no_cell_texts [] = tt
 no_cell_texts (row ∷ rows) = (tt, no_cell_texts rows)
 
--- a file of the format can be read where its texts can
+-- a file of the format can be read if its texts can
 pub all_readable : (f : Format) (l : Layout) (c : Contents) → IsOfFormat f l → AllByRecursion (IsUtf8Row tabs) (c.rows tabs) → AllByRecursion (IsUtf8Row paras) (c.rows paras)
     → AreEntriesReadable f l c → AllByRecursion (IsUtf8Row marks) (c.rows marks) → CanAllBeRead f l c
 all_readable unnamed l c of names prints entries notes books = ((of books).1, no_book_texts (c.rows books))

@@ -1,4 +1,4 @@
--- What a change that is put into a file makes of its book.
+-- What a change that is put into a file does to its book.
 use Rattle.std.proofs.Common.{◌≡◌, true, List, [], ◌∷◌, inl, inr, refl, sym, subst}
 use Rattle.std.specs.List.{AllByRecursion}
 use Rattle.std.proofs.lemmas.List.Elements.{All-from_recursion}

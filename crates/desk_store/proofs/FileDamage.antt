@@ -1,4 +1,4 @@
--- When a file shows a book, and that at most one refusal is told of any other.
+-- When a file shows a book, and that at most one refusal is reported of any other.
 use Rattle.std.proofs.Common.{◌≡◌, ◌∙◌, ℤ, pos, ◌≤ℤ◌, Bool, true, false, if◌then◌else◌, List, [], ◌∷◌, map, inl, inr, arith, refl, sym, subst, ap, ap₂, true≢false}
 use Rattle.std.specs.List.{AllByRecursion}
 use Rattle.std.proofs.lemmas.Int.{ints}
@@ -98,7 +98,7 @@ module _ (l : Layout) (c : Contents) where
       ap (λ (r : BookRow). r.format) same ∙ sym (row_number u.row.format u.book.sound.format u.book.format (rows_of l c).entries (entries_are f of)) in
       (f, of, shown (rows_of l c) (texts f of u.readable) its u.none)
 
-  -- ---- at most one refusal is told
+  -- ---- at most one refusal is reported
 
   readable_books : (f : Format) → CanAllBeRead f l c → l.has books ≡ true
   readable_books unnamed can = (can books).0

@@ -56,7 +56,7 @@ module _ (l : Layout) (c : Contents) (book : Book) (s : State) where
   pub leaves_gained : (ws : List Which) (rows : Trees) → HasGained ws l c book rows (λ after d. Shows after d s) → IsSettled s → LeavesBook (with_tables ws l) book s
   leaves_gained ws rows gained settled db left = subst (HoldsBook (with_tables ws l) book) (sym (settled db left)) (gained.0, gained.1.is, gained.2)
 
--- one that lacks no table has just one form
+-- one that lacks no table has exactly one form
 pub left_whole : (lacked : Option NewTables) (l : Layout) (book : Book) (s : State) → lacked ≡ None → Leaves (HoldsEitherWith (which_lacked lacked) l book) s
     → LeavesBook (with_tables (which_lacked lacked) l) book s
 left_whole lacked l book s none leaves db left =

@@ -1,4 +1,4 @@
--- How the tables of a book's file are judged, from what was read of `book`.
+-- How the tables of a book's file are checked, from what was read of `book`.
 use Rattle.std.proofs.Common.{arith, ◌≡◌, ◌≢◌, ℤ, pos, ◌≤ℤ◌, ◌<ℤ◌, Bool, true, false, ◌&&◌, not, if◌then◌else◌, List, [], ◌∷◌, length, None, Ok, Err, inl, inr, refl, sym, subst, ap, ◌∙◌, true≢false, IsPermutation}
 use Rattle.std.specs.List.{AllByRecursion}
 use Rattle.std.specs.Ordering.{int_eq}
@@ -44,7 +44,7 @@ length_one x [] one all = absurd (omega (arith, one))
 length_one x (y ∷ []) one all = ap (λ z. z ∷ []) all.0
 length_one x (y ∷ z ∷ zs) one all = absurd (omega (arith, one))
 
--- a list that is one row but for the order is that row
+-- a list that is one row up to its order is that row
 pub same_one : {X : Type 0} (xs ys : List X) (x : X) → IsPermutation xs ys → ys ≡ x ∷ [] → xs ≡ x ∷ []
 same_one {X} xs ys x same is =
     let back : IsPermutation (x ∷ []) xs = subst (λ (zs : List X). IsPermutation zs xs) is (IsPermutation-sym xs ys same) in
@@ -62,7 +62,7 @@ damaged_in xs ys id same damaged = (damaged.0, λ one. damaged.1 (one.0, same_on
 book_row_in : (xs ys : List BookRow) (row : BookRow) → IsPermutation xs ys → IsBookRow ys row → IsBookRow xs row
 book_row_in xs ys row same is = record { alone = same_one xs ys row same is.alone; sound = is.sound; format = is.format }
 
--- what is told of the rows that were read is told of those of the file
+-- what is reported of the rows that were read is reported of those of the file
 pub row_told : (l : Layout) (c : Contents) (rows : List BookRow) → l.has books ≡ true → IsPermutation (c.rows books) rows → (told : OpenFault) → TellsOfRow rows told → TellsOfTables l c told
 row_told l c rows has same NotABook tells = absurd tells
 row_told l c rows has same (Damaged table id) tells =
@@ -76,7 +76,7 @@ row_told l c rows has same NoMemory tells = absurd tells
 same_fields : (row : BookRow) (id format version : ℤ) → id ≡ row.id → format ≡ row.format → version ≡ row.version → ◌≡◌ {A = BookRow} (record { id = id; format = format; version = version }) row
 same_fields row id format version p q r = λ i. record { id = p i; format = q i; version = r i }
 
--- the format of entries is told by their row
+-- the row of `book` gives the format of the entries
 numbered : (entries : EntryRows) → format_in (pos (format_of entries)) ≡ format_kept entries
 numbered (Unnamed rows) = refl
 numbered (Named rows) = refl
@@ -152,7 +152,7 @@ pub books_there : (l : Layout) → HasThoseRead l → l.has books ≡ is_there l
 books_there l (inl exact) = exact books
 books_there l (inr other) = books_as_there other.0 l other.1
 
--- ---- what is told
+-- ---- what is reported
 
 pub refusal_is : (fault : Fault) → IsRefusal (opened_as fault) → fault ≡ reading.Refused
 refusal_is reading.NoMemory is = absurd is
@@ -192,7 +192,7 @@ books_answered items f fault old new answers unlimited all =
     let can = can_books f old all in
     answers.answered can.has unlimited (λ rows seen. can.kinds rows (shown_before (asked books).text (reads_only books) old old (same_state old) new rows seen)) (λ xs gives. tt)
 
--- ---- a row that was judged
+-- ---- a row that was checked
 
 -- `book` is there and was read, and this is its one row, sound and of a known format.
 pub record IsJudged (old new : State) (rows : List BookRow) (row : BookRow) : Type 0 where
@@ -212,7 +212,7 @@ judged items v old new seen row there answers value is = record {
   is = subst (λ (rows : List BookRow). IsBookRow rows row) value is;
 }
 
--- a layout has `book` where it is there
+-- a layout has `book` if it is there
 pub has_books : (l : Layout) (c : Contents) (s : State) → HasThoseRead l → Shows l c s → is_there s.now.schema books ≡ true → l.has books ≡ true
 has_books l c s those was there = books_there l those ∙ ap (λ (schema : Schema). is_there schema books) (sym was.schema) ∙ there
 
@@ -241,7 +241,7 @@ module _ {old new : State} {rows : List BookRow} {row : BookRow} (it : IsJudged 
       let here = row_of_file l c those was in
       inr (row, here.0, here.1, λ can. none (l, c, of_read (format_in row.format) l c those can, was, can, limit))
 
-  -- a file of either format is of the row's where its tables are there
+  -- a file of either format is of the row's if its tables are there
   pub of_the_row : (g : Format) (l : Layout) (c : Contents) → Shows l c old → has_tables (format_in row.format) old.now.schema ≡ true → IsOfFormat g l → IsOfFormat (format_in row.format) l
   of_the_row g l c was all of =
       let f = format_in row.format in
@@ -300,7 +300,7 @@ module _ (s : State) (book : Book) (shows : RowsShowIn s book) (read : List Book
   not_newer (Unnamed rows) row is more = let same = ap (λ (r : BookRow). r.format) is in absurd (omega (arith, ints, same, more))
   not_newer (Named rows) row is more = let same = ap (λ (r : BookRow). r.format) is in absurd (omega (arith, ints, same, more))
 
-  -- nothing is told of the row that was read
+  -- nothing is reported of the row that was read
   pub row_is_sound : (told : OpenFault) → ¬ TellsOfRow read told
   row_is_sound NotABook tells = tells
   row_is_sound (Damaged table id) tells = sound others book shown file.Book id tells.1
@@ -308,7 +308,7 @@ module _ (s : State) (book : Book) (shows : RowsShowIn s book) (read : List Book
   row_is_sound Lost tells = tells
   row_is_sound NoMemory tells = tells
 
-  -- and it tells how its entries are kept
+  -- and it gives how its entries are kept
   pub kept_by_row : (row : BookRow) → IsBookRow read row → format_kept shows.rows.entries ≡ format_in row.format
   kept_by_row row is =
       sym (numbered shows.rows.entries) ∙ ap (λ (r : BookRow). format_in r.format) (same_head _ _ (sym shown.row ∙ is.alone))

@@ -1,4 +1,4 @@
--- What a read of a table tells of the file that it is of.
+-- What a read of a table says of its file.
 use Rattle.std.proofs.Common.{[], ◌∷◌, ◌≡◌, ◌≢◌, true, List, Ok, Err, map, None, refl, sym, subst, ap, ◌∙◌, IsPermutation}
 use Rattle.std.specs.List.{AllByRecursion}
 use Rattle.sqlite_value.specs.Order.{Row}

@@ -1,4 +1,4 @@
--- What opening tells and leaves at each of its ends.
+-- What opening reports and leaves at each of its exits.
 use Rattle.std.proofs.Common.{◌≡◌, ◌⊎◌, Bool, true, false, ◌||◌, IsTrue, List, Option, Ok, Err, arith, refl, sym, ap, ◌∙◌, subst, inl, inr, true≢false}
 use Rattle.std.proofs.lemmas.Bool.{cases_Bool}
 use Rattle.sqlite_schema.specs.declared.schema.Schema.{Schema}
@@ -175,7 +175,7 @@ module _ {S : Type 0} (g : Ghosts S) (make : Bool) (old : Held S) (there : ¬ Ha
         made = λ none. absurd (there none);
       }
 
-  -- where the tables that it lacks are made, a crash leaves nothing new but all of it
+  -- if the tables that it lacks are made, a crash leaves nothing new but all of it
   pub fills : (rows : FileRows) (book : Book) (mid new : State) (some : Option NewTables) → some ≡ lacked_by rows → RowsShow rows book
       → (HasCleanDisk mid → AreFileRows s rows)
       → (HasCleanDisk mid → (format : Format) (l : Layout) (c : Contents) → IsOfFormat format l → Shows l c s → IsReadOf l c rows)
@@ -252,7 +252,7 @@ module _ {S : Type 0} (g : Ghosts S) (make : Bool) (old : Held S) (none : HasNon
         made = λ still. it;
       }
 
-  -- ---- what is told where the making failed
+  -- ---- what is reported if making the tables failed
 
   abbrev Failed : State → OpenFault → Type 0
   Failed new told = (e : Error) × FailsToChange g new_tables (of_first_row g) (begun old) new e × IsOpenedAs e told

@@ -151,7 +151,7 @@ module _ (name : List ℕ) (columns : List Column) (key : Option ℕ) (primary :
         subst (λ (rows : List Row). IsPermutation (map show rows) (answer tree parts db)) (uncovered schema table d low s.now.trees)
         (subst (λ (rows : List Row). IsPermutation rows (answer tree parts db)) (outputs_are (db tree)) same)
 
-    -- there is an answer, where the connection is open
+    -- there is an answer, if the connection is open
     pub answered : IsTrue s.is_open → (rows : List Row) × Shown text [] s s rows × IsPermutation (map show (s.now.trees tree)) rows
     unfolding Shown
     answered is_open =

@@ -82,7 +82,7 @@ module _ {S : Type 0} (g : Ghosts S) (make : Bool) (next : Held S) (after : Stat
   finds_such P book p holds (Ok found) opens = (subst P (sym (finds book holds (Ok found) opens).0) p, tt)
   finds_such P book p holds (Err fault) opens = (tt, (finds book holds (Err fault) opens).1)
 
-  -- and is kept then, where a crash left just what the connection showed
+  -- and is then kept, if a crash left just what the connection showed
   pub keeps : (book found : Book) → HoldsStanding book s.committed.trees → IsSettled s → Opens g make next after (Ok found) → IsKeptThere found after
   keeps book found holds settled opens =
       let there = stands_there book holds in

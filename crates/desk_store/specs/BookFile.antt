@@ -7,7 +7,7 @@ use Rattle.desk_rows.specs.Described.{books, tabs, paras, corrs, marks, caches, 
 use Rattle.desk_rows.specs.Layout.{Layout}
 use Rattle.desk_rows.specs.Whole.{DifferBy}
 
--- The entries are those of `corr2` where the layout has it, and else those of `corr`; there are rows of `cache` where it has that.
+-- The entries are those of `corr2` if the layout has it, and else those of `corr`; there are rows of `cache` if it has that.
 abbrev pub rows_of : Layout → Contents → FileRows
 rows_of l c = record {
   books = c.rows books;

@@ -1,4 +1,4 @@
--- The book of a file: what a connection shows of it, what a crash leaves, and what a change that is kept makes of it.
+-- The book of a file: what a connection shows of it, what a crash leaves, and the book once a change is kept.
 use Rattle.std.specs.Prelude.{◌≡◌, ◌⊎◌, Bool, true, List, refl}
 use Rattle.std.specs.Coded.{Coded, code_by, coded×, coded_bool}
 use Rattle.std.specs.List.{AllByRecursion}
@@ -69,8 +69,8 @@ HoldsKept book change s db = (l : Layout) (next : Book) → MayKeep l book chang
 abbrev pub ArePutBy : Book → Change → List RowPut → Type 0
 ArePutBy book change puts = (next : Book) → LeadsTo book change next → LeadTo book puts next
 
--- Why a change isn't kept: the database answered the error to the statement of a put or to the commit, or memory for a
--- put was refused. What was lost is counted, or was too big.
+-- Why a change isn't kept: the database answered the error to the statement of a put or to the commit, or an
+-- allocation for a put failed. What was lost is counted, or was too big.
 pub record FailsToKeep {S : Type 0} (g : Ghosts S) (book : Book) (change : Change) (old : Held S) (new : State) (e : Error)
     : Type 0 where
   pub puts : List RowPut

@@ -19,7 +19,7 @@ pub data Presence : Type 0 where
   foreign : Presence
   unread : Presence
 
--- A file without `cache` gets it when it is opened. Where entries have names nothing reads `corr`, so whatever has its name may stand there.
+-- A file without `cache` gets it when it is opened. If entries have names, nothing reads `corr`, so anything may stand there under its name.
 abbrev pub presence : Format → Which → Presence
 presence unnamed books = needed
 presence unnamed tabs = needed
@@ -43,7 +43,7 @@ IsPresent optional has there = has ≡ there
 IsPresent foreign has there = (has ≡ there) × (has ≡ false)
 IsPresent unread has there = ⊤
 
--- it has the tables of a file of this format, and of those that are read just those that are there
+-- it has the tables of a file of this format, and of those that are read exactly those that are there
 abbrev pub IsOfFormat : Format → Layout → Type 0
 IsOfFormat format l = (w : Which) → IsPresent (presence format w) (l.has w) (is_there l.schema w)
 

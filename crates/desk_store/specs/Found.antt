@@ -30,7 +30,7 @@ HasNone s = list_any (is_there s) known_tables ≡ false
 
 -- ---- the rows that statements give
 
--- the rows of `tab` have different rowids, and of the others nothing is asked
+-- the rows of `tab` have different rowids, and nothing is required of the others
 abbrev pub AreToldApart : (w : Which) → List (ShownOf w) → Type 0
 AreToldApart books rows = ⊤
 AreToldApart tabs rows = HaveOwnRowids rows
@@ -53,7 +53,7 @@ abbrev pub AreEntriesIn : State → EntryRows → Type 0
 AreEntriesIn s (Unnamed rows) = AreRowsIn s corrs rows
 AreEntriesIn s (Named rows) = AreRowsIn s named_corrs rows
 
--- the cells, where their table is there
+-- the cells, if their table is there
 abbrev pub AreCellsIn : State → Option (List Cached) → Type 0
 AreCellsIn s None = is_there s.now.schema caches ≡ false
 AreCellsIn s (Some rows) = (is_there s.now.schema caches ≡ true) × AreRowsIn s caches rows

@@ -1,4 +1,4 @@
--- What opening a book's file tells, what it writes, and what the connection shows then.
+-- What opening a book's file reports, what it writes, and what the connection shows then.
 use Rattle.std.specs.Prelude.{◌≡◌, ◌⊎◌, ℤ, Bool, true, false, IsTrue, List, [], ◌∷◌, Option, Some, None, IfErr, IfOk, OnOk, Result, Err, is_some, option_map, unwrap_or, ⊤}
 use Rattle.sqlite_catalog.specs.Change.{KeepsRows}
 use Rattle.sqlite_catalog.specs.Listing.{IsSound}
@@ -43,7 +43,7 @@ use Rattle.desk_rows.specs.declared.fault.Fault.TheVariants as fault
 use Rattle.desk_store.specs.declared.fault.OpenFault.{OpenFault}
 use Rattle.desk_store.specs.declared.fault.OpenFault.TheVariants.{NotABook, Damaged, NewerFormat, Lost, NoMemory}
 
--- ---- what is told of a file whose tables are declared as those of a new one
+-- ---- what is reported of a file whose tables are declared as those of a new one
 
 -- `book` is missing; or its row is sound and of a known format, and a table of that format can't be read
 abbrev pub LacksTables : Layout → Contents → Type 0
@@ -51,8 +51,8 @@ LacksTables l c =
     (l.has books ≡ false)
     ⊎ ((row : BookRow) × (l.has books ≡ true) × IsBookRow (c.rows books) row × ¬ CanAllBeRead (format_in row.format) l c)
 
--- Before the rows of the tables but `book` are judged, the first of these is told: a table is missing, `book` is of a later format, or is
--- damaged; but a table that is missing beside `book` is told last.
+-- Before the rows of the tables but `book` are checked, the first of these is reported: a table is missing, `book` is of a later format,
+-- or is damaged; but a missing table other than `book` is reported last.
 abbrev pub TellsOfTables : Layout → Contents → OpenFault → Type 0
 TellsOfTables l c NotABook = LacksTables l c
 TellsOfTables l c (Damaged table id) =
@@ -69,7 +69,7 @@ pub record IsDamagedIn (l : Layout) (c : Contents) (table : FileTable) (id : ℤ
   pub readable : CanAllBeRead (format_in row.format) l c
   pub first : IsFirstDamage (rows_of l c) table id
 
--- what is told of a file that has a table of a book: just one of these, that it holds no book, has a later format, or is damaged
+-- what is reported of a file that has a table of a book: exactly one of these, that it holds no book, has a later format, or is damaged
 abbrev pub TellsOf : Layout → Contents → OpenFault → Type 0
 TellsOf l c NotABook = TellsOfTables l c NotABook
 TellsOf l c (Damaged table id) = TellsOfTables l c (Damaged table id) ⊎ IsDamagedIn l c table id
@@ -77,9 +77,9 @@ TellsOf l c NewerFormat = TellsOfTables l c NewerFormat
 TellsOf l c Lost = ⊤
 TellsOf l c NoMemory = ⊤
 
--- ---- what is told of any file without the tables of a book
+-- ---- what is reported of any file without the tables of a book
 
--- a statement that makes the tables of a new file, or the commit, failed with an error that is told so
+-- a statement that makes the tables of a new file, or the commit, failed with an error that is reported so
 abbrev pub FailsToMake : {S : Type 0} → Ghosts S → Held S → State → Fault → Type 0
 FailsToMake g old new fault =
     (e : Error) × FailsToChange g new_tables (of_first_row g) (begun old) new e × IsToldAs e fault
@@ -136,7 +136,7 @@ lacked l = which_lacked (lacking (l.has named_corrs) (l.has caches))
 abbrev pub completed : Layout → Layout
 completed l = with_tables (lacked l) l
 
--- ---- what stands in a file, and what opening makes of it
+-- ---- what stands in a file, and what it is after opening
 
 -- the connection shows the book in a file of either format, which has these contents
 pub record StandsAs (l : Layout) (c : Contents) (book : Book) (s : State) : Type 0 where
@@ -154,7 +154,7 @@ pub record Keeps (l : Layout) (c : Contents) (rows : Trees) (d : Contents) : Typ
   pub others : KeepsRows l.schema.tables rows d.others
   pub aside : KeepsAside l.schema rows d.others
 
--- The book in the file with these tables more, in which nothing else is lost.
+-- The book in the file with these tables too, in which nothing else is lost.
 abbrev pub HasGained : List Which → Layout → Contents → Book → Trees → (Layout → Contents → Type 0) → Type 0
 HasGained ws l c book rows P =
     (d : Contents) × P (with_tables ws l) d × RowsShow (rows_of (with_tables ws l) d) book × Keeps l c rows d
@@ -172,8 +172,8 @@ HoldsNone db = (s : Schema) × IsSound s db × HasNone s
 abbrev pub HoldsEmpty : Trees → Type 0
 HoldsEmpty db = (l : Layout) × HasNewTables l × HoldsBook l empty_book db
 
--- What opening commits, and only in a file without the tables of a book or whose rows show one: a new book where there was none and one is
--- to be made, and else the book that stood there, with the tables that its file lacked.
+-- What opening commits, and only in a file without the tables of a book or whose rows show one: a new book if there was none and one is to
+-- be made, and else the book that stood there, with the tables that its file lacked.
 pub record MayBring (make : Bool) (s : State) (db : Trees) : Type 0 where
   pub only : HasNone s.now.schema ⊎ ((book : Book) × ShowsIn s book)
   pub new : HasNone s.now.schema → (make ≡ true) × IsMade s db
@@ -188,7 +188,7 @@ HoldsEitherWith ws l book db = HoldsBook l book db ⊎ HoldsBook (with_tables ws
 abbrev pub HoldsEither : Layout → Book → Trees → Type 0
 HoldsEither l = HoldsEitherWith (lacked l) l
 
--- The book stood there, it stands there in a file with the tables of a new one, and a crash leaves it so, also where it left it in either
+-- The book stood there, it stands there in a file with the tables of a new one, and a crash leaves it so, also if it left it in either
 -- form before.
 pub record IsOpened (l : Layout) (c : Contents) (book : Book) (old new : State) : Type 0 where
   pub stood : StandsAs l c book old
@@ -196,7 +196,7 @@ pub record IsOpened (l : Layout) (c : Contents) (book : Book) (old new : State) 
   pub shows : HasGained (lacked l) l c book old.now.trees (λ after d. Shows after d new)
   pub leaves : Leaves (HoldsEither l book) old → LeavesBook (completed l) book new
 
--- a new book was made where none of the tables was there, the empty one, and a crash leaves it
+-- a new book, the empty one, was made since none of the tables was there, and a crash leaves it
 pub record IsMadeNew (make : Bool) (book : Book) (old new : State) : Type 0 where
   pub bare : HasNone old.now.schema
   pub wanted : make ≡ true
@@ -247,22 +247,22 @@ pub data StopsOpening {S : Type 0} (g : Ghosts S) (old : Held S) (new : State) (
 
 -- What opening answers, and what the connection shows then.
 pub record Opens {S : Type 0} (g : Ghosts S) (make : Bool) (old : Held S) (new : State) (result : Result Book OpenFault) : Type 0 where
-  -- in any file: a book only where its rows show it, or where a new one was made; where they show a book, that one or no refusal
+  -- in any file: a book only if its rows show it, or if a new one was made; if they show a book, that one or no refusal
   pub found : IfOk result (λ book. ShowsIn (state g old) book ⊎ IsMadeNew make book (state g old) new)
   pub given : (book : Book) → RowsShowIn (state g old) book → IfOk result (λ found. found ≡ book)
   pub unrefused : (book : Book) → RowsShowIn (state g old) book → IfErr result (λ fault. ¬ IsRefusal fault)
-  -- where the tables that are there are declared as those of a new file, just this is told
+  -- if the tables that are there are declared as those of a new file, exactly this is reported
   pub told : (l : Layout) (c : Contents) → (¬ HasNone l.schema) → HasThoseRead l → Shows l c (state g old) → IfErr result (TellsOf l c)
   -- and in any file that has none of them this
   pub bare : HasNone (state g old).now.schema → IfErr result (TellsOfNone make g old new)
-  -- a file that is refused is as it was
+  -- a file that is refused stays as it was
   pub as_before : IfErr result (λ fault. IsRefusal fault → ShowsAsBefore (state g old) new)
   pub is_open : OnOk result (IsTrue new.is_open)
   pub opened : (format : Format) (l : Layout) (c : Contents) → IsOfFormat format l → Shows l c (state g old)
       → IfOk result (λ book. IsOpened l c book (state g old) new)
   pub made : HasNone (state g old).now.schema → IfOk result (λ book. IsMadeNew make book (state g old) new)
 
--- No book is opened, this is told, and what a crash leaves is what opening may bring; after a refusal nothing new. Where a table of a book
+-- No book is opened, this is reported, and what a crash leaves is what opening may bring; after a refusal nothing new. If a table of a book
 -- was there, and the file isn't refused, it has a cause.
 pub record IsRefusedWith {S : Type 0} (g : Ghosts S) (make : Bool) (old : Held S) (new : State) (fault : OpenFault) : Type 0 where
   pub opens : HasCleanDisk new → Opens g make old new (Err fault)

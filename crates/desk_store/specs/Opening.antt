@@ -1,4 +1,4 @@
--- How a book's file is opened: in what order it is judged, and what is told of it.
+-- How a book's file is opened: in what order it is checked, and what is reported of it.
 use Rattle.std.specs.Prelude.{◌&&◌, not, ◌≡◌, ℤ, pos, ◌<ℤ◌, ◌≤ℤ◌, Bool, true, false, if◌then◌else◌, List, [], ◌∷◌, None, ⊤}
 use Rattle.std.specs.List.{AllByRecursion}
 use Rattle.std.specs.Ordering.{int_eq}
@@ -30,24 +30,24 @@ use Rattle.desk_rows.specs.declared.fault.Fault.TheVariants as fault
 use Rattle.desk_store.specs.declared.fault.OpenFault.{OpenFault}
 use Rattle.desk_store.specs.declared.fault.OpenFault.TheVariants.{NotABook, Damaged, NewerFormat, Lost, NoMemory}
 
--- ---- what is told
+-- ---- what is reported
 
--- how the fault of a read is told
+-- how the fault of a read is reported
 abbrev pub opened_as : Fault → OpenFault
 opened_as fault.NoMemory = NoMemory
 opened_as fault.Lost = Lost
 opened_as fault.Refused = NotABook
 
--- how an error of the database is told
+-- how an error of the database is reported
 abbrev pub IsOpenedAs : Error → OpenFault → Type 0
 IsOpenedAs e told = (fault : Fault) × IsToldAs e fault × (told ≡ opened_as fault)
 
--- how it is told that the rows show no book
+-- how it is reported that the rows show no book
 abbrev pub rebuilt_as : PartsFault → OpenFault
 rebuilt_as (rebuilt.Damaged table id) = Damaged table id
 rebuilt_as rebuilt.NoMemory = NoMemory
 
--- the file is refused for what stands in it, and not because memory was refused or the store failed
+-- the file is refused for what stands in it, and not because an allocation or the store failed
 abbrev pub IsRefusal : OpenFault → Type 0
 IsRefusal NotABook = ⊤
 IsRefusal (Damaged table id) = ⊤
@@ -67,7 +67,7 @@ pub record IsBookRow (rows : List BookRow) (row : BookRow) : Type 0 where
   pub sound : IsSoundBookRow row
   pub format : row.format ≤ℤ pos 2
 
--- a later format is told before any damage
+-- a later format is reported before any damage
 abbrev pub TellsOfRow : List BookRow → OpenFault → Type 0
 TellsOfRow rows NotABook = ⊥
 TellsOfRow rows (Damaged table id) = (table ≡ Book) × IsDamagedBook rows id × ¬ IsNewer rows
@@ -93,7 +93,7 @@ has_tables named s = (is_there s tabs && is_there s paras && is_there s marks) &
 
 -- ---- what is read
 
--- A table can be read: it is there where the format needs it, none stands where there must be none, and its texts are UTF-8.
+-- A table can be read: it is there if the format needs it, none is there if there must be none, and its texts are UTF-8.
 abbrev pub CanBeRead : Presence → Bool → Type 0 → Type 0
 CanBeRead needed has are_utf8 = (has ≡ true) × are_utf8
 CanBeRead optional has are_utf8 = has ≡ true → are_utf8
@@ -119,7 +119,7 @@ pub record Stays (old new : State) : Type 0 where
   pub committed : new.committed ≡ old.committed
   pub is_open : new.is_open ≡ old.is_open
 
--- Whatever file of this format the connection shows, this is so of its rows.
+-- Whatever file of this format the connection shows, this holds of its rows.
 abbrev pub OfFile : Format → State → (FileRows → Type 0) → Type 0
 OfFile format s P = (l : Layout) (c : Contents) → IsOfFormat format l → Shows l c s → P (rows_of l c)
 

@@ -1,6 +1,6 @@
 //! A book's file, read whole. Nothing is written.
 //!
-//! Of a file that is declared as a new one the rows are told as they stand, in any order.
+//! Of a file that is declared as a new one the rows are given as they stand, in any order.
 
 ghost use Rattle.std.specs.Prelude.{◌≡◌, false, IfErr, IfOk, IsTrue, MatchBool, None, OnOk, option_map};
 ghost use Rattle.std.specs.List.{list_all, list_any};
@@ -43,7 +43,7 @@ pub(crate) fn has_any<S: Alter>(conn: &Connection<S>, tables: &[FileTable]) -> b
     tables.iter().any(|table| has_table(conn, *table))
 }
 
-/// Whether a row of `book` is sound, where its format is no later one.
+/// Whether a row of `book` is sound, if its format isn't a later one.
 fn is_sound(row: &BookRow) -> bool
     ensures { MatchBool result (IsSoundBookRow row.now) (¬ IsSoundBookRow row.now) }
 {
@@ -141,7 +141,7 @@ fn read_entries<S: Alter>(
     }
 }
 
-/// The cells of the paragraphs in a file of this format, where it has them.
+/// The cells of the paragraphs in a file of this format, if it has them.
 fn read_cells<S: Alter>(
     alloc: Global,
     conn: &mut Connection<S>,
@@ -217,13 +217,12 @@ fn read_rest<S: Alter>(
     })
 }
 
-/// What a book's file holds, once its row of `book` is judged and its tables are there. Whether its rows show a book isn't
-/// asked.
+/// What a book's file holds, once its row of `book` is checked and its tables are there, whether or not they show a book.
 ///
 /// # Errors
 ///
-/// [`OpenFault::NewerFormat`] or a damage of `book`, [`OpenFault::NotABook`] where a table is missing or can't be read, and
-/// else want of memory or a store that failed.
+/// [`OpenFault::NewerFormat`] or a damage of `book`, [`OpenFault::NotABook`] if a table is missing or can't be read, and
+/// otherwise that an allocation or the store failed.
 pub(crate) fn read_parts<S: Alter>(
     alloc: Global,
     conn: &mut Connection<S>,
@@ -234,7 +233,7 @@ pub(crate) fn read_parts<S: Alter>(
         → IfOk result (λ parts. AreFileRows (state S.Store conn.old) (rows_in parts)) }
     ensures unrefused { HasCleanDisk (state S.Store conn.new) → (book : Book)
         → RowsShowIn (state S.Store conn.old) book → IfErr result (λ fault. ¬ IsRefusal fault) }
-    // Where the tables that are there are declared as those of a new file, this is told, and the rows are as they stand.
+    // If the tables that are there are declared as those of a new file, this is reported, and the rows are as they stand.
     ensures told { HasCleanDisk (state S.Store conn.new) → (l : Layout) (c : Contents)
         → HasThoseRead l → Shows l c (state S.Store conn.old) → IfErr result (TellsOfTables l c) }
     ensures read { HasCleanDisk (state S.Store conn.new) → (format : Format) (l : Layout)

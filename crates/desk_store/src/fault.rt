@@ -26,7 +26,7 @@ pub enum OpenFault {
     /// The store failed.
     #[error("the store failed")]
     Lost,
-    /// A growth was refused.
+    /// An allocation failed.
     #[error("no memory")]
     NoMemory,
 }

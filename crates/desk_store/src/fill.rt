@@ -31,7 +31,7 @@ pub(crate) fn lacked_by(parts: &Parts) -> Option<NewTables>
     }
 }
 
-/// How an error is told that stopped the filling of a file which shows a book: that one is there is known by then, so no
+/// How an error is reported that stopped the filling of a file which shows a book: that one is there is known by then, so no
 /// error says that there is none.
 fn stopped_by(error: Error) -> OpenFault
     ensures told { IsFilledAs error result }
@@ -58,7 +58,7 @@ fn file_tables(tables: NewTables) -> &'static [FileTable]
 ///
 /// # Errors
 ///
-/// [`OpenFault::Lost`] where the store failed or refused it, and [`OpenFault::NoMemory`]. A crash then leaves the file as it
+/// [`OpenFault::Lost`] if the store failed or refused it, and [`OpenFault::NoMemory`]. A crash then leaves the file as it
 /// was or with all of this.
 pub(crate) fn fill<S: Alter>(
     alloc: Global,

@@ -19,10 +19,10 @@ ghost use Rattle.std.specs.Prelude.{Bool, IfErr, IfOk, IsTrue, List, Ok, Result,
 
 use sqlite::{Alter, Connection};
 
-/// Whatever a crash leaves of a connection, where each outcome holds one of some books in a file of either format: a connection that
-/// opened at it finds one of these when the book is opened, or no refusal is told. Where the new connection leaves just what it shows,
-/// the book that is found is kept then in a file with the tables of a new one. Where each outcome holds no book or the empty one, just
-/// the empty book is found or made, or it is told that there is none, and there is none.
+/// Whatever a crash leaves of a connection, where each outcome holds one of some books in a file of either format: a connection that opened
+/// at it finds one of these when the book is opened, or no refusal is reported. If the new connection leaves just what it shows, the book
+/// that is found is then kept in a file with the tables of a new one. If each outcome holds no book or the empty one, only the empty book
+/// is found or made, or it is reported that there is none, and there is none.
 pub fn found_after_a_crash<S: Alter, T: Alter>(
     last: &Connection<S>,
     next: &Connection<T>,
@@ -67,8 +67,8 @@ pub fn left_at_any_exit<S: Alter>(conn: &Connection<S>)
         → LeavesOneOf (book ∷ next ∷ []) (state S.Store conn.now) }
 {}
 
-/// A file whose tables are declared as those of a new one shows a book exactly where its row of `book` is sound, its tables can be read and
-/// there is no damage. Nothing for which a file is refused is told of it then; and of any other file at most one such thing is told.
+/// A file whose tables are declared as those of a new one shows a book exactly if its row of `book` is sound, its tables can be read and
+/// there is no damage. Nothing for which a file is refused is then reported of it; and of any other file at most one such thing.
 pub fn files_that_show_a_book()
     ensures book { (l : Layout) (c : Contents) → HasThoseRead l → (HasBook l c ↔ IsUndamaged l c) }
     ensures unrefused { (l : Layout) (c : Contents) (fault : OpenFault) → HasBook l c

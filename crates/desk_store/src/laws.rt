@@ -62,8 +62,8 @@ pub fn kept_then_opened<S: Alter, T: Alter>(last: &Store<S>, next: &Connection<T
     let _ = next.schema();
 }
 
-/// Where a book was opened or made, a change that leads on from it may be kept; and a crash leaves the book, where one before
-/// it was opened did, in the form that its file had or with the tables that it lacked.
+/// If a book was opened or made, a change that leads on from it may be kept; and a crash leaves the book, if one before it was opened did,
+/// in the form that its file had or with the tables that it lacked.
 pub fn opened_then_kept<S: Alter>(before: &Connection<S>, after: &Store<S>, change: &Change)
     ensures opened { (l : Layout) (c : Contents) (book next : Book)
         → IsOpened l c book (state S.Store before.now) (shown_by S.Store after.now)
@@ -100,7 +100,7 @@ pub fn formats()
         → IsOfFormat format (with_tables (caches ∷ []) l) }
 {}
 
-/// Where a book stands in a file that is opened, that one is found, or no refusal is told.
+/// If a book stands in a file that is opened, that one is found, or no refusal is reported.
 pub fn found_where_it_stands<S: Alter>(old: &Connection<S>, new: &Connection<S>)
     ensures { (make : Bool) (result : Result Book OpenFault)
         → OpensSo S.Store make old.now (state S.Store new.now) result → (l : Layout) (book : Book)

@@ -18,13 +18,13 @@ use desk_parts::FileTable;
 use desk_rows::{Fault, has_table, make_tables};
 use sqlite::{Alter, Connection};
 
-/// Makes the file of a new book, as one, where none of a book's tables is there but perhaps `cache`: where that is there,
-/// nothing is made.
+/// Makes the file of a new book, in one transaction, in a file that has none of a book's tables except perhaps `cache`: if
+/// that is there, nothing is made.
 ///
 /// # Errors
 ///
-/// [`OpenFault::NotABook`] where a name is taken or the making is refused, and else want of memory or a store that failed.
-/// What the connection shows is as it was, if it is open still.
+/// [`OpenFault::NotABook`] if a name is taken or making the tables is refused, and otherwise that an allocation or the
+/// store failed. What the connection shows is as it was, if it is still open.
 pub(crate) fn make_book<S: Alter>(conn: &mut Connection<S>) -> Result<(), OpenFault>
     requires { conn.old.in_transaction ≡ false }
     ensures idle { conn.new.in_transaction ≡ false }
@@ -33,7 +33,7 @@ pub(crate) fn make_book<S: Alter>(conn: &mut Connection<S>) -> Result<(), OpenFa
         (λ c. Shows (made (state S.Store conn.old).now.schema) c (state S.Store conn.new))) }
     ensures open { HasCleanDisk (state S.Store conn.new)
         → OnOk result (IsCommitted (state S.Store conn.new)) }
-    // Of a crash at any exit: nothing new is left but all of it, and that only where no name was taken.
+    // Of a crash at any exit: nothing new is left but all of it, and that only if no name was taken.
     ensures crash { Survives (state S.Store conn.old) (state S.Store conn.new)
         (IsMade (state S.Store conn.old)) }
     ensures settled { HasCleanDisk (state S.Store conn.new)
@@ -50,7 +50,7 @@ pub(crate) fn make_book<S: Alter>(conn: &mut Connection<S>) -> Result<(), OpenFa
         → IfErr result (λ told. (e : Failure)
         × FailsToChange S.Store new_tables (of_first_row S.Store) (begun conn.old)
         (state S.Store conn.new) e × IsOpenedAs e told) }
-    // Where `cache` is there, nothing is done.
+    // If `cache` is there, nothing is done.
     ensures beside { is_there (state S.Store conn.old).now.schema caches ≡ true
         → (result ≡ Err OpenFault.NotABook) × (conn.new ≡ conn.old) }
 {

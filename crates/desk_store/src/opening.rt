@@ -1,4 +1,4 @@
-//! A book's file opened: judged, read whole, and completed where it is of an older form; or made.
+//! A book's file opened: checked, read whole, and completed if it is of an older form; or made.
 
 ghost use Rattle.std.specs.Prelude.{◌≡◌, ◌⊎◌, Bool, None, Some, false, true, IfErr, IfOk, IsTrue, Ok, OnOk};
 ghost use Rattle.desk_book.specs.declared.filling.NewTables.{NewTables};
@@ -69,7 +69,7 @@ fn complete<S: Alter>(
     }
 }
 
-/// Opens the file of a book, of which a table is there.
+/// Opens the file of a book, in which a table of one is there.
 fn open_book<S: Alter>(alloc: Global, conn: &mut Connection<S>) -> Result<Book, OpenFault>
     requires idle { conn.old.in_transaction ≡ false }
     requires unlimited { conn.old.step_limit ≡ None }
@@ -112,14 +112,14 @@ fn open_new<S: Alter>(alloc: Global, conn: &mut Connection<S>) -> Result<Book, O
 
 impl<S: Alter> Store<S> {
     /// Opens the book of a file: the one that its rows show, with the braille of its prints. A file of the first format is
-    /// brought to the second, and one without the cells of its paragraphs gets them, as one transaction. Where none of a book's
+    /// brought to the second, and one without the cells of its paragraphs gets them, as one transaction. If none of a book's
     /// tables is there and `make` is true, the file of the empty book is made. The caller's conditions: no transaction is open
     /// on the connection, and it has no limit on steps.
     ///
     /// # Errors
     ///
-    /// [`OpenFault::NotABook`], [`OpenFault::NewerFormat`] and [`OpenFault::Damaged`] where the file shows no book; it is as it
-    /// was then. [`OpenFault::Lost`] where a call of the database failed, and [`OpenFault::NoMemory`]: the file holds the same
+    /// [`OpenFault::NotABook`], [`OpenFault::NewerFormat`] and [`OpenFault::Damaged`] if the file shows no book; it then stays
+    /// as it was. [`OpenFault::Lost`] if a call of the database failed, and [`OpenFault::NoMemory`]: the file holds the same
     /// book in the older form or the newer one.
     pub fn open_on(
         alloc: Global,
@@ -167,7 +167,7 @@ impl<S: Alter + Drop> Store<S> {
     ///
     /// # Errors
     ///
-    /// Those of [`Store::open_on`]; the connection is dropped then.
+    /// Those of [`Store::open_on`]; the connection is then dropped.
     pub fn adopt(
         alloc: Global,
         connection: Connection<S>,
@@ -180,7 +180,7 @@ impl<S: Alter + Drop> Store<S> {
         ensures crash { IfOk result (λ it. Survives (state S.Store connection)
             (shown_by S.Store it.0) (MayBring make (state S.Store connection))) }
         ensures kept { IfOk result (λ it. it.0.lost ≡ false) }
-        // There is a connection of which this is so, that which was dropped.
+        // There is a connection of which this holds, the one that was dropped.
         ensures told { IfErr result (λ fault. (last : Held S)
             × IsRefusedWith S.Store make connection (state S.Store last) fault) }
     {

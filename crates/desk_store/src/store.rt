@@ -14,7 +14,7 @@ use std::alloc::Global;
 use std::marker::Model;
 use thiserror::Error;
 
-/// A change wasn't kept. Only opening the file again tells whether it holds the change.
+/// A change wasn't kept. Only opening the file again shows whether it holds the change.
 #[derive(Clone, Copy, Debug, Error, PartialEq, Eq)]
 #[error("the change wasn't kept")]
 pub struct Lost;
@@ -75,13 +75,13 @@ impl<S: Alter> Store<S> {
     }
 
     /// Keeps a change of the book in its file, as one transaction. The caller's condition: the change was planned on the
-    /// book. Where the file has the tables of a new one and shows the book, it shows the next then, and so does whatever a
+    /// book. If the file has the tables of a new one and shows the book, it then shows the next one, and so does whatever a
     /// crash leaves.
     ///
     /// # Errors
     ///
-    /// [`Lost`] where a call of the database failed or memory was refused. From then on nothing is written, and every answer
-    /// is [`Lost`].
+    /// [`Lost`] if a call of the database or an allocation failed. From then on nothing is written, and every answer is
+    /// [`Lost`].
     pub fn keep(&mut self, alloc: Global, book: &Book, change: &Change) -> Result<(), Lost>
         requires planned { (command : _) × (next : _) × Carries book.now command next change.now }
         ensures kept { HasCleanDisk (shown_by S.Store self.new) → (l : Layout) (next : _)
@@ -95,8 +95,8 @@ impl<S: Alter> Store<S> {
         // Nothing is committed but the change.
         ensures survives { Survives (shown_by S.Store self.old) (shown_by S.Store self.new)
             (HoldsKept book.now change.now (shown_by S.Store self.old)) }
-        // The first loss has a cause: the database answered an error, or memory was refused. That memory isn't refused
-        // without need is shown by tests.
+        // The first loss has a cause: the database answered an error, or an allocation failed. That this isn't reported
+        // without one is shown by tests.
         ensures told { HasCleanDisk (shown_by S.Store self.new) → self.old.lost ≡ false
             → OnErr result ((e : _) × FailsToKeep S.Store book.now change.now
             self.old.connection (shown_by S.Store self.new) e) }

@@ -1,4 +1,4 @@
--- What no action asks. The names of the actions differ by their first letters.
+-- Which words ask for no action. The names of the actions differ by their first letters.
 use Rattle.std.proofs.Common.{◌≡◌, ◌≢◌, ℕ, List, Some, None, Option, ap, sym, ◌∙◌, arith, codes, refl}
 use Rattle.std.specs.Prelude.{slice_index}
 use Rattle.clap.specs.Words.{Row, Text, first_of}
@@ -53,7 +53,7 @@ table_without rows (Export file volume width lines) e text h = absurd (omega (ar
 table_without rows (Translate table) e text h = h
 table_without rows (Check file) e text h = absurd (omega (arith, e))
 
--- without its file no action is asked but `translate`
+-- without its file no action is asked for but `translate`
 pub asks_no_file : (name word : Text) (rows : List Row) → name ≡ word → slice_index word 0 ≢ 116 → first_of (codes "file") rows ≡ None → (action : Action) → ¬ Asks name rows action
 asks_no_file name word rows is other none action h =
     let letter = sym (ap (λ (t : Text). slice_index t 0) is) ∙ letter_asked name rows action h in
@@ -67,7 +67,7 @@ asks_no_table name rows is none action h =
     let operand = operand_asked name rows action h in
     clash _ operand.0 none (table_without rows action letter operand.0 operand.1)
 
--- an export is asked with each of its numbers
+-- an export is asked for with each of its numbers
 pub asks_no_export : (rows : List Row) → ((volume width lines : ℕ) → Counts rows (codes "volume") volume → Counts rows (codes "width") width → Counts rows (codes "lines") lines → ⊥)
     → (action : Action) → ¬ Asks (codes "export") rows action
 asks_no_export rows without (New file) h = let e = letter_asked _ rows (New file) h in absurd (omega (arith, e))

@@ -1,4 +1,4 @@
--- Words that an action's own command takes ask for it.
+-- Words that an action's own command accepts ask for it.
 use Rattle.std.proofs.Common.{◌≡◌, ◌∙◌, inl, inr, ℕ, Bool, Bor, cond, true, false, not, refl, sym, ap, subst, List, [], ◌∷◌, ◌&&◌, ◌||◌, Option, Some, None, codes, true≢false, arith}
 use Rattle.std.specs.Prelude.{◌≢◌, MatchOption, ◌≤◌, IfSome, IsSomeAnd, find, is_some, option_map, unwrap_or}
 use Rattle.std.specs.Option.{option_map_or}
@@ -155,7 +155,7 @@ export_named words e =
 
 -- ---- a subcommand
 
--- words that the command takes ask for an action
+-- words that the command accepts ask for an action
 abbrev pub NamesOne : Shape → Type 0
 NamesOne s = (words : List Text) → level_fault s [] nothing_held words false [] ≡ [] → (action : Action) × Asks s.name (rows_after s.rules [] words) action × IsWithinLimits (rows_after s.rules [] words) action
 

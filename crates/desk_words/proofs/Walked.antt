@@ -17,7 +17,7 @@ pub no_fault : (a b : Kinds) → or_else a b ≡ [] → (a ≡ []) × (b ≡ [])
 no_fault [] b e = (refl, e)
 no_fault (k ∷ ks) b e = cc
 
--- the argument that waits for values, with those that it has
+-- the argument that still takes values, with those that it has
 abbrev pub Pending : Type 0
 Pending = Option (Text × List Text)
 

@@ -13,7 +13,7 @@ use Rattle.desk_words.specs.declared.action.Action.TheVariants.{Check, Export, N
 abbrev pub Names : List Row → Text → Text → Type 0
 Names rows id text = first_of id rows ≡ Some text
 
--- it is the number of 64 bits that decimal digits write, after a plus or none
+-- it is the number of 64 bits that decimal digits write, with or without a plus before them
 pub record Counts (rows : List Row) (id : Text) (number : ℕ) : Type 0 where
   pub text : Text
   pub given : one_of id rows ≡ Some text
@@ -51,7 +51,7 @@ pub record IsExportable (volume width lines : ℕ) : Type 0 where
 abbrev pub HasDefault : List Row → Text → (number default : ℕ) → Type 0
 HasDefault rows id number default = is_given id rows ≡ false → number ≡ default
 
--- its numbers, where it has some, are within these limits, and pages of which nothing is said have 25 lines of 40 cells
+-- its numbers, if it has some, are within these limits, and pages of which nothing is said have 25 lines of 40 cells
 abbrev pub IsWithinLimits : List Row → Action → Type 0
 IsWithinLimits rows (New file) = Unit {0}
 IsWithinLimits rows (Session file) = Unit {0}

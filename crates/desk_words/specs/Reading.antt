@@ -10,12 +10,12 @@ use Rattle.desk_words.specs.declared.action.Action.{Action as ActionTerm}
 use Rattle.desk_words.specs.declared.reading.Reading.{Reading}
 use Rattle.desk_words.specs.declared.reading.Reading.TheVariants.{Asked, Help, NoMemory, Refused}
 
--- the command takes the words, and the subcommand that they name asks for the action
+-- the command accepts the words, and the subcommand that they name asks for the action
 pub record NamesAction (app : App) (words : List Text) (action : ActionTerm) : Type 0 where
   pub taken : fault_of app words ≡ []
   pub asked : IsSomeAnd (subcommand_of app words) (λ found. Asks found.0 found.1 action)
 
--- and its numbers are within their limits, or the defaults where the words don't give them
+-- and its numbers are within their limits, or the defaults if the words don't give them
 abbrev pub NamesWithinLimits : App → List Text → ActionTerm → Type 0
 NamesWithinLimits app words action =
     NamesAction app words action
@@ -24,7 +24,7 @@ NamesWithinLimits app words action =
 abbrev pub NameAnAction : App → List Text → Type 0
 NameAnAction app words = (action : ActionTerm) × NamesWithinLimits app words action
 
--- the matches are those that the command, which takes the words, has on them
+-- the matches are those that the command, which accepts the words, has on them
 pub record AreMatchesOf (app : App) (words : List Text) (matches : ArgMatches) : Type 0 where
   pub taken : fault_of app words ≡ []
   pub subcommand : subcommand_rows_of matches ≡ subcommand_of app words

@@ -39,8 +39,8 @@ pub enum Action<'a> {
     },
 }
 
-/// The action that the matches of a parse ask for. It takes no memory, and borrows from the words.
-/// Where the program's command took the words, it is the action that they name.
+/// The action that the matches of a parse ask for. It allocates nothing, and borrows from the
+/// words. If the program's command accepted the words, it is the action that they name.
 pub fn action_of<'a>(matches: &ArgMatches<'a>) -> Option<Action<'a>>
     ensures asked { MatchOption result ((action : ActionTerm) → ¬ IsAsked matches.now action)
         (IsAsked matches.now) }

@@ -9,7 +9,7 @@
 //! }
 //! ```
 //!
-//! `desk_program` carries an action out.
+//! `desk_program` carries the action out, and `braildesk` takes the words from the system.
 #![tactic(auto)]
 
 mod action;

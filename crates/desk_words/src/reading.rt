@@ -20,7 +20,7 @@ pub enum Reading<'a> {
     Help(String),
     /// They are refused, and the text says why. It isn't empty.
     Refused(String),
-    /// There was no memory to read them.
+    /// An allocation failed while they were read.
     NoMemory,
 }
 

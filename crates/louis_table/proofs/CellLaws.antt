@@ -1,4 +1,4 @@
--- Each definition and each rule of a table that a text means has a cell.
+-- Each definition and each rule of a table that a text means has at least one cell.
 use Rattle.std.proofs.Common.{◌≡◌, ◌≢◌, ℕ, zero, suc, ◌+◌, List, [], ◌∷◌, ◌++◌, Option, Some, None, Contains, refl, sym, subst, ◌∙◌, inl, inr, arith}
 use Rattle.std.specs.Prelude.{map, nat_eq, slice_get}
 use Rattle.std.specs.List.{AllByRecursion, flat_map}
@@ -24,7 +24,7 @@ pair_dots : (dots upper lower : List ℕ) → PairDots dots upper lower → (upp
 pair_dots dots upper lower (inl (h, e)) = (some_dots dots upper h, λ none. some_dots dots upper h (sym e ∙ none))
 pair_dots dots upper lower (inr (first, second, e, h, k)) = (some_dots first upper h, some_dots second lower k)
 
--- a field spells a character at least
+-- a field spells at least one character
 some_characters : (field text : List ℕ) → field ≢ [] → Spells field text → text ≢ []
 some_characters field [] some spells = λ e. some spells
 some_characters field (c ∷ text) some spells = λ e. cc

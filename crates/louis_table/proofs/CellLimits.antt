@@ -157,7 +157,7 @@ entries-count profile n (line ∷ lines) entries (inr (entry, rest, gives, e, h)
     let k = ap length e in
     omega (arith, few, k)
 
--- ---- what entries make of a table
+-- ---- the table that entries make
 
 joined-few : {X : Type 0} (f : X → List ℕ) (most : ℕ) (xs : List X) → All (λ x. length (f x) ≤ most) xs → length (flat_map f xs) ≤ length xs * most
 joined-few f most xs all = subst (λ (n : ℕ). n ≤ length xs * most) (sym (length-flat_map f xs)) (sum_by-le (λ x. length (f x)) most xs all)

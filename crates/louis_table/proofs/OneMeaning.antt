@@ -1,4 +1,4 @@
--- A text has one meaning, or one fault that is told.
+-- A text has one meaning, or one fault that is reported.
 use Rattle.std.proofs.Common.{◌≡◌, ℕ, ◌+◌, ◌≤◌, Bool, false, cond, List, [], ◌∷◌, ◌++◌, length, Option, Some, None, Result, Ok, Err, Contains, refl, sym, ap, subst, ◌∙◌, ◌⊎◌, inl, inr, arith, true≢false}
 use Rattle.std.specs.List.{flat_map}
 use Rattle.std.specs.Prelude.{map, nat_eq, unwrap_or}
@@ -80,7 +80,7 @@ same_parts t u d p r a =
     ∙ (ap (λ x. whole u.definitions u.partners u.rules u.numsign u.capsletter u.begcapsword u.nocontractsign x t.nocontract_chars) (a.sets sets.NumericMode)
     ∙ ap (λ x. whole u.definitions u.partners u.rules u.numsign u.capsletter u.begcapsword u.nocontractsign u.mode_chars x) (a.sets sets.NoContraction))))))))
 
--- rules are made of the definitions and the partners alone
+-- rules depend only on the definitions and the partners
 rules_by : (t u : Meaning) (entries : List (ℕ × Entry)) → t.definitions ≡ u.definitions → t.partners ≡ u.partners → flat_map (rules_in t) entries ≡ flat_map (rules_in u) entries
 rules_by t u entries d p =
     as_bare t entries

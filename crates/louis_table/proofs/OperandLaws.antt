@@ -55,7 +55,7 @@ part_len-whole dots h = ap part_len (sym (append-nil dots)) ∙ prefix_at not_co
 part_len-comma : (first second : List ℕ) → HasNoComma first → part_len (first ++ 44 ∷ second) ≡ length first
 part_len-comma first second h = prefix_at not_comma first (44 ∷ second) h refl
 
--- the parts round a comma are read
+-- the parts around a comma are read
 parts_at : (first second : List ℕ) → HasNoComma first → pair_parts (first ++ 44 ∷ second) ≡ (first, second)
 parts_at first second h =
     let len = part_len-comma first second h in

@@ -45,7 +45,7 @@ module _ {V : Type 0} where
   IsPlaceOf-push zero entries c k v ne h = lookup-push_other entries c k v ne h
   IsPlaceOf-push (suc index) entries c k v ne h = (h.0, slice_get-push_before entries (c, h.0) (k, v) index h.1)
 
-  -- behind a character that has a place
+  -- after a character that has a place
   pub AreIn-push_first : (places : List ℕ) (entries more : List (ℕ × V)) (k n : ℕ) (v : V) → AreIn places entries → k < 128 → more ≡ entries ++ (k, v) ∷ [] → n ≡ length more → AreIn (set places k n) more
   AreIn-push_first places entries more k n v a small e size =
       subst (λ (es : List (ℕ × V)). AreIn (set places k n) es) (sym e)
@@ -68,7 +68,7 @@ module _ {V : Type 0} where
       here : IsPlaceOf (slice_index (set places k n) k) (entries ++ (k, v) ∷ []) k
       here = subst (λ (p : ℕ). IsPlaceOf p (entries ++ (k, v) ∷ []) k) (sym (get_or-set_same places k n 0 within ∙ last)) (v, slice_get-push_last entries (k, v))
 
-  -- behind any other character
+  -- after any other character
   pub AreIn-push_later : (places : List ℕ) (entries more : List (ℕ × V)) (k : ℕ) (v : V) → AreIn places entries → 128 ≤ k → more ≡ entries ++ (k, v) ∷ [] → AreIn places more
   AreIn-push_later places entries more k v a large e =
       subst (λ (es : List (ℕ × V)). AreIn places es) (sym e)

@@ -1,4 +1,4 @@
--- What is a table without the numeric mode is the same table with it.
+-- What is a table without numeric mode is the same table with it.
 use Rattle.std.proofs.Common.{◌≡◌, ℕ, ◌+◌, Bool, false, cond, List, [], ◌∷◌, ◌++◌, Some, None, Result, Ok, Err, Contains, refl, sym, ap, subst, ◌∙◌, ◌⊎◌, inl, inr, arith}
 use Rattle.std.specs.List.{flat_map}
 use Rattle.std.proofs.lemmas.List.Elements.{Contains-append_left, Contains-append_right, Contains-append_cases}
@@ -19,7 +19,7 @@ use Rattle.louis_table.proofs.EntryLaws.{has_opcode, opcode_named-name_of, opcod
 use Rattle.louis_table.proofs.VerdictLaws.{only_one}
 use Rattle.louis_table.proofs.OneMeaning.{in_last}
 
--- the line says nothing, or gives an entry without the numeric mode
+-- the line says nothing, or gives an entry without numeric mode
 abbrev pub IsEarly : List ℕ → Type 0
 IsEarly line = SaysNothing line ⊎ ((entry : Entry) × GivesIn WithoutNumericMode line entry)
 
@@ -70,7 +70,7 @@ dots_begin line dots (Replace kind) (characters, h) = (h.0, h.1)
 dots_begin line dots (Announce sign) h = (h.0, h.1)
 dots_begin line dots (Collect set) h = absurd h
 
--- what such a line gives, it gives without the numeric mode
+-- what such a line gives, it gives without numeric mode
 pub early_entry : (line : List ℕ) (entry : Entry) → StartsEarly line → Gives line entry → GivesIn WithoutNumericMode line entry
 early_entry line entry early (definition_line class characters dots c cells has h s d e) =
     definition_line class characters dots c cells (early (Define class) h.0 h.1) h s d e
@@ -132,7 +132,7 @@ early_cause lines n cause early (on_line before line after e at f) =
     (early line (subst (λ (ls : List (List ℕ)). Contains ls line) (sym e) (Contains-append_right before (line ∷ after) line (Contains-append_left (line ∷ []) after line (0, omega arith, refl)))))
     cause f)
 
--- ---- lines that give entries without the numeric mode
+-- ---- lines that give entries without numeric mode
 
 pub all_early : (n : ℕ) (lines : List (List ℕ)) (entries : List (ℕ × Entry)) → GiveFromIn WithoutNumericMode n lines entries → (line : List ℕ) → Contains lines line → IsEarly line
 all_early n [] entries g line (k, lt, e) = absurd (omega arith)

@@ -1,4 +1,4 @@
--- Without the numeric mode too a text has a meaning, or a fault that is told.
+-- Without numeric mode too a text has a meaning, or a fault that is reported.
 use Rattle.std.proofs.Common.{◌≡◌, ◌≢◌, ℕ, ◌+◌, ◌<◌, ◌≤◌, List, [], ◌∷◌, ◌++◌, length, Option, Some, None, Contains, refl, sym, ap, subst, ◌∙◌, ◌⊎◌, inl, inr, arith, lit≤, true≢false}
 use Rattle.std.specs.Str.{is_utf8}
 use Rattle.std.proofs.lemmas.Bool.{cases_Bool, cases_lt}
@@ -20,7 +20,7 @@ use Rattle.louis_table.proofs.ProfileLaws.{StartsEarly, same_opcode, not_nothing
 
 -- ---- the first line with a later opcode
 
--- an opcode of the numeric mode stands at the front of the line
+-- an opcode of numeric mode stands at the front of the line
 pub record StartsLate (line : List ℕ) : Type 0 where
   pub opcode : Opcode
   pub rest : List ℕ
@@ -60,7 +60,7 @@ early_or_late line = by (opcode_named (field_at line).0) refl
     by None e = inr (λ opcode rest b. let s : opcode_named (field_at line).0 ≡ Some opcode = at opcode rest b in absurd cc)
     by (Some found) e = known found e (included WithoutNumericMode (profile_of found))
 
--- the first line with an opcode of the numeric mode
+-- the first line with an opcode of numeric mode
 pub record FirstLate (lines : List (List ℕ)) : Type 0 where
   pub before : List (List ℕ)
   pub line : List ℕ
@@ -98,7 +98,7 @@ all_or_first (line ∷ lines) =
       ]
     ]
 
--- such a line has cause 1 without the numeric mode
+-- such a line has cause 1 without numeric mode
 late_unknown : (before : List (List ℕ)) (line : List ℕ) → StartsLate line → FaultIn WithoutNumericMode before line 1
 late_unknown before line late =
     unknown_opcode (name_of late.opcode) late.rest late.begins
@@ -151,13 +151,13 @@ module _ (lines before rest : List (List ℕ)) (parts : lines ≡ before ++ rest
       let h = front_early before front s.0 line s.1 early in
       on_line front line after e at (early_fault front line h.0 h.1 cause f)
 
--- this fault of the lines is told without the numeric mode
+-- this fault of the lines is reported without numeric mode
 pub record IsToldEarly (lines : List (List ℕ)) (n cause : ℕ) : Type 0 where
   pub has : HasCauseIn WithoutNumericMode lines n cause
   pub first : (m other : ℕ) → HasCauseIn WithoutNumericMode lines m other → IsToldNoLater n cause m other
 
 module _ (lines : List (List ℕ)) (f : FirstLate lines) where
-  -- where the lines before have no fault, the later opcode is told
+  -- if the lines before have no fault, the later opcode is reported
   tell_opcode : ((m other : ℕ) → HasCause lines m other → length f.before < m) → IsToldEarly lines (length f.before + 1) 1
   tell_opcode none =
       record { has = on_line f.before f.line f.after f.parts refl (late_unknown f.before f.line f.late); first = λ m other h. first m other h (cases_lt (length f.before) m) }
@@ -173,7 +173,7 @@ module _ (lines : List (List ℕ)) (f : FirstLate lines) where
       first m other h (inl past) = beyond m other h past (cases_lt (length f.before + 1) m)
       first m other h (inr le) = let past = none m other (to_last lines f.before (f.line ∷ f.after) f.parts f.early m other le h) in absurd (omega arith)
 
-  -- a fault before it is told first
+  -- a fault before it is reported first
   tell_before : (n cause : ℕ) → IsTold lines n cause → n ≤ length f.before → IsToldEarly lines n cause
   tell_before n cause told le =
       record {

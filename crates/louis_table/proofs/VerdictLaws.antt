@@ -1,4 +1,4 @@
--- The verdict on a line behind others tells its smallest cause.
+-- The verdict on a line after others gives its smallest cause.
 use Rattle.std.proofs.Common.{◌≡◌, ℕ, ◌+◌, ◌<◌, ◌≤◌, Bool, true, false, not, cond, ◌||◌, eqb, ltb, leb, List, [], ◌∷◌, ◌++◌, length, Option, Some, None, Result, Ok, Err, is_some, Contains, refl, sym, ap, subst, ◌∙◌, ◌⊎◌, inl, inr, arith, lit≤, true≢false}
 use Rattle.std.specs.Prelude.{nat_eq, map}
 use Rattle.std.specs.Map.{lookup}
@@ -337,14 +337,14 @@ module _ (before : List (List ℕ)) (line : List ℕ) (meaning : Meaning) (writt
   verdict_fault (Ok (Some entry)) c s e = entry_fault entry c s _ _ _ refl refl refl e
   verdict_fault (Err a) c s e = subst (λ (x : ℕ). Fault before line x) (sym (err_is a c e)) (s before)
 
-  -- the cause that is told is one
+  -- the cause that is given is one
   pub judge-Fault : (c : ℕ) → judge meaning (length before) line ≡ Err c → Fault before line c
   unfolding judge judge_line
   judge-Fault c e = verdict_fault (line_gives line) c (line_gives-Says line) e
 
   -- ---- and the smallest
 
-  -- a cause is told that is at most this one
+  -- a cause is given that is at most this one
   abbrev IsJudged : ℕ → Type 0
   IsJudged cause = (least : ℕ) × (judge meaning (length before) line ≡ Err least) × (least ≤ cause)
 
@@ -434,7 +434,7 @@ module _ (before : List (List ℕ)) (line : List ℕ) (meaning : Meaning) (writt
   Fault-judge cause (many_characters opcode characters text has h s many e) = rw e (large_judged (many_characters_large line characters text opcode h s many))
   Fault-judge cause (many_cells opcode dots cells has h w lt e) = rw e (large_judged (many_cells_large line dots cells opcode h w lt))
 
--- ---- a line that is taken
+-- ---- a line that is accepted
 
 pub verdict_by-Ok : (r a l : Bool) (entry other : Entry) → verdict_by r a l entry ≡ Ok other → (entry ≡ other) × (r ≡ false) × (a ≡ false) × (l ≡ false)
 verdict_by-Ok true a l entry other e = absurd cc
@@ -465,7 +465,7 @@ unfolding judge judge_line
 judge-given meaning before line given e =
     subst (Says line) (line_verdict-Ok meaning (line_gives line) given (within_limits-Ok before line (judge_line meaning line) given e).0) (line_gives-Says line)
 
--- a line that is taken is not one too many
+-- a line that is accepted isn't one too many
 pub judge-few : (meaning : Meaning) (before : ℕ) (line : List ℕ) (given : Option Entry) → judge meaning before line ≡ Ok given → before < most_lines
 unfolding judge
 judge-few meaning before line given e =

@@ -3,7 +3,7 @@ use Rattle.std.specs.Prelude.{◌≡◌, ◌≢◌, ℕ, ◌+◌, ◌*◌, ◌<�
 use Rattle.std.specs.List.{AllByRecursion}
 use Rattle.std.specs.Char.{IsScalar, digit_value}
 
--- the character that an escape stands for, by the character behind its backslash: \f \n \r \s \t \v \e \\
+-- the character that an escape stands for, by the character after its backslash: \f \n \r \s \t \v \e \\
 abbrev pub escaped : ℕ → Option ℕ
 escaped letter =
     if letter == 102 then Some 12
@@ -24,7 +24,7 @@ digits_behind letter =
     else if letter == 122 then Some 8
     else None
 
--- the number that hexadecimal digits of either case spell, behind those that spelled n
+-- the number that hexadecimal digits of either case spell, after those that spelled n
 abbrev pub spelled_behind : ℕ → List ℕ → ℕ
 spelled_behind n [] = n
 spelled_behind n (digit ∷ digits) = spelled_behind (16 * n + digit_value digit) digits

@@ -27,7 +27,7 @@ pub record Begins (text field rest : List ℕ) : Type 0 where
   pub is_apart : IsApart rest
   pub parts : text ≡ gap ++ (field ++ rest)
 
--- the text has these fields at its front, whatever follows them
+-- the text begins with these fields, whatever follows them
 abbrev pub HasFields : List ℕ → List (List ℕ) → Type 0
 HasFields text [] = Unit {0}
 HasFields text (field ∷ fields) = (rest : List ℕ) × Begins text field rest × HasFields rest fields

@@ -3,7 +3,7 @@ use Rattle.std.specs.Prelude.{ℕ, List, [], ◌∷◌, ◌==◌, if◌then◌el
 use Rattle.std.specs.List.{onto_first}
 use Rattle.std.specs.Io.BufRead.{strip_last}
 
--- what stands between the line feeds; what follows the last of them is a line only if it has a byte
+-- what stands between the line feeds; what follows the last of them is a line if it isn't empty
 abbrev pub pieces_of : List ℕ → List (List ℕ)
 pieces_of [] = []
 pieces_of (b ∷ bytes) = if b == 10 then [] ∷ pieces_of bytes else onto_first b (pieces_of bytes)

@@ -1,6 +1,6 @@
 -- The profiles of the table language.
 
--- what came first, and what numbers in their own mode have besides
+-- what came first, and what numeric mode adds
 pub data Profile : Type 0 where
   WithoutNumericMode : Profile
   WithNumericMode : Profile

@@ -39,7 +39,7 @@ use Rattle.louis_table.specs.Table.{most_lines, most_line_characters, most_rule_
 
 -- ---- fields
 
--- behind the gap
+-- after the gap
 abbrev pub behind_gap : List ℕ → List ℕ
 behind_gap text = drop (prefix_len is_gap text) text
 
@@ -47,7 +47,7 @@ behind_gap text = drop (prefix_len is_gap text) text
 abbrev pub field_len : List ℕ → ℕ
 field_len text = prefix_len (λ c. not (is_gap c)) text
 
--- the next field, which is empty where there is none, and what follows it
+-- the next field, which is empty if there is none, and what follows it
 abbrev pub field_at : List ℕ → List ℕ × List ℕ
 field_at text = (take (field_len (behind_gap text)) (behind_gap text), drop (field_len (behind_gap text)) (behind_gap text))
 
@@ -57,7 +57,7 @@ abbrev pub with_rest : Option ℕ → List ℕ → Option (ℕ × List ℕ)
 with_rest None rest = None
 with_rest (Some character) rest = Some (character, rest)
 
--- the number that hexadecimal digits spell behind others, unless one is no digit
+-- the number that hexadecimal digits spell after others, unless one isn't a digit
 abbrev pub hex_value : ℕ → List ℕ → Option ℕ
 hex_value n [] = Some n
 hex_value n (digit ∷ digits) = if nat_lt (digit_value digit) 16 then hex_value (16 * n + digit_value digit) digits else None
@@ -132,7 +132,7 @@ opcode_named = opcode_among opcodes
 abbrev pub part_len : List ℕ → ℕ
 part_len dots = prefix_len (λ c. not (c == 44)) dots
 
--- the parts round the first comma, or the whole twice
+-- the parts around the first comma, or the whole twice
 abbrev pub pair_parts : List ℕ → List ℕ × List ℕ
 pair_parts dots =
     if part_len dots == length dots then (dots, dots) else (take (part_len dots) dots, drop (part_len dots + 1) dots)
@@ -216,7 +216,7 @@ fields_give (c ∷ field) rest = if c == 35 then Ok None else opcode_gives (opco
 unfoldable pub line_gives : List ℕ → Result (Option Entry) ℕ
 line_gives line = fields_give (field_at line).0 (field_at line).1
 
--- ---- a line behind others
+-- ---- a line after others
 
 abbrev pub is_known : Meaning → ℕ → Bool
 is_known meaning character = is_some (definition_of meaning character)
@@ -259,7 +259,7 @@ abbrev pub verdict_by : Bool → Bool → Bool → Entry → Result Entry ℕ
 verdict_by repeated announced large entry =
     if repeated then Err 5 else if announced then Err 6 else if large then Err 8 else Ok entry
 
--- an entry, or the cause that stands against it in a table
+-- an entry, or the cause for which a table refuses it
 unfoldable pub entry_verdict : Meaning → Entry → Result Entry ℕ
 entry_verdict meaning entry = verdict_by (repeats meaning entry) (announces meaning entry) (is_large entry) entry
 
@@ -268,11 +268,11 @@ line_verdict meaning (Ok None) = Ok None
 line_verdict meaning (Ok (Some entry)) = as_some (entry_verdict meaning entry)
 line_verdict meaning (Err cause) = Err cause
 
--- what an opcode and what follows it give to a table, or a cause, but for the limits on lines
+-- what an opcode and what follows it give to a table, or a cause, without the limits on lines
 unfoldable pub judge_opcode : Meaning → Opcode → List ℕ → Result (Option Entry) ℕ
 judge_opcode meaning opcode rest = line_verdict meaning (as_some (entry_at opcode rest))
 
--- what a line gives to a table, or a cause, but for the limits on lines
+-- what a line gives to a table, or a cause, without the limits on lines
 unfoldable pub judge_line : Meaning → List ℕ → Result (Option Entry) ℕ
 judge_line meaning line = line_verdict meaning (line_gives line)
 
@@ -280,7 +280,7 @@ abbrev pub within_limits : ℕ → List ℕ → Result (Option Entry) ℕ → Re
 within_limits before line (Ok given) = if nat_lt most_line_characters (length line) || nat_le most_lines before then Err 8 else Ok given
 within_limits before line (Err cause) = Err cause
 
--- what a line behind so many others gives to their table, or the smallest cause
+-- what a line after this many others gives to their table, or the smallest cause
 unfoldable pub judge : Meaning → ℕ → List ℕ → Result (Option Entry) ℕ
 judge meaning before line = within_limits before line (judge_line meaning line)
 
@@ -306,7 +306,7 @@ with_definition meaning character definition = record meaning { definitions = me
 abbrev pub with_partner : Meaning → ℕ → ℕ → Meaning
 with_partner meaning upper lower = record meaning { partners = meaning.partners ++ (upper, lower) ∷ [] }
 
--- the meaning with what an entry gives to it, but for rules
+-- the meaning with what an entry gives to it, without rules
 abbrev pub with_entry : Meaning → Entry → Meaning
 with_entry meaning entry = record {
   definitions = meaning.definitions ++ definitions_in entry;
@@ -324,7 +324,7 @@ abbrev pub with_given : Meaning → Option Entry → Meaning
 with_given meaning None = meaning
 with_given meaning (Some entry) = with_entry meaning entry
 
--- what an entry gives that only all definitions can judge, as it is written
+-- what an entry gives that can be checked only once all definitions are known, as it is written
 abbrev pub written_by : ℕ → Entry → List Written
 written_by n (Defines character definition) = []
 written_by n (Pairs upper upper_cells lower lower_cells) = []
@@ -417,7 +417,7 @@ entry_in (givens.Replaces kind text cells) = Some (Replaces kind text cells)
 entry_in (givens.Announces sign cells) = Some (Announces sign cells)
 entry_in (givens.Collects set text) = Some (Collects set text)
 
--- the result is the verdict, unless memory was wanting
+-- the result is the verdict, unless an allocation failed
 abbrev pub IsVerdict : Result Given LineFault → Result (Option Entry) ℕ → Type 0
 IsVerdict (Ok given) verdict = verdict ≡ Ok (entry_in given)
 IsVerdict (Err (line_faults.Bad cause)) verdict = verdict ≡ Err (cause_number cause)
@@ -436,17 +436,17 @@ both_from (c ∷ characters) (d ∷ dots) = with_dots (characters_in (c ∷ char
 abbrev pub both_at : List ℕ → Result (List ℕ × List ℕ) ℕ
 both_at rest = both_from (field_at rest).0 (field_at (field_at rest).1).0
 
--- the cause that keeps two operands from being read, unless memory was wanting
+-- the cause that keeps two operands from being read, unless an allocation failed
 abbrev pub FailsOperands : Result (List ℕ × List ℕ) ℕ → LineFault → Type 0
 FailsOperands read (line_faults.Bad cause) = read ≡ Err (cause_number cause)
 FailsOperands read line_faults.NoMemory = Unit {0}
 
--- the cells are these, or they are not told, being too many
+-- the cells are these, or none are given, since there are too many
 abbrev pub Fits : Option (List ℕ) → List ℕ → Type 0
 Fits (Some told) cells = (cells ≡ told) × (are_many cells ≡ false)
 Fits None cells = are_many cells ≡ true
 
--- the cells of an operand were read, or nothing where they are too many
+-- the cells of an operand were read, or nothing if there are too many
 abbrev pub ReadsCells : Result (Option (List ℕ)) LineFault → Option (List ℕ) → Type 0
 ReadsCells (Ok told) read = (cells : List ℕ) × (read ≡ Some cells) × Fits told cells
 ReadsCells (Err (line_faults.Bad cause)) read = (read ≡ None) × (cause ≡ causes.BadDots)
@@ -470,7 +470,7 @@ ReadsRule (Ok told) read = (cells : Option (List ℕ)) × (read ≡ Some cells) 
 ReadsRule (Err (line_faults.Bad cause)) read = (read ≡ None) × (cause ≡ causes.BadDots)
 ReadsRule (Err line_faults.NoMemory) read = Unit {0}
 
--- the draft has what the line gives besides
+-- the draft has what the line gives as well
 pub record Adds (old new : Draft) (n : ℕ) (given : Option Entry) : Type 0 where
   pub table : new.table ≡ with_given old.table given
   pub written : new.written.items ≡ old.written.items ++ written_in n given
@@ -495,7 +495,7 @@ ChecksSet (Err (faults.Table fault)) meaning set =
     (are_defined meaning set.characters ≡ false) × (fault.line ≡ set.line) × (fault.cause ≡ 7)
 ChecksSet (Err faults.NoMemory) meaning set = ⊥
 
--- what is written was finished, its rule put behind the others, or has a character that is not defined
+-- what is written was finished, its rule put after the others, or has a character that is not defined
 abbrev pub Finishes : Result (Unit {0}) ReadFault → Meaning → Written → List Rule → List Rule → Type 0
 Finishes (Ok _) meaning one old new = (is_complete meaning one ≡ true) × (new ≡ old ++ finished meaning one)
 Finishes (Err (faults.Table fault)) meaning one old new =
@@ -507,7 +507,7 @@ FinishesAll (Ok rules) meaning all = (first_lacking meaning all ≡ None) × (ru
 FinishesAll (Err (faults.Table fault)) meaning all = (first_lacking meaning all ≡ Some fault.line) × (fault.cause ≡ 7)
 FinishesAll (Err faults.NoMemory) meaning all = Unit {0}
 
--- a table without rules, and what only all definitions can judge, are what the lines give
+-- the lines give a table without rules, and what can be checked only once all definitions are known
 pub record Gathers (lines : List (List ℕ)) (meaning : Meaning) (all : List Written) : Type 0 where
   pub entries : List (ℕ × Entry)
   pub given : GiveFrom 1 lines entries
@@ -529,7 +529,7 @@ pub record LinesMean (lines : List (List ℕ)) (meaning : Meaning) : Type 0 wher
   pub complete : first_lacking meaning all ≡ None
   pub rules : meaning.rules ≡ flat_map (finished meaning) all
 
--- this fault of the lines is told
+-- this fault of the lines is reported
 pub record IsTold (lines : List (List ℕ)) (n cause : ℕ) : Type 0 where
   pub has : HasCause lines n cause
   pub first : (m other : ℕ) → HasCause lines m other → IsToldNoLater n cause m other

@@ -1,4 +1,5 @@
--- What the supplied table says, as a list that wasn't made from its text. Characters are told by their numbers, cells by their masks.
+-- What the supplied table says, as a list that wasn't made from its text. Characters are given by their numbers, cells
+-- by their masks.
 use Rattle.std.specs.Prelude.{ℕ, ◌+◌, List, [], ◌∷◌, ◌++◌, map}
 use Rattle.louis_table.specs.declared.definition.Class.{Class}
 use Rattle.louis_table.specs.declared.definition.Class.TheVariants.{Space, Punctuation, Digit, Letter}

@@ -92,7 +92,7 @@ HasOperands line (Replace kind) = (dots : List ℕ) × HasDots line (Replace kin
 HasOperands line (Announce sign) = (dots : List ℕ) × HasDots line (Announce sign) dots
 HasOperands line (Collect set) = (characters : List ℕ) × HasCharacters line (Collect set) characters
 
--- the characters are too many; where an opcode takes one or two, any others are no operand of it
+-- the characters are too many; if an opcode takes one or two, any others aren't its operand
 abbrev pub AreTooManyFor : Opcode → List ℕ → Type 0
 AreTooManyFor (Define class) characters = ⊥
 AreTooManyFor UpLow characters = ⊥
@@ -130,7 +130,7 @@ WritesCells (Collect set) dots cells = ⊥
 
 -- ---- what a line says
 
--- the field begins with the sign of a comment
+-- the field begins a comment
 abbrev pub IsComment : List ℕ → Type 0
 IsComment field = slice_index field 0 ≡ 35
 
@@ -140,7 +140,7 @@ pub data SaysNothing (line : List ℕ) : Type 0 where
   comment : (field rest : List ℕ) → Begins line field rest → IsComment field → SaysNothing line
 
 -- what a line gives to its table: a definition; an upper and a lower character, each with its cells; a rule, with
--- no cells where it has an equals sign; the cells of a sign; the characters of a set
+-- no cells if it has an equals sign; the cells of a sign; the characters of a set
 pub data Entry : Type 0 where
   Defines : ℕ → Definition → Entry
   Pairs : ℕ → List ℕ → ℕ → List ℕ → Entry
@@ -177,7 +177,7 @@ GiveFromIn profile n (line ∷ lines) entries =
     ⊎ ((entry : Entry) × (rest : List (ℕ × Entry)) × GivesIn profile line entry × (entries ≡ (n, entry) ∷ rest)
     × GiveFromIn profile (n + 1) lines rest)
 
--- ---- what entries make of a table
+-- ---- the table that entries make
 
 -- the characters that an entry defines, with their definitions; both of a pair are letters
 abbrev pub definitions_in : Entry → List (ℕ × Definition)
@@ -261,7 +261,7 @@ rules_in meaning (n, Collects set text) = []
 abbrev pub IsDefinedIn : ℕ → Entry → Type 0
 IsDefinedIn character entry = Contains (map (λ d. d.0) (definitions_in entry)) character
 
--- the other entry gives the same sign or the same set, which may be given once
+-- the other entry gives the same sign or the same set, which may be given only once
 abbrev pub GivesAgain : Entry → Entry → Type 0
 GivesAgain (Defines character defined) other = ⊥
 GivesAgain (Pairs upper upper_cells lower lower_cells) other = ⊥
@@ -274,22 +274,22 @@ abbrev pub SomeGivesIn : Profile → List (List ℕ) → (Entry → Type 0) → 
 SomeGivesIn profile lines Holds =
     (line : List ℕ) × (entry : Entry) × Contains lines line × GivesIn profile line entry × Holds entry
 
--- the line, behind the lines before it, has a fault with this cause; a repetition is judged between lines that give
--- an entry: a line that says something and gives none has a cause from 1 to 4 of its own
+-- the line, after the lines before it, has a fault with this cause; only lines that give an entry count as
+-- repetitions: a line that says something and gives none has a cause from 1 to 4 of its own
 pub data FaultIn (profile : Profile) (before : List (List ℕ)) (line : List ℕ) (cause : ℕ) : Type 0 where
-  -- the first field is no opcode of the profile
+  -- the first field isn't an opcode of the profile
   unknown_opcode : (field rest : List ℕ) → Begins line field rest → ¬ IsComment field
       → ((opcode : Opcode) → HasOpcode profile opcode → field ≢ name_of opcode)
       → cause ≡ 1 → FaultIn profile before line cause
   -- the line lacks one of its operands
   missing_operand : (opcode : Opcode) (rest : List ℕ) → HasOpcode profile opcode → Begins line (name_of opcode) rest
       → ¬ HasOperands line opcode → cause ≡ 2 → FaultIn profile before line cause
-  -- the characters operand is none for the opcode
+  -- the characters operand isn't one for the opcode
   bad_characters : (opcode : Opcode) (characters : List ℕ)
       → HasOpcode profile opcode → HasCharacters line opcode characters
       → ((text : List ℕ) → AreCharactersFor opcode text → ¬ Spells characters text)
       → cause ≡ 3 → FaultIn profile before line cause
-  -- the dots operand is none for the opcode
+  -- the dots operand isn't one for the opcode
   bad_dots : (opcode : Opcode) (dots : List ℕ) → HasOpcode profile opcode → HasDots line opcode dots
       → ¬ IsDotsFor opcode dots → cause ≡ 4 → FaultIn profile before line cause
   -- an earlier line defines a character of this one, or this one defines it twice
@@ -317,7 +317,7 @@ pub data HasCauseIn (profile : Profile) (lines : List (List ℕ)) (n cause : ℕ
 
 -- ---- the whole text
 
--- what line n has is told no later than what line m has: the smaller line first, of one line the smaller cause
+-- a fault of line n is reported no later than one of line m: the smaller line first, for one line the smaller cause
 abbrev pub IsToldNoLater : ℕ → ℕ → ℕ → ℕ → Type 0
 IsToldNoLater n cause m other = (n < m) ⊎ ((n ≡ m) × (cause ≤ other))
 
@@ -343,7 +343,7 @@ IsLacking meaning (Announces sign cells) = ⊥
 IsLacking meaning (Collects set text) =
     (character : ℕ) × Contains text character × (definition_of meaning character ≡ None)
 
--- the text is bad in the profile: line n is told, with this cause
+-- the text is bad in the profile: line n is reported, with this cause
 pub data BadIn (profile : Profile) (bytes : List ℕ) (n cause : ℕ) : Type 0 where
   no_text : ¬ IsUtf8 bytes → n ≡ line_of_stop bytes → cause ≡ 9 → BadIn profile bytes n cause
   bad_line : IsUtf8 bytes → HasCauseIn profile (text_lines bytes) n cause
@@ -365,7 +365,7 @@ pub record MeansIn (profile : Profile) (bytes : List ℕ) (meaning : Meaning) : 
   pub made : IsMadeOf entries meaning
   pub is_complete : (n : ℕ) (entry : Entry) → Contains entries (n, entry) → ¬ IsLacking meaning entry
 
--- ---- tables with the numeric mode, which the crate reads
+-- ---- tables with numeric mode, which the crate reads
 
 abbrev pub Gives : List ℕ → Entry → Type 0
 Gives = GivesIn WithNumericMode

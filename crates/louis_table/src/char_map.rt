@@ -13,7 +13,7 @@ const DIRECT: usize = 128;
 /// A map from characters to values, in the order in which they came. Contracts see the list of its entries.
 pub struct CharMap<V> {
     entries: IndexMap<char, V>,
-    // for each character below `DIRECT`, one more than its entry's index, or 0 where it has none
+    // for each character below `DIRECT`, one more than its entry's index, or 0 if it has none
     places: [usize; DIRECT],
 }
 

@@ -3,8 +3,8 @@
 /// A set of characters of a table.
 #[derive(Clone, Copy)]
 pub(crate) enum CharacterSet {
-    /// Those that stand within a number beside its digits.
+    /// Those that stand within a number besides its digits.
     NumericMode,
-    /// Those that need the sign of no contraction where they follow a number.
+    /// Those that need the sign of no contraction when they follow a number.
     NoContraction,
 }

@@ -5,7 +5,7 @@ ghost use Rattle.std.specs.Prelude.{◌≡◌, ◌≤◌, ◌<◌, ◌+◌, IfOk
 
 use std::alloc::{AllocError, Global};
 
-/// The character that an escape stands for, by the character behind its backslash.
+/// The character that an escape stands for, by the character after its backslash.
 fn escaped(letter: char) -> Option<char>
     ensures { result ≡ escaped letter }
 {
@@ -78,7 +78,7 @@ fn next_character(text: &[char]) -> Option<(char, &[char])>
     }
 }
 
-/// The characters that an operand spells, or nothing where it has an escape that is none.
+/// The characters that an operand spells, or nothing if it has an unknown escape.
 pub(crate) fn read_characters(
     alloc: Global,
     operand: &[char],
@@ -97,7 +97,7 @@ pub(crate) fn read_characters(
     Ok(Some(characters))
 }
 
-/// The character of a text that has just one.
+/// The character of a text that has exactly one.
 pub(crate) fn only_character(text: &[char]) -> Option<char>
     ensures { result ≡ only_character text.now }
 {
@@ -108,7 +108,7 @@ pub(crate) fn only_character(text: &[char]) -> Option<char>
     }
 }
 
-/// The characters of a text that has just two.
+/// The characters of a text that has exactly two.
 pub(crate) fn only_pair(text: &[char]) -> Option<(char, char)>
     ensures { result ≡ only_pair text.now }
 {

@@ -22,7 +22,7 @@ fn text_of(alloc: Global, characters: &[char]) -> Result<String, AllocError>
     characters.iter().copied().collect(alloc)
 }
 
-/// The cells of a dots operand, or nothing where it has more than an operand may have.
+/// The cells of a dots operand, or nothing if it has more than an operand may have.
 pub(crate) fn read_cells(alloc: Global, dots: &[char]) -> Result<Option<Cells>, LineFault>
     ensures { ReadsCells result (cells_in dots.now) }
 {
@@ -50,7 +50,7 @@ fn part_len(dots: &[char]) -> usize
     dots.len()
 }
 
-/// The dots before the first comma and those behind it, or all of them twice.
+/// The dots before the first comma and those after it, or all of them twice.
 fn pair_parts(dots: &[char]) -> (&[char], &[char])
     ensures upper { result.0.now ≡ (pair_parts dots.now).0 }
     ensures lower { result.1.now ≡ (pair_parts dots.now).1 }
@@ -63,7 +63,7 @@ fn pair_parts(dots: &[char]) -> (&[char], &[char])
     }
 }
 
-/// The cells of an upper and of a lower character, or nothing where one has too many.
+/// The cells of an upper and of a lower character, or nothing if one has too many.
 pub(crate) fn read_pair_cells(
     alloc: Global,
     dots: &[char],
@@ -83,8 +83,7 @@ fn is_equals(dots: &[char]) -> bool
     dots == EQUALS.as_slice()
 }
 
-/// The cells of a rule, none where they are those of the definitions of its characters; or nothing where it has too
-/// many.
+/// The cells of a rule, none if they are those of the definitions of its characters; or nothing if it has too many.
 pub(crate) fn read_rule_cells(
     alloc: Global,
     dots: &[char],

@@ -8,7 +8,8 @@ use super::table::Table;
 use super::written::{Written, WrittenRule, WrittenSet};
 use std::alloc::{AllocError, Global};
 
-/// What the lines so far give: a table without rules, and what only all definitions can judge, as it is written.
+/// What the lines so far give: a table without rules, and what can be checked only once all definitions are
+/// known, as it is written.
 #[derive(Drop)]
 pub(crate) struct Draft {
     pub(crate) table: Table,

@@ -4,16 +4,16 @@ ghost use Rattle.std.specs.Prelude.{◌≡◌};
 
 use thiserror::Error;
 
-/// What is wrong, with the number that a fault tells.
+/// What is wrong, with the number that a fault reports.
 #[derive(Clone, Copy)]
 pub(crate) enum Cause {
-    /// The first field of a line is no opcode.
+    /// The first field of a line isn't an opcode.
     UnknownOpcode = 1,
     /// An operand is missing.
     MissingOperand = 2,
     /// A characters operand has a bad escape, or too many or too few characters for its opcode.
     BadCharacters = 3,
-    /// A dots operand is none for its opcode.
+    /// A dots operand isn't one for its opcode.
     BadDots = 4,
     /// An earlier line defines the character, or this line defines it twice.
     DefinedBefore = 5,
@@ -28,7 +28,7 @@ pub(crate) enum Cause {
 }
 
 impl Cause {
-    /// The number that a fault tells.
+    /// The number that a fault reports.
     pub(crate) fn number(self) -> u8
         ensures { result ≡ cause_number self }
     {
@@ -36,7 +36,7 @@ impl Cause {
     }
 }
 
-/// Why a line was not taken into its table.
+/// Why a line wasn't accepted into its table.
 #[derive(Clone, Copy)]
 pub(crate) enum LineFault {
     Bad(Cause),
@@ -50,18 +50,18 @@ pub struct TableFault {
     /// The number of the line, from 1.
     pub line: usize,
     /// The cause: 1 unknown opcode, 2 missing operand, 3 bad characters, 4 bad dots, 5 a character that is
-    /// defined before, 6 a sign or a set that is given before, 7 a rule or a set with a character that is not
-    /// defined, 8 beyond a limit, 9 not UTF-8.
+    /// defined already, 6 a sign or a set that is given already, 7 a rule or a set with a character that is
+    /// not defined, 8 beyond a limit, 9 not UTF-8.
     pub cause: u8,
 }
 
-/// Why a text was not read as a table.
+/// Why a text wasn't read as a table.
 #[derive(Clone, Copy, Debug, PartialEq, Eq, Error)]
 pub enum ReadFault {
-    /// The text is no table.
+    /// The text isn't a table.
     #[error(transparent)]
     Table(TableFault),
-    /// A growth was refused.
+    /// An allocation failed.
     #[error("out of memory")]
     NoMemory,
 }

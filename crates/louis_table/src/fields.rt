@@ -34,7 +34,7 @@ fn front_field_len(text: &[char]) -> usize
     text.len()
 }
 
-/// The next field, which is empty where there is none, and what follows it.
+/// The next field, which is empty if there is none, and what follows it.
 pub(crate) fn next_field(text: &[char]) -> (&[char], &[char])
     ensures field { result.0.now ≡ (field_at text.now).0 }
     ensures rest { result.1.now ≡ (field_at text.now).1 }

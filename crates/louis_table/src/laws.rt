@@ -8,7 +8,7 @@ ghost use Rattle.louis_table.specs.declared.line.TheConstants.{MOST_RULE_CHARACT
 ghost use Rattle.louis_table.specs.declared.read.TheConstants.{MOST_LINES, MOST_LINE_CHARACTERS};
 ghost use Rattle.std.specs.Prelude.{◌≡◌, ◌⊎◌, ℕ, List, []};
 
-/// Bytes are a table with one meaning, or have one fault that is told, and never both.
+/// Bytes are a table with one meaning, or have one fault that is reported, and never both.
 pub fn one_meaning()
     ensures one { (bytes : List ℕ) (t u : Meaning) → Means bytes t → Means bytes u → t ≡ u }
     ensures one_fault { (bytes : List ℕ) (n c m d : ℕ) → Bad bytes n c → Bad bytes m d → (n ≡ m) × (c ≡ d) }
@@ -16,8 +16,8 @@ pub fn one_meaning()
     ensures some { (bytes : List ℕ) → ((t : Meaning) × Means bytes t) ⊎ ((n : ℕ) × (c : ℕ) × Bad bytes n c) }
 {}
 
-/// A table without the numeric mode has the same meaning where the mode is known, and nothing of the mode. In each
-/// profile bytes are a table with one meaning, or have one fault that is told, and never both.
+/// A table without numeric mode has the same meaning in the profile that has the mode, and nothing of the mode. In
+/// each profile bytes are a table with one meaning, or have one fault that is reported, and never both.
 pub fn profiles()
     ensures same { (bytes : List ℕ) (t : Meaning) → MeansIn WithoutNumericMode bytes t → Means bytes t }
     ensures nothing_new { (bytes : List ℕ) (t : Meaning) → MeansIn WithoutNumericMode bytes t
@@ -32,7 +32,7 @@ pub fn profiles()
         → ((t : Meaning) × MeansIn profile bytes t) ⊎ ((n : ℕ) × (c : ℕ) × BadIn profile bytes n c) }
 {}
 
-/// Each definition and each rule of a table that bytes mean has a cell.
+/// Each definition and each rule of a table that bytes mean has at least one cell.
 pub fn cells()
     ensures { (profile : Profile) (bytes : List ℕ) (t : Meaning) → MeansIn profile bytes t → HasCells t }
 {}
@@ -42,7 +42,7 @@ pub fn supplied_table()
     ensures { Means EN.now english }
 {}
 
-/// The limits that the code compares with are those that the definitions write.
+/// The limits that the code compares with are those in the definitions.
 pub fn limits()
     ensures lines { MOST_LINES ≡ most_lines }
     ensures line_characters { MOST_LINE_CHARACTERS ≡ most_line_characters }

@@ -1,4 +1,4 @@
-//! Reads table texts in the manner of liblouis: which cells stand for which characters of print.
+//! Reads table texts in a profile of liblouis's language: which cells stand for which print.
 //!
 //! ```rust
 //! use louis_table::Table;

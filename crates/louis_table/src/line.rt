@@ -17,7 +17,7 @@ use super::table::Table;
 use cell_core::Cells;
 use std::alloc::Global;
 
-/// The sign at the front of a comment.
+/// The character that begins a comment.
 const COMMENT: char = '#';
 
 /// How many characters a rule may have.
@@ -35,7 +35,7 @@ pub(crate) enum Given {
     Defines(char, Definition),
     /// An upper character and its cells, and the lower one with its own.
     Pairs(char, Cells, char, Cells),
-    /// A rule, with no cells where an equals sign stands for those of its characters' definitions.
+    /// A rule, with no cells if an equals sign stands for those of its characters' definitions.
     Replaces(RuleKind, Characters, Option<Cells>),
     /// The cells of a sign.
     Announces(Sign, Cells),

@@ -10,7 +10,7 @@ use std::alloc::AllocError;
 
 const BYTE_ORDER_MARK: &str = "\u{FEFF}";
 
-/// The text behind one byte order mark at its front, if it has one.
+/// The text without one byte order mark at its front, if it has one.
 pub(crate) fn behind_byte_order_mark(text: &str) -> &str
     ensures { result.now ≡ without_byte_order_mark text.now }
 {

@@ -99,9 +99,9 @@ impl Table {
     ///
     /// # Errors
     ///
-    /// `Table` reports the first line that has a fault, with its smallest cause, and where no line has one, the first
-    /// rule or set with a character that no line defines. `NoMemory` says that a growth was refused; a text that isn't
-    /// UTF-8 is reported without any growth.
+    /// `Table` reports the first line that has a fault, with its smallest cause, and if no line has one, the first
+    /// rule or set with a character that no line defines. `NoMemory` says that an allocation failed; a text that isn't
+    /// UTF-8 is reported without any allocation.
     pub fn read(alloc: Global, text: &[u8]) -> Result<Table, ReadFault>
         ensures ok { IfOk result (Means text.now) }
         ensures err { IfErr result (Tells text.now) }

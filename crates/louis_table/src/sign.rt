@@ -1,4 +1,4 @@
-//! Signs that stand before print of some kind.
+//! Signs that stand before some kinds of print.
 
 /// A sign of a table.
 #[derive(Clone, Copy)]

@@ -45,7 +45,7 @@ impl Model for Table {
     } };
 }
 
-// Written out: a derived drop stands part by part in each function that lets a table go, which makes those long to prove.
+// Written out: a derived drop appears part by part in each function that drops a table, which makes those long to prove.
 impl Drop for Table {
     fn drop(self) {
         let Table {
@@ -92,7 +92,7 @@ impl Table {
         self.definitions.insert(character, definition)
     }
 
-    /// Makes a character that is no capital yet the capital of a lower one.
+    /// Makes a character that isn't a capital yet the capital of a lower one.
     fn join(&mut self, upper: char, lower: char) -> Result<(), AllocError>
         requires { partner_of self.old upper ≡ None }
         ensures { OnOk result (self.new ≡ with_partner self.old upper lower) }
@@ -167,7 +167,7 @@ impl Table {
         self.definition(character).is_some()
     }
 
-    /// The cells of a sign, empty where the table lacks it.
+    /// The cells of a sign, empty if the table lacks it.
     pub(crate) fn sign(&self, sign: Sign) -> &[Cell]
         ensures { result.now ≡ sign_cells self.now sign }
     {
@@ -179,7 +179,7 @@ impl Table {
         }
     }
 
-    /// The characters of a set, empty where the table lacks it.
+    /// The characters of a set, empty if the table lacks it.
     pub(crate) fn set(&self, set: CharacterSet) -> &[char]
         ensures { result.now ≡ set_characters self.now set }
     {
@@ -228,35 +228,35 @@ impl Table {
         self.rules.as_slice()
     }
 
-    /// The sign before a number, empty where the table lacks it.
+    /// The sign before a number, empty if the table lacks it.
     pub fn numsign(&self) -> &[Cell]
         ensures { result.now ≡ self.now.numsign }
     {
         self.numsign.as_slice()
     }
 
-    /// The sign before one capital, empty where the table lacks it.
+    /// The sign before one capital, empty if the table lacks it.
     pub fn capsletter(&self) -> &[Cell]
         ensures { result.now ≡ self.now.capsletter }
     {
         self.capsletter.as_slice()
     }
 
-    /// The sign before a run of capitals, empty where the table lacks it.
+    /// The sign before a run of capitals, empty if the table lacks it.
     pub fn begcapsword(&self) -> &[Cell]
         ensures { result.now ≡ self.now.begcapsword }
     {
         self.begcapsword.as_slice()
     }
 
-    /// The sign before a character that follows a number and would read as part of it, empty where the table lacks it.
+    /// The sign before a character that follows a number and would read as part of it, empty if the table lacks it.
     pub fn nocontractsign(&self) -> &[Cell]
         ensures { result.now ≡ self.now.nocontractsign }
     {
         self.nocontractsign.as_slice()
     }
 
-    /// The characters that stand within a number beside its digits, as they are written, none where the table lacks
+    /// The characters that stand within a number besides its digits, as they are written, none if the table lacks
     /// them.
     pub fn mode_chars(&self) -> &[char]
         ensures { result.now ≡ self.now.mode_chars }
@@ -264,8 +264,8 @@ impl Table {
         self.mode_chars.as_slice()
     }
 
-    /// The characters that need the sign of no contraction where they follow a number, as they are written, none where
-    /// the table lacks them.
+    /// The characters that need the sign of no contraction when they follow a number, as they are written, none if the
+    /// table lacks them.
     pub fn nocontract_chars(&self) -> &[char]
         ensures { result.now ≡ self.now.nocontract_chars }
     {

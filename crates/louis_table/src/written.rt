@@ -18,7 +18,7 @@ pub(crate) struct WrittenRule {
     pub(crate) kind: RuleKind,
     /// Its characters as they are written.
     pub(crate) characters: Characters,
-    /// Its cells, none where they are those of the definitions of its folded characters.
+    /// Its cells, none if they are those of the definitions of its folded characters.
     pub(crate) cells: Option<Cells>,
 }
 
@@ -31,7 +31,7 @@ pub(crate) struct WrittenSet {
     pub(crate) characters: Characters,
 }
 
-/// What a line gives that only all definitions can judge.
+/// What a line gives that can be checked only once all definitions are known.
 #[derive(Drop)]
 pub(crate) enum Written {
     Rule(WrittenRule),
@@ -117,7 +117,7 @@ fn check_set(table: &Table, set: WrittenSet) -> Result<(), ReadFault>
     }))
 }
 
-/// Finishes what is written, and puts its rule behind the others.
+/// Finishes what is written, and puts its rule after the others.
 fn finish(
     alloc: Global,
     table: &Table,

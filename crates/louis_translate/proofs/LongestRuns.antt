@@ -9,7 +9,7 @@ use Rattle.louis_translate.specs.Sign.{is_capital, is_capital_at, run_end, run_s
 use Rattle.louis_translate.proofs.Runs.{is_capital_at-run, passes-below, passes-get_or, run_end-inside, run_end-end}
 
 module _ (meaning : Meaning) (print : List ℕ) where
-  -- the run before a place grows with a capital, and begins anew behind any other character
+  -- the run before a place grows with a capital, and begins anew after any other character
   start_after_capital : (i : ℕ) → is_capital_at meaning print i ≡ true → run_start meaning print (suc i) ≡ run_start meaning print i
   start_after_capital i capital =
       let lt = passes-below (is_capital meaning) print i capital in

@@ -102,7 +102,7 @@ module _ (meaning : Meaning) (print : List ℕ) where
     ];
   }
 
-  -- where a place that is no digit is in numeric mode, so is the one before it
+  -- if a place that isn't a digit is in numeric mode, so is the one before it
   mode_went_on : (i : ℕ) → is_digit_at meaning print (suc i) ≡ false → IsInNumericMode meaning print (suc i) → IsInNumericMode meaning print i
   mode_went_on i fails h = let order = h.order in elim (cases_order h.from (suc i)) [
     | inl e ↦ absurd (both_ways _ fails (ap (is_digit_at meaning print) (sym e) ∙ h.digit))
@@ -145,7 +145,7 @@ module _ (meaning : Meaning) (print : List ℕ) where
         ]
       ]
 
-  -- a place is in numeric mode where it has a digit, or follows a number with a character that goes on with it
+  -- a place is in numeric mode if it has a digit, or follows a number with a character that continues it
   pub is_in_numeric_mode-is : (i : ℕ) → is_in_numeric_mode meaning print i
       ≡ (is_digit_at meaning print i || (follows_number meaning print i && is_mode_char_at meaning print i))
   is_in_numeric_mode-is i = elim (cases_Bool (is_digit_at meaning print i)) [
@@ -202,7 +202,7 @@ module _ (meaning : Meaning) (print : List ℕ) where
       → follows_number meaning print (i + 1) ≡ false
   follows_number-never i lt none off = ap (follows_number meaning print) (add-one i) ∙ (follows_number-step i lt ∙ rw (none, off) refl)
 
-  -- no number goes on over a character that is neither a digit nor one that goes on with a number
+  -- no number continues over a character that is neither a digit nor one that continues a number
   pub follows_number-off : (i c : ℕ) → slice_get print i ≡ Some c → is_digit_at meaning print i ≡ false → is_mode_char meaning c ≡ false
       → follows_number meaning print (i + 1) ≡ false
   follows_number-off i c there none off =

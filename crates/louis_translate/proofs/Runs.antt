@@ -76,7 +76,7 @@ first_folded fold print i (c ∷ chars) lt e h =
 
 -- ---- a capital alone
 
--- where no capital stands before and none after, the run is no longer than its place
+-- if no capital stands before and none after, the run is no longer than its place
 pub run_end-alone : (meaning : Meaning) (print : List ℕ) (i : ℕ) → is_capital_at meaning print (i + 1) ≡ false → run_end meaning print i ≤ i + 1
 run_end-alone meaning print i off = elim (cases_order (run_end meaning print i) (i + 1)) [
   | inl e ↦ omega arith

@@ -438,7 +438,7 @@ module _ (rules : List Rule) (k : ℕ) (tree more : RuleTree) (node : ℕ) (rule
 pub first_there : (text : List ℕ) (c : ℕ) → 0 < length text → c ≡ get_or text 0 c → slice_get text 0 ≡ Some c
 first_there text c some e = slice_get_read text (length text) 0 c refl some e
 
--- a character behind the first one
+-- a character after the first one
 pub later_there : (text : List ℕ) (x c : ℕ) → x + 1 < length text → c ≡ get_or (take (length text - 1) (drop 1 text)) x c → slice_get text (x + 1) ≡ Some c
 later_there text x c lt e =
     slice_get_read text (length text) (x + 1) c refl lt

@@ -33,7 +33,7 @@ number-sign = refl
 no-second-number-sign : sign_at small print 3 ≡ []
 no-second-number-sign = refl
 
--- `a` is a word where it stands alone, and none behind a digit
+-- `a` is a word where it stands alone, and none after a digit
 is-word : fits small print Word 0 1 ≡ true
 is-word = refl
 
@@ -77,7 +77,7 @@ mode-holds-the-last-point = refl
 sign-after-the-number : sign_at with_mode numbers 4 ≡ 48 ∷ []
 sign-after-the-number = refl
 
--- a point alone begins no number, and the digit after it has the sign
+-- a point alone doesn't begin a number, and the digit after it has the sign
 no-mode-by-a-point : is_in_numeric_mode with_mode numbers 6 ≡ false
 no-mode-by-a-point = refl
 

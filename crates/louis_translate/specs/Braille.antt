@@ -52,8 +52,7 @@ pub record IsOutputPlaceBy (sign : ℕ → List ℕ) (meaning : Meaning) (print 
 abbrev pub IsOutputPlace : Meaning → List ℕ → List Choice → ℕ → ℕ → Type 0
 IsOutputPlace meaning print = IsOutputPlaceBy (sign_at meaning print) meaning print
 
--- the choice made the cell: the cells of the choices before it are no more than the cell's number, and with its own there
--- are more
+-- the choice made the cell: the choices before it make no more cells than the cell's number, and more with its own
 pub record MakesCellBy (sign : ℕ → List ℕ) (meaning : Meaning) (print : List ℕ) (choices : List Choice) (choice : Choice) (cell : ℕ) : Type 0 where
   pub before : List Choice
   pub among : IsAmong choices before choice

@@ -34,7 +34,7 @@ abbrev pub rank : Meaning → Option ℕ → ℕ
 rank meaning None = length meaning.rules
 rank meaning (Some k) = k
 
--- d is shorter than c, or as long and not earlier
+-- d is shorter than c, or as long and no earlier
 abbrev pub YieldsTo : Meaning → Option ℕ → Option ℕ → Type 0
 YieldsTo meaning d c =
     (span meaning d < span meaning c) ⊎ ((span meaning d ≡ span meaning c) × (rank meaning c ≤ rank meaning d))

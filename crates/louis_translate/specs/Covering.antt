@@ -5,7 +5,7 @@ use Rattle.louis_table.specs.declared.rule.RuleKind.{RuleKind}
 use Rattle.louis_translate.specs.Position.{fits}
 use Rattle.louis_translate.specs.Sign.{sign_at}
 
--- in no print a sign stands before the character
+-- no print has a sign before the character
 abbrev pub NeverHasSign : Meaning → ℕ → Type 0
 NeverHasSign meaning character =
     (print : List ℕ) (i : ℕ) → slice_get print i ≡ Some character → sign_at meaning print i ≡ []

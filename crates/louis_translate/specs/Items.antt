@@ -16,7 +16,7 @@ pub record Made : Type 0 where
 abbrev pub shown : Piece → Made
 shown piece = record { choice = piece.choice; sign = piece.sign.now; own = piece.own.now }
 
--- what a choice makes of a print
+-- what a choice makes from a print
 abbrev pub made_by : Meaning → List ℕ → Choice → Made
 made_by meaning print choice = record {
   choice = choice;

@@ -20,7 +20,7 @@ matches meaning print i rule =
     && (fits meaning print rule.kind i (i + length rule.chars)
     && list_all (has_no_sign meaning print) (range_with_len (i + 1) (length rule.chars - 1)))
 
--- how many characters a rule must have more than, to go before what was found
+-- a rule that goes before what was found has more characters than this
 abbrev pub to_beat : Meaning → Option ℕ → ℕ
 to_beat meaning None = 0
 to_beat meaning (Some k) = span meaning (Some k)

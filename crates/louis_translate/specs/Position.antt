@@ -21,11 +21,11 @@ pub record IsFirstUndefined (meaning : Meaning) (print : List ℕ) (place : ℕ)
 abbrev pub class_of : Meaning → ℕ → Option Class
 class_of meaning character = option_map (λ defined. defined.class) (definition_of meaning character)
 
--- the class of the character at a place, and none past the print's end or where the table doesn't define it
+-- the class of the character at a place, and none past the print's end or if the table doesn't define it
 abbrev pub class_at : Meaning → List ℕ → ℕ → Option Class
 class_at meaning print i = option_and_then (class_of meaning) (slice_get print i)
 
--- the class of the character before a place, and none before the first or where the table doesn't define it
+-- the class of the character before a place, and none before the first or if the table doesn't define it
 abbrev pub class_before : Meaning → List ℕ → ℕ → Option Class
 class_before meaning print i = if i == 0 then None else class_at meaning print (i - 1)
 

@@ -38,7 +38,7 @@ takes_one_sign meaning print i =
     nat_le (run_start meaning print i + 2) (run_end meaning print i)
     && not (is_letter (class_at meaning print (run_end meaning print i)))
 
--- before a capital: where the table has `begcapsword` and the run takes one sign, that before the run's first and none
+-- before a capital: if the table has `begcapsword` and the run takes one sign, that one before the run's first and none
 -- before its others; else `capsletter`
 abbrev pub capital_sign : Meaning → List ℕ → ℕ → List ℕ
 capital_sign meaning print i =
@@ -51,24 +51,23 @@ capital_sign meaning print i =
 abbrev pub is_digit_at : Meaning → List ℕ → ℕ → Bool
 is_digit_at meaning print i = is_digit (class_at meaning print i)
 
--- the table says of the character that it goes on with a number
+-- the table says that the character continues a number
 abbrev pub is_mode_char : Meaning → ℕ → Bool
 is_mode_char meaning character = list_any (λ c. nat_eq c character) meaning.mode_chars
 
 abbrev pub is_mode_char_at : Meaning → List ℕ → ℕ → Bool
 is_mode_char_at meaning print i = option_map_or (is_mode_char meaning) (slice_get print i) false
 
--- the character may go on with a number: a digit, or one of which the table says so
+-- the character may continue a number: a digit, or one of which the table says so
 abbrev pub goes_on_at : Meaning → List ℕ → ℕ → Bool
 goes_on_at meaning print i = is_digit_at meaning print i || is_mode_char_at meaning print i
 
--- a number that begins at place j goes on up to place i: a digit stands at j, and what stands from there to i goes on
--- with a number
+-- a number that begins at place j reaches place i: a digit stands at j, and what stands from there to i continues a number
 abbrev pub is_number_from : Meaning → List ℕ → ℕ → ℕ → Bool
 is_number_from meaning print i j =
     is_digit_at meaning print j && list_all (goes_on_at meaning print) (range_with_len j (i + 1 - j))
 
--- a place is in numeric mode where a number goes on up to it from some place that is no later
+-- a place is in numeric mode if a number that begins at some place no later reaches it
 abbrev pub is_in_numeric_mode : Meaning → List ℕ → ℕ → Bool
 is_in_numeric_mode meaning print i = list_any (is_number_from meaning print i) (range_with_len 0 (i + 1))
 
@@ -83,7 +82,7 @@ pub record IsInNumericMode (meaning : Meaning) (print : List ℕ) (i : ℕ) : Ty
 abbrev pub follows_number : Meaning → List ℕ → ℕ → Bool
 follows_number meaning print i = if i == 0 then false else is_in_numeric_mode meaning print (i - 1)
 
--- the table says of the character that it takes a sign right after a number
+-- the table says that the character takes a sign right after a number
 abbrev pub is_nocontract_char : Meaning → ℕ → Bool
 is_nocontract_char meaning character = list_any (λ c. nat_eq c character) meaning.nocontract_chars
 
@@ -104,8 +103,8 @@ plain_sign_at meaning print i =
     then (if is_digit (class_before meaning print i) then [] else meaning.numsign)
     else (if is_capital_at meaning print i then capital_sign meaning print i else [])
 
--- the signs with numeric mode: one before a digit that no number goes on to, those before capitals, and one before a
--- character that a number could be read on into
+-- the signs with numeric mode: one before a digit that no number reaches, those before capitals, and one before a
+-- character that could be read as more of a number
 abbrev pub sign_at : Meaning → List ℕ → ℕ → List ℕ
 sign_at meaning print i =
     if is_digit_at meaning print i

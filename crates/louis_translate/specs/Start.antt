@@ -9,7 +9,7 @@ use Rattle.louis_translate.specs.Choice.{IsChosen}
 use Rattle.louis_translate.specs.Search.{IsBestBelow, IsOnWay}
 use Rattle.louis_translate.specs.Tree.{leads, rules_at}
 
--- a walk may begin there, by two folded characters: nowhere, where no rule begins with them or is the first alone; at
+-- a walk may begin there, by two folded characters: nowhere, if no rule begins with them or is the first alone; at
 -- the group of the first; or where both lead, if no rule is the first alone
 abbrev pub IsStart : RuleTree → ℕ → ℕ → Start → Type 0
 IsStart tree a b Nowhere = (n : ℕ) → leads tree None a ≡ Some n → (rules_at tree.nodes.items n ≡ []) × (leads tree (Some n) b ≡ None)

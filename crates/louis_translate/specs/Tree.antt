@@ -57,7 +57,7 @@ abbrev pub IsPlace : RuleTree → Option ℕ → Type 0
 IsPlace tree None = Unit {0}
 IsPlace tree (Some n) = n < length tree.nodes.items
 
--- a character leads from a place to this node, which is new where it led nowhere; all else is as before
+-- a character leads from a place to this node, which is new if it led nowhere; all else is as before
 pub record LeadsFrom (tree more : RuleTree) (from : Option ℕ) (c n : ℕ) : Type 0 where
   pub leads_to : leads more from c ≡ Some n
   pub node : (leads tree from c ≡ Some n) ⊎ (IsPlace tree from × (n ≡ length tree.nodes.items) × (n < length more.nodes.items))
@@ -66,7 +66,7 @@ pub record LeadsFrom (tree more : RuleTree) (from : Option ℕ) (c n : ℕ) : Ty
   pub comes : (f : Option ℕ) (d m : ℕ) → leads more f d ≡ Some m → (leads tree f d ≡ Some m) ⊎ ((f ≡ from) × (d ≡ c) × (m ≡ n))
   pub rules : (m : ℕ) → rules_at more.nodes.items m ≡ rules_at tree.nodes.items m
 
--- one more node, which leads nowhere
+-- a further node, which leads nowhere
 pub record AddsNode (nodes more : List Node) : Type 0 where
   pub len : length more ≡ length nodes + 1
   pub children : (m : ℕ) → children_at more m ≡ children_at nodes m

@@ -1,4 +1,4 @@
-//! The cell that belongs to one place of a print, and the place that belongs to one cell. Neither search takes memory.
+//! The cell that belongs to one place of a print, and the place that belongs to one cell. Neither search allocates.
 ghost use Rattle.louis_translate.specs.Braille.{IsOutputPlace, IsPrintPlace, MakesCell, braille};
 ghost use Rattle.louis_translate.specs.Position.{AreDefined};
 ghost use Rattle.louis_translate.specs.Tiling.{Tiles};
@@ -28,7 +28,7 @@ pub fn output_place<B: RuleBook>(book: &B, print: &[char], place: usize) -> usiz
     unreachable!()
 }
 
-/// The choice that made a cell of a print's braille, the cell's number from 0; `None` exactly where the braille has no
+/// The choice that made a cell of a print's braille, the cell's number from 0; `None` exactly if the braille has no
 /// such cell. The table defines the print's characters.
 pub fn choice_of_cell<B: RuleBook>(book: &B, print: &[char], cell: usize) -> Option<Choice>
     requires { AreDefined (B.meaning book.now) print.now }
@@ -50,7 +50,7 @@ pub fn choice_of_cell<B: RuleBook>(book: &B, print: &[char], cell: usize) -> Opt
 }
 
 /// The print place of a cell of a print's braille, from 0: the first place of the choice that made the cell; `None`
-/// exactly where the braille has no such cell. The table defines the print's characters.
+/// exactly if the braille has no such cell. The table defines the print's characters.
 pub fn print_place<B: RuleBook>(book: &B, print: &[char], cell: usize) -> Option<usize>
     requires { AreDefined (B.meaning book.now) print.now }
     ensures found { IfSome result (λ place. (choices : List Choice)

@@ -8,8 +8,7 @@ use super::position::{fits, is_digit};
 use super::sign::Signs;
 use louis_table::{RuleKind, Table};
 
-/// Whether a sign never stands before a character: it is neither a capital nor a digit, and none that takes a sign after
-/// a number.
+/// Whether a sign never stands before a character: it is neither a capital nor a digit, and takes no sign after a number.
 #[inline(always)]
 fn never_has_sign(table: &Table, character: char) -> bool
     ensures { OnTrue result (NeverHasSign table.now character) }

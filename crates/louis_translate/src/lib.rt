@@ -2,7 +2,7 @@
 //! which cells they make, and which places of print and cells belong together.
 //!
 //! At each place the longest rule or definition that may be used there is chosen, and the next choice begins
-//! where it ends. The choices so cover the print without gap or overlap; their cells, each with the sign
+//! where it ends. So the choices cover the print without gap or overlap; their cells, each with the sign
 //! before its start, are the braille.
 //!
 //! ```rust

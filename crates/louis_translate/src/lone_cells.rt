@@ -1,4 +1,4 @@
-//! Characters that stand as one cell wherever their definition is chosen and no number goes on to them.
+//! Characters that stand as one cell wherever their definition is chosen and no number reaches them.
 ghost use Rattle.louis_translate.specs.LoneCell.{AreLoneCells, IsLoneCell};
 ghost use Rattle.std.specs.Option.{option_and_then, option_copied};
 ghost use Rattle.std.specs.Prelude.{◌≡◌, ◌<◌, IfSome, slice_get};

@@ -21,16 +21,16 @@ use std::slice::from_ref;
 pub struct Piece<'a> {
     /// The choice.
     pub choice: Choice,
-    /// The sign before its start, empty where there is none.
+    /// The sign before its start, empty if there is none.
     pub sign: &'a [Cell],
     /// The cells of its rule, or of its character's definition.
     pub own: &'a [Cell],
 }
 
-/// The pieces of a print's braille from its front to its end, one for each choice. It takes no memory. Contracts see the
-/// list of what those that are left show.
+/// The pieces of a print's braille from its front to its end, one for each choice. Nothing is allocated. Contracts see
+/// the list of what those that are left show.
 ///
-/// Most of a print are runs of characters that each stand as one cell. A loop that has to be fast takes these by
+/// Most of a print is runs of characters that each stand as one cell. A loop that has to be fast takes these by
 /// [`Pieces::next_lone`], and the piece after them by [`Pieces::next_chosen`].
 #[derive(Drop)]
 pub struct Pieces<'a, B: RuleBook> {
@@ -81,8 +81,8 @@ impl<'a, B: RuleBook> Pieces<'a, B> {
         }
     }
 
-    /// Takes the next piece, and gives its cell, where it is seen at once that the piece is one cell without a sign. Else
-    /// nothing is taken, and `next_chosen` finds the piece.
+    /// Takes the next piece, and gives its cell, if it is seen at once that the piece is one cell without a sign.
+    /// Otherwise nothing is taken, and `next_chosen` finds the piece.
     #[inline(always)]
     pub fn next_lone(&mut self) -> Option<Cell>
         ensures { MatchOption result (self.new ≡ self.old) (BeginsWithLone self.old self.new) }
@@ -129,7 +129,7 @@ fn class_of(definition: Option<&Definition>) -> Option<Class>
     Some(definition?.class)
 }
 
-/// The cells of a rule, or of a definition where there is no rule.
+/// The cells of a rule, or of a definition if there is no rule.
 fn own_cells<'a>(
     table: &'a Table,
     definition: Option<&'a Definition>,
@@ -145,7 +145,7 @@ fn own_cells<'a>(
     }
 }
 
-/// The cells of a rule, or the lone cell of a character where there is no rule.
+/// The cells of a rule, or the lone cell of a character if there is no rule.
 #[inline(always)]
 fn own_or_lone<'a>(table: &'a Table, cell: &'a Cell, rule: Option<usize>) -> &'a [Cell]
     requires { ForSome rule (λ k. k < length table.now.rules) }
@@ -168,7 +168,8 @@ fn unsigned_cell<B: RuleBook>(book: &B, character: char, is_free: bool) -> Optio
     book.lone_cell(character)
 }
 
-/// The cell that is all that is made at a place, where that is seen at once. A place that may follow a number has none.
+/// The only cell that is made at a place, if it is seen at once that there is no other. A place that may follow a
+/// number has none.
 #[inline(always)]
 fn lone_at<'a, B: RuleBook>(
     book: &'a B,
@@ -186,8 +187,8 @@ fn lone_at<'a, B: RuleBook>(
     Some(cell)
 }
 
-/// Whether no sign after a number can stand right after a character: the table has none, or no number goes on over the
-/// character.
+/// Whether no sign after a number can stand right after a character: the table has none, or no number continues over
+/// the character.
 #[inline(always)]
 fn frees_next(table: &Table, character: char) -> bool
     ensures { OnTrue result ((print : List ℕ) (i : ℕ) → slice_get print i ≡ Some character → IsFree table.now print (i + 1)) }

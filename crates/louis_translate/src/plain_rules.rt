@@ -89,7 +89,7 @@ fn is_better(len: usize, most: usize, found: Option<usize>) -> bool
     most < len || (most == len && found.is_none())
 }
 
-/// The rule that is chosen at a place, found by a look at each rule.
+/// The rule that is chosen at a place, found by looking at each rule.
 #[inline(never)]
 fn best_rule(table: &Table, print: &[char], at: usize) -> Option<usize>
     requires { at < length print.now }

@@ -9,7 +9,7 @@ use louis_table::Table;
 use std::alloc::{AllocError, Global};
 use thiserror::Error;
 
-/// Why a print was not translated.
+/// Why a print wasn't translated.
 #[derive(Clone, Copy, Debug, PartialEq, Eq, Error)]
 pub enum Fault {
     /// The table doesn't define a character of the print.
@@ -18,7 +18,7 @@ pub enum Fault {
         /// The smallest place of such a character, from 0.
         place: usize,
     },
-    /// An allocation was refused.
+    /// An allocation failed.
     #[error("out of memory")]
     NoMemory,
 }
@@ -39,7 +39,7 @@ fn defines(table: &Table, character: char) -> bool
     table.definition(character).is_some()
 }
 
-/// The first place, from 0, whose character the table doesn't define. It takes no memory.
+/// The first place, from 0, whose character the table doesn't define. It allocates nothing.
 pub fn undefined_place(table: &Table, print: &[char]) -> Option<usize>
     ensures none { IfNone result (AreDefined table.now print.now) }
     ensures some { IfSome result (IsFirstUndefined table.now print.now) }
@@ -71,7 +71,7 @@ fn characters(alloc: Global, text: &str) -> Result<Vec<char>, AllocError>
     text.chars().collect(alloc)
 }
 
-/// The characters of a text, judged before any memory is asked for.
+/// The characters of a text, checked before anything is allocated.
 pub(crate) fn defined_characters(
     alloc: Global,
     table: &Table,

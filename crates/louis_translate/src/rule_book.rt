@@ -18,15 +18,14 @@ pub trait RuleBook {
     fn table(&self) -> &Table
         ensures { result.now ≡ meaning self.now };
 
-    /// The index of the rule that is chosen at a place of the print, or `None` where the definition of the
-    /// character there is.
+    /// The index of the rule that is chosen at a place of the print, or `None` if the character's definition is.
     fn best(&self, print: &[char], at: usize) -> Option<usize>
         requires defined { AreDefined (meaning self.now) print.now }
         requires within { at < length print.now }
         ensures { IsChosen (meaning self.now) print.now at result };
 
-    /// The one cell of a character that is neither a digit nor a capital, or `None` where it has more, or the book doesn't
-    /// know it at once: where the definition of the character is chosen, and no number goes on to it, this cell is all
+    /// The one cell of a character that is neither a digit nor a capital, or `None` if it has more, or the book doesn't
+    /// know it at once: wherever the definition of the character is chosen, and no number reaches it, this cell is all
     /// that stands for it. A book that knows none is only slower.
     #[inline(always)]
     fn lone_cell(&self, _character: char) -> Option<&Cell>

@@ -52,7 +52,7 @@ impl Drop for RuleIndex {
 impl RuleIndex {
     ghost use Rattle.std.specs.Prelude.{◌≡◌, IfOk};
 
-    /// The index of a table, which it owns from then on. Where there is no memory for it, the table is dropped.
+    /// The index of a table, which it owns from then on. If an allocation for it fails, the table is dropped.
     pub fn new(alloc: Global, table: Table) -> Result<Self, AllocError>
         ensures { IfOk result (λ index. index ≡ table) }
     {

@@ -72,7 +72,7 @@ fn child_of(children: &[(char, usize)], character: char) -> Option<usize>
     None
 }
 
-/// Adds a node that leads nowhere, and answers its index.
+/// Adds a node that leads nowhere, and gives its index.
 fn push_node(alloc: Global, nodes: &mut Vec<Node>) -> Result<usize, AllocError>
     ensures place { IfOk result (λ n. n ≡ length nodes.old.items) }
     ensures adds { OnOk result (AddsNode nodes.old.items nodes.new.items) }
@@ -96,7 +96,7 @@ fn link(nodes: &mut Vec<Node>, node: usize, character: char, child: usize) -> Re
     Ok(())
 }
 
-/// Puts a rule behind those of a node.
+/// Puts a rule after those of a node.
 fn put_rule(nodes: &mut Vec<Node>, node: usize, index: usize) -> Result<(), AllocError>
     requires { node < length nodes.old.items }
     ensures { OnOk result (PutsRules nodes.old.items nodes.new.items node
@@ -148,7 +148,7 @@ impl RuleTree {
         child_of(children_at(self.nodes.as_slice(), node), character)
     }
 
-    /// Where a first character leads, to a new node where it led nowhere.
+    /// Where a first character leads, to a new node if it led nowhere.
     fn enter_group(&mut self, alloc: Global, character: char) -> Result<usize, AllocError>
         ensures { IfOk result (LeadsFrom self.old self.new None character) }
     {
@@ -160,7 +160,7 @@ impl RuleTree {
         Ok(node)
     }
 
-    /// Where a character leads from a node, to a new node where it led nowhere.
+    /// Where a character leads from a node, to a new node if it led nowhere.
     fn enter_child(
         &mut self,
         alloc: Global,

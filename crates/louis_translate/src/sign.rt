@@ -8,8 +8,7 @@ use super::position::{class_at, is_digit, is_letter};
 use cell_core::Cell;
 use louis_table::{Class, Table};
 
-/// The place after the last capital of the run around a place, and the place itself where no capital
-/// stands there.
+/// The place after the last capital of the run around a place, and the place itself if no capital stands there.
 #[inline(never)]
 fn end_of_run(table: &Table, print: &[char], place: usize) -> usize
     requires { place ≤ length print.now }
@@ -74,14 +73,14 @@ fn capital_sign<'a>(table: &'a Table, print: &[char], place: usize, end: usize) 
     }
 }
 
-/// Whether the table says of a character that it goes on with a number.
+/// Whether the table says that a character continues a number.
 pub(crate) fn is_mode_char(table: &Table, character: char) -> bool
     ensures { result ≡ is_mode_char_lem table.now character }
 {
     table.mode_chars().contains(&character)
 }
 
-/// Whether a character takes a sign right after a number: it is one of those that do, and none that goes on with one.
+/// Whether a character takes a sign right after a number: it is one of those that do, and doesn't continue one.
 #[inline(never)]
 fn takes_sign_after_number(table: &Table, character: char) -> bool
     ensures { result ≡ (not (is_mode_char_lem table.now character) && is_nocontract_char_lem table.now character) }
@@ -89,8 +88,8 @@ fn takes_sign_after_number(table: &Table, character: char) -> bool
     !is_mode_char(table, character) && table.nocontract_chars().contains(&character)
 }
 
-/// Whether the place before this one is in numeric mode, where that is known of an earlier place. The walk back ends there
-/// or at the first digit, and passes over characters alone that go on with a number.
+/// Whether the place before this one is in numeric mode, if that is known of an earlier place. The walk back ends there or
+/// at the first digit, and passes only characters that continue a number.
 #[inline(never)]
 fn follows_number(table: &Table, print: &[char], known: usize, at_known: bool, place: usize) -> bool
     requires order { known ≤ place }
@@ -111,7 +110,7 @@ fn follows_number(table: &Table, print: &[char], known: usize, at_known: bool, p
     at_known
 }
 
-/// Whether a number goes on up to a place whose character has this class, and so the next place follows it.
+/// Whether a number reaches a place whose character has this class, and so the next place follows it.
 #[inline(always)]
 fn goes_on(table: &Table, print: &[char], place: usize, class: Option<Class>, follows: bool) -> bool
     requires place { place < length print.now }
@@ -169,8 +168,8 @@ fn sign_after_number<'a>(
     }
 }
 
-/// The signs along a print. The run around the last capital is remembered, and whether a number goes on, so that each
-/// is walked once where places are asked for in their order, whichever are left out.
+/// The signs along a print. The run around the last capital is remembered, and whether a number goes on, so that each is
+/// walked once if places are asked for in their order, whichever are left out.
 #[derive(Drop)]
 pub(crate) struct Signs<'a> {
     table: &'a Table,
@@ -255,7 +254,7 @@ impl<'a> Signs<'a> {
         capital_sign(self.table, self.print, place, end)
     }
 
-    /// The sign before a place, empty where there is none.
+    /// The sign before a place, empty if there is none.
     pub(crate) fn at(&mut self, place: usize) -> &'a [Cell]
         requires { place < length self.old.print.now }
         ensures sign { result.now ≡ sign_at self.old.table.now self.old.print.now place }
@@ -265,8 +264,8 @@ impl<'a> Signs<'a> {
         self.at_class(place, class_at(self.table, self.print, place))
     }
 
-    /// The sign before a place whose character has this class. A number counts only at a digit, and where the table has a
-    /// sign after numbers.
+    /// The sign before a place whose character has this class. Whether the place follows a number matters only at a digit,
+    /// and if the table has a sign after numbers.
     #[inline(always)]
     pub(crate) fn at_class(&mut self, place: usize, class: Option<Class>) -> &'a [Cell]
         requires within { place < length self.old.print.now }

@@ -20,7 +20,7 @@ pub(crate) enum Start {
     Child(u32),
 }
 
-/// Where a walk begins, by two folded characters. Where the number of the node is too great to be kept, it
+/// Where a walk begins, by two folded characters. If the number of the node is too great to be kept, it
 /// begins at the group.
 fn start_of(index: &IndexedTable, first: char, second: char) -> Start
     requires { IsWhole index.now }

@@ -27,13 +27,13 @@ pub struct Translation {
 pub struct Part {
     /// The cells.
     pub cells: Cells,
-    /// How many characters of the print they stand for.
+    /// How many characters of the print these stand for.
     pub used: usize,
     /// Whether these are all.
     pub complete: bool,
 }
 
-/// Adds a place so many times.
+/// Adds a place this many times.
 fn push_copies(places: &mut Vec<usize>, count: usize, place: usize) -> Result<(), AllocError>
     ensures { OnOk result (places.new.items ≡ places.old.items ++ replicate count place) }
 {
@@ -78,8 +78,8 @@ fn translate_print<B: RuleBook>(
 ///
 /// # Errors
 ///
-/// [`Fault::Undefined`] exactly where the table doesn't define a character of the text, with the smallest
-/// place of one, before any memory is asked for; else [`Fault::NoMemory`] where an allocation was refused.
+/// [`Fault::Undefined`] exactly if the table doesn't define a character of the text, with the smallest place
+/// of one, before anything is allocated; otherwise [`Fault::NoMemory`] if an allocation failed.
 pub fn translate<B: RuleBook>(alloc: Global, book: &B, text: &str) -> Result<Translation, Fault>
     ensures translation { IfOk result (λ t.
         IsTranslation (B.meaning book.now) (chars text.now) t.cells t.output_pos t.input_pos) }

@@ -1,4 +1,4 @@
--- What an upsert by the rowid makes of a table.
+-- What an upsert by the rowid does to a table.
 use Rattle.std.proofs.Common.{◌≡◌, ℕ, suc, ℤ, ◌+◌, ◌/◌, ◌++◌, ap, ◌∙◌, ◌==◌, ◌&&◌, Bool, true, false, List, [], ◌∷◌, drop, map, length, Some, Ok, refl, sym, true≢false, replicate}
 use Rattle.std.specs.Ordering.{int_eq}
 use Rattle.std.proofs.lemmas.Bool.{and_parts}

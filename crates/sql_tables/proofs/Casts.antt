@@ -1,4 +1,4 @@
--- What STRICT makes of NULL and of integers in an INTEGER column: nothing else.
+-- STRICT leaves NULL and integers in an INTEGER column as they are.
 use Rattle.std.proofs.Common.{◌≡◌, refl, cond, Bool, true, false, ℤ}
 use Rattle.sqlite_value.specs.declared.value.Value.{Value}
 use Rattle.sqlite_value.specs.declared.value.Value.TheVariants.{Null, Int}

@@ -1,4 +1,4 @@
--- The database's counter of rowids, which a first table brings where it is missing.
+-- The database's counter of rowids, which a first table brings if it is missing.
 use Rattle.std.proofs.Common.{◌≡◌, ℕ, zero, suc, ◌+◌, ◌<◌, Bool, true, false, not, ◌&&◌, ◌||◌, cond, if◌then◌else◌, List, [], ◌∷◌, ◌++◌, slice_get, option_and_then, is_some, Option, Some, None, codes, refl, sym, ap, ap₂, subst, ◌∙◌, arith, inl}
 use Rattle.std.specs.List.{list_any, position_from}
 use Rattle.std.proofs.lemmas.Bool.{and_right}
@@ -113,7 +113,7 @@ module _ (s : Schema) (table : Table) where
   pub has_first : (t : Table) → Has s.tables t → Has (first_created s table).tables t
   has_first t has = let there = has_left s.tables _ t has in by_counter (λ after. Has after.tables t) there (has_left (created s table).tables _ t there)
 
-  -- a table that is made where the counter isn't missing comes alone
+  -- a table that is made when the counter isn't missing comes alone
   pub plain_first : lacks_sequence s ≡ false → first_created s table ≡ created s table
   plain_first none = ap (λ b. if b then created (created s table) (counter 0) else created s table) none
 

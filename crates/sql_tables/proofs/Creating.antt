@@ -153,7 +153,7 @@ none_placed p (x ∷ xs) ys from e none = go (p x) e (none_placed p xs ys (from 
     go true e more = absurd (true≢false e)
     go false e more = more e none
 
--- a name that was free is free still, where the table and its indexes have others
+-- a name that was free is still free, if the table and its indexes have others
 pub free_still : (s : Schema) (table : Table) (name : List ℕ) → is_used s name ≡ false → same_name table.name name ≡ false
     → ((tree from : ℕ) → is_some (position_from (λ i. same_name i.name name) from (automatics (record table { tree = tree }) 0 (tree + 1) table.uniques)) ≡ false) → is_used (created s table) name ≡ false
 free_still s table name free other indexes =

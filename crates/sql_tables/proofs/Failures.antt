@@ -1,4 +1,4 @@
--- A statement within a transaction fails for a cause of the store that the connection shows, or for none of the store's.
+-- A statement within a transaction fails for a cause of the store that the connection shows, or for another cause.
 use Rattle.std.proofs.Common.{◌≡◌, ◌⊎◌, inl, inr, Bool, true, false, List, ℕ, Result, Ok, Err, MatchBool, ap, refl}
 use Rattle.std.specs.Prelude.{⊤}
 use Rattle.sqlite_value.specs.Order.{Row}

@@ -37,7 +37,7 @@ no_any xs h = h.4
 never_overflows : (tree : ℕ) (p : Parts) (db : Trees) → ¬ QueryOverflows (query_on tree p) db []
 never_overflows tree p db h = elim h [ inl group ↦ group | inr fold ↦ no_any (db tree) fold ]
 
--- where a SELECT of the table is understood and typed, and takes no parameter, only the store makes it fail
+-- if a SELECT of the table is understood and typed, and takes no parameter, only the store makes it fail
 module _ (schema : Schema) (tree : ℕ) (p : Parts) (names : List (List ℕ)) (text : List ℕ) (means : Means schema text (Select (program_on tree p) names)) (unlisted : reads_listing schema text ≡ false)
     (whole : length text ≤ (parse_of text).tail) (unnamed : (parse_of text).names ≡ []) (typed : accepts_program schema [] (query_on tree p) [] ≡ true)
     (old new : State) (has : old.now.schema ≡ schema) (unlimited : old.step_limit ≡ None) (e : Error) where

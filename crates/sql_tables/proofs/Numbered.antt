@@ -1,4 +1,4 @@
--- What an upsert by the rowid makes of a table whose key is the rowid, in any schema that declares it so.
+-- What an upsert by the rowid does to a table whose key is the rowid, in any schema that declares it so.
 use Rattle.std.proofs.Common.{◌≡◌, inl, inr, ℕ, ℤ, Bool, true, false, ◌&&◌, ◌||◌, ◌==◌, List, [], ◌∷◌, ◌++◌, Option, filter, drop, Some, Ok, refl, sym, ap, subst, ◌∙◌, is_eq, IsTrue, true≢false, eq-eqb, eqb-true, Ordering, Less, Equal, Greater, int_cmp, ◌<ℤ◌, ◌<◌}
 use Rattle.std.specs.List.{AllByRecursion, list_any}
 use Rattle.std.specs.Ordering.{MatchOrdering}
@@ -96,7 +96,7 @@ module _ (schema : Schema) (table : Table) (d : IsDeclared schema table) (unkeye
         let next = made given r shows number in
         updates_one limit schema table params d.alone (by_rowid base project) given db r new id w (uncovered schema table d low db) only there next.0 next.1 (is ∙ sym number) (λ i has unique on. absurd (none_on i has unique on)) h
 
-    -- the row is put in place of the one with its number, or with it more
+    -- the row is put in place of the one with its number, or added
     pub upserts : (db after : Trees) → HaveRowids (db table.tree) → Ends limit schema table params (Some (0 ∷ [])) (program_on table.tree (by_rowid base project)) new db after → IsPut schema table new id db after
     upserts db after keyed (inl (free, w, h, trees)) = subst (IsPut schema table new id db) (sym trees) (puts limit schema table params new cast id is db w h).0
     upserts db after keyed (inr (r, has, meets, w, h, trees)) =

@@ -25,7 +25,7 @@ sorted {X} lt (x ∷ y ∷ ys) up = λ k d low high. go k d high (sorted lt (y �
     go zero d high more = up.0
     go (suc k) d high more = subst (λ n. lt (slice_index_or (x ∷ y ∷ ys) n d) (slice_index_or (y ∷ ys) k d) ≡ false) (sym (next k)) (more k d (omega arith) (omega (arith, high)))
 
--- the same of what a map makes of them, where it keeps the order
+-- the same of what a map makes from them, if it keeps the order
 pub rises_map : {X Y : Type 0} (f : X → Y) (lt : X → X → Bool) (lt' : Y → Y → Bool) → ((a b : X) → lt a b ≡ lt' (f a) (f b)) → (xs : List X) → Rises lt xs → Rises lt' (map f xs)
 rises_map f lt lt' same [] up = tt
 rises_map f lt lt' same (x ∷ []) up = tt

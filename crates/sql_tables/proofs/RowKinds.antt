@@ -26,7 +26,7 @@ use Rattle.sql_tables.specs.Kinds.{IsOfKind, HasKinds, IsUtf8Text}
 use Rattle.sql_tables.specs.Tables.{IsDeclared}
 use Rattle.sql_tables.proofs.Declaring.{has_table}
 
--- a value that STRICT takes, and that is no NULL
+-- a value that STRICT accepts, and that isn't NULL
 of_kind : (k : Kind) (v : Value) → is_of k v ≡ true → is_null v ≡ false → (k ≡ Text → IsUtf8Text v) → IsOfKind k v
 of_kind k value.Null typed present utf8 = absurd (true≢false present)
 of_kind Integer (value.Int n) typed present utf8 = (n, refl)
@@ -73,7 +73,7 @@ abbrev pub columns_from : ℕ → List Column → Row → Row
 columns_from at [] row = []
 columns_from at (c ∷ cs) row = column row at ∷ columns_from (at + 1) cs row
 
--- the row goes on so from the place behind this one
+-- the row goes on so from the place after this one
 abbrev pub GoesOn : ℕ → Row → Row → Type 0
 GoesOn at vs row = (i k : ℕ) → k ≡ at + 1 + i → column vs i ≡ column row k
 
@@ -86,7 +86,7 @@ pub later : (at : ℕ) (vs row : Row) → GoesOn at vs row → GoesOn (at + 1) (
 later at [] row on i k e = on (suc i) k (omega (arith, e))
 later at (v ∷ vs) row on i k e = on (suc i) k (omega (arith, e))
 
--- where the columns are STRICT and NOT NULL, and the texts UTF-8
+-- if the columns are STRICT and NOT NULL, and the texts UTF-8
 module _ (key : Option ℕ) (row : Row) where
   kinds_from : (at : ℕ) (cs : List Column) (vs : Row) → GoesOn at vs row → ((place : ℕ) → at ≤ place → is_key key place ≡ false)
       → list_all (λ c. c.is_strict && c.not_null) cs ≡ true → AllByRecursion (λ c. c.kind ≡ Text → AllByRecursion IsUtf8Text (drop 1 row)) cs
@@ -113,7 +113,7 @@ pub hidden_kinds : (table : Table) (row : Row) → IsKept table row → table.ke
 hidden_kinds table row kept hidden needed utf8 =
     kinds_from table.key row 0 table.columns (drop 1 row) (goes_on row) (λ place over. ap (λ key. is_key key place) hidden) needed utf8 kept.typed kept.present
 
--- the columns behind a first one that is the rowid
+-- the columns after a first one that is the rowid
 pub numbered_kinds : (table : Table) (row : Row) (c : Column) (cs : List Column) → IsKept table row → table.key ≡ Some 0 → table.columns ≡ c ∷ cs → list_all (λ c. c.is_strict && c.not_null) cs ≡ true
     → AllByRecursion (λ c. c.kind ≡ Text → AllByRecursion IsUtf8Text (drop 1 row)) cs → HasKinds (map (λ c. c.kind) cs) (columns_from 2 cs row)
 numbered_kinds table row c cs kept first are needed utf8 =

@@ -89,7 +89,7 @@ counter_defined : table_defined_by sequence_text ≡ Ok (tables.counter 0)
 unfolding everything
 counter_defined = refl
 
--- the trees with a table more, which has no rows
+-- the trees with a further table, which has no rows
 pub record Grows (before : Schema) (old new : Trees) : Type 0 where
   pub empty : new (next_tree before) ≡ []
   pub others : KeepsRows before.tables old new

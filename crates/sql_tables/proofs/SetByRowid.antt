@@ -1,4 +1,4 @@
--- What an UPDATE of one row by the rowid makes of a table.
+-- What an UPDATE of one row by the rowid does to a table.
 use Rattle.std.proofs.Common.{◌≡◌, ℕ, ℤ, ◌∙◌, true, List, [], ◌∷◌, drop, Ok, sym, ap}
 use Rattle.std.specs.Ordering.{int_eq}
 use Rattle.sqlite_value.specs.declared.value.Value.TheVariants as value

@@ -58,11 +58,11 @@ module _ {X : Type 0} (written : X → Row) (columns : Row → Row) (key : X →
   moved : (xs : List X) (rows : List Row) → Lists written columns xs rows → IsPermutation (map written (map set_if xs)) (map (λ r. becomes (columns r)) rows)
   moved xs rows lists = subst (λ l. IsPermutation (map written (map set_if xs)) l) (map-map becomes columns rows) (subst (λ l. IsPermutation l (map becomes (map columns rows))) (sym (all_become xs)) (IsPermutation-map becomes _ _ lists))
 
-  -- where no row has the number
+  -- if no row has the number
   pub sets_none : (xs : List X) (rows : List Row) → Lists written columns xs rows → filter (has_rowid id) rows ≡ [] → Lists written columns (map set_if xs) rows
   sets_none xs rows lists none = subst (λ l. IsPermutation (map written (map set_if xs)) l) (map_same _ columns rows (unchanged rows (none_pass (has_rowid id) rows none))) (moved xs rows lists)
 
-  -- where one has it
+  -- if one has it
   pub sets_one : (xs : List X) (rows : List Row) (r new : Row) → Lists written columns xs rows → filter (has_rowid id) rows ≡ r ∷ [] → has_rowid id r ≡ true → columns new ≡ change (columns r) → rowid new ≡ Int id
       → Lists written columns (map set_if xs) (put_row new (without_rowid id rows))
   sets_one xs rows r new lists only has is keyed =

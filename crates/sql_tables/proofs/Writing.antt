@@ -1,4 +1,4 @@
--- What INSERT .. ON CONFLICT DO UPDATE makes of a table, in any schema in which the table has no rule but its key.
+-- What INSERT .. ON CONFLICT DO UPDATE does to a table, in any schema in which the table has no rule but its key.
 use Rattle.std.proofs.Common.{◌≡◌, ◌≢◌, ◌⊎◌, inl, inr, ℕ, zero, suc, ℤ, Bool, true, false, cond, List, [], ◌∷◌, ◌++◌, map, filter, find, drop, length, length-append, Some, None, Option, Ok, Err, Result, refl, sym, ap, subst, subst₂, ◌∙◌, IsTrue, IsPermutation, unwrap_or, arith}
 use Rattle.std.specs.List.{AllByRecursion, flat_map, list_any, list_all}
 use Rattle.std.proofs.lemmas.Bool.{and_parts, not-true}
@@ -61,7 +61,7 @@ pub record IsPut (schema : Schema) (table : Table) (row : Row) (id : ℤ) (old n
   pub rows : new table.tree ≡ put_row row (without_rowid id (old table.tree))
   pub others : Spares schema table.tree old new
 
--- the table has this row more, and each other table has its rows
+-- the table has this row too, and each other table has its rows
 pub record IsAdded (schema : Schema) (table : Table) (row : Row) (old new : Trees) : Type 0 where
   pub rows : IsPermutation (new table.tree) (row ∷ old table.tree)
   pub others : Spares schema table.tree old new

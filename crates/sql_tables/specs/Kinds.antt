@@ -19,7 +19,7 @@ IsOfKind Text v = (t : _) × (v ≡ value.Text t) × IsUtf8 t
 IsOfKind Blob v = (b : _) × (v ≡ value.Blob b)
 IsOfKind Any v = ⊤
 
--- a value of each kind in turn, whatever stands behind them
+-- a value of each kind in turn, whatever stands after them
 abbrev pub HasKinds : List Kind → Row → Type 0
 HasKinds [] row = ⊤
 HasKinds (k ∷ kinds) [] = ⊥
@@ -29,7 +29,7 @@ HasKinds (k ∷ kinds) (v ∷ row) = IsOfKind k v × HasKinds kinds row
 abbrev pub kinds_of : Table → List Kind
 kinds_of table = map (λ c. c.kind) table.columns
 
--- ---- A sound database gives the rows of a STRICT table the kinds of their columns. These it leaves out.
+-- ---- A sound database gives the rows of a STRICT table the kinds of their columns, except for these.
 
 -- each row has an integer as its rowid
 abbrev pub HaveIntegerRowids : List Row → Type 0

@@ -1,4 +1,4 @@
--- What making a table makes of a file, and what it leaves.
+-- What making a table does to a file, and what it leaves as it was.
 use Rattle.std.specs.Prelude.{◌≡◌, ◌≢◌, ℕ, ◌+◌, ◌%◌, ◌<◌, ◌≤◌, pos, true, false, if◌then◌else◌, nat_lt, List, [], IsTrue}
 use Rattle.std.specs.List.{AllByRecursion}
 use Rattle.sqlite_value.specs.Order.{column}
@@ -22,8 +22,8 @@ use Rattle.sql_tables.specs.Tables.{counter}
 abbrev pub IndexesLow : Schema → Type 0
 IndexesLow s = (i : Index) → Has s.indexes i → i.table < next_tree s
 
--- The schema after a first table is made. Where a table counts its rowids and the database's counter of them isn't there, the database
--- makes the counter right after it.
+-- The schema after a first table is made. If a table counts its rowids and the database's counter of them isn't there, the database makes
+-- the counter right after it.
 abbrev pub first_created : Schema → Table → Schema
 first_created s table = if lacks_sequence s then created (created s table) (counter 0) else created s table
 
@@ -48,7 +48,7 @@ pub record KeepsAside (s : Schema) (old new : Trees) : Type 0 where
   pub texts : KeepsForeign (old catalog_tree) (new catalog_tree)
   pub version : new version_tree ≡ old version_tree
 
--- within a transaction over this commit the schema has come so far, and the tables have those rows
+-- within a transaction over this commit the schema is this one so far, and the tables have those rows
 pub record IsMaking (committed : Database) (first : Schema) (rows : Trees) (now : Schema) (s : State) : Type 0 where
   pub schema : s.now.schema ≡ now
   pub sound : IsSound now s.now.trees

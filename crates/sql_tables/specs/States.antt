@@ -29,11 +29,11 @@ IsSettled s = Leaves (λ db. db ≡ s.now.trees) s
 abbrev pub IsCommitted : State → Type 0
 IsCommitted s = IsTrue s.is_open × (s.committed ≡ s.now)
 
--- If the connection is open still, its last commit is that of before, and it shows it.
+-- If the connection is still open, its last commit is that of before, and it shows it.
 abbrev pub IsUndone : State → State → Type 0
 IsUndone old new = KeepsCommit old new × (IsTrue new.is_open → new.now ≡ new.committed)
 
--- If the connection is open still, it shows what it showed before.
+-- If the connection is still open, it shows what it showed before.
 abbrev pub ShowsAsBefore : State → State → Type 0
 ShowsAsBefore old new = IsTrue new.is_open → new.now ≡ old.now
 
@@ -42,8 +42,8 @@ pub record HasTable (table : Table) (s : State) : Type 0 where
   pub declared : IsDeclared s.now.schema table
   pub sound : IsSound s.now.schema s.now.trees
 
--- A statement that takes no parameter has an answer in this state: it is understood there, is one statement and reads no time, and nothing
--- that it reads is of a wrong type or gives a sum that overflows.
+-- A statement without parameters has an answer in this state: it is understood there, is one statement and doesn't read the time, and
+-- nothing that it reads is of a wrong type or gives a sum that overflows.
 pub record HasAnswer (text : List ℕ) (s : State) : Type 0 where
   pub compiled : Compiled
   pub is : IsStatement s text [] compiled

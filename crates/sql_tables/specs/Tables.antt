@@ -1,5 +1,5 @@
 -- Tables as they are declared, and when a schema declares one so, whatever stands beside it. Names are compared as written: a table named
--- `Book` isn't `book`. A table that has a trigger, or an index that the database can't read, is none of the schema's tables, so it isn't
+-- `Book` isn't `book`. A table that has a trigger, or an index that the database can't read, isn't among the schema's tables, so it isn't
 -- declared.
 use Rattle.std.specs.Prelude.{◌≡◌, true, false, List, [], ◌∷◌, Option, Some, None, codes, ℕ, filter, slice_get}
 use Rattle.sqlite_value.specs.declared.keys.Collation.TheVariants.{Binary}
@@ -53,7 +53,7 @@ keyed name places columns = plain_table name columns None places (places ∷ [])
 abbrev pub counter : ℕ → Table
 counter = plain_table (codes "sqlite_sequence") (untyped (codes "name") ∷ untyped (codes "seq") ∷ []) None [] [] []
 
--- The schema has this table under its name, in a tree that is no other table's, and no unique index on it but those of its key.
+-- The schema has this table under its name, in a tree that is no other table's, and no unique index on it except those of its key.
 pub record IsDeclared (schema : Schema) (table : Table) : Type 0 where
   pub at : ℕ
   pub named : table_named schema table.name ≡ Some at
