@@ -60,23 +60,23 @@ test:
 	$(MAKE) --no-print-directory -j $(JOBS) trials runs
 
 # what the gate runs once all is proved; the tests stop files at each 23rd of their calls, and at each where an older file is
-# completed, and tests/stops.sh at each
+# completed, and tests/failures/stops.sh at each
 trials:
-	RT='$(RT)' EVERY=23 tests/trials.sh
-# scripts over the built program, which run side by side
+	RT='$(RT)' EVERY=23 tests/trials/trials.sh
+# scripts tests/FOLDER/NAME.sh over the built program, which run side by side
 SCRIPTS := prove tutorial client rows ueb stops memory kill desk instructions package
 runs: $(SCRIPTS:%=run-%)
 run-tutorial run-client: run-%:
-	tests/$*.sh $(PROGRAM)
+	tests/program/$*.sh $(PROGRAM)
 run-%:
-	tests/$*.sh
+	tests/*/$*.sh
 
 attacks:
 	$(need_rt)
-	RT='$(RT)' tests/attacks.sh
+	RT='$(RT)' tests/trials/attacks.sh
 
 bench: $(PROGRAM)
-	for script in translate tables reading pages rows session rebuild keep; do bench/$$script.sh || exit 1; done
+	for name in translate tables reading pages rows session rebuild keep; do bench/$$name/$$name.sh || exit 1; done
 
 clean:
 	rm -rf build crates/*/out

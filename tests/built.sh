@@ -7,7 +7,7 @@ program=${PROGRAM:-build/braildesk}
 [ -x "$program" ] || { echo "$0: $program is missing: make builds it" >&2; exit 1; }
 scratch=$(mktemp -d); trap 'rm -rf "$scratch"' EXIT
 
-# Builds the library of tests/NAME.c, which is loaded before the program.
+# Builds the library of tests/failures/NAME.c, which is loaded before the program.
 library() { # NAME
-    cc -O2 -shared -fPIC -o "$scratch/$1.so" "tests/$1.c"
+    cc -O2 -shared -fPIC -o "$scratch/$1.so" "tests/failures/$1.c"
 }

@@ -12,7 +12,7 @@ from typing import Final
 from braildesk.bring.source import INSTALLED
 
 MEASURED: Final = Path(__file__).with_name("measured.tsv")
-"""What `tests/bring_all.sh` found, a row a table."""
+"""What `tests/tables/bring_all.sh` found, a row a table."""
 
 _ENDINGS: Final = (".tbl", ".utb", ".ctb")
 _INCLUDE: Final = re.compile(r"^include\s+(\S+\.[uc]tb)", re.MULTILINE)

@@ -1,0 +1,60 @@
+#!/bin/bash
+# Installs by scripts/install.sh into a folder and takes all away again, and makes the Debian package twice: both have the same bytes, and
+# what is in it works where it is unpacked.
+#   tests/make/package.sh     PROGRAM: the program (build/braildesk)
+set -eu
+cd "$(dirname "$0")/../.."
+. tests/built.sh dpkg-deb
+fail() { echo "tests/make/package.sh: $*" >&2; exit 1; }
+export PROGRAM=$program LC_ALL=C.UTF-8
+version=$(cat VERSION)
+
+# what is installed, by words of a new user, and nothing left when it is taken away
+export DESTDIR=$scratch/installed PREFIX=/opt/braildesk
+scripts/install.sh install
+at=$DESTDIR$PREFIX
+use() { # FOLDER: a new book by what is installed there
+    (
+        cd "$scratch"
+        unset BRAILDESK PYTHONPATH
+        rm -f ./*.braildesk*
+        [ "$("$1/bin/scribe" --version)" = "scribe $version" ] || fail "$1/bin/scribe shows another version"
+        "$1/bin/scribe" new moon.braildesk
+        echo 'The moon is far away.' > moon.txt
+        "$1/bin/scribe" import moon.braildesk moon.txt
+        "$1/bin/scribe" show moon.braildesk
+        cp "$1/share/doc/braildesk/examples/moon.braildesk" example.braildesk
+        "$1/bin/scribe" show example.braildesk
+    ) > "$scratch/shown" 2>&1 || { cat "$scratch/shown" >&2; fail "what is installed below $1 doesn't work"; }
+    grep -q 'new book with the table ueb' "$scratch/shown" || fail "the table ueb is not found below $1"
+    grep -q '⠠⠞⠓⠑⠀⠍⠕⠕⠝⠀⠊⠎⠀⠋⠁⠗⠀⠁⠺⠁⠽⠲' "$scratch/shown" || fail "the book made below $1 has other braille"
+    grep -q 'Twice a day the sea comes' "$scratch/shown" || fail "the book of the examples below $1 is not shown"
+}
+use "$at"
+for document in README.md docs/FORMATS.md docs/TUTORIAL.md docs/DESK.md; do
+    cmp "$document" "$at/share/doc/braildesk/$document" || fail "$document is not installed"
+done
+mkdir -p "$at/share/doc/braildesk/mine"
+touch "$at/share/doc/braildesk/mine/book.braildesk"
+scripts/install.sh uninstall
+[ "$(find "$at" -type f)" = "$at/share/doc/braildesk/mine/book.braildesk" ] || fail "left: $(find "$at" -type f)"
+unset DESTDIR PREFIX
+echo 'ok  installed, used and taken away'
+
+# the package, twice
+export SOURCE_DATE_EPOCH=1767225600
+package=$(scripts/deb.sh)
+cp "$package" "$scratch/first.deb"
+sleep 1.1
+scripts/deb.sh > "$scratch/name"
+cmp "$package" "$scratch/first.deb" || fail 'two packages of one program differ'
+[ "$package" = "build/braildesk_${version}_amd64.deb" ] || fail "the package is called $package"
+[ "$(dpkg-deb --field "$package" Version)" = "$version" ] || fail 'the package has another version'
+dpkg-deb --extract "$package" "$scratch/root"
+use "$scratch/root/usr"
+for file in bin/braildesk bin/scribe share/man/man1/scribe.1.gz share/doc/braildesk/copyright share/doc/braildesk/docs/FORMATS.md \
+    share/applications/braildesk.desktop share/mime/packages/braildesk.xml share/bash-completion/completions/braildesk; do
+    [ -f "$scratch/root/usr/$file" ] || fail "the package lacks $file"
+done
+(cd "$scratch/root" && dpkg-deb --info "$scratch/first.deb" md5sums | md5sum --check --quiet) || fail 'the sums of the package are wrong'
+echo 'ok  the package: twice the same bytes, unpacked and used'

@@ -1,8 +1,0 @@
-#!/bin/bash
-# Feeds the program the rows of tests/rows and compares what it writes, byte for byte; compares its helps with the files of
-# tests/rows/helps, and tries them; and tries ends that can't be read or written.
-#   tests/rows.sh     PROGRAM: the program (build/braildesk)
-set -eu
-cd "$(dirname "$0")/.."
-. tests/built.sh python sqlite3
-"$PYTHON" -B tests/rows.py "$program" tests/rows

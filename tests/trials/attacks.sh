@@ -1,0 +1,66 @@
+#!/bin/bash
+# Tries the edits in crates/NAME/attacks, which the gate doesn't: wrong bodies that the prover has to refuse, beside those
+# of must-fail. An edit with a line 'test: PART TEST' is one that no contract rules out: with it that part of tests/trials
+# is run, and that test has to fail. It works on a copy, and takes some minutes for each crate that has some.
+#   tests/trials/attacks.sh [NAME..]
+set -eu
+cd "$(dirname "$0")/../.."
+rt=${RT:-rt}
+scratch=$(mktemp -d); trap 'rm -rf "$scratch"' EXIT
+git ls-files -z | tar --null -T - -cf - | tar -xf - -C "$scratch"
+cd "$scratch"
+names=("$@")
+if [ ${#names[@]} -eq 0 ]; then
+    for folder in crates/*/attacks; do names+=("$(basename "$(dirname "$folder")")"); done
+fi
+
+# Puts each 'new:' of an edit in the place of its 'old:', which stands once in the edit's file, in the crate of this folder.
+apply() {
+    local line file old text
+    while IFS= read -r line; do
+        case $line in
+            'file: '*) file=${line#file: } ;;
+            'old: '*) old=${line#old: } ;;
+            'new: '*)
+                text=$(<"$file")
+                if [[ $text != *"$old"* || ${text#*"$old"} == *"$old"* ]]; then return 1; fi
+                printf '%s\n' "${text/"$old"/"${line#new: }"}" > "$file" ;;
+        esac
+    done < "$1"
+}
+
+# Says whether the edit's test fails with it, and undoes it.
+test_sees() {
+    local edit=$1 part test sources beside
+    read -r part test < <(sed -n 's/^test: //p' "$edit")
+    sources=$(mktemp -d "$scratch/sources.XXXXXX")
+    beside=$(mktemp -d "$scratch/beside.XXXXXX")
+    cp -r src/. "$sources"
+    if ! apply "$edit"; then
+        echo "$edit cannot be applied"
+        return 1
+    fi
+    EVERY=1000 ../../tests/trials/beside.sh "$beside" "$part"
+    (cd "$beside/crates/trials" && "$rt" try --test --seconds 3000) > "$beside/log" 2>&1 || true
+    rm -r src && cp -r "$sources" src
+    if grep -qF "test ${part}::$test ... FAILED" "$beside/log"; then
+        echo "$edit: $test fails"
+    else
+        cat "$beside/log"
+        echo "$edit: $test doesn't fail"
+        return 1
+    fi
+}
+
+missed=0
+for name in "${names[@]}"; do
+    for edit in $(cd "crates/$name/attacks" && grep -l '^test: ' ./*.edit || true); do
+        (cd "crates/$name" && test_sees "attacks/$edit") || missed=$((missed + 1))
+        rm "crates/$name/attacks/$edit"
+    done
+    rm -rf "crates/$name/must-fail"
+    mv "crates/$name/attacks" "crates/$name/must-fail"
+done
+echo "edits that their test doesn't see: $missed"
+"$rt" must-fail "${names[@]}"
+[ "$missed" -eq 0 ]
