@@ -24,7 +24,7 @@ use Rattle.desk_book.specs.Histories.{entry_kept}
 use Rattle.desk_book.specs.Marks.{mark_moved_by}
 use Rattle.desk_book.specs.ParagraphMarks.{marks_on}
 use Rattle.desk_book.specs.Print.{corrected, print_of, with_entry}
-use Rattle.desk_parts.specs.Puts.{HasItsTable, PutCache, PutEntry, RowPut, SetPrint, SetVersion, put_in, with_entry_row, with_put, with_puts}
+use Rattle.desk_parts.specs.Puts.{PutCache, PutEntry, RowPut, SetPrint, SetVersion, put_in, with_entry_row, with_put, with_puts}
 use Rattle.desk_parts.specs.Rows.{Cached, Mark as MarkRow, NamedCorr, Para}
 use Rattle.desk_book.specs.Shows.{AreCached, IsCached, Shows, book_row_of, entry_row_of, entry_rows_of, flag_number, mark_row_of, para_of, paras_of}
 use Rattle.desk_book.specs.Sound.{IsSound, IsSoundEntry, IsSoundMark, IsSoundParagraph}
@@ -33,7 +33,7 @@ use Rattle.desk_command.specs.Characters.{AreCharacters}
 use Rattle.desk_book.proofs.Arranging.{slice_get-push}
 use Rattle.desk_book.proofs.BookRows.{HasCharacters, encoded-text, entry-text, history-characters, spelled-encoded}
 use Rattle.desk_book.proofs.MarkSettled.{IsWithin-sound}
-use Rattle.desk_book.proofs.Members.{Contains-cases, Contains-map, Contains-none}
+use Rattle.desk_book.proofs.Members.{Contains-behind, Contains-cases, Contains-here, Contains-map, Contains-none}
 use Rattle.desk_book.proofs.ParagraphLists.{Contains-found, changed, found-changed, id-found, ids-with_change}
 use Rattle.desk_book.proofs.PrintCharacters.{HasText, print-all}
 use Rattle.desk_book.proofs.PutCells.{ForSome-map, id-small, ids-once}
@@ -298,10 +298,9 @@ module _ (book : Book) (id : ℕ) (change : PrintChange) (sound : IsSound book) 
     pub print-lead : LeadTo book (SetVersion (row_number next.version) ∷ PutEntry entry_put ∷ SetPrint (row_number id) (encode_utf8_all change.print) ∷ cache_put id change.cells
         ∷ map (span_put change.start change.removed change.added) (marks_on id book.marks)) next
     print-lead rows shows has =
-        let puts : List RowPut = SetVersion (row_number next.version) ∷ PutEntry entry_put ∷ SetPrint (row_number id) (encode_utf8_all change.print) ∷ cache_put id change.cells
+        let rest : List RowPut = SetPrint (row_number id) (encode_utf8_all change.print) ∷ cache_put id change.cells
         ∷ map (span_put change.start change.removed change.added) (marks_on id book.marks) in
-        let table : table_of rows.entries ≡ NamedCorrTable = All-head (HasItsTable rows) (PutEntry entry_put) (SetPrint (row_number id) (encode_utf8_all change.print) ∷ cache_put id change.cells
-        ∷ map (span_put change.start change.removed change.added) (marks_on id book.marks)) (All-tail (HasItsTable rows) (SetVersion (row_number next.version)) (PutEntry entry_put ∷ SetPrint (row_number id) (encode_utf8_all change.print) ∷ cache_put id change.cells
-        ∷ map (span_put change.start change.removed change.added) (marks_on id book.marks)) has) in
+        let table : table_of rows.entries ≡ NamedCorrTable =
+        has entry_put (Contains-behind (SetVersion (row_number next.version)) (PutEntry entry_put) (PutEntry entry_put ∷ rest) (Contains-here (PutEntry entry_put) rest)) in
         subst (λ (key : ℤ). Shows (with_puts (map (span_put change.start change.removed change.added) (marks_on id book.marks)) (first_puts key rows)) next)
         (sym (id-small book id p sound given.there)) (leads rows.entries rows refl table shows)

@@ -1,6 +1,6 @@
 -- What a change puts into the rows of its book's file.
 use Rattle.std.specs.Prelude.{ℕ, ◌+◌, ◌-◌, ◌≤◌, ◌==◌, ℤ, pos, Bool, false, if◌then◌else◌, min, List, [], ◌∷◌, length, map, drop, slice_get, Option, Some, None, option_map, unwrap_or, encode_utf8_all}
-use Rattle.std.specs.List.{All, enumerate_from, flat_map}
+use Rattle.std.specs.List.{All, Contains, enumerate_from, flat_map}
 use Rattle.std.specs.Option.{option_map_or}
 use Rattle.desk_book.specs.declared.change.Effect.{Effect}
 use Rattle.desk_book.specs.declared.change.Effect.TheVariants as effect
@@ -10,11 +10,12 @@ use Rattle.desk_book.specs.declared.marks.KeptMark.{KeptMark}
 use Rattle.desk_book.specs.declared.paragraphs.Paragraph.{Paragraph as KeptParagraph}
 use Rattle.desk_book.specs.declared.tables.BookTable.{BookTable}
 use Rattle.desk_book.specs.Book.{Book, Mark, paragraph_of}
-use Rattle.desk_parts.specs.FileRows.{FileRows}
+use Rattle.desk_parts.specs.declared.file_table.FileTable.TheVariants.{NamedCorr as NamedCorrTable}
+use Rattle.desk_parts.specs.FileRows.{FileRows, table_of}
 use Rattle.desk_book.specs.Limits.{most_print}
 use Rattle.desk_book.specs.Marks.{mark_moved_by}
 use Rattle.desk_book.specs.ParagraphMarks.{marks_on}
-use Rattle.desk_parts.specs.Puts.{HasTheirTables, PutCache, PutEntry, PutMark, PutPara, PutTab, RowPut, SetFlags, SetPlace, SetPrint, SetResolved, SetSpan, SetTable, with_puts}
+use Rattle.desk_parts.specs.Puts.{PutCache, PutEntry, PutMark, PutPara, PutTab, RowPut, SetFlags, SetPlace, SetPrint, SetResolved, SetSpan, SetTable, with_puts}
 use Rattle.desk_parts.specs.Rows.{Mark as MarkRow, NamedCorr, Para}
 use Rattle.desk_book.specs.Shows.{Shows, flag_number, style_number}
 use Rattle.desk_book.specs.Step.{next_id, next_mark}
@@ -136,7 +137,11 @@ effect_puts book (effect.ChangeTable id table cells) =
     SetTable (row_number id) (encode_utf8_all table) ∷ cache_put id cells ∷ []
 effect_puts book (effect.Reorder order) = elsewhere_from 0 (map (λ other. other.id) book.paragraphs) order
 
--- put into any rows that show the book, and that have the tables of the rows among them, they make rows that show the next
+-- the rows have the table of entries with names, where one is put
+abbrev pub TakesEntries : FileRows → List RowPut → Type 0
+TakesEntries rows puts = (row : NamedCorr) → Contains puts (PutEntry row) → table_of rows.entries ≡ NamedCorrTable
+
+-- Put into any rows that show the book, and that take the entries among them, they make rows that show the next. A row of
+-- `cache` is put only where that is there.
 abbrev pub LeadTo : Book → List RowPut → Book → Type 0
-LeadTo book puts next =
-    (rows : FileRows) → Shows rows book → HasTheirTables puts rows → Shows (with_puts puts rows) next
+LeadTo book puts next = (rows : FileRows) → Shows rows book → TakesEntries rows puts → Shows (with_puts puts rows) next

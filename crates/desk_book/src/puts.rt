@@ -587,8 +587,9 @@ impl Effect {
 
 impl Change {
     /// What the change puts into the rows of the file of the book on which it was planned: the version, and the rows and the
-    /// columns of rows that it gives, to be put by their keys. Put into any rows that show the book, and that have the table of
-    /// each row among them, it makes rows that show the next book. It takes no memory.
+    /// columns of rows that it gives, to be put by their keys. Put into any rows that show the book, with the table of entries
+    /// with names where one is among it, it makes rows that show the next book: braille is put only where there is `cache`. It
+    /// takes no memory.
     pub fn puts<'a>(&'a self, book: &'a Book) -> Puts<'a>
         requires { (command : _) × (next : _) × Carries book.now command next self.now }
         ensures leads { (command : _) (next : _) → Carries book.now command next self.now

@@ -1,15 +1,14 @@
 -- What a change that is put into a file does to its book.
 use Rattle.std.proofs.Common.{◌≡◌, true, List, [], ◌∷◌, inl, inr, refl, sym, subst}
-use Rattle.std.specs.List.{AllByRecursion}
-use Rattle.std.proofs.lemmas.List.Elements.{All-from_recursion}
 use Rattle.sqlite_trees.specs.Tree.{Trees}
 use Rattle.sqlite.specs.State.{HasCleanDisk, State, Survives}
 use Rattle.sql_tables.specs.States.{IsSettled}
 use Rattle.desk_book.specs.Book.{Book}
 use Rattle.desk_book.specs.ChangePuts.{LeadTo}
 use Rattle.desk_book.specs.Changes.{Change}
-use Rattle.desk_parts.specs.Puts.{HasItsTable, RowPut, PutBook, PutTab, PutPara, PutMark, PutCache, PutEntry, SetPlace, SetFlags, SetTable, SetPrint, SetSpan, SetResolved, SetVersion}
-use Rattle.desk_parts.specs.FileRows.{FileRows}
+use Rattle.desk_parts.specs.declared.file_table.FileTable.TheVariants.{NamedCorr}
+use Rattle.desk_parts.specs.Puts.{RowPut, PutBook, PutTab, PutPara, PutMark, PutCache, PutEntry, SetPlace, SetFlags, SetTable, SetPrint, SetSpan, SetResolved, SetVersion}
+use Rattle.desk_parts.specs.FileRows.{FileRows, table_of}
 use Rattle.desk_book.specs.Shows.{Shows as RowsShow}
 use Rattle.desk_store.specs.BookFile.{rows_of}
 use Rattle.desk_store.specs.Books.{HasNewTables, HoldsBook, HoldsKept, IsKept, LeavesBook, LeavesEither, MayKeep, ShowsBook}
@@ -40,24 +39,8 @@ module _ (l : Layout) (tables : HasNewTables l) where
   has_them [] = tt
   has_them (it ∷ puts) = (there it, has_them puts)
 
-  its_table : (c : Contents) (it : RowPut) → HasItsTable (rows_of l c) it
-  its_table c (PutBook row) = tt
-  its_table c (PutTab row) = tt
-  its_table c (PutPara row) = tt
-  its_table c (PutMark row) = tt
-  its_table c (PutCache row) = rw tables.1.1.1.1.0 refl
-  its_table c (PutEntry row) = rw tables.1.1.1.1.1.0 refl
-  its_table c (SetPlace id place) = tt
-  its_table c (SetFlags id style volume struck) = tt
-  its_table c (SetTable id tab) = tt
-  its_table c (SetPrint id print) = tt
-  its_table c (SetSpan id start stop touched) = tt
-  its_table c (SetResolved id resolved) = tt
-  its_table c (SetVersion version) = tt
-
-  their_tables : (c : Contents) (puts : List RowPut) → AllByRecursion (HasItsTable (rows_of l c)) puts
-  their_tables c [] = tt
-  their_tables c (it ∷ puts) = (its_table c it, their_tables c puts)
+  named_entries : (c : Contents) → table_of (rows_of l c).entries ≡ NamedCorr
+  named_entries c = rw tables.1.1.1.1.1.0 refl
 
   -- ---- the book of the file with these put
 
@@ -65,7 +48,7 @@ module _ (l : Layout) (tables : HasNewTables l) where
     rows_show : (c : Contents) → RowsShow (rows_of l c) book → RowsShow (rows_of l (puts_into puts c)) next
     rows_show c was =
         subst (λ (rows : FileRows). RowsShow rows next) (sym (all_put l c puts (has_them puts)))
-        (leads (rows_of l c) was (All-from_recursion (HasItsTable (rows_of l c)) puts (their_tables c puts)))
+        (leads (rows_of l c) was (λ row put. named_entries c))
 
     shows_next : (old new : State) → Writes puts old new → ShowsBook l book old → ShowsBook l next new
     shows_next old new writes was = (puts_into puts was.0, writes l was.0 (has_them puts) was.1, rows_show was.0 was.2)
