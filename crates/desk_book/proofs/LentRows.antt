@@ -1,5 +1,5 @@
 -- What a change lends is put for what its command changes.
-use Rattle.std.proofs.Common.{◌≡◌, ℕ, ℤ, ◌+◌, ◌≤◌, Bool, true, false, cond, List, [], ◌∷◌, length, map, drop, Option, Some, None, Contains, refl, sym, ap, subst, arith, inl, inr, get_or}
+use Rattle.std.proofs.Common.{◌≡◌, ℕ, ℤ, ◌+◌, ◌≤◌, Bool, true, false, cond, List, [], ◌∷◌, length, map, drop, Option, Some, None, Contains, refl, sym, ap, subst, ◌∙◌, arith, inl, inr, get_or}
 use Rattle.std.specs.List.{All, enumerate_from, filter, flat_map}
 use Rattle.std.specs.Prelude.{◌==◌, encode_utf8_all}
 use Rattle.std.proofs.lemmas.Bool.{cases_Bool, eqb-true}
@@ -15,7 +15,7 @@ use Rattle.desk_command.specs.declared.command.Command.TheVariants.{Table}
 use Rattle.desk_parts.specs.Puts.{PutCache, RowPut, SetPlace, SetPrint, SetVersion}
 use Rattle.desk_book.specs.Book.{Book, Mark}
 use Rattle.desk_book.specs.ChangePuts.{cache_put, cells_from, cells_put, effect_puts, elsewhere_from, elsewhere_put, entry_row, further_from, further_put, kept_row, next_entry_number, row_number, span_put, stays_in, tab_put}
-use Rattle.desk_book.specs.Changes.{Does}
+use Rattle.desk_book.specs.Changes.{Carries, Change, Does, change_puts, puts-change_by, has-effect}
 use Rattle.desk_book.specs.Histories.{entry_kept}
 use Rattle.desk_book.specs.Lent.{AreLent, Comes, GetsEntry, IsLent, Reorders}
 use Rattle.desk_book.specs.Marks.{mark_moved_by}
@@ -25,6 +25,7 @@ use Rattle.desk_book.specs.Sound.{IsSound}
 use Rattle.desk_book.specs.Step.{next_id}
 use Rattle.desk_book.proofs.Members.{Contains-behind, Contains-here}
 use Rattle.desk_book.proofs.PutReplacement.{RenewsFrom, renews-all, renews-here, renews-next}
+use Rattle.desk_book.proofs.Settled.{Does-carried}
 use Rattle.desk_book.proofs.SoundBooks.{paragraph_of-some}
 
 All-flat : {X Y : Type 0} (P : Y → Type 0) (f : X → List Y) → ((x : X) → All P (f x)) → (xs : List X) → All P (flat_map f xs)
@@ -120,3 +121,10 @@ module _ (book next : Book) (command : Command) where
   pub puts-lent : IsSound book → (version : ℕ) → version ≡ next.version → (e : Effect) → Does book command next e
       → AreLent book next command (SetVersion (row_number version) ∷ effect_puts book e)
   puts-lent sound version at e does = All-cons P (SetVersion (row_number version)) (effect_puts book e) (ap row_number at) (effect-lent sound e does)
+
+  pub change-lent : IsSound book → (change : Change) → Carries book command next change → AreLent book next command (change_puts book change)
+  change-lent sound change carries =
+      let some = has-effect change in
+      let does = Does-carried book command next change.version change.number some.0 some.0 change some.1 refl carries in
+      let same = sym (puts-change_by book change.version change.number some.0) ∙ ap (change_puts book) some.1 in
+      subst (λ (puts : List RowPut). AreLent book next command puts) same (puts-lent sound change.version carries.version some.0 does)

@@ -10,12 +10,12 @@ use Rattle.desk_command.specs.declared.command.Command.TheVariants.{TypeIn, Move
 use Rattle.desk_book.specs.declared.history.KeptEntry.{KeptEntry}
 use Rattle.desk_book.specs.Book.{Book, Paragraph, paragraph_of}
 use Rattle.desk_book.specs.ChangePuts.{LeadTo, cache_put, effect_puts, entry_row, row_number, span_put}
-use Rattle.desk_book.specs.Changes.{ChangesPrint, Does, IsEffect}
+use Rattle.desk_book.specs.Changes.{Carries, Change, ChangesPrint, Does, IsEffect, change_puts, puts-change_by, has-effect}
 use Rattle.desk_book.specs.Histories.{entries_kept, entry_kept}
 use Rattle.desk_book.specs.Kept.{paragraph_kept}
 use Rattle.desk_book.specs.Marks.{mark_moved_by}
 use Rattle.desk_book.specs.ParagraphMarks.{marks_on}
-use Rattle.desk_parts.specs.Puts.{PutEntry, SetPrint, SetVersion}
+use Rattle.desk_parts.specs.Puts.{PutEntry, RowPut, SetPrint, SetVersion}
 use Rattle.desk_book.specs.Refusals.{IsAccepted, paragraph_before}
 use Rattle.desk_book.specs.Sound.{IsSound}
 use Rattle.desk_book.specs.Step.{Makes, next_id, next_with_entry, next_with_paragraphs, next_with_tables, typed, with_change, with_move, with_paragraph}
@@ -31,6 +31,7 @@ use Rattle.desk_book.proofs.PutParagraph.{paragraph-lead}
 use Rattle.desk_book.proofs.PutPrintLead.{print-lead}
 use Rattle.desk_book.proofs.PutReplacement.{replaced-lead}
 use Rattle.desk_book.proofs.PutTables.{table-lead}
+use Rattle.desk_book.proofs.Settled.{IsEffect-carried}
 use Rattle.desk_book.proofs.SoundBooks.{paragraphs-apart}
 use Rattle.desk_book.proofs.SoundSteps.{IsSound-makes}
 use Rattle.desk_book.proofs.TableEntries.{with_text}
@@ -105,3 +106,11 @@ pub puts-lead : (book next : Book) (version : ℕ) (effect : Effect) → IsSound
 puts-lead book next version effect sound is =
     subst (λ (n : ℕ). LeadTo book (SetVersion (row_number n) ∷ effect_puts book effect) next) (sym is.at)
     (leads book next is.command sound is.accepted is.makes (IsSound-makes book next None is.command sound is.accepted is.written is.makes) effect is.does)
+
+pub change-leads : (book next : Book) (command : Command) (change : Change) → IsSound book → Carries book command next change
+    → LeadTo book (change_puts book change) next
+change-leads book next command change sound carries =
+    let some = has-effect change in
+    let made = IsEffect-carried book command next change.version change.number some.0 some.0 change some.1 refl carries in
+    let same = sym (puts-change_by book change.version change.number some.0) ∙ ap (change_puts book) some.1 in
+    subst (λ (puts : List RowPut). LeadTo book puts next) same (puts-lead book next change.version some.0 sound made)

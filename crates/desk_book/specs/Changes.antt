@@ -15,11 +15,13 @@ use Rattle.desk_command.specs.declared.command.Command.{Command}
 use Rattle.desk_command.specs.declared.command.Command.TheVariants.{Table, TypeIn, Retable, Move}
 use Rattle.desk_book.specs.declared.paragraphs.Paragraph.{Paragraph as KeptParagraph}
 use Rattle.desk_book.specs.Book.{Book, Paragraph, text_of, paragraph_of}
+use Rattle.desk_book.specs.ChangePuts.{effect_puts, row_number}
 use Rattle.desk_book.specs.Histories.{HaveTaken, TookFrom, entry_kept}
 use Rattle.desk_book.specs.Kept.{mark_kept, new_cells, paragraph_kept}
 use Rattle.desk_book.specs.Limits.{most_entries, most_marks, most_paragraphs, most_print}
 use Rattle.desk_book.specs.Marks.{mark_moved_by}
 use Rattle.desk_book.specs.ParagraphMarks.{marks_on}
+use Rattle.desk_parts.specs.Puts.{RowPut, SetVersion}
 use Rattle.desk_book.specs.Print.{print_of, with_entry}
 use Rattle.desk_book.specs.Refusals.{IsAccepted}
 use Rattle.desk_book.specs.Room.{Suffices}
@@ -188,3 +190,17 @@ pub Does-change_by : (book : Book) (command : Command) (next : Book)
     → Carries book command next (change_by version number effect) → Does book command next effect
 unfolding change_by
 Does-change_by book command next version number effect carries = carries.does
+
+-- what the change puts into the rows of its book's file, in order: the version, and what its effect puts
+pub change_puts : Book → Change → List RowPut
+change_puts book change = SetVersion (row_number change.version) ∷ effect_puts book change.effect
+
+pub puts-change_by : (book : Book) (version : ℕ) (number : Option ℕ) (effect : Effect)
+    → change_puts book (change_by version number effect) ≡ SetVersion (row_number version) ∷ effect_puts book effect
+unfolding change_by change_puts
+puts-change_by book version number effect = refl
+
+-- each change has an effect
+pub has-effect : (change : Change) → (effect : Effect) × (change_by change.version change.number effect ≡ change)
+unfolding change_by
+has-effect change = (change.effect, refl)

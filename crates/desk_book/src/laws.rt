@@ -1,6 +1,8 @@
 //! What holds of every book.
 ghost use Rattle.desk_book.specs.After.{After};
 ghost use Rattle.desk_book.specs.Book.{Book, empty_book};
+ghost use Rattle.desk_book.specs.ChangePuts.{LeadTo};
+ghost use Rattle.desk_book.specs.Changes.{Carries, Change, change_puts};
 ghost use Rattle.desk_book.specs.Damage.{HasItsTables, IsDamaged, IsFirstDamage};
 ghost use Rattle.desk_command.specs.declared.command.Command.{Command};
 ghost use Rattle.desk_book.specs.declared.filling.NewTables.{NewTables};
@@ -9,6 +11,7 @@ ghost use Rattle.desk_parts.specs.FileRows.{AreTexts, FileRows, table_of};
 ghost use Rattle.desk_book.specs.FilledRows.{AreEntriesOf, Fills, in_second_format, new_rows};
 ghost use Rattle.desk_book.specs.FilledRows.{second_format_puts, with_caches, with_empty};
 ghost use Rattle.desk_book.specs.FilledRows.{with_new_entries, with_new_tables};
+ghost use Rattle.desk_book.specs.Lent.{AreLent};
 ghost use Rattle.desk_book.specs.Limits.{most_entries, most_marks, most_name, most_note, most_paragraphs, most_print, most_proofreader, most_tables, most_version};
 ghost use Rattle.desk_book.specs.declared.limits.TheConstants.{MOST_ENTRIES, MOST_MARKS, MOST_NAME, MOST_NOTE, MOST_PARAGRAPHS, MOST_PRINT, MOST_PROOFREADER, MOST_TABLES, MOST_VERSION};
 ghost use Rattle.desk_book.specs.Outcome.{HasOneOutcome};
@@ -43,6 +46,15 @@ pub fn one_outcome()
 pub fn commands_keep_a_book_sound()
     ensures { (book last : Book) (commands : List Command)
         → All HasCharacters commands → IsSound book → After book commands last → IsSound last }
+{}
+
+/// What a change of a sound book puts makes rows that show the book show the next one, and only what the command changes is
+/// among it.
+pub fn puts_make_the_next_book()
+    ensures leads { (book next : Book) (command : Command) (change : Change) → IsSound book
+        → Carries book command next change → LeadTo book (change_puts book change) next }
+    ensures lent { (book next : Book) (command : Command) (change : Change) → IsSound book
+        → Carries book command next change → AreLent book next command (change_puts book change) }
 {}
 
 /// An accepted undo brings back the print that stood just before the correction that it takes back, whatever corrections

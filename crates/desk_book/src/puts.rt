@@ -1,6 +1,6 @@
 //! What a change puts into the rows of its book's file.
 ghost use Rattle.desk_book.specs.ChangePuts.{LeadTo, cache_put, cells_from, effect_puts, elsewhere_from, entry_row, further_from, kept_mark_row, kept_row, row_number, span_put, stays_in, tab_put};
-ghost use Rattle.desk_book.specs.Changes.{Carries, Does};
+ghost use Rattle.desk_book.specs.Changes.{Carries, Does, change_puts};
 ghost use Rattle.desk_book.specs.Lent.{AreLent};
 ghost use Rattle.desk_book.specs.Limits.{most_paragraphs, most_print};
 ghost use Rattle.desk_book.specs.ParagraphMarks.{marks_on};
@@ -592,6 +592,7 @@ impl Change {
     /// takes no memory.
     pub fn puts<'a>(&'a self, book: &'a Book) -> Puts<'a>
         requires { (command : _) × (next : _) × Carries book.now command next self.now }
+        ensures these { result ≡ change_puts book.now self.now }
         ensures leads { (command : _) (next : _) → Carries book.now command next self.now
             → LeadTo book.now result next }
 
