@@ -1,5 +1,5 @@
 -- The book of a file: what a connection shows of it, what a crash leaves, and the book once a change is kept.
-use Rattle.std.specs.Prelude.{◌≡◌, ◌⊎◌, Bool, true, List, refl}
+use Rattle.std.specs.Prelude.{◌≡◌, ◌⊎◌, Bool, true, refl}
 use Rattle.std.specs.Coded.{Coded, code_by, coded×, coded_bool}
 use Rattle.std.specs.List.{AllByRecursion}
 use Rattle.sqlite_trees.specs.declared.store.Store.{Ghosts}
@@ -9,9 +9,8 @@ use Rattle.sqlite.specs.Held.{Held, held_code, state}
 use Rattle.sqlite.specs.State.{State}
 use Rattle.sql_tables.specs.States.{Leaves}
 use Rattle.desk_book.specs.Book.{Book}
-use Rattle.desk_book.specs.ChangePuts.{LeadTo}
-use Rattle.desk_book.specs.Changes.{Carries, Change}
-use Rattle.desk_parts.specs.Puts.{LendsFirst, RowPut}
+use Rattle.desk_book.specs.Changes.{Carries, Change, change_puts}
+use Rattle.desk_parts.specs.Puts.{LendsFirst}
 use Rattle.desk_book.specs.Shows.{Shows as RowsShow}
 use Rattle.desk_command.specs.declared.command.Command.{Command}
 use Rattle.desk_store.specs.BookFile.{rows_of}
@@ -65,17 +64,12 @@ pub record IsKept (l : Layout) (book : Book) (s : State) : Type 0 where
 abbrev pub HoldsKept : Book → Change → State → Trees → Type 0
 HoldsKept book change s db = (l : Layout) (next : Book) → MayKeep l book change next s → HoldsBook l next db
 
--- put into rows that show the book, they make rows that show the next
-abbrev pub ArePutBy : Book → Change → List RowPut → Type 0
-ArePutBy book change puts = (next : Book) → LeadsTo book change next → LeadTo book puts next
-
--- Why a change isn't kept: the database answered the error to the statement of a put or to the commit, or an
--- allocation for a put failed. What was lost is counted, or was too big.
+-- Why a change isn't kept: the database answered the error to one of the statements of what this change puts, once
+-- those before it had run in turn, or to the commit, or an allocation for a put failed. What was lost is counted, or
+-- was too big.
 pub record FailsToKeep {S : Type 0} (g : Ghosts S) (book : Book) (change : Change) (old : Held S) (new : State) (e : Error)
     : Type 0 where
-  pub puts : List RowPut
-  pub are : ArePutBy book change puts
-  pub fails : FailsToPut g (of_items g LendsFirst puts) (begun old) new e
+  pub fails : FailsToPut g (of_items g LendsFirst (change_puts book change)) (begun old) new e
   pub counts : CountsLoss (state g old) new e
 
 -- ---- a store

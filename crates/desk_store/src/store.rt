@@ -95,8 +95,8 @@ impl<S: Alter> Store<S> {
         // Nothing is committed but the change.
         ensures survives { Survives (shown_by S.Store self.old) (shown_by S.Store self.new)
             (HoldsKept book.now change.now (shown_by S.Store self.old)) }
-        // The first loss has a cause: the database answered an error, or an allocation failed. That this isn't reported
-        // without one is shown by tests.
+        // The first loss has a cause: the database answered an error to one of the statements of what this change puts, or to
+        // the commit, or an allocation failed. That this isn't reported without one is shown by tests.
         ensures told { HasCleanDisk (shown_by S.Store self.new) → self.old.lost ≡ false
             → OnErr result ((e : _) × FailsToKeep S.Store book.now change.now
             self.old.connection (shown_by S.Store self.new) e) }

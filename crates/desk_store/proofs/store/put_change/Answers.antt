@@ -1,8 +1,10 @@
 use Rattle.std.proofs.Common.{List, subst}
 use Rattle.sqlite.specs.Held.{state}
 use Rattle.sqlite.proofs.StateLemmas.{survives_weaker}
-use Rattle.desk_parts.specs.Puts.{RowPut}
+use Rattle.desk_parts.specs.Puts.{LendsFirst, RowPut}
+use Rattle.desk_rows.specs.Failing.{FailsToPut, of_items}
 use Rattle.desk_rows.specs.Puts.{IsFileWith, Writes}
+use Rattle.desk_rows.specs.Turns.{begun}
 use Rattle.desk_store.proofs.BookKeeps.{holds_next, is_kept}
 use Rattle.desk_rows.proofs.LentPuts.{all_lent}
 use Rattle.desk_rows.proofs.Both.{if_err_both, on_ok_both}
@@ -32,8 +34,6 @@ returns-clause-survives g c =
 pub returns-clause-told : goal.returns-clause-told
 returns-clause-told g c clean =
     if_err_both c.write.result _ _ _ (λ e fails counts. record {
-      puts = c.puts.result;
-      are = λ next leads. c.puts.ensures.leads leads.0 next leads.1;
-      fails = fails;
+      fails = subst (λ (puts : List RowPut). FailsToPut g.S.Store (of_items g.S.Store LendsFirst puts) (begun c.args.conn.now) (state g.S.Store c.write.new.conn) e) c.puts.ensures.these fails;
       counts = counts;
     }) (c.write.ensures.told clean) (c.write.ensures.lost clean)
