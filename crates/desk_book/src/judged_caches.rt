@@ -112,9 +112,9 @@ fn with_masks(alloc: Global, masks: &[u8]) -> Result<Cells, AllocError>
     Ok(Cells::from_vec(cells))
 }
 
-/// The cells of each row.
-fn cells_in(alloc: Global, rows: &[CacheRow]) -> Result<Vec<Option<Cells>>, AllocError>
-    ensures { IfOk result (λ all. all.items ≡ map (λ row. Some row.cells) rows.now) }
+/// The cells of each row. A row's masks are let go once its cells are there, so that a book's braille isn't held twice.
+fn cells_in(alloc: Global, rows: Vec<CacheRow>) -> Result<Vec<Option<Cells>>, AllocError>
+    ensures { IfOk result (λ all. all.items ≡ map (λ row. Some row.cells) rows.items) }
 {
     let mut all = Vec::with_capacity(alloc, rows.len())?;
     for row in rows {
@@ -160,7 +160,7 @@ pub(crate) fn judged_caches(
     if let Some(id) = misfit(tables, items, &rows) {
         return Err(RowsFault::Damaged(id));
     }
-    let cells = cells_in(alloc, &rows)?;
+    let cells = cells_in(alloc, rows)?;
     give(items, cells);
     Ok(())
 }

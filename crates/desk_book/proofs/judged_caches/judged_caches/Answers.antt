@@ -1,4 +1,4 @@
-use Rattle.std.proofs.Common.{◌≤◌, List, Some, length, map, subst, sym, ap, ◌∙◌, rules, w64, FitsSigned}
+use Rattle.std.proofs.Common.{◌≤◌, List, length, map, subst, sym, ap, ◌∙◌, rules, w64, FitsSigned}
 use Rattle.std.specs.List.{All}
 use Rattle.std.proofs.lemmas.Int.{to_z-of_z}
 use Rattle.desk_book.specs.declared.paragraphs.Paragraph.{Paragraph as KeptParagraph}
@@ -6,7 +6,6 @@ use Rattle.desk_book.specs.Damage.{IsDamagedCache}
 use Rattle.desk_book.specs.Judged.{HasCells, IsFirstId, without_cells}
 use Rattle.desk_book.specs.JudgedCaches.{AreAllRight, AreTheirCells, IsMisfit, IsTranslatable}
 use Rattle.desk_book.specs.Limits.{most_paragraphs}
-use Rattle.desk_parts.specs.Rows.{Cached}
 use Rattle.desk_book.proofs.JudgedCaches.{few-items, first-misfit, has-cells, same-but-cells, their-cells, translatable, whole-rows}
 use Rattle.desk_book.proofs.judged_caches.judged_caches.Goals as goal
 
@@ -41,10 +40,9 @@ returns-clause-cells c = λ tabs paras are of whole.
     let items = c.args.items.now.items in
     let right : AreAllRight c.args.tables.now items c.sorted-rows.result.items =
     rw (sym c.deref.ensures.value, sym c.deref-2.ensures.value) c.in_default.ensures.none in
-    let cells = c.in_ok-cells.ensures ∙ ap (map (λ (row : Cached). Some row.cells)) c.deref-3.ensures.value in
     subst (λ (all : List KeptParagraph). All (HasCells tabs all) paras) (sym c.give.ensures)
     (has-cells tabs paras c.args.tables.now items are of whole c.in_ok-cells.cells.items
-    (subst (AreTheirCells c.args.tables.now items) (sym cells) (their-cells tabs paras c.args.tables.now items are of whole c.sorted-rows.result.items right)))
+    (subst (AreTheirCells c.args.tables.now items) (sym c.in_ok-cells.ensures) (their-cells tabs paras c.args.tables.now items are of whole c.sorted-rows.result.items right)))
 
 pub returns-clause-same : goal.returns-clause-same
 returns-clause-same c = ap (map without_cells) c.give.ensures ∙ same-but-cells c.in_ok-cells.cells.items c.args.items.now.items
