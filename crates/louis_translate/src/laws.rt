@@ -44,10 +44,10 @@ pub fn numeric_mode()
 {}
 
 /// What a table text means in the profile without numeric mode, it means in the one with it, and says nothing of the
-/// mode; and by both each print of defined characters has the same signs, tilings, cells and places.
+/// mode; and by both each print has the same signs, tilings, cells and places.
 pub fn profiles()
     ensures means { (bytes : List ℕ) (meaning : Meaning) → MeansIn WithoutNumericMode bytes meaning
         → Means bytes meaning × HasNoNumericMode meaning }
     ensures alike { (bytes : List ℕ) (meaning : Meaning) (print : List ℕ)
-        → MeansIn WithoutNumericMode bytes meaning → AreDefined meaning print → AreAlike meaning print }
+        → MeansIn WithoutNumericMode bytes meaning → AreAlike meaning print }
 {}

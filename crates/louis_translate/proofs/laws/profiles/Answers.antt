@@ -8,6 +8,6 @@ returns-clause-means c = λ bytes meaning means.
     (same_with_numeric_mode bytes meaning means, record { no_sign = none.0; no_mode_chars = none.1; no_nocontract_chars = none.2 })
 
 pub returns-clause-alike : goal.returns-clause-alike
-returns-clause-alike c = λ bytes meaning print means defined.
+returns-clause-alike c = λ bytes meaning print means.
     let none = nothing_of_numeric_mode bytes meaning means in
     alike meaning print none.1 none.2
