@@ -153,13 +153,6 @@ module _ {meaning : Meaning} {ended : Ended} {a b v w : Option (List ℕ)} {Read
         flushed = flushed;
       }
 
-  -- where all is read, all is answered
-  pub IsOutput-Stepped : ended ≡ Done → IfSome a (λ input. (output : List ℕ) × IsOutput meaning input output × Appends v w output)
-  IsOutput-Stepped e =
-      let steps = subst (λ (x : Ended). Steps meaning x s.taken s.out b) e s.steps in
-      Consumes-whole a b s.taken (λ input. (output : List ℕ) × IsOutput meaning input output × Appends v w output) s.consumes steps.0
-      (s.out, is_output meaning s.taken s.out steps.1, s.appends)
-
   pub AnswersBeginning-Stepped : AnswersBeginning meaning a v w
   AnswersBeginning-Stepped =
       elim (begins meaning ended s.taken s.out b s.steps) [

