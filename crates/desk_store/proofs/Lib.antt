@@ -14,7 +14,5 @@ pub mod Opened
 pub mod Openings
 pub mod Reopening
 pub mod FileDamage
-pub mod InOrder
-pub mod ReadAnswers
 pub mod ShownRows
 pub mod StoppedOpenings

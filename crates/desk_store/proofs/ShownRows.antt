@@ -42,7 +42,7 @@ use Rattle.desk_store.specs.Opening.{CanAllBeRead, CanBeRead, has_tables}
 use Rattle.desk_store.proofs.FoundFormats.{books_there}
 use Rattle.desk_store.proofs.JudgedTables.{one_format, same_one, tables_of}
 use Rattle.desk_store.proofs.Opened.{as_listed, has_caches, has_needed, needs_marks, needs_paras, needs_tabs}
-use Rattle.desk_store.proofs.ReadAnswers.{answered, can_answer}
+use Rattle.sql_tables.proofs.ReadAnswers.{answered, can_answer}
 use Rattle.desk_store.proofs.StandingBooks.{can_be_read}
 
 -- ---- each table

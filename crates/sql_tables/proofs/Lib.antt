@@ -9,6 +9,7 @@ pub mod Declaring
 pub mod Failures
 pub mod Faults
 pub mod Frozen
+pub mod InOrder
 pub mod Makes
 pub mod Meaning
 pub mod Numbered
@@ -21,6 +22,7 @@ pub mod Parsing
 pub mod PutLists
 pub mod Quiet
 pub mod Refusals
+pub mod ReadAnswers
 pub mod ReadTest
 pub mod Reading
 pub mod RowKinds

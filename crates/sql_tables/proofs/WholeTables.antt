@@ -61,7 +61,7 @@ module _ (name : List ℕ) (columns : List Column) (key : Option ℕ) (primary :
     abbrev pub parts : Parts
     parts = record { tests = []; project = u.project; order = map (λ t. (t, ascending Binary)) u.terms }
 
-    text_means : tree < 65536 → Means schema text (Select' (program_on tree parts) u.names) × (reads_listing schema text ≡ false)
+    pub text_means : tree < 65536 → Means schema text (Select' (program_on tree parts) u.names) × (reads_listing schema text ≡ false)
     text_means low =
         let t = table tree in
         let columns = u.columns_are schema d.at tree d.there (under schema t d low) in

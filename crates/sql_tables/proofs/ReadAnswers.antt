@@ -37,8 +37,8 @@ use Rattle.sql_tables.proofs.OneTable.{Parts, program_is, program_on, query_on, 
 use Rattle.sql_tables.proofs.Orders.{sorted}
 use Rattle.sql_tables.proofs.Running.{Means}
 use Rattle.sql_tables.proofs.Selecting.{query_of, select_command, shown_by, sorts_of}
-use Rattle.sql_tables.proofs.WholeTables.{IsRead}
-use Rattle.desk_store.proofs.InOrder.{in_order, rises_so, same_list}
+use Rattle.sql_tables.proofs.WholeTables.{IsRead, parts as parts_of, text_means}
+use Rattle.sql_tables.proofs.InOrder.{in_order, rises_so, same_list}
 
 -- ---- the order of a query
 
@@ -98,29 +98,22 @@ module _ (name : List ℕ) (columns : List Column) (key : Option ℕ) (primary :
   table = plain_table name columns key primary uniques orders tree
 
   abbrev parts : Parts
-  parts = record { tests = []; project = u.project; order = map (λ t. (t, ascending Binary)) u.terms }
+  parts = parts_of name columns key primary uniques orders text u schema tree d
 
   low : tree < 65536
   low = low_tree schema table d s.now.trees sound
 
-  text_means : Means schema text (Select' (program_on tree parts) u.names) × (reads_listing schema text ≡ false)
-  text_means =
-      let columns = u.columns_are schema d.at tree d.there (under schema table d low) in
-      let keys = u.keys_are schema d.at tree d.there (under schema table d low) in
-      let typed = program_is schema table (classes_are schema table d low) parts (u.typed tree) in
-      select_is schema text (query_of text) _ u.is_text (λ formats base.
-      subst (λ names. command schema formats base (Select (query_of text)) ≡ Ok (Select' (program_on tree parts) names)) (u.names_are tree)
-      (select_command schema d.at table d.named d.there formats base (query_of text) (shown_by text) (sorts_of text) (u.is_plain schema d.at tree d.named d.there) (u.outs tree) columns u.terms keys u.few (program_on tree parts)
-      (rw (u.projects tree) typed)))
+  means : Means schema text (Select' (program_on tree parts) u.names) × (reads_listing schema text ≡ false)
+  means = text_means name columns key primary uniques orders text u schema tree d low
 
   abbrev meant : Compiled
   meant = with_command (parse_of text) ([], (Select' (program_on tree parts) u.names, None))
 
   is_one : IsStatement s text [] meant
-  is_one = record { is = ap (λ (x : Schema). understood x text) has ∙ text_means.0; whole = u.whole; given = sym (ap length u.unnamed); now = 0 }
+  is_one = record { is = ap (λ (x : Schema). understood x text) has ∙ means.0; whole = u.whole; given = sym (ap length u.unnamed); now = 0 }
 
   unlisted : reads_listing s.now.schema text ≡ false
-  unlisted = ap (λ (x : Schema). reads_listing x text) has ∙ text_means.1
+  unlisted = ap (λ (x : Schema). reads_listing x text) has ∙ means.1
 
   typed : accepts_program s.now.schema [] (query_on tree parts) [] ≡ true
   typed = ap (λ (x : Schema). accepts_program x [] (query_on tree parts) []) has ∙ typed_as schema table (classes_are schema table d low) parts [] (u.typed tree)
