@@ -12,9 +12,9 @@ use Rattle.desk_book.specs.declared.history.KeptEntry.{KeptEntry}
 use Rattle.desk_book.specs.declared.history.KeptEntry.TheVariants.{Corrects, Undoes}
 use Rattle.desk_command.specs.declared.command.Command.{Command}
 use Rattle.desk_command.specs.declared.command.Command.TheVariants.{Table}
-use Rattle.desk_parts.specs.Puts.{PutCache, RowPut, SetPlace, SetPrint, SetVersion}
+use Rattle.desk_parts.specs.Puts.{RowPut, SetPlace, SetPrint, SetVersion}
 use Rattle.desk_book.specs.Book.{Book, Mark}
-use Rattle.desk_book.specs.ChangePuts.{cache_put, cells_from, cells_put, effect_puts, elsewhere_from, elsewhere_put, entry_row, further_from, further_put, kept_row, next_entry_number, row_number, span_put, stays_in, tab_put}
+use Rattle.desk_book.specs.ChangePuts.{cache_put, cells_from, cells_put, effect_puts, elsewhere_from, elsewhere_put, entry_row, further_from, further_put, next_entry_number, row_number, span_put, stays_in, tab_put}
 use Rattle.desk_book.specs.Changes.{Carries, Change, Does, change_puts, puts-change_by, has-effect}
 use Rattle.desk_book.specs.Histories.{entry_kept}
 use Rattle.desk_book.specs.Lent.{AreLent, Comes, GetsEntry, IsLent, Reorders}

@@ -1,18 +1,15 @@
 -- A text that reads a table whole has an answer, over any connection that is open.
 use Rattle.std.specs.List.{Any, flat_map}
 use Rattle.std.proofs.lemmas.List.Sorted.{IsPermutation-map}
-use Rattle.std.proofs.Common.{suc, ◌≡◌, ℕ, ◌<◌, Bool, true, false, List, [], ◌∷◌, map, length, Option, None, Ok, IsTrue, refl, sym, ap, ap₂, subst, ◌∙◌, inl, inr, is_lt, true≢false, IsPermutation}
+use Rattle.std.proofs.Common.{suc, ◌≡◌, ℕ, ◌<◌, Bool, true, false, List, [], ◌∷◌, map, length, Option, None, IsTrue, refl, sym, ap, ap₂, subst, ◌∙◌, inl, inr, is_lt, true≢false, IsPermutation}
 use Rattle.std.specs.Ordering.{ordering_reverse, ordering_then}
 use Rattle.std.specs.declared.cmp.Ordering.{Ordering}
 use Rattle.std.specs.declared.cmp.Ordering.TheVariants.{Less, Equal, Greater}
-use Rattle.sqlite_value.specs.declared.keys.Collation.TheVariants.{Binary}
 use Rattle.sqlite_value.specs.declared.keys.Key.{Key}
 use Rattle.sqlite_value.specs.declared.keys.Order.{Order}
 use Rattle.sqlite_value.specs.declared.value.Value.{Value}
-use Rattle.sqlite_value.specs.Keys.{ascending}
 use Rattle.sqlite_value.specs.Order.{Row, column}
 use Rattle.sqlite_value.proofs.KeyLemmas.{by_key_total}
-use Rattle.sqlite_ast.specs.declared.Statement.TheVariants.{Select}
 use Rattle.sqlite_sql.specs.Program.{overlay, QueryOverflows}
 use Rattle.sqlite_sql.specs.Query.{IsAnswerAs, Output, end, inner, key_cmp, matches, output, output_cmp}
 use Rattle.sqlite_sql.specs.Term.{eval_all}
@@ -31,12 +28,11 @@ use Rattle.sqlite.specs.Listing.{IsSourceOf, reads_listing, understood}
 use Rattle.sqlite.specs.State.{IsStatement, IsUnchanged, Shown, State}
 use Rattle.sql_tables.specs.States.{HasAnswer}
 use Rattle.sql_tables.specs.Tables.{IsDeclared, plain_table}
-use Rattle.sql_tables.proofs.Declaring.{classes_are, low_tree, uncovered, under}
-use Rattle.sql_tables.proofs.Meaning.{parse_of, select_is}
-use Rattle.sql_tables.proofs.OneTable.{Parts, program_is, program_on, query_on, typed_as}
+use Rattle.sql_tables.proofs.Declaring.{classes_are, low_tree, uncovered}
+use Rattle.sql_tables.proofs.Meaning.{parse_of}
+use Rattle.sql_tables.proofs.OneTable.{Parts, program_on, query_on, typed_as}
 use Rattle.sql_tables.proofs.Orders.{sorted}
 use Rattle.sql_tables.proofs.Running.{Means}
-use Rattle.sql_tables.proofs.Selecting.{query_of, select_command, shown_by, sorts_of}
 use Rattle.sql_tables.proofs.WholeTables.{IsRead, parts as parts_of, text_means}
 use Rattle.sql_tables.proofs.InOrder.{in_order, rises_so, same_list}
 
