@@ -1,10 +1,10 @@
 //! The program `braildesk`: its words, its standard ends and its exit status.
 //!
-//! What it does with them is `desk_program`'s.
+//! What it does with them is `desk`'s.
 #![tactic(auto)]
 
+use desk::{Fault, program, refuse, refuse_words};
 use desk_ends::Buffered;
-use desk_program::{Fault, refuse, refuse_words, run};
 use std::alloc::AllocError;
 use std::env::FillError;
 use std::io::Write;
@@ -52,7 +52,7 @@ fn start<E: Write>(rt: &HostRuntime, errors: &mut E) -> Result<u8, Fault> {
         return Ok(refuse_words(errors, NOT_TEXT));
     };
     let mut output = Buffered::new(rt.alloc(), OUTPUT_BYTES, rt.stdout())?;
-    let status = run(rt, texts.as_slice(), &mut rt.stdin(), &mut output, errors);
+    let status = program(rt, texts.as_slice(), &mut rt.stdin(), &mut output, errors);
     Ok(status)
 }
 

@@ -2,3 +2,6 @@ pub mod Ends
 pub mod Sent
 pub mod Cells
 pub mod Block
+pub mod Limits
+pub mod Lines
+pub mod Input

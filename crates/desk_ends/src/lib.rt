@@ -8,17 +8,26 @@
 //! sink.flush()?;
 //! ```
 //!
-//! Every reader of std is a `Source` and every writer a `Sink`. What lines mean is left to the crates above.
+//! Every reader of std is a `Source` and every writer a `Sink`. An `Input` reads a source line by line, each into a `Line`
+//! that takes no memory. What lines mean is left to the crates above.
 #![tactic(auto)]
 
 mod block;
 mod buffered;
 mod cells;
+mod chunk;
 mod ends;
+mod input;
+pub mod laws;
+mod limits;
+mod line;
 mod texts;
 
 pub use block::Block;
 pub use buffered::Buffered;
 pub use cells::{put_cell, put_cells, send_block};
 pub use ends::{Failed, Memory, Sink, Source};
+pub use input::Input;
+pub use limits::{CHUNK_BYTES, MOST_INPUT, MOST_LINE_BYTES};
+pub use line::{Line, without_ending, without_return};
 pub use texts::{send, send_parts};

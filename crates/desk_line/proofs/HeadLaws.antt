@@ -8,7 +8,7 @@ use Rattle.desk_line.specs.declared.head.Head.TheVariants.{Do, Ask}
 use Rattle.desk_line.specs.declared.directive.Directive.{Directive}
 use Rattle.desk_line.specs.Fields.{fields_of}
 use Rattle.desk_line.specs.Head.{SaysDirective, table, supply, type_in, correct, correct_by, undo, mark, resolve, strike, restore, style, volume, retable, move, Expects, nothing, expected, Says, does, asks}
-use Rattle.desk_line.specs.Limits.{most_line_bytes}
+use Rattle.desk_ends.specs.Limits.{most_line_bytes}
 use Rattle.desk_line.specs.Lines.{CanBeHead}
 use Rattle.desk_line.specs.Reading.{number_in, lone_query, paragraph_query, directive_by, directive_in, query_in, or_else, command_in, head_in, head_of}
 use Rattle.desk_line.proofs.FieldParts.{made-of-both}

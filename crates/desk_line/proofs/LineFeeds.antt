@@ -4,13 +4,10 @@ use Rattle.std.specs.Prelude.{map}
 use Rattle.std.specs.List.{onto_first}
 use Rattle.std.specs.Io.BufRead.{strip_last}
 use Rattle.std.proofs.lemmas.Bool.{cases_Bool, eqb-true}
-use Rattle.std.proofs.lemmas.List.{length-map, map-append}
+use Rattle.std.proofs.lemmas.List.{length-map}
 use Rattle.louis_table.specs.Lines.{pieces_of, lines_of}
-use Rattle.louis_table.proofs.LineLaws.{pieces_of-split, lines_of-split}
-
--- bytes, and a line feed after them
-abbrev pub fed : List ℕ → List ℕ
-fed front = front ++ 10 ∷ []
+use Rattle.louis_table.proofs.LineLaws.{lines_of-split}
+use Rattle.desk_ends.proofs.ManyLines.{fed, pieces-some}
 
 -- how many line feeds are among the bytes
 abbrev pub feeds : List ℕ → ℕ
@@ -26,17 +23,6 @@ onto-length b (part ∷ parts) some = refl
 onto-few : (b n : ℕ) (parts : List (List ℕ)) → length parts ≤ suc n → length (onto_first b parts) ≤ suc n
 onto-few b n [] few = omega arith
 onto-few b n (part ∷ parts) few = few
-
-onto-after : (b : ℕ) (parts others : List (List ℕ)) → parts ≢ [] → onto_first b (parts ++ others) ≡ onto_first b parts ++ others
-onto-after b [] others some = absurd (some refl)
-onto-after b (part ∷ parts) others some = refl
-
-pub fed-some : (front : List ℕ) → fed front ≢ []
-fed-some [] e = cc
-fed-some (b ∷ front) e = cc
-
-pieces-some : (front : List ℕ) → pieces_of (fed front) ≢ []
-pieces-some front e = let h = pieces_of-split (fed front) (fed-some front) in cc
 
 -- ---- how many lines there are
 
@@ -58,25 +44,12 @@ pieces-few (b ∷ bytes) =
       | inr e ↦ rw e (onto-few b (feeds bytes) (pieces_of bytes) h)
     ]
 
-pieces-after : (front later : List ℕ) → pieces_of (fed front ++ later) ≡ pieces_of (fed front) ++ pieces_of later
-pieces-after [] later = refl
-pieces-after (b ∷ front) later =
-    let h = pieces-after front later in
-    elim (cases_Bool (eqb b 10)) [
-      | inl e ↦ rw e (ap (λ (parts : List (List ℕ)). [] ∷ parts) h)
-      | inr e ↦ rw e (ap (onto_first b) h ∙ onto-after b (pieces_of (fed front)) (pieces_of later) (pieces-some front))
-    ]
-
 -- bytes that end in a line feed are as many lines as they have line feeds
 pub lines-fed : (front : List ℕ) → length (lines_of (fed front)) ≡ feeds (fed front)
 lines-fed front = length-map (pieces_of (fed front)) (strip_last 13) ∙ pieces-fed front
 
 pub lines-few : (bytes : List ℕ) → length (lines_of bytes) ≤ suc (feeds bytes)
 lines-few bytes = let h = pieces-few bytes in let e = length-map (pieces_of bytes) (strip_last 13) in omega arith
-
--- the lines of what stands after them come after theirs
-pub lines-then : (front later : List ℕ) → lines_of (fed front ++ later) ≡ lines_of (fed front) ++ lines_of later
-lines-then front later = ap (map (strip_last 13)) (pieces-after front later) ∙ map-append (strip_last 13) (pieces_of (fed front)) (pieces_of later)
 
 pub no-lines : (bytes : List ℕ) → length (lines_of bytes) ≡ 0 → bytes ≡ []
 no-lines [] e = refl

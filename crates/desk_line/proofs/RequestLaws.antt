@@ -17,7 +17,7 @@ use Rattle.desk_line.specs.declared.head.Head.TheVariants as heads
 use Rattle.desk_line.specs.declared.request.Request.{Request}
 use Rattle.desk_line.specs.declared.request.Request.TheVariants.{Do}
 use Rattle.desk_line.specs.Head.{Says}
-use Rattle.desk_line.specs.Limits.{most_line_bytes}
+use Rattle.desk_ends.specs.Limits.{most_line_bytes}
 use Rattle.desk_line.specs.Lines.{IsShort, after_first_line}
 use Rattle.desk_line.specs.Reading.{Gives, are_lines, head_line, head_in, head_of, query_in, directive_in, request_in, with_text}
 use Rattle.desk_line.specs.Request.{AsksForMemory, HasText, Reads, Takes, said, unsaid, Tells, block_lines, command_of, directive_block_lines, request_of}

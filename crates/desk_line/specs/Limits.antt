@@ -1,9 +1,5 @@
--- How long a request may be.
+-- How many digits a number of a request has, and how large it is. `desk_ends` says how long a line may be.
 use Rattle.std.specs.Prelude.{ℕ}
-
--- bytes of a line, its ending aside
-abbrev pub most_line_bytes : ℕ
-most_line_bytes = 65536
 
 -- digits of a number
 abbrev pub most_digits : ℕ

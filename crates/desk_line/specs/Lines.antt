@@ -3,7 +3,7 @@
 use Rattle.std.specs.Prelude.{ℕ, ◌≤◌, ◌==◌, List, length}
 use Rattle.std.specs.List.{after_first}
 use Rattle.std.specs.Str.{IsUtf8}
-use Rattle.desk_line.specs.Limits.{most_line_bytes}
+use Rattle.desk_ends.specs.Limits.{most_line_bytes}
 
 -- a line that isn't too long
 abbrev pub IsShort : List ℕ → Type 0

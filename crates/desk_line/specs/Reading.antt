@@ -28,7 +28,8 @@ use Rattle.desk_line.specs.declared.request.Request.{Request}
 use Rattle.desk_line.specs.declared.request.Request.TheVariants as requests
 use Rattle.desk_line.specs.Lines.{after_first_line}
 use Rattle.desk_line.specs.Request.{HasText, block_lines, request_of}
-use Rattle.desk_line.specs.Limits.{most_digits, most_line_bytes, most_number}
+use Rattle.desk_ends.specs.Limits.{most_line_bytes}
+use Rattle.desk_line.specs.Limits.{most_digits, most_number}
 
 -- ---- lists
 

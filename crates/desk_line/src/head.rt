@@ -6,10 +6,10 @@ ghost use Rattle.std.specs.Prelude.{◌≡◌};
 
 use super::directive::{Directive, read_directive};
 use super::fields::Fields;
-use super::limits::MOST_LINE_BYTES;
 use super::operand::read_number;
 use super::query::read_query;
 use super::request::Query;
+use desk_ends::MOST_LINE_BYTES;
 
 /// What a head line says.
 #[derive(Drop)]

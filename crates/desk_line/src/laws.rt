@@ -2,8 +2,8 @@
 ghost use Rattle.desk_book.specs.Book.{Book};
 ghost use Rattle.desk_book.specs.Sound.{IsSound};
 ghost use Rattle.desk_line.specs.Reply.{EndsAfterBars, RepliesToQuery};
-ghost use Rattle.desk_line.specs.Limits.{most_digits, most_line_bytes, most_number};
-ghost use Rattle.desk_line.specs.declared.limits.TheConstants.{MOST_DIGITS, MOST_LINE_BYTES, MOST_NUMBER};
+ghost use Rattle.desk_line.specs.Limits.{most_digits, most_number};
+ghost use Rattle.desk_line.specs.declared.limits.TheConstants.{MOST_DIGITS, MOST_NUMBER};
 ghost use Rattle.desk_line.specs.declared.request.Query.{Query};
 ghost use Rattle.desk_line.specs.Request.{Reads, Requests, WholeRequests};
 ghost use Rattle.desk_line.specs.Written.{CanBeWritten, written};
@@ -44,7 +44,6 @@ pub fn lines_after_bars()
 
 /// The limits that the code compares with are those in the definitions.
 pub fn limits()
-    ensures line_bytes { MOST_LINE_BYTES ≡ most_line_bytes }
     ensures digits { MOST_DIGITS ≡ most_digits }
     ensures number { MOST_NUMBER ≡ most_number }
 {}

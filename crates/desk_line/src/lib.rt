@@ -32,7 +32,6 @@ mod waiting;
 
 pub use answer::Answer;
 pub use fault::{Broken, Fault};
-pub use limits::MOST_LINE_BYTES;
 pub use read::{lines_after, read_request};
 pub use reply::write_reply;
 pub use request::{Query, Request};

@@ -1,7 +1,4 @@
-//! How long a request may be.
-
-/// The most bytes that a line may have, its ending aside.
-pub const MOST_LINE_BYTES: usize = 65_536;
+//! How large a number of a request may be.
 
 /// The most digits of a number.
 pub(crate) const MOST_DIGITS: usize = 16;

@@ -3,7 +3,6 @@ ghost use Rattle.desk_line.specs.Lines.{after_first_line};
 ghost use Rattle.desk_line.specs.Reading.{Gives, are_lines, head_line, request_in};
 ghost use Rattle.desk_line.specs.Request.{HasText, Reads, Takes, Tells, command_of, correction_of, mark_of, request_of};
 ghost use Rattle.louis_table.specs.Lines.{lines_of};
-ghost use Rattle.std.specs.Io.BufRead.{strip_last};
 ghost use Rattle.std.specs.List.{after_first, before_first, position_or_len};
 ghost use Rattle.std.specs.Prelude.{◌==◌, ◌≡◌, ◌≤◌, IfOk, MatchResult, OnErr, Some, length};
 ghost use Rattle.std.specs.Str.{chars};
@@ -12,9 +11,9 @@ use super::directive::{Directive, SpanText};
 use super::fault::Fault;
 use super::fields::Field;
 use super::head::{Head, block_lines, read_head};
-use super::limits::MOST_LINE_BYTES;
 use super::request::Request;
 use desk_command::{Anchor, Bytes, Command, Text};
+use desk_ends::{MOST_LINE_BYTES, without_return};
 use louis_table::EN;
 use std::alloc::{AllocError, Global};
 
@@ -80,16 +79,6 @@ fn split_line(bytes: &[u8]) -> (&[u8], &[u8])
         return (bytes, &[]);
     }
     (&bytes[..len], &bytes[len + 1..])
-}
-
-/// A line without one carriage return at its end.
-fn without_return(line: &[u8]) -> &[u8]
-    ensures { result.now ≡ strip_last 13 line.now }
-{
-    match line {
-        [front @ .., b'\r'] => front,
-        _ => line,
-    }
 }
 
 /// Whether the bytes are this many lines, none of them too long.

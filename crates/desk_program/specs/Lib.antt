@@ -1,9 +1,3 @@
-pub mod Reply
-pub mod Refusal
-pub mod Run
-pub mod Machine
-pub mod Sends
-pub mod Braille
 pub mod Shelf
 pub mod Fault
 pub mod Books

@@ -18,7 +18,7 @@ use Rattle.desk_program.specs.declared.stop.Stop.{Stop}
 use Rattle.desk_program.specs.declared.stop.Stop.TheVariants.{Refused, Lost, Ends}
 use Rattle.desk_program.specs.Books.{Checks, ExportsFrom, Holds, Makes, Outcome, Place, Says, place}
 use Rattle.desk_program.specs.Fault.{TextAt, FaultAt}
-use Rattle.desk_program.specs.Run.{AnswersAll, RanShort}
+use Rattle.desk_translate.specs.Run.{AnswersAll, RanShort}
 use Rattle.desk_program.specs.Shelf.{Shelved}
 use Rattle.desk_program.specs.declared.shelf.Shelf.{Ghosts as Shelf}
 

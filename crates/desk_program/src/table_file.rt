@@ -6,7 +6,7 @@ ghost use Rattle.std.specs.Prelude.{◌⊎◌, ℕ, List, MatchResult};
 
 use super::fault::Fault;
 use super::shelf::Shelf;
-use desk_ends::Source;
+use desk_ends::{CHUNK_BYTES, Source};
 use louis_table::{EN, Table};
 use louis_translate::RuleIndex;
 use std::alloc::Global;
@@ -16,9 +16,6 @@ pub const MOST_FILE_BYTES: usize = 1 << 27;
 
 // No test reads as many.
 const _: () = prove!(MOST_FILE_BYTES == 134_217_728);
-
-/// How many bytes are read at a time.
-const CHUNK_BYTES: usize = 1 << 16;
 
 /// What is written in place of a path for the supplied table. A file of this name is reached as `./@en`.
 pub const SUPPLIED: &str = "@en";

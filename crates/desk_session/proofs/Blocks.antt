@@ -4,12 +4,14 @@ use Rattle.std.specs.Prelude.{Vec}
 use Rattle.std.specs.declared.alloc.Global.{Global}
 use Rattle.std.proofs.lemmas.List.{append-nil}
 use Rattle.desk_ends.specs.declared.ends.Failed.{Failed}
+use Rattle.desk_ends.specs.Input.{Input, ReadsLine, Used}
+use Rattle.desk_ends.specs.Lines.{EndsLine, IsLine, kept}
+use Rattle.desk_ends.proofs.OneLine.{ends-append, fed-ends}
+use Rattle.desk_ends.proofs.UsedInput.{Used-none, Used-then}
 use Rattle.desk_line.specs.declared.fault.Fault.{Fault}
 use Rattle.desk_line.specs.declared.fault.Fault.TheVariants.{Syntax, NoMemory}
-use Rattle.desk_session.specs.declared.input.Input.{Input}
-use Rattle.desk_session.specs.Reading.{EndsLine, HoldsBlock, HoldsText, IsLine, ReadsBlock, ReadsLine, Used, feeds, kept}
-use Rattle.desk_session.proofs.OneLine.{ends-append, fed-ends, fed-feeds, feeds-append, long-before, no-feeds}
-use Rattle.desk_session.proofs.UsedInput.{Used-none, Used-then}
+use Rattle.desk_session.specs.Reading.{HoldsBlock, HoldsText, ReadsBlock, feeds}
+use Rattle.desk_session.proofs.BlockLines.{fed-feeds, feeds-append, long-before, no-feeds}
 
 -- ---- a text with a line more
 

@@ -1,9 +1,6 @@
 pub mod Sessions
 pub mod Lives
-pub mod OneLine
-pub mod UsedInput
-pub mod WaitingBytes
-pub mod LineReading
+pub mod BlockLines
 pub mod Blocks
 pub mod FoundAgain
 pub mod NextRequests

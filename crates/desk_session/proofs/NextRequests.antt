@@ -6,24 +6,27 @@ use Rattle.std.specs.List.{AllByRecursion}
 use Rattle.std.proofs.lemmas.Bool.{cases_lt}
 use Rattle.louis_table.specs.Lines.{lines_of}
 use Rattle.desk_ends.specs.declared.ends.Failed.{Failed}
+use Rattle.desk_ends.specs.Input.{Input, LineEnds, ReadsLine, Used}
+use Rattle.desk_ends.specs.Limits.{most_line_bytes}
+use Rattle.desk_ends.specs.Lines.{EndsLine, HasNoFeed, IsFed, IsLine, kept, without_ending}
+use Rattle.desk_ends.proofs.ManyLines.{lines-then}
+use Rattle.desk_ends.proofs.OneLine.{ends-some, fed-ends, kept-none, kept-some, one-line}
+use Rattle.desk_ends.proofs.UsedInput.{Used-then}
 use Rattle.desk_line.specs.declared.fault.Fault.{Fault}
 use Rattle.desk_line.specs.declared.fault.Fault.TheVariants.{Syntax, NoMemory}
 use Rattle.desk_line.specs.declared.request.Request.{Request}
 use Rattle.desk_line.specs.Lines.{IsShort}
-use Rattle.desk_line.specs.Limits.{most_line_bytes}
 use Rattle.desk_line.specs.Request.{IsLast, IsWhole, Reads, Takes, Tells}
 use Rattle.desk_line.proofs.CutLaws.{none-whole, whole-feeds}
 use Rattle.desk_line.proofs.HeadLaws.{head-found}
 use Rattle.desk_line.proofs.HeadLines.{head-of-long}
-use Rattle.desk_line.proofs.LineFeeds.{feeds as line_feeds, lines-fed, lines-few, lines-then}
+use Rattle.desk_line.proofs.LineFeeds.{feeds as line_feeds, lines-fed, lines-few}
 use Rattle.desk_line.proofs.RequestLaws.{asks-for-memory, takes-none}
-use Rattle.desk_session.specs.declared.input.Input.{Input}
 use Rattle.desk_session.specs.declared.reader.Found.TheVariants as found
-use Rattle.desk_session.specs.Reading.{AreLines, BeginsWithNone, EndsLine, HasNoFeed, HoldsText, IsFed, IsLine, LineEnds, ReadsBlock, ReadsLine, ReadsRequest, Used, feeds, kept}
+use Rattle.desk_session.specs.Reading.{AreLines, BeginsWithNone, HoldsText, ReadsBlock, ReadsRequest, feeds}
 use Rattle.desk_session.specs.Requests.{IsFaultOf, IsNext}
 use Rattle.desk_session.proofs.Blocks.{head-ends}
-use Rattle.desk_session.proofs.OneLine.{bare, ends-some, fed-ends, fed-feeds, feeds-append, kept-none, kept-some, long-line, no-feeds, one-line, same-feeds}
-use Rattle.desk_session.proofs.UsedInput.{Used-then}
+use Rattle.desk_session.proofs.BlockLines.{fed-feeds, feeds-append, no-feeds, not-short, same-feeds}
 
 -- ---- lines that are too long
 
@@ -47,9 +50,9 @@ takes-long line long =
 
 -- ---- a head line
 
-whole-head : (bytes : List ℕ) → IsFed bytes → Takes (bare bytes) 0 → IsWhole bytes
+whole-head : (bytes : List ℕ) → IsFed bytes → Takes (without_ending bytes) 0 → IsWhole bytes
 whole-head bytes is takes = record {
-  line = bare bytes;
+  line = without_ending bytes;
   block = [];
   lines = one-line bytes (inl is) (ends-some bytes (fed-ends bytes is));
   takes = takes;
@@ -57,9 +60,9 @@ whole-head bytes is takes = record {
   ends = is.1;
 }
 
-last-head : (bytes : List ℕ) → HasNoFeed bytes → bytes ≢ [] → (count : ℕ) → Takes (bare bytes) count → IsLast bytes
+last-head : (bytes : List ℕ) → HasNoFeed bytes → bytes ≢ [] → (count : ℕ) → Takes (without_ending bytes) count → IsLast bytes
 last-head bytes none some count takes = record {
-  line = bare bytes;
+  line = without_ending bytes;
   block = [];
   lines = one-line bytes (inr none) some;
   count = count;
@@ -77,8 +80,8 @@ none-line bytes none request later parts is =
 
 -- ---- a head line and its block
 
-module _ (head block : List ℕ) (count : ℕ) (is : IsFed head) (takes : Takes (bare head) count) where
-  block-lines : lines_of (head ++ block) ≡ bare head ∷ lines_of block
+module _ (head block : List ℕ) (count : ℕ) (is : IsFed head) (takes : Takes (without_ending head) count) where
+  block-lines : lines_of (head ++ block) ≡ without_ending head ∷ lines_of block
   block-lines =
       ap (λ (t : List ℕ). lines_of (t ++ block)) is.1
       ∙ (lines-then is.0 block
@@ -92,10 +95,10 @@ module _ (head block : List ℕ) (count : ℕ) (is : IsFed head) (takes : Takes 
   whole-block lines =
       let ends = head-ends head block (fed-ends head is) lines.1 in
       record {
-        line = bare head;
+        line = without_ending head;
         block = lines_of block;
         lines = block-lines;
-        takes = subst (Takes (bare head)) (sym (counted lines.1 ∙ lines.0)) takes;
+        takes = subst (Takes (without_ending head)) (sym (counted lines.1 ∙ lines.0)) takes;
         front = ends.0;
         ends = ends.1;
       }
@@ -104,18 +107,18 @@ module _ (head block : List ℕ) (count : ℕ) (is : IsFed head) (takes : Takes 
   last-block fewer =
       let few = lines-few block in
       let same = same-feeds block in
-      record { line = bare head; block = lines_of block; lines = block-lines; count = count; takes = takes; most = omega arith }
+      record { line = without_ending head; block = lines_of block; lines = block-lines; count = count; takes = takes; most = omega arith }
 
   none-block : feeds block < count → BeginsWithNone (head ++ block)
   none-block fewer =
       let one = fed-feeds head is in
       let all = feeds-append head block in
       let same = same-feeds (head ++ block) in
-      none-whole (head ++ block) (bare head) (lines_of block) count block-lines takes (omega arith)
+      none-whole (head ++ block) (without_ending head) (lines_of block) count block-lines takes (omega arith)
 
   block-fault : (fault : Fault) → HoldsText (Err fault) (head ++ block) → 0 < count → IsFaultOf (head ++ block) fault
   block-fault Syntax long some = tells-long (head ++ block) long
-  block-fault NoMemory none some = asks-for-memory (head ++ block) (bare head) (lines_of block) count block-lines takes some
+  block-fault NoMemory none some = asks-for-memory (head ++ block) (without_ending head) (lines_of block) count block-lines takes some
 
 -- ---- what was read
 
@@ -125,19 +128,19 @@ module _ (F : Type 0) (a b : Option (List ℕ)) (old mid : Input) (line : Option
       record { bytes = read.bytes; used = read.used; found = (none-line read.bytes read.ends.0, read.ends.1, read.ends.2, read.ends.3) }
 
   -- a line with no room
-  next-long : (whole : Bool) (bytes : List ℕ) → None ≡ kept bytes → LineEnds F mid bytes (Ok whole) → IsNext (mid.is_over ≡ true) mid.chunk bytes × IsFaultOf bytes Syntax
+  next-long : (whole : Bool) (bytes : List ℕ) → None ≡ kept bytes → LineEnds F mid bytes (Ok whole) → IsNext (mid.is_over ≡ true) mid.waiting bytes × IsFaultOf bytes Syntax
   next-long whole bytes keeps ends = by whole ends
     where
       some : bytes ≢ []
       some none = let many = kept-none bytes keeps in let n = ap length none in omega arith
 
       long : (w : IsLine bytes) → IsFaultOf bytes Syntax
-      long w = tells-long bytes (λ all. long-line bytes keeps (subst (AllByRecursion IsShort) (one-line bytes w some) all).0)
+      long w = tells-long bytes (λ all. not-short bytes keeps (subst (AllByRecursion IsShort) (one-line bytes w some) all).0)
 
-      by : (whole : Bool) → LineEnds F mid bytes (Ok whole) → IsNext (mid.is_over ≡ true) mid.chunk bytes × IsFaultOf bytes Syntax
-      by true fed_ = (inl (whole-head bytes fed_ (takes-long (bare bytes) (long-line bytes keeps))), long (inl fed_))
+      by : (whole : Bool) → LineEnds F mid bytes (Ok whole) → IsNext (mid.is_over ≡ true) mid.waiting bytes × IsFaultOf bytes Syntax
+      by true fed_ = (inl (whole-head bytes fed_ (takes-long (without_ending bytes) (not-short bytes keeps))), long (inl fed_))
       by false (none, over, empty) =
-          (inr (over, empty, last-head bytes none some 0 (takes-long (bare bytes) (long-line bytes keeps))), long (inr none))
+          (inr (over, empty, last-head bytes none some 0 (takes-long (without_ending bytes) (not-short bytes keeps))), long (inr none))
 
   pub ReadsRequest-long : (whole : Bool) → ReadsLine F a b old mid line (Ok whole) → None ≡ line → ReadsRequest F a b old mid line (Ok (Some (found.Fault Syntax)))
   ReadsRequest-long whole read none =
@@ -153,7 +156,7 @@ module _ (F : Type 0) (a b : Option (List ℕ)) (old mid : Input) (line : Option
     head-used : Used a b old mid head
     head-used = subst (Used a b old mid) (sym bytes-are) read.used
 
-    end-of : (whole : Bool) → head ≡ [] → LineEnds F mid head (Ok whole) → (mid.is_over ≡ true) × (mid.chunk ≡ [])
+    end-of : (whole : Bool) → head ≡ [] → LineEnds F mid head (Ok whole) → (mid.is_over ≡ true) × (mid.waiting ≡ [])
     end-of true none fed_ = absurd (ends-some head (fed-ends head fed_) none)
     end-of false none (lacks, over, empty) = (over, empty)
 
@@ -162,9 +165,9 @@ module _ (F : Type 0) (a b : Option (List ℕ)) (old mid : Input) (line : Option
         let end = end-of whole none head-line in
         record { bytes = head; used = head-used; found = (none, end.0, end.1) }
 
-    module _ (some : head ≢ []) (count : ℕ) (takes : Takes (bare head) count) where
-      next-alone : (whole : Bool) → LineEnds F mid head (Ok whole) → (count ≡ 0) ⊎ (whole ≡ false) → IsNext (mid.is_over ≡ true) mid.chunk head
-      next-alone true fed_ (inl none) = inl (whole-head head fed_ (subst (Takes (bare head)) none takes))
+    module _ (some : head ≢ []) (count : ℕ) (takes : Takes (without_ending head) count) where
+      next-alone : (whole : Bool) → LineEnds F mid head (Ok whole) → (count ≡ 0) ⊎ (whole ≡ false) → IsNext (mid.is_over ≡ true) mid.waiting head
+      next-alone true fed_ (inl none) = inl (whole-head head fed_ (subst (Takes (without_ending head)) none takes))
       next-alone true fed_ (inr lacks) = absurd (cc)
       next-alone false (none, over, empty) alone = inr (over, empty, last-head head none some count takes)
 
@@ -176,7 +179,7 @@ module _ (F : Type 0) (a b : Option (List ℕ)) (old mid : Input) (line : Option
         head-fed : IsFed head
         head-fed = subst (λ (w : Bool). LineEnds F mid head (Ok w)) fed_ head-line
 
-        next-block : (block : List ℕ) → AreLines count block ⊎ ((feeds block < count) × (new.is_over ≡ true) × (new.chunk ≡ [])) → IsNext (new.is_over ≡ true) new.chunk (head ++ block)
+        next-block : (block : List ℕ) → AreLines count block ⊎ ((feeds block < count) × (new.is_over ≡ true) × (new.waiting ≡ [])) → IsNext (new.is_over ≡ true) new.waiting (head ++ block)
         next-block block (inl lines) = inl (whole-block head block count head-fed takes lines)
         next-block block (inr (fewer, over, empty)) = inr (over, empty, last-block head block count head-fed takes fewer)
 

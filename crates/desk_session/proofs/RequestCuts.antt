@@ -1,12 +1,12 @@
 -- The requests of the bytes that were used of an input.
 use Rattle.std.proofs.Common.{◌≡◌, ◌≢◌, ◌⊎◌, ℕ, List, [], ◌∷◌, ◌++◌, refl, sym, ap, subst, ◌∙◌, append_assoc, inl, inr}
 use Rattle.std.proofs.lemmas.List.{append-nil}
+use Rattle.desk_ends.proofs.UsedInput.{no-parts}
 use Rattle.desk_line.specs.Request.{IsLast, IsRequestBefore, IsWhole, Requests, WholeRequests, last, whole}
 use Rattle.desk_line.proofs.CutLaws.{same-request, whole-some}
 use Rattle.desk_line.proofs.RequestLaws.{some-lines}
 use Rattle.desk_session.specs.Reading.{BeginsWithNone}
 use Rattle.desk_session.specs.Requests.{FirstRequests, IsNext}
-use Rattle.desk_session.proofs.UsedInput.{no-parts}
 
 -- the bytes are these requests, of which only the end of the input cuts the last one
 abbrev pub CutInto : (Over : Type 0) → List ℕ → List (List ℕ) → Type 0

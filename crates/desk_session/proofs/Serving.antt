@@ -12,6 +12,9 @@ use Rattle.desk_book.specs.Book.{Book}
 use Rattle.desk_book.proofs.Histories.{After-append}
 use Rattle.desk_ends.specs.declared.ends.Failed.{Failed}
 use Rattle.desk_ends.specs.Ends.{IsFlushed}
+use Rattle.desk_ends.specs.Input.{Input, KnowsEnd, Used, unread}
+use Rattle.desk_ends.specs.Limits.{most_input}
+use Rattle.desk_ends.proofs.UsedInput.{Used-none, Used-then, left_to_use, left_to_use-fewer, no-parts, unread-knows}
 use Rattle.desk_line.specs.declared.answer.Answer.{Answer}
 use Rattle.desk_line.specs.declared.answer.Answer.TheVariants as answers
 use Rattle.desk_line.specs.declared.request.Request.TheVariants.{Do}
@@ -19,25 +22,16 @@ use Rattle.desk_line.specs.Request.{WholeRequests}
 use Rattle.desk_line.proofs.RequestLaws.{one-request}
 use Rattle.desk_store.specs.Books.{HoldsBook, IsKept}
 use Rattle.desk_rows.specs.Layout.{Layout}
-use Rattle.desk_session.specs.declared.input.Input.{Input}
 use Rattle.desk_session.specs.declared.reader.Found.{Found}
 use Rattle.desk_session.specs.declared.session.Ended.{Ended}
 use Rattle.desk_session.specs.declared.session.Ended.TheVariants as ended
-use Rattle.desk_session.specs.Reading.{KnowsEnd, ReadsRequest, Used}
+use Rattle.desk_session.specs.Reading.{ReadsRequest}
 use Rattle.desk_session.specs.Requests.{FirstRequests}
 use Rattle.desk_session.specs.Served.{AllTaken, HoldsGiven, IsLeft, IsWritten, MayLack, MayServe, Served, requests_of}
 use Rattle.desk_session.specs.Session.{EndsLost, Given, Gives, IsCommand, IsSession, MayGoOn, Turn, commands_of}
 use Rattle.desk_session.specs.Turns.{LeavesLost, LeftBy, SendsReply, TakesTurn}
 use Rattle.desk_session.proofs.MoreTurns.{IsSession-more, IsWritten-more, after-given, ends-held, ends-lost, gives-some, goes-held, goes-more, requests-more, taken-more}
 use Rattle.desk_session.proofs.RequestCuts.{CutInto, CutInto-all, CutInto-first, CutInto-more, CutInto-whole, next-some}
-use Rattle.desk_session.proofs.UsedInput.{Used-none, Used-then, no-parts}
-
--- nothing read yet
-abbrev pub fresh : Input
-fresh = record { chunk = []; total = 0; is_over = false }
-
-fresh-knows : (a : Option (List ℕ)) → KnowsEnd a fresh
-fresh-knows a over = absurd (cc over)
 
 -- ---- the file
 
@@ -114,7 +108,7 @@ pub record IsServing (start book : Book) (a b v w flushed : Option (List ℕ)) (
   pub output : List ℕ
   pub turns : List Turn
   pub given : List Given
-  pub used : Used a b fresh input bytes
+  pub used : Used a b unread input bytes
   pub cut : CutInto (input.is_over ≡ true) bytes (requests_of turns)
   pub session : IsSession start turns given book
   pub written : IsWritten start turns output book
@@ -124,13 +118,13 @@ pub record IsServing (start book : Book) (a b v w flushed : Option (List ℕ)) (
   pub clean : HasCleanDisk s → HasCleanDisk old
   pub kept : HasCleanDisk s → (l : Layout) → MayServe l start old → IsKept l book s
 
-pub IsServing-none : (book : Book) (a v flushed : Option (List ℕ)) (s : State) → IsServing book book a a v v flushed fresh s s
+pub IsServing-none : (book : Book) (a v flushed : Option (List ℕ)) (s : State) → IsServing book book a a v v flushed unread s s
 IsServing-none book a v flushed s = record {
   bytes = [];
   output = [];
   turns = [];
   given = [];
-  used = Used-none a fresh;
+  used = Used-none a unread;
   cut = refl;
   session = (refl, refl);
   written = (refl, refl);
@@ -150,8 +144,8 @@ module _ (RF WF : Type 0) (start book : Book) (a b c v w flushed : Option (List 
   -- the input is at its end
   pub Served-done : ReadsRequest RF b c input new line (Ok None) → Served start book ended.Done a c v w flushed RF WF old s
   Served-done read =
-      let used = Used-then a b c fresh input new so_far.bytes read.bytes so_far.used read.used in
-      let knows = used.ends (fresh-knows a) read.found.1 in
+      let used = Used-then a b c unread input new so_far.bytes read.bytes so_far.used read.used in
+      let knows = used.ends (unread-knows a) read.found.1 in
       let all : used.read ≡ so_far.bytes =
       used.parts
       ∙ (ap (λ (t : List ℕ). (so_far.bytes ++ read.bytes) ++ t) read.found.2
@@ -175,7 +169,7 @@ module _ (RF WF : Type 0) (start book : Book) (a b c v w flushed : Option (List 
   -- a read failed
   pub Served-input : (failed : Failed) → ReadsRequest RF b c input new line (Err failed) → Served start book ended.Input a c v w flushed RF WF old s
   Served-input failed read =
-      let used = Used-then a b c fresh input new so_far.bytes read.bytes so_far.used read.used in
+      let used = Used-then a b c unread input new so_far.bytes read.bytes so_far.used read.used in
       let going : ¬ (input.is_over ≡ true) = λ over. let h = sym (read.used.over over).1 ∙ read.found.2 in cc h in
       let all : used.read ≡ so_far.bytes ++ read.bytes =
       used.parts
@@ -193,7 +187,7 @@ module _ (RF WF : Type 0) (start book : Book) (a b c v w flushed : Option (List 
         written = so_far.written;
         appends = so_far.appends;
         ends = so_far.goes;
-        honest = elim read.found.3 [ inl fails ↦ inl fails | inr many ↦ inr (subst (λ (n : ℕ). 2 ^ 62 ≤ n) size many) ];
+        honest = elim read.found.3 [ inl fails ↦ inl fails | inr many ↦ inr (subst (λ (n : ℕ). most_input ≤ n) size many) ];
         flushed = so_far.passed;
         left = all-left ended.Input refl;
       }
@@ -212,29 +206,26 @@ module _ (RF WF : Type 0) (start book : Book) (a b c v w flushed : Option (List 
     gave : (given : List Given) × Gives turn answer given
     gave = gives-some turn book next took.answered
 
-    used : Used a c fresh new (so_far.bytes ++ read.bytes)
-    used = Used-then a b c fresh input new so_far.bytes read.bytes so_far.used read.used
+    used : Used a c unread new (so_far.bytes ++ read.bytes)
+    used = Used-then a b c unread input new so_far.bytes read.bytes so_far.used read.used
 
     going : ¬ (input.is_over ≡ true)
     going over =
         let none = (read.used.over over).0 in
-        let empty = (so_far.used.ends (fresh-knows a) over).1 in
-        let parts : read.bytes ++ new.chunk ≡ [] = sym read.used.parts ∙ (ap (λ (t : List ℕ). input.chunk ++ t) none ∙ (append-nil input.chunk ∙ empty)) in
-        next-some (new.is_over ≡ true) new.chunk read.bytes read.found.0 (no-parts read.bytes new.chunk parts).0
+        let empty = (so_far.used.ends (unread-knows a) over).1 in
+        let parts : read.bytes ++ new.waiting ≡ [] = sym read.used.parts ∙ (ap (λ (t : List ℕ). input.waiting ++ t) none ∙ (append-nil input.waiting ∙ empty)) in
+        next-some (new.is_over ≡ true) new.waiting read.bytes read.found.0 (no-parts read.bytes new.waiting parts).0
 
     -- bytes were used
-    pub fewer-left : 2 ^ 64 + length new.chunk - new.total < 2 ^ 64 + length input.chunk - input.total
+    pub fewer-left : left_to_use new < left_to_use input
     fewer-left =
-        let few = so_far.used.bound (omega arith) in
-        let some : length read.bytes ≢ 0 = λ none. next-some (new.is_over ≡ true) new.chunk read.bytes read.found.0 (empty-list read.bytes none) in
-        let total = read.used.total in
-        let parts = sym (length-append input.chunk read.used.read) ∙ (ap length read.used.parts ∙ length-append read.bytes new.chunk) in
-        omega arith
+        left_to_use-fewer b c input new read.bytes read.used (so_far.used.bound (omega arith))
+        (λ none. next-some (new.is_over ≡ true) new.waiting read.bytes read.found.0 (empty-list read.bytes none))
 
     cut : CutInto (new.is_over ≡ true) (so_far.bytes ++ read.bytes) (requests_of turns)
     cut =
         subst (CutInto (new.is_over ≡ true) (so_far.bytes ++ read.bytes)) (sym (requests-more turn so_far.turns))
-        (CutInto-more (input.is_over ≡ true) (new.is_over ≡ true) going new.chunk read.bytes read.found.0 so_far.bytes (requests_of so_far.turns) so_far.cut)
+        (CutInto-more (input.is_over ≡ true) (new.is_over ≡ true) going new.waiting read.bytes read.found.0 so_far.bytes (requests_of so_far.turns) so_far.cut)
 
     session : IsSession start turns (so_far.given ++ gave.0) next
     session = IsSession-more turn book next took.answered gave.0 gave.1 so_far.turns start so_far.given so_far.goes so_far.session
@@ -248,7 +239,7 @@ module _ (RF WF : Type 0) (start book : Book) (a b c v w flushed : Option (List 
     first : FirstRequests (IsAtEnd c) used.read (requests_of turns)
     first =
         subst (λ (t : List ℕ). FirstRequests (IsAtEnd c) t (requests_of turns)) (sym used.parts)
-        (CutInto-first (new.is_over ≡ true) (IsAtEnd c) new.chunk (used.ends (fresh-knows a)) (so_far.bytes ++ read.bytes) (requests_of turns) cut)
+        (CutInto-first (new.is_over ≡ true) (IsAtEnd c) new.waiting (used.ends (unread-knows a)) (so_far.bytes ++ read.bytes) (requests_of turns) cut)
 
     kept-next : answer ≢ answers.Lost → HasCleanDisk s' → (l : Layout) → MayServe l start old → IsKept l next s'
     kept-next held clean l may =

@@ -8,13 +8,13 @@ use Rattle.sql_tables.specs.States.{Leaves}
 use Rattle.desk_book.specs.After.{After}
 use Rattle.desk_book.specs.Book.{Book}
 use Rattle.desk_ends.specs.Ends.{IsFlushed}
+use Rattle.desk_ends.specs.Limits.{most_input}
 use Rattle.desk_line.specs.Answered.{IsAnswered}
 use Rattle.desk_line.specs.Reply.{IsReply}
 use Rattle.desk_line.specs.Request.{Requests, WholeRequests}
 use Rattle.desk_store.specs.Books.{HasNewTables, HoldsBook, IsKept, ShowsBook}
 use Rattle.desk_rows.specs.Layout.{Layout}
 use Rattle.desk_store.specs.Opened.{Stands}
-use Rattle.desk_session.specs.declared.input.TheConstants.{MOST_INPUT}
 use Rattle.desk_session.specs.declared.session.Ended.{Ended}
 use Rattle.desk_session.specs.declared.session.Ended.TheVariants.{Done, Input, Output, Lost}
 use Rattle.desk_session.specs.Requests.{FirstRequests}
@@ -60,7 +60,7 @@ EndsAs Lost turns = EndsLost turns
 -- it ends early only where so many bytes were read, where an end can fail, or where a command was lost
 abbrev pub IsHonest : Ended → (read : ℕ) → (ReadsFail WritesFail : Type 0) → Type 0
 IsHonest Done read ReadsFail WritesFail = Unit {0}
-IsHonest Input read ReadsFail WritesFail = ReadsFail ⊎ (MOST_INPUT ≤ read)
+IsHonest Input read ReadsFail WritesFail = ReadsFail ⊎ (most_input ≤ read)
 IsHonest Output read ReadsFail WritesFail = WritesFail
 IsHonest Lost read ReadsFail WritesFail = Unit {0}
 

@@ -12,11 +12,8 @@
 //! What requests and replies are is `desk_line`'s, what commands do to a book `desk_book`'s, and the file `desk_store`'s.
 #![tactic(auto)]
 
-mod chunk;
 pub mod found;
-mod input;
 pub mod laws;
-mod line;
 mod reader;
 mod session;
 mod turn;

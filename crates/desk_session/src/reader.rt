@@ -1,10 +1,10 @@
 //! The requests of an input.
-ghost use Rattle.desk_session.specs.Reading.{EndsLine, HoldsText, IsLine, ReadsBlock, ReadsRequest, kept};
+ghost use Rattle.desk_ends.specs.Input.{unread};
+ghost use Rattle.desk_ends.specs.Lines.{EndsLine, IsLine, kept};
+ghost use Rattle.desk_session.specs.Reading.{HoldsText, ReadsBlock, ReadsRequest};
 ghost use Rattle.std.specs.Prelude.{Err, IfErr, List, None, OnOk, Some, [], false, ◌++◌, ◌≡◌, ℕ};
 
-use super::input::Input;
-use super::line::{Line, without_ending};
-use desk_ends::{Failed, Source};
+use desk_ends::{Failed, Input, Line, Source, without_ending};
 use desk_line::{Fault, lines_after};
 use std::alloc::Global;
 
@@ -62,7 +62,7 @@ fn append(text: Vec<u8>, bytes: &[u8]) -> Result<Vec<u8>, Fault>
 impl Reader {
     /// Nothing read yet.
     pub(crate) fn new() -> Self
-        ensures { result ≡ record { input = record { chunk = []; total = 0; is_over = false }; line = Some [] } }
+        ensures { result ≡ record { input = unread; line = Some [] } }
     {
         Reader {
             input: Input::new(),

@@ -5,11 +5,10 @@ ghost use Rattle.desk_session.specs.Turns.{HoldsHead, SendsReply, TakesTurn, fau
 ghost use Rattle.desk_store.specs.Books.{shown_by};
 ghost use Rattle.std.specs.Prelude.{IsTrue, List, is_ok, true, ◌≡◌, ◌≢◌, ◌↔◌, ℕ};
 
-use super::line::Line;
 use super::reader::Found;
 use desk_book::Book;
 use desk_command::Command;
-use desk_ends::{Failed, Sink};
+use desk_ends::{Failed, Line, Sink};
 use desk_line::{Answer, Fault, Request, read_request, write_reply};
 use desk_store::Store;
 use sqlite::Alter;

@@ -1,6 +1,6 @@
 use Rattle.std.proofs.Common.{◌∙◌}
 use Rattle.desk_session.proofs.Blocks.{fault-stays}
-use Rattle.desk_session.proofs.OneLine.{long-after}
+use Rattle.desk_session.proofs.BlockLines.{long-after}
 use Rattle.desk_session.proofs.reader.add_line.Goals as goal
 
 pub returns-in-Ok-None-clause-holds : goal.returns-in-Ok-None-clause-holds

@@ -1,5 +1,5 @@
-use Rattle.std.proofs.Common.{◌-◌, ◌+◌, ◌^◌, length}
 use Rattle.desk_store.specs.Books.{shown_by}
+use Rattle.desk_ends.proofs.UsedInput.{left_to_use}
 use Rattle.desk_session.proofs.Serving.{IsServing}
 use Rattle.desk_session.proofs.session.serve.Given as goal
 
@@ -9,4 +9,4 @@ invariant-loop-found g l =
     (g.W.Sink.flushed l.sink) l.reader.input (shown_by g.S.Store l.fn.store) (shown_by g.S.Store l.store)
 
 abbrev pub decreases-loop-found : goal.decreases-loop-found
-decreases-loop-found g l = 2 ^ 64 + length l.reader.input.chunk - l.reader.input.total
+decreases-loop-found g l = left_to_use l.reader.input

@@ -1,0 +1,83 @@
+-- What was used of an input, part after part.
+use Rattle.std.proofs.Common.{◌≡◌, ◌≢◌, ℕ, ◌+◌, ◌-◌, ◌<◌, ◌≤◌, length, Bool, true, false, List, [], ◌∷◌, ◌++◌, Option, refl, sym, ap, subst, ◌∙◌, append_assoc, arith}
+use Rattle.std.proofs.KnownBytes.{Consumes-nil, Consumes-trans}
+use Rattle.std.proofs.lemmas.List.{append-nil, length-append}
+use Rattle.desk_ends.specs.Input.{Input, KnowsEnd, Passes, PassesLine, Used, UsesWaiting, most_total, unread}
+
+pub no-parts : (these those : List ℕ) → these ++ those ≡ [] → (these ≡ []) × (those ≡ [])
+no-parts [] those e = (refl, e)
+no-parts (b ∷ these) those e = absurd (cc)
+
+pub Used-none : (a : Option (List ℕ)) (input : Input) → Used a a input input []
+Used-none a input = record {
+  read = [];
+  consumes = Consumes-nil a;
+  parts = append-nil input.waiting;
+  total = omega arith;
+  bound = λ few. few;
+  over = λ over. (refl, over);
+  ends = λ knows. knows;
+}
+
+-- bytes that waited
+pub Used-waiting : (a : Option (List ℕ)) (old new : Input) (bytes : List ℕ) → UsesWaiting old new bytes → Used a a old new bytes
+Used-waiting a old new bytes uses = record {
+  read = [];
+  consumes = Consumes-nil a;
+  parts = append-nil old.waiting ∙ uses.parts;
+  total = let same = uses.total in omega arith;
+  bound = λ few. let same = uses.total in omega arith;
+  over = λ over. (refl, uses.over ∙ over);
+  ends = λ knows over. let end = knows (sym uses.over ∙ over) in (end.0, (no-parts bytes new.waiting (sym uses.parts ∙ end.1)).1);
+}
+
+module _ (a b c : Option (List ℕ)) (old mid new : Input) (these those : List ℕ) (first : Used a b old mid these) (later : Used b c mid new those) where
+  pub Used-then : Used a c old new (these ++ those)
+  Used-then = record {
+    read = first.read ++ later.read;
+    consumes = Consumes-trans a b c first.read later.read first.consumes later.consumes;
+    parts = sym (append_assoc old.waiting first.read later.read)
+        ∙ (ap (λ (t : List ℕ). t ++ later.read) first.parts
+        ∙ (append_assoc these mid.waiting later.read
+        ∙ (ap (λ (t : List ℕ). these ++ t) later.parts ∙ sym (append_assoc these those new.waiting))));
+    total = let n = length-append first.read later.read in let e = first.total in let f = later.total in omega arith;
+    bound = λ few. later.bound (first.bound few);
+    over = λ over.
+        let one = first.over over in
+        let two = later.over one.1 in
+        (ap (λ (t : List ℕ). t ++ later.read) one.0 ∙ two.0, two.1);
+    ends = λ knows. later.ends (first.ends knows);
+  }
+
+-- nothing more was used
+pub Used-still : (a b c : Option (List ℕ)) (old mid new : Input) (bytes : List ℕ) → Used a b old mid bytes → Used b c mid new [] → Used a c old new bytes
+Used-still a b c old mid new bytes first later = subst (Used a c old new) (append-nil bytes) (Used-then a b c old mid new bytes [] first later)
+
+-- how many bytes may still be used
+abbrev pub left_to_use : Input → ℕ
+left_to_use input = most_total + length input.waiting - input.total
+
+pub left_to_use-fewer : (a b : Option (List ℕ)) (old new : Input) (bytes : List ℕ) → Used a b old new bytes → old.total ≤ most_total → length bytes ≢ 0
+    → left_to_use new < left_to_use old
+left_to_use-fewer a b old new bytes used few some =
+    let total = used.total in
+    let fewer = used.bound few in
+    let parts = sym (length-append old.waiting used.read) ∙ (ap length used.parts ∙ length-append bytes new.waiting) in
+    omega arith
+
+-- nothing is known of the end of an input of which nothing was read
+pub unread-knows : (a : Option (List ℕ)) → KnowsEnd a unread
+unread-knows a over = absurd (cc over)
+
+-- ---- a line that is passed on
+
+pub PassesLine-by : (whole : Bool) (old new : Input) (was line : Option (List ℕ)) → Passes whole old.waiting new.waiting was line
+    → new.total ≡ old.total → new.is_over ≡ old.is_over → PassesLine whole old new was line
+PassesLine-by true old new was line (bytes, parts, held, fed) total over =
+    (bytes, record { parts = parts; total = total; over = over }, held, fed)
+PassesLine-by false old new was line (empty, held, none) total over = (
+  record { parts = sym (ap (λ (t : List ℕ). old.waiting ++ t) empty ∙ append-nil old.waiting); total = total; over = over },
+  empty,
+  held,
+  none,
+)

@@ -1,0 +1,117 @@
+//! The line that is being read.
+ghost use Rattle.desk_ends.specs.Lines.{extended, without_ending};
+ghost use Rattle.std.specs.Io.BufRead.{strip_last};
+ghost use Rattle.std.specs.Option.{option_copied};
+ghost use Rattle.std.specs.Prelude.{IsSome, IsTrue, Some, [], ◌≡◌, ◌↔◌};
+
+use super::limits::MOST_LINE_BYTES;
+use std::marker::Model;
+
+/// Two bytes more than a line may have, for a carriage return and a line feed at its end.
+const ROOM: usize = MOST_LINE_BYTES + 2;
+
+/// The bytes of a line so far with its ending, or the fact that there are more of them than a line may have. Contracts see
+/// them as `Some` of their list, or `None`.
+#[derive(Drop)]
+pub struct Line {
+    bytes: [u8; ROOM],
+    len: usize,
+    is_over: bool,
+}
+
+impl Model for Line {
+    ghost use Rattle.desk_ends.specs.declared.line.TheConstants.{ROOM};
+    ghost use Rattle.std.specs.Prelude.{List, None, Option, Some, if◌then◌else◌, take, ℕ, ◌≤◌};
+
+    ghost Value = { Option (List ℕ) };
+
+    ghost view = { λ l. if l.is_over then None else Some (take l.len l.bytes) };
+
+    ghost invariant = { λ l. l.len ≤ ROOM };
+}
+
+impl Line {
+    /// No byte.
+    pub fn new() -> Self
+        ensures { result ≡ Some [] }
+    {
+        Line {
+            bytes: [0; ROOM],
+            len: 0,
+            is_over: false,
+        }
+    }
+
+    /// Adds bytes.
+    pub(crate) fn extend(&mut self, bytes: &[u8])
+        ensures { self.new ≡ extended self.old bytes.now }
+    {
+        if bytes.len() <= ROOM - self.len {
+            let end = self.len + bytes.len();
+            self.bytes[self.len..end].copy_from_slice(bytes);
+            self.len = end;
+        } else {
+            self.is_over = true;
+        }
+    }
+
+    /// Takes all bytes out.
+    pub fn clear(&mut self)
+        ensures { self.new ≡ Some [] }
+    {
+        self.len = 0;
+        self.is_over = false;
+    }
+
+    /// Whether there is no byte.
+    pub fn is_empty(&self) -> bool
+        ensures { IsTrue result ↔ (self.now ≡ Some []) }
+    {
+        self.len == 0 && !self.is_over
+    }
+
+    /// The line with its ending, or `None` where it has more bytes than a line may have.
+    pub fn bytes(&self) -> Option<&[u8]>
+        ensures { option_copied result ≡ self.now }
+    {
+        if self.is_over {
+            return None;
+        }
+        Some(self.held())
+    }
+
+    /// The line with its ending, which hasn't more bytes than a line may have.
+    pub fn held(&self) -> &[u8]
+        requires { IsSome self.now }
+        ensures { self.now ≡ Some result.now }
+    {
+        &self.bytes[..self.len]
+    }
+}
+
+/// A line without its ending: one line feed, and one carriage return before it.
+pub fn without_ending(line: &[u8]) -> &[u8]
+    ensures { result.now ≡ without_ending line.now }
+{
+    without_return(without_feed(line))
+}
+
+/// Bytes without one line feed at their end.
+fn without_feed(bytes: &[u8]) -> &[u8]
+    ensures { result.now ≡ strip_last 10 bytes.now }
+{
+    match bytes {
+        [front @ .., b'\n'] => front,
+        _ => bytes,
+    }
+}
+
+/// Bytes without one carriage return at their end.
+pub fn without_return(bytes: &[u8]) -> &[u8]
+    ensures { result.now ≡ strip_last 13 bytes.now }
+{
+    match bytes {
+        [front @ .., b'\r'] => front,
+        _ => bytes,
+    }
+}

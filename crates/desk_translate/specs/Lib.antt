@@ -1,0 +1,6 @@
+pub mod Reply
+pub mod Refusal
+pub mod Run
+pub mod NextLine
+pub mod Sends
+pub mod Braille

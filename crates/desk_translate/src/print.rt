@@ -1,0 +1,145 @@
+//! The print of the line that is being answered.
+ghost use Rattle.desk_translate.specs.Refusal.{FindsUndefined};
+ghost use Rattle.desk_translate.specs.Reply.{most_characters};
+ghost use Rattle.std.specs.Prelude.{IfOk, List, OnErr, OnOk, [], length, ◌++◌, ◌<◌, ◌≡◌, ◌≤◌, ◌∷◌, ℕ};
+ghost use Rattle.std.specs.Str.{IsAscii, chars};
+
+use louis_translate::{RuleBook, is_defined};
+use std::marker::Model;
+use thiserror::Error;
+
+/// The most characters that a line may have.
+pub const MOST_CHARACTERS: usize = 4_000;
+
+/// A text has more than `MOST_CHARACTERS` characters.
+#[derive(Debug, Drop, Error)]
+#[error("more than {MOST_CHARACTERS} characters")]
+pub struct TooManyCharacters;
+
+/// The characters of a line, at most `MOST_CHARACTERS` of them. Contracts see their list.
+#[derive(Drop)]
+pub struct Print {
+    characters: [char; MOST_CHARACTERS],
+    len: usize,
+}
+
+impl Model for Print {
+    ghost use Rattle.std.specs.Prelude.{List, take, ℕ, ◌≤◌};
+    ghost use Rattle.desk_translate.specs.declared.print.TheConstants.{MOST_CHARACTERS};
+
+    ghost Value = { List ℕ };
+
+    ghost view = { λ p. take p.len p.characters };
+
+    ghost invariant = { λ p. p.len ≤ MOST_CHARACTERS };
+}
+
+impl Print {
+    /// No character.
+    pub fn new() -> Self
+        ensures { result ≡ [] }
+    {
+        Print {
+            characters: ['\0'; MOST_CHARACTERS],
+            len: 0,
+        }
+    }
+
+    /// The characters in order.
+    pub fn as_slice(&self) -> &[char]
+        ensures { result.now ≡ self.now }
+    {
+        &self.characters[..self.len]
+    }
+
+    /// Takes the characters of a text in place of its own, if they are not too many, and tells the place of the first that
+    /// the table of a book doesn't define, if there is one.
+    pub fn read<B: RuleBook>(
+        &mut self,
+        book: &B,
+        text: &str,
+    ) -> Result<Option<usize>, TooManyCharacters>
+        ensures read { OnOk result (self.new ≡ chars text.now) }
+        ensures few { OnOk result (length (chars text.now) ≤ most_characters) }
+        ensures many { OnErr result (most_characters < length (chars text.now)) }
+        ensures undefined { IfOk result (FindsUndefined (B.meaning book.now) (chars text.now)) }
+    {
+        let bytes = text.as_bytes();
+        if bytes.is_ascii() {
+            return self.read_ascii(book, bytes);
+        }
+        self.copy(text)?;
+        Ok(first_undefined(book, self.as_slice()))
+    }
+
+    /// The same for a text whose bytes are characters each.
+    fn read_ascii<B: RuleBook>(
+        &mut self,
+        book: &B,
+        bytes: &[u8],
+    ) -> Result<Option<usize>, TooManyCharacters>
+        requires { IsAscii bytes.now }
+        ensures read { OnOk result (self.new ≡ chars bytes.now) }
+        ensures few { OnOk result (length (chars bytes.now) ≤ most_characters) }
+        ensures many { OnErr result (most_characters < length (chars bytes.now)) }
+        ensures undefined { IfOk result (FindsUndefined (B.meaning book.now) (chars bytes.now)) }
+    {
+        self.copy_ascii(bytes)?;
+        Ok(first_undefined_byte(book, bytes))
+    }
+
+    /// Takes the characters of a text in place of its own, if they are not too many.
+    #[inline(never)]
+    fn copy(&mut self, text: &str) -> Result<(), TooManyCharacters>
+        ensures copied { OnOk result (self.new ≡ chars text.now) }
+        ensures few { OnOk result (length (chars text.now) ≤ most_characters) }
+        ensures many { OnErr result (most_characters < length (chars text.now)) }
+    {
+        let mut len = 0;
+        for character in text.chars() {
+            if len == MOST_CHARACTERS {
+                return Err(TooManyCharacters);
+            }
+            self.characters[len] = character;
+            len += 1;
+        }
+        self.len = len;
+        Ok(())
+    }
+
+    /// The same for a text whose bytes are characters each. A processor copies many of them at a time.
+    #[inline(never)]
+    fn copy_ascii(&mut self, bytes: &[u8]) -> Result<(), TooManyCharacters>
+        requires { IsAscii bytes.now }
+        ensures copied { OnOk result (self.new ≡ chars bytes.now) }
+        ensures few { OnOk result (length (chars bytes.now) ≤ most_characters) }
+        ensures many { OnErr result (most_characters < length (chars bytes.now)) }
+    {
+        if bytes.len() > MOST_CHARACTERS {
+            return Err(TooManyCharacters);
+        }
+        for (place, byte) in bytes.iter().enumerate() {
+            self.characters[place] = char::from(*byte);
+        }
+        self.len = bytes.len();
+        Ok(())
+    }
+}
+
+/// The first place, from 0, whose character the table of a book doesn't define.
+fn first_undefined<B: RuleBook>(book: &B, print: &[char]) -> Option<usize>
+    ensures { FindsUndefined (B.meaning book.now) print.now result }
+{
+    print
+        .iter()
+        .position(|character| !is_defined(book, *character))
+}
+
+/// The first place, from 0, whose byte, as a character, the table of a book doesn't define.
+fn first_undefined_byte<B: RuleBook>(book: &B, bytes: &[u8]) -> Option<usize>
+    ensures { FindsUndefined (B.meaning book.now) bytes.now result }
+{
+    bytes
+        .iter()
+        .position(|byte| !is_defined(book, char::from(*byte)))
+}
