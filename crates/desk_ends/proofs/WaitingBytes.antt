@@ -1,4 +1,4 @@
--- Bytes that wait, and a line that is passed on from them.
+-- Bytes that were read, and a line that is passed on from them.
 use Rattle.std.proofs.Common.{◌≡◌, ◌≢◌, ℕ, ◌+◌, ◌-◌, ◌<◌, ◌≤◌, true, List, [], ◌∷◌, ◌++◌, length, take, drop, Option, sym, ap, ◌∙◌, arith}
 use Rattle.std.specs.Prelude.{EachIndex, slice_index}
 use Rattle.std.proofs.Math.Seq.{take-append-add}

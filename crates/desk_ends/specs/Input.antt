@@ -21,7 +21,7 @@ unread = record { waiting = []; total = 0; is_over = false }
 abbrev pub most_total : ℕ
 most_total = most_input + chunk_bytes
 
--- the end of the input was reached: nothing is left, and nothing waits
+-- the end of the input was reached: nothing is left, and nothing that was read is unused
 abbrev pub KnowsEnd : Option (List ℕ) → Input → Type 0
 KnowsEnd left input = input.is_over ≡ true → IsAtEnd left × (input.waiting ≡ [])
 
@@ -57,7 +57,7 @@ FillsInput CanFail left_old left_new old new (Err failed) =
 
 -- ---- a line
 
--- a line was passed on from waiting bytes, or all of them, which have no line feed
+-- a line was passed on from the bytes read so far, or all of them, which have no line feed
 abbrev pub Passes : Bool → (old new : List ℕ) → (was line : Option (List ℕ)) → Type 0
 Passes true old new was line = (bytes : List ℕ) × (old ≡ bytes ++ new) × (line ≡ extended was bytes) × IsFed bytes
 Passes false old new was line = (new ≡ []) × (line ≡ extended was old) × HasNoFeed old

@@ -26,6 +26,6 @@ Puts sink old new text held whole =
 abbrev pub Sends : {K : Type 0} → Ghosts K → K → K → List ℕ → Bool → Type 0
 Sends sink old new text whole = Puts sink old new text [] whole
 
--- the sink has passed on all that was written to it, where it tells both
+-- the sink has passed on all that was written to it, if it reports both
 abbrev pub HasFlushed : {K : Type 0} → Ghosts K → K → Type 0
 HasFlushed sink now = IsFlushed (sink.contents now) (sink.flushed now)

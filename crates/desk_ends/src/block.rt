@@ -1,4 +1,4 @@
-//! Text that waits to be sent.
+//! The output buffer.
 ghost use Rattle.cell_core.specs.Cell.{braille_character};
 ghost use Rattle.desk_ends.specs.Block.{AreEncoded, encoded as encoded_lem};
 ghost use Rattle.std.specs.Prelude.{IsTrue, [], encode_utf8, length, ◌+◌, ◌++◌, ◌<◌, ◌≡◌, ◌≤◌, ◌↔◌, ◌∷◌};
@@ -18,7 +18,7 @@ const CELLS: usize = 256;
 /// One byte more than a block holds, since a cell is put as four bytes, the last of which counts for nothing.
 const ROOM: usize = BLOCK_BYTES + 1;
 
-/// Bytes that wait to be sent together, at most `BLOCK_BYTES` of them. Contracts see their list.
+/// Bytes that are to be sent together, at most `BLOCK_BYTES` of them. Contracts see their list.
 #[derive(Drop)]
 pub struct Block {
     bytes: [u8; ROOM],

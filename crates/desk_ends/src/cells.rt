@@ -18,7 +18,7 @@ pub fn send_block<K: Sink>(sink: &mut K, block: &mut Block) -> Result<(), Failed
     send(sink, block.as_slice())
 }
 
-/// Puts the cells, as characters, behind the block, and sends it whenever it is full. Most choices make one cell, so one
+/// Puts the cells, as characters, after the block, and sends it whenever it is full. Most choices make one cell, so one
 /// has a way of its own, without a loop.
 #[inline(always)]
 pub fn put_cells<K: Sink>(sink: &mut K, block: &mut Block, cells: &[Cell]) -> Result<(), Failed>
@@ -44,7 +44,7 @@ fn put_each<K: Sink>(sink: &mut K, block: &mut Block, cells: &[Cell]) -> Result<
     Ok(())
 }
 
-/// Puts a cell, as a character, behind the block, which is sent first if it has no room for one.
+/// Puts a cell, as a character, after the block, which is sent first if it has no room for one.
 #[inline(always)]
 pub fn put_cell<K: Sink>(sink: &mut K, block: &mut Block, cell: Cell) -> Result<(), Failed>
     ensures { Puts K.Sink sink.old sink.new

@@ -9,7 +9,7 @@ use super::line::Line;
 use memchr::memchr;
 use std::marker::Model;
 
-/// Bytes that were read and wait to be used, at most `CHUNK_BYTES` of them. Contracts see their list.
+/// Bytes that were read and not used yet, at most `CHUNK_BYTES` of them. Contracts see their list.
 #[derive(Drop)]
 pub(crate) struct Chunk {
     bytes: [u8; CHUNK_BYTES],
@@ -65,7 +65,7 @@ impl Chunk {
         Ok(count)
     }
 
-    /// Passes the bytes up to the first line feed, with it, on to a line, or all where there is none. Whether there was one.
+    /// Passes the bytes up to the first line feed, with it, on to a line, or all if there is none. Gives whether there was one.
     pub(crate) fn pass_line(&mut self, line: &mut Line) -> bool
         ensures { Passes result self.old self.new line.old line.new }
     {

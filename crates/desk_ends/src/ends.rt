@@ -70,7 +70,7 @@ impl<R: Read> Source for R {
     }
 }
 
-// Any writer is a sink. Its writes can fail, and one that takes no byte has failed. It doesn't tell what
+// Any writer is a sink. Its writes can fail, and one that takes no byte has failed. It doesn't report what
 // its flushes pass on.
 impl<W: Write> Sink for W {
     ghost use Rattle.std.specs.Prelude.{None, ⊤};

@@ -1,4 +1,4 @@
-//! Where bytes come from and where they go, by ends that tell: what is left to read, what was written, what
+//! Where bytes come from and where they go, by ends that report what is left to read, what was written, what
 //! of it is flushed, and whether they can fail.
 //!
 //! ```rust

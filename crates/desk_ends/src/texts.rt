@@ -1,4 +1,4 @@
-//! Sends texts to a sink without memory, and without a second try.
+//! Sends texts to a sink; allocates nothing, and tries nothing twice.
 ghost use Rattle.desk_ends.specs.Sent.{Sends};
 ghost use Rattle.std.specs.List.{flat_map};
 ghost use Rattle.std.specs.Prelude.{is_ok};

@@ -110,13 +110,13 @@ Says sink old new text (Err (Refused fault)) = ⊥
 Says sink old new text (Err Lost) = ⊥
 Says sink old new text (Err Ends) = ((whole : Bool) × Sends sink old new text whole) × sink.can_fail
 
--- the line that tells a version
+-- the line that shows a version
 abbrev pub version_line : ℕ → List ℕ
 version_line version = codes "ok " ++ decimal version ++ 10 ∷ []
 
 -- ---- the actions
 
--- A book without a version is found, or an empty one is made, and this is told. One that has a version stays, and is told.
+-- A book without a version is found, or an empty one is made, and this is reported. One that has a version stays, and is reported.
 pub data Makes {D K : Type 0} (at : Place D) (sink : Sink K) (old new : K)
     (outcome : Outcome) : Type 0 where
   none : (stop : Stop) → FindsNone at true stop → new ≡ old → outcome ≡ Err stop
@@ -126,7 +126,7 @@ pub data Makes {D K : Type 0} (at : Place D) (sink : Sink K) (old new : K)
   made : (book : Book) → Finds at true book → book.version ≡ 0
       → Says sink old new (version_line 0) outcome → Makes at sink old new outcome
 
--- the version of the book is told
+-- the version of the book is shown
 pub data Checks {D K : Type 0} (at : Place D) (sink : Sink K) (old new : K)
     (outcome : Outcome) : Type 0 where
   none : (stop : Stop) → FindsNone at false stop → new ≡ old → outcome ≡ Err stop

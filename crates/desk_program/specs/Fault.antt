@@ -1,4 +1,4 @@
--- When a fault is told, and what is told of it.
+-- When a fault is reported, and how.
 use Rattle.std.specs.Prelude.{◌≡◌, ◌≢◌, ℕ, ◌<◌, ◌⊎◌, ◌++◌, ◌∷◌, [], Bool, List, length, codes, decimal}
 use Rattle.std.specs.Fmt.{signed_decimal}
 use Rattle.std.specs.declared.io.ErrorKind.{ErrorKind}
@@ -17,7 +17,7 @@ use Rattle.desk_program.specs.Shelf.{Shelved, unknown, missing, holds, IsRead, M
 
 -- ---- the fault of a text
 
--- a text is refused as a table by its own line and cause, or for want of memory
+-- a text is refused as a table by its own line and cause, or by a failed allocation
 abbrev pub IsFaultOf : List ℕ → Fault → Type 0
 IsFaultOf text (faults.Table fault) = Bad text fault.line fault.cause
 IsFaultOf text faults.NoMemory = Unit {0}
@@ -37,8 +37,8 @@ read_as reading.NoMemory = faults.NoMemory
 
 -- ---- the fault of a file
 
--- a file can't be opened or read, or is too large, or there is no memory for it; one that is missing
--- is no want of memory
+-- a file can't be opened or read, or is too large, or an allocation for it failed; one that is missing
+-- isn't a failed allocation
 abbrev pub IsOfFile : Type 0 → Shelved → Fault → Type 0
 IsOfFile CanFail shelved (faults.Table fault) = ⊥
 IsOfFile CanFail unknown faults.NoMemory = Unit {0}
@@ -55,7 +55,7 @@ IsOfFile CanFail missing faults.File = Unit {0}
 IsOfFile CanFail (holds bytes) faults.File = CanFail ⊎ (most_file_bytes < length bytes)
 IsOfFile CanFail shelved (faults.Taken version) = ⊥
 
--- an error of the system is want of memory where that is its kind, and else the file's
+-- an error of the system is a failed allocation if that is its kind, and else the file's
 abbrev pub IsIoFault : ErrorKind → Fault → Type 0
 IsIoFault kind fault =
     ((kind ≡ io.OutOfMemory) × (fault ≡ faults.NoMemory))
@@ -63,8 +63,8 @@ IsIoFault kind fault =
 
 -- ---- the fault of a database
 
--- no connection is made: the file isn't there and none is to be made, it can't be opened or is no database, or there is no memory
--- for it, which is never told of one that isn't there
+-- no connection is made: the file isn't there and none is to be made, it can't be opened or isn't a database, or an allocation
+-- failed, which is never reported of one that isn't there
 abbrev pub IsOfDatabase : Type 0 → Shelved → Bool → Fault → Type 0
 IsOfDatabase CanFail shelved make (faults.Table fault) = ⊥
 IsOfDatabase CanFail shelved make faults.NoMemory = MayConnect make shelved
@@ -77,7 +77,7 @@ IsOfDatabase CanFail shelved make faults.BadLayout = ⊥
 IsOfDatabase CanFail shelved make faults.File = CanFail ⊎ (¬ MayConnect make shelved)
 IsOfDatabase CanFail shelved make (faults.Taken version) = ⊥
 
--- an error of the database is want of memory where it says so, and else the file's
+-- an error of the database is a failed allocation if it says so, and else the file's
 abbrev pub IsDatabaseFault : DatabaseError → Fault → Type 0
 IsDatabaseFault error fault =
     ((error ≡ SqliteFailure OutOfMemory) × (fault ≡ faults.NoMemory))
@@ -98,9 +98,9 @@ pub data FaultAt (CanFail : Type 0) (shelf : List ℕ → Shelved) (path : List 
   of_file : path ≢ codes "@en" → IsOfFile CanFail (shelf path) fault
       → FaultAt CanFail shelf path fault
 
--- ---- what is told
+-- ---- what is reported
 
--- a text with a detail behind it
+-- a text with a detail after it
 abbrev pub with_detail : List ℕ → List ℕ → List ℕ
 with_detail text detail = text ++ 32 ∷ detail
 
@@ -119,6 +119,6 @@ fault_text faults.BadLayout = codes "no 97"
 fault_text faults.File = codes "no 98"
 fault_text (faults.Taken version) = with_detail (codes "no 99") (decimal version)
 
--- the line that is told
+-- the line that is shown
 abbrev pub fault_line : Fault → List ℕ
 fault_line fault = codes "braildesk: " ++ fault_text fault ++ 10 ∷ []

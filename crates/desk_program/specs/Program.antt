@@ -28,9 +28,9 @@ use Rattle.desk_program.specs.declared.shelf.Shelf.{Ghosts as Shelf}
 abbrev pub texts_of : List (Bor (List ℕ)) → List (List ℕ)
 texts_of words = map (λ word. word.now) words
 
--- ---- what is told
+-- ---- what is reported
 
--- the text is told, or a beginning of it where telling can fail
+-- the text is shown, or a beginning of it if showing it can fail
 abbrev pub Tells : {E : Type 0} → Sink E → E → E → List ℕ → Type 0
 Tells errors old new text = (whole : Bool) × Sends errors old new text whole
 

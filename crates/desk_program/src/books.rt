@@ -46,7 +46,7 @@ fn read_book<F: Databases + AllocGlobal>(rt: &F, path: &str, make: bool) -> Resu
     Ok(book)
 }
 
-/// Makes the empty book in the file at this path, and tells its version. A book that is there has to be empty.
+/// Makes the empty book in the file at this path, and shows its version. A book that is there has to be empty.
 pub fn make_book<F: Databases + AllocGlobal, K: Sink>(
     rt: &F,
     path: &str,

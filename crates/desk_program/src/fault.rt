@@ -6,16 +6,16 @@ use std::alloc::AllocError;
 use std::io::{Error as IoError, ErrorKind};
 use thiserror::Error;
 
-/// A fault for which the program refuses what is asked. It is told by its number and details, as `no 8 LINE CAUSE`.
+/// A fault for which the program refuses what is asked. It is shown by its number and details, as `no 8 LINE CAUSE`.
 #[derive(Debug, Drop, Error)]
 pub enum Fault {
     /// The table text is bad.
     #[error("no 8 {} {}", .0.line, .0.cause)]
     Table(TableFault),
-    /// There was no memory.
+    /// An allocation failed.
     #[error("no 90")]
     NoMemory,
-    /// The file is no book.
+    /// The file is a database but no book.
     #[error("no 92")]
     NotABook,
     /// The book in the file is damaged.

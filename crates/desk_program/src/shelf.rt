@@ -31,7 +31,7 @@ pub trait Shelf {
             (IsOfFile can_fail (at self.now path.now)) };
 }
 
-// The system's files are a shelf. It doesn't tell what they hold, and opening one can fail.
+// The system's files are a shelf. It doesn't report what they hold, and opening one can fail.
 impl<F: Files> Shelf for F {
     ghost use Rattle.std.specs.Prelude.{⊤};
     ghost use Rattle.desk_program.specs.Shelf.{unknown};
@@ -73,7 +73,7 @@ pub trait Databases: Shelf {
         ensures { closes self.now database };
 }
 
-// The system's files are databases too, of which it doesn't tell what they hold.
+// The system's files are databases too, and it doesn't report what they hold.
 impl Databases for HostRuntime {
     ghost use Rattle.std.specs.Prelude.{⊤};
 

@@ -26,7 +26,7 @@ pub const DONE: u8 = 0;
 /// The exit status where the words are refused.
 pub const OTHER_WORDS: u8 = 1;
 
-/// The exit status where a file, a table, a book or a volume is refused, or there was no memory.
+/// The exit status if a file, a table, a book or a volume is refused, or an allocation failed.
 pub const REFUSED: u8 = 2;
 
 /// The exit status where the file of a book, standard input or standard output failed.
@@ -51,7 +51,7 @@ pub fn program<'a, F: Databases + AllocGlobal, S: Source, K: Sink, E: Sink>(
     ensures words { result ≡ OTHER_WORDS → AreRefused whole (texts_of words.now)
         × ((text : List ℕ) × (text ≢ []) × Tells E.Sink errors.old errors.new text) }
 
-    // What the words ask for is carried out, or something fails in it, which the status alone tells.
+    // What the words ask for is carried out, or something fails in it, which only the status says.
     ensures done { result ≡ DONE → Does
         (files_of F.Shelf F.File.Source F.Database.Store F.connects F.closes rt.now)
         S.Source source.old source.new K.Sink sink.old sink.new (texts_of words.now) (Ok tt) }
@@ -60,7 +60,7 @@ pub fn program<'a, F: Databases + AllocGlobal, S: Source, K: Sink, E: Sink>(
         S.Source source.old source.new K.Sink sink.old sink.new (texts_of words.now) (Err stop) }
     ensures silent { (result ≡ DONE) ⊎ (result ≡ FAILED) → errors.new ≡ errors.old }
 
-    // It is refused, or there is no memory for the words: one line tells the fault.
+    // It is refused, or an allocation for the words failed: one line reports the fault.
     ensures refused { result ≡ REFUSED → (fault : Fault) × ((fault ≡ NoMemory) ⊎ Does
         (files_of F.Shelf F.File.Source F.Database.Store F.connects F.closes rt.now)
         S.Source source.old source.new K.Sink sink.old sink.new (texts_of words.now) (Err (Refused fault)))
@@ -126,7 +126,7 @@ fn show<K: Sink>(sink: &mut K, text: &str) -> Result<(), Stop>
     Ok(sink.flush()?)
 }
 
-/// The exit status of what was carried out, or stopped. A refusal is told.
+/// The exit status of what was carried out, or stopped. A refusal is reported.
 fn end<E: Sink>(errors: &mut E, outcome: Result<(), Stop>) -> u8
     ensures status { (result ≤ FAILED) × (result ≢ OTHER_WORDS) }
     ensures done { result ≡ DONE → outcome ≡ Ok tt }
@@ -151,7 +151,7 @@ pub fn refuse_words<E: Sink>(errors: &mut E, text: &str) -> u8
     OTHER_WORDS
 }
 
-/// Tells why something is refused. A failure to tell it changes nothing.
+/// Reports why something is refused. A failure to report it changes nothing.
 pub fn refuse<E: Sink>(errors: &mut E, fault: &Fault) -> u8
     ensures status { result ≡ REFUSED }
     ensures told { Tells E.Sink errors.old errors.new (fault_line fault.now) }

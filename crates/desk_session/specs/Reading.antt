@@ -21,7 +21,7 @@ abbrev pub feeds : List ℕ → ℕ
 feeds [] = 0
 feeds (b ∷ bytes) = if b == 10 then suc (feeds bytes) else feeds bytes
 
--- a text holds the bytes, or it doesn't since a line of them is too long or memory was refused
+-- a text holds the bytes, or it doesn't since a line of them is too long or an allocation failed
 abbrev pub HoldsText : Result (Vec ℕ Global) Fault → List ℕ → Type 0
 HoldsText (Ok text) bytes = text.items ≡ bytes
 HoldsText (Err Syntax) bytes = ¬ AllByRecursion IsShort (lines_of bytes)

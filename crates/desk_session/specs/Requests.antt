@@ -14,7 +14,7 @@ FirstRequests AtEnd bytes [] = Unit {0}
 FirstRequests AtEnd bytes (request ∷ requests) =
     (later : List ℕ) × (bytes ≡ request ++ later) × IsNext AtEnd later request × FirstRequests AtEnd later requests
 
--- why the bytes of a request were not read: they are none, or memory was wanting
+-- why the bytes of a request were not read: they are none, or an allocation failed
 abbrev pub IsFaultOf : List ℕ → Fault → Type 0
 IsFaultOf bytes Syntax = Tells bytes Syntax
 IsFaultOf bytes NoMemory = AsksForMemory bytes

@@ -68,7 +68,7 @@ IsHonest Lost read ReadsFail WritesFail = Unit {0}
 abbrev pub AllTaken : List Turn → Type 0
 AllTaken turns = AllByRecursion (λ turn. turn.taken ≡ true) turns
 
--- All replies are flushed, but where a write or a flush failed. Where a command was lost, the reply that tells it was taken and is
+-- All replies are flushed, unless a write or a flush failed. If a command was lost, the reply that reports it was taken and is
 -- flushed, or the writer can fail.
 abbrev pub EndsFlushed : Ended → List Turn → (written flushed : Option (List ℕ)) → (WritesFail : Type 0) → Type 0
 EndsFlushed Done turns written flushed WritesFail = (turns ≡ []) ⊎ IsFlushed written flushed
@@ -90,7 +90,7 @@ MayLack Input missing = missing ≡ []
 MayLack Output missing = missing ≡ []
 MayLack Lost missing = length missing ≤ 1
 
--- the trees are a file of the book that the given commands make of the first one, but for what it may lack
+-- the trees are a file of the book that the given commands make from the first one, except what it may lack
 pub record HoldsGiven (l : Layout) (book : Book) (ended : Ended) (given : List Given) (db : Trees) : Type 0 where
   pub kept : List Given
   pub missing : List Given

@@ -26,7 +26,7 @@ abbrev pub IsCommand : List ℕ → Command → Type 0
 IsCommand request command = (expect : Option ℕ) × Reads request (Do command expect)
 
 -- What a request gives by its answer: an accepted command is acknowledged once its whole `ok` line is taken; one that the
--- store lost is given too, but never acknowledged. Refused commands, those that memory refused, queries and what is no
+-- store lost is given too, but never acknowledged. Refused commands, those for which an allocation failed, queries and what isn't a
 -- request give nothing.
 abbrev pub Gives : Turn → Answer → List Given → Type 0
 Gives turn (Done number) given =
@@ -73,7 +73,7 @@ pub record IsHeld (book : Book) (turns : List Turn) (given : List Given) (last :
   pub which : ((¬ EndsLost turns) × (lost ≡ [])) ⊎ (EndsLost turns × (length lost ≡ 1))
   pub after : After book (commands_of held) last
 
--- all of these were acknowledged, but for the last one at most
+-- all of these were acknowledged, except the last one at most
 pub record AllButOne (given : List Given) : Type 0 where
   pub sure : List Given
   pub more : List Given

@@ -32,7 +32,7 @@ HoldsHead line found.Head = IsSome line
 HoldsHead line (found.Whole text) = Unit {0}
 HoldsHead line (found.Fault fault) = Unit {0}
 
--- a command was lost: whatever a crash leaves holds the book, or what the command makes of it
+-- a command was lost: whatever a crash leaves holds the book, or the next one that the command makes
 pub record LeavesLost (l : Layout) (request : List ℕ) (book : Book) (s : State) : Type 0 where
   pub command : Command
   pub made : Book

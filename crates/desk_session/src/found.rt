@@ -19,7 +19,7 @@ use desk_store::Store;
 use sqlite::{Alter, Connection};
 
 /// Whatever a crash leaves after a session, however that ended: where a connection opened at it and the book is opened, the book after the
-/// first of the commands that the session gave is found, with all that were acknowledged and at most one more, or no refusal is told. The
+/// first of the commands that the session gave is found, with all that were acknowledged and at most one more, or no refusal is reported. The
 /// next session may begin with that book, where a crash of the new connection leaves just what it shows.
 pub fn opened_after_a_session<S: Alter, T: Alter>(
     last: &Store<S>,

@@ -54,7 +54,7 @@ pub fn kept_parts()
 
 /// The life of a book, over any number of sessions, however each of them was stopped: the book found last is the one
 /// after the commands that the sessions kept, of one that began empty too. What a session kept has each acknowledged
-/// command where it was given, and all that was kept was acknowledged, but for one command at most.
+/// command where it was given, and all that was kept was acknowledged, except one command at most.
 pub fn life()
     ensures found { (book found : Book) (sessions : List Lived)
         → IsLife book sessions found → After book (kept_commands sessions) found }

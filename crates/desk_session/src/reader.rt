@@ -15,7 +15,7 @@ pub(crate) enum Found {
     Head,
     /// It has lines after its head line.
     Whole(Vec<u8>),
-    /// It was read through: it is no request, or no memory was found for it.
+    /// It was read through: it isn't a request, or an allocation for it failed.
     Fault(Fault),
 }
 
@@ -35,7 +35,7 @@ fn copy_line(alloc: Global, line: &[u8]) -> Result<Vec<u8>, Fault>
     Ok(Vec::from_slice(alloc, line)?)
 }
 
-/// Bytes with a line after them. With a line that is too long they are no request, and no more of them is held.
+/// Bytes with a line after them. With a line that is too long they aren't a request, and no more of them is kept.
 fn add_line(text: Result<Vec<u8>, Fault>, line: &Line) -> Result<Vec<u8>, Fault>
     ensures holds { (bytes more : List ℕ) → EndsLine bytes → IsLine more
         → HoldsText text bytes → line.now ≡ kept more → HoldsText result (bytes ++ more) }
@@ -70,8 +70,8 @@ impl Reader {
         }
     }
 
-    /// Reads the next request, if there is one. A line that is too long is read through, and so is what no memory is found
-    /// for.
+    /// Reads the next request, if there is one. A line that is too long is read through, and so is one for which an allocation
+    /// fails.
     pub(crate) fn read<S: Source>(
         &mut self,
         alloc: Global,

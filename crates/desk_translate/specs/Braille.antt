@@ -6,7 +6,7 @@ use Rattle.desk_ends.specs.Cells.{text_of}
 use Rattle.desk_ends.specs.Sent.{Puts}
 use Rattle.desk_ends.specs.declared.ends.Sink.{Ghosts}
 
--- some first pieces of those that were left are taken, and their cells went behind the block to the sink so
+-- some first pieces of those that were left are taken, and their cells went after the block to the sink so
 pub record PutsFirst {K : Type 0} (sink : Ghosts K) (old new : K) (block held : List ℕ) (left others : List Made) (whole : Bool) : Type 0 where
   pub taken : List Made
   pub parts : left ≡ taken ++ others

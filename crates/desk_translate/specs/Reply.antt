@@ -22,7 +22,7 @@ most_characters = 4000
 abbrev pub refusal : ℕ → List ℕ
 refusal code = codes "no " ++ decimal code
 
--- a refusal that tells a place, from 0
+-- a refusal with a place, from 0
 abbrev pub refusal_at : ℕ → ℕ → List ℕ
 refusal_at code place = refusal code ++ 32 ∷ decimal place
 
@@ -40,7 +40,7 @@ pub data AnswersPrint (meaning : Meaning) (print answer : List ℕ) : Type 0 whe
 abbrev pub IsText : List ℕ → Type 0
 IsText line = (length line ≤ most_line_bytes) × IsUtf8 line
 
--- what is answered to a line: no 1 where it is no text, else no 14 where its characters are too many,
+-- what is answered to a line: no 1 if it isn't a text, else no 14 if it has too many characters,
 -- else what is answered to its print
 pub data IsAnswer (meaning : Meaning) (line answer : List ℕ) : Type 0 where
   no_text : ¬ IsText line → answer ≡ refusal 1 → IsAnswer meaning line answer

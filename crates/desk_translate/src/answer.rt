@@ -28,7 +28,7 @@ pub enum Refusal {
 pub struct Workspace {
     /// The print of the line.
     print: Print,
-    /// The braille that waits to be sent.
+    /// The output buffer of the braille.
     block: Block,
 }
 
@@ -104,7 +104,7 @@ impl Workspace {
     }
 }
 
-/// Reads a line as print whose characters are all defined, or tells why it is refused. Nothing goes out before.
+/// Reads a line as print whose characters are all defined, or says why it is refused. Nothing goes out before.
 fn read_print<B: RuleBook>(print: &mut Print, book: &B, line: &[u8]) -> Result<(), Refusal>
     ensures { MatchResult result
         (λ _. IsPrint (B.meaning book.now) line.now × (print.new ≡ chars line.now))

@@ -28,8 +28,8 @@ pub fn send_braille<K: Sink, B: RuleBook>(
     send_block(sink, block)
 }
 
-/// Puts the braille of a print behind the block: the run of lone cells that it begins with, and then each piece that
-/// is no lone cell, with the run after it.
+/// Puts the braille of a print after the block: the run of lone cells that it begins with, and then each piece that
+/// isn't a lone cell, with the run after it.
 fn put_print<K: Sink, B: RuleBook>(
     sink: &mut K,
     block: &mut Block,

@@ -52,7 +52,7 @@ impl Print {
         &self.characters[..self.len]
     }
 
-    /// Takes the characters of a text in place of its own, if they are not too many, and tells the place of the first that
+    /// Takes the characters of a text in place of its own, if there are not too many, and gives the place of the first that
     /// the table of a book doesn't define, if there is one.
     pub fn read<B: RuleBook>(
         &mut self,

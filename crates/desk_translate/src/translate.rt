@@ -1,4 +1,4 @@
-//! Answers an input line by line, without memory.
+//! Answers an input line by line, and allocates nothing.
 ghost use Rattle.desk_translate.specs.NextLine.{TakesLine};
 ghost use Rattle.desk_translate.specs.Run.{AnswersBeginning, Ran};
 
@@ -19,7 +19,7 @@ pub enum Ended {
 
 /// Answers each line of the source by a line: its braille by a rule book, or why there is none.
 ///
-/// A line feed ends a line, and one carriage return before it is no part of the line. Bytes after the
+/// A line feed ends a line, and one carriage return before it isn't part of the line. Bytes after the
 /// last line feed are a line too. What is answered is flushed before each read and at the end. A read, a
 /// write or a flush that fails, in any way, isn't tried again, and a write that takes no byte has failed.
 pub fn translate_lines<S: Source, K: Sink, B: RuleBook>(

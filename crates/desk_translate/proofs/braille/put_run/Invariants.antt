@@ -5,7 +5,7 @@ use Rattle.desk_ends.specs.Cells.{text_of}
 use Rattle.desk_ends.proofs.Sending.{Sending}
 use Rattle.desk_translate.proofs.braille.put_run.Given as goal
 
--- the cells of what was taken went behind the block
+-- the cells of what was taken went after the block
 abbrev pub invariant-loop-cell : goal.invariant-loop-cell
 invariant-loop-cell g l = record {
   taken : List Made;

@@ -3,7 +3,7 @@ use Rattle.std.proofs.lemmas.List.{length-set, length-take, take-set-le, take_mo
 use Rattle.desk_ends.proofs.Encoding.{encode-braille_character}
 use Rattle.desk_ends.proofs.block.Block.push_cell.Goals as goal
 
--- three elements behind the first n
+-- three elements after the first n
 take_three_set : (xs : List ℕ) (n a b c : ℕ) → n + 3 ≤ length xs → take (n + 3) (set (set (set xs n a) (n + 1) b) (n + 2) c) ≡ take n xs ++ (a ∷ b ∷ c ∷ [])
 take_three_set xs n a b c h =
     let one = set xs n a in
