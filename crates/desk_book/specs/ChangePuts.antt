@@ -1,5 +1,5 @@
 -- What a change puts into the rows of its book's file.
-use Rattle.std.specs.Prelude.{ℕ, ◌+◌, ◌-◌, ◌≤◌, ◌==◌, ℤ, pos, Bool, false, if◌then◌else◌, min, List, [], ◌∷◌, length, map, drop, slice_get, Option, Some, None, option_map, unwrap_or, encode_utf8_all}
+use Rattle.std.specs.Prelude.{◌≡◌, ℕ, ◌+◌, ◌-◌, ◌≤◌, ◌==◌, ℤ, pos, Bool, false, if◌then◌else◌, min, List, [], ◌∷◌, length, map, drop, slice_get, Option, Some, None, option_map, unwrap_or, encode_utf8_all}
 use Rattle.std.specs.List.{All, Contains, enumerate_from, flat_map}
 use Rattle.std.specs.Option.{option_map_or}
 use Rattle.desk_book.specs.declared.change.Effect.{Effect}
