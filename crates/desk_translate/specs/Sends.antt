@@ -1,5 +1,5 @@
 -- What goes to a sink: the answer to a line, and to the last one.
-use Rattle.std.specs.Prelude.{ℕ, List, [], ◌∷◌, ◌++◌, Bool}
+use Rattle.std.specs.Prelude.{◌≡◌, ℕ, List, [], ◌∷◌, ◌++◌, Bool}
 use Rattle.desk_ends.specs.declared.ends.Sink.{Ghosts}
 use Rattle.desk_ends.specs.Lines.{without_ending}
 use Rattle.desk_ends.specs.Sent.{Sends}
@@ -11,7 +11,12 @@ abbrev pub SendsLine : {K : Type 0} → Ghosts K → K → K → Meaning → Lis
 SendsLine sink old new meaning line whole =
     (answer : List ℕ) → IsAnswer meaning line answer → Sends sink old new (answer ++ 10 ∷ []) whole
 
--- what is left at the end of the input goes out so, if it has a byte
+-- what is answered to what is left at the end of the input, with a line feed: nothing where no byte is left
+abbrev pub IsLastAnswer : Meaning → List ℕ → List ℕ → Type 0
+IsLastAnswer meaning [] text = text ≡ []
+IsLastAnswer meaning (b ∷ bytes) text =
+    (answer : List ℕ) × IsAnswer meaning (without_ending (b ∷ bytes)) answer × (text ≡ answer ++ 10 ∷ [])
+
+-- it goes out
 abbrev pub SendsLast : {K : Type 0} → Ghosts K → K → K → Meaning → List ℕ → Bool → Type 0
-SendsLast sink old new meaning [] whole = Sends sink old new [] whole
-SendsLast sink old new meaning (b ∷ bytes) whole = SendsLine sink old new meaning (without_ending (b ∷ bytes)) whole
+SendsLast sink old new meaning bytes whole = (text : List ℕ) → IsLastAnswer meaning bytes text → Sends sink old new text whole
