@@ -14,6 +14,7 @@ gate='
 toolchain rt
 command   bash            bash
 command   awk             mawk
+command   git             git
 command   sqlite3         sqlite3
 command   valgrind        valgrind
 command   dpkg-deb        dpkg

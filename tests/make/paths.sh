@@ -5,6 +5,7 @@
 # NAME and other words in capitals stand for any name, and a * for any characters. What is built isn't looked for.
 set -eu
 cd "$(dirname "$0")/../.."
+tests/needs.sh git
 export LC_ALL=C.UTF-8
 scratch=$(mktemp -d); trap 'rm -rf "$scratch"' EXIT
 git ls-files > "$scratch/files"
