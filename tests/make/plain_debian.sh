@@ -1,7 +1,7 @@
 #!/bin/bash
 # Installs the package in a plain Debian, as a new user would: what README.md, docs/TUTORIAL.md and docs/DESK.md show is typed there, and
 # compared; then the package is removed, and nothing of it is left but a book. lintian looks at the package first.
-#   tests/make/plain_debian.sh     as root; MIRROR (http://deb.debian.org/debian): where Debian's packages are
+#   tests/make/plain_debian.sh     as root; MIRROR: where Debian's packages are (where debootstrap looks by itself)
 # It isn't part of the gate: it fetches a plain Debian by debootstrap, which takes minutes. PROGRAM is the program (build/braildesk).
 set -eu
 cd "$(dirname "$0")/../.."
@@ -17,7 +17,7 @@ lintian --tag-display-limit 0 "$package" > "$scratch/tags" || true
 cat "$scratch/tags"
 ! grep '^E:' "$scratch/tags" | grep -v license || fail 'lintian finds an error in the package'
 
-debootstrap --variant=minbase bookworm "$plain" "${MIRROR:-http://deb.debian.org/debian}" > "$scratch/log" 2>&1 ||
+debootstrap --variant=minbase bookworm "$plain" ${MIRROR:+"$MIRROR"} > "$scratch/log" 2>&1 ||
     { tail "$scratch/log" >&2; fail 'there is no plain Debian'; }
 mount --bind /proc "$plain/proc" && trap 'umount "$plain/proc"; rm -rf "$scratch"' EXIT
 list() { (cd "$plain" && find . -xdev \( -path ./proc -o -path ./var -o -path ./home -o -path ./tmp \) -prune -o -type f -print | sort); }
