@@ -1,6 +1,6 @@
 -- What a change puts into the rows of its book's file.
-use Rattle.std.specs.Prelude.{◌≡◌, ℕ, ◌+◌, ◌-◌, ◌≤◌, ◌==◌, ℤ, pos, Bool, false, if◌then◌else◌, min, List, [], ◌∷◌, length, map, drop, slice_get, Option, Some, None, option_map, unwrap_or, encode_utf8_all}
-use Rattle.std.specs.List.{All, Contains, enumerate_from, flat_map}
+use Rattle.std.specs.Prelude.{ℕ, ◌+◌, ◌-◌, ◌≤◌, ◌==◌, pos, Bool, false, if◌then◌else◌, List, [], ◌∷◌, length, map, drop, slice_get, Option, Some, None, encode_utf8_all}
+use Rattle.std.specs.List.{All, enumerate_from, flat_map}
 use Rattle.std.specs.Option.{option_map_or}
 use Rattle.desk_book.specs.declared.change.Effect.{Effect}
 use Rattle.desk_book.specs.declared.change.Effect.TheVariants as effect
@@ -9,20 +9,15 @@ use Rattle.desk_book.specs.declared.history.KeptEntry.TheVariants.{Corrects, Und
 use Rattle.desk_book.specs.declared.marks.KeptMark.{KeptMark}
 use Rattle.desk_book.specs.declared.paragraphs.Paragraph.{Paragraph as KeptParagraph}
 use Rattle.desk_book.specs.declared.tables.BookTable.{BookTable}
-use Rattle.desk_book.specs.Book.{Book, Mark, paragraph_of}
-use Rattle.desk_parts.specs.declared.file_table.FileTable.TheVariants.{NamedCorr as NamedCorrTable}
-use Rattle.desk_parts.specs.FileRows.{FileRows, table_of}
-use Rattle.desk_book.specs.Limits.{most_print}
-use Rattle.desk_book.specs.Marks.{mark_moved_by}
-use Rattle.desk_book.specs.ParagraphMarks.{marks_on}
-use Rattle.desk_parts.specs.Puts.{PutCache, PutEntry, PutMark, PutPara, PutTab, RowPut, SetFlags, SetPlace, SetPrint, SetResolved, SetSpan, SetTable, with_puts}
+use Rattle.desk_model.specs.Book.{Book, Mark}
+use Rattle.desk_model.specs.Limits.{most_print}
+use Rattle.desk_model.specs.Marks.{mark_moved_by}
+use Rattle.desk_model.specs.ParagraphMarks.{marks_on}
+use Rattle.desk_parts.specs.Puts.{PutCache, PutEntry, PutMark, PutPara, PutTab, RowPut, SetFlags, SetPlace, SetPrint, SetResolved, SetSpan, SetTable}
 use Rattle.desk_parts.specs.Rows.{Mark as MarkRow, NamedCorr, Para}
-use Rattle.desk_book.specs.Shows.{Shows, flag_number, style_number}
-use Rattle.desk_book.specs.Step.{next_id, next_mark}
-
--- the number, or the greatest of 64 bits with a sign in place of one above it
-abbrev pub row_number : ℕ → ℤ
-row_number n = pos (min n 9223372036854775807)
+use Rattle.desk_model.specs.Shows.{flag_number, style_number}
+use Rattle.desk_model.specs.Step.{next_id, next_mark}
+use Rattle.desk_model.specs.Lent.{next_entry_number, row_number}
 
 -- the entry with this number in the history of the paragraph with this id
 abbrev pub entry_row : (id seq : ℕ) → KeptEntry → NamedCorr
@@ -114,10 +109,6 @@ tab_put name table = PutTab (record { name = encode_utf8_all name; body = table.
 abbrev pub cache_put : ℕ → List ℕ → RowPut
 cache_put id cells = PutCache (record { para = row_number id; cells = cells })
 
--- the number of the next entry in the history of the paragraph with this id
-abbrev pub next_entry_number : Book → ℕ → ℕ
-next_entry_number book id = unwrap_or (option_map (λ paragraph. length paragraph.history + 1) (paragraph_of book id)) 1
-
 -- what the effect puts beside the version
 abbrev pub effect_puts : Book → Effect → List RowPut
 effect_puts book (effect.AddTable name table room) = tab_put name table ∷ []
@@ -136,12 +127,3 @@ effect_puts book (effect.SetFlags id style begins struck) =
 effect_puts book (effect.ChangeTable id table cells) =
     SetTable (row_number id) (encode_utf8_all table) ∷ cache_put id cells ∷ []
 effect_puts book (effect.Reorder order) = elsewhere_from 0 (map (λ other. other.id) book.paragraphs) order
-
--- the rows have the table of entries with names, where one is put
-abbrev pub TakesEntries : FileRows → List RowPut → Type 0
-TakesEntries rows puts = (row : NamedCorr) → Contains puts (PutEntry row) → table_of rows.entries ≡ NamedCorrTable
-
--- Put into any rows that show the book, and that take the entries among them, they make rows that show the next. A row of
--- `cache` is put only where that is there.
-abbrev pub LeadTo : Book → List RowPut → Book → Type 0
-LeadTo book puts next = (rows : FileRows) → Shows rows book → TakesEntries rows puts → Shows (with_puts puts rows) next

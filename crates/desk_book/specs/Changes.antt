@@ -14,19 +14,20 @@ use Rattle.desk_command.specs.declared.command.Anchor.{Anchor}
 use Rattle.desk_command.specs.declared.command.Command.{Command}
 use Rattle.desk_command.specs.declared.command.Command.TheVariants.{Table, TypeIn, Retable, Move}
 use Rattle.desk_book.specs.declared.paragraphs.Paragraph.{Paragraph as KeptParagraph}
-use Rattle.desk_book.specs.Book.{Book, Paragraph, text_of, paragraph_of}
-use Rattle.desk_book.specs.ChangePuts.{effect_puts, row_number}
+use Rattle.desk_model.specs.Book.{Book, Paragraph, text_of, paragraph_of}
+use Rattle.desk_book.specs.ChangePuts.{effect_puts}
+use Rattle.desk_model.specs.Lent.{row_number}
 use Rattle.desk_book.specs.Histories.{HaveTaken, TookFrom, entry_kept}
 use Rattle.desk_book.specs.Kept.{mark_kept, new_cells, paragraph_kept}
-use Rattle.desk_book.specs.Limits.{most_entries, most_marks, most_paragraphs, most_print}
-use Rattle.desk_book.specs.Marks.{mark_moved_by}
-use Rattle.desk_book.specs.ParagraphMarks.{marks_on}
+use Rattle.desk_model.specs.Limits.{most_entries, most_marks, most_paragraphs, most_print}
+use Rattle.desk_model.specs.Marks.{mark_moved_by}
+use Rattle.desk_model.specs.ParagraphMarks.{marks_on}
 use Rattle.desk_parts.specs.Puts.{RowPut, SetVersion}
-use Rattle.desk_book.specs.Print.{print_of, with_entry}
-use Rattle.desk_book.specs.Refusals.{IsAccepted}
+use Rattle.desk_model.specs.Print.{print_of, with_entry}
+use Rattle.desk_model.specs.Refusals.{IsAccepted}
 use Rattle.desk_book.specs.Room.{Suffices}
-use Rattle.desk_book.specs.Step.{HasCharacters, Makes, next_id, next_mark, next_with_entry, next_with_marks, next_with_paragraphs, number_of, typed, with_change, with_resolved}
-use Rattle.desk_book.specs.Stored.{stored}
+use Rattle.desk_model.specs.Step.{HasCharacters, Makes, next_id, next_mark, next_with_entry, next_with_marks, next_with_paragraphs, number_of, typed, with_change, with_resolved}
+use Rattle.desk_model.specs.Stored.{stored}
 
 -- the cells are the braille of the print by this meaning
 abbrev pub AreCellsOf : Meaning → (print cells : List ℕ) → Type 0

@@ -11,10 +11,10 @@ use Rattle.desk_book.specs.declared.paragraphs.Paragraph.{Paragraph as KeptParag
 use Rattle.desk_command.specs.declared.refusal.Limit.TheVariants.{Entries, Version}
 use Rattle.desk_command.specs.declared.refusal.Refusal.{Refusal}
 use Rattle.desk_command.specs.declared.refusal.Refusal.TheVariants.{Full, NoMemory, NoParagraph, Struck, TooLong, Undefined}
-use Rattle.desk_book.specs.Book.{Book, Paragraph, paragraph_of}
+use Rattle.desk_model.specs.Book.{Book, Paragraph, paragraph_of}
 use Rattle.desk_book.specs.Changes.{AreCellsOf}
-use Rattle.desk_book.specs.Limits.{most_entries, most_print, most_version}
-use Rattle.desk_book.specs.Print.{replaced}
+use Rattle.desk_model.specs.Limits.{most_entries, most_print, most_version}
+use Rattle.desk_model.specs.Print.{replaced}
 use Rattle.desk_book.specs.Room.{Suffices}
 use Rattle.desk_command.specs.Characters.{AreCharacters}
 

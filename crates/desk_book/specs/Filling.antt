@@ -5,7 +5,7 @@ use Rattle.desk_book.specs.declared.history.KeptEntry.{KeptEntry}
 use Rattle.desk_book.specs.declared.paragraphs.Paragraph.{Paragraph as KeptParagraph}
 use Rattle.desk_book.specs.ChangePuts.{cache_put, entry_row}
 use Rattle.desk_book.specs.Kept.{KeptParagraphs}
-use Rattle.desk_book.specs.Limits.{most_entries, most_paragraphs}
+use Rattle.desk_model.specs.Limits.{most_entries, most_paragraphs}
 use Rattle.desk_parts.specs.Puts.{PutEntry, RowPut, RowPuts}
 
 -- the entry with this number in the history of the paragraph with this id

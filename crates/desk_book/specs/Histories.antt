@@ -3,8 +3,8 @@ use Rattle.std.specs.Prelude.{◌≡◌, ℕ, ◌-◌, ◌<◌, List, length, ma
 use Rattle.desk_book.specs.declared.history.Correction.{Correction}
 use Rattle.desk_book.specs.declared.history.KeptEntry.{KeptEntry}
 use Rattle.desk_book.specs.declared.history.KeptEntry.TheVariants.{Corrects as KeptCorrects, Undoes as KeptUndoes}
-use Rattle.desk_book.specs.Book.{Replacement, Entry, Corrects, Undoes}
-use Rattle.desk_book.specs.Print.{corrected, newest}
+use Rattle.desk_model.specs.Book.{Replacement, Entry, Corrects, Undoes}
+use Rattle.desk_model.specs.Print.{corrected, newest}
 
 -- what a kept correction does: it took as many characters as it has of them
 abbrev pub replacement_kept : Correction → Replacement

@@ -1,9 +1,11 @@
 -- What is told where the rows of a table are not those of a book.
 use Rattle.std.specs.Prelude.{◌≡◌, ℤ, List, Option, Some, ⊤}
 use Rattle.desk_parts.specs.declared.file_table.FileTable.{FileTable}
-use Rattle.desk_book.specs.declared.damage.PartsFault.{PartsFault}
-use Rattle.desk_book.specs.declared.damage.PartsFault.TheVariants.{Damaged, NoMemory}
-use Rattle.desk_book.specs.Damage.{IsDamagedCache}
+use Rattle.desk_model.specs.declared.fault.PartsFault.{PartsFault}
+use Rattle.desk_model.specs.declared.fault.PartsFault.TheVariants.{Damaged, NoMemory}
+use Rattle.desk_book.specs.declared.damage.RowsFault.{RowsFault}
+use Rattle.desk_book.specs.declared.damage.RowsFault.TheVariants as rows_fault
+use Rattle.desk_model.specs.Damage.{IsDamagedCache}
 use Rattle.desk_book.specs.Judged.{IsFirstId}
 use Rattle.desk_parts.specs.Rows.{Cached, Para, Tab}
 
@@ -15,3 +17,8 @@ TellsDamageOf table damaged NoMemory = ⊤
 -- there are rows of braille, and this is a damaged id of them
 abbrev pub IsDamagedBraille : List Tab → List Para → Option (List Cached) → ℤ → Type 0
 IsDamagedBraille tabs paras cache id = (caches : List Cached) × (cache ≡ Some caches) × IsDamagedCache tabs paras caches id
+
+-- the fault of the parts whose rows of this table weren't taken
+abbrev pub fault_in : FileTable → RowsFault → PartsFault
+fault_in table (rows_fault.Damaged id) = Damaged table id
+fault_in table rows_fault.NoMemory = NoMemory

@@ -12,14 +12,14 @@ use Rattle.desk_book.specs.declared.paragraphs.Paragraph.{Paragraph as KeptParag
 use Rattle.desk_book.specs.declared.damage.RowsFault.{RowsFault}
 use Rattle.desk_book.specs.declared.damage.RowsFault.TheVariants.{Damaged, NoMemory}
 use Rattle.desk_book.specs.Changes.{AreCellsOf}
-use Rattle.desk_book.specs.Damage.{IsItsTable, IsPrintText, IsSoundEntryRow, history_of}
+use Rattle.desk_model.specs.Damage.{IsItsTable, IsPrintText, IsSoundEntryRow, history_of}
 use Rattle.desk_parts.specs.FileRows.{HasParaTexts, HasTabText, spelled_mark, spelled_tab}
 use Rattle.desk_book.specs.Histories.{HaveTaken, entries_kept}
 use Rattle.desk_book.specs.Kept.{KeptTables, marks_kept}
 use Rattle.desk_book.specs.KeptMarks.{indexes_on}
-use Rattle.desk_book.specs.Print.{corrected}
+use Rattle.desk_model.specs.Print.{corrected}
 use Rattle.desk_parts.specs.Rows.{Mark as MarkRow, NamedCorr, Para, Tab}
-use Rattle.desk_book.specs.Shows.{flag_number, mark_row_of, style_number, tab_of}
+use Rattle.desk_model.specs.Shows.{flag_number, mark_row_of, style_number, tab_of}
 
 -- ---- what is told
 

@@ -5,7 +5,7 @@ use Rattle.std.specs.Ordering.{int_eq}
 use Rattle.desk_book.specs.declared.paragraphs.Paragraph.{Paragraph as KeptParagraph}
 use Rattle.desk_book.specs.declared.damage.RowsFault.{RowsFault}
 use Rattle.desk_book.specs.declared.damage.RowsFault.TheVariants.{Damaged}
-use Rattle.desk_book.specs.Damage.{IsWithin}
+use Rattle.desk_model.specs.Damage.{IsWithin}
 use Rattle.desk_book.specs.JudgedHistory.{CanBeRead, HasRead}
 use Rattle.desk_parts.specs.Rows.{NamedCorr}
 

@@ -6,14 +6,14 @@ use Rattle.desk_book.specs.declared.history.KeptEntry.{KeptEntry}
 use Rattle.desk_book.specs.declared.judged_history.Next.{Next}
 use Rattle.desk_book.specs.declared.judged_history.Reading.{Reading}
 use Rattle.desk_book.specs.declared.paragraphs.Paragraph.{Paragraph as KeptParagraph}
-use Rattle.desk_book.specs.Book.{Entry}
+use Rattle.desk_model.specs.Book.{Entry}
 use Rattle.desk_book.specs.Corrected.{replaced_by}
-use Rattle.desk_book.specs.Damage.{IsSoundCorrection, IsSoundEntryRow, IsSoundUndo, entry_of, history_of}
+use Rattle.desk_model.specs.Damage.{IsSoundCorrection, IsSoundEntryRow, IsSoundUndo, entry_of, history_of}
 use Rattle.desk_book.specs.Histories.{HaveTaken, TookFrom, entries_kept, entry_kept}
-use Rattle.desk_book.specs.Limits.{most_entries, most_print}
-use Rattle.desk_book.specs.Print.{corrected}
+use Rattle.desk_model.specs.Limits.{most_entries, most_print}
+use Rattle.desk_model.specs.Print.{corrected}
 use Rattle.desk_parts.specs.Rows.{NamedCorr}
-use Rattle.desk_book.specs.Sound.{AreSoundEntries, IsSoundEntry}
+use Rattle.desk_model.specs.Sound.{AreSoundEntries, IsSoundEntry}
 use Rattle.desk_command.specs.Characters.{AreCharacters}
 
 -- ---- one row

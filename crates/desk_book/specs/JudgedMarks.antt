@@ -7,11 +7,11 @@ use Rattle.desk_book.specs.declared.marks.KeptMark.{KeptMark}
 use Rattle.desk_book.specs.declared.paragraphs.Paragraph.{Paragraph as KeptParagraph}
 use Rattle.desk_book.specs.declared.damage.RowsFault.{RowsFault}
 use Rattle.desk_book.specs.declared.damage.RowsFault.TheVariants.{Damaged, NoMemory}
-use Rattle.desk_book.specs.Damage.{IsFlag}
-use Rattle.desk_book.specs.Limits.{most_marks, most_note}
+use Rattle.desk_model.specs.Damage.{IsFlag}
+use Rattle.desk_model.specs.Limits.{most_marks, most_note}
 use Rattle.desk_parts.specs.Rows.{Mark as MarkRow}
-use Rattle.desk_book.specs.Shows.{flag_number}
-use Rattle.desk_book.specs.Stored.{IsUnbarred}
+use Rattle.desk_model.specs.Shows.{flag_number}
+use Rattle.desk_model.specs.Stored.{IsUnbarred}
 
 -- the rows stand in the order of their ids
 abbrev pub AreInOrder : List MarkRow → Type 0

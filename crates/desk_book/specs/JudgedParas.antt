@@ -10,11 +10,11 @@ use Rattle.desk_book.specs.declared.paragraphs.Paragraph.{Paragraph as KeptParag
 use Rattle.desk_book.specs.declared.damage.RowsFault.{RowsFault}
 use Rattle.desk_book.specs.declared.damage.RowsFault.TheVariants.{Damaged, NoMemory}
 use Rattle.desk_book.specs.declared.tables.BookTable.{BookTable}
-use Rattle.desk_book.specs.Damage.{IsFlag, IsPrintText, IsWithin}
+use Rattle.desk_model.specs.Damage.{IsFlag, IsPrintText, IsWithin}
 use Rattle.desk_parts.specs.FileRows.{HasParaTexts}
 use Rattle.desk_book.specs.Judged.{IsOf}
 use Rattle.desk_book.specs.Kept.{KeptTables}
-use Rattle.desk_book.specs.Limits.{most_paragraphs}
+use Rattle.desk_model.specs.Limits.{most_paragraphs}
 use Rattle.desk_parts.specs.Rows.{Para}
 
 -- the rows stand in the order of their ids

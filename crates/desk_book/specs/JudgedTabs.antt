@@ -10,13 +10,13 @@ use Rattle.louis_table.specs.Meaning.{Meaning}
 use Rattle.louis_table.specs.Table.{Means}
 use Rattle.desk_book.specs.declared.damage.RowsFault.{RowsFault}
 use Rattle.desk_book.specs.declared.damage.RowsFault.TheVariants.{Damaged, NoMemory}
-use Rattle.desk_book.specs.Damage.{IsSoundTabRow}
+use Rattle.desk_model.specs.Damage.{IsSoundTabRow}
 use Rattle.desk_parts.specs.FileRows.{HasTabText, spelled_tab}
 use Rattle.desk_book.specs.Kept.{KeptTables}
-use Rattle.desk_book.specs.Limits.{most_tables}
-use Rattle.desk_book.specs.Name.{IsTableName}
+use Rattle.desk_model.specs.Limits.{most_tables}
+use Rattle.desk_model.specs.Name.{IsTableName}
 use Rattle.desk_parts.specs.Rows.{StoredTab, Tab}
-use Rattle.desk_book.specs.Shows.{tab_of}
+use Rattle.desk_model.specs.Shows.{tab_of}
 
 abbrev pub rows_of : List StoredTab → List Tab
 rows_of rows = map (λ stored. stored.row) rows

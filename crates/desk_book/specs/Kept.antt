@@ -17,13 +17,13 @@ use Rattle.desk_command.specs.declared.command.Anchor.TheVariants.{Front, End, P
 use Rattle.desk_book.specs.declared.tables.BookTable.{BookTable}
 use Rattle.desk_book.specs.declared.marks.KeptMark.{KeptMark}
 use Rattle.desk_book.specs.declared.paragraphs.Paragraph.{Paragraph as KeptParagraph}
-use Rattle.desk_book.specs.Book.{Book, Mark, Paragraph}
+use Rattle.desk_model.specs.Book.{Book, Mark, Paragraph}
 use Rattle.desk_book.specs.Histories.{HaveTaken, entries_kept}
 use Rattle.desk_book.specs.KeptMarks.{indexes_on}
-use Rattle.desk_book.specs.Limits.{most_paragraphs}
-use Rattle.desk_book.specs.Print.{print_of}
-use Rattle.desk_book.specs.Sound.{IsSound}
-use Rattle.desk_book.specs.Step.{is_after}
+use Rattle.desk_model.specs.Limits.{most_paragraphs}
+use Rattle.desk_model.specs.Print.{print_of}
+use Rattle.desk_model.specs.Sound.{IsSound}
+use Rattle.desk_model.specs.Step.{is_after}
 
 -- tables by name, in the order of the names
 abbrev pub KeptTables : Type 0

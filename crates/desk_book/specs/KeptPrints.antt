@@ -4,7 +4,7 @@ use Rattle.std.specs.Map.{lookup}
 use Rattle.desk_book.specs.declared.change.PrintChange.{PrintChange}
 use Rattle.desk_book.specs.declared.paragraphs.Paragraph.{Paragraph as KeptParagraph}
 use Rattle.desk_book.specs.Kept.{KeptParagraphs}
-use Rattle.desk_book.specs.Limits.{most_entries}
+use Rattle.desk_model.specs.Limits.{most_entries}
 use Rattle.desk_book.specs.Room.{Suffices}
 
 -- the kept paragraph with another print, its cells, and one entry more

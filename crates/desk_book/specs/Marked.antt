@@ -5,7 +5,7 @@ use Rattle.louis_translate.specs.declared.choices.Choice.{Choice}
 use Rattle.louis_translate.specs.Braille.{IsPrintEnd, IsPrintPlace, braille}
 use Rattle.louis_translate.specs.Tiling.{Tiles}
 use Rattle.desk_book.specs.declared.marks.KeptMark.{KeptMark}
-use Rattle.desk_book.specs.Book.{Book, mark_of}
+use Rattle.desk_model.specs.Book.{Book, mark_of}
 use Rattle.desk_book.specs.Kept.{mark_kept}
 
 -- the cells are there, and stand for the places from start up to but not including end

@@ -3,7 +3,7 @@ use Rattle.std.specs.Prelude.{◌≡◌, ◌⊎◌, ℕ, false, List, [], ◌∷
 use Rattle.std.specs.List.{All, Contains}
 use Rattle.louis_table.specs.Meaning.{Meaning}
 use Rattle.louis_table.specs.Table.{Means}
-use Rattle.louis_translate.specs.Position.{AreDefined, IsFirstUndefined}
+use Rattle.louis_translate.specs.Position.{IsFirstUndefined}
 use Rattle.desk_book.specs.declared.change.Effect.{Effect}
 use Rattle.desk_command.specs.declared.command.Command.{Command}
 use Rattle.desk_command.specs.declared.refusal.Refusal.{Refusal}
@@ -11,13 +11,13 @@ use Rattle.desk_command.specs.declared.refusal.Refusal.TheVariants.{NoMemory}
 use Rattle.desk_book.specs.declared.paragraphs.Paragraph.{Paragraph as KeptParagraph}
 use Rattle.desk_command.specs.declared.style.Style.TheVariants.{Body}
 use Rattle.desk_book.specs.declared.tables.BookTable.{BookTable}
-use Rattle.desk_book.specs.Book.{Book, Paragraph, paragraph_of, text_of}
+use Rattle.desk_model.specs.Book.{Book, Paragraph, paragraph_of, text_of}
 use Rattle.desk_book.specs.Changes.{AreCellsOf, Does}
-use Rattle.desk_book.specs.Judging.{MayLackMemory}
+use Rattle.desk_model.specs.Judging.{MayLackMemory}
 use Rattle.desk_book.specs.Kept.{paragraph_kept}
-use Rattle.desk_book.specs.Print.{print_of}
-use Rattle.desk_book.specs.Refusals.{IsAccepted, IsRefused}
-use Rattle.desk_book.specs.Step.{HasCharacters, Makes}
+use Rattle.desk_model.specs.Print.{print_of}
+use Rattle.desk_model.specs.Refusals.{DefinesUser, IsAccepted, IsRefused}
+use Rattle.desk_model.specs.Step.{HasCharacters, Makes}
 use Rattle.desk_command.specs.Characters.{AreCharacters}
 
 -- the command is accepted, the effect is what it does, and what it puts into the book is of characters
@@ -60,10 +60,6 @@ pub record IsNewParagraph (table print : List ℕ) (meaning : Meaning) (kept : K
   pub characters : AreCharacters print
   pub history : kept.history ≡ []
   pub unmarked : kept.marks ≡ []
-
--- the table with this name, by this meaning, defines the paragraph's print, if the paragraph uses the table
-abbrev pub DefinesUser : Meaning → List ℕ → Paragraph → Type 0
-DefinesUser meaning name paragraph = paragraph.table ≡ name → AreDefined meaning (print_of paragraph)
 
 -- the first paragraph that uses the table and has a character that it doesn't define, and the first place of one
 pub record IsFirstUser (meaning : Meaning) (name : List ℕ) (paragraphs : List Paragraph) (id place : ℕ) : Type 0 where

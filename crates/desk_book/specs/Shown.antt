@@ -5,13 +5,13 @@ use Rattle.louis_translate.specs.declared.choices.Choice.{Choice}
 use Rattle.louis_translate.specs.Position.{AreDefined}
 use Rattle.louis_translate.specs.Braille.{braille}
 use Rattle.desk_book.specs.declared.paragraphs.Paragraph.{Paragraph as KeptParagraph}
-use Rattle.desk_book.specs.Book.{Book, Paragraph, paragraph_of}
+use Rattle.desk_model.specs.Book.{Book, Paragraph, paragraph_of}
 use Rattle.desk_book.specs.Histories.{HaveTaken}
 use Rattle.desk_book.specs.Kept.{paragraph_kept}
-use Rattle.desk_book.specs.ParagraphMarks.{marks_on}
-use Rattle.desk_book.specs.Print.{print_of}
-use Rattle.desk_book.specs.Sound.{IsSoundParagraph}
-use Rattle.desk_book.specs.Translated.{IsTranslatedBy}
+use Rattle.desk_model.specs.ParagraphMarks.{marks_on}
+use Rattle.desk_model.specs.Print.{print_of}
+use Rattle.desk_model.specs.Sound.{IsSoundParagraph}
+use Rattle.desk_model.specs.Translated.{IsTranslatedBy}
 
 -- the kept paragraph has the print and the braille of the book's, which it stands for, and whose table has this meaning
 -- and defines the print; it has what each of its corrections took away, and as many marks as the book has on it

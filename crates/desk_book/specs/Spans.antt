@@ -2,7 +2,7 @@
 use Rattle.std.specs.Prelude.{ℕ, ◌+◌, ◌-◌, nat_le, true, if◌then◌else◌, min, max}
 use Rattle.desk_book.specs.declared.marks.KeptMark.{KeptMark}
 use Rattle.desk_book.specs.declared.marks.Span.{Span}
-use Rattle.desk_book.specs.Book.{Mark}
+use Rattle.desk_model.specs.Book.{Mark}
 
 -- the span after so many characters from a place on gave way to others, as the mark on it moves
 abbrev pub moved_span : (start removed added : ℕ) → Span → Span

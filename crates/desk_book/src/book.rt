@@ -1,7 +1,7 @@
 //! A book.
-ghost use Rattle.desk_book.specs.Book.{empty_book, paragraph_of, text_of};
-ghost use Rattle.desk_book.specs.Print.{print_of};
-ghost use Rattle.desk_book.specs.Sound.{IsSound};
+ghost use Rattle.desk_model.specs.Book.{empty_book, paragraph_of, text_of};
+ghost use Rattle.desk_model.specs.Print.{print_of};
+ghost use Rattle.desk_model.specs.Sound.{IsSound};
 ghost use Rattle.std.specs.Prelude.{◌≡◌, MatchResult, None, Some, IfErr, IfOk, Err};
 
 use super::marks::Marks;
@@ -24,7 +24,7 @@ pub struct Book {
 }
 
 impl Model for Book {
-    ghost use Rattle.desk_book.specs.Book.{Book};
+    ghost use Rattle.desk_model.specs.Book.{Book};
     ghost use Rattle.desk_book.specs.Kept.{IsKept, book_kept};
 
     ghost Value = { Book };

@@ -1,7 +1,7 @@
 //! Corrections of prints, and what takes them back.
 ghost use Rattle.desk_book.specs.Corrected.{HaltsEntry, HaltsPrint, IsCorrection, IsEntered, IsUnfit, TakesEntry, replaced_by};
-ghost use Rattle.desk_book.specs.Limits.{most_entries};
-ghost use Rattle.desk_book.specs.Name.{IsProofreaderName};
+ghost use Rattle.desk_model.specs.Limits.{most_entries};
+ghost use Rattle.desk_model.specs.Name.{IsProofreaderName};
 ghost use Rattle.desk_book.specs.Planned.{IsPlanned, IsTurnedDown};
 ghost use Rattle.desk_book.specs.Shown.{IsShown};
 ghost use Rattle.std.specs.Prelude.{◌≡◌, ◌+◌, ◌<◌, ◌≤◌, false, IfErr, IfOk, OnOk, length};

@@ -1,29 +1,12 @@
 //! What is wrong with the rows of a book's file.
-ghost use Rattle.desk_book.specs.Damage.{IsFlag};
-ghost use Rattle.desk_book.specs.Rebuilt.{fault_in};
-ghost use Rattle.desk_book.specs.Shows.{flag_number};
+ghost use Rattle.desk_model.specs.Damage.{IsFlag};
+ghost use Rattle.desk_book.specs.Joined.{fault_in};
+ghost use Rattle.desk_model.specs.Shows.{flag_number};
 ghost use Rattle.std.specs.Prelude.{◌≡◌, MatchOption};
 
+use desk_model::PartsFault;
 use desk_parts::FileTable;
 use std::alloc::AllocError;
-use thiserror::Error;
-
-/// Why no book was made of parts.
-#[derive(Clone, Copy, Debug, PartialEq, Eq, Error)]
-pub enum PartsFault {
-    /// The rows show no book.
-    #[error("the rows show no book")]
-    Damaged {
-        /// The first damaged table, in the order `book`, `tab`, `para`, `corr` or `corr2`, `mark`, `cache`.
-        table: FileTable,
-        /// The smallest id of the damage in it: in `book` 1, in `tab` the number of the row in order of names, in `mark`
-        /// the mark, and else the paragraph.
-        id: i64,
-    },
-    /// An allocation was refused.
-    #[error("out of memory")]
-    NoMemory,
-}
 
 /// Why the rows of one table were not taken.
 #[derive(Clone, Copy, PartialEq, Eq)]
@@ -42,17 +25,6 @@ impl From<AllocError> for RowsFault {
 
     fn from(_: AllocError) -> Self {
         RowsFault::NoMemory
-    }
-}
-
-impl From<AllocError> for PartsFault {
-    ghost use Rattle.desk_book.specs.declared.damage.PartsFault.{PartsFault};
-    ghost use Rattle.desk_book.specs.declared.damage.PartsFault.TheVariants.{NoMemory};
-
-    ghost from_gives = { λ _ fault. fault ≡ NoMemory };
-
-    fn from(_: AllocError) -> Self {
-        PartsFault::NoMemory
     }
 }
 

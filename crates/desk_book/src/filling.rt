@@ -1,5 +1,5 @@
 //! What a book puts into new tables of its file.
-ghost use Rattle.desk_book.specs.FilledRows.{Fills};
+ghost use Rattle.desk_model.specs.FilledRows.{Fills};
 ghost use Rattle.desk_book.specs.Filling.{HaveHistories, histories_from};
 ghost use Rattle.desk_parts.specs.Puts.{LendsFirst, put_of};
 ghost use Rattle.std.specs.Prelude.{◌≡◌, [], ◌∷◌, ◌++◌, IfNone, IfSome, unwrap_or};
@@ -8,19 +8,9 @@ use super::book::Book;
 use super::history::KeptEntry;
 use super::paragraphs::Paragraphs;
 use super::puts::{cache, entry, number};
+use desk_model::NewTables;
 use desk_parts::{BookRow, Put};
 use std::marker::Model;
-
-/// Which new tables of a file a book fills.
-#[derive(Clone, Copy, Debug, PartialEq, Eq)]
-pub enum NewTables {
-    /// That of the entries of all histories, with which the file gets the second format, and that of the braille.
-    EntriesAndBraille,
-    /// That of the entries of all histories, with which the file gets the second format.
-    Entries,
-    /// That of the braille.
-    Braille,
-}
 
 /// The entries of a paragraph's history. Contracts see those that are left.
 #[derive(Drop)]
@@ -32,7 +22,7 @@ struct HistoryPuts<'a> {
 
 impl<'a> Model for HistoryPuts<'a> {
     ghost use Rattle.desk_book.specs.Filling.{entry_puts_from};
-    ghost use Rattle.desk_book.specs.Limits.{most_entries};
+    ghost use Rattle.desk_model.specs.Limits.{most_entries};
     ghost use Rattle.desk_parts.specs.Puts.{RowPuts};
     ghost use Rattle.std.specs.Prelude.{◌≤◌, length};
 
@@ -153,7 +143,7 @@ struct BraillePuts<'a> {
 
 impl<'a> Model for BraillePuts<'a> {
     ghost use Rattle.desk_book.specs.Filling.{braille_from};
-    ghost use Rattle.desk_book.specs.Limits.{most_paragraphs};
+    ghost use Rattle.desk_model.specs.Limits.{most_paragraphs};
     ghost use Rattle.desk_parts.specs.Puts.{RowPuts};
     ghost use Rattle.std.specs.Prelude.{◌≤◌, length};
 

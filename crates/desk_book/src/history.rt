@@ -1,7 +1,7 @@
 //! The histories of paragraphs.
 ghost use Rattle.desk_book.specs.Histories.{entries_kept, IsNewestInForce};
-ghost use Rattle.desk_book.specs.Sound.{AreSoundEntries};
-ghost use Rattle.desk_book.specs.Print.{newest as newest_lem};
+ghost use Rattle.desk_model.specs.Sound.{AreSoundEntries};
+ghost use Rattle.desk_model.specs.Print.{newest as newest_lem};
 ghost use Rattle.std.specs.Prelude.{◌≡◌, IfNone, IfSome, None};
 
 use desk_command::Text;

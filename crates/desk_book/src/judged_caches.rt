@@ -1,10 +1,10 @@
 //! The rows of `cache`, judged, and the braille that they are.
 ghost use Rattle.desk_book.specs.Changes.{AreCellsOf};
-ghost use Rattle.desk_book.specs.Damage.{IsDamagedCache, IsDamagedPara};
+ghost use Rattle.desk_model.specs.Damage.{IsDamagedCache, IsDamagedPara};
 ghost use Rattle.desk_book.specs.Judged.{AreOf, AreTables, HasCells, IsWhole, TellsDamage, without_cells};
 ghost use Rattle.desk_book.specs.JudgedCaches.{AreAllRight, AreTheirCells, IsItsBraille, IsMisfit, IsTranslatable};
 ghost use Rattle.desk_book.specs.Kept.{renewed_items};
-ghost use Rattle.desk_book.specs.Limits.{most_paragraphs};
+ghost use Rattle.desk_model.specs.Limits.{most_paragraphs};
 ghost use Rattle.desk_parts.specs.Rows.{Para, Tab};
 ghost use Rattle.louis_translate.specs.Position.{AreDefined};
 ghost use Rattle.std.specs.List.{All};

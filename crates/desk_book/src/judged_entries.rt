@@ -1,5 +1,5 @@
 //! The rows of `corr` and `corr2`, judged, and the histories that they are.
-ghost use Rattle.desk_book.specs.Damage.{IsDamagedEntries, IsWithin};
+ghost use Rattle.desk_model.specs.Damage.{IsDamagedEntries, IsWithin};
 ghost use Rattle.desk_book.specs.Judged.{AreOf, HasHistory, IsWhole, TellsDamage, without_history};
 ghost use Rattle.desk_book.specs.JudgedEntries.{AreGrouped, HaveRead, IsFirstStray, IsFirstUnread};
 ghost use Rattle.desk_parts.specs.Rows.{Para};

@@ -1,5 +1,5 @@
 //! The rows of one paragraph's entries, judged, and the history that they are.
-ghost use Rattle.desk_book.specs.Damage.{IsSoundCorrection, IsSoundUndo};
+ghost use Rattle.desk_model.specs.Damage.{IsSoundCorrection, IsSoundUndo};
 ghost use Rattle.desk_book.specs.Histories.{entries_kept};
 ghost use Rattle.desk_book.specs.Judged.{without_history};
 ghost use Rattle.desk_book.specs.JudgedHistory.{AreSoundRows, CanBeRead, HasRead, IsCorrecting, IsFit, IsNext, IsRead, IsSoundNext, LeavePrint};

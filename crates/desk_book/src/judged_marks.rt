@@ -1,8 +1,8 @@
 //! The rows of `mark`, judged, and the marks that they are.
-ghost use Rattle.desk_book.specs.Damage.{IsDamagedMark};
+ghost use Rattle.desk_model.specs.Damage.{IsDamagedMark};
 ghost use Rattle.desk_book.specs.Judged.{AreMarksOf, AreOf, HaveMarks, IsWhole, TellsDamage, without_marks};
 ghost use Rattle.desk_book.specs.JudgedMarks.{AreInOrder, AreKeptOf, HasId, IsKeptOf, IsMarkOn, IsNext, IsNoteText, IsOnOne, IsSpan, TellsUnsound};
-ghost use Rattle.desk_book.specs.Limits.{most_marks};
+ghost use Rattle.desk_model.specs.Limits.{most_marks};
 ghost use Rattle.desk_parts.specs.Rows.{Para};
 ghost use Rattle.std.specs.List.{All};
 ghost use Rattle.std.specs.List.Sorted.{IsPermutation};

@@ -1,9 +1,9 @@
 //! The rows of `para`, judged, and the paragraphs that they are.
-ghost use Rattle.desk_book.specs.Damage.{IsDamagedPara, IsFlag, IsPrintText};
+ghost use Rattle.desk_model.specs.Damage.{IsDamagedPara, IsFlag, IsPrintText};
 ghost use Rattle.desk_book.specs.Judged.{AreInPlaces, AreOf, AreTables, IsWhole, TellsDamage};
 ghost use Rattle.desk_book.specs.JudgedParas.{AreDefinedBy, AreInOrder, AreKeptOf, IsFree, IsKeptOf, IsNext, IsParaOn, TellsUnsound};
 ghost use Rattle.desk_parts.specs.Rows.{Tab};
-ghost use Rattle.desk_book.specs.Shows.{style_number};
+ghost use Rattle.desk_model.specs.Shows.{style_number};
 ghost use Rattle.std.specs.List.{All};
 ghost use Rattle.std.specs.List.Sorted.{IsPermutation};
 ghost use Rattle.std.specs.Prelude.{◌≡◌, ◌↔◌, ℕ, [], List, IfErr, IfNone, IfOk, IfSome, IsTrue, MatchOption, length, replicate};

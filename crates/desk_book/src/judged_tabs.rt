@@ -1,8 +1,8 @@
 //! The rows of `tab`, judged, and the tables that they are.
-ghost use Rattle.desk_book.specs.Damage.{AreInOrder, IsDamagedTab};
+ghost use Rattle.desk_model.specs.Damage.{AreInOrder, IsDamagedTab};
 ghost use Rattle.desk_book.specs.Judged.{AreTables, IsWhole, TellsDamage};
 ghost use Rattle.desk_book.specs.JudgedTabs.{AreRead, MayCome, TellsFirstUnsound, TellsNoMeaning, TellsUnsoundTab, rows_of, tab_order};
-ghost use Rattle.desk_book.specs.Limits.{most_tables};
+ghost use Rattle.desk_model.specs.Limits.{most_tables};
 ghost use Rattle.desk_parts.specs.Rows.{Tab};
 ghost use Rattle.louis_table.specs.Table.{Means};
 ghost use Rattle.std.specs.Str.{chars};

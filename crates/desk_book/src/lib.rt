@@ -16,7 +16,8 @@
 //! assert_eq!(rt; book.version(), 1);
 //! ```
 //!
-//! Files are left to `desk_store`, pages to `desk_brf`, and the lines of requests and replies to `desk_line`.
+//! What a book is, what each command makes of it and when it is refused, is said by `desk_model`. Files are left to
+//! `desk_store`, pages to `desk_brf`, and the lines of requests and replies to `desk_line`.
 #![tactic(auto)]
 
 mod book;
@@ -51,10 +52,10 @@ mod told;
 
 pub use book::Book;
 pub use change::Change;
-pub use damage::PartsFault;
-pub use filling::{Filling, NewTables};
+pub use desk_model::{Done, HistoryItem, Listed, MarkItem, NewTables, PartsFault};
+pub use filling::Filling;
 pub use limits::MOST_VERSION;
-pub use list::{List, Listed};
-pub use paragraph_marks::{MarkItem, ParagraphMarks};
+pub use list::List;
+pub use paragraph_marks::ParagraphMarks;
 pub use puts::Puts;
-pub use told::{Done, History, HistoryItem};
+pub use told::History;

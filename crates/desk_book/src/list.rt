@@ -1,24 +1,7 @@
 //! The list of a book's paragraphs.
 use super::paragraphs::Paragraphs;
-use desk_command::Style;
+use desk_model::Listed;
 use std::marker::Model;
-
-/// What the list of a book tells of a paragraph.
-#[derive(Clone, Copy, Debug)]
-pub struct Listed<'a> {
-    /// Its id.
-    pub id: u64,
-    /// The name of its table.
-    pub table: &'a str,
-    /// Its style.
-    pub style: Style,
-    /// Whether it begins a volume.
-    pub begins_volume: bool,
-    /// Whether it is struck.
-    pub struck: bool,
-    /// How many characters its print has.
-    pub length: usize,
-}
 
 /// The paragraphs of a book in order, struck ones too. It takes no memory. Contracts see it as those that are left.
 #[derive(Drop)]
@@ -28,7 +11,7 @@ pub struct List<'a> {
 }
 
 impl<'a> Model for List<'a> {
-    ghost use Rattle.desk_book.specs.Book.{ParagraphList};
+    ghost use Rattle.desk_model.specs.Book.{ParagraphList};
     ghost use Rattle.desk_book.specs.Kept.{HavePrints, paragraphs_from};
 
     ghost Value = { ParagraphList };
@@ -52,7 +35,7 @@ impl<'a> List<'a> {
 }
 
 impl<'a> Iterator for List<'a> {
-    ghost use Rattle.desk_book.specs.Listed.{ListsFirst};
+    ghost use Rattle.desk_model.specs.Listed.{ListsFirst};
     ghost use Rattle.std.specs.Iterator.{item_count};
 
     type Item = Listed<'a>;

@@ -1,8 +1,8 @@
 //! Marks that come and that are dealt with.
-ghost use Rattle.desk_book.specs.Limits.{most_marks, most_note};
+ghost use Rattle.desk_model.specs.Limits.{most_marks, most_note};
 ghost use Rattle.desk_book.specs.Marked.{AreMarkedIn, AreNotMarkedIn, HasCells, IsKeptMarkFor};
 ghost use Rattle.desk_book.specs.Planned.{IsPlanned, IsTurnedDown};
-ghost use Rattle.desk_book.specs.Book.{mark_of};
+ghost use Rattle.desk_model.specs.Book.{mark_of};
 ghost use Rattle.louis_translate.specs.Position.{AreDefined};
 ghost use Rattle.std.specs.Prelude.{◌≡◌, ◌+◌, ◌<◌, ◌≤◌, ◌↔◌, IfErr, IfOk, IsTrue, None, OnOk, length};
 

@@ -1,6 +1,6 @@
 //! The marks of proofreaders.
 ghost use Rattle.desk_book.specs.KeptMarks.{AreWithin, IsWithin, indexes_on, moved_kept, kept_mark, with_kept_moved, with_kept_resolved};
-ghost use Rattle.desk_book.specs.Limits.{most_print};
+ghost use Rattle.desk_model.specs.Limits.{most_print};
 ghost use Rattle.desk_book.specs.Spans.{moved_span, span_kept};
 ghost use Rattle.desk_book.specs.Room.{Suffices};
 ghost use Rattle.std.specs.Option.{option_copied};

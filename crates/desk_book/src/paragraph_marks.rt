@@ -1,26 +1,10 @@
 //! What a book tells of a paragraph's marks.
-ghost use Rattle.desk_book.specs.ParagraphMarks.{AreMarks, marks_at};
+ghost use Rattle.desk_book.specs.ItemsLeft.{AreMarks, marks_at};
 ghost use Rattle.std.specs.Prelude.{◌≡◌};
 
 use super::marks::KeptMark;
+use desk_model::MarkItem;
 use std::marker::Model;
-
-/// A mark of a paragraph.
-#[derive(Clone, Copy, Debug)]
-pub struct MarkItem<'a> {
-    /// Its id.
-    pub id: u64,
-    /// The first place of the print that it covers, from 0.
-    pub start: usize,
-    /// The place after the last that it covers.
-    pub end: usize,
-    /// Whether it is dealt with.
-    pub resolved: bool,
-    /// Whether a correction has touched what it covers.
-    pub touched: bool,
-    /// The proofreader's note.
-    pub note: &'a str,
-}
 
 /// The marks of a paragraph in the order of their ids. It takes no memory. Contracts see it as those that are left.
 #[derive(Drop)]
@@ -33,8 +17,8 @@ pub struct ParagraphMarks<'a> {
 }
 
 impl<'a> Model for ParagraphMarks<'a> {
-    ghost use Rattle.desk_book.specs.Book.{MarkList};
-    ghost use Rattle.desk_book.specs.ParagraphMarks.{AreMarks, marks_at};
+    ghost use Rattle.desk_model.specs.Book.{MarkList};
+    ghost use Rattle.desk_book.specs.ItemsLeft.{AreMarks, marks_at};
 
     ghost Value = { MarkList };
 
@@ -58,7 +42,7 @@ impl<'a> ParagraphMarks<'a> {
 }
 
 impl<'a> Iterator for ParagraphMarks<'a> {
-    ghost use Rattle.desk_book.specs.ParagraphMarks.{TellsFirst};
+    ghost use Rattle.desk_model.specs.ParagraphMarks.{TellsFirst};
     ghost use Rattle.std.specs.Iterator.{item_count};
 
     type Item = MarkItem<'a>;

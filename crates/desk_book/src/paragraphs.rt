@@ -1,9 +1,9 @@
 //! The paragraphs of a book.
 ghost use Rattle.desk_book.specs.Kept.{arranged, ids, numbered, renewed, renewed_items, with_id, with_id_moved, with_kept_change};
 ghost use Rattle.desk_book.specs.KeptPrints.{HasRoomFor, HasRoomForMark, with_mark, with_print_changed};
-ghost use Rattle.desk_book.specs.Refusals.{paragraph_before};
+ghost use Rattle.desk_model.specs.Refusals.{paragraph_before};
 ghost use Rattle.desk_book.specs.Room.{Suffices};
-ghost use Rattle.desk_book.specs.Step.{is_after};
+ghost use Rattle.desk_model.specs.Step.{is_after};
 ghost use Rattle.std.specs.List.{Contains, filter, flat_map, insert, position, range_with_len};
 ghost use Rattle.std.specs.List.Sorted.{IsPermutation};
 ghost use Rattle.std.specs.Map.{lookup};

@@ -1,13 +1,13 @@
 //! Which change a command makes, or why it is refused.
-ghost use Rattle.desk_book.specs.Book.{paragraph_of, text_of};
+ghost use Rattle.desk_model.specs.Book.{paragraph_of, text_of};
 ghost use Rattle.desk_book.specs.Changes.{AreCellsOf, AreRenewed, Carries};
-ghost use Rattle.desk_book.specs.Judging.{MayLackMemory};
-ghost use Rattle.desk_book.specs.Limits.{most_paragraphs, most_print, most_tables, most_version};
-ghost use Rattle.desk_book.specs.Name.{IsTableName};
-ghost use Rattle.desk_book.specs.Planned.{AreNotAllThere, AreThere, DefinesUser, IsFirstUser, IsKeptFor, IsNewParagraph, IsPlanned, IsTableFor, IsTurnedDown};
-ghost use Rattle.desk_book.specs.Refusals.{IsAccepted, IsMoved, IsRefused, paragraph_before};
-ghost use Rattle.desk_book.specs.Step.{next_mark, number_of};
-ghost use Rattle.desk_book.specs.Stored.{IsUnbarred, IsFirstBarred};
+ghost use Rattle.desk_model.specs.Judging.{MayLackMemory};
+ghost use Rattle.desk_model.specs.Limits.{most_paragraphs, most_print, most_tables, most_version};
+ghost use Rattle.desk_model.specs.Name.{IsTableName};
+ghost use Rattle.desk_book.specs.Planned.{AreNotAllThere, AreThere, IsFirstUser, IsKeptFor, IsNewParagraph, IsPlanned, IsTableFor, IsTurnedDown};
+ghost use Rattle.desk_model.specs.Refusals.{DefinesUser, IsAccepted, IsMoved, IsRefused, paragraph_before};
+ghost use Rattle.desk_model.specs.Step.{next_mark, number_of};
+ghost use Rattle.desk_model.specs.Stored.{IsUnbarred, IsFirstBarred};
 ghost use Rattle.desk_command.specs.Characters.{AreCharacters};
 ghost use Rattle.louis_table.specs.Table.{Bad, Means};
 ghost use Rattle.louis_translate.specs.Position.{AreDefined, IsFirstUndefined};

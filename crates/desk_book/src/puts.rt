@@ -1,12 +1,12 @@
 //! What a change puts into the rows of its book's file.
-ghost use Rattle.desk_book.specs.ChangePuts.{LeadTo, cache_put, cells_from, effect_puts, elsewhere_from, entry_row, further_from, kept_mark_row, kept_row, row_number, span_put, stays_in, tab_put};
+ghost use Rattle.desk_model.specs.Lent.{AreLent, LeadTo, row_number};
+ghost use Rattle.desk_book.specs.ChangePuts.{cache_put, cells_from, effect_puts, elsewhere_from, entry_row, further_from, kept_mark_row, kept_row, span_put, stays_in, tab_put};
 ghost use Rattle.desk_book.specs.Changes.{Carries, Does, change_puts};
-ghost use Rattle.desk_book.specs.Lent.{AreLent};
-ghost use Rattle.desk_book.specs.Limits.{most_paragraphs, most_print};
-ghost use Rattle.desk_book.specs.ParagraphMarks.{marks_on};
+ghost use Rattle.desk_model.specs.Limits.{most_paragraphs, most_print};
+ghost use Rattle.desk_model.specs.ParagraphMarks.{marks_on};
 ghost use Rattle.desk_parts.specs.Puts.{LendsFirst, PutEntry, PutMark, PutPara, SetFlags, SetPlace, SetResolved, SetTable, SetVersion, put_of};
-ghost use Rattle.desk_book.specs.Shows.{flag_number, style_number};
-ghost use Rattle.desk_book.specs.Step.{next_id};
+ghost use Rattle.desk_model.specs.Shows.{flag_number, style_number};
+ghost use Rattle.desk_model.specs.Step.{next_id};
 ghost use Rattle.std.specs.Prelude.{◌≡◌, ◌+◌, ◌-◌, ◌<◌, ◌≤◌, [], ◌∷◌, ◌++◌, IfNone, IfSome, encode_utf8_all, length, map, pos, slice_index};
 
 use super::book::Book;
@@ -126,7 +126,7 @@ struct FurtherPuts<'a> {
 
 impl<'a> Model for FurtherPuts<'a> {
     ghost use Rattle.desk_book.specs.ChangePuts.{further_from};
-    ghost use Rattle.desk_book.specs.Limits.{most_paragraphs};
+    ghost use Rattle.desk_model.specs.Limits.{most_paragraphs};
     ghost use Rattle.desk_parts.specs.Puts.{RowPuts};
     ghost use Rattle.std.specs.Prelude.{◌≤◌, length};
 
@@ -222,7 +222,7 @@ struct SpanPuts<'a> {
 
 impl<'a> Model for SpanPuts<'a> {
     ghost use Rattle.desk_book.specs.ChangePuts.{AreSpans, span_put};
-    ghost use Rattle.desk_book.specs.Limits.{most_print};
+    ghost use Rattle.desk_model.specs.Limits.{most_print};
     ghost use Rattle.desk_parts.specs.Puts.{RowPuts};
     ghost use Rattle.std.specs.Prelude.{◌+◌, ◌≤◌, map};
 

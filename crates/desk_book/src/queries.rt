@@ -1,9 +1,9 @@
 //! What a book shows. No query takes memory.
-ghost use Rattle.desk_book.specs.Book.{paragraph_of};
-ghost use Rattle.desk_book.specs.ParagraphMarks.{marks_on};
-ghost use Rattle.desk_book.specs.Print.{print_of};
+ghost use Rattle.desk_model.specs.Book.{paragraph_of};
+ghost use Rattle.desk_model.specs.ParagraphMarks.{marks_on};
+ghost use Rattle.desk_model.specs.Print.{print_of};
 ghost use Rattle.desk_book.specs.Shown.{IsShown};
-ghost use Rattle.desk_book.specs.Translated.{IsBraille, IsOutputPlace, IsPrintPlace, LacksCell, LacksPlace};
+ghost use Rattle.desk_model.specs.Translated.{IsBraille, IsOutputPlace, IsPrintPlace, LacksCell, LacksPlace};
 ghost use Rattle.louis_table.specs.Meaning.{Meaning};
 ghost use Rattle.std.specs.List.{enumerate_from};
 ghost use Rattle.std.specs.Prelude.{◌≡◌, ◌⊎◌, IfErr, IfOk, None, Some};

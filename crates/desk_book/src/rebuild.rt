@@ -1,21 +1,21 @@
 //! A book from the rows of its file.
-ghost use Rattle.desk_book.specs.Damage.{IsDamagedEntries, IsDamagedPara, IsWithin};
+ghost use Rattle.desk_model.specs.Damage.{IsDamagedEntries, IsDamagedPara, IsWithin};
 ghost use Rattle.desk_parts.specs.FileRows.{HasEntryTexts, HasMarkText, entries_in, table_of, unnamed};
-ghost use Rattle.desk_book.specs.Joined.{IsDamagedBraille, TellsDamageOf};
+ghost use Rattle.desk_book.specs.Joined.{IsDamagedBraille, TellsDamageOf, fault_in};
 ghost use Rattle.desk_book.specs.Judged.{AreOf, AreTables, HasCells, HasHistory, IsWhole, without_cells, without_history};
 ghost use Rattle.desk_book.specs.Kept.{IsKept, book_kept, numbered};
-ghost use Rattle.desk_book.specs.Limits.{most_version};
-ghost use Rattle.desk_book.specs.Rebuilt.{IsFaultOf, fault_in};
+ghost use Rattle.desk_model.specs.Limits.{most_version};
+ghost use Rattle.desk_model.specs.Rebuilt.{IsFaultOf};
 ghost use Rattle.desk_parts.specs.Parts.{entry_rows, rows_in};
 ghost use Rattle.desk_parts.specs.Rows.{Para, Tab};
-ghost use Rattle.desk_book.specs.Shows.{Shows};
+ghost use Rattle.desk_model.specs.Shows.{Shows};
 ghost use Rattle.desk_parts.specs.declared.file_table.FileTable.{FileTable};
 ghost use Rattle.std.specs.List.{All, flat_map, range_with_len};
 ghost use Rattle.std.specs.List.Sorted.{IsPermutation};
 ghost use Rattle.std.specs.Prelude.{◌≡◌, Err, List, IfErr, IfOk, MatchOption, MatchResult, Ok, OnOk, length, map, option_map, pos};
 
 use super::book::Book;
-use super::damage::{PartsFault, RowsFault};
+use super::damage::RowsFault;
 use super::judged_caches::{judged_caches, made_cells};
 use super::judged_entries::judged_entries;
 use super::judged_marks::judged_marks;
@@ -25,6 +25,7 @@ use super::limits::MOST_VERSION;
 use super::marks::{KeptMark, Marks};
 use super::paragraphs::{Paragraph, Paragraphs};
 use super::tables::Tables;
+use desk_model::PartsFault;
 use desk_parts::{CacheRow, CorrRow, EntryRows, FileTable, MarkRow, NamedCorrRow, Parts};
 use std::alloc::{AllocError, Global};
 

@@ -1,6 +1,6 @@
 //! Texts as a book keeps them, and the names of its tables.
-ghost use Rattle.desk_book.specs.Name.{IsProofreaderName, IsTableName, is_name_character, is_proofreader_character};
-ghost use Rattle.desk_book.specs.Stored.{is_barred, stored};
+ghost use Rattle.desk_model.specs.Name.{IsProofreaderName, IsTableName, is_name_character, is_proofreader_character};
+ghost use Rattle.desk_model.specs.Stored.{is_barred, stored};
 ghost use Rattle.std.specs.List.{filter, list_all, position};
 ghost use Rattle.std.specs.Prelude.{◌≡◌, ◌↔◌, IfOk, IsTrue, length, not};
 ghost use Rattle.std.specs.Str.{chars};

@@ -1,39 +1,13 @@
 //! What a book tells of a paragraph's history.
 ghost use Rattle.desk_book.specs.Histories.{entries_kept, entry_kept};
-ghost use Rattle.desk_book.specs.Limits.{most_entries};
-ghost use Rattle.desk_book.specs.Told.{TellsOf};
+ghost use Rattle.desk_model.specs.Limits.{most_entries};
+ghost use Rattle.desk_model.specs.Told.{TellsOf};
 ghost use Rattle.std.specs.List.{enumerate_from};
 ghost use Rattle.std.specs.Prelude.{◌≡◌, ◌≤◌, length};
 
 use super::history::KeptEntry;
+use desk_model::{Done, HistoryItem};
 use std::marker::Model;
-
-/// What an entry of a history did.
-#[derive(Clone, Copy, Debug)]
-pub enum Done<'a> {
-    /// It corrected the print.
-    Corrected {
-        /// The place of the first character that gave way, from 0.
-        start: usize,
-        /// How many gave way.
-        count: usize,
-        /// The text that came in their place.
-        text: &'a str,
-        /// The name of the proofreader, which may be empty.
-        who: &'a str,
-    },
-    /// It took back the correction with this number.
-    TookBack(u64),
-}
-
-/// An entry of a history.
-#[derive(Clone, Copy, Debug)]
-pub struct HistoryItem<'a> {
-    /// Its number, from 1.
-    pub number: u64,
-    /// What it did.
-    pub done: Done<'a>,
-}
 
 /// The entries of a paragraph's history in order. It takes no memory. Contracts see it as those that are left, with
 /// their numbers.
@@ -44,9 +18,9 @@ pub struct History<'a> {
 }
 
 impl<'a> Model for History<'a> {
-    ghost use Rattle.desk_book.specs.Book.{EntryList};
-    ghost use Rattle.desk_book.specs.Told.{entries_from};
-    ghost use Rattle.desk_book.specs.Limits.{most_entries};
+    ghost use Rattle.desk_model.specs.Book.{EntryList};
+    ghost use Rattle.desk_book.specs.ItemsLeft.{entries_from};
+    ghost use Rattle.desk_model.specs.Limits.{most_entries};
     ghost use Rattle.std.specs.Prelude.{◌≤◌, length};
 
     ghost Value = { EntryList };
@@ -82,7 +56,7 @@ fn told_of(entry: &KeptEntry) -> Done<'_>
 }
 
 impl<'a> Iterator for History<'a> {
-    ghost use Rattle.desk_book.specs.Told.{TellsFirst};
+    ghost use Rattle.desk_model.specs.Told.{TellsFirst};
     ghost use Rattle.std.specs.Iterator.{item_count};
 
     type Item = HistoryItem<'a>;

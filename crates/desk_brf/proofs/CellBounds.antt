@@ -14,11 +14,11 @@ use Rattle.louis_translate.specs.Braille.{own_cells, chosen_cells, cells_of, bra
 use Rattle.louis_translate.specs.Sign.{capital_sign, run_start, sign_at, takes_one_sign, is_digit_at, is_capital_at, follows_number, ends_number}
 use Rattle.louis_translate.specs.Tiling.{Covers}
 use Rattle.louis_translate.proofs.Spans.{span-positive}
-use Rattle.desk_book.specs.Book.{Book, Paragraph}
-use Rattle.desk_book.specs.Print.{print_of}
-use Rattle.desk_book.specs.Sound.{IsSound, IsSoundParagraph}
-use Rattle.desk_book.specs.Translated.{IsBraille}
-use Rattle.desk_book.proofs.EntryPlanned.{short-sound}
+use Rattle.desk_model.specs.Book.{Book, Paragraph}
+use Rattle.desk_model.specs.Print.{print_of}
+use Rattle.desk_model.specs.Sound.{IsSound, IsSoundParagraph}
+use Rattle.desk_model.specs.Translated.{IsBraille}
+use Rattle.desk_model.proofs.Callers.{short-sound}
 
 abbrev FewOfRule : Rule → Type 0
 FewOfRule rule = length rule.cells ≤ 1000000

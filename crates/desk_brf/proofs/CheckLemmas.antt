@@ -4,10 +4,10 @@ use Rattle.std.specs.Prelude.{All, IfSome, IsSome, slice_index}
 use Rattle.std.proofs.lemmas.List.{append-nil}
 use Rattle.std.proofs.lemmas.List.Elements.{All-nil, All-push, Contains-append_right}
 use Rattle.cell_core.specs.Cell.{HasDot}
-use Rattle.desk_book.specs.Book.{Book, Paragraph, paragraph_of}
-use Rattle.desk_book.specs.Sound.{IsSound}
-use Rattle.desk_book.specs.Translated.{IsBraille}
-use Rattle.desk_book.proofs.SoundBooks.{paragraph_of-own}
+use Rattle.desk_model.specs.Book.{Book, Paragraph, paragraph_of}
+use Rattle.desk_model.specs.Sound.{IsSound}
+use Rattle.desk_model.specs.Translated.{IsBraille}
+use Rattle.desk_model.proofs.Callers.{paragraph_of-own}
 use Rattle.desk_brf.specs.Counting.{in_volume}
 use Rattle.desk_brf.specs.Volume.{HasSixDotCells, IsFirstEightDot, IsSixDot}
 use Rattle.desk_brf.specs.Volumes.{volume_of}

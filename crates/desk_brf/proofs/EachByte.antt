@@ -6,7 +6,7 @@ use Rattle.std.specs.List.{flat_map, enumerate_from}
 use Rattle.std.proofs.lemmas.Bool.{cond-true, lt-ltb}
 use Rattle.std.proofs.lemmas.List.Elements.{All-nil, All-cons, All-append, All-map, All-push, All-replicate, All-weaker}
 use Rattle.louis_table.proofs.CellLimits.{all_joined}
-use Rattle.desk_book.specs.Book.{Book}
+use Rattle.desk_model.specs.Book.{Book}
 use Rattle.desk_brf.specs.Embossed.{IsCellByte, IsEmbossedByte, IsTextLine}
 use Rattle.desk_brf.specs.Layout.{Layout, IsLayout}
 use Rattle.desk_brf.specs.Pages.{digit_letter, ended, number_line, number_text, page_text}

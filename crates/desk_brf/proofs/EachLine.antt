@@ -8,7 +8,7 @@ use Rattle.std.proofs.lemmas.List.{append-nil, length-replicate}
 use Rattle.std.proofs.lemmas.List.Elements.{All-nil, All-cons, All-append, All-same, All-take, All-drop, All-contains, Contains-push}
 use Rattle.std.proofs.lemmas.Option.{slice_get_within}
 use Rattle.cell_core.specs.Ascii.{ascii_cell, ascii_masks}
-use Rattle.desk_book.specs.Book.{Book, Paragraph}
+use Rattle.desk_model.specs.Book.{Book, Paragraph}
 use Rattle.desk_command.specs.declared.style.Style.{Style}
 use Rattle.desk_command.specs.declared.style.Style.TheVariants.{Body, Heading}
 use Rattle.desk_brf.specs.Embossed.{IsCellByte, IsTextLine}

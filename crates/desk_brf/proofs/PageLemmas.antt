@@ -7,7 +7,7 @@ use Rattle.std.proofs.lemmas.List.{append-nil, length-replicate}
 use Rattle.std.proofs.lemmas.List.Concat.{flat_map-append}
 use Rattle.std.proofs.lemmas.List.Elements.{All-nil, All-cons}
 use Rattle.std.proofs.lemmas.Nat.{mod-mul-add, div-mul-add, div-add-mod'}
-use Rattle.desk_book.specs.Book.{Book, Paragraph}
+use Rattle.desk_model.specs.Book.{Book, Paragraph}
 use Rattle.desk_ends.specs.Sent.{Sent}
 use Rattle.desk_brf.specs.Laying.{FillsPage, PutsPages, PutsParagraphs, page_end, written}
 use Rattle.desk_brf.specs.Layout.{Layout, text_lines}

@@ -10,9 +10,9 @@ use Rattle.louis_translate.specs.declared.choices.Choice.{Choice}
 use Rattle.louis_translate.specs.Braille.{braille}
 use Rattle.louis_translate.specs.Tiling.{Tiles}
 use Rattle.louis_translate.proofs.Tilings.{one_tiling}
-use Rattle.desk_book.specs.Book.{Book, Paragraph}
-use Rattle.desk_book.specs.Print.{print_of}
-use Rattle.desk_book.specs.Translated.{IsBraille}
+use Rattle.desk_model.specs.Book.{Book, Paragraph}
+use Rattle.desk_model.specs.Print.{print_of}
+use Rattle.desk_model.specs.Translated.{IsBraille}
 use Rattle.desk_ends.specs.Sent.{Sent}
 use Rattle.desk_ends.proofs.Sending.{Sending, Sending-none, Sending-same, Sending-more, Sending-fails, Sending-done}
 use Rattle.desk_brf.specs.Layout.{Layout}

@@ -4,7 +4,7 @@ use Rattle.std.specs.Prelude.{map, filter, not, count_by}
 use Rattle.std.specs.List.{enumerate_from}
 use Rattle.std.proofs.lemmas.Bool.{cases_Bool, cond_both, ne_eqb}
 use Rattle.std.proofs.lemmas.List.Sums.{sum_by-append}
-use Rattle.desk_book.specs.Book.{Book, Paragraph}
+use Rattle.desk_model.specs.Book.{Book, Paragraph}
 use Rattle.desk_brf.specs.Counting.{count_after, in_volume}
 use Rattle.desk_brf.specs.Volumes.{opens_volume, remaining, volume_of}
 

@@ -6,7 +6,7 @@ use Rattle.std.proofs.lemmas.Bool.{ne_eqb}
 use Rattle.std.proofs.lemmas.List.Elements.{All-nil, All-cons, All-append, All-head, All-tail, All-push, All-weaker}
 use Rattle.std.proofs.lemmas.List.Sums.{sum_by-append, sum_by-cons}
 use Rattle.louis_table.proofs.CellLimits.{all_joined}
-use Rattle.desk_book.specs.Book.{Book}
+use Rattle.desk_model.specs.Book.{Book}
 use Rattle.desk_brf.specs.Embossed.{ArePageTexts, IsCellByte, IsPageText}
 use Rattle.desk_brf.specs.Layout.{Layout, IsLayout, text_lines}
 use Rattle.desk_brf.specs.Pages.{ended, number_line, page_text}

@@ -1,6 +1,6 @@
 -- Volumes counted along the paragraphs of a book, one after another.
 use Rattle.std.specs.Prelude.{ℕ, ◌+◌, ◌==◌, ◌||◌, if◌then◌else◌, Bool, List, [], ◌∷◌}
-use Rattle.desk_book.specs.Book.{Paragraph}
+use Rattle.desk_model.specs.Book.{Paragraph}
 
 -- how many volumes have begun with one paragraph more that isn't struck
 abbrev pub count_after : ℕ → Bool → ℕ

@@ -2,8 +2,8 @@
 use Rattle.std.specs.Prelude.{◌≡◌, ◌≢◌, ◌⊎◌, ℕ, ◌≤◌, ◌==◌, List, [], ◌∷◌, ◌++◌, length, All, filter, not}
 use Rattle.std.specs.List.{count_by, filter_map, flat_map}
 use Rattle.cell_core.specs.Ascii.{ascii_cell}
-use Rattle.desk_book.specs.Book.{Book, Paragraph}
-use Rattle.desk_book.specs.Translated.{IsBraille}
+use Rattle.desk_model.specs.Book.{Book, Paragraph}
+use Rattle.desk_model.specs.Translated.{IsBraille}
 use Rattle.desk_brf.specs.Words.{is_blank}
 
 -- a byte that stands for a cell

@@ -1,7 +1,7 @@
 -- What an export answers.
 use Rattle.std.specs.Prelude.{◌≡◌, ◌≢◌, ℕ, List, [], ◌++◌, Result, Ok, Err, All}
 use Rattle.std.specs.Io.KnownBytes.{Appends}
-use Rattle.desk_book.specs.Book.{Book}
+use Rattle.desk_model.specs.Book.{Book}
 use Rattle.desk_ends.specs.declared.ends.Sink.{Ghosts}
 use Rattle.desk_brf.specs.declared.volume.ExportFault.{ExportFault}
 use Rattle.desk_brf.specs.declared.volume.ExportFault.TheVariants.{NoVolume, NotSixDots, Write}

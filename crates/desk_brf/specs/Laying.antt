@@ -1,7 +1,7 @@
 -- What the functions that lay lines do to them.
 use Rattle.std.specs.Prelude.{◌≡◌, ℕ, ◌+◌, ◌-◌, ◌/◌, ◌%◌, ◌<◌, ◌≤◌, ◌==◌, if◌then◌else◌, Bool, true, List, [], ◌∷◌, ◌++◌, length, replicate, Option, Result, is_ok, IfOk}
 use Rattle.std.specs.List.{flat_map}
-use Rattle.desk_book.specs.Book.{Book, Paragraph}
+use Rattle.desk_model.specs.Book.{Book, Paragraph}
 use Rattle.desk_command.specs.declared.style.Style.{Style}
 use Rattle.desk_ends.specs.Sent.{Sent}
 use Rattle.desk_brf.specs.Layout.{Layout, text_lines}

@@ -1,8 +1,8 @@
 -- A volume of a book in Braille Ready Format.
 use Rattle.std.specs.Prelude.{◌≡◌, ◌≢◌, ◌⊎◌, ℕ, ◌+◌, ◌<◌, ◌%◌, ◌==◌, if◌then◌else◌, List, [], ◌∷◌, ◌++◌, length, take, slice_index, All}
 use Rattle.cell_core.specs.Cell.{HasDot}
-use Rattle.desk_book.specs.Book.{Book, Paragraph}
-use Rattle.desk_book.specs.Translated.{IsBraille}
+use Rattle.desk_model.specs.Book.{Book, Paragraph}
+use Rattle.desk_model.specs.Translated.{IsBraille}
 use Rattle.desk_command.specs.declared.style.Style.{Style}
 use Rattle.desk_command.specs.declared.style.Style.TheVariants.{Body, Heading}
 use Rattle.desk_brf.specs.Layout.{Layout, text_lines}

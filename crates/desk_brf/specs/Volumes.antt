@@ -1,7 +1,7 @@
 -- Which paragraphs a volume has.
 use Rattle.std.specs.Prelude.{ℕ, ◌+◌, ◌==◌, ◌||◌, Bool, List, map, filter, take, count_by, not}
 use Rattle.std.specs.List.{enumerate_from}
-use Rattle.desk_book.specs.Book.{Book, Paragraph}
+use Rattle.desk_model.specs.Book.{Book, Paragraph}
 
 -- the paragraphs that are not struck, each with its place among them, from 0
 abbrev pub remaining : Book → List (ℕ × Paragraph)

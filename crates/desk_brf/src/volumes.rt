@@ -1,6 +1,6 @@
 //! Which paragraphs a volume has, and their cells.
-ghost use Rattle.desk_book.specs.Book.{paragraph_of};
-ghost use Rattle.desk_book.specs.Translated.{IsBraille};
+ghost use Rattle.desk_model.specs.Book.{paragraph_of};
+ghost use Rattle.desk_model.specs.Translated.{IsBraille};
 ghost use Rattle.desk_brf.specs.Counting.{count_after};
 ghost use Rattle.std.specs.Prelude.{◌≡◌, ◌+◌, ◌<◌, ◌^◌, ◌==◌, ◌&&◌, IfSome, IsSome, if◌then◌else◌, not};
 

@@ -11,7 +11,7 @@
 //! assert_eq!(rt; Refusal::NoParagraph.code(), 2);
 //! ```
 //!
-//! `desk_book` says when a command is refused, and what it does.
+//! `desk_model` says when a command is refused, and what it does.
 #![tactic(auto)]
 
 mod command;

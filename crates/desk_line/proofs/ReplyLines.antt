@@ -9,14 +9,13 @@ use Rattle.louis_table.specs.Lines.{pieces_of}
 use Rattle.louis_table.proofs.LineLaws.{pieces_of-line}
 use Rattle.desk_command.specs.declared.style.Style.{Style}
 use Rattle.desk_command.specs.declared.style.Style.TheVariants.{Body, Heading}
-use Rattle.desk_book.specs.Book.{Book, Entry, Corrects, Undoes, Mark, Paragraph}
-use Rattle.desk_book.specs.Name.{is_name_character, is_proofreader_character}
-use Rattle.desk_book.specs.Print.{print_of}
+use Rattle.desk_model.specs.Book.{Book, Entry, Corrects, Undoes, Mark, Paragraph}
+use Rattle.desk_model.specs.Name.{is_name_character, is_proofreader_character}
+use Rattle.desk_model.specs.Print.{print_of}
 use Rattle.desk_command.specs.Numbers.{code_of}
-use Rattle.desk_book.specs.Sound.{IsSound, IsSoundEntry, IsSoundMark, IsSoundParagraph}
-use Rattle.desk_book.specs.Stored.{IsUnbarred, is_barred}
-use Rattle.desk_book.proofs.SoundBooks.{IsSoundParagraph-found, IsSoundTable-found}
-use Rattle.desk_book.proofs.SoundParaRows.{unbarred-print}
+use Rattle.desk_model.specs.Sound.{IsSound, IsSoundEntry, IsSoundMark, IsSoundParagraph}
+use Rattle.desk_model.specs.Stored.{IsUnbarred, is_barred}
+use Rattle.desk_model.proofs.Callers.{IsSoundParagraph-found, IsSoundTable-found, unbarred-print}
 use Rattle.desk_ends.specs.Cells.{text_of}
 use Rattle.desk_line.specs.declared.request.Query.{Query}
 use Rattle.desk_line.specs.Fields.{joined}

@@ -9,12 +9,12 @@ use Rattle.std.proofs.lemmas.Str.{chars-nil}
 use Rattle.desk_line.specs.Fields.{joined}
 use Rattle.desk_command.specs.declared.refusal.Refusal.{Refusal}
 use Rattle.desk_command.specs.declared.refusal.Refusal.TheVariants as refusals
-use Rattle.desk_book.specs.declared.told.Done.TheVariants.{Corrected, TookBack}
+use Rattle.desk_model.specs.declared.told.Done.TheVariants.{Corrected, TookBack}
 use Rattle.desk_command.specs.Numbers.{code_of}
-use Rattle.desk_book.specs.Book.{Book, Entry, Corrects, Undoes, Mark, Paragraph, Replacement, paragraph_of}
-use Rattle.desk_book.specs.Print.{print_of}
-use Rattle.desk_book.specs.Told.{TellsOf}
-use Rattle.desk_book.specs.Translated.{LacksCell, LacksPlace}
+use Rattle.desk_model.specs.Book.{Book, Entry, Corrects, Undoes, Mark, Paragraph, Replacement, paragraph_of}
+use Rattle.desk_model.specs.Print.{print_of}
+use Rattle.desk_model.specs.Told.{TellsOf}
+use Rattle.desk_model.specs.Translated.{LacksCell, LacksPlace}
 use Rattle.desk_line.specs.declared.request.Query.{Query}
 use Rattle.desk_line.specs.declared.request.Query.TheVariants as queries
 use Rattle.desk_line.specs.declared.waiting.Waiting.{Waiting}

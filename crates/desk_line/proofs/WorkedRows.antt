@@ -10,7 +10,7 @@ use Rattle.desk_command.specs.declared.command.Command.TheVariants as commands
 use Rattle.desk_command.specs.declared.refusal.Limit.TheVariants as limits
 use Rattle.desk_command.specs.declared.refusal.Refusal.TheVariants as refusals
 use Rattle.desk_command.specs.declared.style.Style.TheVariants.{Body}
-use Rattle.desk_book.specs.Book.{empty_book, Corrects, Undoes}
+use Rattle.desk_model.specs.Book.{empty_book, Corrects, Undoes}
 use Rattle.desk_line.specs.declared.answer.Answer.TheVariants as answers
 use Rattle.desk_line.specs.declared.head.Head.{Head}
 use Rattle.desk_line.specs.declared.head.Head.TheVariants as heads
@@ -23,8 +23,7 @@ use Rattle.desk_line.specs.Head.{Says, SaysDirective, asks, correct, correct_by,
 use Rattle.desk_line.specs.Lines.{CanBeHead}
 use Rattle.desk_line.specs.Reading.{head_in, head_of, query_in, directive_in, number_in, count_in, table_in, type_in as read_type_in, anchor_in}
 use Rattle.desk_line.specs.Answered.{Replies, asked, no_request}
-use Rattle.desk_line.specs.Reply.{IsReply, entry_line, mark_line, no_paragraph, refusal_line, listed, shown, shown_line, shown_text}
-use Rattle.desk_line.specs.Reply.{refused as refused_query, version as shows_version}
+use Rattle.desk_line.specs.Reply.{IsReply, entry_line, listed, mark_line, no_paragraph, refusal_line, refused as refused_query, shown, shown_line, shown_text, version as shows_version}
 use Rattle.desk_line.specs.Request.{IsWhole, Reads, Requests, Takes, WholeRequests, last, said, unsaid, whole}
 use Rattle.desk_line.proofs.HeadLines.{head-of-long, head-of-text}
 use Rattle.desk_line.proofs.HeadLaws.{head-found}

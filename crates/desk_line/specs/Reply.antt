@@ -9,11 +9,11 @@ use Rattle.desk_command.specs.declared.refusal.Refusal.{Refusal}
 use Rattle.desk_command.specs.declared.refusal.Refusal.TheVariants as refusals
 use Rattle.desk_command.specs.declared.style.Style.{Style}
 use Rattle.desk_command.specs.declared.style.Style.TheVariants.{Body, Heading}
-use Rattle.desk_book.specs.Book.{Book, Paragraph, Entry, Corrects, Undoes, Mark, Replacement, paragraph_of}
-use Rattle.desk_book.specs.ParagraphMarks.{marks_on}
-use Rattle.desk_book.specs.Print.{print_of}
+use Rattle.desk_model.specs.Book.{Book, Paragraph, Entry, Corrects, Undoes, Mark, Replacement, paragraph_of}
+use Rattle.desk_model.specs.ParagraphMarks.{marks_on}
+use Rattle.desk_model.specs.Print.{print_of}
 use Rattle.desk_command.specs.Numbers.{code_of, limit_number}
-use Rattle.desk_book.specs.Translated.{IsBraille, IsOutputPlace, IsPrintPlace, LacksPlace, LacksCell}
+use Rattle.desk_model.specs.Translated.{IsBraille, IsOutputPlace, IsPrintPlace, LacksPlace, LacksCell}
 use Rattle.desk_line.specs.declared.answer.Answer.{Answer}
 use Rattle.desk_line.specs.declared.answer.Answer.TheVariants.{Done, Refused, Asked, Syntax, NoMemory, Lost}
 use Rattle.desk_line.specs.declared.request.Query.{Query}

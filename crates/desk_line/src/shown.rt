@@ -1,8 +1,8 @@
 //! Puts the lines that queries show.
-ghost use Rattle.desk_book.specs.Book.{Entry, Mark as BookMark, Paragraph as BookParagraph};
-ghost use Rattle.desk_book.specs.Listed.{IsListed};
-ghost use Rattle.desk_book.specs.ParagraphMarks.{TellsOf as TellsOfMark};
-ghost use Rattle.desk_book.specs.Told.{TellsOf};
+ghost use Rattle.desk_model.specs.Book.{Entry, Mark as BookMark, Paragraph as BookParagraph};
+ghost use Rattle.desk_model.specs.Listed.{IsListed};
+ghost use Rattle.desk_model.specs.ParagraphMarks.{TellsOf as TellsOfMark};
+ghost use Rattle.desk_model.specs.Told.{TellsOf};
 ghost use Rattle.desk_ends.specs.Cells.{text_of};
 ghost use Rattle.desk_line.specs.Reply.{entry_line, listed, mark_line, shown_line, shown_text};
 ghost use Rattle.desk_line.specs.Waiting.{Adds};

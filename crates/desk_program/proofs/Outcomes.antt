@@ -3,7 +3,7 @@ use Rattle.std.proofs.Common.{◌≡◌, ◌⊎◌, ℕ, Bool, true, false, List
 use Rattle.std.specs.Prelude.{IsErrAnd, MatchResult, Result, Ok, Err}
 use Rattle.sqlite_trees.specs.View.{IsQuiet, IsRolledBack}
 use Rattle.sqlite.specs.Held.{Held, state}
-use Rattle.desk_book.specs.Book.{Book}
+use Rattle.desk_model.specs.Book.{Book}
 use Rattle.desk_brf.specs.Layout.{Layout}
 use Rattle.desk_ends.specs.declared.ends.Sink.{Ghosts as Sink}
 use Rattle.desk_ends.specs.declared.ends.Source.{Ghosts as Source}

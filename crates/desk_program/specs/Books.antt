@@ -6,7 +6,7 @@ use Rattle.sqlite_trees.specs.View.{IsRolledBack}
 use Rattle.sqlite_trees.specs.declared.store.Store.{Ghosts as Database}
 use Rattle.sqlite.specs.Held.{Held, state}
 use Rattle.sqlite.specs.State.{HasCleanDisk, Survives}
-use Rattle.desk_book.specs.Book.{Book}
+use Rattle.desk_model.specs.Book.{Book}
 use Rattle.desk_brf.specs.Layout.{Layout}
 use Rattle.desk_brf.specs.Volume.{IsFirstEightDot, IsVolume}
 use Rattle.desk_brf.specs.Volumes.{volume_of}

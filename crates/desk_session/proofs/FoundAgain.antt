@@ -10,7 +10,7 @@ use Rattle.sqlite.specs.Held.{Held, state}
 use Rattle.sqlite.specs.State.{IsLive, State}
 use Rattle.sqlite.specs.State.{Opens as IsOpenedAnew}
 use Rattle.sql_tables.specs.States.{IsSettled, Leaves}
-use Rattle.desk_book.specs.Book.{Book}
+use Rattle.desk_model.specs.Book.{Book}
 use Rattle.desk_store.specs.Books.{HasNewTables, LeavesBook}
 use Rattle.desk_store.proofs.StoppedOpenings.{still_shown}
 use Rattle.desk_store.proofs.Reopening.{finds_such, holds_new, keeps, second_format}

@@ -2,9 +2,9 @@
 use Rattle.std.proofs.Common.{◌≡◌, ◌∙◌, ◌≤◌, true, false, List, [], ◌∷◌, ◌++◌, length, refl, sym, ap, subst, arith, true≢false}
 use Rattle.std.specs.List.{All, Contains}
 use Rattle.std.proofs.lemmas.List.Elements.{All-contains, All-cons, All-head, All-nil, All-tail}
-use Rattle.desk_book.specs.After.{After}
-use Rattle.desk_book.specs.Book.{Book}
-use Rattle.desk_book.proofs.Histories.{After-append}
+use Rattle.desk_model.specs.After.{After}
+use Rattle.desk_model.specs.Book.{Book}
+use Rattle.desk_model.proofs.Callers.{After-append}
 use Rattle.desk_session.specs.Session.{AllButOne, Given, HoldsAcknowledged, IsLife, IsSession, Lived, commands_of, kept_commands}
 use Rattle.desk_session.proofs.Sessions.{IsSession-all_but_one}
 

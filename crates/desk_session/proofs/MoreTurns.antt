@@ -2,8 +2,8 @@
 use Rattle.std.proofs.Common.{◌≡◌, ◌≢◌, ℕ, true, false, List, [], ◌∷◌, ◌++◌, refl, sym, ap, subst, ◌∙◌, append_assoc, inl, inr}
 use Rattle.std.specs.List.{AllByRecursion}
 use Rattle.std.proofs.lemmas.List.{append-nil}
-use Rattle.desk_book.specs.After.{After}
-use Rattle.desk_book.specs.Book.{Book}
+use Rattle.desk_model.specs.After.{After}
+use Rattle.desk_model.specs.Book.{Book}
 use Rattle.desk_line.specs.declared.answer.Answer.{Answer}
 use Rattle.desk_line.specs.declared.answer.Answer.TheVariants as answers
 use Rattle.desk_line.specs.Answered.{IsAnswered, accepted, asked, lost, no_request, refused, unplanned, unread}

@@ -7,9 +7,9 @@ use Rattle.std.proofs.lemmas.List.{append-nil, length-append, map-append}
 use Rattle.sqlite_trees.specs.Tree.{Trees}
 use Rattle.sqlite.specs.State.{HasCleanDisk, State}
 use Rattle.desk_command.specs.declared.command.Command.{Command}
-use Rattle.desk_book.specs.After.{After}
-use Rattle.desk_book.specs.Book.{Book}
-use Rattle.desk_book.proofs.Histories.{After-append}
+use Rattle.desk_model.specs.After.{After}
+use Rattle.desk_model.specs.Book.{Book}
+use Rattle.desk_model.proofs.Callers.{After-append}
 use Rattle.desk_ends.specs.declared.ends.Failed.{Failed}
 use Rattle.desk_ends.specs.Ends.{IsFlushed}
 use Rattle.desk_ends.specs.Input.{Input, KnowsEnd, Used, unread}

@@ -4,19 +4,18 @@ use Rattle.std.specs.List.{Contains}
 use Rattle.std.proofs.lemmas.List.Elements.{All-cons, All-nil, Contains-append_cases, Contains-append_right, Contains-push_cases}
 use Rattle.desk_command.specs.declared.command.Command.{Command}
 use Rattle.desk_command.specs.declared.refusal.Refusal.TheVariants.{Moved}
-use Rattle.desk_book.specs.After.{After}
-use Rattle.desk_book.specs.Book.{Book}
-use Rattle.desk_book.specs.Refusals.{IsAccepted}
-use Rattle.desk_book.specs.Step.{Makes}
-use Rattle.desk_book.proofs.Expecting.{holds-expected}
+use Rattle.desk_model.specs.After.{After}
+use Rattle.desk_model.specs.Book.{Book}
+use Rattle.desk_model.specs.Refusals.{IsAccepted}
+use Rattle.desk_model.specs.Step.{Makes}
+use Rattle.desk_model.proofs.Callers.{holds-expected}
 use Rattle.desk_line.specs.declared.answer.Answer.{Answer}
 use Rattle.desk_line.specs.declared.answer.Answer.TheVariants as answers
 use Rattle.desk_line.specs.declared.request.Request.TheVariants.{Do}
 use Rattle.desk_line.specs.Answered.{IsAnswered, accepted, refused, asked, no_request, unread, unplanned, lost}
 use Rattle.desk_line.specs.Request.{Reads}
 use Rattle.desk_line.proofs.RequestLaws.{one-request}
-use Rattle.desk_session.specs.Session.{AllButOne, EndsLost, Given, Gives, IsCommand, IsGivenBy, IsHeld, IsSession, MayGoOn, Turn, commands_of}
-use Rattle.desk_session.specs.Session.{done as given_done, lost as given_lost}
+use Rattle.desk_session.specs.Session.{AllButOne, EndsLost, Given, Gives, IsCommand, IsGivenBy, IsHeld, IsSession, MayGoOn, Turn, commands_of, done as given_done, lost as given_lost}
 
 -- ---- lists
 

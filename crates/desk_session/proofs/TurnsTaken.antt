@@ -9,10 +9,10 @@ use Rattle.sqlite.specs.State.{HasCleanDisk, State, Survives}
 use Rattle.desk_command.specs.declared.command.Command.{Command}
 use Rattle.desk_command.specs.declared.refusal.Refusal.{Refusal}
 use Rattle.desk_command.specs.declared.refusal.Refusal.TheVariants as refusals
-use Rattle.desk_book.specs.Book.{Book}
+use Rattle.desk_model.specs.Book.{Book}
 use Rattle.desk_book.specs.Changes.{Carries, Change}
-use Rattle.desk_book.specs.Judging.{MayLackMemory}
-use Rattle.desk_book.specs.Refusals.{IsAccepted, IsRefused}
+use Rattle.desk_model.specs.Judging.{MayLackMemory}
+use Rattle.desk_model.specs.Refusals.{IsAccepted, IsRefused}
 use Rattle.desk_ends.specs.Ends.{IsFlushed}
 use Rattle.desk_ends.proofs.Sending.{at_err, at_ok}
 use Rattle.desk_line.specs.declared.answer.Answer.{Answer}

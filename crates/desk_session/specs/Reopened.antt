@@ -1,8 +1,8 @@
 -- What the next session finds of one that ended, however it did.
 use Rattle.std.specs.Prelude.{List}
 use Rattle.sqlite.specs.State.{State}
-use Rattle.desk_book.specs.After.{After}
-use Rattle.desk_book.specs.Book.{Book}
+use Rattle.desk_model.specs.After.{After}
+use Rattle.desk_model.specs.Book.{Book}
 use Rattle.desk_rows.specs.Layout.{Layout}
 use Rattle.desk_session.specs.Served.{MayServe}
 use Rattle.desk_session.specs.Session.{Given, HoldsAcknowledged, Turn, commands_of}

@@ -5,8 +5,8 @@ use Rattle.std.specs.List.{AllByRecursion}
 use Rattle.sqlite_trees.specs.Tree.{Trees}
 use Rattle.sqlite.specs.State.{HasCleanDisk, State}
 use Rattle.sql_tables.specs.States.{Leaves}
-use Rattle.desk_book.specs.After.{After}
-use Rattle.desk_book.specs.Book.{Book}
+use Rattle.desk_model.specs.After.{After}
+use Rattle.desk_model.specs.Book.{Book}
 use Rattle.desk_ends.specs.Ends.{IsFlushed}
 use Rattle.desk_ends.specs.Limits.{most_input}
 use Rattle.desk_line.specs.Answered.{IsAnswered}

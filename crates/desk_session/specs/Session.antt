@@ -2,8 +2,8 @@
 use Rattle.std.specs.Prelude.{◌≡◌, ◌≢◌, ◌⊎◌, ◌≤◌, ℕ, Bool, true, false, List, [], ◌∷◌, ◌++◌, length, map, Option}
 use Rattle.std.specs.List.{All, flat_map}
 use Rattle.desk_command.specs.declared.command.Command.{Command}
-use Rattle.desk_book.specs.After.{After}
-use Rattle.desk_book.specs.Book.{Book}
+use Rattle.desk_model.specs.After.{After}
+use Rattle.desk_model.specs.Book.{Book}
 use Rattle.desk_line.specs.declared.answer.Answer.{Answer}
 use Rattle.desk_line.specs.declared.answer.Answer.TheVariants.{Done, Refused, Asked, Syntax, NoMemory, Lost}
 use Rattle.desk_line.specs.declared.request.Request.TheVariants.{Do}

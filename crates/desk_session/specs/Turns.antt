@@ -3,9 +3,9 @@ use Rattle.std.specs.Prelude.{◌≡◌, ℕ, Bool, true, false, List, Option, I
 use Rattle.std.specs.Io.KnownBytes.{Appends}
 use Rattle.sqlite.specs.State.{HasCleanDisk, State}
 use Rattle.desk_command.specs.declared.command.Command.{Command}
-use Rattle.desk_book.specs.Book.{Book}
-use Rattle.desk_book.specs.Refusals.{IsAccepted}
-use Rattle.desk_book.specs.Step.{Makes}
+use Rattle.desk_model.specs.Book.{Book}
+use Rattle.desk_model.specs.Refusals.{IsAccepted}
+use Rattle.desk_model.specs.Step.{Makes}
 use Rattle.std.specs.Prelude.{None}
 use Rattle.desk_ends.specs.Ends.{IsFlushed}
 use Rattle.desk_line.specs.declared.answer.Answer.{Answer}

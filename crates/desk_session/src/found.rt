@@ -1,5 +1,5 @@
 //! Laws of what the next session finds.
-ghost use Rattle.desk_book.specs.Book.{Book};
+ghost use Rattle.desk_model.specs.Book.{Book};
 ghost use Rattle.desk_rows.specs.Layout.{Layout};
 ghost use Rattle.desk_session.specs.Reopened.{IsKeptBook, MayBegin};
 ghost use Rattle.desk_session.specs.Served.{EndsAs, IsLeft, MayServe};

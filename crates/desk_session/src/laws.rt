@@ -1,6 +1,6 @@
 //! Laws of sessions.
-ghost use Rattle.desk_book.specs.After.{After};
-ghost use Rattle.desk_book.specs.Book.{Book};
+ghost use Rattle.desk_model.specs.After.{After};
+ghost use Rattle.desk_model.specs.Book.{Book};
 ghost use Rattle.desk_line.specs.declared.answer.Answer.TheVariants.{Done};
 ghost use Rattle.desk_line.specs.Request.{Requests};
 ghost use Rattle.desk_session.specs.Requests.{FirstRequests};

@@ -1,6 +1,6 @@
 //! A session over two ends.
 ghost use Rattle.desk_session.specs.Served.{Served};
-ghost use Rattle.desk_book.specs.Book.{Book};
+ghost use Rattle.desk_model.specs.Book.{Book};
 ghost use Rattle.desk_store.specs.Books.{Store as Shown, shown_by};
 ghost use Rattle.std.specs.Prelude.{true, ◌≡◌};
 

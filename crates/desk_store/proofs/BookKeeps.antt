@@ -3,13 +3,13 @@ use Rattle.std.proofs.Common.{◌≡◌, true, List, [], ◌∷◌, inl, inr, re
 use Rattle.sqlite_trees.specs.Tree.{Trees}
 use Rattle.sqlite.specs.State.{HasCleanDisk, State, Survives}
 use Rattle.sql_tables.specs.States.{IsSettled}
-use Rattle.desk_book.specs.Book.{Book}
-use Rattle.desk_book.specs.ChangePuts.{LeadTo}
+use Rattle.desk_model.specs.Book.{Book}
+use Rattle.desk_model.specs.Lent.{LeadTo}
 use Rattle.desk_book.specs.Changes.{Change}
 use Rattle.desk_parts.specs.declared.file_table.FileTable.TheVariants.{NamedCorr}
 use Rattle.desk_parts.specs.Puts.{RowPut, PutBook, PutTab, PutPara, PutMark, PutCache, PutEntry, SetPlace, SetFlags, SetTable, SetPrint, SetSpan, SetResolved, SetVersion}
 use Rattle.desk_parts.specs.FileRows.{FileRows, table_of}
-use Rattle.desk_book.specs.Shows.{Shows as RowsShow}
+use Rattle.desk_model.specs.Shows.{Shows as RowsShow}
 use Rattle.desk_store.specs.BookFile.{rows_of}
 use Rattle.desk_store.specs.Books.{HasNewTables, HoldsBook, HoldsKept, IsKept, LeavesBook, LeavesEither, MayKeep, ShowsBook}
 use Rattle.desk_rows.specs.Contents.{Contents}

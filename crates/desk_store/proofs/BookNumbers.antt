@@ -7,11 +7,11 @@ use Rattle.std.proofs.lemmas.Bool.Decides.{Decides-eqb, Decides-int_eq}
 use Rattle.std.proofs.lemmas.Cmp.{int_eq_equiv}
 use Rattle.std.proofs.lemmas.List.Sorted.{IsPermutation-map, IsPermutation-sym}
 use Rattle.std.proofs.lemmas.Map.Keys.{IsDistinct-IsPermutation}
-use Rattle.desk_book.specs.Book.{Book, Mark, Paragraph}
+use Rattle.desk_model.specs.Book.{Book, Mark, Paragraph}
 use Rattle.desk_parts.specs.FileRows.{FileRows, spelled_mark, spelled_para}
 use Rattle.desk_parts.specs.Rows.{Cached, Mark as MarkRow, Para}
-use Rattle.desk_book.specs.Shows.{Shows, mark_row_of, para_of, paras_of}
-use Rattle.desk_book.proofs.Numbering.{IsDistinct-numbers, IsDistinct-range}
+use Rattle.desk_model.specs.Shows.{Shows, mark_row_of, para_of, paras_of}
+use Rattle.desk_model.proofs.Callers.{IsDistinct-numbers, IsDistinct-range}
 use Rattle.desk_store.specs.BookFile.{HaveOwnNumbers}
 use Rattle.desk_rows.specs.Whole.{DifferBy}
 

@@ -3,11 +3,11 @@ use Rattle.std.proofs.Common.{◌≡◌, Bool, true, false, if◌then◌else◌,
 use Rattle.sqlite_schema.specs.declared.schema.Schema.{Schema}
 use Rattle.sqlite_trees.specs.Tree.{Trees}
 use Rattle.sqlite.specs.State.{State}
-use Rattle.desk_book.specs.Book.{empty_book}
+use Rattle.desk_model.specs.Book.{empty_book}
 use Rattle.desk_parts.specs.FileRows.{EntryRows, FileRows, Named, Unnamed}
 use Rattle.desk_parts.specs.Rows.{Cached}
-use Rattle.desk_book.specs.SameRows.{AreSameRows, AreSameCaches, AreSameEntries}
-use Rattle.desk_book.proofs.FilledRows.{new-shown}
+use Rattle.desk_model.specs.SameRows.{AreSameRows, AreSameCaches, AreSameEntries}
+use Rattle.desk_model.proofs.Callers.{new-shown}
 use Rattle.desk_store.specs.BookFile.{rows_of}
 use Rattle.desk_store.specs.Books.{HasNewTables, HoldsBook, ShowsBook}
 use Rattle.desk_rows.specs.Contents.{Contents}

@@ -3,11 +3,8 @@ use Rattle.std.proofs.Common.{◌≡◌, ◌∙◌, ℤ, pos, ◌≤ℤ◌, Bool
 use Rattle.std.specs.List.{AllByRecursion}
 use Rattle.std.proofs.lemmas.Int.{ints}
 use Rattle.std.proofs.lemmas.List.Elements.{All-from_recursion}
-use Rattle.desk_book.specs.Damage.{HasItsTables, IsDamagedBook}
-use Rattle.desk_book.proofs.FirstDamage.{one_damage}
-use Rattle.desk_book.proofs.SoundEntryRows.{sound}
-use Rattle.desk_book.proofs.UndamagedBook.{shown}
-use Rattle.desk_book.proofs.UndamagedRows.{sound-book}
+use Rattle.desk_model.specs.Damage.{HasItsTables, IsDamagedBook}
+use Rattle.desk_model.proofs.Callers.{book-undamaged as sound-book, one_damage, shown-undamaged as shown, undamaged as sound}
 use Rattle.desk_parts.specs.FileRows.{AreTexts, HasEntryTexts, Named, Unnamed, entries_in, unnamed as without_name}
 use Rattle.desk_parts.specs.Rows.{Corr}
 use Rattle.desk_parts.specs.declared.file_table.FileTable.{FileTable}

@@ -5,15 +5,15 @@ use Rattle.sqlite_trees.specs.Tree.{Trees}
 use Rattle.sqlite_catalog.specs.Change.{KeepsRows}
 use Rattle.sqlite.specs.State.{State}
 use Rattle.sql_tables.specs.Making.{KeepsAside}
-use Rattle.desk_book.specs.Book.{Book}
+use Rattle.desk_model.specs.Book.{Book}
 use Rattle.desk_parts.specs.FileRows.{FileRows}
-use Rattle.desk_book.specs.FilledRows.{Fills, entry_puts, with_empty}
+use Rattle.desk_model.specs.FilledRows.{Fills, entry_puts, with_empty}
 use Rattle.desk_parts.specs.Puts.{RowPut, PutBook, PutTab, PutPara, PutMark, PutCache, PutEntry, SetPlace, SetFlags, SetTable, SetPrint, SetSpan, SetResolved, SetVersion, with_puts}
 use Rattle.desk_parts.specs.Rows.{Cached, NamedCorr}
-use Rattle.desk_book.specs.Shows.{Shows as RowsShow}
-use Rattle.desk_book.specs.declared.filling.NewTables.{NewTables}
-use Rattle.desk_book.specs.declared.filling.NewTables.TheVariants.{Braille, Entries, EntriesAndBraille}
-use Rattle.desk_book.proofs.FilledRows.{filled-shown}
+use Rattle.desk_model.specs.Shows.{Shows as RowsShow}
+use Rattle.desk_model.specs.declared.new_tables.NewTables.{NewTables}
+use Rattle.desk_model.specs.declared.new_tables.NewTables.TheVariants.{Braille, Entries, EntriesAndBraille}
+use Rattle.desk_model.proofs.Callers.{filled-shown}
 use Rattle.desk_store.specs.BookFile.{rows_of}
 use Rattle.desk_rows.specs.Contents.{Contents}
 use Rattle.desk_rows.specs.Described.{Which, books, caches, corrs, named_corrs, described}

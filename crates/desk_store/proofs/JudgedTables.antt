@@ -9,15 +9,15 @@ use Rattle.sqlite_schema.specs.declared.schema.Schema.{Schema}
 use Rattle.sqlite_trees.proofs.ListLemmas.{all-permutation}
 use Rattle.sqlite.specs.Effect.{Database}
 use Rattle.sqlite.specs.State.{State}
-use Rattle.desk_book.specs.Book.{Book}
-use Rattle.desk_book.specs.Damage.{IsDamagedBook}
+use Rattle.desk_model.specs.Book.{Book}
+use Rattle.desk_model.specs.Damage.{IsDamagedBook}
 use Rattle.desk_parts.specs.FileRows.{EntryRows, FileRows, Named, Unnamed, format_of}
 use Rattle.desk_parts.specs.Parts.{entry_rows, rows_in}
-use Rattle.desk_book.specs.Shows.{Shows as RowsShow, book_row_of}
+use Rattle.desk_model.specs.Shows.{Shows as RowsShow, book_row_of}
 use Rattle.desk_parts.specs.declared.file_table.FileTable.TheVariants as file
 use Rattle.desk_parts.specs.declared.parts.Parts.{Parts}
 use Rattle.desk_parts.specs.declared.rows.BookRow.{BookRow}
-use Rattle.desk_book.proofs.SoundEntryRows.{sound}
+use Rattle.desk_model.proofs.Callers.{undamaged as sound}
 use Rattle.desk_rows.specs.Asked.{AnswersRows, AnyRows, asked}
 use Rattle.desk_store.specs.BookFile.{rows_of}
 use Rattle.desk_rows.specs.Contents.{Contents}

@@ -10,17 +10,14 @@ use Rattle.sqlite.specs.Held.{Held, state}
 use Rattle.sqlite.specs.State.{HasCleanDisk, State, Survives}
 use Rattle.sqlite.proofs.StateLemmas.{survives_then}
 use Rattle.sql_tables.specs.States.{IsSettled, Leaves, ShowsAsBefore}
-use Rattle.desk_book.specs.Book.{Book, empty_book}
+use Rattle.desk_model.specs.Book.{Book, empty_book}
 use Rattle.desk_parts.specs.FileRows.{FileRows}
-use Rattle.desk_book.specs.Rebuilt.{IsFaultOf}
-use Rattle.desk_book.specs.Shows.{Shows as RowsShow}
-use Rattle.desk_book.specs.declared.filling.NewTables.{NewTables}
-use Rattle.desk_book.specs.declared.damage.PartsFault.{PartsFault}
-use Rattle.desk_book.specs.declared.damage.PartsFault.TheVariants as rebuilt
-use Rattle.desk_book.proofs.OneBook.{one_book}
-use Rattle.desk_book.proofs.SameDamage.{first-damage}
-use Rattle.desk_book.proofs.SameRows.{shown, turned}
-use Rattle.desk_book.proofs.SoundEntryRows.{sound}
+use Rattle.desk_model.specs.Rebuilt.{IsFaultOf}
+use Rattle.desk_model.specs.Shows.{Shows as RowsShow}
+use Rattle.desk_model.specs.declared.new_tables.NewTables.{NewTables}
+use Rattle.desk_model.specs.declared.fault.PartsFault.{PartsFault}
+use Rattle.desk_model.specs.declared.fault.PartsFault.TheVariants as rebuilt
+use Rattle.desk_model.proofs.Callers.{first-damage, one_book, shown-same as shown, turned-same as turned, undamaged as sound}
 use Rattle.desk_store.specs.BookFile.{rows_of}
 use Rattle.desk_store.specs.Books.{HoldsBook, LeavesBook, ShowsBook}
 use Rattle.desk_rows.specs.Contents.{Contents}

@@ -10,8 +10,8 @@ use Rattle.sqlite.specs.State.{IsLive, State}
 use Rattle.sqlite.specs.State.{Opens as IsOpenedAnew}
 use Rattle.sql_tables.specs.States.{IsSettled}
 use Rattle.sql_tables.proofs.OneSchema.{one_schema}
-use Rattle.desk_book.specs.Book.{Book, empty_book}
-use Rattle.desk_book.proofs.Members.{Contains-behind, Contains-here}
+use Rattle.desk_model.specs.Book.{Book, empty_book}
+use Rattle.desk_model.proofs.Callers.{Contains-behind, Contains-here}
 use Rattle.desk_store.specs.Books.{HasNewTables, HoldsBook, LeavesBook}
 use Rattle.desk_rows.specs.Contents.{Contents}
 use Rattle.desk_rows.specs.Described.{Which, books, tabs, paras, corrs, marks, caches, named_corrs}

@@ -14,10 +14,10 @@ use Rattle.sqlite.specs.Values.{IsInt}
 use Rattle.sql_tables.specs.Rows.{Lists, picked}
 use Rattle.sql_tables.specs.States.{HasTable}
 use Rattle.sql_tables.proofs.RowKinds.{integer_of}
-use Rattle.desk_book.specs.Book.{Book}
-use Rattle.desk_book.specs.SameRows.{AreSameCaches, AreSameEntries, AreSameRows}
-use Rattle.desk_book.specs.Shows.{Shows as RowsShow, book_row_of}
-use Rattle.desk_book.proofs.SameRows.{shown as shown_too}
+use Rattle.desk_model.specs.Book.{Book}
+use Rattle.desk_model.specs.SameRows.{AreSameCaches, AreSameEntries, AreSameRows}
+use Rattle.desk_model.specs.Shows.{Shows as RowsShow, book_row_of}
+use Rattle.desk_model.proofs.Callers.{shown-same as shown_too}
 use Rattle.desk_parts.specs.FileRows.{EntryRows, FileRows, Named, Unnamed, format_of}
 use Rattle.desk_parts.specs.Rows.{Cached, StoredTab}
 use Rattle.desk_rows.specs.Asked.{Gives, asked, given}

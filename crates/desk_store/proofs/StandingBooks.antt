@@ -7,14 +7,13 @@ use Rattle.std.proofs.lemmas.List.Elements.{recursion_from_All}
 use Rattle.sqlite_trees.specs.declared.store.Store.{Ghosts}
 use Rattle.sqlite.specs.Held.{Held, state}
 use Rattle.sqlite.specs.State.{State}
-use Rattle.desk_book.specs.Book.{Book}
+use Rattle.desk_model.specs.Book.{Book}
 use Rattle.desk_parts.specs.FileRows.{HasEntryTexts, Named, Unnamed, entries_in, format_of, unnamed as without_name}
 use Rattle.desk_parts.specs.Rows.{Corr}
-use Rattle.desk_book.specs.Shows.{Shows as RowsShow, book_row_of}
+use Rattle.desk_model.specs.Shows.{Shows as RowsShow, book_row_of}
 use Rattle.desk_parts.specs.declared.file_table.FileTable.TheVariants.{Book as BookTable}
 use Rattle.desk_parts.specs.declared.rows.BookRow.{BookRow}
-use Rattle.desk_book.proofs.OneBook.{one_book}
-use Rattle.desk_book.proofs.SoundEntryRows.{sound}
+use Rattle.desk_model.proofs.Callers.{one_book, undamaged as sound}
 use Rattle.desk_store.specs.BookFile.{rows_of}
 use Rattle.desk_rows.specs.Contents.{Contents}
 use Rattle.desk_rows.specs.Described.{books, corrs, named_corrs}

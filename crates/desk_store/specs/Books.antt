@@ -8,10 +8,10 @@ use Rattle.sqlite.specs.declared.error.Error.{Error}
 use Rattle.sqlite.specs.Held.{Held, held_code, state}
 use Rattle.sqlite.specs.State.{State}
 use Rattle.sql_tables.specs.States.{Leaves}
-use Rattle.desk_book.specs.Book.{Book}
+use Rattle.desk_model.specs.Book.{Book}
 use Rattle.desk_book.specs.Changes.{Carries, Change, change_puts}
 use Rattle.desk_parts.specs.Puts.{LendsFirst}
-use Rattle.desk_book.specs.Shows.{Shows as RowsShow}
+use Rattle.desk_model.specs.Shows.{Shows as RowsShow}
 use Rattle.desk_command.specs.declared.command.Command.{Command}
 use Rattle.desk_store.specs.BookFile.{rows_of}
 use Rattle.desk_rows.specs.Contents.{Contents}

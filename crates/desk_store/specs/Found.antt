@@ -6,10 +6,10 @@ use Rattle.sqlite_value.specs.Order.{Row}
 use Rattle.sqlite.specs.State.{State, Shown}
 use Rattle.sql_tables.specs.Kinds.{HasKinds}
 use Rattle.sql_tables.specs.States.{HasAnswer}
-use Rattle.desk_book.specs.Book.{Book}
+use Rattle.desk_model.specs.Book.{Book}
 use Rattle.desk_parts.specs.FileRows.{EntryRows, FileRows, Named, Unnamed}
 use Rattle.desk_parts.specs.Rows.{Cached, StoredTab}
-use Rattle.desk_book.specs.Shows.{Shows as RowsShow}
+use Rattle.desk_model.specs.Shows.{Shows as RowsShow}
 use Rattle.desk_rows.specs.Asked.{Gives, asked}
 use Rattle.desk_rows.specs.Described.{Which, books, tabs, paras, corrs, marks, caches, named_corrs}
 use Rattle.desk_store.specs.Formats.{Format, Presence, needed, optional, foreign, unread, unnamed, named, presence}

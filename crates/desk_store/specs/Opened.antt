@@ -10,15 +10,15 @@ use Rattle.sqlite.specs.Held.{Held, state}
 use Rattle.sqlite.specs.State.{HasCleanDisk, State, Survives}
 use Rattle.sql_tables.specs.Making.{KeepsAside}
 use Rattle.sql_tables.specs.States.{Leaves, ShowsAsBefore}
-use Rattle.desk_book.specs.Book.{Book, empty_book}
-use Rattle.desk_book.specs.Damage.{IsDamagedBook, IsFirstDamage}
+use Rattle.desk_model.specs.Book.{Book, empty_book}
+use Rattle.desk_model.specs.Damage.{IsDamagedBook, IsFirstDamage}
 use Rattle.desk_parts.specs.FileRows.{EntryRows, FileRows, Named, Unnamed}
 use Rattle.desk_parts.specs.Puts.{LendsFirst, RowPut}
-use Rattle.desk_book.specs.FilledRows.{Fills}
-use Rattle.desk_book.specs.SameRows.{AreSameRows}
-use Rattle.desk_book.specs.Shows.{Shows as RowsShow}
-use Rattle.desk_book.specs.declared.filling.NewTables.{NewTables}
-use Rattle.desk_book.specs.declared.filling.NewTables.TheVariants.{Braille, Entries, EntriesAndBraille}
+use Rattle.desk_model.specs.FilledRows.{Fills}
+use Rattle.desk_model.specs.SameRows.{AreSameRows}
+use Rattle.desk_model.specs.Shows.{Shows as RowsShow}
+use Rattle.desk_model.specs.declared.new_tables.NewTables.{NewTables}
+use Rattle.desk_model.specs.declared.new_tables.NewTables.TheVariants.{Braille, Entries, EntriesAndBraille}
 use Rattle.desk_parts.specs.declared.file_table.FileTable.{FileTable}
 use Rattle.desk_parts.specs.declared.file_table.FileTable.TheVariants.{Book as BookTable}
 use Rattle.desk_parts.specs.declared.rows.BookRow.{BookRow}

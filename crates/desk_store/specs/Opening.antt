@@ -5,14 +5,14 @@ use Rattle.std.specs.Ordering.{int_eq}
 use Rattle.sqlite.specs.declared.error.Error.{Error}
 use Rattle.sqlite.specs.State.{State}
 use Rattle.sqlite_schema.specs.declared.schema.Schema.{Schema}
-use Rattle.desk_book.specs.Damage.{IsDamagedBook, IsSoundBookRow}
+use Rattle.desk_model.specs.Damage.{IsDamagedBook, IsSoundBookRow}
 use Rattle.desk_parts.specs.FileRows.{FileRows}
 use Rattle.desk_parts.specs.Parts.{rows_in}
-use Rattle.desk_book.specs.SameRows.{AreSameRows}
+use Rattle.desk_model.specs.SameRows.{AreSameRows}
 use Rattle.desk_parts.specs.declared.file_table.FileTable.TheVariants.{Book}
 use Rattle.desk_parts.specs.declared.parts.Parts.{Parts}
-use Rattle.desk_book.specs.declared.damage.PartsFault.{PartsFault}
-use Rattle.desk_book.specs.declared.damage.PartsFault.TheVariants as rebuilt
+use Rattle.desk_model.specs.declared.fault.PartsFault.{PartsFault}
+use Rattle.desk_model.specs.declared.fault.PartsFault.TheVariants as rebuilt
 use Rattle.desk_parts.specs.declared.rows.BookRow.{BookRow}
 use Rattle.desk_store.specs.BookFile.{rows_of}
 use Rattle.desk_rows.specs.Contents.{Contents}

@@ -4,7 +4,7 @@ use Rattle.std.specs.List.{Contains}
 use Rattle.sqlite_trees.specs.Tree.{Trees}
 use Rattle.sqlite.specs.State.{State}
 use Rattle.sql_tables.specs.States.{Leaves}
-use Rattle.desk_book.specs.Book.{Book}
+use Rattle.desk_model.specs.Book.{Book}
 use Rattle.desk_rows.specs.Layout.{Layout}
 use Rattle.desk_store.specs.Books.{HasNewTables, HoldsBook, IsKept}
 use Rattle.desk_store.specs.Formats.{Format, IsOfFormat}

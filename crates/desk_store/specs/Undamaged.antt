@@ -1,8 +1,8 @@
 -- When a file shows a book.
 use Rattle.std.specs.Prelude.{ℤ}
-use Rattle.desk_book.specs.Book.{Book}
-use Rattle.desk_book.specs.Damage.{IsDamaged}
-use Rattle.desk_book.specs.Shows.{Shows as RowsShow}
+use Rattle.desk_model.specs.Book.{Book}
+use Rattle.desk_model.specs.Damage.{IsDamaged}
+use Rattle.desk_model.specs.Shows.{Shows as RowsShow}
 use Rattle.desk_parts.specs.declared.file_table.FileTable.{FileTable}
 use Rattle.desk_parts.specs.declared.rows.BookRow.{BookRow}
 use Rattle.desk_rows.specs.Contents.{Contents}

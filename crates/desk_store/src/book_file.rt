@@ -5,11 +5,11 @@
 ghost use Rattle.std.specs.Prelude.{◌≡◌, false, IfErr, IfOk, IsTrue, MatchBool, None, OnOk, option_map};
 ghost use Rattle.std.specs.List.{list_all, list_any};
 ghost use Rattle.sqlite.specs.Held.{state};
-ghost use Rattle.desk_book.specs.Damage.{IsSoundBookRow};
+ghost use Rattle.desk_model.specs.Damage.{IsSoundBookRow};
 ghost use Rattle.sqlite.specs.State.{HasCleanDisk, Survives};
-ghost use Rattle.desk_book.specs.Book.{Book};
+ghost use Rattle.desk_model.specs.Book.{Book};
 ghost use Rattle.desk_parts.specs.Parts.{entry_rows, rows_in};
-ghost use Rattle.desk_book.specs.SameRows.{AreSameCaches, AreSameEntries};
+ghost use Rattle.desk_model.specs.SameRows.{AreSameCaches, AreSameEntries};
 ghost use Rattle.desk_rows.specs.Contents.{Contents};
 ghost use Rattle.desk_store.specs.Formats.{Format, HasThoseRead, IsOfFormat};
 ghost use Rattle.desk_store.specs.Found.{AreCellsIn, AreEntriesIn, AreFileRows, AreOtherRows, CanAllAnswer, RowsShowIn, format_kept};

@@ -1,6 +1,6 @@
 //! Laws of what opening a book's file finds.
 
-ghost use Rattle.desk_book.specs.Book.{Book, empty_book};
+ghost use Rattle.desk_model.specs.Book.{Book, empty_book};
 ghost use Rattle.desk_rows.specs.Contents.{Contents};
 ghost use Rattle.desk_rows.specs.Layout.{Layout};
 ghost use Rattle.desk_store.specs.Books.{HasNewTables, LeavesBook, LeavesEither};

@@ -3,9 +3,9 @@
 ghost use Rattle.desk_store.specs.BookFile.{HaveOwnNumbers, rows_of};
 ghost use Rattle.desk_store.specs.Books.{HasNewTables, HoldsKept, IsKept, LeadsTo, LeavesBook, LeavesEither, MayKeep, ShowsBook, shown_by};
 ghost use Rattle.desk_rows.specs.Contents.{Contents};
-ghost use Rattle.desk_book.specs.Book.{Book};
+ghost use Rattle.desk_model.specs.Book.{Book};
 ghost use Rattle.desk_parts.specs.FileRows.{FileRows};
-ghost use Rattle.desk_book.specs.Shows.{Shows as RowsShow};
+ghost use Rattle.desk_model.specs.Shows.{Shows as RowsShow};
 ghost use Rattle.desk_parts.specs.Puts.{RowPut, with_puts};
 ghost use Rattle.desk_rows.specs.Described.{Which, caches, named_corrs};
 ghost use Rattle.desk_rows.specs.Layout.{Layout};

@@ -1,20 +1,19 @@
 //! A book's file opened: checked, read whole, and completed if it is of an older form; or made.
 
 ghost use Rattle.std.specs.Prelude.{◌≡◌, ◌⊎◌, Bool, None, Some, false, true, IfErr, IfOk, IsTrue, Ok, OnOk};
-ghost use Rattle.desk_book.specs.declared.filling.NewTables.{NewTables};
-ghost use Rattle.desk_book.specs.Book.{Book as BookOf};
+ghost use Rattle.desk_model.specs.declared.new_tables.NewTables.{NewTables};
+ghost use Rattle.desk_model.specs.Book.{Book as BookOf};
 ghost use Rattle.desk_store.specs.Books.{LeavesBook, shown_by};
 ghost use Rattle.desk_rows.specs.Contents.{Contents};
 ghost use Rattle.desk_store.specs.Found.{HasNone};
 ghost use Rattle.desk_rows.specs.Layout.{Layout};
 ghost use Rattle.desk_rows.specs.Making.{with_tables};
-ghost use Rattle.desk_store.specs.Opened.{HasGained, HoldsEither, HoldsEmpty, HoldsNone, HoldsWith, IsRefusedWith, MayBring, Opens, Stands, StandsAs, StopsFilling, StopsOpening, which_lacked};
+ghost use Rattle.desk_store.specs.Opened.{HasGained, HoldsEither, HoldsEitherWith, HoldsEmpty, HoldsNone, HoldsWith, IsRefusedWith, MayBring, Opens, Stands, StandsAs, StopsFilling, StopsOpening, which_lacked};
 ghost use Rattle.desk_store.specs.Opening.{IsRefusal};
 ghost use Rattle.desk_rows.specs.States.{Shows};
 ghost use Rattle.sql_tables.specs.States.{Leaves};
 ghost use Rattle.sqlite.specs.Held.{Held, state};
 ghost use Rattle.sqlite.specs.State.{HasCleanDisk, Survives};
-ghost use Rattle.desk_store.specs.Opened.{HoldsEitherWith};
 
 use crate::book_file::{has_any, read_parts};
 use crate::fault::OpenFault;

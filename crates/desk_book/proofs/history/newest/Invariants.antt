@@ -1,6 +1,6 @@
 use Rattle.std.proofs.Common.{◌≡◌, ◌≤◌, length, take}
 use Rattle.desk_book.specs.Histories.{entries_kept}
-use Rattle.desk_book.specs.Print.{stack}
+use Rattle.desk_model.specs.Print.{stack}
 use Rattle.desk_book.proofs.history.newest.Given as goal
 
 -- the entries behind the place were taken back

@@ -1,6 +1,6 @@
 use Rattle.std.proofs.Common.{◌≡◌, ◌+◌, ◌*◌, ◌≤◌, subst, sym, arith}
 use Rattle.desk_book.specs.Room.{room_of}
-use Rattle.desk_book.proofs.RoomLists.{room_of-past}
+use Rattle.desk_book.proofs.Kept.RoomLists.{room_of-past}
 use Rattle.desk_book.proofs.items.room_for.Goals as goal
 
 pub loop-room-preserved : goal.loop-room-preserved

@@ -1,4 +1,4 @@
-use Rattle.desk_book.proofs.JudgedCells.{not_both}
+use Rattle.desk_book.proofs.Judged.JudgedCells.{not_both}
 use Rattle.desk_book.proofs.judged_caches.after_piece.Goals as goal
 
 pub returns-clause-none : goal.returns-clause-none

@@ -1,7 +1,7 @@
 use Rattle.std.proofs.Common.{◌==◌, ℕ, List, length, sym, ap, ◌∙◌}
 use Rattle.std.proofs.lemmas.Bool.{eqb-true}
 use Rattle.std.proofs.lemmas.List.{nil_from_length}
-use Rattle.desk_book.proofs.JudgedCells.{IsBehind-start, IsBehind-next, IsBehind-goes_on, IsBehind-ends, IsBehind-empty}
+use Rattle.desk_book.proofs.Judged.JudgedCells.{IsBehind-start, IsBehind-next, IsBehind-goes_on, IsBehind-ends, IsBehind-empty}
 use Rattle.desk_book.proofs.judged_caches.is_braille.Goals as goal
 
 pub loop-piece-init : goal.loop-piece-init

@@ -1,4 +1,4 @@
-use Rattle.desk_book.proofs.JudgedCells.{IsBehind}
+use Rattle.desk_book.proofs.Judged.JudgedCells.{IsBehind}
 use Rattle.desk_book.proofs.judged_caches.is_braille.Given as goal
 
 -- the masks that are left stand behind the cells of the pieces so far

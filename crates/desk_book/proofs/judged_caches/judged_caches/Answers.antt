@@ -2,11 +2,11 @@ use Rattle.std.proofs.Common.{◌≤◌, List, length, map, subst, sym, ap, ◌�
 use Rattle.std.specs.List.{All}
 use Rattle.std.proofs.lemmas.Int.{to_z-of_z}
 use Rattle.desk_book.specs.declared.paragraphs.Paragraph.{Paragraph as KeptParagraph}
-use Rattle.desk_book.specs.Damage.{IsDamagedCache}
+use Rattle.desk_model.specs.Damage.{IsDamagedCache}
 use Rattle.desk_book.specs.Judged.{HasCells, IsFirstId, without_cells}
 use Rattle.desk_book.specs.JudgedCaches.{AreAllRight, AreTheirCells, IsMisfit, IsTranslatable}
-use Rattle.desk_book.specs.Limits.{most_paragraphs}
-use Rattle.desk_book.proofs.JudgedCaches.{few-items, first-misfit, has-cells, same-but-cells, their-cells, translatable, whole-rows}
+use Rattle.desk_model.specs.Limits.{most_paragraphs}
+use Rattle.desk_book.proofs.Judged.JudgedCaches.{few-items, first-misfit, has-cells, same-but-cells, their-cells, translatable, whole-rows}
 use Rattle.desk_book.proofs.judged_caches.judged_caches.Goals as goal
 
 pub misfit-requires-clause-translatable : goal.misfit-requires-clause-translatable

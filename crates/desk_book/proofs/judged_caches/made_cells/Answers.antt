@@ -3,7 +3,7 @@ use Rattle.std.specs.List.{All}
 use Rattle.desk_book.specs.declared.paragraphs.Paragraph.{Paragraph as KeptParagraph}
 use Rattle.desk_book.specs.Judged.{HasCells, without_cells}
 use Rattle.desk_book.specs.JudgedCaches.{AreTheirCells, IsTranslatable}
-use Rattle.desk_book.proofs.JudgedCaches.{has-cells, same-but-cells, translatable}
+use Rattle.desk_book.proofs.Judged.JudgedCaches.{has-cells, same-but-cells, translatable}
 use Rattle.desk_book.proofs.judged_caches.made_cells.Goals as goal
 
 pub cells_for-requires : goal.cells_for-requires

@@ -1,10 +1,10 @@
 use Rattle.std.proofs.Common.{◌≡◌, ℕ, ℤ, pos, ◌≤ℤ◌, ◌<ℤ◌, Some, map, length, inl, inr, sym, subst, ◌∙◌, arith, w64, to_z, of_z}
 use Rattle.std.proofs.lemmas.Int.{ints}
 use Rattle.std.proofs.lemmas.Result.{err_from_is_err_and}
-use Rattle.desk_book.specs.Damage.{IsDamagedEntries}
+use Rattle.desk_model.specs.Damage.{IsDamagedEntries}
 use Rattle.desk_book.specs.Judged.{IsFirstId, TellsDamage}
 use Rattle.desk_book.specs.JudgedEntries.{AreGrouped, IsFirstStray}
-use Rattle.desk_book.proofs.JudgedEntries.{histories-read, kept-at, stray-first, stray-last, unread-first, whole-read}
+use Rattle.desk_book.proofs.Judged.JudgedEntries.{histories-read, kept-at, stray-first, stray-last, unread-first, whole-read}
 use Rattle.desk_book.proofs.judged_entries.judged_entries.Goals as goal
 use Rattle.desk_book.proofs.judged_entries.judged_entries.Goals.{in-Some+else-id-lt1, in_default}
 

@@ -2,7 +2,7 @@ use Rattle.std.proofs.Common.{◌≡◌, ◌+◌, ◌++◌, ◌∷◌, [], List,
 use Rattle.std.proofs.lemmas.List.{map-append}
 use Rattle.desk_book.specs.JudgedEntries.{AreGrouped}
 use Rattle.desk_parts.specs.Rows.{NamedCorr}
-use Rattle.desk_book.proofs.GroupedEntries.{group-more, no-groups}
+use Rattle.desk_book.proofs.Judged.GroupedEntries.{group-more, no-groups}
 use Rattle.desk_book.proofs.judged_entries.no_rows.Goals as goal
 
 pub loop-init : goal.loop-init

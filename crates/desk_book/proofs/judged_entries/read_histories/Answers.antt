@@ -9,8 +9,8 @@ use Rattle.std.proofs.lemmas.List.FromFn.{length-enumerate_from}
 use Rattle.std.proofs.lemmas.Option.{slice_get-map, slice_get_read}
 use Rattle.std.proofs.lemmas.Result.{err_from_is_err_and}
 use Rattle.desk_book.specs.declared.damage.RowsFault.TheVariants.{Damaged}
-use Rattle.desk_book.proofs.HistoryLists.{slice_get-below}
-use Rattle.desk_book.proofs.ReadGroups.{HaveReadTo, as-long, at-enumerate, read-all, read-more, unread-at}
+use Rattle.desk_model.proofs.Books.HistoryLists.{slice_get-below}
+use Rattle.desk_book.proofs.Judged.ReadGroups.{HaveReadTo, as-long, at-enumerate, read-all, read-more, unread-at}
 use Rattle.desk_book.proofs.judged_entries.read_histories.Goals as goal
 
 pub loop-index-preserved : goal.loop-index-preserved

@@ -1,6 +1,6 @@
 use Rattle.std.proofs.Common.{length}
 use Rattle.std.specs.Prelude.{map}
-use Rattle.desk_book.proofs.ReadGroups.{HaveReadTo}
+use Rattle.desk_book.proofs.Judged.ReadGroups.{HaveReadTo}
 use Rattle.desk_book.proofs.judged_entries.read_histories.Given as goal
 
 abbrev pub invariant-loop-index : goal.invariant-loop-index

@@ -6,11 +6,11 @@ use Rattle.std.proofs.lemmas.Bool.{both_ways}
 use Rattle.std.proofs.lemmas.Int.{ints, to_z-of_z}
 use Rattle.std.proofs.lemmas.Str.{chars_from_encodes}
 use Rattle.desk_book.specs.Corrected.{IsCorrection, replaced_by}
-use Rattle.desk_book.specs.Name.{IsProofreaderName}
+use Rattle.desk_model.specs.Name.{IsProofreaderName}
 use Rattle.desk_parts.specs.Rows.{Corr, NamedCorr}
-use Rattle.desk_book.specs.Stored.{is_barred}
+use Rattle.desk_model.specs.Stored.{is_barred}
 use Rattle.desk_command.specs.Characters.{AreCharacters}
-use Rattle.desk_book.proofs.ReadEntries.{IsCorrecting-made, barred-some, piece, unbarred-none}
+use Rattle.desk_book.proofs.Judged.ReadEntries.{IsCorrecting-made, barred-some, piece, unbarred-none}
 use Rattle.desk_book.proofs.judged_history.correction.Goals as goal
 use Rattle.desk_book.proofs.judged_history.correction.Goals.{then-is_some-via-then-is_some, then-is_some-via-else-is_some+then-not-is_proofreader_name}
 

@@ -5,7 +5,7 @@ use Rattle.std.specs.Cmp.Lexicographic.{slice_cmp}
 use Rattle.std.proofs.lemmas.Iterator.{YieldsList-from_chars, YieldsList-from_slice}
 use Rattle.std.proofs.lemmas.Iterator.Consumers.{YieldsList-from_copied}
 use Rattle.std.proofs.lemmas.Iterator.Search.{cmp_from_yields_List}
-use Rattle.desk_book.proofs.ReadEntries.{same-text}
+use Rattle.desk_book.proofs.Judged.ReadEntries.{same-text}
 use Rattle.desk_book.proofs.judged_history.is_print.Goals as goal
 
 pub returns : goal.returns

@@ -6,13 +6,13 @@ use Rattle.std.proofs.lemmas.List.{nil_from_length}
 use Rattle.std.proofs.lemmas.List.Sorted.{answers_always, length_permutation}
 use Rattle.std.proofs.lemmas.Result.{err_from_is_err_and}
 use Rattle.desk_book.specs.declared.damage.RowsFault.TheVariants.{Damaged}
-use Rattle.desk_book.specs.Damage.{history_of}
+use Rattle.desk_model.specs.Damage.{history_of}
 use Rattle.desk_book.specs.Histories.{HaveTaken, entries_kept}
 use Rattle.desk_book.specs.JudgedHistory.{AreSoundRows, CanBeRead}
-use Rattle.desk_book.specs.Print.{corrected}
+use Rattle.desk_model.specs.Print.{corrected}
 use Rattle.desk_parts.specs.Rows.{NamedCorr}
-use Rattle.desk_book.proofs.ReadEntries.{same-print}
-use Rattle.desk_book.proofs.RowOrder.{AreRising-sorted, print-as_sorted, sound-as_sorted}
+use Rattle.desk_book.proofs.Judged.ReadEntries.{same-print}
+use Rattle.desk_book.proofs.Judged.RowOrder.{AreRising-sorted, print-as_sorted, sound-as_sorted}
 use Rattle.desk_book.proofs.judged_history.read_history.Goals as goal
 
 pub returns-then-not-is_print-clause-damaged : goal.returns-then-not-is_print-clause-damaged

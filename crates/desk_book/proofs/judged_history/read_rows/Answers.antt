@@ -10,8 +10,8 @@ use Rattle.std.proofs.lemmas.Str.{chars_from_encodes}
 use Rattle.desk_book.specs.declared.damage.RowsFault.TheVariants.{Damaged}
 use Rattle.desk_book.specs.JudgedHistory.{IsRead, IsSoundNext}
 use Rattle.desk_parts.specs.Rows.{NamedCorr}
-use Rattle.desk_book.proofs.HistoryLists.{take-more}
-use Rattle.desk_book.proofs.ReadRows.{AreSoundTo, nothing-read, sound-all, sound-more, sound-none, unsound-at}
+use Rattle.desk_model.proofs.Books.HistoryLists.{take-more}
+use Rattle.desk_book.proofs.Judged.ReadRows.{AreSoundTo, nothing-read, sound-all, sound-more, sound-none, unsound-at}
 use Rattle.desk_book.proofs.judged_history.read_rows.Goals as goal
 
 pub read-requires : goal.read-requires

@@ -1,7 +1,7 @@
 use Rattle.std.proofs.Common.{◌≡◌, length, take}
 use Rattle.std.specs.Str.{chars}
 use Rattle.desk_book.specs.JudgedHistory.{IsRead}
-use Rattle.desk_book.proofs.ReadRows.{AreSoundTo}
+use Rattle.desk_book.proofs.Judged.ReadRows.{AreSoundTo}
 use Rattle.desk_book.proofs.judged_history.read_rows.Given as goal
 
 abbrev pub invariant-loop-row : goal.invariant-loop-row

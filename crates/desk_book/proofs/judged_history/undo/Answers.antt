@@ -3,12 +3,12 @@ use Rattle.std.specs.Prelude.{string_bytes}
 use Rattle.std.proofs.lemmas.Bool.{eqb-true}
 use Rattle.std.proofs.lemmas.List.{nil_from_length}
 use Rattle.std.specs.Prelude.{option_map}
-use Rattle.desk_book.specs.Book.{Replacement}
+use Rattle.desk_model.specs.Book.{Replacement}
 use Rattle.desk_book.specs.Corrected.{replaced_by}
-use Rattle.desk_book.specs.Damage.{IsSoundUndo}
+use Rattle.desk_model.specs.Damage.{IsSoundUndo}
 use Rattle.desk_book.specs.Histories.{entries_kept}
 use Rattle.desk_parts.specs.Rows.{Corr, NamedCorr}
-use Rattle.desk_book.proofs.ReadEntries.{IsNext-undo, undone-span}
+use Rattle.desk_book.proofs.Judged.ReadEntries.{IsNext-undo, undone-span}
 use Rattle.desk_book.proofs.judged_history.undo.Goals as goal
 
 pub replaced-requires : goal.replaced-requires

@@ -6,7 +6,7 @@ use Rattle.desk_book.specs.declared.marks.KeptMark.{KeptMark}
 use Rattle.desk_book.specs.declared.paragraphs.Paragraph.{Paragraph as KeptParagraph}
 use Rattle.desk_book.specs.Judged.{HaveMarks, without_marks}
 use Rattle.desk_book.specs.JudgedMarks.{IsOnOne}
-use Rattle.desk_book.proofs.MarkRows.{few-marks, shared, shared-same}
+use Rattle.desk_book.proofs.Judged.MarkRows.{few-marks, shared, shared-same}
 use Rattle.desk_book.proofs.judged_marks.give_indexes.Goals as goal
 
 module _ (i : ℕ) (marks : List KeptMark) (old items : List KeptParagraph) (mark : KeptMark) (d : KeptParagraph) (less : i < length marks)

@@ -4,9 +4,9 @@ use Rattle.std.specs.Option.{is_some}
 use Rattle.std.specs.Prelude.{IsTrue, not}
 use Rattle.std.specs.Str.{chars}
 use Rattle.desk_book.specs.JudgedMarks.{IsNoteText}
-use Rattle.desk_book.specs.Limits.{most_note}
-use Rattle.desk_book.specs.Stored.{is_barred}
-use Rattle.desk_book.proofs.TextTests.{IsFirstBarred-position, IsUnbarred-none, IsUnbarred-position}
+use Rattle.desk_model.specs.Limits.{most_note}
+use Rattle.desk_model.specs.Stored.{is_barred}
+use Rattle.desk_model.proofs.Commands.TextTests.{IsFirstBarred-position, IsUnbarred-none, IsUnbarred-position}
 use Rattle.desk_book.proofs.judged_marks.is_note.Goals as goal
 
 tested : (text : List ℕ) (place : Option ℕ) (none : Bool) → length text ≤ most_note → place ≡ position is_barred text → is_some place ≡ not none

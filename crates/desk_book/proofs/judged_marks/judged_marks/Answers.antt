@@ -7,12 +7,12 @@ use Rattle.desk_book.specs.declared.marks.KeptMark.{KeptMark}
 use Rattle.desk_book.specs.declared.paragraphs.Paragraph.{Paragraph as KeptParagraph}
 use Rattle.desk_book.specs.declared.damage.RowsFault.{RowsFault}
 use Rattle.desk_book.specs.declared.damage.RowsFault.TheVariants.{Damaged, NoMemory}
-use Rattle.desk_book.specs.Damage.{IsDamagedMark}
+use Rattle.desk_model.specs.Damage.{IsDamagedMark}
 use Rattle.desk_book.specs.Judged.{AreOf, TellsDamage}
 use Rattle.desk_book.specs.JudgedMarks.{AreInOrder, AreKeptOf, IsOnOne, TellsUnsound}
-use Rattle.desk_book.specs.Limits.{most_marks}
+use Rattle.desk_model.specs.Limits.{most_marks}
 use Rattle.desk_parts.specs.Rows.{Mark, Para}
-use Rattle.desk_book.proofs.MarkRows.{are-marks, few-kept, on-ones, tells, whole}
+use Rattle.desk_book.proofs.Judged.MarkRows.{are-marks, few-kept, on-ones, tells, whole}
 use Rattle.desk_book.proofs.judged_marks.judged_marks.Goals as goal
 
 told : (paras : List Para) (items : List KeptParagraph) → AreOf paras items → (rows sorted : List Mark) → IsPermutation rows sorted → AreInOrder sorted

@@ -3,10 +3,10 @@ use Rattle.std.proofs.lemmas.Int.{to_z-of_z}
 use Rattle.std.specs.Prelude.{MatchOption, string_bytes}
 use Rattle.std.specs.Str.{chars}
 use Rattle.desk_book.specs.declared.marks.KeptMark.{KeptMark}
-use Rattle.desk_book.specs.Damage.{IsFlag}
+use Rattle.desk_model.specs.Damage.{IsFlag}
 use Rattle.desk_book.specs.JudgedMarks.{HasId, IsKeptOf, IsMarkOn, IsNoteText, IsSpan}
 use Rattle.desk_parts.specs.Rows.{Mark}
-use Rattle.desk_book.specs.Shows.{flag_number}
+use Rattle.desk_model.specs.Shows.{flag_number}
 use Rattle.desk_book.proofs.judged_marks.mark_of.Goals as goal
 
 pub returns-in_err-paragraph : goal.returns-in_err-paragraph

@@ -3,7 +3,7 @@ use Rattle.std.proofs.lemmas.Int.{to_z-of_z}
 use Rattle.std.specs.Vec.Iter.{into_iter_items}
 use Rattle.desk_book.specs.JudgedMarks.{AreKeptOf, IsNext}
 use Rattle.desk_parts.specs.Rows.{Mark}
-use Rattle.desk_book.proofs.MarkRows.{first-unsound, kept-more}
+use Rattle.desk_book.proofs.Judged.MarkRows.{first-unsound, kept-more}
 use Rattle.desk_book.proofs.judged_marks.marks_of.Goals as goal
 
 pub returns-then-not-is_next-clause-damaged : goal.returns-then-not-is_next-clause-damaged

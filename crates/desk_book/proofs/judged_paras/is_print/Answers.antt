@@ -3,10 +3,10 @@ use Rattle.std.specs.List.{position}
 use Rattle.std.specs.Option.{is_some}
 use Rattle.std.specs.Prelude.{IsTrue, not}
 use Rattle.std.specs.Str.{chars}
-use Rattle.desk_book.specs.Damage.{IsPrintText}
-use Rattle.desk_book.specs.Limits.{most_print}
-use Rattle.desk_book.specs.Stored.{is_barred}
-use Rattle.desk_book.proofs.TextTests.{IsFirstBarred-position, IsUnbarred-none, IsUnbarred-position}
+use Rattle.desk_model.specs.Damage.{IsPrintText}
+use Rattle.desk_model.specs.Limits.{most_print}
+use Rattle.desk_model.specs.Stored.{is_barred}
+use Rattle.desk_model.proofs.Commands.TextTests.{IsFirstBarred-position, IsUnbarred-none, IsUnbarred-position}
 use Rattle.desk_book.proofs.judged_paras.is_print.Goals as goal
 
 tested : (text : List ℕ) (place : Option ℕ) (none : Bool) → length text ≤ most_print → place ≡ position is_barred text → is_some place ≡ not none

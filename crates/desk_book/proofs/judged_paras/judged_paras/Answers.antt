@@ -5,13 +5,13 @@ use Rattle.desk_book.specs.declared.judged_paras.JudgedParas.{JudgedParas}
 use Rattle.desk_book.specs.declared.damage.RowsFault.{RowsFault}
 use Rattle.desk_book.specs.declared.damage.RowsFault.TheVariants.{Damaged, NoMemory}
 use Rattle.desk_book.specs.declared.paragraphs.Paragraph.{Paragraph as KeptParagraph}
-use Rattle.desk_book.specs.Damage.{IsDamagedPara}
+use Rattle.desk_model.specs.Damage.{IsDamagedPara}
 use Rattle.desk_book.specs.Judged.{AreInPlaces, AreOf, AreTables, IsWhole, TellsDamage}
 use Rattle.desk_book.specs.JudgedParas.{AreInOrder, AreKeptOf, TellsUnsound}
 use Rattle.desk_book.specs.Kept.{KeptTables}
 use Rattle.desk_parts.specs.Rows.{Para, Tab}
-use Rattle.desk_book.proofs.KeptLookups.{IfErr-weaker, IfOk-weaker}
-use Rattle.desk_book.proofs.ParaOrder.{are-of, in-places, tells, unmarked, whole}
+use Rattle.desk_book.proofs.Kept.KeptLookups.{IfErr-weaker, IfOk-weaker}
+use Rattle.desk_book.proofs.Judged.ParaOrder.{are-of, in-places, tells, unmarked, whole}
 use Rattle.desk_book.proofs.judged_paras.judged_paras.Goals as goal
 
 abbrev Reads : KeptTables → List Para → JudgedParas → Type 0

@@ -7,10 +7,10 @@ use Rattle.std.specs.Prelude.{string_bytes}
 use Rattle.desk_book.specs.declared.paragraphs.Paragraph.{Paragraph as KeptParagraph}
 use Rattle.desk_command.specs.declared.style.Style.{Style}
 use Rattle.desk_command.specs.declared.style.Style.TheVariants.{Body, Heading}
-use Rattle.desk_book.specs.Damage.{IsFlag, IsPrintText}
+use Rattle.desk_model.specs.Damage.{IsFlag, IsPrintText}
 use Rattle.desk_book.specs.JudgedParas.{AreDefinedBy, IsKeptOf, IsParaOn}
 use Rattle.desk_parts.specs.Rows.{Para}
-use Rattle.desk_book.specs.Shows.{flag_number, style_number}
+use Rattle.desk_model.specs.Shows.{flag_number, style_number}
 use Rattle.desk_book.proofs.judged_paras.paragraph_of.Goals as goal
 
 is-flag : (flag : Bool) (z : ℤ) → flag_number flag ≡ z → IsFlag z

@@ -5,7 +5,7 @@ use Rattle.std.specs.Vec.Iter.{into_iter_items}
 use Rattle.desk_book.specs.declared.paragraphs.Paragraph.{Paragraph as KeptParagraph}
 use Rattle.desk_book.specs.JudgedParas.{AreKeptOf, IsFree, IsKeptOf, IsNext, IsParaOn}
 use Rattle.desk_parts.specs.Rows.{Para}
-use Rattle.desk_book.proofs.ParaRows.{first-unsound, kept-more}
+use Rattle.desk_book.proofs.Judged.ParaRows.{first-unsound, kept-more}
 use Rattle.desk_book.proofs.judged_paras.paragraphs_of.Goals as goal
 
 pub returns-then-not-is_next-clause-damaged : goal.returns-then-not-is_next-clause-damaged

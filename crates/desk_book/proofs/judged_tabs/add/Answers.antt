@@ -8,7 +8,7 @@ use Rattle.std.proofs.lemmas.Result.{err_from_is_err_and}
 use Rattle.desk_parts.specs.FileRows.{HasTabText}
 use Rattle.desk_book.specs.JudgedTabs.{AreRead, MayCome, TellsNoMeaning, TellsUnsoundTab}
 use Rattle.desk_book.specs.Kept.{with_table}
-use Rattle.desk_book.proofs.ReadTabs.{count, may-come, more-read, number-after, untold}
+use Rattle.desk_book.proofs.Judged.ReadTabs.{count, may-come, more-read, number-after, untold}
 use Rattle.desk_book.proofs.judged_tabs.add.Goals as goal
 
 pub returns-then-not-may_come-clause-told : goal.returns-then-not-may_come-clause-told

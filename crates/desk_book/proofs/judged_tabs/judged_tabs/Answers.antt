@@ -1,12 +1,12 @@
 use Rattle.std.proofs.Common.{List}
 use Rattle.std.specs.List.Sorted.{IsPermutation}
 use Rattle.std.proofs.lemmas.List.Sorted.{IsPermutation-map}
-use Rattle.desk_book.specs.Damage.{IsDamagedTab}
+use Rattle.desk_model.specs.Damage.{IsDamagedTab}
 use Rattle.desk_book.specs.Judged.{IsWhole, TellsDamage}
 use Rattle.desk_book.specs.JudgedTabs.{AreRead, TellsFirstUnsound, rows_of}
 use Rattle.desk_parts.specs.Rows.{StoredTab}
-use Rattle.desk_book.proofs.KeptLookups.{IfErr-weaker, IfOk-weaker}
-use Rattle.desk_book.proofs.ReadTabs.{are-tables, tells, whole}
+use Rattle.desk_book.proofs.Kept.KeptLookups.{IfErr-weaker, IfOk-weaker}
+use Rattle.desk_book.proofs.Judged.ReadTabs.{are-tables, tells, whole}
 use Rattle.desk_book.proofs.judged_tabs.judged_tabs.Goals as goal
 
 moved : (rows sorted : List StoredTab) → IsPermutation rows sorted → IsPermutation (rows_of rows) (rows_of sorted)

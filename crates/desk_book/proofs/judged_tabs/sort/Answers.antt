@@ -4,7 +4,7 @@ use Rattle.std.proofs.lemmas.Fn.{always_returns_same}
 use Rattle.std.proofs.lemmas.List.MinMax.{ranks_by}
 use Rattle.desk_book.specs.JudgedTabs.{tab_order}
 use Rattle.desk_parts.specs.Rows.{StoredTab}
-use Rattle.desk_book.proofs.ReadTabs.{in-order, less, order_total}
+use Rattle.desk_book.proofs.Judged.ReadTabs.{in-order, less, order_total}
 use Rattle.desk_book.proofs.judged_tabs.sort.Goals as goal
 
 pub returns-clause-sorted : goal.returns-clause-sorted

@@ -5,7 +5,7 @@ use Rattle.std.proofs.lemmas.List.{map-append}
 use Rattle.std.proofs.lemmas.Result.{err_from_is_err_and}
 use Rattle.desk_book.specs.JudgedTabs.{AreRead, TellsFirstUnsound, rows_of}
 use Rattle.desk_parts.specs.Rows.{StoredTab, Tab}
-use Rattle.desk_book.proofs.ReadTabs.{first-unsound, none-read}
+use Rattle.desk_book.proofs.Judged.ReadTabs.{first-unsound, none-read}
 use Rattle.desk_book.proofs.judged_tabs.tables_of.Goals as goal
 
 abbrev row_of : StoredTab → Tab

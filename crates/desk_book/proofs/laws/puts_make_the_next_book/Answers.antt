@@ -1,5 +1,5 @@
-use Rattle.desk_book.proofs.LentRows.{change-lent}
-use Rattle.desk_book.proofs.PutsLead.{change-leads}
+use Rattle.desk_book.proofs.RowPuts.LentRows.{change-lent}
+use Rattle.desk_book.proofs.RowPuts.PutsLead.{change-leads}
 use Rattle.desk_book.proofs.laws.puts_make_the_next_book.Goals as goal
 
 pub returns-clause-leads : goal.returns-clause-leads

@@ -3,9 +3,8 @@ use Rattle.std.proofs.lemmas.List.{drop_all}
 use Rattle.std.proofs.lemmas.Option.{get_or_from_slice_get, slice_get-get_or, slice_get_within}
 use Rattle.desk_book.specs.declared.marks.KeptMark.{KeptMark}
 use Rattle.desk_book.specs.KeptMarks.{IsWithin, moved_kept}
-use Rattle.desk_book.proofs.Arranging.{All-slice_get}
-use Rattle.desk_book.proofs.KeptBooks.{drop-there}
-use Rattle.desk_book.proofs.MarkIndexes.{HaveMoved, HaveMoved-end, HaveMoved-next, item-moved}
+use Rattle.desk_model.proofs.Lists.Items.{All-slice_get, drop-there}
+use Rattle.desk_book.proofs.Kept.MarkIndexes.{HaveMoved, HaveMoved-end, HaveMoved-next, item-moved}
 use Rattle.desk_book.proofs.marks.give_way.Goals as goal
 
 module _ (id start removed added i : ℕ) (indexes : List ℕ) (old marks : List KeptMark) (within : i < length indexes) (have : HaveMoved id start removed added old (drop i indexes) marks) where

@@ -1,6 +1,6 @@
 use Rattle.std.proofs.Common.{◌≡◌, ℕ, drop}
 use Rattle.desk_book.specs.KeptMarks.{indexes_on}
-use Rattle.desk_book.proofs.MarkIndexes.{HaveMoved}
+use Rattle.desk_book.proofs.Kept.MarkIndexes.{HaveMoved}
 use Rattle.desk_book.proofs.marks.give_way.Given as goal
 
 abbrev pub invariant-loop-index : goal.invariant-loop-index

@@ -2,7 +2,7 @@ use Rattle.std.proofs.Common.{◌≡◌, [], ◌∷◌, get_or, length, refl, su
 use Rattle.std.proofs.lemmas.Option.{slice_get_read}
 use Rattle.std.specs.Vec.Iter.{into_iter_items}
 use Rattle.desk_book.specs.Kept.{renewed_items, with_cells}
-use Rattle.desk_book.proofs.Renewing.{drop_next, length-renewed_items, next_cases, reached-renewed, reached_all}
+use Rattle.desk_book.proofs.Kept.Renewing.{drop_next, length-renewed_items, next_cases, reached-renewed, reached_all}
 use Rattle.desk_book.proofs.paragraphs.renew.Goals as goal
 
 pub loop-paragraph-preserved : goal.loop-paragraph-preserved

@@ -1,7 +1,7 @@
 use Rattle.std.proofs.Common.{◌≡◌, drop}
 use Rattle.std.specs.Vec.Iter.{into_iter_items}
 use Rattle.desk_book.specs.Kept.{renewed_items}
-use Rattle.desk_book.proofs.Renewing.{reached}
+use Rattle.desk_book.proofs.Kept.Renewing.{reached}
 use Rattle.desk_book.proofs.paragraphs.renew.Given as goal
 
 abbrev pub invariant-loop-paragraph : goal.invariant-loop-paragraph

@@ -1,7 +1,7 @@
 use Rattle.std.proofs.Common.{◌≡◌, Some, None, refl, sym, ap, ◌∙◌}
 use Rattle.std.specs.List.{position}
-use Rattle.desk_book.specs.Stored.{is_barred}
-use Rattle.desk_book.proofs.TextTests.{IsUnbarred-position, IsFirstBarred-position}
+use Rattle.desk_model.specs.Stored.{is_barred}
+use Rattle.desk_model.proofs.Commands.TextTests.{IsUnbarred-position, IsFirstBarred-position}
 use Rattle.desk_book.proofs.plan.check_text.Goals as goal
 
 pub returns-in-Some-clause-barred : goal.returns-in-Some-clause-barred

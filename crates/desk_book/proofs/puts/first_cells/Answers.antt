@@ -1,7 +1,7 @@
 use Rattle.std.proofs.Common.{◌≤◌, length, Some, None, refl, ap, ◌∙◌, arith}
 use Rattle.std.proofs.lemmas.Option.{slice_get_past, slice_get_read}
 use Rattle.desk_book.specs.ChangePuts.{cells_put}
-use Rattle.desk_book.proofs.PutLists.{along-past, along-there}
+use Rattle.desk_book.proofs.RowPuts.PutLists.{along-past, along-there}
 use Rattle.desk_book.proofs.puts.first_cells.Goals as goal
 
 pub returns-in-Some-clause-found : goal.returns-in-Some-clause-found

@@ -1,5 +1,5 @@
 use Rattle.std.proofs.Common.{◌≡◌, encode_utf8_all}
-use Rattle.desk_book.proofs.PutLists.{text-bytes}
+use Rattle.desk_book.proofs.RowPuts.PutLists.{text-bytes}
 use Rattle.desk_book.proofs.puts.tab.Goals as goal
 
 pub returns : goal.returns

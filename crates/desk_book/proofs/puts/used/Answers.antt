@@ -1,7 +1,7 @@
 use Rattle.std.proofs.Common.{◌≡◌, encode_utf8_all, ◌∙◌, rules, to_z, of_z, w64}
 use Rattle.std.proofs.Math.Facts.{to_z-of_z}
-use Rattle.desk_book.specs.ChangePuts.{row_number}
-use Rattle.desk_book.proofs.PutLists.{text-bytes}
+use Rattle.desk_model.specs.Lent.{row_number}
+use Rattle.desk_book.proofs.RowPuts.PutLists.{text-bytes}
 use Rattle.desk_book.proofs.puts.used.Goals as goal
 
 pub returns : goal.returns

@@ -4,11 +4,11 @@ use Rattle.std.proofs.lemmas.Result.{IfErr-weaker, on_ok_weaker}
 use Rattle.desk_parts.specs.declared.file_table.FileTable.TheVariants.{Cache}
 use Rattle.desk_book.specs.declared.damage.RowsFault.TheVariants.{NoMemory}
 use Rattle.desk_parts.specs.declared.rows.CacheRow.{CacheRow}
-use Rattle.desk_book.specs.Damage.{IsDamagedCache}
+use Rattle.desk_model.specs.Damage.{IsDamagedCache}
 use Rattle.desk_book.specs.Joined.{IsDamagedBraille, TellsDamageOf}
 use Rattle.desk_book.specs.Judged.{IsWhole, TellsDamage}
 use Rattle.desk_parts.specs.Rows.{Cached}
-use Rattle.desk_book.proofs.FirstTables.{braille-told, braille-whole, no-braille, no-braille-told, of-table-fault, of-table-rows, on-any}
+use Rattle.desk_book.proofs.Judged.FirstTables.{braille-told, braille-whole, no-braille, no-braille-told, of-table-fault, of-table-rows, on-any}
 use Rattle.desk_book.proofs.rebuild.give_cells.Goals.{in-Some, in-None}
 use Rattle.desk_book.proofs.rebuild.give_cells.Goals as goal
 

@@ -1,13 +1,13 @@
 use Rattle.std.proofs.Common.{◌≡◌, List, map, subst, ◌∙◌}
 use Rattle.std.specs.List.{All}
 use Rattle.std.specs.Prelude.{IfErr, OnOk}
-use Rattle.desk_book.specs.Damage.{IsDamagedEntries}
+use Rattle.desk_model.specs.Damage.{IsDamagedEntries}
 use Rattle.desk_parts.specs.FileRows.{HasEntryTexts, entries_in}
 use Rattle.desk_book.specs.Joined.{TellsDamageOf}
 use Rattle.desk_book.specs.Judged.{HasHistory, IsWhole, TellsDamage, without_history}
 use Rattle.desk_parts.specs.Parts.{entry_rows}
 use Rattle.desk_parts.specs.Rows.{NamedCorr}
-use Rattle.desk_book.proofs.FirstTables.{of-table-fault, of-table-rows, on-any}
+use Rattle.desk_book.proofs.Judged.FirstTables.{of-table-fault, of-table-rows, on-any}
 use Rattle.desk_book.proofs.rebuild.give_histories.Goals as goal
 
 pub returns-clause-texts : goal.returns-clause-texts

@@ -4,7 +4,7 @@ use Rattle.std.specs.List.{filter}
 use Rattle.std.specs.Str.{chars}
 use Rattle.std.proofs.lemmas.Str.{chars_from_encodes}
 use Rattle.unicode_normalization.specs.Forms.{nfc}
-use Rattle.desk_book.specs.Stored.{is_barred}
+use Rattle.desk_model.specs.Stored.{is_barred}
 use Rattle.desk_book.proofs.stored.stored.Goals as goal
 
 pub returns : goal.returns

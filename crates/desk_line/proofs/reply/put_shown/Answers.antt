@@ -3,8 +3,8 @@ use Rattle.std.specs.Prelude.{decimal, map}
 use Rattle.std.specs.List.{enumerate_from, flat_map}
 use Rattle.std.proofs.lemmas.Result.{err_from_is_err_and}
 use Rattle.desk_ends.specs.Cells.{text_of}
-use Rattle.desk_book.specs.Book.{Entry, Mark, Paragraph}
-use Rattle.desk_book.specs.ParagraphMarks.{marks_on}
+use Rattle.desk_model.specs.Book.{Entry, Mark, Paragraph}
+use Rattle.desk_model.specs.ParagraphMarks.{marks_on}
 use Rattle.desk_line.specs.Reply.{braille, entry_line, history, list, listed, mark_line, marks, paragraph_asked, print, shown_line, shown_text, version, where_is, whence}
 use Rattle.desk_line.proofs.Putting.{Adds-nothing, Adds-same}
 use Rattle.desk_line.proofs.Replying.{cell-refused, no-paragraph-asked, place-refused, refused-at, shown-one}

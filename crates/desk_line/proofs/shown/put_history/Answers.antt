@@ -1,7 +1,7 @@
 use Rattle.std.proofs.Common.{[], ◌++◌, List, ap, subst}
 use Rattle.std.specs.Prelude.{map}
 use Rattle.std.specs.List.{flat_map}
-use Rattle.desk_book.specs.Book.{Entry}
+use Rattle.desk_model.specs.Book.{Entry}
 use Rattle.std.proofs.Common.{ℕ}
 use Rattle.desk_line.specs.Reply.{entry_line, shown_line}
 use Rattle.desk_line.specs.Waiting.{Adds}

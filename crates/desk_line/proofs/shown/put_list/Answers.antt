@@ -1,7 +1,7 @@
 use Rattle.std.proofs.Common.{[], ◌++◌, List, ap}
 use Rattle.std.specs.Prelude.{map}
 use Rattle.std.specs.List.{flat_map}
-use Rattle.desk_book.specs.Book.{Paragraph}
+use Rattle.desk_model.specs.Book.{Paragraph}
 use Rattle.desk_line.specs.Reply.{listed, shown_line}
 use Rattle.desk_line.proofs.Putting.{Adds-nothing, Adds-same, Adds-then}
 use Rattle.desk_line.proofs.Replying.{lines-done, lines-first}

@@ -1,6 +1,6 @@
 use Rattle.std.proofs.Common.{inl, inr}
 use Rattle.desk_store.proofs.Reopening.{first_or_next, holds_either, holds_empty, holds_new, the_one}
-use Rattle.desk_book.specs.Book.{empty_book}
+use Rattle.desk_model.specs.Book.{empty_book}
 use Rattle.desk_store.proofs.found.left_at_any_exit.Goals as goal
 
 pub returns-clause-opened : goal.returns-clause-opened

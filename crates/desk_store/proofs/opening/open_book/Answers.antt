@@ -4,18 +4,17 @@ use Rattle.sqlite.proofs.StateLemmas.{survives_weaker}
 use Rattle.sqlite.specs.Held.{state}
 use Rattle.sqlite.specs.State.{HasCleanDisk}
 use Rattle.desk_parts.specs.Parts.{rows_in}
-use Rattle.desk_book.specs.declared.filling.NewTables.{NewTables}
+use Rattle.desk_model.specs.declared.new_tables.NewTables.{NewTables}
 use Rattle.desk_store.specs.Books.{LeavesBook}
 use Rattle.desk_rows.specs.Contents.{Contents}
 use Rattle.desk_rows.specs.Layout.{Layout}
 use Rattle.desk_rows.specs.Making.{with_tables}
 use Rattle.sql_tables.specs.States.{Leaves}
-use Rattle.desk_store.specs.Opened.{HasGained, HoldsEitherWith, StandsAs, which_lacked}
+use Rattle.desk_store.specs.Opened.{HasGained, HoldsEitherWith, StandsAs, filling, rebuilding, which_lacked}
 use Rattle.desk_rows.specs.States.{Shows}
 use Rattle.desk_store.proofs.Openings.{fills, opens, refuses, refuses_damaged, tells, tells_no_refusal}
-use Rattle.desk_book.specs.declared.damage.PartsFault.{PartsFault}
-use Rattle.desk_book.specs.declared.damage.PartsFault.TheVariants as rebuilt
-use Rattle.desk_store.specs.Opened.{filling, rebuilding}
+use Rattle.desk_model.specs.declared.fault.PartsFault.{PartsFault}
+use Rattle.desk_model.specs.declared.fault.PartsFault.TheVariants as rebuilt
 use Rattle.desk_store.specs.Opening.{IsRefusal, rebuilt_as}
 use Rattle.desk_store.specs.declared.fault.OpenFault.TheVariants.{NoMemory}
 use Rattle.desk_store.proofs.opening.open_book.Goals as goal

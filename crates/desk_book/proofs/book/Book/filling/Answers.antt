@@ -1,7 +1,7 @@
 use Rattle.std.proofs.Common.{◌≡◌, pos, ◌∙◌, arith, rules, to_z, of_z, w64}
 use Rattle.std.proofs.Math.Facts.{to_z-of_z}
-use Rattle.desk_book.proofs.FilledTables.{filled-both, filled-braille, filled-entries, have-histories}
-use Rattle.desk_book.proofs.PutRows.{number-small}
+use Rattle.desk_book.proofs.RowPuts.FilledTables.{filled-both, filled-braille, filled-entries, have-histories}
+use Rattle.desk_model.proofs.Rows.PutRows.{number-small}
 use Rattle.desk_book.proofs.book.Book.filling.Goals as goal
 
 pub new-entries-requires : goal.new-entries-requires

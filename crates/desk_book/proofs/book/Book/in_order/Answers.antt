@@ -1,12 +1,12 @@
 use Rattle.std.proofs.Common.{None, sym, ap, subst, ◌∙◌}
 use Rattle.desk_book.specs.declared.change.Effect.TheVariants.{Reorder}
 use Rattle.desk_command.specs.declared.command.Command.{Command}
-use Rattle.desk_book.specs.Book.{Book}
+use Rattle.desk_model.specs.Book.{Book}
 use Rattle.desk_book.specs.Changes.{IsEffect}
 use Rattle.desk_book.specs.Kept.{KeptParagraphs, IsKept, book_kept}
-use Rattle.desk_book.specs.Refusals.{IsAccepted}
-use Rattle.desk_book.specs.Step.{Makes}
-use Rattle.desk_book.proofs.Settled.{sound-next, order-reordered, next-reordered, IsKept-reordered}
+use Rattle.desk_model.specs.Refusals.{IsAccepted}
+use Rattle.desk_model.specs.Step.{Makes}
+use Rattle.desk_book.proofs.Kept.Settled.{sound-next, order-reordered, next-reordered, IsKept-reordered}
 use Rattle.desk_book.proofs.book.Book.in_order.Goals as goal
 
 pub reordered-requires : goal.reordered-requires

@@ -2,10 +2,10 @@ use Rattle.std.proofs.Common.{◌≡◌, Some, None, refl, sym, ap, subst, ◌�
 use Rattle.std.specs.Map.{lookup}
 use Rattle.std.specs.Option.{option_copied}
 use Rattle.std.specs.Prelude.{nat_eq}
-use Rattle.desk_book.specs.Book.{Book, paragraph_of}
+use Rattle.desk_model.specs.Book.{Book, paragraph_of}
 use Rattle.desk_book.specs.Shown.{IsShown}
-use Rattle.desk_book.proofs.KeptBooks.{missing-kept, table-kept, IsShown-found}
-use Rattle.desk_book.proofs.KeptLookups.{IfErr-ok_or, IfOk-ok_or}
+use Rattle.desk_book.proofs.Kept.KeptBooks.{missing-kept, table-kept, IsShown-found}
+use Rattle.desk_book.proofs.Kept.KeptLookups.{IfErr-ok_or, IfOk-ok_or}
 use Rattle.desk_book.proofs.book.Book.kept.Goals as goal
 
 pub returns-clause-found : goal.returns-clause-found

@@ -4,11 +4,12 @@ use Rattle.std.specs.Map.{lookup}
 use Rattle.std.specs.Option.{option_copied}
 use Rattle.std.specs.Prelude.{nat_eq, option_map}
 use Rattle.desk_book.specs.declared.paragraphs.Paragraph.{Paragraph as KeptParagraph}
-use Rattle.desk_book.specs.Book.{Book, paragraph_of}
+use Rattle.desk_model.specs.Book.{Book, paragraph_of}
 use Rattle.desk_book.specs.Kept.{HasMarks, paragraph_kept}
-use Rattle.desk_book.specs.ParagraphMarks.{AreMarks, marks_at, marks_on}
-use Rattle.desk_book.proofs.KeptBooks.{All-found, found-kept, missing-kept}
-use Rattle.desk_book.proofs.MarkIndexes.{AreMarks-on, marks-at_all}
+use Rattle.desk_book.specs.ItemsLeft.{AreMarks, marks_at}
+use Rattle.desk_model.specs.ParagraphMarks.{marks_on}
+use Rattle.desk_book.proofs.Kept.KeptBooks.{All-found, found-kept, missing-kept}
+use Rattle.desk_book.proofs.Kept.MarkIndexes.{AreMarks-on, marks-at_all}
 use Rattle.desk_book.proofs.book.Book.marks.Goals as goal
 
 pub returns-in_default-clause-missing : goal.returns-in_default-clause-missing

@@ -2,11 +2,11 @@ use Rattle.std.proofs.Common.{◌≡◌, ◌+◌, length, Some, sym, ap, ◌∙�
 use Rattle.std.specs.Option.{option_copied}
 use Rattle.std.specs.Prelude.{option_map}
 use Rattle.std.proofs.lemmas.List.{length-map}
-use Rattle.desk_book.specs.Book.{Paragraph, paragraph_of}
+use Rattle.desk_model.specs.Book.{Paragraph, paragraph_of}
 use Rattle.desk_book.specs.Histories.{entry_kept}
 use Rattle.desk_book.specs.Kept.{paragraph_kept}
-use Rattle.desk_book.proofs.KeptLookups.{paragraph_of-kept, sound}
-use Rattle.desk_book.proofs.SoundBooks.{IsSoundParagraph-found}
+use Rattle.desk_book.proofs.Kept.KeptLookups.{paragraph_of-kept, sound}
+use Rattle.desk_model.proofs.Books.SoundBooks.{IsSoundParagraph-found}
 use Rattle.desk_book.proofs.book.Book.next_entry.Goals as goal
 
 pub overflow_add-result : goal.overflow_add-result

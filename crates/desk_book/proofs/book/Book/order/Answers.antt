@@ -1,6 +1,6 @@
 use Rattle.std.proofs.Common.{length, sym, ap, ◌∙◌, arith}
 use Rattle.std.proofs.lemmas.List.{length-map}
-use Rattle.desk_book.proofs.KeptLookups.{ids_of-book, sound}
+use Rattle.desk_book.proofs.Kept.KeptLookups.{ids_of-book, sound}
 use Rattle.desk_book.proofs.book.Book.order.Goals as goal
 
 pub returns-clause-order : goal.returns-clause-order

@@ -1,8 +1,8 @@
 use Rattle.std.proofs.Common.{◌≡◌, ◌+◌, ℕ, sym, ap, ◌∙◌, inl, inr}
 use Rattle.std.proofs.lemmas.Result.{err_from_is_err_and}
-use Rattle.desk_book.specs.Book.{Book}
+use Rattle.desk_model.specs.Book.{Book}
 use Rattle.desk_book.specs.Changes.{Carries-change_by}
-use Rattle.desk_book.proofs.Expecting.{accepted-expected, lacking-expected, moved, refused-expected, version-made}
+use Rattle.desk_model.proofs.Commands.Expecting.{accepted-expected, lacking-expected, moved, refused-expected, version-made}
 use Rattle.desk_book.proofs.book.Book.plan.Goals as goal
 
 pub returns-in_err-check_expected : goal.returns-in_err-check_expected

@@ -1,13 +1,13 @@
 use Rattle.std.proofs.Common.{◌≡◌, ◌+◌, ◌≤◌, List, ℕ, length, sym, ap, subst, ◌∙◌, refl}
 use Rattle.std.proofs.lemmas.Result.{err_from_is_err_and}
 use Rattle.desk_book.specs.Corrected.{HaltsEntry, IsCorrection, TakesEntry, replaced_by}
-use Rattle.desk_book.specs.Limits.{most_print}
-use Rattle.desk_book.specs.Print.{print_of, replaced}
-use Rattle.desk_book.specs.Step.{replacement_by}
-use Rattle.desk_book.specs.Stored.{stored}
-use Rattle.desk_book.proofs.CorrectPlanning.{counted, halted_here, no_memory_here, planned_here, undefined_here}
-use Rattle.desk_book.proofs.EntryPlanned.{TookFrom-correction, entry-correction}
-use Rattle.desk_book.proofs.KeptLookups.{IfErr-weaker, IfOk-weaker}
+use Rattle.desk_model.specs.Limits.{most_print}
+use Rattle.desk_model.specs.Print.{print_of, replaced}
+use Rattle.desk_model.specs.Step.{replacement_by}
+use Rattle.desk_model.specs.Stored.{stored}
+use Rattle.desk_book.proofs.Planned.CorrectPlanning.{counted, halted_here, no_memory_here, planned_here, undefined_here}
+use Rattle.desk_book.proofs.Planned.EntryPlanned.{TookFrom-correction, entry-correction}
+use Rattle.desk_book.proofs.Kept.KeptLookups.{IfErr-weaker, IfOk-weaker}
 use Rattle.desk_book.proofs.book.Book.plan_correct.Goals as goal
 
 pub returns-clause-planned : goal.returns-clause-planned

@@ -3,16 +3,17 @@ use Rattle.std.proofs.lemmas.Result.{err_from_is_err_and}
 use Rattle.desk_command.specs.declared.command.Anchor.{Anchor}
 use Rattle.desk_command.specs.declared.command.Command.TheVariants.{Move}
 use Rattle.desk_book.specs.declared.paragraphs.Paragraph.{Paragraph as KeptParagraph}
-use Rattle.desk_book.specs.Book.{Book}
-use Rattle.desk_book.specs.Judging.{Passes}
+use Rattle.desk_model.specs.Book.{Book}
+use Rattle.desk_model.specs.Judging.{Passes}
 use Rattle.desk_book.specs.Kept.{with_id_moved}
 use Rattle.desk_book.specs.Planned.{AreThere, IsKeptFor}
-use Rattle.desk_book.specs.Refusals.{paragraph_before}
-use Rattle.desk_book.specs.Step.{with_move}
-use Rattle.desk_book.proofs.KeptLookups.{ids_of-book}
-use Rattle.desk_book.proofs.OrderLists.{ids_of-with_move}
-use Rattle.desk_book.proofs.ParagraphLists.{ids_of}
-use Rattle.desk_book.proofs.Planning.{AreNotAllThere-cons, AreThere-cons, accepted_after, full_version, no_memory, no_paragraph, passes_to, past_paragraphs, past_version, to_turn, unnamed}
+use Rattle.desk_model.specs.Refusals.{paragraph_before}
+use Rattle.desk_model.specs.Step.{with_move}
+use Rattle.desk_book.proofs.Kept.KeptLookups.{ids_of-book}
+use Rattle.desk_book.proofs.Kept.OrderLists.{ids_of-with_move}
+use Rattle.desk_model.proofs.Books.ParagraphLists.{ids_of}
+use Rattle.desk_book.proofs.Planned.Planning.{AreNotAllThere-cons, AreThere-cons, full_version, no_memory, no_paragraph, past_paragraphs, unnamed}
+use Rattle.desk_model.proofs.Commands.Turns.{accepted_after, passes_to, past_version, to_turn}
 use Rattle.desk_book.proofs.book.Book.plan_move.Goals as goal
 
 named : (book : Book) (id : ℕ) (anchor : Anchor) (kept : KeptParagraph) → IsKeptFor book id kept → AreThere book (paragraph_before anchor) → Passes book None (Move id anchor) 40

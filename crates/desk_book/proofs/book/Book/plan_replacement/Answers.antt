@@ -4,13 +4,14 @@ use Rattle.std.proofs.lemmas.Result.{err_from_is_err_and}
 use Rattle.louis_table.specs.Meaning.{Meaning}
 use Rattle.louis_table.specs.Table.{Means}
 use Rattle.desk_command.specs.declared.command.Command.TheVariants.{Table}
-use Rattle.desk_book.specs.Book.{Book, text_of}
+use Rattle.desk_model.specs.Book.{Book, text_of}
 use Rattle.desk_book.specs.Changes.{AreRenewed}
-use Rattle.desk_book.specs.Judging.{Passes}
-use Rattle.desk_book.specs.Limits.{most_version}
-use Rattle.desk_book.specs.Name.{IsTableName}
-use Rattle.desk_book.proofs.Planning.{full_version, no_memory, past_version}
-use Rattle.desk_book.proofs.TablePlanning.{past_reading, past_tables, past_users, unread, untranslatable}
+use Rattle.desk_model.specs.Judging.{Passes}
+use Rattle.desk_model.specs.Limits.{most_version}
+use Rattle.desk_model.specs.Name.{IsTableName}
+use Rattle.desk_book.proofs.Planned.Planning.{full_version, no_memory}
+use Rattle.desk_model.proofs.Commands.Turns.{past_version}
+use Rattle.desk_book.proofs.Planned.TablePlanning.{past_reading, past_tables, past_users, unread, untranslatable}
 use Rattle.desk_book.proofs.book.Book.plan_replacement.Goals as goal
 
 module _ (book : Book) (name text : List ℕ) (named : IsTableName name) (old : IsSome (text_of book name)) where

@@ -3,12 +3,14 @@ use Rattle.std.proofs.lemmas.Result.{err_from_is_err_and}
 use Rattle.desk_command.specs.declared.command.Command.TheVariants.{Strike}
 use Rattle.desk_book.specs.declared.paragraphs.Paragraph.{Paragraph as KeptParagraph}
 use Rattle.desk_command.specs.declared.refusal.Refusal.TheVariants.{Struck}
-use Rattle.desk_book.specs.Book.{Book}
-use Rattle.desk_book.specs.Judging.{Passes}
+use Rattle.desk_model.specs.Book.{Book}
+use Rattle.desk_model.specs.Judging.{Passes}
 use Rattle.desk_book.specs.Kept.{paragraph_kept}
 use Rattle.desk_book.specs.Planned.{IsKeptFor}
-use Rattle.desk_book.specs.Step.{next_with_paragraphs}
-use Rattle.desk_book.proofs.Planning.{accepted_after, full_version, past_struck, past_named, past_version, to_turn, turned_down, unnamed, with_change-same}
+use Rattle.desk_model.specs.Step.{next_with_paragraphs}
+use Rattle.desk_model.proofs.Commands.Turns.{accepted_after, past_version, to_turn}
+use Rattle.desk_book.proofs.Planned.Planning.{full_version, past_struck, past_named, turned_down, unnamed}
+use Rattle.desk_model.proofs.Books.ParagraphLists.{with_change-same}
 use Rattle.desk_book.proofs.book.Book.plan_strike.Goals as goal
 
 module _ (book : Book) (id : ℕ) (kept : KeptParagraph) (found : IsKeptFor book id kept) where

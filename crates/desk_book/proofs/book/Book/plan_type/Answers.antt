@@ -5,20 +5,21 @@ use Rattle.louis_translate.specs.Position.{AreDefined, IsFirstUndefined}
 use Rattle.desk_command.specs.declared.command.Anchor.{Anchor}
 use Rattle.desk_command.specs.declared.command.Command.TheVariants.{TypeIn}
 use Rattle.desk_book.specs.declared.tables.BookTable.{BookTable}
-use Rattle.desk_book.specs.Book.{Book}
-use Rattle.desk_book.specs.Judging.{Passes}
+use Rattle.desk_model.specs.Book.{Book}
+use Rattle.desk_model.specs.Judging.{Passes}
 use Rattle.desk_book.specs.Kept.{with_id}
-use Rattle.desk_book.specs.Limits.{most_paragraphs, most_print, most_version}
+use Rattle.desk_model.specs.Limits.{most_paragraphs, most_print, most_version}
 use Rattle.desk_book.specs.Planned.{AreThere, IsNewParagraph, IsTableFor}
-use Rattle.desk_book.specs.Refusals.{paragraph_before}
+use Rattle.desk_model.specs.Refusals.{paragraph_before}
 use Rattle.desk_book.specs.Room.{Suffices}
-use Rattle.desk_book.specs.Step.{next_id, typed, with_paragraph}
-use Rattle.desk_book.specs.Stored.{IsUnbarred, stored}
-use Rattle.desk_book.proofs.KeptLookups.{Contains-there, count-paragraphs, ids_of-book}
-use Rattle.desk_book.proofs.NewParagraphs.{IsKeptTyped-new}
-use Rattle.desk_book.proofs.OrderLists.{ids_of-with_paragraph}
-use Rattle.desk_book.proofs.ParagraphLists.{ids_of}
-use Rattle.desk_book.proofs.Planning.{accepted_after, bad_text, full_paragraphs, full_version, no_memory, no_paragraph, no_table, passes_to, past_length, past_paragraphs, past_print, past_room, past_table, past_text, past_version, to_turn, too_long, undefined}
+use Rattle.desk_model.specs.Step.{next_id, typed, with_paragraph}
+use Rattle.desk_model.specs.Stored.{IsUnbarred, stored}
+use Rattle.desk_book.proofs.Kept.KeptLookups.{Contains-there, count-paragraphs, ids_of-book}
+use Rattle.desk_book.proofs.Planned.NewParagraphs.{IsKeptTyped-new}
+use Rattle.desk_book.proofs.Kept.OrderLists.{ids_of-with_paragraph}
+use Rattle.desk_model.proofs.Books.ParagraphLists.{ids_of}
+use Rattle.desk_model.proofs.Commands.Turns.{accepted_after, passes_to, past_length, past_room, past_table, past_text, past_version, to_turn}
+use Rattle.desk_book.proofs.Planned.Planning.{bad_text, full_paragraphs, full_version, no_memory, no_paragraph, no_table, past_paragraphs, past_print, too_long, undefined}
 use Rattle.desk_book.proofs.book.Book.plan_type.Goals as goal
 
 module _ (book : Book) (anchor : Anchor) (name text : List ℕ) (unbarred : IsUnbarred text) where

@@ -2,9 +2,9 @@ use Rattle.std.proofs.Common.{◌≡◌, length, sym, ap, subst, ◌∙◌, refl
 use Rattle.std.proofs.lemmas.Result.{err_from_is_err_and}
 use Rattle.desk_book.specs.Corrected.{HaltsEntry, TakesEntry, replaced_by}
 use Rattle.desk_book.specs.Histories.{IsNewestInForce, entries_kept}
-use Rattle.desk_book.specs.Sound.{AreSoundEntries}
-use Rattle.desk_book.proofs.KeptLookups.{IfErr-weaker, IfOk-weaker}
-use Rattle.desk_book.proofs.UndoPlanning.{back, counted, halted_here, no_memory_here, planned_here, sound_kept, span_here, undefined_here}
+use Rattle.desk_model.specs.Sound.{AreSoundEntries}
+use Rattle.desk_book.proofs.Kept.KeptLookups.{IfErr-weaker, IfOk-weaker}
+use Rattle.desk_book.proofs.Planned.UndoPlanning.{back, counted, halted_here, no_memory_here, planned_here, sound_kept, span_here, undefined_here}
 use Rattle.desk_book.proofs.book.Book.plan_undo.Goals as goal
 
 pub newest-requires : goal.newest-requires

@@ -2,8 +2,10 @@ use Rattle.std.proofs.Common.{[], refl, ap}
 use Rattle.std.proofs.lemmas.Result.{err_from_is_err_and}
 use Rattle.desk_command.specs.declared.command.Command.TheVariants.{Volume}
 use Rattle.desk_book.specs.Kept.{paragraph_kept}
-use Rattle.desk_book.specs.Step.{next_with_paragraphs}
-use Rattle.desk_book.proofs.Planning.{accepted_after, full_version, past_named, past_version, unnamed, with_change-same}
+use Rattle.desk_model.specs.Step.{next_with_paragraphs}
+use Rattle.desk_model.proofs.Commands.Turns.{accepted_after, past_version}
+use Rattle.desk_book.proofs.Planned.Planning.{full_version, past_named, unnamed}
+use Rattle.desk_model.proofs.Books.ParagraphLists.{with_change-same}
 use Rattle.desk_book.proofs.book.Book.plan_volume.Goals as goal
 
 pub returns-in_err-paragraph : goal.returns-in_err-paragraph

@@ -4,16 +4,16 @@ use Rattle.std.specs.Prelude.{IfErr}
 use Rattle.std.proofs.lemmas.Int.{to_z-of_z}
 use Rattle.std.proofs.lemmas.Result.{err_from_is_err_and}
 use Rattle.desk_parts.specs.declared.file_table.FileTable.TheVariants.{Tab, Para, Mark}
-use Rattle.desk_book.specs.Damage.{IsDamagedMark, IsDamagedPara, IsDamagedTab, IsWithin}
+use Rattle.desk_model.specs.Damage.{IsDamagedMark, IsDamagedPara, IsDamagedTab, IsWithin}
 use Rattle.desk_parts.specs.FileRows.{HasMarkText}
 use Rattle.desk_book.specs.Judged.{AreInPlaces, AreMarksOf, AreOf, AreTables, HaveMarks, IsWhole, without_marks}
-use Rattle.desk_book.specs.Limits.{most_version}
-use Rattle.desk_book.specs.Rebuilt.{IsFaultOf}
+use Rattle.desk_model.specs.Limits.{most_version}
+use Rattle.desk_model.specs.Rebuilt.{IsFaultOf}
 use Rattle.desk_parts.specs.Parts.{rows_in}
-use Rattle.desk_book.specs.Shows.{Shows}
-use Rattle.desk_book.proofs.FirstTables.{of-table-fault, of-table-rows}
-use Rattle.desk_book.proofs.KeptRows.{order-permutes}
-use Rattle.desk_book.proofs.RebuiltBook.{cache-fault, entry-fault, made-kept, made-shown, mark-fault, none-damaged, of-with_cells, of-with_history, of-with_marks, para-fault, tab-fault, unmarked-with_history}
+use Rattle.desk_model.specs.Shows.{Shows}
+use Rattle.desk_book.proofs.Judged.FirstTables.{of-table-fault, of-table-rows}
+use Rattle.desk_book.proofs.Judged.KeptRows.{order-permutes}
+use Rattle.desk_book.proofs.Judged.RebuiltBook.{cache-fault, entry-fault, made-kept, made-shown, mark-fault, none-damaged, of-with_cells, of-with_history, of-with_marks, para-fault, tab-fault, unmarked-with_history}
 use Rattle.desk_book.proofs.book.Book.rebuild.Goals as goal
 
 pub returns-in_err-tables-clause-damaged : goal.returns-in_err-tables-clause-damaged

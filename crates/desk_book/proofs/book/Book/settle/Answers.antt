@@ -1,5 +1,5 @@
 use Rattle.desk_book.specs.declared.change.Effect.TheVariants.{AddTable, ReplaceTable, AddParagraph, ChangePrint, AddMark, ResolveMark, SetFlags, ChangeTable, Reorder}
-use Rattle.desk_book.proofs.Settled.{IsEffect-carried, some_effect}
+use Rattle.desk_book.proofs.Kept.Settled.{IsEffect-carried, some_effect}
 use Rattle.desk_book.proofs.book.Book.settle.Goals as goal
 
 pub returns-in-AddTable : goal.returns-in-AddTable

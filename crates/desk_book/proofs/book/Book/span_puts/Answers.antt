@@ -1,7 +1,7 @@
 use Rattle.std.proofs.Common.{map, sym, ap, subst}
 use Rattle.desk_book.specs.ChangePuts.{AreSpans, span_put}
-use Rattle.desk_book.proofs.KeptLookups.{sound}
-use Rattle.desk_book.proofs.PutMarks.{AreSpans-on, none-on}
+use Rattle.desk_book.proofs.Kept.KeptLookups.{sound}
+use Rattle.desk_book.proofs.RowPuts.PutMarks.{AreSpans-on, none-on}
 use Rattle.desk_book.proofs.book.Book.span_puts.Goals as goal
 
 pub invariant_of-result : goal.invariant_of-result

@@ -3,7 +3,7 @@ use Rattle.std.specs.Cmp.Lexicographic.{pointwise}
 use Rattle.std.specs.Map.{lookup}
 use Rattle.std.specs.Option.{option_copied}
 use Rattle.std.specs.Prelude.{nat_eq, option_map}
-use Rattle.desk_book.proofs.KeptLookups.{IfErr-ok_or, IfOk-ok_or, IsTableFor-lookup, text_of-kept}
+use Rattle.desk_book.proofs.Kept.KeptLookups.{IfErr-ok_or, IfOk-ok_or, IsTableFor-lookup, text_of-kept}
 use Rattle.desk_book.proofs.book.Book.table_named.Goals as goal
 
 pub returns-clause-found : goal.returns-clause-found

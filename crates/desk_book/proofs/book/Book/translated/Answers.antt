@@ -5,9 +5,9 @@ use Rattle.std.specs.Prelude.{nat_eq}
 use Rattle.std.specs.Cmp.Lexicographic.{pointwise}
 use Rattle.desk_book.specs.declared.paragraphs.Paragraph.{Paragraph as KeptParagraph}
 use Rattle.desk_book.specs.declared.tables.BookTable.{BookTable}
-use Rattle.desk_book.specs.Book.{Book, paragraph_of}
+use Rattle.desk_model.specs.Book.{Book, paragraph_of}
 use Rattle.desk_book.specs.Shown.{IsShown}
-use Rattle.desk_book.proofs.KeptBooks.{missing-kept, table-kept, IsShown-found}
+use Rattle.desk_book.proofs.Kept.KeptBooks.{missing-kept, table-kept, IsShown-found}
 use Rattle.desk_book.proofs.book.Book.translated.Goals as goal
 
 pub returns-in_default-clause-missing : goal.returns-in_default-clause-missing

@@ -1,7 +1,7 @@
 use Rattle.std.proofs.Common.{◌≡◌, ℕ, List, length, sym, ap, subst, ◌∙◌, arith}
 use Rattle.louis_translate.specs.Tiling.{Tiles}
 use Rattle.louis_translate.specs.Braille.{braille}
-use Rattle.desk_book.specs.Print.{print_of}
+use Rattle.desk_model.specs.Print.{print_of}
 use Rattle.desk_book.proofs.book.Book.where_is.Goals as goal
 
 pub output_place-requires-clause-countable : goal.output_place-requires-clause-countable

@@ -1,9 +1,9 @@
 use Rattle.std.proofs.Common.{sym, ap, subst, ◌∙◌}
 use Rattle.desk_book.specs.declared.change.Effect.TheVariants.{SetFlags}
-use Rattle.desk_book.specs.Book.{Book}
+use Rattle.desk_model.specs.Book.{Book}
 use Rattle.desk_book.specs.Changes.{IsEffect}
 use Rattle.desk_book.specs.Kept.{KeptParagraphs, IsKept, book_kept}
-use Rattle.desk_book.proofs.Settled.{sound-next, next-flagged, IsKept-flagged}
+use Rattle.desk_book.proofs.Kept.Settled.{sound-next, next-flagged, IsKept-flagged}
 use Rattle.desk_book.proofs.book.Book.with_flags.Goals as goal
 
 pub invariant_of-result : goal.invariant_of-result

@@ -1,13 +1,13 @@
 use Rattle.std.proofs.Common.{List, sym, ap, subst, ◌∙◌}
 use Rattle.desk_book.specs.declared.change.Effect.TheVariants.{ResolveMark}
 use Rattle.desk_book.specs.declared.marks.KeptMark.{KeptMark}
-use Rattle.desk_book.specs.Book.{Book}
+use Rattle.desk_model.specs.Book.{Book}
 use Rattle.desk_book.specs.Changes.{IsEffect}
 use Rattle.desk_book.specs.Kept.{IsKept, book_kept}
 use Rattle.desk_book.specs.KeptMarks.{with_kept_resolved}
-use Rattle.desk_book.proofs.MarkIndexes.{indexes-resolved}
-use Rattle.desk_book.proofs.MarkSettled.{marks-resolved}
-use Rattle.desk_book.proofs.Settled.{IsKept-marked, next-marked, sound-next}
+use Rattle.desk_book.proofs.Kept.MarkIndexes.{indexes-resolved}
+use Rattle.desk_book.proofs.Kept.MarkSettled.{marks-resolved}
+use Rattle.desk_book.proofs.Kept.Settled.{IsKept-marked, next-marked, sound-next}
 use Rattle.desk_book.proofs.book.Book.with_mark_resolved.Goals as goal
 
 pub invariant_of-result : goal.invariant_of-result

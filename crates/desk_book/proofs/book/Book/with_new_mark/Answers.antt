@@ -1,13 +1,13 @@
 use Rattle.std.proofs.Common.{ℕ, List, [], ◌∷◌, ◌++◌, sym, ap, subst, ◌∙◌, arith}
 use Rattle.desk_book.specs.declared.change.Effect.TheVariants.{AddMark}
 use Rattle.desk_book.specs.declared.marks.KeptMark.{KeptMark}
-use Rattle.desk_book.specs.Book.{Book}
+use Rattle.desk_model.specs.Book.{Book}
 use Rattle.desk_book.specs.Changes.{IsEffect}
 use Rattle.desk_book.specs.Kept.{KeptParagraphs, IsKept, book_kept, with_kept_change}
 use Rattle.desk_book.specs.KeptPrints.{with_mark}
 use Rattle.desk_book.specs.Room.{Suffices}
-use Rattle.desk_book.proofs.MarkSettled.{count-marks}
-use Rattle.desk_book.proofs.Settled.{HasRoomForMark-noted, IsKept-noted, next-noted, sound-next}
+use Rattle.desk_book.proofs.Kept.MarkSettled.{count-marks}
+use Rattle.desk_book.proofs.Kept.Settled.{HasRoomForMark-noted, IsKept-noted, next-noted, sound-next}
 use Rattle.desk_book.proofs.book.Book.with_new_mark.Goals as goal
 
 pub add_mark-requires : goal.add_mark-requires

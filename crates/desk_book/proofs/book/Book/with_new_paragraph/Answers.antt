@@ -2,12 +2,12 @@ use Rattle.std.proofs.Common.{◌+◌, None, length, sym, ap, subst, ◌∙◌}
 use Rattle.std.specs.List.{insert}
 use Rattle.desk_book.specs.declared.change.Effect.TheVariants.{AddParagraph}
 use Rattle.desk_command.specs.declared.command.Command.{Command}
-use Rattle.desk_book.specs.Book.{Book}
+use Rattle.desk_model.specs.Book.{Book}
 use Rattle.desk_book.specs.Changes.{IsEffect}
 use Rattle.desk_book.specs.Kept.{KeptParagraphs, IsKept, book_kept, ids}
-use Rattle.desk_book.specs.Refusals.{IsAccepted}
-use Rattle.desk_book.specs.Step.{Makes}
-use Rattle.desk_book.proofs.Settled.{few-placed, order-placed, room-placed, sound-next, order-typed, next-typed, within-placed, IsKept-typed}
+use Rattle.desk_model.specs.Refusals.{IsAccepted}
+use Rattle.desk_model.specs.Step.{Makes}
+use Rattle.desk_book.proofs.Kept.Settled.{few-placed, order-placed, room-placed, sound-next, order-typed, next-typed, within-placed, IsKept-typed}
 use Rattle.desk_book.proofs.book.Book.with_new_paragraph.Goals as goal
 
 pub typed-requires-clause-few : goal.typed-requires-clause-few

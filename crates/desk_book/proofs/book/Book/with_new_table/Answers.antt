@@ -1,9 +1,9 @@
 use Rattle.std.proofs.Common.{sym, ap, subst, ◌∙◌}
 use Rattle.desk_book.specs.declared.change.Effect.TheVariants.{AddTable}
-use Rattle.desk_book.specs.Book.{Book}
+use Rattle.desk_model.specs.Book.{Book}
 use Rattle.desk_book.specs.Changes.{IsEffect}
 use Rattle.desk_book.specs.Kept.{KeptTables, IsKept, book_kept}
-use Rattle.desk_book.proofs.Settled.{room-added, new-added, next-added, IsKept-added}
+use Rattle.desk_book.proofs.Kept.Settled.{room-added, new-added, next-added, IsKept-added}
 use Rattle.desk_book.proofs.book.Book.with_new_table.Goals as goal
 
 pub joined-requires-clause-room : goal.joined-requires-clause-room

@@ -1,11 +1,11 @@
 use Rattle.std.proofs.Common.{List, sym, ap, subst, ◌∙◌}
 use Rattle.desk_book.specs.declared.change.Effect.TheVariants.{ChangePrint}
 use Rattle.desk_book.specs.declared.marks.KeptMark.{KeptMark}
-use Rattle.desk_book.specs.Book.{Book}
+use Rattle.desk_model.specs.Book.{Book}
 use Rattle.desk_book.specs.Changes.{IsEffect}
 use Rattle.desk_book.specs.Kept.{KeptParagraphs, IsKept, book_kept, with_kept_change}
 use Rattle.desk_book.specs.KeptPrints.{with_print_changed}
-use Rattle.desk_book.proofs.Settled.{AreWithin-marks, HasRoomFor-print_changed, indexes-print_changed, IsKept-print_changed, next-print_changed, sound-next}
+use Rattle.desk_book.proofs.Kept.Settled.{AreWithin-marks, HasRoomFor-print_changed, indexes-print_changed, IsKept-print_changed, next-print_changed, sound-next}
 use Rattle.desk_book.proofs.book.Book.with_print_changed.Goals as goal
 
 pub give_way-requires-clause-indexes : goal.give_way-requires-clause-indexes

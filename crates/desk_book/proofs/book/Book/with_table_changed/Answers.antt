@@ -1,11 +1,11 @@
 use Rattle.std.proofs.Common.{sym, ap, subst, ◌∙◌}
 use Rattle.desk_book.specs.declared.change.Effect.TheVariants.{ChangeTable}
 use Rattle.desk_command.specs.declared.command.Command.{Command}
-use Rattle.desk_book.specs.Book.{Book}
+use Rattle.desk_model.specs.Book.{Book}
 use Rattle.desk_book.specs.Changes.{IsEffect}
 use Rattle.desk_book.specs.Kept.{KeptParagraphs, IsKept, book_kept}
-use Rattle.desk_book.specs.Step.{Makes}
-use Rattle.desk_book.proofs.Settled.{sound-next, next-retabled, IsKept-retabled}
+use Rattle.desk_model.specs.Step.{Makes}
+use Rattle.desk_book.proofs.Kept.Settled.{sound-next, next-retabled, IsKept-retabled}
 use Rattle.desk_book.proofs.book.Book.with_table_changed.Goals as goal
 
 pub invariant_of-result : goal.invariant_of-result

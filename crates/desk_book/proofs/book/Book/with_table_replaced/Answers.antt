@@ -4,11 +4,11 @@ use Rattle.std.specs.Map.{lookup}
 use Rattle.std.specs.Prelude.{IsSome, nat_eq}
 use Rattle.desk_book.specs.declared.change.Effect.TheVariants.{ReplaceTable}
 use Rattle.desk_command.specs.declared.command.Command.{Command}
-use Rattle.desk_book.specs.Book.{Book}
+use Rattle.desk_model.specs.Book.{Book}
 use Rattle.desk_book.specs.Changes.{IsEffect}
 use Rattle.desk_book.specs.Kept.{KeptTables, KeptParagraphs, IsKept, book_kept, renewed, with_table}
-use Rattle.desk_book.specs.Step.{Makes}
-use Rattle.desk_book.proofs.Settled.{sound-next, there-replaced, next-replaced, IsKept-replaced}
+use Rattle.desk_model.specs.Step.{Makes}
+use Rattle.desk_book.proofs.Kept.Settled.{sound-next, there-replaced, next-replaced, IsKept-replaced}
 use Rattle.desk_book.proofs.book.Book.with_table_replaced.Goals as goal
 
 pub replace-requires : goal.replace-requires

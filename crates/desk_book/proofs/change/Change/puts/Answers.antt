@@ -1,12 +1,11 @@
 use Rattle.std.proofs.Common.{List, ap, refl, subst, sym, ◌∙◌}
 use Rattle.desk_parts.specs.Puts.{RowPut}
-use Rattle.desk_book.specs.ChangePuts.{LeadTo}
+use Rattle.desk_model.specs.Lent.{AreLent, LeadTo}
 use Rattle.desk_book.specs.Changes.{change_puts, puts-change_by}
-use Rattle.desk_book.specs.Lent.{AreLent}
-use Rattle.desk_book.proofs.KeptLookups.{sound}
-use Rattle.desk_book.proofs.LentRows.{change-lent}
-use Rattle.desk_book.proofs.PutsLead.{change-leads}
-use Rattle.desk_book.proofs.Settled.{IsEffect-carried}
+use Rattle.desk_book.proofs.Kept.KeptLookups.{sound}
+use Rattle.desk_book.proofs.RowPuts.LentRows.{change-lent}
+use Rattle.desk_book.proofs.RowPuts.PutsLead.{change-leads}
+use Rattle.desk_book.proofs.Kept.Settled.{IsEffect-carried}
 use Rattle.desk_book.proofs.change.Change.puts.Goals as goal
 
 pub returns-clause-these : goal.returns-clause-these

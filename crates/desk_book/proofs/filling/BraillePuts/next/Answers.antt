@@ -5,7 +5,7 @@ use Rattle.desk_book.specs.declared.paragraphs.Paragraph.{Paragraph as KeptParag
 use Rattle.desk_book.specs.Filling.{braille_from, braille_put}
 use Rattle.desk_book.specs.Kept.{KeptParagraphs}
 use Rattle.desk_parts.specs.Puts.{RowPut}
-use Rattle.desk_book.proofs.KeptBooks.{drop-there, drop-past}
+use Rattle.desk_model.proofs.Lists.Items.{drop-there, drop-past}
 use Rattle.desk_book.proofs.filling.BraillePuts.next.Goals as goal
 
 pub returns-in_default : goal.returns-in_default

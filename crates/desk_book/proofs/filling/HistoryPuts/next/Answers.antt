@@ -3,8 +3,8 @@ use Rattle.std.specs.Option.{option_copied}
 use Rattle.std.specs.Prelude.{slice_get}
 use Rattle.desk_book.specs.Filling.{entry_put, entry_puts_from}
 use Rattle.desk_parts.specs.Puts.{RowPut}
-use Rattle.desk_book.proofs.Arranging.{option_copied-item}
-use Rattle.desk_book.proofs.PutLists.{numbered-past, numbered-there}
+use Rattle.desk_model.proofs.Lists.Items.{option_copied-item}
+use Rattle.desk_book.proofs.RowPuts.PutLists.{numbered-past, numbered-there}
 use Rattle.desk_book.proofs.filling.HistoryPuts.next.Goals as goal
 
 pub returns-in_default : goal.returns-in_default

@@ -1,7 +1,7 @@
 use Rattle.std.proofs.Common.{◌≡◌, ◌+◌, ◌≤◌, ℕ, true, is_ok, length, None, subst, sym, ap, ap₂, ◌∙◌, arith, option_map}
 use Rattle.std.specs.Prelude.{vec_capacity}
 use Rattle.desk_book.specs.Room.{Suffices, grown, room_of}
-use Rattle.desk_book.proofs.RoomLists.{grown-within, room_of-more}
+use Rattle.desk_book.proofs.Kept.RoomLists.{grown-within, room_of-more}
 use Rattle.desk_book.proofs.items.Items.inserted.Goals as goal
 
 -- the list has room itself, and as much as before

@@ -3,11 +3,11 @@ use Rattle.std.proofs.lemmas.Int.{ints}
 use Rattle.std.proofs.lemmas.List.{length-map}
 use Rattle.std.proofs.lemmas.Option.{slice_get_read}
 use Rattle.desk_parts.specs.declared.rows.NamedCorrRow.TheInside.{Inside}
-use Rattle.desk_book.specs.Damage.{IsWithin}
+use Rattle.desk_model.specs.Damage.{IsWithin}
 use Rattle.desk_book.specs.JudgedEntries.{IsFirstStray}
 use Rattle.desk_parts.specs.Rows.{NamedCorr}
-use Rattle.desk_book.proofs.GroupedEntries.{grouped-set, grouped-stray, stray-more, stray-within}
-use Rattle.desk_book.proofs.RowNumbers.{pos_le}
+use Rattle.desk_book.proofs.Judged.GroupedEntries.{grouped-set, grouped-stray, stray-more, stray-within}
+use Rattle.desk_model.proofs.Lists.RowNumbers.{pos_le}
 use Rattle.desk_book.proofs.judged_entries.Grouped.of.Goals as goal
 
 pub loop-row-preserved-in-Continue-branch-2 : goal.loop-row-preserved-in-Continue-branch-2

@@ -1,7 +1,7 @@
 use Rattle.std.proofs.Common.{◌∙◌}
 use Rattle.desk_book.specs.Histories.{entries_kept}
-use Rattle.desk_book.proofs.KeptLookups.{IfOk-weaker}
-use Rattle.desk_book.proofs.ReadEntries.{IfSome-correcting}
+use Rattle.desk_book.proofs.Kept.KeptLookups.{IfOk-weaker}
+use Rattle.desk_book.proofs.Judged.ReadEntries.{IfSome-correcting}
 use Rattle.desk_book.proofs.judged_history.Reading.next.Goals as goal
 
 pub returns-in-0-clause-sound : goal.returns-in-0-clause-sound

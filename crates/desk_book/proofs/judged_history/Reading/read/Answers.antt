@@ -9,7 +9,7 @@ use Rattle.desk_book.specs.declared.damage.RowsFault.TheVariants.{Damaged}
 use Rattle.desk_book.specs.Histories.{entries_kept}
 use Rattle.desk_book.specs.JudgedHistory.{IsFit, IsNext}
 use Rattle.desk_parts.specs.Rows.{NamedCorr}
-use Rattle.desk_book.proofs.ReadRows.{as-many, long-next, read-next, sound-next, unfit-next}
+use Rattle.desk_book.proofs.Judged.ReadRows.{as-many, long-next, read-next, sound-next, unfit-next}
 use Rattle.desk_book.proofs.judged_history.Reading.read.Goals as goal
 use Rattle.desk_book.proofs.judged_history.Reading.read.Goals.{then-count-ge-MOST_ENTRIES-via-then-count-ge-MOST_ENTRIES, then-count-ge-MOST_ENTRIES-via-else-count-ge-MOST_ENTRIES+then-row-count}
 

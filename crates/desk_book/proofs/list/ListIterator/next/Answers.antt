@@ -4,8 +4,8 @@ use Rattle.std.specs.Borrow.{Bor}
 use Rattle.std.proofs.lemmas.List.Elements.{All-contains}
 use Rattle.desk_book.specs.declared.paragraphs.Paragraph.{Paragraph as KeptParagraph}
 use Rattle.desk_book.specs.Kept.{KeptParagraphs, paragraph_kept, paragraphs_from}
-use Rattle.desk_book.specs.Print.{print_of}
-use Rattle.desk_book.proofs.KeptBooks.{drop-there, drop-past, Contains-there}
+use Rattle.desk_model.specs.Print.{print_of}
+use Rattle.desk_model.proofs.Lists.Items.{drop-there, drop-past, Contains-there}
 use Rattle.desk_book.proofs.list.ListIterator.next.Goals as goal
 
 pub returns-in_default-clause-steps : goal.returns-in_default-clause-steps

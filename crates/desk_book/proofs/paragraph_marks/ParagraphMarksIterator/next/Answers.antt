@@ -4,10 +4,9 @@ use Rattle.std.specs.Option.{option_copied}
 use Rattle.std.specs.Prelude.{slice_get}
 use Rattle.std.proofs.lemmas.Option.{slice_get-get_or}
 use Rattle.desk_book.specs.Kept.{mark_kept}
-use Rattle.desk_book.specs.ParagraphMarks.{mark_at, marks_at}
-use Rattle.desk_book.proofs.Arranging.{All-slice_get, option_copied-item}
-use Rattle.desk_book.proofs.KeptBooks.{drop-past, drop-there}
-use Rattle.desk_book.proofs.MarkIndexes.{marks-at_next}
+use Rattle.desk_book.specs.ItemsLeft.{mark_at, marks_at}
+use Rattle.desk_model.proofs.Lists.Items.{All-slice_get, drop-past, drop-there, option_copied-item}
+use Rattle.desk_book.proofs.Kept.MarkIndexes.{marks-at_next}
 use Rattle.desk_book.proofs.paragraph_marks.ParagraphMarksIterator.next.Goals as goal
 
 pub returns-in_default-clause-steps : goal.returns-in_default-clause-steps

@@ -1,6 +1,7 @@
 use Rattle.std.proofs.Common.{◌≡◌, ◌-◌, length, slice_get, Some, None, refl, sym, ap, ◌∙◌, arith}
 use Rattle.std.proofs.lemmas.Option.{slice_get_read}
-use Rattle.desk_book.proofs.Arranging.{AreUpTo-order, All-slice_get, IsUpTo, option_copied-item, slice_get_none-in_order, slice_get_some-in_order}
+use Rattle.desk_book.proofs.Kept.Arranging.{AreUpTo-order, IsUpTo, slice_get_none-in_order, slice_get_some-in_order}
+use Rattle.desk_model.proofs.Lists.Items.{All-slice_get, option_copied-item}
 use Rattle.desk_book.proofs.paragraphs.Paragraphs.at.Goals as goal
 
 pub returns-in_err-id : goal.returns-in_err-id

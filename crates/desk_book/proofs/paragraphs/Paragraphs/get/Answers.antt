@@ -1,6 +1,7 @@
 use Rattle.std.proofs.Common.{nat_eq, sym, ap, slice_get, ◌∙◌}
 use Rattle.std.specs.Map.{lookup}
-use Rattle.desk_book.proofs.Arranging.{lookup_index-in_order, option_copied-item}
+use Rattle.desk_book.proofs.Kept.Arranging.{lookup_index-in_order}
+use Rattle.desk_model.proofs.Lists.Items.{option_copied-item}
 use Rattle.desk_book.proofs.paragraphs.Paragraphs.get.Goals as goal
 
 pub returns-in_err-index : goal.returns-in_err-index

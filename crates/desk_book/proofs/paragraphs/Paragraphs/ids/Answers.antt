@@ -1,5 +1,5 @@
 use Rattle.std.proofs.Common.{sym, ◌∙◌}
-use Rattle.desk_book.proofs.Arranging.{ids-shown}
+use Rattle.desk_book.proofs.Kept.Arranging.{ids-shown}
 use Rattle.desk_book.proofs.paragraphs.Paragraphs.ids.Goals as goal
 
 pub returns : goal.returns

@@ -1,7 +1,7 @@
 use Rattle.std.proofs.Common.{◌≡◌, nat_eq, length, sym, ap, ◌∙◌, arith}
 use Rattle.std.specs.Map.{lookup}
 use Rattle.std.proofs.lemmas.Option.{slice_get_past}
-use Rattle.desk_book.proofs.Arranging.{length-in_order, lookup_index-in_order, lookup_zero-in_order}
+use Rattle.desk_book.proofs.Kept.Arranging.{length-in_order, lookup_index-in_order, lookup_zero-in_order}
 use Rattle.desk_book.proofs.paragraphs.Paragraphs.index_of.Goals as goal
 
 pub returns-in_err-index-clause-none : goal.returns-in_err-index-clause-none

@@ -1,5 +1,5 @@
 use Rattle.std.proofs.Common.{length, sym, ap, ◌∙◌}
-use Rattle.desk_book.proofs.Arranging.{length-in_order}
+use Rattle.desk_book.proofs.Kept.Arranging.{length-in_order}
 use Rattle.desk_book.proofs.paragraphs.Paragraphs.len.Goals as goal
 
 pub returns : goal.returns

@@ -1,6 +1,6 @@
 use Rattle.std.proofs.Common.{length, subst, sym, ◌∙◌, arith, IfOk}
 use Rattle.desk_book.specs.Room.{Suffices}
-use Rattle.desk_book.proofs.Arranging.{length-order, length-shown}
+use Rattle.desk_book.proofs.Kept.Arranging.{length-order, length-shown}
 use Rattle.desk_book.proofs.paragraphs.Paragraphs.order_room.Goals as goal
 
 pub room-requires : goal.room-requires

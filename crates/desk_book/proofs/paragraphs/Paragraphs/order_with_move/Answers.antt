@@ -1,8 +1,8 @@
 use Rattle.std.proofs.Common.{◌≡◌, ◌==◌, cond, false, true, not, sym, ap, ◌∙◌}
 use Rattle.std.specs.List.{filter}
 use Rattle.desk_book.specs.Kept.{ids, with_id}
-use Rattle.desk_book.specs.Step.{is_after}
-use Rattle.desk_book.proofs.Arranging.{ids-shown}
+use Rattle.desk_model.specs.Step.{is_after}
+use Rattle.desk_book.proofs.Kept.Arranging.{ids-shown}
 use Rattle.desk_book.proofs.paragraphs.Paragraphs.order_with_move.Goals as goal
 
 pub returns-then-stays_behind : goal.returns-then-stays_behind

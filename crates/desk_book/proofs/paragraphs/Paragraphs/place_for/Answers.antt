@@ -4,11 +4,11 @@ use Rattle.std.specs.Prelude.{nat_eq}
 use Rattle.desk_command.specs.declared.command.Anchor.{Anchor}
 use Rattle.desk_command.specs.declared.command.Anchor.TheVariants.{End, Para}
 use Rattle.desk_book.specs.Kept.{ids, with_id}
-use Rattle.desk_book.specs.Refusals.{paragraph_before}
-use Rattle.desk_book.proofs.Arranging.{ids-shown, length-order, length-shown}
-use Rattle.desk_book.proofs.Members.{Contains-here}
-use Rattle.desk_book.proofs.Numbering.{IsDistinct-numbers}
-use Rattle.desk_book.proofs.OrderPlaces.{insert-behind, insert-end, position-at, position-there}
+use Rattle.desk_model.specs.Refusals.{paragraph_before}
+use Rattle.desk_book.proofs.Kept.Arranging.{ids-shown, length-order, length-shown}
+use Rattle.desk_model.proofs.Lists.Members.{Contains-here}
+use Rattle.desk_model.proofs.Lists.Numbering.{IsDistinct-numbers}
+use Rattle.desk_book.proofs.Kept.OrderPlaces.{insert-behind, insert-end, position-at, position-there}
 use Rattle.desk_book.proofs.paragraphs.Paragraphs.place_for.Goals as goal
 
 pub unreachable-requires : goal.unreachable-requires

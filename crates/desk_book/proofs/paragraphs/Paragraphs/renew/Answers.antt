@@ -3,7 +3,7 @@ use Rattle.std.proofs.lemmas.List.{with_items_is}
 use Rattle.std.specs.List.{flat_map}
 use Rattle.desk_book.specs.declared.paragraphs.Paragraphs.TheInside.{Inside}
 use Rattle.desk_book.specs.Kept.{numbered, renewed, renewed_items}
-use Rattle.desk_book.proofs.Renewing.{length-renewed_items, renewed-in_order}
+use Rattle.desk_book.proofs.Kept.Renewing.{length-renewed_items, renewed-in_order}
 use Rattle.desk_book.proofs.paragraphs.Paragraphs.renew.Goals as goal
 
 pub returns : goal.returns

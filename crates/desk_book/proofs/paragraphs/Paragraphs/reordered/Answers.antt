@@ -2,7 +2,7 @@ use Rattle.std.proofs.Common.{◌≡◌, length, subst, sym, ap, ◌∙◌}
 use Rattle.std.specs.List.{flat_map, range_with_len}
 use Rattle.std.specs.List.Sorted.{IsPermutation}
 use Rattle.desk_book.specs.Kept.{arranged, numbered}
-use Rattle.desk_book.proofs.Arranging.{AreUpTo-order, arranged-in_order, length-order, length-shown}
+use Rattle.desk_book.proofs.Kept.Arranging.{AreUpTo-order, arranged-in_order, length-order, length-shown}
 use Rattle.desk_book.proofs.paragraphs.Paragraphs.reordered.Goals as goal
 
 pub put_over-requires : goal.put_over-requires

@@ -1,6 +1,6 @@
 use Rattle.std.proofs.Common.{subst, sym, arith, IfOk}
 use Rattle.desk_book.specs.Room.{Suffices}
-use Rattle.desk_book.proofs.Arranging.{length-shown}
+use Rattle.desk_book.proofs.Kept.Arranging.{length-shown}
 use Rattle.desk_book.proofs.paragraphs.Paragraphs.room.Goals as goal
 
 pub room-requires : goal.room-requires

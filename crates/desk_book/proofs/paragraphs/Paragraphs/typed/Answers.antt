@@ -4,7 +4,7 @@ use Rattle.std.specs.List.Sorted.{IsPermutation}
 use Rattle.std.proofs.lemmas.List.{length-append}
 use Rattle.desk_book.specs.Kept.{arranged, ids, numbered}
 use Rattle.desk_book.specs.Room.{Suffices}
-use Rattle.desk_book.proofs.Arranging.{arranged-pushed, ids-shown, length-order, length-shown}
+use Rattle.desk_book.proofs.Kept.Arranging.{arranged-pushed, ids-shown, length-order, length-shown}
 use Rattle.desk_book.proofs.paragraphs.Paragraphs.typed.Goals as goal
 
 pub push-requires-clause-few : goal.push-requires-clause-few

@@ -1,8 +1,8 @@
 use Rattle.std.proofs.Common.{◌≤◌, subst}
 use Rattle.std.proofs.lemmas.List.Elements.{All-tail}
-use Rattle.desk_book.specs.Book.{Mark}
+use Rattle.desk_model.specs.Book.{Mark}
 use Rattle.desk_book.specs.ChangePuts.{AreSpans}
-use Rattle.desk_book.specs.Limits.{most_print}
+use Rattle.desk_model.specs.Limits.{most_print}
 use Rattle.desk_book.proofs.puts.SpanPuts.next.Goals as goal
 
 pub invariant_of-self-2 : goal.invariant_of-self-2

@@ -1,7 +1,7 @@
 use Rattle.std.proofs.Common.{chars, nat_eq, sym, ap, ◌∙◌}
 use Rattle.std.specs.Cmp.Lexicographic.{pointwise}
 use Rattle.std.specs.Map.{lookup}
-use Rattle.desk_book.proofs.ByName.{lookup-by_name}
+use Rattle.desk_book.proofs.Kept.ByName.{lookup-by_name}
 use Rattle.desk_book.proofs.tables.Tables.get.Goals as goal
 
 pub returns : goal.returns

@@ -2,7 +2,7 @@ use Rattle.std.proofs.Common.{[], sym, refl}
 use Rattle.std.specs.String.{string_bytes, string_eq_equiv}
 use Rattle.std.specs.Prelude.{string_eq}
 use Rattle.std.specs.Str.{chars}
-use Rattle.desk_book.proofs.ByName.{by_name-joined, insert_all-distinct}
+use Rattle.desk_book.proofs.Kept.ByName.{by_name-joined, insert_all-distinct}
 use Rattle.desk_book.proofs.tables.Tables.insert.Goals as goal
 
 pub returns : goal.returns

@@ -1,7 +1,7 @@
 use Rattle.std.proofs.Common.{length, string_eq, sym, ap, ◌∙◌, arith}
 use Rattle.indexmap.specs.IndexMap.{insert_all}
 use Rattle.desk_book.specs.Kept.{with_table}
-use Rattle.desk_book.proofs.ByName.{by_name-joined, length-by_name}
+use Rattle.desk_book.proofs.Kept.ByName.{by_name-joined, length-by_name}
 use Rattle.desk_book.proofs.tables.Tables.joined.Goals as goal
 
 pub unwrap-requires : goal.unwrap-requires

@@ -1,5 +1,5 @@
 use Rattle.std.proofs.Common.{length, sym, ap, ◌∙◌}
-use Rattle.desk_book.proofs.ByName.{length-by_name}
+use Rattle.desk_book.proofs.Kept.ByName.{length-by_name}
 use Rattle.desk_book.proofs.tables.Tables.len.Goals as goal
 
 pub returns : goal.returns

@@ -3,7 +3,7 @@ use Rattle.std.specs.Cmp.Lexicographic.{pointwise}
 use Rattle.std.specs.List.{IsDistinct}
 use Rattle.std.specs.Map.{keys_of, lookup}
 use Rattle.desk_book.specs.Kept.{by_name, with_table}
-use Rattle.desk_book.proofs.ByName.{by_name-set_value, lookup-by_name}
+use Rattle.desk_book.proofs.Kept.ByName.{by_name-set_value, lookup-by_name}
 use Rattle.desk_book.proofs.tables.Tables.replace.Goals as goal
 
 pub unreachable-requires : goal.unreachable-requires

@@ -2,9 +2,9 @@ use Rattle.std.proofs.Common.{◌≡◌, ◌+◌, ◌≤◌, [], ◌∷◌, leng
 use Rattle.std.specs.Option.{option_copied}
 use Rattle.std.specs.Prelude.{slice_get}
 use Rattle.desk_book.specs.Histories.{entry_kept}
-use Rattle.desk_book.specs.Told.{entries_from}
-use Rattle.desk_book.proofs.Arranging.{option_copied-item}
-use Rattle.desk_book.proofs.ToldEntries.{entries-past, entries-there}
+use Rattle.desk_book.specs.ItemsLeft.{entries_from}
+use Rattle.desk_model.proofs.Lists.Items.{option_copied-item}
+use Rattle.desk_book.proofs.Kept.ToldEntries.{entries-past, entries-there}
 use Rattle.desk_book.proofs.told.HistoryIterator.next.Goals as goal
 
 pub returns-in_default-clause-steps : goal.returns-in_default-clause-steps

@@ -1,0 +1,109 @@
+-- What is found among kept tables and paragraphs, against what the book that they stand for has.
+use Rattle.std.proofs.Common.{◌≡◌, ℕ, List, map, length, get_or, Option, Some, None, Contains, Result, Ok, Err, refl, ap, subst, ◌∙◌}
+use Rattle.std.specs.Cmp.Lexicographic.{pointwise}
+use Rattle.std.specs.Map.{lookup}
+use Rattle.std.specs.Option.{ok_or}
+use Rattle.std.specs.Prelude.{nat_eq, option_map, slice_get, IfErr, IfOk, IfSome, IsSome}
+use Rattle.std.proofs.lemmas.List.Elements.{Contains-get_or}
+use Rattle.std.proofs.lemmas.List.{length-map}
+use Rattle.std.proofs.lemmas.Option.{get_or_from_slice_get, slice_get-map, slice_get_within}
+use Rattle.std.proofs.lemmas.Map.Entries.{All-lookup}
+use Rattle.louis_table.specs.Table.{Means}
+use Rattle.desk_book.specs.declared.marks.KeptMark.{KeptMark}
+use Rattle.desk_book.specs.declared.paragraphs.Paragraph.{Paragraph as KeptParagraph}
+use Rattle.desk_book.specs.declared.tables.BookTable.{BookTable}
+use Rattle.desk_model.specs.Book.{Book, Paragraph, paragraph_of, text_of}
+use Rattle.desk_book.specs.Kept.{KeptTables, KeptParagraphs, IsKept, IsKeptParagraph, book_kept, ids, paragraph_kept}
+use Rattle.desk_model.specs.Print.{print_of}
+use Rattle.desk_model.specs.Sound.{IsSound}
+use Rattle.desk_book.specs.Planned.{AreThere, IsKeptFor, IsTableFor}
+use Rattle.desk_book.proofs.Kept.KeptBooks.{All-found, found-kept}
+use Rattle.desk_model.proofs.Lists.Items.{lookup-map}
+use Rattle.desk_book.proofs.Kept.OrderLists.{ids_of-kept}
+use Rattle.desk_model.proofs.Lists.Members.{Contains-map}
+use Rattle.desk_model.proofs.Books.ParagraphLists.{Contains-found, id-found, ids_of}
+use Rattle.desk_model.proofs.Books.SoundBooks.{paragraph_of-own}
+
+-- ---- what `ok_or` gives
+
+module _ {X E : Type 0} where
+  pub IfOk-ok_or : (o : Option X) (d : E) (r : Result X E) → r ≡ ok_or o d → (P : X → Type 0) → ((x : X) → o ≡ Some x → P x) → IfOk r P
+  IfOk-ok_or None d r is P h = rw is tt
+  IfOk-ok_or (Some x) d r is P h = rw is (h x refl)
+
+  pub IfErr-ok_or : (o : Option X) (d : E) (r : Result X E) → r ≡ ok_or o d → (P : E → Type 0) → (o ≡ None → P d) → IfErr r P
+  IfErr-ok_or None d r is P h = rw is (h refl)
+  IfErr-ok_or (Some x) d r is P h = rw is tt
+
+-- ---- what follows from an answer
+
+module _ {X E : Type 0} where
+  pub IfOk-weaker : (r : Result X E) (P Q : X → Type 0) → ((x : X) → P x → Q x) → IfOk r P → IfOk r Q
+  IfOk-weaker (Ok x) P Q f h = f x h
+  IfOk-weaker (Err e) P Q f h = tt
+
+  pub IfErr-weaker : (r : Result X E) (P Q : E → Type 0) → ((e : E) → P e → Q e) → IfErr r P → IfErr r Q
+  IfErr-weaker (Ok x) P Q f h = tt
+  IfErr-weaker (Err e) P Q f h = f e h
+
+-- ---- in a book
+
+module _ (version : ℕ) (tables : KeptTables) (kept : KeptParagraphs) (marks : List KeptMark) (book : Book) (is : book_kept version tables kept marks ≡ book) where
+  pub paragraph_of-kept : (id : ℕ) → paragraph_of book id ≡ option_map (λ p. paragraph_kept (id, p)) (lookup (nat_eq id) kept)
+  paragraph_of-kept id = rw (← is) (found-kept id kept)
+
+  pub text_of-kept : (name : List ℕ) → text_of book name ≡ option_map (λ table. table.text) (lookup (pointwise nat_eq name) tables)
+  text_of-kept name = rw (← is) (lookup-map (pointwise nat_eq name) (λ (table : BookTable). table.text) tables)
+
+  pub ids_of-book : ids_of book.paragraphs ≡ ids kept
+  ids_of-book = rw (← is) (ids_of-kept kept)
+
+  pub count-paragraphs : length book.paragraphs ≡ length kept
+  count-paragraphs = rw (← is) (length-map kept paragraph_kept)
+
+  -- paragraphs that are there stand in the order
+  pub Contains-there : (named : List ℕ) → AreThere book named → (id : ℕ) → Contains named id → Contains (ids kept) id
+  Contains-there named there id c = by (paragraph_of book id) refl (there id c)
+    where
+      by : (o : Option Paragraph) → paragraph_of book id ≡ o → IsSome o → Contains (ids kept) id
+      by None e some = absurd (cc)
+      by (Some p) e some =
+          subst (λ (list : List ℕ). Contains list id) ids_of-book
+          (subst (Contains (ids_of book.paragraphs)) (id-found id book.paragraphs p e)
+          (Contains-map (λ (q : Paragraph). q.id) book.paragraphs p (Contains-found id book.paragraphs p e)))
+
+  pub count-tables : length book.tables ≡ length tables
+  count-tables = rw (← is) (length-map tables (λ (entry : List ℕ × BookTable). (entry.0, entry.1.text)))
+
+  module _ (facts : IsKept version tables kept marks) where
+    pub sound : IsSound book
+    sound = subst IsSound is facts.sound
+
+    pub IsKeptFor-lookup : (id : ℕ) (p : KeptParagraph) → lookup (nat_eq id) kept ≡ Some p → IsKeptFor book id p
+    IsKeptFor-lookup id p found = record {
+      found = there;
+      alone = λ k d lt same.
+          let own = paragraph_of-own book sound (get_or book.paragraphs k d) (Contains-get_or book.paragraphs k d lt) in
+          cc (ap (paragraph_of book) same, there);
+      print = (All-found (IsKeptParagraph tables) id p kept facts.translated found).print;
+    }
+      where
+        there : paragraph_of book id ≡ Some (paragraph_kept (id, p))
+        there = paragraph_of-kept id ∙ ap (option_map (λ p. paragraph_kept (id, p))) found
+
+    pub IsTableFor-lookup : (name : List ℕ) (table : BookTable) → lookup (pointwise nat_eq name) tables ≡ Some table → IsTableFor book name table
+    IsTableFor-lookup name table found = record {
+      found = text_of-kept name ∙ ap (option_map (λ table. table.text)) found;
+      means = subst (λ (o : Option BookTable). IfSome o (λ t. Means t.text t.rules)) found (All-lookup (λ t. Means t.text t.rules) (pointwise nat_eq name) tables facts.means);
+    }
+
+    pub kept-at : (place id : ℕ) (p : KeptParagraph) → slice_get kept place ≡ Some (id, p) → (slice_get book.paragraphs place ≡ Some (paragraph_kept (id, p))) × (p.print ≡ print_of (paragraph_kept (id, p)))
+    kept-at place id p at =
+        let shown : slice_get (map paragraph_kept kept) place ≡ Some (paragraph_kept (id, p)) = slice_get-map paragraph_kept kept place ∙ ap (option_map paragraph_kept) at in
+        let facts_here : IsKeptParagraph tables (get_or kept place (id, p)) = facts.translated place (id, p) (slice_get_within kept place (id, p) at) in (
+          subst (λ (b : Book). slice_get b.paragraphs place ≡ Some (paragraph_kept (id, p))) is shown,
+          (rw (get_or_from_slice_get kept place (id, p) (id, p) at) at facts_here).print,
+        )
+
+  pub kept-past : (place : ℕ) → slice_get kept place ≡ None → slice_get book.paragraphs place ≡ None
+  kept-past place past = subst (λ (b : Book). slice_get b.paragraphs place ≡ None) is (slice_get-map paragraph_kept kept place ∙ ap (option_map paragraph_kept) past)

@@ -1,0 +1,667 @@
+-- What an effect makes of a book as it is kept.
+use Rattle.std.proofs.Common.{◌≡◌, ℕ, ◌+◌, ◌<◌, ◌≤◌, ◌^◌, Bool, true, false, cond, List, [], ◌∷◌, ◌++◌, length, map, take, Option, Some, None, Ordering, Contains, refl, sym, ap, subst, ◌∙◌, arith, inl, inr}
+use Rattle.std.specs.Prelude.{slice_get, nat_eq, ◌≢◌, ◌==◌, option_map, option_to_list, IsSome, MatchOption}
+use Rattle.std.specs.Option.{option_map_or}
+use Rattle.std.specs.Cmp.{unsigned_ties, unsigned_Decides}
+use Rattle.std.specs.Cmp.Lexicographic.{pointwise, pointwise_decides, slice_cmp, lists_ties}
+use Rattle.std.specs.FinMap.Entries.{put, by_order}
+use Rattle.std.specs.List.{All, enumerate_from, insert, range_with_len}
+use Rattle.std.specs.List.Sorted.{IsPermutation}
+use Rattle.std.specs.Map.{lookup}
+use Rattle.std.specs.Ordering.{nat_cmp}
+use Rattle.std.specs.declared.cmp.Ordering.TheVariants.{Less, Equal, Greater}
+use Rattle.std.proofs.Math.Seq.{take-append_seam}
+use Rattle.std.proofs.lemmas.Bool.{cases_lt, cond-true, cond-false, cond_both, false_from_ne_true, eqb-false, eqb-true, ne_eqb}
+use Rattle.std.proofs.lemmas.Cmp.{nat_list_cmp_total}
+use Rattle.std.proofs.lemmas.List.{length-append, length-map, map-append, take-append-le}
+use Rattle.std.proofs.lemmas.List.Elements.{All-nil, All-cons, All-append, All-push, All-weaker, All-contains, All-map, All-contains_itself}
+use Rattle.std.proofs.lemmas.List.Sorted.{Contains-permutation, IsPermutation-sym, IsPermutation-trans, IsPermutation-to_front, length_permutation}
+use Rattle.louis_table.specs.Meaning.{Meaning}
+use Rattle.louis_table.specs.Table.{Means}
+use Rattle.louis_table.proofs.OneMeaning.{one_meaning}
+use Rattle.louis_translate.specs.Tiling.{Tiles}
+use Rattle.louis_translate.specs.Braille.{braille}
+use Rattle.desk_book.specs.declared.change.Effect.{Effect}
+use Rattle.desk_book.specs.declared.change.PrintChange.{PrintChange}
+use Rattle.desk_book.specs.declared.history.KeptEntry.{KeptEntry}
+use Rattle.desk_book.specs.declared.change.Effect.TheVariants.{AddTable}
+use Rattle.desk_command.specs.declared.command.Anchor.{Anchor}
+use Rattle.desk_command.specs.declared.command.Command.{Command}
+use Rattle.desk_command.specs.declared.command.Command.TheVariants.{Table, TypeIn, Retable, Move}
+use Rattle.desk_book.specs.declared.marks.KeptMark.{KeptMark}
+use Rattle.desk_book.specs.declared.paragraphs.Paragraph.{Paragraph as KeptParagraph}
+use Rattle.desk_command.specs.declared.style.Style.{Style}
+use Rattle.desk_book.specs.declared.tables.BookTable.{BookTable}
+use Rattle.desk_model.specs.Book.{Book, Entry, Mark, Paragraph, text_of}
+use Rattle.desk_book.specs.Changes.{ChangesPrint, AreCellsOf, AreRenewed, AreCellsByTable, Carries, Change, IsKeptTyped, IsEffect, IsEffect-change_by, change_by, Does, Does-change_by}
+use Rattle.desk_book.specs.Histories.{HaveTaken, TookFrom, entries_kept, entry_kept}
+use Rattle.desk_book.specs.KeptMarks.{AreWithin, indexes_on, with_kept_moved}
+use Rattle.desk_book.specs.KeptPrints.{HasRoomFor, HasRoomForMark, with_mark, with_print_changed}
+use Rattle.desk_model.specs.Limits.{most_entries, most_marks, most_paragraphs}
+use Rattle.desk_model.specs.Marks.{mark_moved_by}
+use Rattle.desk_book.specs.Room.{Suffices}
+use Rattle.desk_model.proofs.Lists.Items.{All-from_map, lookup-map, slice_get-append_left, slice_get-push}
+use Rattle.desk_model.proofs.Books.HistoryLists.{slice_get-below}
+use Rattle.desk_book.proofs.Kept.MarkIndexes.{count-indexes, few-on, indexes-moved, indexes-none, indexes-push_on, indexes-push_other}
+use Rattle.desk_book.proofs.Kept.MarkSettled.{AreWithin-sound, marks-elsewhere, marks-moved, marks-push}
+use Rattle.desk_model.specs.ParagraphMarks.{marks_on}
+use Rattle.desk_book.specs.Kept.{HasMarks, mark_kept, KeptTables, KeptParagraphs, with_table, arranged, ids, in_order, new_cells, renewed, with_kept_change, marks_kept, paragraph_kept, book_kept, IsKeptParagraph, IsKept}
+use Rattle.desk_model.specs.Print.{corrected, print_of, with_entry}
+use Rattle.desk_model.specs.Refusals.{IsAccepted, paragraph_before}
+use Rattle.desk_model.specs.Sound.{IsSound, IsSoundMark}
+use Rattle.desk_model.specs.Step.{Makes, typed, next_id, next_mark, next_with_marks, next_with_paragraphs, with_marks_moved, with_paragraph, with_move, with_change}
+use Rattle.desk_book.proofs.Kept.KeptBooks.{found-kept, All-found, means-kept}
+use Rattle.desk_model.proofs.Commands.Accepted.{named_paragraph}
+use Rattle.desk_model.proofs.Lists.Members.{Contains-here, Contains-behind, Contains-map}
+use Rattle.desk_book.proofs.Kept.OrderLists.{ids_of-kept}
+use Rattle.desk_model.proofs.Books.ParagraphLists.{ids_of, AreApart, found, AreApart-permutation, id-found, Contains-found, found-own, IsPermutation-with_paragraph, IsPermutation-with_move}
+use Rattle.desk_model.proofs.Books.SoundBooks.{paragraphs-apart}
+use Rattle.desk_model.proofs.Books.SoundSteps.{IsSound-makes}
+use Rattle.desk_model.proofs.Lists.TableEntries.{All-put, lookup-put, same_name}
+
+-- ---- tables
+
+-- an entry put among others, all with other values
+pub map-put : {K X Y : Type 0} (R : K → K → Ordering) (f : X → Y) (k : K) (v : X) (es : List (K × X))
+    → map (λ e. (e.0, f e.1)) (put R k v es) ≡ put R k (f v) (map (λ e. (e.0, f e.1)) es)
+map-put R f k v [] = refl
+map-put {K = K} {X = X} {Y = Y} R f k v (e ∷ es) =
+    let to : K × X → K × Y = λ x. (x.0, f x.1) in
+    elim (R k e.0) as (λ r. map to (by_order r ((k, v) ∷ e ∷ es) ((e.0, v) ∷ es) (e ∷ put R k v es)) ≡ by_order r ((k, f v) ∷ to e ∷ map to es) ((e.0, f v) ∷ map to es) (to e ∷ put R k (f v) (map to es))) [
+      | Less ↦ refl
+      | Equal ↦ refl
+      | Greater ↦ ap (λ (rest : List (K × Y)). to e ∷ rest) (map-put R f k v es)
+    ]
+
+-- the texts of tables by their names
+abbrev pub texts : KeptTables → List (List ℕ × List ℕ)
+texts tables = map (λ entry. (entry.0, entry.1.text)) tables
+
+pub texts-with_table : (name : List ℕ) (table : BookTable) (tables : KeptTables) → texts (with_table name table tables) ≡ put (slice_cmp nat_cmp) name table.text (texts tables)
+texts-with_table name table tables = map-put (slice_cmp nat_cmp) (λ (t : BookTable). t.text) name table tables
+
+found-with_table : (name other : List ℕ) (table : BookTable) (tables : KeptTables)
+    → lookup (pointwise nat_eq other) (with_table name table tables) ≡ cond (pointwise nat_eq other name) (Some table) (lookup (pointwise nat_eq other) tables)
+found-with_table name other table tables = lookup-put (slice_cmp nat_cmp) (pointwise nat_eq) (lists_ties nat_cmp unsigned_ties) nat_list_cmp_total other name table tables
+
+pub found-new_table : (name other : List ℕ) (table : BookTable) (tables : KeptTables) → other ≡ name → lookup (pointwise nat_eq other) (with_table name table tables) ≡ Some table
+found-new_table name other table tables same =
+    found-with_table name other table tables
+    ∙ cond-true (pointwise nat_eq other name) (Some table) (lookup (pointwise nat_eq other) tables) ((pointwise_decides unsigned_Decides other name).1 same)
+
+pub found-other_table : (name other : List ℕ) (table : BookTable) (tables : KeptTables) → other ≢ name
+    → lookup (pointwise nat_eq other) (with_table name table tables) ≡ lookup (pointwise nat_eq other) tables
+found-other_table name other table tables apart =
+    found-with_table name other table tables
+    ∙ cond-false (pointwise nat_eq other name) (Some table) (lookup (pointwise nat_eq other) tables)
+    (false_from_ne_true (pointwise nat_eq other name) (λ e. apart ((pointwise_decides unsigned_Decides other name).0 e)))
+
+means-with_table : (name : List ℕ) (table : BookTable) (tables : KeptTables) → Means table.text table.rules
+    → All (λ entry. Means entry.1.text entry.1.rules) tables → All (λ entry. Means entry.1.text entry.1.rules) (with_table name table tables)
+means-with_table name table tables means all =
+    All-put (slice_cmp nat_cmp) same_name (λ (entry : List ℕ × BookTable). Means entry.1.text entry.1.rules) name table tables all means
+
+-- a paragraph that doesn't use the table stays as it is kept
+IsKeptParagraph-other : (name : List ℕ) (table : BookTable) (tables : KeptTables) (entry : ℕ × KeptParagraph) → entry.1.table ≢ name
+    → IsKeptParagraph tables entry → IsKeptParagraph (with_table name table tables) entry
+IsKeptParagraph-other name table tables entry apart kept = record {
+  print = kept.print;
+  table = kept.table;
+  found = found-other_table name entry.1.table table tables apart ∙ kept.found;
+  choices = kept.choices;
+  tiles = kept.tiles;
+  cells = kept.cells;
+  taken = kept.taken;
+}
+
+-- ---- paragraphs in another order
+
+option_entry : (id : ℕ) (o : Option KeptParagraph)
+    → map paragraph_kept (option_to_list (option_map (λ k. (id, k)) o)) ≡ option_to_list (option_map (λ k. paragraph_kept (id, k)) o)
+option_entry id None = refl
+option_entry id (Some k) = refl
+
+-- kept paragraphs in an order stand for the paragraphs in this order
+pub kept-arranged : (order : List ℕ) (kept : KeptParagraphs) → map paragraph_kept (arranged order kept) ≡ in_order order (map paragraph_kept kept)
+kept-arranged [] kept = refl
+kept-arranged (id ∷ order) kept =
+    let first : KeptParagraphs = option_to_list (option_map (λ k. (id, k)) (lookup (nat_eq id) kept)) in
+    let here : map paragraph_kept first ≡ option_to_list (found id (map paragraph_kept kept)) =
+    option_entry id (lookup (nat_eq id) kept) ∙ ap (λ (o : Option Paragraph). option_to_list o) (sym (found-kept id kept)) in
+    map-append paragraph_kept first (arranged order kept)
+    ∙ (ap (λ (ps : List Paragraph). ps ++ map paragraph_kept (arranged order kept)) here
+    ∙ ap (λ (ps : List Paragraph). option_to_list (found id (map paragraph_kept kept)) ++ ps) (kept-arranged order kept))
+
+-- what holds of each kept paragraph holds of each in the order
+pub All-arranged : (P : ℕ × KeptParagraph → Type 0) (order : List ℕ) (kept : KeptParagraphs) → All P kept → All P (arranged order kept)
+All-arranged P [] kept all = All-nil P
+All-arranged P (id ∷ order) kept all =
+    All-append P (option_to_list (option_map (λ k. (id, k)) (lookup (nat_eq id) kept))) (arranged order kept) (here (lookup (nat_eq id) kept) refl) (All-arranged P order kept all)
+  where
+    here : (o : Option KeptParagraph) → lookup (nat_eq id) kept ≡ o → All P (option_to_list (option_map (λ k. (id, k)) o))
+    here None e = All-nil P
+    here (Some k) e = All-cons P (id, k) [] (All-found P id k kept all e) (All-nil P)
+
+in_order-found : (qs ps : List Paragraph) → ((q : Paragraph) → Contains qs q → found q.id ps ≡ Some q) → in_order (ids_of qs) ps ≡ qs
+in_order-found [] ps own = refl
+in_order-found (q ∷ qs) ps own =
+    ap (λ (o : Option Paragraph). option_to_list o ++ in_order (ids_of qs) ps) (own q (Contains-here q qs))
+    ∙ ap (λ (rest : List Paragraph). q ∷ rest) (in_order-found qs ps (λ p c. own p (Contains-behind q p qs c)))
+
+-- paragraphs in the order of the ids of the same ones are these
+pub in_order-permutation : (qs ps : List Paragraph) → AreApart qs → IsPermutation qs ps → in_order (ids_of qs) ps ≡ qs
+in_order-permutation qs ps apart moved =
+    in_order-found qs ps (λ q c. found-own ps q (AreApart-permutation qs ps moved apart) (Contains-permutation qs ps q moved c))
+
+-- ---- histories
+
+-- what corrections took away, one entry more
+pub HaveTaken-push : (original : List ℕ) (entries : List KeptEntry) (entry : KeptEntry) → HaveTaken original entries → TookFrom (corrected original (entries_kept entries)) entry → HaveTaken original (entries ++ entry ∷ [])
+HaveTaken-push original entries entry taken last i e at =
+    let within = slice_get-below (entries ++ entry ∷ []) i e at in
+    let long = length-append entries (entry ∷ []) in
+    elim (cases_lt i (length entries)) [
+      | inl before ↦
+          subst (λ (t : List KeptEntry). TookFrom (corrected original (entries_kept t)) e) (sym (take-append-le i entries (entry ∷ []) (omega arith)))
+          (taken i e (sym (slice_get-append_left entries (entry ∷ []) i before) ∙ at))
+      | inr past ↦
+          let here : i ≡ length entries = omega arith in
+          let both : Some entry ≡ Some e = sym (slice_get-push entries entry) ∙ (ap (slice_get (entries ++ entry ∷ [])) (sym here) ∙ at) in
+          let same : entry ≡ e = cc in
+          let whole : take i (entries ++ entry ∷ []) ≡ entries = ap (λ (k : ℕ). take k (entries ++ entry ∷ [])) here ∙ take-append_seam entries (entry ∷ []) in
+          subst (λ (t : List KeptEntry). TookFrom (corrected original (entries_kept t)) e) (sym whole) (subst (TookFrom (corrected original (entries_kept entries))) same last)
+    ]
+
+-- ---- books
+
+-- what a change carries is put by its effect
+pub IsEffect-carried : (book : Book) (command : Command) (next : Book) (version : ℕ) (number : Option ℕ) (kept effect : Effect) (change : Change)
+    → change_by version number kept ≡ change → kept ≡ effect → Carries book command next change → IsEffect book version effect next
+IsEffect-carried book command next version number kept effect change shown is carries =
+    subst (λ (e : Effect). IsEffect book version e next) is
+    (IsEffect-change_by book command next version number kept (subst (Carries book command next) (sym shown) carries))
+
+pub Does-carried : (book : Book) (command : Command) (next : Book) (version : ℕ) (number : Option ℕ) (kept effect : Effect) (change : Change)
+    → change_by version number kept ≡ change → kept ≡ effect → Carries book command next change → Does book command next effect
+Does-carried book command next version number kept effect change shown is carries =
+    subst (λ (e : Effect). Does book command next e) is
+    (Does-change_by book command next version number kept (subst (Carries book command next) (sym shown) carries))
+
+pub some_effect : (book : Book) (version : ℕ) (number : Option ℕ) (kept effect : Effect) (change : Change)
+    → change_by version number kept ≡ change → kept ≡ effect → (command : Command) × (next : Book) × Carries book command next change
+    → (next : Book) × IsEffect book version effect next
+some_effect book version number kept effect change shown is given =
+    (given.1, IsEffect-carried book given.0 given.1 version number kept effect change shown is given.2)
+
+abbrev plain : ℕ → List (List ℕ × List ℕ) → List Paragraph → List Mark → Book
+plain version tables paragraphs marks = record { version = version; tables = tables; paragraphs = paragraphs; marks = marks }
+
+same_book : (v w : ℕ) (ts us : List (List ℕ × List ℕ)) (ps qs : List Paragraph) (ms ns : List Mark) → v ≡ w → ts ≡ us → ps ≡ qs → ms ≡ ns → plain v ts ps ms ≡ plain w us qs ns
+same_book v w ts us ps qs ms ns e f g h = λ i. plain (e i) (f i) (g i) (h i)
+
+module _ (version : ℕ) (tables : KeptTables) (paragraphs : KeptParagraphs) (marks : List KeptMark) where
+  abbrev book : Book
+  book = book_kept version tables paragraphs marks
+
+  abbrev before : List Paragraph
+  before = map paragraph_kept paragraphs
+
+  -- what is put makes a sound book of a sound one
+  pub sound-next : IsKept version tables paragraphs marks → (next : Book) (w : ℕ) (effect : Effect) → IsEffect book w effect next → IsSound next
+  sound-next is next w effect puts = IsSound-makes book next None puts.command is.sound puts.accepted puts.written puts.makes
+
+  -- a book with other tables
+  next-with_table : (next : Book) (w : ℕ) (name : List ℕ) (table : BookTable) (kept : KeptParagraphs)
+      → w ≡ next.version → Makes book (Table name table.text) next → map paragraph_kept kept ≡ before
+      → book_kept w (with_table name table tables) kept marks ≡ next
+  next-with_table next w name table kept at makes same =
+      same_book w (version + 1) (texts (with_table name table tables)) (put (slice_cmp nat_cmp) name table.text (texts tables)) (map paragraph_kept kept) before (marks_kept marks) (marks_kept marks)
+      (at ∙ ap (λ (b : Book). b.version) makes) (texts-with_table name table tables) same refl
+      ∙ sym makes
+
+  -- a book with other paragraphs
+  next-with_paragraphs : (next : Book) (w : ℕ) (ps : List Paragraph) (kept : KeptParagraphs)
+      → w ≡ next.version → next ≡ next_with_paragraphs book ps → map paragraph_kept kept ≡ ps
+      → book_kept w tables kept marks ≡ next
+  next-with_paragraphs next w ps kept at makes same =
+      same_book w (version + 1) (texts tables) (texts tables) (map paragraph_kept kept) ps (marks_kept marks) (marks_kept marks) (at ∙ ap (λ (b : Book). b.version) makes) refl same refl ∙ sym makes
+
+  -- ---- a new table
+
+  module _ (next : Book) (w : ℕ) (name : List ℕ) (table : BookTable) (room : ℕ) (puts : IsEffect book w (AddTable name table room) next) where
+    pub room-added : length tables < room
+    room-added = let within : length (texts tables) < room = puts.does.2 in let many : length (texts tables) ≡ length tables = length-map tables (λ entry. (entry.0, entry.1.text)) in omega arith
+
+    pub new-added : lookup (pointwise nat_eq name) tables ≡ None
+    new-added = by (lookup (pointwise nat_eq name) tables) refl
+      where
+        by : (o : Option BookTable) → lookup (pointwise nat_eq name) tables ≡ o → o ≡ None
+        by None e = refl
+        by (Some old) e =
+            let both : Some old.text ≡ None = sym (lookup-map (pointwise nat_eq name) (λ (t : BookTable). t.text) tables ∙ ap (option_map (λ (t : BookTable). t.text)) e) ∙ puts.does.1 in
+            absurd (cc)
+
+    pub next-added : book_kept w (with_table name table tables) paragraphs marks ≡ next
+    next-added = next-with_table next w name table paragraphs puts.at (subst (λ (command : Command). Makes book command next) puts.does.0 puts.makes) refl
+
+    pub IsKept-added : IsKept version tables paragraphs marks → IsKept w (with_table name table tables) paragraphs marks
+    IsKept-added is = record {
+      sound = subst IsSound (sym next-added) (sound-next is next w (AddTable name table room) puts);
+      means = means-with_table name table tables puts.does.3 is.means;
+      translated = All-weaker (IsKeptParagraph tables) (IsKeptParagraph (with_table name table tables))
+          (λ entry kept. IsKeptParagraph-other name table tables entry
+          (λ same. let both : Some kept.table ≡ None = sym kept.found ∙ (ap (λ (n : List ℕ). lookup (pointwise nat_eq n) tables) same ∙ new-added) in absurd (cc)) kept)
+          paragraphs is.translated;
+      marked = is.marked;
+    }
+
+  -- ---- another text of a table
+
+  module _ (next : Book) (w : ℕ) (name : List ℕ) (table : BookTable) (cells : List (Option (List ℕ))) (at : w ≡ next.version)
+      (makes : Makes book (Table name table.text) next) (means : Means table.text table.rules) (renews : AreRenewed book name table.rules cells) where
+    kept-renewed : (entry : ℕ × KeptParagraph) → paragraph_kept (renewed cells entry) ≡ paragraph_kept entry
+    kept-renewed (id, kept) = by (new_cells cells id)
+      where
+        by : (o : Option (List ℕ)) → paragraph_kept (id, option_map_or (λ new. record kept { cells = new }) o kept) ≡ paragraph_kept (id, kept)
+        by None = refl
+        by (Some new) = refl
+
+    marks-renewed : (entry : ℕ × KeptParagraph) → (renewed cells entry).1.marks ≡ entry.1.marks
+    marks-renewed (id, kept) = by (new_cells cells id)
+      where
+        by : (o : Option (List ℕ)) → (option_map_or (λ new. record kept { cells = new }) o kept).marks ≡ kept.marks
+        by None = refl
+        by (Some new) = refl
+
+    all-renewed : (kept : KeptParagraphs) → map paragraph_kept (map (renewed cells) kept) ≡ map paragraph_kept kept
+    all-renewed [] = refl
+    all-renewed (entry ∷ kept) = λ i. kept-renewed entry i ∷ all-renewed kept i
+
+    pub next-replaced : book_kept w (with_table name table tables) (map (renewed cells) paragraphs) marks ≡ next
+    next-replaced = next-with_table next w name table (map (renewed cells) paragraphs) at makes (all-renewed paragraphs)
+
+    IsKeptParagraph-renewed : (entry : ℕ × KeptParagraph) → IsKeptParagraph tables entry
+        → MatchOption (new_cells cells entry.0) (entry.1.table ≢ name) (λ new. (entry.1.table ≡ name) × AreCellsOf table.rules (print_of (paragraph_kept entry)) new)
+        → IsKeptParagraph (with_table name table tables) (renewed cells entry)
+    IsKeptParagraph-renewed (id, kept) k m = by (new_cells cells id) m
+      where
+        by : (o : Option (List ℕ)) → MatchOption o (kept.table ≢ name) (λ new. (kept.table ≡ name) × AreCellsOf table.rules (print_of (paragraph_kept (id, kept))) new)
+            → IsKeptParagraph (with_table name table tables) (id, option_map_or (λ new. record kept { cells = new }) o kept)
+        by None apart = IsKeptParagraph-other name table tables (id, kept) apart k
+        by (Some new) made = record {
+          print = k.print;
+          table = table;
+          found = found-new_table name kept.table table tables made.0;
+          choices = made.1.0;
+          tiles = subst (λ (p : List ℕ). Tiles table.rules p made.1.0) (sym k.print) made.1.1;
+          cells = made.1.2 ∙ ap (λ (p : List ℕ). braille table.rules p made.1.0) (sym k.print);
+          taken = k.taken;
+        }
+
+    pub IsKept-replaced : IsKept version tables paragraphs marks → IsSound next → IsKept w (with_table name table tables) (map (renewed cells) paragraphs) marks
+    IsKept-replaced is sound =
+        let Renews : Paragraph → Type 0 = λ p. MatchOption (new_cells cells p.id) (p.table ≢ name) (λ new. (p.table ≡ name) × AreCellsOf table.rules (print_of p) new) in
+        let each = All-from_map Renews paragraph_kept paragraphs renews in
+        record {
+          sound = subst IsSound (sym next-replaced) sound;
+          means = means-with_table name table tables means is.means;
+          translated = All-map (IsKeptParagraph (with_table name table tables)) (renewed cells) paragraphs
+              (All-weaker (Contains paragraphs) (λ entry. IsKeptParagraph (with_table name table tables) (renewed cells entry))
+              (λ entry c. IsKeptParagraph-renewed entry (All-contains (IsKeptParagraph tables) paragraphs entry is.translated c) (All-contains (λ e. Renews (paragraph_kept e)) paragraphs entry each c))
+              paragraphs (All-contains_itself paragraphs));
+          marked = All-map (HasMarks marks) (renewed cells) paragraphs (All-weaker (HasMarks marks) (λ entry. HasMarks marks (renewed cells entry)) (λ entry has. marks-renewed entry ∙ has) paragraphs is.marked);
+        }
+
+  -- the table of a text is there
+  table_of-text : (name source : List ℕ) → text_of book name ≡ Some source → (table : BookTable) × (lookup (pointwise nat_eq name) tables ≡ Some table) × (table.text ≡ source)
+  table_of-text name source e = by (lookup (pointwise nat_eq name) tables) refl
+    where
+      by : (o : Option BookTable) → lookup (pointwise nat_eq name) tables ≡ o → (table : BookTable) × (lookup (pointwise nat_eq name) tables ≡ Some table) × (table.text ≡ source)
+      by None h =
+          let both : Some source ≡ None = sym e ∙ (lookup-map (pointwise nat_eq name) (λ (t : BookTable). t.text) tables ∙ ap (option_map (λ (t : BookTable). t.text)) h) in
+          absurd (cc)
+      by (Some table) h =
+          let both : Some table.text ≡ Some source = sym (lookup-map (pointwise nat_eq name) (λ (t : BookTable). t.text) tables ∙ ap (option_map (λ (t : BookTable). t.text)) h) ∙ e in
+          (table, h, (let same : table.text ≡ source = cc in same))
+
+  pub there-replaced : (name : List ℕ) → IsSome (text_of book name) → IsSome (lookup (pointwise nat_eq name) tables)
+  there-replaced name some = by (lookup (pointwise nat_eq name) tables) (subst (λ (o : Option (List ℕ)). IsSome o) (lookup-map (pointwise nat_eq name) (λ (t : BookTable). t.text) tables) some)
+    where
+      by : (o : Option BookTable) → IsSome (option_map (λ (t : BookTable). t.text) o) → IsSome o
+      by None h = h
+      by (Some table) h = h
+
+  -- a paragraph with the cells of its print by the text of its table is kept
+  IsKeptParagraph-cells : IsKept version tables paragraphs marks → (entry : ℕ × KeptParagraph) (source : List ℕ) (meaning : Meaning)
+      → entry.1.print ≡ print_of (paragraph_kept entry) → text_of book entry.1.table ≡ Some source → Means source meaning → AreCellsOf meaning entry.1.print entry.1.cells
+      → HaveTaken entry.1.original entry.1.history → IsKeptParagraph tables entry
+  IsKeptParagraph-cells is entry source meaning print there means made taken =
+      let table = table_of-text entry.1.table source there in
+      let known : Means source table.0.rules = subst (λ (t : List ℕ). Means t table.0.rules) table.2 (means-kept version tables paragraphs marks is entry.1.table table.0 table.1) in
+      let one : meaning ≡ table.0.rules = one_meaning source meaning table.0.rules means known in
+      record {
+        print = print;
+        table = table.0;
+        found = table.1;
+        choices = made.0;
+        tiles = subst (λ (m : Meaning). Tiles m entry.1.print made.0) one made.1;
+        cells = made.2 ∙ ap (λ (m : Meaning). braille m entry.1.print made.0) one;
+        taken = taken;
+      }
+
+  -- ---- a new paragraph
+
+  count-before : length before ≡ length paragraphs
+  count-before = length-map paragraphs paragraph_kept
+
+  -- the order that the change gives, as it is kept
+  pub order-placed : (next : Book) (place : ℕ) → insert (ids_of before) place (next_id book) ≡ ids_of next.paragraphs
+      → insert (ids paragraphs) place (length paragraphs + 1) ≡ ids_of next.paragraphs
+  order-placed next place is =
+      ap (λ (order : List ℕ). insert order place (length paragraphs + 1)) (sym (ids_of-kept paragraphs))
+      ∙ (ap (λ (n : ℕ). insert (ids_of before) place (n + 1)) (sym count-before) ∙ is)
+
+  pub few-placed : length before < most_paragraphs → length paragraphs + 1 < 2 ^ 32
+  few-placed few = let count = count-before in omega arith
+
+  pub room-placed : (room : Option ℕ) → Suffices (length before) room → Suffices (length paragraphs) room
+  room-placed room = subst (λ (n : ℕ). Suffices n room) count-before
+
+  pub within-placed : (place : ℕ) → place ≤ length before → place ≤ length paragraphs
+  within-placed place within = let count = count-before in omega arith
+
+  module _ (next : Book) (w : ℕ) (anchor : Anchor) (text order : List ℕ) (kept : KeptParagraph) (at : w ≡ next.version)
+      (accepted : IsAccepted book None (TypeIn anchor kept.table text)) (makes : Makes book (TypeIn anchor kept.table text) next)
+      (given : IsKeptTyped book kept.table text kept) (order_is : order ≡ ids_of next.paragraphs)
+      (is : IsKept version tables paragraphs marks) (sound : IsSound next) where
+    abbrev new : Paragraph
+    new = typed (next_id book) kept.table text
+
+    abbrev all : KeptParagraphs
+    all = paragraphs ++ (length paragraphs + 1, kept) ∷ []
+
+    moved-typed : IsPermutation next.paragraphs (before ++ new ∷ [])
+    moved-typed =
+        let put : List Paragraph = with_paragraph anchor new before in
+        let there : (id : ℕ) → Contains (paragraph_before anchor) id → Contains (ids_of before) id =
+        λ id c. let p = named_paragraph book None (TypeIn anchor kept.table text) accepted id c in
+        subst (Contains (ids_of before)) (id-found id before p.0 p.1) (Contains-map (λ (q : Paragraph). q.id) before p.0 (Contains-found id before p.0 p.1)) in
+        let one = IsPermutation-with_paragraph anchor new before (paragraphs-apart book is.sound) there in
+        subst (λ (qs : List Paragraph). IsPermutation qs (before ++ new ∷ [])) (sym (ap (λ (b : Book). b.paragraphs) makes))
+        (IsPermutation-trans put (new ∷ before) (before ++ new ∷ []) (IsPermutation-sym (new ∷ before) put one)
+        (IsPermutation-sym (before ++ new ∷ []) (new ∷ before) (IsPermutation-to_front before new)))
+
+    kept-typed : map paragraph_kept all ≡ before ++ new ∷ []
+    kept-typed =
+        let count : length paragraphs + 1 ≡ next_id book = ap (λ (k : ℕ). k + 1) (sym (length-map paragraphs paragraph_kept)) in
+        map-append paragraph_kept paragraphs ((length paragraphs + 1, kept) ∷ [])
+        ∙ ap (λ (p : Paragraph). before ++ p ∷ []) (ap (λ (id : ℕ). paragraph_kept (id, kept)) count ∙ given.kept_is)
+
+    pub order-typed : IsPermutation (range_with_len 1 (length paragraphs + 1)) order
+    order-typed =
+        let first : length (before ++ new ∷ []) ≡ length next.paragraphs = length_permutation next.paragraphs (before ++ new ∷ []) moved-typed in
+        let second : length (before ++ new ∷ []) ≡ length before + 1 = length-append before (new ∷ []) in
+        let third : length before ≡ length paragraphs = length-map paragraphs paragraph_kept in
+        let count : length next.paragraphs ≡ length paragraphs + 1 = omega arith in
+        subst (λ (n : ℕ). IsPermutation (range_with_len 1 n) order) count
+        (subst (IsPermutation (range_with_len 1 (length next.paragraphs))) (sym order_is) sound.ids)
+
+    pub next-typed : book_kept w tables (arranged order all) marks ≡ next
+    next-typed =
+        next-with_paragraphs next w (with_paragraph anchor new before) (arranged order all) at makes
+        (kept-arranged order all
+        ∙ (ap (in_order order) kept-typed
+        ∙ (ap (λ (o : List ℕ). in_order o (before ++ new ∷ [])) order_is
+        ∙ (in_order-permutation next.paragraphs (before ++ new ∷ []) (paragraphs-apart next sound) moved-typed
+        ∙ ap (λ (b : Book). b.paragraphs) makes))))
+
+    pub IsKept-typed : IsKept w tables (arranged order all) marks
+    IsKept-typed =
+        let entry : ℕ × KeptParagraph = (length paragraphs + 1, kept) in
+        let print : kept.print ≡ print_of (paragraph_kept entry) = given.print ∙ sym (ap (λ (p : Paragraph). print_of p) given.kept_is) in
+        let count = count-before in
+        let none : indexes_on (length paragraphs + 1) marks ≡ [] =
+        indexes-none (length paragraphs + 1) 0 marks (marks-elsewhere book (length paragraphs + 1) 1 marks is.sound (omega arith) (All-from_map (IsSoundMark book) mark_kept (enumerate_from 1 marks) is.sound.marks)) in
+        record {
+          sound = subst IsSound (sym next-typed) sound;
+          means = is.means;
+          translated = All-arranged (IsKeptParagraph tables) order all
+              (All-push (IsKeptParagraph tables) paragraphs entry is.translated
+              (IsKeptParagraph-cells is entry given.source given.meaning print given.found given.means given.cells given.taken));
+          marked = All-arranged (HasMarks marks) order all (All-push (HasMarks marks) paragraphs entry is.marked (given.unmarked ∙ sym none));
+        }
+
+  -- ---- a change of one paragraph
+
+  module _ (id : ℕ) (change : KeptParagraph → KeptParagraph) (to : Paragraph → Paragraph)
+      (same : (n : ℕ) (k : KeptParagraph) → paragraph_kept (n, change k) ≡ to (paragraph_kept (n, k))) where
+    kept-changed : (kept : KeptParagraphs) → map paragraph_kept (with_kept_change id change kept) ≡ with_change id to (map paragraph_kept kept)
+    kept-changed [] = refl
+    kept-changed ((n, k) ∷ kept) = λ i. by (n == id) i ∷ kept-changed kept i
+      where
+        by : (b : Bool) → paragraph_kept (cond b (n, change k) (n, k)) ≡ cond b (to (paragraph_kept (n, k))) (paragraph_kept (n, k))
+        by true = same n k
+        by false = refl
+
+    All-changed : (P : ℕ × KeptParagraph → Type 0) (kept : KeptParagraphs)
+        → ((n : ℕ) (k : KeptParagraph) → Contains kept (n, k) → nat_eq n id ≡ true → P (n, k) → P (n, change k)) → All P kept → All P (with_kept_change id change kept)
+    All-changed P kept here all =
+        All-map P (λ entry. cond (entry.0 == id) (entry.0, change entry.1) entry) kept
+        (All-weaker (Contains kept) (λ entry. P (cond (entry.0 == id) (entry.0, change entry.1) entry))
+        (λ entry c. cond_both (entry.0 == id) (entry.0, change entry.1) entry P (λ e. here entry.0 entry.1 c e (All-contains P kept entry all c)) (λ e. All-contains P kept entry all c))
+        kept (All-contains_itself kept))
+
+  -- ---- a style and flags
+
+  abbrev flagged : Style → Bool → Bool → KeptParagraph → KeptParagraph
+  flagged style begins struck k = record k { style = style; begins_volume = begins; struck = struck }
+
+  module _ (next : Book) (w id : ℕ) (style : Style) (begins struck : Bool) (at : w ≡ next.version)
+      (makes : next ≡ next_with_paragraphs book (with_change id (λ p. record p { style = style; begins_volume = begins; struck = struck }) book.paragraphs)) where
+    pub next-flagged : book_kept w tables (with_kept_change id (flagged style begins struck) paragraphs) marks ≡ next
+    next-flagged =
+        let to : Paragraph → Paragraph = λ p. record p { style = style; begins_volume = begins; struck = struck } in
+        next-with_paragraphs next w (with_change id to before) (with_kept_change id (flagged style begins struck) paragraphs) at makes
+        (kept-changed id (flagged style begins struck) to (λ n k. refl) paragraphs)
+
+    pub IsKept-flagged : IsKept version tables paragraphs marks → IsSound next → IsKept w tables (with_kept_change id (flagged style begins struck) paragraphs) marks
+    IsKept-flagged is sound = record {
+      sound = subst IsSound (sym next-flagged) sound;
+      means = is.means;
+      translated =
+          let to : Paragraph → Paragraph = λ p. record p { style = style; begins_volume = begins; struck = struck } in
+          All-changed id (flagged style begins struck) to (λ n k. refl) (IsKeptParagraph tables) paragraphs
+          (λ n k c e kept. record { print = kept.print; table = kept.table; found = kept.found; choices = kept.choices; tiles = kept.tiles; cells = kept.cells; taken = kept.taken }) is.translated;
+      marked = All-changed id (flagged style begins struck) (λ p. record p { style = style; begins_volume = begins; struck = struck }) (λ n k. refl) (HasMarks marks) paragraphs (λ n k c e has. has) is.marked;
+    }
+
+  -- ---- another table of a paragraph
+
+  module _ (next : Book) (w id : ℕ) (name cells : List ℕ) (at : w ≡ next.version)
+      (makes : Makes book (Retable id name) next) (given : AreCellsByTable book id name cells) where
+    abbrev retabled : KeptParagraph → KeptParagraph
+    retabled k = record k { table = name; cells = cells }
+
+    pub next-retabled : book_kept w tables (with_kept_change id retabled paragraphs) marks ≡ next
+    next-retabled =
+        let to : Paragraph → Paragraph = λ p. record p { table = name } in
+        next-with_paragraphs next w (with_change id to before) (with_kept_change id retabled paragraphs) at makes
+        (kept-changed id retabled to (λ n k. refl) paragraphs)
+
+    pub IsKept-retabled : IsKept version tables paragraphs marks → IsSound next → IsKept w tables (with_kept_change id retabled paragraphs) marks
+    IsKept-retabled is sound = record {
+      sound = subst IsSound (sym next-retabled) sound;
+      means = is.means;
+      translated =
+          let to : Paragraph → Paragraph = λ p. record p { table = name } in
+          All-changed id retabled to (λ n k. refl) (IsKeptParagraph tables) paragraphs
+          (λ n k c e kept.
+          let p : Paragraph = paragraph_kept (n, k) in
+          let own : found n before ≡ Some p = found-own before p (paragraphs-apart book is.sound) (Contains-map paragraph_kept paragraphs (n, k) c) in
+          let both : Some p ≡ Some given.paragraph = sym own ∙ (ap (λ (m : ℕ). found m before) (eqb-true n id e) ∙ given.there) in
+          let one : given.paragraph ≡ p = cc in
+          let print : print_of given.paragraph ≡ k.print = ap (λ (q : Paragraph). print_of q) one ∙ sym kept.print in
+          IsKeptParagraph-cells is (n, retabled k) given.source given.meaning kept.print given.found given.means
+          (subst (λ (q : List ℕ). AreCellsOf given.meaning q cells) print given.cells_are) kept.taken) is.translated;
+      marked = All-changed id retabled (λ p. record p { table = name }) (λ n k. refl) (HasMarks marks) paragraphs (λ n k c e has. has) is.marked;
+    }
+
+  -- ---- another order
+
+  module _ (next : Book) (w id : ℕ) (anchor : Anchor) (order : List ℕ) (at : w ≡ next.version)
+      (accepted : IsAccepted book None (Move id anchor)) (makes : Makes book (Move id anchor) next)
+      (order_is : order ≡ ids_of next.paragraphs) (is : IsKept version tables paragraphs marks) (sound : IsSound next) where
+    moved-reordered : IsPermutation next.paragraphs before
+    moved-reordered =
+        let named = named_paragraph book None (Move id anchor) accepted in
+        let p = named id (Contains-here id (paragraph_before anchor)) in
+        subst (λ (qs : List Paragraph). IsPermutation qs before) (sym (ap (λ (b : Book). b.paragraphs) makes))
+        (IsPermutation-sym before (with_move id anchor book)
+        (IsPermutation-with_move book id anchor p.0 (paragraphs-apart book is.sound) p.1 (λ other c. named other (Contains-behind id other (paragraph_before anchor) c))))
+
+    pub order-reordered : IsPermutation (range_with_len 1 (length paragraphs)) order
+    order-reordered =
+        let first : length before ≡ length next.paragraphs = length_permutation next.paragraphs before moved-reordered in
+        let second : length before ≡ length paragraphs = length-map paragraphs paragraph_kept in
+        let count : length next.paragraphs ≡ length paragraphs = omega arith in
+        subst (λ (n : ℕ). IsPermutation (range_with_len 1 n) order) count
+        (subst (IsPermutation (range_with_len 1 (length next.paragraphs))) (sym order_is) sound.ids)
+
+    pub next-reordered : book_kept w tables (arranged order paragraphs) marks ≡ next
+    next-reordered =
+        next-with_paragraphs next w (with_move id anchor book) (arranged order paragraphs) at makes
+        (kept-arranged order paragraphs
+        ∙ (ap (λ (o : List ℕ). in_order o before) order_is
+        ∙ (in_order-permutation next.paragraphs before (paragraphs-apart next sound) moved-reordered
+        ∙ ap (λ (b : Book). b.paragraphs) makes)))
+
+    pub IsKept-reordered : IsKept w tables (arranged order paragraphs) marks
+    IsKept-reordered = record {
+      sound = subst IsSound (sym next-reordered) sound;
+      means = is.means;
+      translated = All-arranged (IsKeptParagraph tables) order paragraphs is.translated;
+      marked = All-arranged (HasMarks marks) order paragraphs is.marked;
+    }
+
+  -- ---- another print of a paragraph
+
+  module _ (next : Book) (w id : ℕ) (change : PrintChange) (at : w ≡ next.version) (given : ChangesPrint book next id change) where
+    abbrev more : Paragraph → Paragraph
+    more = with_entry (entry_kept change.entry)
+
+    one_more : (n : ℕ) (k : KeptParagraph) → paragraph_kept (n, with_print_changed change k) ≡ more (paragraph_kept (n, k))
+    one_more n k = ap (λ (h : List Entry). let p : Paragraph = paragraph_kept (n, k) in record p { history = h }) (map-append entry_kept k.history (change.entry ∷ []))
+
+    pub next-print_changed : book_kept w tables (with_kept_change id (with_print_changed change) paragraphs) (with_kept_moved id change.start change.removed change.added marks) ≡ next
+    next-print_changed =
+        same_book w (version + 1) (texts tables) (texts tables) (map paragraph_kept (with_kept_change id (with_print_changed change) paragraphs)) (with_change id more before)
+        (marks_kept (with_kept_moved id change.start change.removed change.added marks)) (with_marks_moved id (mark_moved_by change.start change.removed change.added) (marks_kept marks))
+        (at ∙ ap (λ (b : Book). b.version) given.next_is) refl (kept-changed id (with_print_changed change) more one_more paragraphs)
+        (marks-moved id change.start change.removed change.added 1 marks)
+        ∙ sym given.next_is
+
+    pub IsKept-print_changed : IsKept version tables paragraphs marks → IsSound next
+        → IsKept w tables (with_kept_change id (with_print_changed change) paragraphs) (with_kept_moved id change.start change.removed change.added marks)
+    IsKept-print_changed is sound = record {
+      sound = subst IsSound (sym next-print_changed) sound;
+      means = is.means;
+      translated =
+          All-changed id (with_print_changed change) more one_more (IsKeptParagraph tables) paragraphs
+          (λ n k c e kept.
+          let p : Paragraph = paragraph_kept (n, k) in
+          let own : found n before ≡ Some p = found-own before p (paragraphs-apart book is.sound) (Contains-map paragraph_kept paragraphs (n, k) c) in
+          let both : Some p ≡ Some given.paragraph = sym own ∙ (ap (λ (m : ℕ). found m before) (eqb-true n id e) ∙ given.there) in
+          let one : given.paragraph ≡ p = cc in
+          let print : change.print ≡ print_of (paragraph_kept (n, with_print_changed change k)) = given.print ∙ (ap (λ (q : Paragraph). print_of (more q)) one ∙ ap (λ (q : Paragraph). print_of q) (sym (one_more n k))) in
+          IsKeptParagraph-cells is (n, with_print_changed change k) given.source given.meaning print (ap (λ (q : Paragraph). text_of book q.table) (sym one) ∙ given.found) given.means given.cells
+          (HaveTaken-push k.original k.history change.entry kept.taken (subst (λ (q : Paragraph). TookFrom (print_of q) change.entry) one given.taken))) is.translated;
+      marked =
+          let moved : List KeptMark = with_kept_moved id change.start change.removed change.added marks in
+          All-changed id (with_print_changed change) more one_more (HasMarks moved) paragraphs (λ n k c e has. has)
+          (All-weaker (HasMarks marks) (HasMarks moved) (λ entry has. has ∙ sym (indexes-moved id change.start change.removed change.added entry.0 marks)) paragraphs is.marked);
+    }
+
+    pub HasRoomFor-print_changed : HasRoomFor paragraphs id change.room
+    HasRoomFor-print_changed = by (lookup (nat_eq id) paragraphs) refl
+      where
+        by : (o : Option KeptParagraph) → lookup (nat_eq id) paragraphs ≡ o → HasRoomFor paragraphs id change.room
+        by None e = let both : Some given.paragraph ≡ None = sym given.there ∙ (found-kept id paragraphs ∙ ap (option_map (λ k. paragraph_kept (id, k))) e) in absurd (cc)
+        by (Some k) e =
+            let both : Some given.paragraph ≡ Some (paragraph_kept (id, k)) = sym given.there ∙ (found-kept id paragraphs ∙ ap (option_map (λ k. paragraph_kept (id, k))) e) in
+            let one : given.paragraph ≡ paragraph_kept (id, k) = cc in
+            let count : length given.paragraph.history ≡ length k.history = ap (λ (q : Paragraph). length q.history) one ∙ length-map k.history entry_kept in
+            record {
+              paragraph = k;
+              found = e;
+              few = subst (λ (n : ℕ). n < most_entries) count given.few;
+              room_is = subst (λ (n : ℕ). Suffices n change.room) count given.room;
+            }
+
+    pub indexes-print_changed : IsKept version tables paragraphs marks → (indexes : List ℕ)
+        → ((k : KeptParagraph) → lookup (nat_eq id) paragraphs ≡ Some k → indexes ≡ k.marks) → indexes ≡ indexes_on id marks
+    indexes-print_changed is indexes given_indexes =
+        let here = HasRoomFor-print_changed in
+        given_indexes here.paragraph here.found ∙ All-found (HasMarks marks) id here.paragraph paragraphs is.marked here.found
+
+  -- ---- marks
+
+  pub AreWithin-marks : IsKept version tables paragraphs marks → AreWithin marks
+  AreWithin-marks is = AreWithin-sound book marks is.sound is.sound.marks
+
+  -- a book with other marks, of which each paragraph has the same
+  module _ (next : Book) (w : ℕ) (ms : List Mark) (kept : List KeptMark) (at : w ≡ next.version) (makes : next ≡ next_with_marks book ms) (same : marks_kept kept ≡ ms) where
+    pub next-marked : book_kept w tables paragraphs kept ≡ next
+    next-marked =
+        same_book w (version + 1) (texts tables) (texts tables) before before (marks_kept kept) ms (at ∙ ap (λ (b : Book). b.version) makes) refl refl same ∙ sym makes
+
+    pub IsKept-marked : IsKept version tables paragraphs marks → IsSound next → ((id : ℕ) → indexes_on id kept ≡ indexes_on id marks) → IsKept w tables paragraphs kept
+    IsKept-marked is sound stay = record {
+      sound = subst IsSound (sym next-marked) sound;
+      means = is.means;
+      translated = is.translated;
+      marked = All-weaker (HasMarks marks) (HasMarks kept) (λ entry has. has ∙ sym (stay entry.0)) paragraphs is.marked;
+    }
+
+  -- a book with a mark more, of which its paragraph has the index
+  module _ (next : Book) (w : ℕ) (m : KeptMark) (at : w ≡ next.version) (makes : next ≡ next_with_marks book (marks_kept marks ++ mark_kept (next_mark book, m) ∷ [])) where
+    abbrev noted : KeptParagraphs
+    noted = with_kept_change m.paragraph (with_mark (length marks)) paragraphs
+
+    kept-noted : (kept : KeptParagraphs) → map paragraph_kept (with_kept_change m.paragraph (with_mark (length marks)) kept) ≡ map paragraph_kept kept
+    kept-noted [] = refl
+    kept-noted ((n, k) ∷ kept) = λ i. by (n == m.paragraph) i ∷ kept-noted kept i
+      where
+        by : (b : Bool) → paragraph_kept (cond b (n, with_mark (length marks) k) (n, k)) ≡ paragraph_kept (n, k)
+        by true = refl
+        by false = refl
+
+    pub next-noted : book_kept w tables noted (marks ++ m ∷ []) ≡ next
+    next-noted =
+        same_book w (version + 1) (texts tables) (texts tables) (map paragraph_kept noted) before (marks_kept (marks ++ m ∷ [])) (marks_kept marks ++ mark_kept (next_mark book, m) ∷ [])
+        (at ∙ ap (λ (b : Book). b.version) makes) refl (kept-noted paragraphs) (marks-push marks m) ∙ sym makes
+
+    pub IsKept-noted : IsKept version tables paragraphs marks → IsSound next → IsKept w tables noted (marks ++ m ∷ [])
+    IsKept-noted is sound = record {
+      sound = subst IsSound (sym next-noted) sound;
+      means = is.means;
+      translated = All-changed m.paragraph (with_mark (length marks)) (λ p. p) (λ n k. refl) (IsKeptParagraph tables) paragraphs
+          (λ n k c e kept. record { print = kept.print; table = kept.table; found = kept.found; choices = kept.choices; tiles = kept.tiles; cells = kept.cells; taken = kept.taken }) is.translated;
+      marked =
+          All-map (HasMarks (marks ++ m ∷ [])) (λ entry. cond (entry.0 == m.paragraph) (entry.0, with_mark (length marks) entry.1) entry) paragraphs
+          (All-weaker (HasMarks marks) (λ entry. HasMarks (marks ++ m ∷ []) (cond (entry.0 == m.paragraph) (entry.0, with_mark (length marks) entry.1) entry))
+          (λ entry has. cond_both (entry.0 == m.paragraph) (entry.0, with_mark (length marks) entry.1) entry (HasMarks (marks ++ m ∷ []))
+          (λ e.
+          let same : entry.0 ≡ m.paragraph = eqb-true entry.0 m.paragraph e in
+          ap (λ (t : List ℕ). t ++ length marks ∷ []) (has ∙ ap (λ (n : ℕ). indexes_on n marks) same)
+          ∙ (sym (indexes-push_on marks m) ∙ ap (λ (n : ℕ). indexes_on n (marks ++ m ∷ [])) (sym same)))
+          (λ e. has ∙ sym (indexes-push_other entry.0 marks m (ne_eqb m.paragraph entry.0 (λ same. eqb-false entry.0 m.paragraph e (sym same))))))
+          paragraphs is.marked);
+    }
+
+    pub HasRoomForMark-noted : IsKept version tables paragraphs marks → (room : Option ℕ) → length book.marks < most_marks
+        → Suffices (length (marks_on m.paragraph book.marks)) room → HasRoomForMark paragraphs m.paragraph room
+    HasRoomForMark-noted is room few enough k found =
+        let has : k.marks ≡ indexes_on m.paragraph marks = All-found (HasMarks marks) m.paragraph k paragraphs is.marked found in
+        let count : length k.marks ≡ length (marks_on m.paragraph book.marks) = ap length has ∙ count-indexes m.paragraph 0 1 marks in
+        let fewer = few-on m.paragraph (marks_kept marks) in
+        (omega arith, subst (λ (n : ℕ). Suffices n room) (sym count) enough)

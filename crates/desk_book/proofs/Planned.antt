@@ -1,0 +1,10 @@
+pub mod CorrectPlanning
+pub mod EntryPlanned
+pub mod EntryPlanning
+pub mod MarkPlanning
+pub mod NewParagraphs
+pub mod Planning
+pub mod Replacing
+pub mod TablePlanning
+pub mod UndoPlanning
+pub mod Users

@@ -1,0 +1,15 @@
+pub mod FilledTables
+pub mod LentRows
+pub mod PutAdditions
+pub mod PutCells
+pub mod PutChanges
+pub mod PutLists
+pub mod PutMarks
+pub mod PutOrder
+pub mod PutParagraph
+pub mod PutPlaces
+pub mod PutPrintLead
+pub mod PutPrints
+pub mod PutReplacement
+pub mod PutTables
+pub mod PutsLead

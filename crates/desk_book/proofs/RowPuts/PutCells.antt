@@ -1,0 +1,145 @@
+-- What another table of a paragraph puts makes rows that show the book show the next.
+use Rattle.std.proofs.Common.{◌≡◌, ℕ, ℤ, pos, false, List, [], ◌∷◌, map, Option, Some, None, Contains, encode_utf8_all, refl, sym, ap, subst, ◌∙◌, arith, inl, inr}
+use Rattle.std.specs.List.{filter}
+use Rattle.std.specs.List.Sorted.{IsPermutation}
+use Rattle.std.specs.Option.{ForSome}
+use Rattle.std.specs.Ordering.{int_eq}
+use Rattle.std.specs.Prelude.{nat_eq, not, option_map}
+use Rattle.std.proofs.lemmas.Bool.{cases_Bool, cond-true, cond-false, eq-eqb}
+use Rattle.std.proofs.lemmas.List.Elements.{All-contains_itself, All-weaker, filter_agree}
+use Rattle.std.proofs.lemmas.List.Sorted.{IsPermutation-map, IsPermutation-sym}
+use Rattle.desk_model.specs.Book.{Book, Paragraph, paragraph_of}
+use Rattle.desk_model.specs.Lent.{LeadTo, row_number}
+use Rattle.desk_book.specs.ChangePuts.{cache_put}
+use Rattle.desk_book.specs.Changes.{AreCellsByTable}
+use Rattle.desk_parts.specs.FileRows.{HasParaTexts, format_of, spelled_para}
+use Rattle.desk_parts.specs.Puts.{PutCache, SetTable, SetVersion, put_in}
+use Rattle.desk_parts.specs.Rows.{Cached, Para}
+use Rattle.desk_model.specs.Shows.{AreCached, IsCached, paras_of}
+use Rattle.desk_model.specs.Sound.{IsSound}
+use Rattle.desk_command.specs.Characters.{AreCharacters}
+use Rattle.desk_model.specs.Step.{next_with_paragraphs, with_change, without_paragraph}
+use Rattle.desk_model.proofs.Rows.BookRows.{encoded-text, name-characters, spelled-encoded}
+use Rattle.desk_model.proofs.Lists.Members.{Contains-map}
+use Rattle.desk_model.proofs.Books.ParagraphLists.{Contains-found, IsPermutation-without_paragraph, changed, id-found, ids-with_change}
+use Rattle.desk_book.proofs.RowPuts.PutChanges.{Sets, entries-changed, para_set, rows-changed, small_id}
+use Rattle.desk_model.proofs.Rows.PutRows.{AreCached-put, All-set_where, IsBraille-same, IsPermutation-set, id_number, number-small, numbers-same, versioned}
+use Rattle.desk_model.proofs.Lists.RowNumbers.{filter-map, int_eq-pos}
+use Rattle.desk_model.proofs.Books.SoundBooks.{IsSoundTable-found, paragraph_of-within, paragraphs-apart}
+
+-- what holds of a value where there is one holds of what is made of it
+pub ForSome-map : {X Y : Type 0} (f : X → Y) (P : X → Type 0) (Q : Y → Type 0) (o : Option X) → ForSome o P → ((x : X) → P x → Q (f x)) → ForSome (option_map f o) Q
+ForSome-map f P Q None here to = λ y is. absurd (cc)
+ForSome-map f P Q (Some x) here to = λ y is. let same : f x ≡ y = cc in subst Q same (to x (here x refl))
+
+-- ---- the ids of a book, one of them in front
+
+module _ (book : Book) (id : ℕ) (p : Paragraph) (sound : IsSound book) (there : paragraph_of book id ≡ Some p) where
+  pub ids-once : IsPermutation (pos id ∷ filter (λ n. not (int_eq n (pos id))) (map id_number book.paragraphs)) (map id_number book.paragraphs)
+  ids-once =
+      let others : List Paragraph = without_paragraph id book.paragraphs in
+      let out = IsPermutation-map id_number book.paragraphs (p ∷ others) (IsPermutation-without_paragraph id p book.paragraphs (paragraphs-apart book sound) there) in
+      let own : pos p.id ≡ pos id = ap pos (id-found id book.paragraphs p there) in
+      let left : map id_number others ≡ filter (λ n. not (int_eq n (pos id))) (map id_number book.paragraphs) =
+      ap (map id_number) (filter_agree (λ (q : Paragraph). not (nat_eq q.id id)) (λ (q : Paragraph). not (int_eq (pos q.id) (pos id))) (λ q. ap not (sym (int_eq-pos q.id id))) book.paragraphs)
+      ∙ sym (filter-map (λ n. not (int_eq n (pos id))) id_number book.paragraphs) in
+      subst (λ (ns : List ℤ). IsPermutation ns (map id_number book.paragraphs)) (λ i. own i ∷ left i)
+      (IsPermutation-sym (map id_number book.paragraphs) (pos p.id ∷ map id_number others) out)
+
+  pub id-small : row_number id ≡ pos id
+  id-small =
+      let within = (paragraph_of-within book sound id p there).1 in
+      let few = sound.few_paragraphs in
+      number-small id (omega arith)
+
+-- ---- another table
+
+module _ (book : Book) (id : ℕ) (name cells : List ℕ) (sound : IsSound book) (given : AreCellsByTable book id name cells) where
+  abbrev retabled : Paragraph → Paragraph
+  retabled p = record p { table = name }
+
+  abbrev retabled_row : Para → Para
+  retabled_row p = record p { tab = name }
+
+  abbrev retabled_bytes : Para → Para
+  retabled_bytes p = record p { tab = encode_utf8_all name }
+
+  abbrev with_table : Book
+  with_table = next_with_paragraphs book (with_change id retabled book.paragraphs)
+
+  characters : AreCharacters name
+  characters = name-characters name (IsSoundTable-found book sound name given.source given.found).named
+
+  own_id : given.paragraph.id ≡ id
+  own_id = id-found id book.paragraphs given.paragraph given.there
+
+  cached-here : IsCached with_table (record { para = pos id; cells = cells })
+  cached-here =
+      let p : Paragraph = given.paragraph in
+      let is : changed id retabled p ≡ retabled p = cond-true (nat_eq p.id id) (retabled p) p (eq-eqb p.id id own_id) in
+      record {
+        paragraph = retabled p;
+        there = subst (Contains with_table.paragraphs) is (Contains-map (changed id retabled) book.paragraphs p (Contains-found id book.paragraphs p given.there));
+        named = ap pos (sym own_id);
+        cells = (
+          given.meaning,
+          given.cells_are.0,
+          record { text = given.source; found = given.found; means = given.means; tiles = given.cells_are.1 },
+          given.cells_are.2,
+        );
+      }
+
+  cached-others : (row : Cached) → int_eq row.para (pos id) ≡ false → IsCached book row → IsCached with_table row
+  cached-others row other is =
+      let p : Paragraph = is.paragraph in
+      let apart : nat_eq p.id id ≡ false = sym (int_eq-pos p.id id) ∙ (ap (λ n. int_eq n (pos id)) (sym is.named) ∙ other) in
+      let stays : changed id retabled p ≡ p = cond-false (nat_eq p.id id) (retabled p) p apart in
+      record {
+        paragraph = p;
+        there = subst (Contains with_table.paragraphs) stays (Contains-map (changed id retabled) book.paragraphs p is.there);
+        named = is.named;
+        cells = IsBraille-same book with_table p p refl refl row.cells is.cells;
+      }
+
+  cached-all : (rows : List Cached) → AreCached book rows → AreCached with_table (put_in (λ c. int_eq c.para (pos id)) (record { para = pos id; cells = cells }) rows)
+  cached-all rows is =
+      let same : map id_number book.paragraphs ≡ map id_number with_table.paragraphs = numbers-same book.paragraphs with_table.paragraphs (sym (ids-with_change id retabled (λ p. refl) book.paragraphs)) in
+      AreCached-put book with_table rows (record { para = pos id; cells = cells })
+      (subst (IsPermutation (pos id ∷ filter (λ n. not (int_eq n (pos id))) (map id_number book.paragraphs))) same (ids-once book id given.paragraph sound given.there))
+      cached-here cached-others is
+
+  leads : IsSound with_table
+      → LeadTo book (SetVersion (row_number with_table.version) ∷ SetTable (row_number id) (encode_utf8_all name) ∷ PutCache (record { para = pos id; cells = cells }) ∷ []) with_table
+  leads after rows shows has = record {
+    sound = after;
+    texts = record {
+      tabs = shows.texts.tabs;
+      paras = All-set_where (λ (p : Para). int_eq p.id (row_number id)) retabled_bytes HasParaTexts rows.paras (λ p texts. (encoded-text name characters, texts.1, texts.2)) shows.texts.paras;
+      entries = shows.texts.entries;
+      marks = shows.texts.marks;
+    };
+    row = versioned (format_of rows.entries) book.version with_table.version rows.books after.version shows.row;
+    tables = shows.tables;
+    paragraphs = subst (IsPermutation (map spelled_para (map (para_set id retabled_bytes) rows.paras)))
+        (rows-changed id retabled retabled_row 1 book.paragraphs (All-weaker (Contains book.paragraphs) (Sets id retabled retabled_row) (λ p c. (small_id book sound p c, λ e place. refl)) book.paragraphs (All-contains_itself book.paragraphs)))
+        (IsPermutation-set spelled_para (para_set id retabled_bytes) (para_set id retabled_row) spelled-set rows.paras (paras_of book.paragraphs) shows.paragraphs);
+    entries = subst (IsPermutation _) (sym (entries-changed id retabled (λ p. refl) book.paragraphs)) shows.entries;
+    marks = shows.marks;
+    caches = ForSome-map (put_in (λ c. int_eq c.para (pos id)) (record { para = pos id; cells = cells })) (AreCached book) (AreCached with_table) rows.caches shows.caches cached-all;
+  }
+    where
+      spelled-set : (p : Para) → spelled_para (para_set id retabled_bytes p) ≡ para_set id retabled_row (spelled_para p)
+      spelled-set p =
+          let b = int_eq p.id (row_number id) in
+          elim (cases_Bool b) [
+            | inl e ↦
+                ap spelled_para (cond-true b (retabled_bytes p) p e)
+                ∙ ((λ i. record (spelled_para p) { tab = spelled-encoded name characters i }) ∙ sym (cond-true b (retabled_row (spelled_para p)) (spelled_para p) e))
+            | inr e ↦ ap spelled_para (cond-false b (retabled_bytes p) p e) ∙ sym (cond-false b (retabled_row (spelled_para p)) (spelled_para p) e)
+          ]
+
+  pub retabled-lead : IsSound with_table
+      → LeadTo book (SetVersion (row_number with_table.version) ∷ SetTable (row_number id) (encode_utf8_all name) ∷ cache_put id cells ∷ []) with_table
+  retabled-lead after =
+      subst (λ (n : ℤ). LeadTo book (SetVersion (row_number with_table.version) ∷ SetTable (row_number id) (encode_utf8_all name) ∷ PutCache (record { para = n; cells = cells }) ∷ []) with_table)
+      (sym (id-small book id given.paragraph sound given.there)) (leads after)

@@ -1,0 +1,333 @@
+-- What a new paragraph puts makes rows that show the book show the next.
+use Rattle.std.proofs.Common.{◌≡◌, ℕ, zero, suc, ◌+◌, ◌≤◌, ℤ, pos, Bool, true, false, List, [], ◌∷◌, ◌++◌, length, map, drop, Some, Contains, refl, sym, ap, subst, ◌∙◌, arith, inl, inr}
+use Rattle.std.specs.List.{All, enumerate_from, filter, flat_map, insert, IsDistinct}
+use Rattle.std.specs.List.Sorted.{IsPermutation}
+use Rattle.std.specs.Ordering.{int_eq}
+use Rattle.std.specs.Prelude.{nat_eq, not}
+use Rattle.std.proofs.lemmas.Bool.{cases_Bool, cond-true, cond-false, eqb-true, eq-eqb, ne_eqb}
+use Rattle.std.proofs.lemmas.Cmp.{nat_eq_equiv}
+use Rattle.std.proofs.lemmas.List.{length-map}
+use Rattle.std.proofs.lemmas.List.Elements.{All-cons, All-contains, All-contains_itself, All-from_recursion, All-head, All-map, All-nil, All-tail, All-weaker}
+use Rattle.std.proofs.lemmas.List.Sorted.{Contains-permutation, IsPermutation-map, IsPermutation-trans, length_permutation}
+use Rattle.std.proofs.lemmas.Map.Keys.{IsDistinct-head, IsDistinct-tail}
+use Rattle.std.proofs.lemmas.Simd.{map-map}
+use Rattle.louis_table.specs.Meaning.{Meaning}
+use Rattle.louis_table.specs.Table.{Means}
+use Rattle.louis_translate.specs.Braille.{braille}
+use Rattle.louis_translate.specs.Tiling.{Tiles}
+use Rattle.desk_book.specs.declared.history.KeptEntry.{KeptEntry}
+use Rattle.desk_book.specs.declared.paragraphs.Paragraph.{Paragraph as KeptParagraph}
+use Rattle.desk_model.specs.Book.{Book, Paragraph, text_of}
+use Rattle.desk_model.specs.Lent.{LeadTo, row_number}
+use Rattle.desk_book.specs.ChangePuts.{cache_put, further_from, kept_row}
+use Rattle.desk_book.specs.Changes.{AreCellsOf}
+use Rattle.desk_parts.specs.FileRows.{FileRows, HasParaTexts, format_of, spelled_para}
+use Rattle.desk_book.specs.Histories.{entries_kept}
+use Rattle.desk_book.specs.Kept.{paragraph_kept}
+use Rattle.desk_model.specs.Print.{corrected, print_of}
+use Rattle.desk_parts.specs.Puts.{PutCache, PutPara, RowPut, SetVersion, put_in, with_put, with_puts}
+use Rattle.desk_parts.specs.Rows.{Cached, NamedCorr, Para}
+use Rattle.desk_model.specs.Shows.{AreCached, IsCached, Shows, entry_row_of, entry_rows_of, flag_number, para_of, paras_of, style_number}
+use Rattle.desk_model.specs.Sound.{IsSound, IsSoundParagraph}
+use Rattle.desk_model.specs.Step.{next_id, next_with_paragraphs}
+use Rattle.desk_command.specs.Characters.{AreCharacters}
+use Rattle.desk_model.proofs.Rows.BookRows.{encoded-text, name-characters, spelled-encoded}
+use Rattle.desk_model.proofs.Lists.Members.{Contains-cases, Contains-here, Contains-behind, Contains-map, Contains-none}
+use Rattle.desk_model.proofs.Books.ParagraphLists.{ids_of}
+use Rattle.desk_book.proofs.RowPuts.PutAdditions.{All-put_in, IsPermutation-put_in}
+use Rattle.desk_book.proofs.RowPuts.PutCells.{ForSome-map}
+use Rattle.desk_book.proofs.RowPuts.PutChanges.{same_key, small_id}
+use Rattle.desk_book.proofs.RowPuts.PutOrder.{IsPermutation-flat_map}
+use Rattle.desk_book.proofs.RowPuts.PutPlaces.{Misses, Places, Sends, index_in, map-agree, paras-indexed, place_put, placed, placed-at, placed-spelled, placed-texts, places-put}
+use Rattle.desk_model.proofs.Rows.PutRows.{AreCached-put, IsBraille-same, IsPermutation-set, filter-all, id_number, number-small, versioned}
+use Rattle.desk_model.proofs.Lists.RowNumbers.{int_eq-pos}
+use Rattle.desk_model.proofs.Books.SoundBooks.{IsSoundTable-found, paragraph_of-own, paragraph_of-within, paragraphs-apart}
+
+-- ---- places that move on by one
+
+abbrev further_pair : ℕ × ℕ → ℤ × ℤ
+further_pair (place, id) = (row_number id, row_number (place + 1))
+
+module _ (id : ℕ) (small : id ≤ 20000) where
+  misses-others : (n : ℕ) (xs : List ℕ) → All (λ (y : ℕ). nat_eq id y ≡ false) xs → Misses (pos id) (map further_pair (enumerate_from n xs))
+  misses-others n [] others = All-nil (λ (e : ℤ × ℤ). int_eq (pos id) e.0 ≡ false)
+  misses-others n (x ∷ xs) others =
+      All-cons (λ (e : ℤ × ℤ). int_eq (pos id) e.0 ≡ false) (further_pair (n, x)) (map further_pair (enumerate_from (n + 1) xs))
+      (same_key id x (omega arith) ∙ All-head (λ (y : ℕ). nat_eq id y ≡ false) x xs others)
+      (misses-others (n + 1) xs (All-tail (λ (y : ℕ). nat_eq id y ≡ false) x xs others))
+
+  misses-dropped : (k n : ℕ) (xs : List ℕ) → All (λ (y : ℕ). nat_eq id y ≡ false) xs → Misses (pos id) (map further_pair (drop k (enumerate_from n xs)))
+  misses-dropped zero n xs others = misses-others n xs others
+  misses-dropped (suc k) n [] others = All-nil (λ (e : ℤ × ℤ). int_eq (pos id) e.0 ≡ false)
+  misses-dropped (suc k) n (x ∷ xs) others = misses-dropped k (n + 1) xs (All-tail (λ (y : ℕ). nat_eq id y ≡ false) x xs others)
+
+  pub vacuous : (to : ℤ) (es : Places) → Misses (pos id) es → Sends (pos id) to es
+  vacuous to es misses =
+      All-weaker (λ (e : ℤ × ℤ). int_eq (pos id) e.0 ≡ false) (λ (e : ℤ × ℤ). int_eq (pos id) e.0 ≡ true → e.1 ≡ to)
+      (λ e f t. absurd (let both : true ≡ false = sym t ∙ f in cc)) es misses
+
+  others-of : (x : ℕ) (xs : List ℕ) → IsDistinct nat_eq (x ∷ xs) → x ≡ id → All (λ (y : ℕ). nat_eq id y ≡ false) xs
+  others-of x xs apart same = subst (λ (z : ℕ). All (λ (y : ℕ). nat_eq z y ≡ false) xs) same (All-from_recursion (λ (y : ℕ). nat_eq x y ≡ false) xs (IsDistinct-head nat_eq x xs apart))
+
+  sends-all : (n : ℕ) (xs : List ℕ) → IsDistinct nat_eq xs → n + length xs ≤ 20002 → Sends (pos id) (pos (n + suc (index_in xs id))) (map further_pair (enumerate_from n xs))
+  sends-all n [] apart few = All-nil (λ (e : ℤ × ℤ). int_eq (pos id) e.0 ≡ true → e.1 ≡ pos (n + 1))
+  sends-all n (x ∷ xs) apart few =
+      let to : ℤ = pos (n + suc (index_in (x ∷ xs) id)) in
+      elim (cases_Bool (nat_eq x id)) [
+        | inl t ↦
+            let at : index_in (x ∷ xs) id ≡ 0 = cond-true (nat_eq x id) 0 (suc (index_in xs id)) t in
+            All-cons (λ (e : ℤ × ℤ). int_eq (pos id) e.0 ≡ true → e.1 ≡ to) (further_pair (n, x)) (map further_pair (enumerate_from (n + 1) xs))
+            (λ h. number-small (n + 1) (omega arith) ∙ ap pos (omega arith))
+            (vacuous to (map further_pair (enumerate_from (n + 1) xs)) (misses-others (n + 1) xs (others-of x xs apart (eqb-true x id t))))
+        | inr f ↦
+            let at : index_in (x ∷ xs) id ≡ suc (index_in xs id) = cond-false (nat_eq x id) 0 (suc (index_in xs id)) f in
+            let is : n + 1 + suc (index_in xs id) ≡ n + suc (index_in (x ∷ xs) id) = omega arith in
+            All-cons (λ (e : ℤ × ℤ). int_eq (pos id) e.0 ≡ true → e.1 ≡ to) (further_pair (n, x)) (map further_pair (enumerate_from (n + 1) xs))
+            (λ h. absurd (let no : int_eq (pos id) (row_number x) ≡ false = same_key id x (omega arith) ∙ (nat_eq_equiv.symm id x ∙ f) in let both : true ≡ false = sym h ∙ no in cc))
+            (subst (λ (k : ℕ). Sends (pos id) (pos k) (map further_pair (enumerate_from (n + 1) xs))) is (sends-all (n + 1) xs (IsDistinct-tail nat_eq x xs apart) (omega arith)))
+      ]
+
+  never-missed : (n : ℕ) (xs : List ℕ) → Contains xs id → Misses (pos id) (map further_pair (enumerate_from n xs)) → ⊥
+  never-missed n [] c misses = Contains-none id c
+  never-missed n (x ∷ xs) c misses =
+      elim (Contains-cases x id xs c) [
+        | inl same ↦
+            let yes : int_eq (pos id) (row_number x) ≡ true = same_key id x (omega arith) ∙ eq-eqb id x (sym same) in
+            let no = All-head (λ (e : ℤ × ℤ). int_eq (pos id) e.0 ≡ false) (further_pair (n, x)) (map further_pair (enumerate_from (n + 1) xs)) misses in
+            let both : true ≡ false = sym yes ∙ no in cc
+        | inr rest ↦ never-missed (n + 1) xs rest (All-tail (λ (e : ℤ × ℤ). int_eq (pos id) e.0 ≡ false) (further_pair (n, x)) (map further_pair (enumerate_from (n + 1) xs)) misses)
+      ]
+
+  -- an id that is there stays before the place, and moves on by one from there on
+  pub goes-further : (new n : ℕ) (xs : List ℕ) (place : ℕ) → nat_eq new id ≡ false → IsDistinct nat_eq xs → Contains xs id → n + length xs ≤ 20002
+      → Sends (pos id) (pos (n + index_in (insert xs place new) id)) (map further_pair (drop place (enumerate_from n xs)))
+      × (Misses (pos id) (map further_pair (drop place (enumerate_from n xs))) → index_in xs id ≡ index_in (insert xs place new) id)
+  goes-further new n xs zero other apart c few =
+      let at : index_in (new ∷ xs) id ≡ suc (index_in xs id) = cond-false (nat_eq new id) 0 (suc (index_in xs id)) other in (
+        subst (λ (k : ℕ). Sends (pos id) (pos (n + k)) (map further_pair (enumerate_from n xs))) (sym at) (sends-all n xs apart few),
+        λ misses. absurd (never-missed n xs c misses),
+      )
+  goes-further new n [] (suc place) other apart c few = absurd (Contains-none id c)
+  goes-further new n (x ∷ xs) (suc place) other apart c few =
+      let es : Places = map further_pair (drop place (enumerate_from (n + 1) xs)) in
+      elim (cases_Bool (nat_eq x id)) [
+        | inl t ↦
+            let was : index_in (x ∷ xs) id ≡ 0 = cond-true (nat_eq x id) 0 (suc (index_in xs id)) t in
+            let is : index_in (x ∷ insert xs place new) id ≡ 0 = cond-true (nat_eq x id) 0 (suc (index_in (insert xs place new) id)) t in (
+              vacuous (pos (n + index_in (x ∷ insert xs place new) id)) es (misses-dropped place (n + 1) xs (others-of x xs apart (eqb-true x id t))),
+              λ misses. was ∙ sym is,
+            )
+        | inr f ↦
+            let was : index_in (x ∷ xs) id ≡ suc (index_in xs id) = cond-false (nat_eq x id) 0 (suc (index_in xs id)) f in
+            let is : index_in (x ∷ insert xs place new) id ≡ suc (index_in (insert xs place new) id) = cond-false (nat_eq x id) 0 (suc (index_in (insert xs place new) id)) f in
+            let rest = goes-further new (n + 1) xs place other (IsDistinct-tail nat_eq x xs apart) (behind f) (omega arith) in
+            let on : n + 1 + index_in (insert xs place new) id ≡ n + index_in (x ∷ insert xs place new) id = omega arith in (
+              subst (λ (k : ℕ). Sends (pos id) (pos k) es) on rest.0,
+              λ misses. was ∙ (ap suc (rest.1 misses) ∙ sym is),
+            )
+      ]
+    where
+      behind : nat_eq x id ≡ false → Contains xs id
+      behind f = elim (Contains-cases x id xs c) [
+        | inl same ↦ absurd (let t : nat_eq x id ≡ true = eq-eqb x id same in let both : true ≡ false = sym t ∙ f in cc)
+        | inr rest ↦ rest
+      ]
+
+-- the index of a new id
+new-index : (new : ℕ) (xs : List ℕ) (place : ℕ) → All (λ (y : ℕ). nat_eq new y ≡ false) xs → place ≤ length xs → index_in (insert xs place new) new ≡ place
+new-index new xs zero others within = cond-true (nat_eq new new) 0 (suc (index_in xs new)) (eq-eqb new new refl)
+new-index new [] (suc place) others within = absurd (omega arith)
+new-index new (x ∷ xs) (suc place) others within =
+    cond-false (nat_eq x new) 0 (suc (index_in (insert xs place new) new)) (nat_eq_equiv.symm x new ∙ All-head (λ (y : ℕ). nat_eq new y ≡ false) x xs others)
+    ∙ ap suc (new-index new xs place (All-tail (λ (y : ℕ). nat_eq new y ≡ false) x xs others) (omega arith))
+
+-- ---- a paragraph more
+
+module _ (book : Book) (ps : List Paragraph) (kept : KeptParagraph) (place : ℕ) (source : List ℕ) (meaning : Meaning) (sound : IsSound book)
+    (within : place ≤ length book.paragraphs) (fresh : kept.history ≡ []) (print : kept.print ≡ kept.original)
+    (found : text_of book kept.table ≡ Some source) (means : Means source meaning) (cells : AreCellsOf meaning kept.print kept.cells)
+    (moved : IsPermutation (paragraph_kept (next_id book, kept) ∷ book.paragraphs) ps)
+    (order : insert (ids_of book.paragraphs) place (next_id book) ≡ ids_of ps) where
+  abbrev next : Book
+  next = next_with_paragraphs book ps
+
+  abbrev number : ℕ
+  number = next_id book
+
+  abbrev new : Paragraph
+  new = paragraph_kept (number, kept)
+
+  abbrev old_ids : List ℕ
+  old_ids = ids_of book.paragraphs
+
+  abbrev es : Places
+  es = map further_pair (drop place (enumerate_from 1 old_ids))
+
+  module _ (after : IsSound next) where
+    is_sound : IsSoundParagraph next new
+    is_sound = All-contains (IsSoundParagraph next) ps new after.paragraphs (Contains-permutation (new ∷ book.paragraphs) ps new moved (Contains-here new book.paragraphs))
+
+    few : number ≤ 20000
+    few = let count = length_permutation (new ∷ book.paragraphs) ps moved in let most = after.few_paragraphs in omega arith
+
+    others-apart : All (λ (y : ℕ). nat_eq number y ≡ false) old_ids
+    others-apart = All-map (λ (y : ℕ). nat_eq number y ≡ false) (λ (p : Paragraph). p.id) book.paragraphs
+        (All-weaker (Contains book.paragraphs) (λ (p : Paragraph). nat_eq number p.id ≡ false) (λ p c.
+        let lower = (paragraph_of-within book sound p.id p (paragraph_of-own book sound p c)).1 in
+        ne_eqb number p.id (λ same. omega arith)) book.paragraphs (All-contains_itself book.paragraphs))
+
+    characters : AreCharacters kept.table
+    characters = name-characters kept.table (IsSoundTable-found next after kept.table is_sound.text is_sound.found).named
+
+    print_is : kept.print ≡ print_of new
+    print_is = print ∙ sym (ap (λ (h : List KeptEntry). corrected kept.original (entries_kept h)) fresh)
+
+    abbrev row : Para
+    row = kept_row number (place + 1) kept
+
+    spelled-row : spelled_para row ≡ para_of (place + 1, new)
+    spelled-row =
+        let most = few in
+        let lower : number ≡ length book.paragraphs + 1 = refl in
+        let id = number-small number (omega arith) in
+        let at = number-small (place + 1) (omega arith) in
+        let tab = spelled-encoded kept.table characters in
+        let original = spelled-encoded kept.original is_sound.clean.characters in
+        let shown = spelled-encoded kept.print (subst AreCharacters (sym print) is_sound.clean.characters) ∙ print_is in
+        λ i. record {
+          id = id i;
+          place = at i;
+          tab = tab i;
+          original = original i;
+          print = shown i;
+          style = style_number kept.style;
+          volume = flag_number kept.begins_volume;
+          struck = flag_number kept.struck;
+        }
+
+    old-placed : (q : Paragraph) → Contains book.paragraphs q → placed es (para_of (1 + index_in old_ids q.id, q)) ≡ para_of (1 + index_in (insert old_ids place number) q.id, q)
+    old-placed q c =
+        let small = small_id book sound q c in
+        let count = length-map book.paragraphs (λ (p : Paragraph). p.id) in
+        let most = sound.few_paragraphs in
+        let here : Contains old_ids q.id = Contains-map (λ (p : Paragraph). p.id) book.paragraphs q c in
+        let goes = goes-further q.id small number 1 old_ids place (All-contains (λ (y : ℕ). nat_eq number y ≡ false) old_ids q.id others-apart here) (paragraphs-apart book sound) here (omega arith) in
+        placed-at (pos (1 + index_in (insert old_ids place number) q.id)) es (para_of (1 + index_in old_ids q.id, q)) goes.0
+        (λ misses. ap (λ (k : ℕ). pos (1 + k)) (goes.1 misses))
+
+    new-placed : placed es (para_of (place + 1, new)) ≡ para_of (1 + index_in (insert old_ids place number) number, new)
+    new-placed =
+        let most = few in
+        let count = length-map book.paragraphs (λ (p : Paragraph). p.id) in
+        let at = new-index number old_ids place others-apart (omega arith) in
+        let is : place + 1 ≡ 1 + index_in (insert old_ids place number) number = omega arith in
+        placed-at (pos (1 + index_in (insert old_ids place number) number)) es (para_of (place + 1, new))
+        (vacuous number most (pos (1 + index_in (insert old_ids place number) number)) es (misses-dropped number most place 1 old_ids others-apart))
+        (λ misses. ap pos is)
+
+    rows-placed : IsPermutation (map (placed es) (para_of (place + 1, new) ∷ paras_of book.paragraphs)) (paras_of ps)
+    rows-placed =
+        let from : Paragraph → Para = λ q. para_of (1 + index_in old_ids q.id, q) in
+        let to : Paragraph → Para = λ q. para_of (1 + index_in (insert old_ids place number) q.id, q) in
+        let olds : map (placed es) (paras_of book.paragraphs) ≡ map to book.paragraphs =
+        ap (map (placed es)) (paras-indexed 1 book.paragraphs (paragraphs-apart book sound))
+        ∙ (map-map (placed es) from book.paragraphs
+        ∙ map-agree (λ q. placed es (from q)) to book.paragraphs
+        (All-weaker (Contains book.paragraphs) (λ q. placed es (from q) ≡ to q) old-placed book.paragraphs (All-contains_itself book.paragraphs))) in
+        let last : map to ps ≡ paras_of ps = ap (λ (ids : List ℕ). map (λ (q : Paragraph). para_of (1 + index_in ids q.id, q)) ps) order ∙ sym (paras-indexed 1 ps (paragraphs-apart next after)) in
+        subst (λ (rows : List Para). IsPermutation rows (paras_of ps)) (λ i. sym new-placed i ∷ sym olds i)
+        (subst (IsPermutation (map to (new ∷ book.paragraphs))) last (IsPermutation-map to (new ∷ book.paragraphs) ps moved))
+
+    -- ---- the braille
+
+    ids-more : IsPermutation (pos number ∷ filter (λ n. not (int_eq n (pos number))) (map id_number book.paragraphs)) (map id_number ps)
+    ids-more =
+        let all : filter (λ n. not (int_eq n (pos number))) (map id_number book.paragraphs) ≡ map id_number book.paragraphs =
+        filter-all (λ n. not (int_eq n (pos number))) (map id_number book.paragraphs)
+        (All-map (λ n. not (int_eq n (pos number)) ≡ true) id_number book.paragraphs
+        (All-weaker (Contains book.paragraphs) (λ (p : Paragraph). not (int_eq (pos p.id) (pos number)) ≡ true) (λ p c.
+        let lower = (paragraph_of-within book sound p.id p (paragraph_of-own book sound p c)).1 in
+        ap not (int_eq-pos p.id number ∙ ne_eqb p.id number (λ same. omega arith))) book.paragraphs (All-contains_itself book.paragraphs))) in
+        subst (λ (ns : List ℤ). IsPermutation (pos number ∷ ns) (map id_number ps)) (sym all) (IsPermutation-map id_number (new ∷ book.paragraphs) ps moved)
+
+    abbrev cached : Cached
+    cached = record { para = pos number; cells = kept.cells }
+
+    cached-here : IsCached next cached
+    cached-here = record {
+      paragraph = new;
+      there = Contains-permutation (new ∷ book.paragraphs) ps new moved (Contains-here new book.paragraphs);
+      named = refl;
+      cells = (
+        meaning,
+        cells.0,
+        record { text = source; found = found; means = means; tiles = subst (λ (t : List ℕ). Tiles meaning t cells.0) print_is cells.1 },
+        cells.2 ∙ ap (λ (t : List ℕ). braille meaning t cells.0) print_is,
+      );
+    }
+
+    cached-others : (other : Cached) → IsCached book other → IsCached next other
+    cached-others other is = record {
+      paragraph = is.paragraph;
+      there = Contains-permutation (new ∷ book.paragraphs) ps is.paragraph moved (Contains-behind new is.paragraph book.paragraphs is.there);
+      named = is.named;
+      cells = IsBraille-same book next is.paragraph is.paragraph refl refl other.cells is.cells;
+    }
+
+    entries-same : IsPermutation (flat_map entry_rows_of book.paragraphs) (flat_map entry_rows_of ps)
+    entries-same =
+        let none : entry_rows_of new ≡ [] = ap (λ (h : List KeptEntry). map (entry_row_of number) (enumerate_from 1 (entries_kept h))) fresh in
+        subst (λ (es : List NamedCorr). IsPermutation (es ++ flat_map entry_rows_of book.paragraphs) (flat_map entry_rows_of ps)) none
+        (IsPermutation-flat_map entry_rows_of (new ∷ book.paragraphs) ps moved)
+
+    abbrev key : Para → Bool
+    key p = int_eq p.id (row_number number)
+
+    spelled-rows : (rows : FileRows) → Shows rows book → IsPermutation (map spelled_para (put_in key row rows.paras)) (para_of (place + 1, new) ∷ paras_of book.paragraphs)
+    spelled-rows rows shows =
+        let olds : List Para = paras_of book.paragraphs in
+        let put = IsPermutation-put_in spelled_para key key row rows.paras olds (λ k d lt. refl) shows.paragraphs in
+        let all : filter (λ p. not (key p)) olds ≡ olds = filter-all (λ p. not (key p)) olds others-rows in
+        subst (IsPermutation (map spelled_para (put_in key row rows.paras))) (λ i. spelled-row i ∷ all i) put
+      where
+        others-rows : All (λ (p : Para). not (key p) ≡ true) (paras_of book.paragraphs)
+        others-rows = subst (All (λ (p : Para). not (key p) ≡ true)) (sym (paras-indexed 1 book.paragraphs (paragraphs-apart book sound)))
+            (All-map (λ (p : Para). not (key p) ≡ true) (λ (q : Paragraph). para_of (1 + index_in old_ids q.id, q)) book.paragraphs
+            (All-weaker (Contains book.paragraphs) (λ (q : Paragraph). not (int_eq (pos q.id) (row_number number)) ≡ true) (λ q c.
+            let lower = (paragraph_of-within book sound q.id q (paragraph_of-own book sound q c)).1 in
+            let small = small_id book sound q c in
+            ap not (same_key q.id number (omega arith) ∙ ne_eqb q.id number (λ same. omega arith))) book.paragraphs (All-contains_itself book.paragraphs)))
+
+    shown-placed : (rows : FileRows) → Shows rows book → Shows (with_puts (map place_put es) (with_put (PutCache cached) (with_put (PutPara row) (with_put (SetVersion (row_number next.version)) rows)))) next
+    shown-placed rows shows =
+        let at : FileRows = with_put (PutCache cached) (with_put (PutPara row) (with_put (SetVersion (row_number next.version)) rows)) in
+        let texts : All HasParaTexts (put_in key row rows.paras) = All-put_in HasParaTexts key row rows.paras
+        (encoded-text kept.table characters, encoded-text kept.original is_sound.clean.characters, encoded-text kept.print (subst AreCharacters (sym print) is_sound.clean.characters)) shows.texts.paras in
+        subst (λ (r : FileRows). Shows r next) (sym (places-put es at)) (record {
+          sound = after;
+          texts = record {
+            tabs = shows.texts.tabs;
+            paras = All-map HasParaTexts (placed es) (put_in key row rows.paras) (All-weaker HasParaTexts (λ p. HasParaTexts (placed es p)) (placed-texts es) (put_in key row rows.paras) texts);
+            entries = shows.texts.entries;
+            marks = shows.texts.marks;
+          };
+          row = versioned (format_of rows.entries) book.version next.version rows.books after.version shows.row;
+          tables = shows.tables;
+          paragraphs = IsPermutation-trans (map spelled_para (map (placed es) (put_in key row rows.paras))) (map (placed es) (para_of (place + 1, new) ∷ paras_of book.paragraphs)) (paras_of ps)
+              (IsPermutation-set spelled_para (placed es) (placed es) (placed-spelled es) (put_in key row rows.paras) (para_of (place + 1, new) ∷ paras_of book.paragraphs) (spelled-rows rows shows)) rows-placed;
+          entries = IsPermutation-trans _ (flat_map entry_rows_of book.paragraphs) (flat_map entry_rows_of ps) shows.entries entries-same;
+          marks = shows.marks;
+          caches = ForSome-map (put_in (λ c. int_eq c.para (pos number)) cached) (AreCached book) (AreCached next) rows.caches shows.caches
+              (λ caches is. AreCached-put book next caches cached ids-more cached-here (λ other apart. cached-others other) is);
+        })
+
+    further-puts : further_from place old_ids ≡ map place_put es
+    further-puts = sym (map-map place_put further_pair (drop place (enumerate_from 1 old_ids)))
+
+    pub paragraph-lead : LeadTo book (SetVersion (row_number next.version) ∷ PutPara row ∷ cache_put number kept.cells ∷ further_from place old_ids) next
+    paragraph-lead rows shows has =
+        let most = few in
+        let small : row_number number ≡ pos number = number-small number (omega arith) in
+        subst (λ (puts : List RowPut). Shows (with_puts puts (with_put (cache_put number kept.cells) (with_put (PutPara row) (with_put (SetVersion (row_number next.version)) rows)))) next) (sym further-puts)
+        (subst (λ (n : ℤ). Shows (with_puts (map place_put es) (with_put (PutCache (record { para = n; cells = kept.cells })) (with_put (PutPara row) (with_put (SetVersion (row_number next.version)) rows)))) next) (sym small)
+        (shown-placed rows shows))

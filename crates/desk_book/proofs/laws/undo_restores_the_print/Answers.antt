@@ -1,5 +1,0 @@
-use Rattle.desk_book.proofs.Undone.{RestoresPrint-undo}
-use Rattle.desk_book.proofs.laws.undo_restores_the_print.Goals as goal
-
-pub returns : goal.returns
-returns c = λ book next id sound accepted makes. RestoresPrint-undo book next id sound makes

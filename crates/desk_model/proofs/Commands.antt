@@ -1,0 +1,13 @@
+pub mod Accepted
+pub mod CellPlaces
+pub mod Expecting
+pub mod FirstUndefined
+pub mod Histories
+pub mod Judging
+pub mod MarkedPlaces
+pub mod OneRefusal
+pub mod RefusalTests
+pub mod SomeOutcome
+pub mod TextTests
+pub mod Turns
+pub mod Undone

@@ -1,0 +1,86 @@
+-- Prints that a table defines, and the first place, or paragraph, at which it doesn't.
+use Rattle.std.proofs.Common.{◌≡◌, ◌⊎◌, ℕ, zero, suc, ◌<◌, List, [], ◌∷◌, ◌++◌, length, Option, Some, None, refl, ap, ◌∙◌, arith, inl, inr}
+use Rattle.std.specs.List.{All}
+use Rattle.std.specs.Cmp.Lexicographic.{pointwise}
+use Rattle.std.specs.Prelude.{IsSome, is_some, nat_eq, slice_index}
+use Rattle.std.proofs.lemmas.Bool.{cases_Bool, cases_eq, both_ways}
+use Rattle.std.proofs.lemmas.List.Elements.{All-nil, All-cons}
+use Rattle.louis_table.specs.Meaning.{Meaning, definition_of}
+use Rattle.louis_translate.specs.Position.{AreDefined, IsFirstUndefined}
+use Rattle.desk_model.specs.Book.{Paragraph}
+pub use Rattle.desk_model.specs.Refusals.{DefinesUser}
+use Rattle.desk_model.specs.Print.{print_of}
+use Rattle.desk_model.proofs.Lists.TableEntries.{Decides-name}
+
+-- the first number below n at which there is nothing, if there is one
+first_none : {X : Type 0} (f : ℕ → Option X) (n : ℕ) → ((i : ℕ) → i < n → IsSome (f i)) ⊎ ((k : ℕ) × (k < n) × (f k ≡ None) × ((i : ℕ) → i < k → IsSome (f i)))
+first_none f zero = inl (λ i less. absurd (omega arith))
+first_none {X} f (suc n) =
+    elim (first_none f n) [
+      | inr found ↦ inr (found.0, omega (arith, found.1), found.2, found.3)
+      | inl all ↦ by all (f n) refl
+    ]
+  where
+    by : ((i : ℕ) → i < n → IsSome (f i)) → (x : Option X) → f n ≡ x → ((i : ℕ) → i < suc n → IsSome (f i)) ⊎ ((k : ℕ) × (k < suc n) × (f k ≡ None) × ((i : ℕ) → i < k → IsSome (f i)))
+    by all None e = inr (n, omega arith, e, all)
+    by all (Some x) e = inl (λ i less. elim (cases_eq i n) [
+      | inl same ↦ ap is_some (ap f same ∙ e)
+      | inr other ↦ all i (omega arith)
+    ])
+
+pub defined_or_first : (meaning : Meaning) (print : List ℕ) → AreDefined meaning print ⊎ ((place : ℕ) × IsFirstUndefined meaning print place)
+defined_or_first meaning print =
+    elim (first_none (λ i. definition_of meaning (slice_index print i)) (length print)) [
+      | inl all ↦ inl all
+      | inr found ↦ inr (found.0, record { within = found.1; undefined = found.2; before = found.3 })
+    ]
+
+-- the first paragraph that uses the table and has a place that it doesn't define
+pub record IsFirstUser (meaning : Meaning) (name : List ℕ) (paragraphs : List Paragraph) : Type 0 where
+  pub before : List Paragraph
+  pub paragraph : Paragraph
+  pub after : List Paragraph
+  pub place : ℕ
+  pub parts : paragraphs ≡ before ++ paragraph ∷ after
+  pub uses : paragraph.table ≡ name
+  pub first : IsFirstUndefined meaning (print_of paragraph) place
+  pub others : All (DefinesUser meaning name) before
+
+defines_user : (meaning : Meaning) (name : List ℕ) (p : Paragraph) → DefinesUser meaning name p ⊎ ((p.table ≡ name) × ((place : ℕ) × IsFirstUndefined meaning (print_of p) place))
+defines_user meaning name p =
+    elim (cases_Bool (pointwise nat_eq p.table name)) [
+      | inr e ↦ inl (λ same. absurd (both_ways (pointwise nat_eq p.table name) e ((Decides-name p.table name).1 same)))
+      | inl e ↦ elim (defined_or_first meaning (print_of p)) [
+        | inl defined ↦ inl (λ same. defined)
+        | inr first ↦ inr ((Decides-name p.table name).0 e, first)
+      ]
+    ]
+
+pub all_or_first_user : (meaning : Meaning) (name : List ℕ) (ps : List Paragraph) → All (DefinesUser meaning name) ps ⊎ IsFirstUser meaning name ps
+all_or_first_user meaning name [] = inl (All-nil (DefinesUser meaning name))
+all_or_first_user meaning name (p ∷ ps) =
+    elim (defines_user meaning name p) [
+      | inr lacks ↦ inr (record {
+        before = [];
+        paragraph = p;
+        after = ps;
+        place = lacks.1.0;
+        parts = refl;
+        uses = lacks.0;
+        first = lacks.1.1;
+        others = All-nil (DefinesUser meaning name);
+      })
+      | inl here ↦ elim (all_or_first_user meaning name ps) [
+        | inl rest ↦ inl (All-cons (DefinesUser meaning name) p ps here rest)
+        | inr found ↦ inr (record {
+          before = p ∷ found.before;
+          paragraph = found.paragraph;
+          after = found.after;
+          place = found.place;
+          parts = ap (λ (rest : List Paragraph). p ∷ rest) found.parts;
+          uses = found.uses;
+          first = found.first;
+          others = All-cons (DefinesUser meaning name) p found.before here found.others;
+        })
+      ]
+    ]

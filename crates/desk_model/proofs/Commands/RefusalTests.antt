@@ -1,0 +1,301 @@
+-- Of each refusal it is decided whether it holds of a command.
+use Rattle.std.proofs.Common.{◌≡◌, ℕ, ◌+◌, ◌<◌, ◌≤◌, true, false, List, [], ◌∷◌, ◌++◌, length, Option, Some, None, Contains, refl, sym, ap, subst, ◌∙◌, inl, inr}
+use Rattle.std.specs.List.{position}
+use Rattle.std.proofs.lemmas.Bool.{cases_eq, cases_lt}
+use Rattle.std.proofs.lemmas.List.Elements.{All-contains}
+use Rattle.louis_table.proofs.OneMeaning.{means_or_bad, one_meaning, some_meaning}
+use Rattle.louis_table.specs.Meaning.{Meaning}
+use Rattle.louis_table.specs.Table.{Bad, Means}
+use Rattle.louis_translate.proofs.Tilings.{one_tiling}
+use Rattle.louis_translate.specs.Braille.{braille}
+use Rattle.louis_translate.specs.Position.{IsFirstUndefined}
+use Rattle.desk_command.specs.declared.command.Command.{Command}
+use Rattle.desk_command.specs.declared.command.Command.TheVariants.{Correct, Undo, Mark}
+use Rattle.desk_command.specs.declared.refusal.Limit.{Limit}
+use Rattle.desk_command.specs.declared.refusal.Limit.TheVariants.{Tables, Paragraphs, Entries, Marks, Version}
+use Rattle.desk_model.specs.Book.{Book, Mark as BookMark, Paragraph, mark_of, paragraph_of, text_of}
+use Rattle.desk_model.specs.Limits.{most_entries, most_marks, most_name, most_note, most_paragraphs, most_print, most_proofreader, most_tables, most_version}
+use Rattle.desk_model.specs.Name.{IsProofreaderName, IsTableName, is_name_character, is_proofreader_character}
+use Rattle.desk_model.specs.Refusals.{DefinesUser, HasLongNote, HasLongPrint, HasLongText, HasNothingToUndo, IsBadName, IsBadReader, IsBadSpan, IsBadTable, IsBadText, IsFull, IsMoved, IsNotStruck, IsPastPrint, IsResolved, IsStruck, IsUndefined, IsUntranslatable, LacksMark, LacksParagraph, LacksTable, adds_paragraph, history_grown, live_paragraph, mark_named, new_print, note_given, paragraphs_named, print_to_translate, proofreader_given, struck_paragraph, table_given, table_named, text_given, text_stored}
+use Rattle.desk_model.specs.Print.{newest, print_of}
+use Rattle.desk_model.specs.Stored.{IsFirstBarred, is_barred}
+use Rattle.desk_model.specs.Translated.{LacksCells}
+use Rattle.desk_model.proofs.Commands.FirstUndefined.{all_or_first_user, defined_or_first}
+use Rattle.desk_model.proofs.Commands.MarkedPlaces.{has_cells}
+use Rattle.desk_model.proofs.Lists.Members.{Contains-behind, Contains-cases, Contains-here, Contains-none}
+use Rattle.desk_model.proofs.Commands.Turns.{defined_not_first, same_some}
+use Rattle.desk_model.proofs.Commands.TextTests.{IsFirstBarred-position, IsUnbarred-none, IsUnbarred-position}
+use Rattle.desk_model.proofs.Lists.Decisions.{Decided, SomeOrNone, all, at_most, below, both, either, given, implied, is_none, is_so, isnt_so, not}
+
+-- ---- names
+
+table_name : (name : List ℕ) → Decided (IsTableName name)
+table_name name =
+    implied (λ h. record { nonempty = h.0.0; short = h.0.1; characters = h.1 }) (λ h. ((h.nonempty, h.short), h.characters))
+    (both (both (below 0 (length name)) (at_most (length name) most_name)) (all (λ c. is_name_character c ≡ true) (λ c. is_so (is_name_character c)) name))
+
+proofreader_name : (name : List ℕ) → Decided (IsProofreaderName name)
+proofreader_name name =
+    implied (λ h. record { short = h.0; characters = h.1 }) (λ h. (h.short, h.characters))
+    (both (at_most (length name) most_proofreader) (all (λ c. is_proofreader_character c ≡ true) (λ c. is_so (is_proofreader_character c)) name))
+
+-- ---- by a paragraph of the book
+
+module _ (book : Book) where
+  -- the paragraph with this id is there, and something holds of it
+  there : (P : Paragraph → Type 0) → ((p : Paragraph) → Decided (P p)) → (id : ℕ) → Decided ((p : Paragraph) × (paragraph_of book id ≡ Some p) × P p)
+  there P test id = given P test (paragraph_of book id)
+
+  past_print : (id end : ℕ) → Decided (IsPastPrint book id end)
+  past_print id end =
+      implied (λ h. record { paragraph = h.0; found = h.1; past = h.2 }) (λ h. (h.paragraph, h.found, h.past))
+      (there (λ p. length (print_of p) < end) (λ p. below (length (print_of p)) end) id)
+
+  lacks_cells : (id cell count : ℕ) → Decided (LacksCells book id cell count)
+  lacks_cells id cell count = by (paragraph_of book id) refl
+    where
+      seen : (p : Paragraph) (text : List ℕ) (meaning : Meaning) → paragraph_of book id ≡ Some p → text_of book p.table ≡ Some text → Means text meaning → Decided (LacksCells book id cell count)
+      seen p text meaning found has means =
+          let t = one_tiling meaning (print_of p) in
+          elim (either (is_none_of count) (below (length (braille meaning (print_of p) t.0)) (cell + count))) [
+            | inl lacks ↦ inl (record {
+              paragraph = p;
+              found = found;
+              meaning = meaning;
+              choices = t.0;
+              translated = record { text = text; found = has; means = means; tiles = t.1 };
+              lacks = lacks;
+            })
+            | inr enough ↦ inr (has_cells book id cell count (record { paragraph = p; meaning = meaning; choices = t.0 })
+                (found, record { text = text; found = has; means = means; tiles = t.1 })
+                (λ none. enough (inl none))
+                (within (length (braille meaning (print_of p) t.0)) (λ past. enough (inr past))))
+          ]
+        where
+          is_none_of : (n : ℕ) → Decided (n ≡ 0)
+          is_none_of n = elim (cases_eq n 0) [ inl e ↦ inl e | inr ne ↦ inr ne ]
+
+          within : (n : ℕ) → ¬ (n < cell + count) → cell + count ≤ n
+          within n h = elim (cases_lt n (cell + count)) [ inl less ↦ absurd (h less) | inr le ↦ le ]
+
+      tabled : (p : Paragraph) (o : Option (List ℕ)) → paragraph_of book id ≡ Some p → text_of book p.table ≡ o → Decided (LacksCells book id cell count)
+      tabled p None found none =
+          inr (λ l. let same = same_some l.paragraph p (sym l.found ∙ found) in let has = l.translated.found in cc (ap (λ (q : Paragraph). text_of book q.table) same, none, has))
+      tabled p (Some text) found has =
+          elim (some_meaning text) [
+            | inl means ↦ seen p text means.0 found has means.1
+            | inr bad ↦ inr (λ l.
+                let same = same_some l.paragraph p (sym l.found ∙ found) in
+                let texts = same_some l.translated.text text (sym l.translated.found ∙ (ap (λ (q : Paragraph). text_of book q.table) same ∙ has)) in
+                means_or_bad text l.meaning bad.0 bad.1 (subst (λ (x : List ℕ). Means x l.meaning) texts l.translated.means) bad.2)
+          ]
+
+      by : (o : Option Paragraph) → paragraph_of book id ≡ o → Decided (LacksCells book id cell count)
+      by None none = inr (λ l. let found = l.found in cc (none, found))
+      by (Some p) found = tabled p (text_of book p.table) found refl
+
+  no_correction : (id : ℕ) → Decided (HasNothingToUndo book (Undo id))
+  no_correction id =
+      implied (λ h. record { paragraph = h.0; found = h.1; none = h.2 }) (λ h. (h.paragraph, h.found, h.none))
+      (there (λ p. newest p.history ≡ None) (λ p. is_none (newest p.history)) id)
+
+-- ---- the refusals that tell nothing more
+
+module _ (book : Book) (command : Command) where
+  pub bad_name : Decided (IsBadName command)
+  bad_name =
+      implied (λ h. record { name = h.0.0; text = h.0.1; given = h.1; bad = h.2 }) (λ h. ((h.name, h.text), h.given, h.bad))
+      (given (λ e. ¬ IsTableName e.0) (λ e. not (table_name e.0)) (table_given command))
+
+  pub bad_reader : Decided (IsBadReader command)
+  bad_reader =
+      implied (λ h. record { name = h.0; given = h.1; bad = h.2 }) (λ h. (h.name, h.given, h.bad))
+      (given (λ name. ¬ IsProofreaderName name) (λ name. not (proofreader_name name)) (proofreader_given command))
+
+  lacks_one : (ids : List ℕ) → Decided ((id : ℕ) × Contains ids id × (paragraph_of book id ≡ None))
+  lacks_one [] = inr (λ h. Contains-none h.0 h.1)
+  lacks_one (id ∷ ids) =
+      implied
+      (λ h. elim h [ inl none ↦ (id, Contains-here id ids, none) | inr found ↦ (found.0, Contains-behind id found.0 ids found.1, found.2) ])
+      (λ h. elim (Contains-cases id h.0 ids h.1) [
+        | inl e ↦ inl (ap (paragraph_of book) e ∙ h.2)
+        | inr more ↦ inr (h.0, more, h.2)
+      ])
+      (either (is_none (paragraph_of book id)) (lacks_one ids))
+
+  pub lacks_paragraph : Decided (LacksParagraph book command)
+  lacks_paragraph =
+      implied (λ h. record { id = h.0; named = h.1; missing = h.2 }) (λ h. (h.id, h.named, h.missing)) (lacks_one (paragraphs_named command))
+
+  pub lacks_table : Decided (LacksTable book command)
+  lacks_table =
+      implied (λ h. record { name = h.0; named = h.1; missing = h.2 }) (λ h. (h.name, h.named, h.missing))
+      (given (λ name. text_of book name ≡ None) (λ name. is_none (text_of book name)) (table_named command))
+
+  pub lacks_mark : Decided (LacksMark book command)
+  lacks_mark =
+      implied (λ h. record { id = h.0; named = h.1; missing = h.2 }) (λ h. (h.id, h.named, h.missing))
+      (given (λ id. mark_of book id ≡ None) (λ id. is_none (mark_of book id)) (mark_named command))
+
+  pub is_struck : Decided (IsStruck book command)
+  is_struck =
+      implied (λ h. record { id = h.0; paragraph = h.2.0; named = h.1; found = h.2.1; struck = h.2.2 }) (λ h. (h.id, h.named, (h.paragraph, h.found, h.struck)))
+      (given (λ id. (p : Paragraph) × (paragraph_of book id ≡ Some p) × (p.struck ≡ true)) (there book (λ p. p.struck ≡ true) (λ p. is_so p.struck)) (live_paragraph command))
+
+  pub is_not_struck : Decided (IsNotStruck book command)
+  is_not_struck =
+      implied (λ h. record { id = h.0; paragraph = h.2.0; named = h.1; found = h.2.1; live = h.2.2 }) (λ h. (h.id, h.named, (h.paragraph, h.found, h.live)))
+      (given (λ id. (p : Paragraph) × (paragraph_of book id ≡ Some p) × (p.struck ≡ false)) (there book (λ p. p.struck ≡ false) (λ p. isnt_so p.struck)) (struck_paragraph command))
+
+  pub is_resolved : Decided (IsResolved book command)
+  is_resolved =
+      implied (λ h. record { id = h.0; mark = h.2.0; named = h.1; found = h.2.1; resolved = h.2.2 }) (λ h. (h.id, h.named, (h.mark, h.found, h.resolved)))
+      (given (λ id. (m : BookMark) × (mark_of book id ≡ Some m) × (m.resolved ≡ true)) (λ id. given (λ m. m.resolved ≡ true) (λ m. is_so m.resolved) (mark_of book id)) (mark_named command))
+
+  pub long_text : Decided (HasLongText command)
+  long_text =
+      implied (λ h. record { text = h.0; given = h.1; long = h.2 }) (λ h. (h.text, h.given, h.long))
+      (given (λ text. most_print < length text) (λ text. below most_print (length text)) (text_stored command))
+
+  pub long_print : Decided (HasLongPrint book command)
+  long_print =
+      implied (λ h. record { print = h.0; made = h.1; long = h.2 }) (λ h. (h.print, h.made, h.long))
+      (given (λ print. most_print < length print) (λ print. below most_print (length print)) (new_print book command))
+
+  pub long_note : Decided (HasLongNote command)
+  long_note =
+      implied (λ h. record { note = h.0; given = h.1; long = h.2 }) (λ h. (h.note, h.given, h.long))
+      (given (λ note. most_note < length note) (λ note. below most_note (length note)) (note_given command))
+
+  pub is_full : (limit : Limit) → Decided (IsFull book command limit)
+  is_full Tables =
+      implied (λ h. record { name = h.0.0; text = h.0.1; given = h.1; new = h.2.0; full = h.2.1 }) (λ h. ((h.name, h.text), h.given, (h.new, h.full)))
+      (given (λ e. (text_of book e.0 ≡ None) × (most_tables ≤ length book.tables)) (λ e. both (is_none (text_of book e.0)) (at_most most_tables (length book.tables))) (table_given command))
+  is_full Paragraphs =
+      implied (λ h. record { adds = h.0; full = h.1 }) (λ h. (h.adds, h.full))
+      (both (is_so (adds_paragraph command)) (at_most most_paragraphs (length book.paragraphs)))
+  is_full Entries =
+      implied (λ h. record { id = h.0; paragraph = h.2.0; grows = h.1; found = h.2.1; full = h.2.2 }) (λ h. (h.id, h.grows, (h.paragraph, h.found, h.full)))
+      (given (λ id. (p : Paragraph) × (paragraph_of book id ≡ Some p) × (most_entries ≤ length p.history)) (there book (λ p. most_entries ≤ length p.history) (λ p. at_most most_entries (length p.history))) (history_grown command))
+  is_full Marks =
+      implied (λ h. record { note = h.0; given = h.1; full = h.2 }) (λ h. (h.note, h.given, h.full))
+      (given (λ note. most_marks ≤ length book.marks) (λ note. at_most most_marks (length book.marks)) (note_given command))
+  is_full Version = at_most most_version book.version
+
+pub bad_span : (book : Book) (command : Command) → Decided (IsBadSpan book command)
+bad_span book (Correct id start count text who) = past_print book id (start + count)
+bad_span book (Mark id cell count note) = lacks_cells book id cell count
+bad_span book command = inr (λ h. h)
+
+pub nothing_to_undo : (book : Book) (command : Command) → Decided (HasNothingToUndo book command)
+nothing_to_undo book (Undo id) = no_correction book id
+nothing_to_undo book command = inr (λ h. h)
+
+-- ---- the refusals that tell more
+
+module _ (book : Book) (command : Command) where
+  pub moved_or : (expect : Option ℕ) → SomeOrNone (IsMoved book expect)
+  moved_or None = inr (λ v h. cc h.given)
+  moved_or (Some expected) =
+      elim (cases_eq expected book.version) [
+        | inl same ↦ inr (λ v h. h.other (sym (same_some expected h.expected h.given) ∙ same))
+        | inr other ↦ inl (book.version, record { expected = expected; given = refl; other = other; told = refl })
+      ]
+
+  pub bad_text : SomeOrNone (IsBadText command)
+  bad_text = by (text_given command) refl
+    where
+      by : (o : Option (List ℕ)) → text_given command ≡ o → SomeOrNone (IsBadText command)
+      by None none = inr (λ place h. let gives = h.given in cc (none, gives))
+      by (Some text) gives = found (position is_barred text) refl
+        where
+          found : (o : Option ℕ) → position is_barred text ≡ o → SomeOrNone (IsBadText command)
+          found None e = inr (λ place h. IsUnbarred-none text place (IsUnbarred-position text e) (subst (λ (t : List ℕ). IsFirstBarred t place) (same_some h.text text (sym h.given ∙ gives)) h.first))
+          found (Some place) e = inl (place, record { text = text; given = gives; first = IsFirstBarred-position text place e })
+
+  pub bad_table : SomeOrNone (IsBadTable command)
+  bad_table = by (table_given command) refl
+    where
+      by : (o : Option (List ℕ × List ℕ)) → table_given command ≡ o → SomeOrNone (IsBadTable command)
+      by None none = inr (λ fault h. let gives = h.given in cc (none, gives))
+      by (Some e) gives =
+          elim (some_meaning e.1) [
+            | inl means ↦ inr (λ fault h. means_or_bad e.1 means.0 fault.line fault.cause means.1
+                (subst (λ (t : List ℕ). Bad t fault.line fault.cause) (ap (λ (x : List ℕ × List ℕ). x.1) (same_some (h.name, h.text) e (sym h.given ∙ gives))) h.bad))
+            | inr bad ↦ inl (record { line = bad.0; cause = bad.1 }, record { name = e.0; text = e.1; given = gives; bad = bad.2 })
+          ]
+
+  pub undefined : SomeOrNone (IsUndefined book command)
+  undefined = by (print_to_translate book command) refl
+    where
+      seen : (e : List ℕ × List ℕ) (text : List ℕ) (meaning : Meaning) → print_to_translate book command ≡ Some e → text_of book e.1 ≡ Some text → Means text meaning → SomeOrNone (IsUndefined book command)
+      seen e text meaning is found means =
+          elim (defined_or_first meaning e.0) [
+            | inr first ↦ inl (first.0, record { print = e.0; name = e.1; print_is = is; text = text; meaning = meaning; found = found; means = means; first = first.1 })
+            | inl defined ↦ inr (λ place h.
+                let same = same_some (h.print, h.name) e (sym h.print_is ∙ is) in
+                let texts = same_some h.text text (sym h.found ∙ (ap (λ (x : List ℕ × List ℕ). text_of book x.1) same ∙ found)) in
+                let meanings = one_meaning text h.meaning meaning (subst (λ (t : List ℕ). Means t h.meaning) texts h.means) means in
+                defined_not_first meaning e.0 place defined
+                (subst (λ (t : List ℕ). IsFirstUndefined meaning t place) (ap (λ (x : List ℕ × List ℕ). x.0) same) (subst (λ (m : Meaning). IsFirstUndefined m h.print place) meanings h.first)))
+          ]
+
+      tabled : (e : List ℕ × List ℕ) (o : Option (List ℕ)) → print_to_translate book command ≡ Some e → text_of book e.1 ≡ o → SomeOrNone (IsUndefined book command)
+      tabled e None is none = inr (λ place h. let has = h.found in cc (ap (λ (x : List ℕ × List ℕ). text_of book x.1) (same_some (h.print, h.name) e (sym h.print_is ∙ is)), none, has))
+      tabled e (Some text) is found =
+          elim (some_meaning text) [
+            | inl means ↦ seen e text means.0 is found means.1
+            | inr bad ↦ inr (λ place h.
+                let same = same_some (h.print, h.name) e (sym h.print_is ∙ is) in
+                let texts = same_some h.text text (sym h.found ∙ (ap (λ (x : List ℕ × List ℕ). text_of book x.1) same ∙ found)) in
+                means_or_bad text h.meaning bad.0 bad.1 (subst (λ (t : List ℕ). Means t h.meaning) texts h.means) bad.2)
+          ]
+
+      by : (o : Option (List ℕ × List ℕ)) → print_to_translate book command ≡ o → SomeOrNone (IsUndefined book command)
+      by None none = inr (λ place h. let is = h.print_is in cc (none, is))
+      by (Some e) is = tabled e (text_of book e.1) is refl
+
+  abbrev pub IsUserOf : ℕ × ℕ → Type 0
+  IsUserOf at = IsUntranslatable book command at.0 at.1
+
+  pub untranslatable : SomeOrNone IsUserOf
+  untranslatable = by (table_given command) refl
+    where
+      by : (o : Option (List ℕ × List ℕ)) → table_given command ≡ o → SomeOrNone IsUserOf
+      by None none = inr (λ at h. let gives = h.given in cc (none, gives))
+      by (Some e) gives =
+          elim (some_meaning e.1) [
+            | inr bad ↦ inr (λ at h.
+                let same = same_some (h.name, h.text) e (sym h.given ∙ gives) in
+                means_or_bad e.1 h.meaning bad.0 bad.1 (subst (λ (t : List ℕ). Means t h.meaning) (ap (λ (x : List ℕ × List ℕ). x.1) same) h.means) bad.2)
+            | inl means ↦ elim (all_or_first_user means.0 e.0 book.paragraphs) [
+              | inr found ↦ inl (
+                (found.paragraph.id, found.place),
+                record {
+                  name = e.0;
+                  text = e.1;
+                  given = gives;
+                  meaning = means.0;
+                  means = means.1;
+                  before = found.before;
+                  paragraph = found.paragraph;
+                  after = found.after;
+                  parts = found.parts;
+                  uses = found.uses;
+                  told = refl;
+                  first = found.first;
+                  others = found.others;
+                },
+              )
+              | inl defines ↦ inr (λ at h.
+                  let same = same_some (h.name, h.text) e (sym h.given ∙ gives) in
+                  let meanings = one_meaning e.1 h.meaning means.0 (subst (λ (t : List ℕ). Means t h.meaning) (ap (λ (x : List ℕ × List ℕ). x.1) same) h.means) means.1 in
+                  let its = All-contains (DefinesUser means.0 e.0) book.paragraphs h.paragraph defines (among h.before h.paragraph h.after book.paragraphs h.parts) in
+                  defined_not_first means.0 (print_of h.paragraph) at.1 (its (h.uses ∙ ap (λ (x : List ℕ × List ℕ). x.0) same))
+                  (subst (λ (m : Meaning). IsFirstUndefined m (print_of h.paragraph) at.1) meanings h.first))
+            ]
+          ]
+        where
+          among : (xs : List Paragraph) (p : Paragraph) (ys ps : List Paragraph) → ps ≡ xs ++ p ∷ ys → Contains ps p
+          among [] p ys ps parts = subst (λ (l : List Paragraph). Contains l p) (sym parts) (Contains-here p ys)
+          among (x ∷ xs) p ys ps parts = subst (λ (l : List Paragraph). Contains l p) (sym parts) (Contains-behind x p (xs ++ p ∷ ys) (among xs p ys (xs ++ p ∷ ys) refl))

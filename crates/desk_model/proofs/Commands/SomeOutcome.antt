@@ -1,0 +1,124 @@
+-- Each command on a sound book has an outcome, and only one.
+use Rattle.std.proofs.Common.{◌≡◌, ◌⊎◌, ℕ, ◌+◌, List, [], ◌∷◌, ◌++◌, Option, Some, None, refl, sym, ap, subst, ◌∙◌, inl, inr}
+use Rattle.desk_command.specs.declared.command.Command.{Command}
+use Rattle.desk_command.specs.declared.command.Command.TheVariants.{Undo, Mark}
+use Rattle.desk_command.specs.declared.refusal.Limit.{Limit}
+use Rattle.desk_command.specs.declared.refusal.Limit.TheVariants.{Tables, Paragraphs, Entries, Marks, Version}
+use Rattle.desk_command.specs.declared.refusal.Refusal.{Refusal}
+use Rattle.desk_command.specs.declared.refusal.Refusal.TheVariants.{Moved, BadName, BadReader, BadText, NoParagraph, NoTable, NoMark, Struck, NotStruck, Resolved, BadSpan, NothingToUndo, TooLong, Full, BadTable, Undefined, Untranslatable}
+use Rattle.desk_model.specs.After.{After}
+use Rattle.desk_model.specs.Book.{Book, Paragraph, Replacement, Undoes, paragraph_of}
+use Rattle.desk_model.specs.Judging.{Passes}
+use Rattle.desk_model.specs.Marks.{mark_moved_back}
+use Rattle.desk_model.specs.Outcome.{HasOneOutcome}
+use Rattle.desk_model.specs.Print.{newest}
+use Rattle.desk_model.specs.Refusals.{Holds, IsAccepted, IsRefused, turn}
+use Rattle.desk_model.specs.Sound.{IsSound}
+use Rattle.desk_model.specs.Translated.{AreMarked}
+use Rattle.desk_model.specs.Step.{Makes, next_with_entry, next_with_marks, new_mark, next_mark}
+use Rattle.desk_model.proofs.Commands.Accepted.{named_paragraph}
+use Rattle.desk_model.proofs.Commands.Judging.{IsRefused-passes, Passes-bad_name, Passes-bad_reader, Passes-bad_span, Passes-bad_table, Passes-bad_text, Passes-full, Passes-moved, Passes-no_mark, Passes-no_paragraph, Passes-no_table, Passes-not_struck, Passes-nothing_to_undo, Passes-resolved, Passes-start, Passes-struck, Passes-too_long, Passes-undefined, Passes-untranslatable}
+use Rattle.desk_model.proofs.Commands.MarkedPlaces.{one_span, some_span}
+use Rattle.desk_model.proofs.Lists.Members.{Contains-here}
+use Rattle.desk_model.proofs.Commands.OneRefusal.{one_refusal}
+use Rattle.desk_model.proofs.Commands.Turns.{same_some}
+use Rattle.desk_model.proofs.Books.SoundBooks.{IsSoundParagraph-found}
+use Rattle.desk_model.proofs.Lists.Decisions.{Decided, SomeOrNone, either}
+use Rattle.desk_model.proofs.Commands.RefusalTests.{bad_name, bad_reader, bad_span, bad_table, bad_text, is_full, is_not_struck, is_resolved, is_struck, lacks_mark, lacks_paragraph, lacks_table, long_note, long_print, long_text, moved_or, nothing_to_undo, undefined, untranslatable}
+
+-- ---- one turn after the other
+
+module _ (book : Book) (expect : Option ℕ) (command : Command) where
+  abbrev Told : Type 0
+  Told = (refusal : Refusal) × IsRefused book expect command refusal
+
+  -- a refusal is told, or none that is told before turn n holds
+  abbrev Judged : ℕ → Type 0
+  Judged n = Told ⊎ Passes book expect command n
+
+  turned : (n m : ℕ) (refusal : Refusal) → turn refusal ≡ n → Decided (Holds book expect command refusal)
+      → (Passes book expect command n → ¬ Holds book expect command refusal → Passes book expect command m) → Judged n → Judged m
+  turned n m refusal at held more (inl told) = inl told
+  turned n m refusal at (inl holds) more (inr passes) = inl (refusal, IsRefused-passes book expect command n refusal passes at holds)
+  turned n m refusal at (inr not_held) more (inr passes) = inr (more passes not_held)
+
+  turned_by : {X : Type 0} (n : ℕ) (N : Type 0) (refusal : X → Refusal) → ((x : X) → turn (refusal x) ≡ n) → SomeOrNone (λ x. Holds book expect command (refusal x))
+      → (Passes book expect command n → ((x : X) → ¬ Holds book expect command (refusal x)) → N) → Judged n → Told ⊎ N
+  turned_by n N refusal at held more (inl told) = inl told
+  turned_by n N refusal at (inl holds) more (inr passes) = inl (refusal holds.0, IsRefused-passes book expect command n (refusal holds.0) passes (at holds.0) holds.1)
+  turned_by n N refusal at (inr not_held) more (inr passes) = inr (more passes not_held)
+
+  full_or : (limit : Limit) → Judged (turn (Full limit)) → Judged (turn (Full limit) + 10)
+  full_or limit = turned (turn (Full limit)) (turn (Full limit) + 10) (Full limit) refl (is_full book command limit) (Passes-full book expect command limit)
+
+  to_lookups : Judged 60
+  to_lookups =
+      let moved : Judged 10 = turned_by 0 (Passes book expect command 10) Moved (λ v. refl) (moved_or book command expect) (λ p none. Passes-moved book expect command none) (inr (Passes-start book expect command)) in
+      let named : Judged 15 = turned 10 15 BadName refl (bad_name book command) (Passes-bad_name book expect command) moved in
+      let proofreader : Judged 20 = turned 15 20 BadReader refl (bad_reader book command) (Passes-bad_reader book expect command) named in
+      let text : Judged 30 = turned_by 20 (Passes book expect command 30) BadText (λ place. refl) (bad_text book command) (Passes-bad_text book expect command) proofreader in
+      let paragraph : Judged 40 = turned 30 40 NoParagraph refl (lacks_paragraph book command) (Passes-no_paragraph book expect command) text in
+      let table : Judged 50 = turned 40 50 NoTable refl (lacks_table book command) (Passes-no_table book expect command) paragraph in
+      turned 50 60 NoMark refl (lacks_mark book command) (Passes-no_mark book expect command) table
+
+  to_limits : Judged 120
+  to_limits =
+      let struck : Judged 70 = turned 60 70 Struck refl (is_struck book command) (Passes-struck book expect command) to_lookups in
+      let live : Judged 80 = turned 70 80 NotStruck refl (is_not_struck book command) (Passes-not_struck book expect command) struck in
+      let resolved : Judged 90 = turned 80 90 Resolved refl (is_resolved book command) (Passes-resolved book expect command) live in
+      let span : Judged 100 = turned 90 100 BadSpan refl (bad_span book command) (Passes-bad_span book expect command) resolved in
+      let nothing : Judged 110 = turned 100 110 NothingToUndo refl (nothing_to_undo book command) (Passes-nothing_to_undo book expect command) span in
+      turned 110 120 TooLong refl (either (long_text book command) (either (long_print book command) (long_note book command))) (Passes-too_long book expect command) nothing
+
+  told_or_accepted : Told ⊎ IsAccepted book expect command
+  told_or_accepted =
+      let limits : Judged 170 = full_or Version (full_or Marks (full_or Entries (full_or Paragraphs (full_or Tables to_limits)))) in
+      let table : Judged 180 = turned_by 170 (Passes book expect command 180) BadTable (λ fault. refl) (bad_table book command) (Passes-bad_table book expect command) limits in
+      let shown : Judged 190 = turned_by 180 (Passes book expect command 190) Undefined (λ place. refl) (undefined book command) (Passes-undefined book expect command) table in
+      turned_by 190 (IsAccepted book expect command) (λ at. Untranslatable at.0 at.1) (λ at. refl) (untranslatable book command) (λ p none. Passes-untranslatable book expect command p (λ id place. none (id, place))) shown
+
+-- ---- the next book
+
+one_next : (book : Book) (command : Command) (next other : Book) → Makes book command next → Makes book command other → next ≡ other
+one_next book (Undo id) next other (n, r, newest_is, is) (m, s, newest_too, at) =
+    let paragraphs = same_some newest_is.paragraph newest_too.paragraph (sym newest_is.found ∙ newest_too.found) in
+    let both : (n, r) ≡ (m, s) = same_some (n, r) (m, s) (sym newest_is.newest_is ∙ (ap (λ (p : Paragraph). newest p.history) paragraphs ∙ newest_too.newest_is)) in
+    is ∙ (ap (λ (e : ℕ × Replacement). next_with_entry book id (Undoes e.0) (mark_moved_back e.1)) both ∙ sym at)
+one_next book (Mark id cell count note) next other (start, end, marked, is) (first, last, marks, at) =
+    let both = one_span book id cell count start end first last marked marks in
+    is ∙ ((λ i. next_with_marks book (book.marks ++ new_mark (next_mark book) id (both.0 i) (both.1 i) note ∷ [])) ∙ sym at)
+one_next book command next other is at = is ∙ sym at
+
+marked_next : (book : Book) (id cell count : ℕ) (note : List ℕ) (start end : ℕ) → AreMarked book id cell count start end → (next : Book) × Makes book (Mark id cell count note) next
+marked_next book id cell count note start end marked =
+    (next_with_marks book (book.marks ++ new_mark (next_mark book) id start end note ∷ []), (start, end, marked, refl))
+
+some_next : (book : Book) (expect : Option ℕ) (command : Command) → IsSound book → IsAccepted book expect command → (next : Book) × Makes book command next
+some_next book expect (Undo id) sound accepted =
+    let p = named_paragraph book expect (Undo id) accepted id (Contains-here id []) in
+    by p.0 (newest p.0.history) p.1 refl
+  where
+    by : (p : Paragraph) (o : Option (ℕ × Replacement)) → paragraph_of book id ≡ Some p → newest p.history ≡ o → (next : Book) × Makes book (Undo id) next
+    by p None found none = absurd (accepted NothingToUndo (record { paragraph = p; found = found; none = none }))
+    by p (Some c) found is = (next_with_entry book id (Undoes c.0) (mark_moved_back c.1), (c.0, c.1, record { paragraph = p; found = found; newest_is = is }, refl))
+some_next book expect (Mark id cell count note) sound accepted =
+    let p = named_paragraph book expect (Mark id cell count note) accepted id (Contains-here id []) in
+    let s = IsSoundParagraph-found book sound id p.0 p.1 in
+    let span = some_span book id cell count p.0 s.text s.meaning p.1 s.found s.means s.defined (accepted BadSpan) in
+    marked_next book id cell count note span.0 span.1 span.2
+some_next book expect command sound accepted = (_, refl)
+
+pub one_outcome : (book : Book) (expect : Option ℕ) (command : Command) → IsSound book → HasOneOutcome book expect command
+one_outcome book expect command sound =
+    elim (told_or_accepted book expect command) [
+      | inl told ↦ inl (record { refusal = told.0; told = told.1; only = λ other h. one_refusal book expect command other told.0 h told.1 })
+      | inr accepted ↦
+          let next = some_next book expect command sound accepted in
+          inr (record { accepted = accepted; next = next.0; makes = next.1; only = λ other h. one_next book command other next.0 h next.1 })
+    ]
+
+pub one_after : (commands : List Command) (book last other : Book) → After book commands last → After book commands other → last ≡ other
+one_after [] book last other is at = is ∙ sym at
+one_after (command ∷ commands) book last other (accepted, (next, makes, after)) (also, (then, made, behind)) =
+    let same = one_next book command then next made makes in
+    one_after commands next last other after (subst (λ (b : Book). After b commands other) same behind)

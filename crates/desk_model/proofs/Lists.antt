@@ -1,0 +1,10 @@
+pub mod Decisions
+pub mod Items
+pub mod Members
+pub mod NumberedRows
+pub mod Numbering
+pub mod Permutations
+pub mod RowGroups
+pub mod RowNumbers
+pub mod Stable
+pub mod TableEntries

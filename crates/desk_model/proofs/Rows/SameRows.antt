@@ -1,0 +1,108 @@
+-- Rows show the same book in any order.
+use Rattle.std.proofs.Common.{◌≡◌, ℕ, pos, List, [], ◌∷◌, map, Option, None, Some, refl, sym, ap, ◌∙◌, subst}
+use Rattle.std.specs.List.{flat_map}
+use Rattle.std.specs.List.Sorted.{IsPermutation}
+use Rattle.std.specs.Option.{ForSome}
+use Rattle.std.proofs.lemmas.List.Sorted.{All-permutation, IsPermutation-map, IsPermutation-sym, IsPermutation-trans}
+use Rattle.desk_model.specs.Book.{Book, Paragraph}
+use Rattle.desk_parts.specs.FileRows.{AreTexts, EntryRows, FileRows, HasEntryTexts, HasMarkText, HasParaTexts, HasTabText, Named, Unnamed, entries_in, format_of, spelled_entry, spelled_mark, spelled_para, spelled_tab, table_of, unnamed}
+use Rattle.desk_model.specs.FilledRows.{AreEntriesOf}
+use Rattle.desk_parts.specs.Rows.{Cached, NamedCorr}
+use Rattle.desk_model.specs.SameRows.{AreSameCaches, AreSameEntries, AreSameRows}
+use Rattle.desk_model.specs.Shows.{AreCached, IsCached, Shows, book_row_of, entry_rows_of}
+use Rattle.desk_model.proofs.Commands.Turns.{same_some}
+
+-- ---- the other way round
+
+entries-turned : (a b : EntryRows) → AreSameEntries a b → AreSameEntries b a
+entries-turned (Unnamed a) (Unnamed b) moved = IsPermutation-sym a b moved
+entries-turned (Unnamed a) (Named b) other = absurd other
+entries-turned (Named a) (Unnamed b) other = absurd other
+entries-turned (Named a) (Named b) moved = IsPermutation-sym a b moved
+
+caches-turned : (a b : Option (List Cached)) → AreSameCaches a b → AreSameCaches b a
+caches-turned None None same = tt
+caches-turned None (Some b) other = absurd other
+caches-turned (Some a) None other = absurd other
+caches-turned (Some a) (Some b) moved = IsPermutation-sym a b moved
+
+pub turned : (a b : FileRows) → AreSameRows a b → AreSameRows b a
+turned a b same = record {
+  books = sym same.books;
+  tabs = IsPermutation-sym a.tabs b.tabs same.tabs;
+  paras = IsPermutation-sym a.paras b.paras same.paras;
+  entries = entries-turned a.entries b.entries same.entries;
+  marks = IsPermutation-sym a.marks b.marks same.marks;
+  caches = caches-turned a.caches b.caches same.caches;
+}
+
+-- ---- entries
+
+pub entries_in-moved : (a b : EntryRows) → AreSameEntries a b → IsPermutation (entries_in a) (entries_in b)
+entries_in-moved (Unnamed a) (Unnamed b) moved = IsPermutation-map unnamed a b moved
+entries_in-moved (Unnamed a) (Named b) other = absurd other
+entries_in-moved (Named a) (Unnamed b) other = absurd other
+entries_in-moved (Named a) (Named b) moved = moved
+
+pub table_of-moved : (a b : EntryRows) → AreSameEntries a b → table_of b ≡ table_of a
+table_of-moved (Unnamed a) (Unnamed b) moved = refl
+table_of-moved (Unnamed a) (Named b) other = absurd other
+table_of-moved (Named a) (Unnamed b) other = absurd other
+table_of-moved (Named a) (Named b) moved = refl
+
+format_of-moved : (a b : EntryRows) → AreSameEntries a b → format_of a ≡ format_of b
+format_of-moved (Unnamed a) (Unnamed b) moved = refl
+format_of-moved (Unnamed a) (Named b) other = absurd other
+format_of-moved (Named a) (Unnamed b) other = absurd other
+format_of-moved (Named a) (Named b) moved = refl
+
+-- ---- what is shown
+
+-- rows that are those of something are so in any order
+spelled-moved : {X Y : Type 0} (spelled : X → Y) (xs ys : List X) (zs : List Y) → IsPermutation xs ys
+    → IsPermutation (map spelled xs) zs → IsPermutation (map spelled ys) zs
+spelled-moved spelled xs ys zs moved =
+    IsPermutation-trans (map spelled ys) (map spelled xs) zs (IsPermutation-map spelled ys xs (IsPermutation-sym xs ys moved))
+
+pub AreEntriesOf-moved : (book : Book) (entries all : List NamedCorr) → IsPermutation entries all → AreEntriesOf book entries → AreEntriesOf book all
+AreEntriesOf-moved book entries all moved are = (
+  All-permutation HasEntryTexts entries all moved are.0,
+  spelled-moved spelled_entry entries all (flat_map entry_rows_of book.paragraphs) moved are.1,
+)
+
+pub AreCached-moved : (book : Book) (caches all : List Cached) → IsPermutation caches all → AreCached book caches → AreCached book all
+AreCached-moved book caches all moved are = record {
+  one_each = spelled-moved (λ (c : Cached). c.para) caches all (map (λ (p : Paragraph). pos p.id) book.paragraphs) moved are.one_each;
+  cells = All-permutation (IsCached book) caches all moved are.cells;
+}
+
+caches-moved : (book : Book) (a b : Option (List Cached)) → AreSameCaches a b → ForSome a (AreCached book) → ForSome b (AreCached book)
+caches-moved book None None same are = are
+caches-moved book None (Some b) other are = absurd other
+caches-moved book (Some a) None other are = absurd other
+caches-moved book (Some a) (Some b) moved are =
+    λ all same. subst (AreCached book) (same_some b all same) (AreCached-moved book a b moved (are a refl))
+
+module _ (a b : FileRows) (same : AreSameRows a b) where
+  entries-same : IsPermutation (entries_in a.entries) (entries_in b.entries)
+  entries-same = entries_in-moved a.entries b.entries same.entries
+
+  texts-moved : AreTexts a → AreTexts b
+  texts-moved texts = record {
+    tabs = All-permutation HasTabText a.tabs b.tabs same.tabs texts.tabs;
+    paras = All-permutation HasParaTexts a.paras b.paras same.paras texts.paras;
+    entries = All-permutation HasEntryTexts (entries_in a.entries) (entries_in b.entries) entries-same texts.entries;
+    marks = All-permutation HasMarkText a.marks b.marks same.marks texts.marks;
+  }
+
+  pub shown : (book : Book) → Shows a book → Shows b book
+  shown book shows = record {
+    sound = shows.sound;
+    texts = texts-moved shows.texts;
+    row = sym same.books ∙ (shows.row ∙ ap (λ (format : ℕ). book_row_of format book.version ∷ []) (format_of-moved a.entries b.entries same.entries));
+    tables = spelled-moved spelled_tab a.tabs b.tabs _ same.tabs shows.tables;
+    paragraphs = spelled-moved spelled_para a.paras b.paras _ same.paras shows.paragraphs;
+    entries = spelled-moved spelled_entry (entries_in a.entries) (entries_in b.entries) _ entries-same shows.entries;
+    marks = spelled-moved spelled_mark a.marks b.marks _ same.marks shows.marks;
+    caches = caches-moved book a.caches b.caches same.caches shows.caches;
+  }

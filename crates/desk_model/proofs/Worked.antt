@@ -1,0 +1,2 @@
+pub mod WorkedDamage
+pub mod WorkedRows

@@ -1,0 +1,89 @@
+-- Which rows a change may lend: those of what its command changes, and no others.
+use Rattle.std.specs.Prelude.{◌≡◌, ◌⊎◌, ℕ, ℤ, ◌+◌, true, List, Some, encode_utf8_all, pos, min, length, option_map, unwrap_or}
+use Rattle.std.specs.List.{All, Contains}
+use Rattle.desk_command.specs.declared.command.Anchor.{Anchor}
+use Rattle.desk_command.specs.declared.command.Command.{Command}
+use Rattle.desk_command.specs.declared.command.Command.TheVariants.{Table, Retable, Move}
+use Rattle.desk_model.specs.Book.{Book, Entry, Mark, Paragraph, paragraph_of}
+use Rattle.desk_parts.specs.Puts.{PutBook, PutCache, PutEntry, PutMark, PutPara, PutTab, RowPut, SetFlags, SetPlace, SetPrint, SetResolved, SetSpan, SetTable, SetVersion, with_puts}
+use Rattle.desk_model.specs.Refusals.{adds_paragraph}
+use Rattle.desk_model.specs.Step.{next_id, next_mark, next_with_entry, next_with_marks, next_with_paragraphs, with_change, with_resolved}
+use Rattle.desk_parts.specs.declared.file_table.FileTable.TheVariants.{NamedCorr as NamedCorrTable}
+use Rattle.desk_parts.specs.FileRows.{FileRows, table_of}
+use Rattle.desk_parts.specs.Rows.{NamedCorr}
+use Rattle.desk_model.specs.Shows.{Shows}
+
+-- the number, or the greatest of 64 bits with a sign in place of one above it
+abbrev pub row_number : ℕ → ℤ
+row_number n = pos (min n 9223372036854775807)
+
+-- the number of the next entry in the history of the paragraph with this id
+abbrev pub next_entry_number : Book → ℕ → ℕ
+next_entry_number book id = unwrap_or (option_map (λ paragraph. length paragraph.history + 1) (paragraph_of book id)) 1
+
+-- the paragraph with this id comes
+abbrev pub Comes : Book → Command → ℕ → Type 0
+Comes book command id = (id ≡ next_id book) × (adds_paragraph command ≡ true)
+
+-- the history of the paragraph with this id gets an entry, and its marks move
+abbrev pub GetsEntry : (book next : Book) → ℕ → Type 0
+GetsEntry book next id = (entry : Entry) × (move : (Mark → Mark)) × (next ≡ next_with_entry book id entry move)
+
+-- the paragraph with this id gets this style and these flags, and changes in nothing else
+abbrev pub GetsFlags : (book next : Book) → ℕ → Type 0
+GetsFlags book next id =
+    (change : (Paragraph → Paragraph)) × (next ≡ next_with_paragraphs book (with_change id change book.paragraphs))
+
+-- the mark with this id becomes resolved
+abbrev pub GetsResolved : (book next : Book) → ℕ → Type 0
+GetsResolved book next id = next ≡ next_with_marks book (with_resolved id book.marks)
+
+-- the paragraph with this id uses the table whose text the command replaces
+abbrev pub UsesReplaced : Book → Command → ℕ → Type 0
+UsesReplaced book command id =
+    (name : List ℕ) × (text : List ℕ) × (paragraph : Paragraph) × (command ≡ Table name text)
+    × (paragraph_of book id ≡ Some paragraph) × (paragraph.table ≡ name)
+
+-- the paragraph with this id gets other braille: it comes, its print changes, it gets another table, or its table another
+-- text
+abbrev pub GetsCells : (book next : Book) → Command → ℕ → Type 0
+GetsCells book next command id =
+    Comes book command id ⊎ (GetsEntry book next id
+    ⊎ (((table : List ℕ) × (command ≡ Retable id table)) ⊎ UsesReplaced book command id))
+
+-- paragraphs stand at other places: one comes, or is moved
+abbrev pub Reorders : Command → Type 0
+Reorders command = (adds_paragraph command ≡ true) ⊎ ((id : ℕ) × (anchor : Anchor) × (command ≡ Move id anchor))
+
+-- the command, which makes the next book of this one, changes what this is put for
+abbrev pub IsLent : (book next : Book) → Command → RowPut → Type 0
+IsLent book next command (PutBook row) = ⊥
+IsLent book next command (PutTab row) =
+    (name : List ℕ) × (text : List ℕ) × (command ≡ Table name text) × (row.name ≡ encode_utf8_all name) × (row.body ≡ text)
+IsLent book next command (PutPara row) = (id : ℕ) × (row.id ≡ row_number id) × Comes book command id
+IsLent book next command (PutMark row) = row.id ≡ row_number (next_mark book)
+IsLent book next command (PutCache row) = (id : ℕ) × (row.para ≡ row_number id) × GetsCells book next command id
+IsLent book next command (PutEntry row) =
+    (id : ℕ) × (row.entry.para ≡ row_number id) × (row.entry.seq ≡ row_number (next_entry_number book id)) × GetsEntry book next id
+IsLent book next command (SetPlace id place) = Reorders command
+IsLent book next command (SetFlags id style volume struck) = (named : ℕ) × (id ≡ row_number named) × GetsFlags book next named
+IsLent book next command (SetTable id tab) =
+    (named : ℕ) × (table : List ℕ) × (id ≡ row_number named) × (tab ≡ encode_utf8_all table) × (command ≡ Retable named table)
+IsLent book next command (SetPrint id print) = (named : ℕ) × (id ≡ row_number named) × GetsEntry book next named
+IsLent book next command (SetSpan id start stop touched) =
+    (mark : Mark) × Contains book.marks mark × (id ≡ row_number mark.id) × GetsEntry book next mark.paragraph
+IsLent book next command (SetResolved id resolved) = (named : ℕ) × (id ≡ row_number named) × GetsResolved book next named
+IsLent book next command (SetVersion version) = version ≡ row_number next.version
+
+-- all that is lent is
+abbrev pub AreLent : (book next : Book) → Command → List RowPut → Type 0
+AreLent book next command puts = All (IsLent book next command) puts
+
+-- the rows have the table of entries with names, where one is put
+abbrev pub TakesEntries : FileRows → List RowPut → Type 0
+TakesEntries rows puts = (row : NamedCorr) → Contains puts (PutEntry row) → table_of rows.entries ≡ NamedCorrTable
+
+-- Put into any rows that show the book, and that take the entries among them, they make rows that show the next. A row of
+-- `cache` is put only where that is there.
+abbrev pub LeadTo : Book → List RowPut → Book → Type 0
+LeadTo book puts next = (rows : FileRows) → Shows rows book → TakesEntries rows puts → Shows (with_puts puts rows) next

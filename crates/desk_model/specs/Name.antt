@@ -1,0 +1,26 @@
+-- The names of tables, and of proofreaders.
+use Rattle.std.specs.Prelude.{◌≡◌, ℕ, ◌<◌, ◌≤◌, Bool, true, not, ◌||◌, ◌&&◌, ◌==◌, nat_le, List, length}
+use Rattle.std.specs.List.{All}
+use Rattle.desk_model.specs.Limits.{most_name, most_proofreader}
+use Rattle.desk_model.specs.Stored.{is_barred}
+
+-- a to z, 0 to 9, the low line or the hyphen
+abbrev pub is_name_character : ℕ → Bool
+is_name_character character =
+    (nat_le 97 character && nat_le character 122) || (nat_le 48 character && nat_le character 57)
+    || character == 95 || character == 45
+
+-- one such character or more, and no more than a name may have
+pub record IsTableName (name : List ℕ) : Type 0 where
+  pub nonempty : 0 < length name
+  pub short : length name ≤ most_name
+  pub characters : All (λ character. is_name_character character ≡ true) name
+
+-- neither a blank nor a character that no text of a book may hold
+abbrev pub is_proofreader_character : ℕ → Bool
+is_proofreader_character character = not (character == 32) && not (is_barred character)
+
+-- such characters, no more than a proofreader's name may have; none where the proofreader isn't named
+pub record IsProofreaderName (name : List ℕ) : Type 0 where
+  pub short : length name ≤ most_proofreader
+  pub characters : All (λ character. is_proofreader_character character ≡ true) name

@@ -1,0 +1,24 @@
+-- The lines of a paragraph's marks.
+use Rattle.std.specs.Prelude.{◌≡◌, ℕ, ◌==◌, List, [], ◌∷◌, Option, MatchOption}
+use Rattle.std.specs.List.{filter}
+use Rattle.std.specs.Str.{chars}
+use Rattle.desk_model.specs.declared.mark_item.MarkItem.{MarkItem}
+use Rattle.desk_model.specs.Book.{Mark}
+
+-- the marks of the paragraph with this id
+abbrev pub marks_on : ℕ → List Mark → List Mark
+marks_on id marks = filter (λ mark. mark.paragraph == id) marks
+
+-- the item tells of this mark
+pub record TellsOf (mark : Mark) (item : MarkItem) : Type 0 where
+  pub id : item.id ≡ mark.id
+  pub start : item.start ≡ mark.start
+  pub end : item.end ≡ mark.end
+  pub resolved : item.resolved ≡ mark.resolved
+  pub touched : item.touched ≡ mark.touched
+  pub note : chars item.note.now ≡ mark.note
+
+-- the item tells of the first of the marks, and the others are left; or there is none, and no item
+abbrev pub TellsFirst : List Mark → Option MarkItem → List Mark → Type 0
+TellsFirst marks item left =
+    MatchOption item ((marks ≡ []) × (left ≡ [])) (λ told. (first : Mark) × (marks ≡ first ∷ left) × TellsOf first told)

@@ -1,0 +1,505 @@
+-- When a command is refused, and with which refusal. Only the first that holds is told.
+use Rattle.std.specs.Prelude.{◌≡◌, ◌≢◌, ℕ, ◌⊎◌, ◌+◌, ◌*◌, ◌<◌, ◌≤◌, Bool, true, false, List, [], ◌∷◌, ◌++◌, length, Option, Some, None, option_map}
+use Rattle.std.specs.List.{All, Contains}
+use Rattle.std.specs.Option.{option_and_then}
+use Rattle.louis_table.specs.Meaning.{Meaning}
+use Rattle.louis_table.specs.Table.{Means, Bad}
+use Rattle.louis_table.specs.declared.fault.TableFault.{TableFault}
+use Rattle.louis_translate.specs.Position.{AreDefined, IsFirstUndefined}
+use Rattle.desk_command.specs.declared.command.Anchor.{Anchor}
+use Rattle.desk_command.specs.declared.command.Anchor.TheVariants.{Front, End, Para}
+use Rattle.desk_command.specs.declared.command.Command.{Command}
+use Rattle.desk_command.specs.declared.command.Command.TheVariants.{Table, TypeIn, Correct, Undo, Mark, Resolve, Strike, Restore, Style, Volume, Retable, Move}
+use Rattle.desk_command.specs.declared.refusal.Limit.{Limit}
+use Rattle.desk_command.specs.declared.refusal.Limit.TheVariants.{Tables, Paragraphs, Entries, Marks, Version}
+use Rattle.desk_command.specs.declared.refusal.Refusal.{Refusal}
+use Rattle.desk_command.specs.declared.refusal.Refusal.TheVariants.{Moved, BadName, BadReader, BadText, NoParagraph, NoTable, NoMark, Struck, NotStruck, Resolved, BadSpan, NothingToUndo, TooLong, Full, BadTable, Undefined, Untranslatable, NoMemory}
+use Rattle.desk_command.specs.Numbers.{limit_number}
+use Rattle.desk_model.specs.Book.{Book, Paragraph, Mark as BookMark, text_of, paragraph_of, mark_of}
+use Rattle.desk_model.specs.Print.{newest, print_of, print_undone, replaced}
+use Rattle.desk_model.specs.Limits.{most_entries, most_marks, most_note, most_version, most_tables, most_paragraphs, most_print}
+use Rattle.desk_model.specs.Name.{IsProofreaderName, IsTableName}
+use Rattle.desk_model.specs.Step.{replacement_by}
+use Rattle.desk_model.specs.Stored.{IsFirstBarred, stored}
+use Rattle.desk_model.specs.Translated.{LacksCells}
+
+-- ---- what a command names
+
+-- the name of the table that it adds or replaces, and the text
+abbrev pub table_given : Command → Option (List ℕ × List ℕ)
+table_given (Table name text) = Some (name, text)
+table_given (TypeIn anchor table text) = None
+table_given (Correct id start count text who) = None
+table_given (Undo id) = None
+table_given (Mark id cell count note) = None
+table_given (Resolve id) = None
+table_given (Strike id) = None
+table_given (Restore id) = None
+table_given (Style id style) = None
+table_given (Volume id begins) = None
+table_given (Retable id table) = None
+table_given (Move id anchor) = None
+
+-- a text that is given, which may have no barred character
+abbrev pub text_given : Command → Option (List ℕ)
+text_given (Table name text) = None
+text_given (TypeIn anchor table text) = Some text
+text_given (Correct id start count text who) = Some text
+text_given (Undo id) = None
+text_given (Mark id cell count note) = Some note
+text_given (Resolve id) = None
+text_given (Strike id) = None
+text_given (Restore id) = None
+text_given (Style id style) = None
+text_given (Volume id begins) = None
+text_given (Retable id table) = None
+text_given (Move id anchor) = None
+
+-- the name of a proofreader that is given
+abbrev pub proofreader_given : Command → Option (List ℕ)
+proofreader_given (Table name text) = None
+proofreader_given (TypeIn anchor table text) = None
+proofreader_given (Correct id start count text who) = Some who
+proofreader_given (Undo id) = None
+proofreader_given (Mark id cell count note) = None
+proofreader_given (Resolve id) = None
+proofreader_given (Strike id) = None
+proofreader_given (Restore id) = None
+proofreader_given (Style id style) = None
+proofreader_given (Volume id begins) = None
+proofreader_given (Retable id table) = None
+proofreader_given (Move id anchor) = None
+
+-- a text that is typed or put in place of another, as it is stored
+abbrev pub text_stored : Command → Option (List ℕ)
+text_stored (Table name text) = None
+text_stored (TypeIn anchor table text) = Some (stored text)
+text_stored (Correct id start count text who) = Some (stored text)
+text_stored (Undo id) = None
+text_stored (Mark id cell count note) = None
+text_stored (Resolve id) = None
+text_stored (Strike id) = None
+text_stored (Restore id) = None
+text_stored (Style id style) = None
+text_stored (Volume id begins) = None
+text_stored (Retable id table) = None
+text_stored (Move id anchor) = None
+
+-- the note of a new mark
+abbrev pub note_given : Command → Option (List ℕ)
+note_given (Table name text) = None
+note_given (TypeIn anchor table text) = None
+note_given (Correct id start count text who) = None
+note_given (Undo id) = None
+note_given (Mark id cell count note) = Some note
+note_given (Resolve id) = None
+note_given (Strike id) = None
+note_given (Restore id) = None
+note_given (Style id style) = None
+note_given (Volume id begins) = None
+note_given (Retable id table) = None
+note_given (Move id anchor) = None
+
+-- the mark that it speaks of
+abbrev pub mark_named : Command → Option ℕ
+mark_named (Table name text) = None
+mark_named (TypeIn anchor table text) = None
+mark_named (Correct id start count text who) = None
+mark_named (Undo id) = None
+mark_named (Mark id cell count note) = None
+mark_named (Resolve id) = Some id
+mark_named (Strike id) = None
+mark_named (Restore id) = None
+mark_named (Style id style) = None
+mark_named (Volume id begins) = None
+mark_named (Retable id table) = None
+mark_named (Move id anchor) = None
+
+-- the paragraph whose history gets an entry
+abbrev pub history_grown : Command → Option ℕ
+history_grown (Table name text) = None
+history_grown (TypeIn anchor table text) = None
+history_grown (Correct id start count text who) = Some id
+history_grown (Undo id) = Some id
+history_grown (Mark id cell count note) = None
+history_grown (Resolve id) = None
+history_grown (Strike id) = None
+history_grown (Restore id) = None
+history_grown (Style id style) = None
+history_grown (Volume id begins) = None
+history_grown (Retable id table) = None
+history_grown (Move id anchor) = None
+
+-- whether it makes a new paragraph
+abbrev pub adds_paragraph : Command → Bool
+adds_paragraph (Table name text) = false
+adds_paragraph (TypeIn anchor table text) = true
+adds_paragraph (Correct id start count text who) = false
+adds_paragraph (Undo id) = false
+adds_paragraph (Mark id cell count note) = false
+adds_paragraph (Resolve id) = false
+adds_paragraph (Strike id) = false
+adds_paragraph (Restore id) = false
+adds_paragraph (Style id style) = false
+adds_paragraph (Volume id begins) = false
+adds_paragraph (Retable id table) = false
+adds_paragraph (Move id anchor) = false
+
+-- the paragraph that something is put after
+abbrev pub paragraph_before : Anchor → List ℕ
+paragraph_before Front = []
+paragraph_before End = []
+paragraph_before (Para id) = id ∷ []
+
+-- the paragraphs that it speaks of
+abbrev pub paragraphs_named : Command → List ℕ
+paragraphs_named (Table name text) = []
+paragraphs_named (TypeIn anchor table text) = paragraph_before anchor
+paragraphs_named (Correct id start count text who) = id ∷ []
+paragraphs_named (Undo id) = id ∷ []
+paragraphs_named (Mark id cell count note) = id ∷ []
+paragraphs_named (Resolve id) = []
+paragraphs_named (Strike id) = id ∷ []
+paragraphs_named (Restore id) = id ∷ []
+paragraphs_named (Style id style) = id ∷ []
+paragraphs_named (Volume id begins) = id ∷ []
+paragraphs_named (Retable id table) = id ∷ []
+paragraphs_named (Move id anchor) = id ∷ paragraph_before anchor
+
+-- the table that a paragraph is to use
+abbrev pub table_named : Command → Option (List ℕ)
+table_named (Table name text) = None
+table_named (TypeIn anchor table text) = Some table
+table_named (Correct id start count text who) = None
+table_named (Undo id) = None
+table_named (Mark id cell count note) = None
+table_named (Resolve id) = None
+table_named (Strike id) = None
+table_named (Restore id) = None
+table_named (Style id style) = None
+table_named (Volume id begins) = None
+table_named (Retable id table) = Some table
+table_named (Move id anchor) = None
+
+-- the paragraph that it can't act on while that is struck
+abbrev pub live_paragraph : Command → Option ℕ
+live_paragraph (Table name text) = None
+live_paragraph (TypeIn anchor table text) = None
+live_paragraph (Correct id start count text who) = Some id
+live_paragraph (Undo id) = Some id
+live_paragraph (Mark id cell count note) = Some id
+live_paragraph (Resolve id) = None
+live_paragraph (Strike id) = Some id
+live_paragraph (Restore id) = None
+live_paragraph (Style id style) = None
+live_paragraph (Volume id begins) = None
+live_paragraph (Retable id table) = Some id
+live_paragraph (Move id anchor) = None
+
+-- the paragraph that it can't act on unless that is struck
+abbrev pub struck_paragraph : Command → Option ℕ
+struck_paragraph (Table name text) = None
+struck_paragraph (TypeIn anchor table text) = None
+struck_paragraph (Correct id start count text who) = None
+struck_paragraph (Undo id) = None
+struck_paragraph (Mark id cell count note) = None
+struck_paragraph (Resolve id) = None
+struck_paragraph (Strike id) = None
+struck_paragraph (Restore id) = Some id
+struck_paragraph (Style id style) = None
+struck_paragraph (Volume id begins) = None
+struck_paragraph (Retable id table) = None
+struck_paragraph (Move id anchor) = None
+
+-- ---- the refusals, each by what makes it hold
+
+-- the book has another version than the one expected, and this is the book's
+pub record IsMoved (book : Book) (expect : Option ℕ) (version : ℕ) : Type 0 where
+  pub expected : ℕ
+  pub given : expect ≡ Some expected
+  pub other : expected ≢ book.version
+  pub told : version ≡ book.version
+
+-- the name of the table isn't one
+pub record IsBadName (command : Command) : Type 0 where
+  pub name : List ℕ
+  pub text : List ℕ
+  pub given : table_given command ≡ Some (name, text)
+  pub bad : ¬ IsTableName name
+
+-- the text, as it was given, has a barred character, first at this place
+pub record IsBadText (command : Command) (place : ℕ) : Type 0 where
+  pub text : List ℕ
+  pub given : text_given command ≡ Some text
+  pub first : IsFirstBarred text place
+
+-- the proofreader's name isn't one
+pub record IsBadReader (command : Command) : Type 0 where
+  pub name : List ℕ
+  pub given : proofreader_given command ≡ Some name
+  pub bad : ¬ IsProofreaderName name
+
+-- a paragraph that it names isn't there
+pub record LacksParagraph (book : Book) (command : Command) : Type 0 where
+  pub id : ℕ
+  pub named : Contains (paragraphs_named command) id
+  pub missing : paragraph_of book id ≡ None
+
+-- the table that a paragraph is to use isn't there
+pub record LacksTable (book : Book) (command : Command) : Type 0 where
+  pub name : List ℕ
+  pub named : table_named command ≡ Some name
+  pub missing : text_of book name ≡ None
+
+-- the mark that it speaks of isn't there
+pub record LacksMark (book : Book) (command : Command) : Type 0 where
+  pub id : ℕ
+  pub named : mark_named command ≡ Some id
+  pub missing : mark_of book id ≡ None
+
+-- the paragraph is struck, and must not be
+pub record IsStruck (book : Book) (command : Command) : Type 0 where
+  pub id : ℕ
+  pub paragraph : Paragraph
+  pub named : live_paragraph command ≡ Some id
+  pub found : paragraph_of book id ≡ Some paragraph
+  pub struck : paragraph.struck ≡ true
+
+-- the paragraph isn't struck, and must be
+pub record IsNotStruck (book : Book) (command : Command) : Type 0 where
+  pub id : ℕ
+  pub paragraph : Paragraph
+  pub named : struck_paragraph command ≡ Some id
+  pub found : paragraph_of book id ≡ Some paragraph
+  pub live : paragraph.struck ≡ false
+
+-- the mark is resolved already
+pub record IsResolved (book : Book) (command : Command) : Type 0 where
+  pub id : ℕ
+  pub mark : BookMark
+  pub named : mark_named command ≡ Some id
+  pub found : mark_of book id ≡ Some mark
+  pub resolved : mark.resolved ≡ true
+
+-- the book has the paragraph, whose print ends before this place
+pub record IsPastPrint (book : Book) (id end : ℕ) : Type 0 where
+  pub paragraph : Paragraph
+  pub found : paragraph_of book id ≡ Some paragraph
+  pub past : length (print_of paragraph) < end
+
+-- the places or cells that it names are not all there, or it marks no cell
+abbrev pub IsBadSpan : Book → Command → Type 0
+IsBadSpan book (Table name text) = ⊥
+IsBadSpan book (TypeIn anchor table text) = ⊥
+IsBadSpan book (Correct id start count text who) = IsPastPrint book id (start + count)
+IsBadSpan book (Undo id) = ⊥
+IsBadSpan book (Mark id cell count note) = LacksCells book id cell count
+IsBadSpan book (Resolve id) = ⊥
+IsBadSpan book (Strike id) = ⊥
+IsBadSpan book (Restore id) = ⊥
+IsBadSpan book (Style id style) = ⊥
+IsBadSpan book (Volume id begins) = ⊥
+IsBadSpan book (Retable id table) = ⊥
+IsBadSpan book (Move id anchor) = ⊥
+
+-- the book has the paragraph, no correction of which is in force
+pub record HasNoCorrection (book : Book) (id : ℕ) : Type 0 where
+  pub paragraph : Paragraph
+  pub found : paragraph_of book id ≡ Some paragraph
+  pub none : newest paragraph.history ≡ None
+
+-- it would take back a correction where none is in force
+abbrev pub HasNothingToUndo : Book → Command → Type 0
+HasNothingToUndo book (Table name text) = ⊥
+HasNothingToUndo book (TypeIn anchor table text) = ⊥
+HasNothingToUndo book (Correct id start count text who) = ⊥
+HasNothingToUndo book (Undo id) = HasNoCorrection book id
+HasNothingToUndo book (Mark id cell count note) = ⊥
+HasNothingToUndo book (Resolve id) = ⊥
+HasNothingToUndo book (Strike id) = ⊥
+HasNothingToUndo book (Restore id) = ⊥
+HasNothingToUndo book (Style id style) = ⊥
+HasNothingToUndo book (Volume id begins) = ⊥
+HasNothingToUndo book (Retable id table) = ⊥
+HasNothingToUndo book (Move id anchor) = ⊥
+
+-- the print that a paragraph would have by the command, where that changes one
+abbrev pub new_print : Book → Command → Option (List ℕ)
+new_print book (Table name text) = None
+new_print book (TypeIn anchor table text) = Some (stored text)
+new_print book (Correct id start count text who) = option_map (λ paragraph. replaced (print_of paragraph) (replacement_by start count text)) (paragraph_of book id)
+new_print book (Undo id) = option_and_then print_undone (paragraph_of book id)
+new_print book (Mark id cell count note) = None
+new_print book (Resolve id) = None
+new_print book (Strike id) = None
+new_print book (Restore id) = None
+new_print book (Style id style) = None
+new_print book (Volume id begins) = None
+new_print book (Retable id table) = None
+new_print book (Move id anchor) = None
+
+-- that print is over its limit
+pub record HasLongPrint (book : Book) (command : Command) : Type 0 where
+  pub print : List ℕ
+  pub made : new_print book command ≡ Some print
+  pub long : most_print < length print
+
+-- a text, as it is stored, is over the limit of a print
+pub record HasLongText (command : Command) : Type 0 where
+  pub text : List ℕ
+  pub given : text_stored command ≡ Some text
+  pub long : most_print < length text
+
+-- the note is over its limit
+pub record HasLongNote (command : Command) : Type 0 where
+  pub note : List ℕ
+  pub given : note_given command ≡ Some note
+  pub long : most_note < length note
+
+-- the text as it is stored, the new print or the note is over its limit
+abbrev pub IsTooLong : Book → Command → Type 0
+IsTooLong book command = HasLongText command ⊎ (HasLongPrint book command ⊎ HasLongNote command)
+
+-- a new table comes to a book that has all it may have
+pub record IsFullOfTables (book : Book) (command : Command) : Type 0 where
+  pub name : List ℕ
+  pub text : List ℕ
+  pub given : table_given command ≡ Some (name, text)
+  pub new : text_of book name ≡ None
+  pub full : most_tables ≤ length book.tables
+
+-- a new paragraph comes to a book that has all it may have
+pub record IsFullOfParagraphs (book : Book) (command : Command) : Type 0 where
+  pub adds : adds_paragraph command ≡ true
+  pub full : most_paragraphs ≤ length book.paragraphs
+
+-- a history that has all the entries it may have would get one
+pub record IsFullOfEntries (book : Book) (command : Command) : Type 0 where
+  pub id : ℕ
+  pub paragraph : Paragraph
+  pub grows : history_grown command ≡ Some id
+  pub found : paragraph_of book id ≡ Some paragraph
+  pub full : most_entries ≤ length paragraph.history
+
+-- a new mark comes to a book that has all it may have
+pub record IsFullOfMarks (book : Book) (command : Command) : Type 0 where
+  pub note : List ℕ
+  pub given : note_given command ≡ Some note
+  pub full : most_marks ≤ length book.marks
+
+-- the command would add to what is at its limit
+abbrev pub IsFull : Book → Command → Limit → Type 0
+IsFull book command Tables = IsFullOfTables book command
+IsFull book command Paragraphs = IsFullOfParagraphs book command
+IsFull book command Entries = IsFullOfEntries book command
+IsFull book command Marks = IsFullOfMarks book command
+IsFull book command Version = most_version ≤ book.version
+
+-- the text of the table is bad
+pub record IsBadTable (command : Command) (fault : TableFault) : Type 0 where
+  pub name : List ℕ
+  pub text : List ℕ
+  pub given : table_given command ≡ Some (name, text)
+  pub bad : Bad text fault.line fault.cause
+
+-- the print that a paragraph would have, and the name of the table that it would use, where the command changes one
+abbrev pub print_to_translate : Book → Command → Option (List ℕ × List ℕ)
+print_to_translate book (Table name text) = None
+print_to_translate book (TypeIn anchor table text) = Some (stored text, table)
+print_to_translate book (Correct id start count text who) =
+    option_map (λ paragraph. (replaced (print_of paragraph) (replacement_by start count text), paragraph.table)) (paragraph_of book id)
+print_to_translate book (Undo id) =
+    option_and_then (λ paragraph. option_map (λ print. (print, paragraph.table)) (print_undone paragraph)) (paragraph_of book id)
+print_to_translate book (Mark id cell count note) = None
+print_to_translate book (Resolve id) = None
+print_to_translate book (Strike id) = None
+print_to_translate book (Restore id) = None
+print_to_translate book (Style id style) = None
+print_to_translate book (Volume id begins) = None
+print_to_translate book (Retable id table) = option_map (λ paragraph. (print_of paragraph, table)) (paragraph_of book id)
+print_to_translate book (Move id anchor) = None
+
+-- the table doesn't define that print, first at this place
+pub record IsUndefined (book : Book) (command : Command) (place : ℕ) : Type 0 where
+  pub print : List ℕ
+  pub name : List ℕ
+  pub print_is : print_to_translate book command ≡ Some (print, name)
+  pub text : List ℕ
+  pub meaning : Meaning
+  pub found : text_of book name ≡ Some text
+  pub means : Means text meaning
+  pub first : IsFirstUndefined meaning print place
+
+-- the table with this name, by this meaning, defines the paragraph's print, if the paragraph uses the table
+abbrev pub DefinesUser : Meaning → List ℕ → Paragraph → Type 0
+DefinesUser meaning name paragraph = paragraph.table ≡ name → AreDefined meaning (print_of paragraph)
+
+-- by its new text the table doesn't define the print of a paragraph that uses it, which none does with a table that isn't
+-- there yet: the first such paragraph, and the first place
+pub record IsUntranslatable (book : Book) (command : Command) (id place : ℕ) : Type 0 where
+  pub name : List ℕ
+  pub text : List ℕ
+  pub given : table_given command ≡ Some (name, text)
+  pub meaning : Meaning
+  pub means : Means text meaning
+  pub before : List Paragraph
+  pub paragraph : Paragraph
+  pub after : List Paragraph
+  pub parts : book.paragraphs ≡ before ++ paragraph ∷ after
+  pub uses : paragraph.table ≡ name
+  pub told : id ≡ paragraph.id
+  pub first : IsFirstUndefined meaning (print_of paragraph) place
+  pub others : All (λ other. other.table ≡ name → AreDefined meaning (print_of other)) before
+
+-- ---- which is told
+
+-- the refusal holds of the command
+abbrev pub Holds : Book → Option ℕ → Command → Refusal → Type 0
+Holds book expect command (Moved version) = IsMoved book expect version
+Holds book expect command BadName = IsBadName command
+Holds book expect command BadReader = IsBadReader command
+Holds book expect command (BadText place) = IsBadText command place
+Holds book expect command NoParagraph = LacksParagraph book command
+Holds book expect command NoTable = LacksTable book command
+Holds book expect command NoMark = LacksMark book command
+Holds book expect command Struck = IsStruck book command
+Holds book expect command NotStruck = IsNotStruck book command
+Holds book expect command Resolved = IsResolved book command
+Holds book expect command BadSpan = IsBadSpan book command
+Holds book expect command NothingToUndo = HasNothingToUndo book command
+Holds book expect command TooLong = IsTooLong book command
+Holds book expect command (Full limit) = IsFull book command limit
+Holds book expect command (BadTable fault) = IsBadTable command fault
+Holds book expect command (Undefined place) = IsUndefined book command place
+Holds book expect command (Untranslatable id place) = IsUntranslatable book command id place
+Holds book expect command NoMemory = ⊥
+
+-- the order in which refusals are told, with gaps for others
+abbrev pub turn : Refusal → ℕ
+turn (Moved version) = 0
+turn BadName = 10
+turn BadReader = 15
+turn (BadText place) = 20
+turn NoParagraph = 30
+turn NoTable = 40
+turn NoMark = 50
+turn Struck = 60
+turn NotStruck = 70
+turn Resolved = 80
+turn BadSpan = 90
+turn NothingToUndo = 100
+turn TooLong = 110
+turn (Full limit) = 110 + 10 * limit_number limit
+turn (BadTable fault) = 170
+turn (Undefined place) = 180
+turn (Untranslatable id place) = 190
+turn NoMemory = 200
+
+-- the refusal is the first that holds
+pub record IsRefused (book : Book) (expect : Option ℕ) (command : Command) (refusal : Refusal) : Type 0 where
+  pub holds : Holds book expect command refusal
+  pub first : (other : Refusal) → Holds book expect command other → turn refusal ≤ turn other
+
+-- no refusal holds
+abbrev pub IsAccepted : Book → Option ℕ → Command → Type 0
+IsAccepted book expect command = (refusal : Refusal) → ¬ Holds book expect command refusal

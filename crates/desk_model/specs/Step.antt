@@ -1,0 +1,176 @@
+-- What an accepted command makes of a book.
+use Rattle.std.specs.Prelude.{◌≡◌, ℕ, ◌+◌, ◌==◌, Bool, true, false, not, if◌then◌else◌, List, [], ◌∷◌, ◌++◌, length, map, Option, Some, None, option_map}
+use Rattle.std.specs.Ordering.{nat_cmp}
+use Rattle.std.specs.List.{filter, flat_map}
+use Rattle.std.specs.Cmp.Lexicographic.{slice_cmp}
+use Rattle.std.specs.FinMap.Entries.{put}
+use Rattle.std.specs.Option.{option_map_or}
+use Rattle.desk_command.specs.declared.command.Anchor.{Anchor}
+use Rattle.desk_command.specs.declared.command.Anchor.TheVariants.{Front, End, Para}
+use Rattle.desk_command.specs.declared.command.Command.{Command}
+use Rattle.desk_command.specs.declared.command.Command.TheVariants.{Table, TypeIn, Correct, Undo, Mark, Resolve, Strike, Restore, Style, Volume, Retable, Move}
+use Rattle.desk_command.specs.declared.style.Style.TheVariants.{Body}
+use Rattle.desk_model.specs.Book.{Replacement, Entry, Corrects, Undoes, Book, Paragraph, Mark as BookMark, paragraph_of}
+use Rattle.desk_model.specs.Marks.{mark_moved, mark_moved_back}
+use Rattle.desk_model.specs.Print.{newest, with_entry}
+use Rattle.desk_model.specs.Stored.{stored}
+use Rattle.desk_command.specs.Characters.{AreCharacters}
+use Rattle.desk_model.specs.Translated.{AreMarked}
+
+-- the paragraphs with this one more, put where the command says
+abbrev pub with_paragraph : Anchor → Paragraph → List Paragraph → List Paragraph
+with_paragraph Front new paragraphs = new ∷ paragraphs
+with_paragraph End new paragraphs = paragraphs ++ new ∷ []
+with_paragraph (Para id) new paragraphs =
+    flat_map (λ paragraph. if paragraph.id == id then paragraph ∷ new ∷ [] else paragraph ∷ []) paragraphs
+
+-- the paragraphs without the one with this id
+abbrev pub without_paragraph : ℕ → List Paragraph → List Paragraph
+without_paragraph id paragraphs = filter (λ paragraph. not (paragraph.id == id)) paragraphs
+
+-- the paragraphs with a change of the one with this id
+abbrev pub with_change : ℕ → (Paragraph → Paragraph) → List Paragraph → List Paragraph
+with_change id change paragraphs = map (λ paragraph. if paragraph.id == id then change paragraph else paragraph) paragraphs
+
+-- a paragraph that was just typed
+abbrev pub typed : ℕ → List ℕ → List ℕ → Paragraph
+typed id table text = record {
+  id = id;
+  table = table;
+  original = stored text;
+  history = [];
+  style = Body;
+  begins_volume = false;
+  struck = false;
+}
+
+-- whether something is put after the paragraph with this id
+abbrev pub is_after : ℕ → Anchor → Bool
+is_after id Front = false
+is_after id End = false
+is_after id (Para other) = other == id
+
+-- the paragraphs with the one with this id taken out and put elsewhere; after itself it stays
+abbrev pub with_move : ℕ → Anchor → Book → List Paragraph
+with_move id anchor book =
+    if is_after id anchor then book.paragraphs
+    else option_map_or (λ paragraph. with_paragraph anchor paragraph (without_paragraph id book.paragraphs)) (paragraph_of book id) book.paragraphs
+
+-- the id of the next paragraph
+abbrev pub next_id : Book → ℕ
+next_id book = length book.paragraphs + 1
+
+-- the book at its next version, with these tables, or with these paragraphs
+abbrev pub next_with_tables : Book → List (List ℕ × List ℕ) → Book
+next_with_tables book tables = record book { version = book.version + 1; tables = tables }
+
+abbrev pub next_with_paragraphs : Book → List Paragraph → Book
+next_with_paragraphs book paragraphs = record book { version = book.version + 1; paragraphs = paragraphs }
+
+abbrev pub next_with_marks : Book → List BookMark → Book
+next_with_marks book marks = record book { version = book.version + 1; marks = marks }
+
+-- ---- corrections and marks
+
+-- so many characters from a place on become the text as it is stored
+abbrev pub replacement_by : (start count : ℕ) → List ℕ → Replacement
+replacement_by start count text = record { start = start; count = count; text = stored text }
+
+-- the mark, moved if it is on the paragraph with this id
+abbrev pub moved_on : ℕ → (BookMark → BookMark) → BookMark → BookMark
+moved_on id move mark = if mark.paragraph == id then move mark else mark
+
+-- the marks, those of the paragraph with this id moved
+abbrev pub with_marks_moved : ℕ → (BookMark → BookMark) → List BookMark → List BookMark
+with_marks_moved id move marks = map (moved_on id move) marks
+
+-- the book at its next version with one entry more in the history of the paragraph with this id, whose marks move
+abbrev pub next_with_entry : Book → ℕ → Entry → (BookMark → BookMark) → Book
+next_with_entry book id entry move = record book {
+  version = book.version + 1;
+  paragraphs = with_change id (with_entry entry) book.paragraphs;
+  marks = with_marks_moved id move book.marks;
+}
+
+-- of the corrections in force of the paragraph with this id, this is the newest, with its number
+pub record IsNewest (book : Book) (id number : ℕ) (correction : Replacement) : Type 0 where
+  pub paragraph : Paragraph
+  pub found : paragraph_of book id ≡ Some paragraph
+  pub newest_is : newest paragraph.history ≡ Some (number, correction)
+
+-- the id of the next mark
+abbrev pub next_mark : Book → ℕ
+next_mark book = length book.marks + 1
+
+-- a mark that was just put on places of a print
+abbrev pub new_mark : (id paragraph start end : ℕ) → List ℕ → BookMark
+new_mark id paragraph start end note = record {
+  id = id;
+  paragraph = paragraph;
+  start = start;
+  end = end;
+  note = note;
+  touched = false;
+  resolved = false;
+}
+
+-- the mark, resolved if it has this id
+abbrev pub resolved_by : ℕ → BookMark → BookMark
+resolved_by id mark = if mark.id == id then record mark { resolved = true } else mark
+
+-- the marks with the one with this id resolved
+abbrev pub with_resolved : ℕ → List BookMark → List BookMark
+with_resolved id marks = map (resolved_by id) marks
+
+-- ---- each command
+
+-- the command, where it is accepted, makes the next book of this one
+abbrev pub Makes : Book → Command → Book → Type 0
+Makes book (Table name text) next = next ≡ next_with_tables book (put (slice_cmp nat_cmp) name text book.tables)
+Makes book (TypeIn anchor table text) next =
+    next ≡ next_with_paragraphs book (with_paragraph anchor (typed (next_id book) table text) book.paragraphs)
+Makes book (Correct id start count text who) next =
+    let r = replacement_by start count text in next ≡ next_with_entry book id (Corrects r who) (mark_moved r)
+Makes book (Undo id) next =
+    (n : ℕ) × (r : Replacement) × IsNewest book id n r × (next ≡ next_with_entry book id (Undoes n) (mark_moved_back r))
+Makes book (Mark id cell count note) next =
+    (start : ℕ) × (end : ℕ) × AreMarked book id cell count start end
+    × (next ≡ next_with_marks book (book.marks ++ new_mark (next_mark book) id start end note ∷ []))
+Makes book (Resolve id) next = next ≡ next_with_marks book (with_resolved id book.marks)
+Makes book (Strike id) next = next ≡ next_with_paragraphs book (with_change id (λ p. record p { struck = true }) book.paragraphs)
+Makes book (Restore id) next = next ≡ next_with_paragraphs book (with_change id (λ p. record p { struck = false }) book.paragraphs)
+Makes book (Style id style) next = next ≡ next_with_paragraphs book (with_change id (λ p. record p { style = style }) book.paragraphs)
+Makes book (Volume id begins) next =
+    next ≡ next_with_paragraphs book (with_change id (λ p. record p { begins_volume = begins }) book.paragraphs)
+Makes book (Retable id table) next = next ≡ next_with_paragraphs book (with_change id (λ p. record p { table = table }) book.paragraphs)
+Makes book (Move id anchor) next = next ≡ next_with_paragraphs book (with_move id anchor book)
+
+-- the number that is answered: a new paragraph's or mark's id, or the number of a new entry of a history
+abbrev pub number_of : Book → Command → Option ℕ
+number_of book (Table name text) = None
+number_of book (TypeIn anchor table text) = Some (next_id book)
+number_of book (Correct id start count text who) = option_map (λ paragraph. length paragraph.history + 1) (paragraph_of book id)
+number_of book (Undo id) = option_map (λ paragraph. length paragraph.history + 1) (paragraph_of book id)
+number_of book (Mark id cell count note) = Some (next_mark book)
+number_of book (Resolve id) = None
+number_of book (Strike id) = None
+number_of book (Restore id) = None
+number_of book (Style id style) = None
+number_of book (Volume id begins) = None
+number_of book (Retable id table) = None
+number_of book (Move id anchor) = None
+
+-- each text that the command puts into the book is of characters
+abbrev pub HasCharacters : Command → Type 0
+HasCharacters (Table name text) = Unit {0}
+HasCharacters (TypeIn anchor table text) = AreCharacters (stored text)
+HasCharacters (Correct id start count text who) = AreCharacters (stored text) × AreCharacters who
+HasCharacters (Undo id) = Unit {0}
+HasCharacters (Mark id cell count note) = AreCharacters note
+HasCharacters (Resolve id) = Unit {0}
+HasCharacters (Strike id) = Unit {0}
+HasCharacters (Restore id) = Unit {0}
+HasCharacters (Style id style) = Unit {0}
+HasCharacters (Volume id begins) = Unit {0}
+HasCharacters (Retable id table) = Unit {0}
+HasCharacters (Move id anchor) = Unit {0}

@@ -1,0 +1,34 @@
+//! Why rows show no book.
+ghost use Rattle.std.specs.Prelude.{◌≡◌};
+
+use desk_parts::FileTable;
+use std::alloc::AllocError;
+use thiserror::Error;
+
+/// Why no book was made of parts.
+#[derive(Clone, Copy, Debug, PartialEq, Eq, Error)]
+pub enum PartsFault {
+    /// The rows show no book.
+    #[error("the rows show no book")]
+    Damaged {
+        /// The first damaged table, in the order `book`, `tab`, `para`, `corr` or `corr2`, `mark`, `cache`.
+        table: FileTable,
+        /// The smallest id of the damage in it: in `book` 1, in `tab` the number of the row in order of names, in `mark`
+        /// the mark, and else the paragraph.
+        id: i64,
+    },
+    /// An allocation was refused.
+    #[error("out of memory")]
+    NoMemory,
+}
+
+impl From<AllocError> for PartsFault {
+    ghost use Rattle.desk_model.specs.declared.fault.PartsFault.{PartsFault};
+    ghost use Rattle.desk_model.specs.declared.fault.PartsFault.TheVariants.{NoMemory};
+
+    ghost from_gives = { λ _ fault. fault ≡ NoMemory };
+
+    fn from(_: AllocError) -> Self {
+        PartsFault::NoMemory
+    }
+}

@@ -1,0 +1,12 @@
+//! The tables that a file of an older form lacks.
+
+/// Which new tables of a file a book fills.
+#[derive(Clone, Copy, Debug, PartialEq, Eq)]
+pub enum NewTables {
+    /// That of the entries of all histories, with which the file gets the second format, and that of the braille.
+    EntriesAndBraille,
+    /// That of the entries of all histories, with which the file gets the second format.
+    Entries,
+    /// That of the braille.
+    Braille,
+}
