@@ -10,7 +10,7 @@
 //! let request = read_request(alloc, b"type end en Hello\n")?;
 //! ```
 //!
-//! `desk_book` says what a request does to a book; `desk_session` reads requests from an input and sends their replies, through the
+//! `desk_model` says what a request does to a book; `desk_session` reads requests from an input and sends their replies, through the
 //! ends of `desk_ends`.
 #![tactic(auto)]
 

@@ -9,7 +9,7 @@
 //! let (ended, book) = serve(alloc, &mut source, &mut sink, &mut store, book);
 //! ```
 //!
-//! What requests and replies are is `desk_line`'s, what commands do to a book `desk_book`'s, and the file `desk_store`'s.
+//! What requests and replies are is `desk_line`'s, what commands do to a book `desk_model`'s, and the file `desk_store`'s.
 #![tactic(auto)]
 
 pub mod found;
