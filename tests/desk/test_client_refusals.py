@@ -58,7 +58,7 @@ def test_each_limit_of_the_formats_has_a_sentence() -> None:
 
 
 def test_each_table_of_a_file_has_words() -> None:
-    parts = numbers_of_rows("| number | table | damaged where | id |\n")
+    parts = numbers_of_rows("| number | table | damaged if | id |\n")
     assert parts | {1} == set(range(1, 8)) == set(PARTS)
 
 
