@@ -1,6 +1,6 @@
--- What is wrong with rows that show no book, and which of it is told: the first damaged table, and in it the smallest id.
+-- What is wrong with rows that show no book, and which of it is reported: the first damaged table, and in it the smallest id.
 -- All of this is meant of rows whose texts are UTF-8 and whose tables are those of their format; of others another fault is
--- told before. A table's damage is meant where those that are judged before it are sound.
+-- reported before. A table's damage is meant if those that are checked before it are sound.
 use Rattle.std.specs.Prelude.{◌≡◌, ◌≢◌, ◌⊎◌, ℕ, ◌+◌, ◌<◌, ◌≤◌, ℤ, pos, ◌+ℤ◌, ◌≤ℤ◌, nat_abs, if◌then◌else◌, List, [], ◌∷◌, map, filter, length, take, slice_get, option_map, Some}
 use Rattle.std.specs.List.{Contains}
 use Rattle.std.specs.List.Sorted.{IsPermutation, IsSortedBy}
@@ -110,13 +110,13 @@ HasPara paras id = (row : ParaRow) × Contains paras row × (row.id ≡ id)
 
 -- ---- corr, corr2
 
--- what a row tells of: an undo where its kind is 1, and else a correction
+-- what a row stands for: an undo if its kind is 1, and otherwise a correction
 abbrev pub entry_of : EntryRow → Entry
 entry_of row =
     if int_eq row.entry.kind (pos 1) then Undoes (nat_abs row.entry.start)
     else Corrects (record { start = nat_abs row.entry.start; count = nat_abs row.entry.len; text = chars row.entry.body }) (chars row.who)
 
--- what rows tell of
+-- what rows stand for
 abbrev pub history_of : List EntryRow → List Entry
 history_of rows = map entry_of rows
 
@@ -139,7 +139,7 @@ pub record IsSoundUndo (before : List Entry) (row : EntryRow) : Type 0 where
   pub body : row.entry.body ≡ []
   pub who : row.who ≡ []
 
--- the row with this index, from 0, has the next number, and what it tells of fits what those before it leave; the print
+-- the row with this index, from 0, has the next number, and what it stands for fits what those before it leave; the print
 -- after it is within its limit
 pub record IsSoundEntryRow (original : List ℕ) (sorted : List EntryRow) (index : ℕ) (row : EntryRow) : Type 0 where
   pub number : row.entry.seq ≡ pos (index + 1)
@@ -203,7 +203,7 @@ IsDamagedCache tabs paras caches id =
     ((row : CacheRow) × Contains caches row × (row.para ≡ id) × ¬ IsSoundCacheRow tabs paras caches row)
     ⊎ (HasPara paras id × (rows_with (λ row. row.para) id caches ≡ 0))
 
--- ---- what is told
+-- ---- what is reported
 
 -- the table has damage at this id; `cache` only where it is there, and of `corr` and `corr2` the one that is read
 abbrev pub IsDamaged : FileRows → FileTable → ℤ → Type 0
@@ -215,7 +215,7 @@ IsDamaged rows NamedCorr id = (table_of rows.entries ≡ NamedCorr) × IsDamaged
 IsDamaged rows Mark id = IsDamagedMark rows.paras rows.marks id
 IsDamaged rows Cache id = (caches : List CacheRow) × (rows.caches ≡ Some caches) × IsDamagedCache rows.tabs rows.paras caches id
 
--- the turn in which a table is judged: `corr2` in that of `corr`
+-- the turn in which a table is checked: `corr2` in that of `corr`
 abbrev pub table_turn : FileTable → ℕ
 table_turn Book = 1
 table_turn Tab = 2
@@ -225,7 +225,7 @@ table_turn NamedCorr = 4
 table_turn Mark = 5
 table_turn Cache = 6
 
--- no table that is judged before this one is damaged, and this one at no smaller id
+-- no table that is checked before this one is damaged, and this one at no smaller id
 pub record IsFirstDamage (rows : FileRows) (table : FileTable) (id : ℤ) : Type 0 where
   pub damaged : IsDamaged rows table id
   pub tables : (other : FileTable) (n : ℤ) → IsDamaged rows other n → table_turn table ≤ table_turn other

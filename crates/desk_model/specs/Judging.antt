@@ -1,4 +1,4 @@
--- The judging of a command, one turn after the other.
+-- The checks of a command, one turn after the other.
 use Rattle.std.specs.Prelude.{◌≡◌, ℕ, ◌≤◌, Option, Some, None}
 use Rattle.desk_command.specs.declared.command.Command.{Command}
 use Rattle.desk_command.specs.declared.command.Command.TheVariants.{Table, TypeIn, Correct, Undo, Mark, Resolve, Strike, Restore, Style, Volume, Retable, Move}
@@ -6,11 +6,11 @@ use Rattle.desk_command.specs.declared.refusal.Refusal.{Refusal}
 use Rattle.desk_model.specs.Book.{Book}
 use Rattle.desk_model.specs.Refusals.{Holds, turn}
 
--- no refusal that is told before turn n holds
+-- no refusal that comes before turn n holds
 abbrev pub Passes : Book → Option ℕ → Command → ℕ → Type 0
 Passes book expect command n = (other : Refusal) → Holds book expect command other → n ≤ turn other
 
--- the first turn that is judged after a command has asked for memory, if it asks for any: the text of a table is judged
+-- the first turn that is checked after a command has allocated, if it allocates: the text of a table is checked
 -- while it is read, a typed text after it is made, of an undo the print alone, and nothing after a new mark, the braille by
 -- another table and a new order
 abbrev pub first_turn_after_asking : Command → Option ℕ
@@ -27,7 +27,7 @@ first_turn_after_asking (Volume id begins) = None
 first_turn_after_asking (Retable id table) = Some 200
 first_turn_after_asking (Move id anchor) = Some 200
 
--- the command may have been stopped by want of memory: it asks for some, and no refusal holds that is judged before
+-- an allocation for the command may have failed: it allocates, and no refusal holds that is checked before
 pub record MayLackMemory (book : Book) (expect : Option ℕ) (command : Command) : Type 0 where
   pub from : ℕ
   pub asks : first_turn_after_asking command ≡ Some from

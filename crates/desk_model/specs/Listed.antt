@@ -5,7 +5,7 @@ use Rattle.desk_model.specs.declared.listed.Listed.{Listed}
 use Rattle.desk_model.specs.Book.{Paragraph}
 use Rattle.desk_model.specs.Print.{print_of}
 
--- the item tells of this paragraph
+-- the item shows this paragraph
 pub record IsListed (paragraph : Paragraph) (item : Listed) : Type 0 where
   pub id : item.id ≡ paragraph.id
   pub table : chars item.table.now ≡ paragraph.table
@@ -14,7 +14,7 @@ pub record IsListed (paragraph : Paragraph) (item : Listed) : Type 0 where
   pub struck : item.struck ≡ paragraph.struck
   pub length_is : item.length ≡ length (print_of paragraph)
 
--- the item tells of the first of the paragraphs, and the others are left; or there is none, and no item
+-- the item shows the first of the paragraphs, and the others are left; or there is none, and no item
 abbrev pub ListsFirst : List Paragraph → Option Listed → List Paragraph → Type 0
 ListsFirst paragraphs item left =
     MatchOption item ((paragraphs ≡ []) × (left ≡ [])) (λ told. (first : Paragraph) × (paragraphs ≡ first ∷ left) × IsListed first told)

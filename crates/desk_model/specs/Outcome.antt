@@ -6,7 +6,7 @@ use Rattle.desk_model.specs.Book.{Book}
 use Rattle.desk_model.specs.Refusals.{IsAccepted, IsRefused}
 use Rattle.desk_model.specs.Step.{Makes}
 
--- just one refusal is told of the command
+-- just one refusal is reported of the command
 pub record HasOneRefusal (book : Book) (expect : Option ℕ) (command : Command) : Type 0 where
   pub refusal : Refusal
   pub told : IsRefused book expect command refusal

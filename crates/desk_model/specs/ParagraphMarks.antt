@@ -9,7 +9,7 @@ use Rattle.desk_model.specs.Book.{Mark}
 abbrev pub marks_on : ℕ → List Mark → List Mark
 marks_on id marks = filter (λ mark. mark.paragraph == id) marks
 
--- the item tells of this mark
+-- the item shows this mark
 pub record TellsOf (mark : Mark) (item : MarkItem) : Type 0 where
   pub id : item.id ≡ mark.id
   pub start : item.start ≡ mark.start
@@ -18,7 +18,7 @@ pub record TellsOf (mark : Mark) (item : MarkItem) : Type 0 where
   pub touched : item.touched ≡ mark.touched
   pub note : chars item.note.now ≡ mark.note
 
--- the item tells of the first of the marks, and the others are left; or there is none, and no item
+-- the item shows the first of the marks, and the others are left; or there is none, and no item
 abbrev pub TellsFirst : List Mark → Option MarkItem → List Mark → Type 0
 TellsFirst marks item left =
     MatchOption item ((marks ≡ []) × (left ≡ [])) (λ told. (first : Mark) × (marks ≡ first ∷ left) × TellsOf first told)

@@ -1,4 +1,4 @@
--- When a command is refused, and with which refusal. Only the first that holds is told.
+-- When a command is refused, and with which refusal. Only the first that holds is reported.
 use Rattle.std.specs.Prelude.{◌≡◌, ◌≢◌, ℕ, ◌⊎◌, ◌+◌, ◌*◌, ◌<◌, ◌≤◌, Bool, true, false, List, [], ◌∷◌, ◌++◌, length, Option, Some, None, option_map}
 use Rattle.std.specs.List.{All, Contains}
 use Rattle.std.specs.Option.{option_and_then}
@@ -451,7 +451,7 @@ pub record IsUntranslatable (book : Book) (command : Command) (id place : ℕ) :
   pub first : IsFirstUndefined meaning (print_of paragraph) place
   pub others : All (λ other. other.table ≡ name → AreDefined meaning (print_of other)) before
 
--- ---- which is told
+-- ---- which is reported
 
 -- the refusal holds of the command
 abbrev pub Holds : Book → Option ℕ → Command → Refusal → Type 0
@@ -474,7 +474,7 @@ Holds book expect command (Undefined place) = IsUndefined book command place
 Holds book expect command (Untranslatable id place) = IsUntranslatable book command id place
 Holds book expect command NoMemory = ⊥
 
--- the order in which refusals are told, with gaps for others
+-- the order in which refusals are reported, with gaps for others
 abbrev pub turn : Refusal → ℕ
 turn (Moved version) = 0
 turn BadName = 10

@@ -14,7 +14,7 @@ TellsOf (Corrects r who) (TookBack m) = ⊥
 TellsOf (Undoes n) (Corrected start count text name) = ⊥
 TellsOf (Undoes n) (TookBack m) = m ≡ n
 
--- the item tells of the first of the entries, and the others are left; or there is none, and no item
+-- the item shows the first of the entries, and the others are left; or there is none, and no item
 abbrev pub TellsFirst : List (ℕ × Entry) → Option HistoryItem → List (ℕ × Entry) → Type 0
 TellsFirst entries item left =
     MatchOption item ((entries ≡ []) × (left ≡ []))

@@ -17,7 +17,7 @@ pub enum PartsFault {
         /// the mark, and else the paragraph.
         id: i64,
     },
-    /// An allocation was refused.
+    /// An allocation failed.
     #[error("out of memory")]
     NoMemory,
 }

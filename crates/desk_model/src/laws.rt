@@ -26,8 +26,8 @@ pub fn histories_in_parts()
         → After book (u ++ v) last ↔ ((middle : Book) × After book u middle × After middle v last) }
 {}
 
-/// A command on a sound book, whatever version is expected, has one outcome: either just one refusal is told of it, or none
-/// holds and it makes just one book. Want of memory is none of these refusals. So commands make at most one book.
+/// A command on a sound book, whatever version is expected, has one outcome: either just one refusal is reported, or none
+/// holds and it makes just one book. A failed allocation is none of these refusals. So commands make at most one book.
 pub fn one_outcome()
     ensures command { (book : Book) (expect : Option ℕ) (command : Command) → IsSound book
         → HasOneOutcome book expect command }

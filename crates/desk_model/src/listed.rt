@@ -1,7 +1,7 @@
-//! What the list of a book tells of a paragraph.
+//! What the list of a book shows of a paragraph.
 use desk_command::Style;
 
-/// What the list of a book tells of a paragraph.
+/// What the list of a book shows of a paragraph.
 #[derive(Clone, Copy, Debug)]
 pub struct Listed<'a> {
     /// Its id.

@@ -1,4 +1,4 @@
-//! What a book tells of a mark.
+//! What a book shows of a mark.
 
 /// A mark of a paragraph.
 #[derive(Clone, Copy, Debug)]

@@ -1,4 +1,4 @@
-//! The tables that a file of an older form lacks.
+//! The tables that a file may lack, and gets when it is opened.
 
 /// Which new tables of a file a book fills.
 #[derive(Clone, Copy, Debug, PartialEq, Eq)]

@@ -1,4 +1,4 @@
-//! What a book tells of an entry of a paragraph's history.
+//! What a book shows of an entry of a paragraph's history.
 
 /// What an entry of a history did.
 #[derive(Clone, Copy, Debug)]

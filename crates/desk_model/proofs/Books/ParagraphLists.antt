@@ -173,7 +173,7 @@ put-behind id new (p ∷ ps) apart c =
       ]
     ]
 
--- a new paragraph is put among the others wherever the command says, if it is put behind one that is there
+-- a new paragraph is put among the others wherever the command says, if it is put after one that is there
 pub IsPermutation-with_paragraph : (anchor : Anchor) (new : Paragraph) (ps : List Paragraph) → AreApart ps → ((id : ℕ) → Contains (paragraph_before anchor) id → Contains (ids_of ps) id) → IsPermutation (new ∷ ps) (with_paragraph anchor new ps)
 IsPermutation-with_paragraph Front new ps apart there = IsPermutation-refl (new ∷ ps)
 IsPermutation-with_paragraph End new ps apart there = IsPermutation-sym (ps ++ new ∷ []) (new ∷ ps) (IsPermutation-to_front ps new)
@@ -213,7 +213,7 @@ module _ (anchor : Anchor) (new : Paragraph) (ps : List Paragraph) (apart : AreA
 
 -- ---- a paragraph moved
 
--- what a paragraph is to stand behind is among the others
+-- what a paragraph is to stand after is among the others
 behind_others : (id : ℕ) (anchor : Anchor) (p : Paragraph) (ps : List Paragraph) → AreApart ps → found id ps ≡ Some p → is_after id anchor ≡ false
     → ((other : ℕ) → Contains (paragraph_before anchor) other → (q : Paragraph) × (found other ps ≡ Some q))
     → (other : ℕ) → Contains (paragraph_before anchor) other → Contains (ids_of (without_paragraph id ps)) other
@@ -231,7 +231,7 @@ behind_others id (Para place) p ps apart e elsewhere there other c =
       ]
     ]
 
--- a paragraph that is moved behind one that is there, or to an end, changes its place alone
+-- a paragraph that is moved after one that is there, or to an end, changes its place alone
 pub IsPermutation-with_move : (book : Book) (id : ℕ) (anchor : Anchor) (p : Paragraph) → AreApart book.paragraphs → paragraph_of book id ≡ Some p
     → ((other : ℕ) → Contains (paragraph_before anchor) other → (q : Paragraph) × (paragraph_of book other ≡ Some q))
     → IsPermutation book.paragraphs (with_move id anchor book)

@@ -12,7 +12,7 @@ use Rattle.desk_model.specs.Step.{Makes}
 pub moved : (book : Book) (expect : Option ℕ) (command : Command) (version : ℕ) → IsMoved book expect version → IsRefused book expect command (Moved version)
 moved book expect command version is = record { holds = is; first = λ other h. omega arith }
 
--- where the book has the expected version, a command is judged as without one
+-- if the book has the expected version, a command is checked as without one
 module _ (book : Book) (expect : Option ℕ) (command : Command) (same : (version : ℕ) → ¬ IsMoved book expect version) where
   holds-unexpected : (refusal : Refusal) → Holds book expect command refusal → Holds book None command refusal
   holds-unexpected (Moved version) h = absurd (same version h)

@@ -1,4 +1,4 @@
--- How a command is judged, one turn after the other, and the turns that each command skips.
+-- How a command is checked, one turn after the other, and the turns that each command skips.
 use Rattle.std.proofs.Common.{◌≡◌, ℕ, ◌+◌, ◌<◌, ◌≤◌, Bool, true, List, [], ◌∷◌, Option, refl, ap, subst, ◌∙◌, arith, inl, inr}
 use Rattle.std.specs.Prelude.{nat_eq, nat_lt, nat_le, ◌||◌}
 use Rattle.std.specs.List.{list_all, list_any}

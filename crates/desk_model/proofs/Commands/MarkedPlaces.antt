@@ -19,7 +19,7 @@ use Rattle.desk_model.proofs.Commands.Turns.{same_some}
 -- ---- the choice that made a cell
 
 module _ (meaning : Meaning) (print : List ℕ) where
-  -- of two choices of a list that made the cell with this number behind n others, each is the other
+  -- of two choices of a list that made the cell with this number after n others, each is the other
   one_maker : (n cell : ℕ) (xs : List Choice) (c : Choice) (us ys : List Choice) (d : Choice) (vs : List Choice) → xs ++ c ∷ us ≡ ys ++ d ∷ vs
       → n + length (braille meaning print xs) ≤ cell → cell < n + length (braille meaning print xs) + length (cells_of meaning print c)
       → n + length (braille meaning print ys) ≤ cell → cell < n + length (braille meaning print ys) + length (cells_of meaning print d)

@@ -1,4 +1,4 @@
--- Only one refusal is told of a command.
+-- Only one refusal is reported of a command.
 use Rattle.std.proofs.Common.{◌≡◌, ℕ, List, [], ◌∷◌, ◌++◌, Option, sym, ap, subst, ◌∙◌, arith, inl, inr, refl}
 use Rattle.std.specs.List.{All}
 use Rattle.std.specs.Prelude.{is_some}
@@ -53,7 +53,7 @@ one_lacking P (w ∷ xs) x us (z ∷ ys) y vs e first other lacks misses =
     one_lacking P xs x us ys y vs (cc e) (All-tail P w xs first) (All-tail P z ys other) lacks misses
 
 module _ (book : Book) (expect : Option ℕ) (command : Command) where
-  -- ---- what one of a kind tells
+  -- ---- of each kind at most one refusal holds
 
   one_text : (p q : ℕ) → IsBadText command p → IsBadText command q → p ≡ q
   one_text p q a b =

@@ -99,7 +99,7 @@ module _ (book : Book) where
       implied (λ h. record { paragraph = h.0; found = h.1; none = h.2 }) (λ h. (h.paragraph, h.found, h.none))
       (there (λ p. newest p.history ≡ None) (λ p. is_none (newest p.history)) id)
 
--- ---- the refusals that tell nothing more
+-- ---- the refusals without numbers
 
 module _ (book : Book) (command : Command) where
   pub bad_name : Decided (IsBadName command)
@@ -191,7 +191,7 @@ pub nothing_to_undo : (book : Book) (command : Command) → Decided (HasNothingT
 nothing_to_undo book (Undo id) = no_correction book id
 nothing_to_undo book command = inr (λ h. h)
 
--- ---- the refusals that tell more
+-- ---- the refusals with numbers
 
 module _ (book : Book) (command : Command) where
   pub moved_or : (expect : Option ℕ) → SomeOrNone (IsMoved book expect)

@@ -32,7 +32,7 @@ module _ (book : Book) (expect : Option ℕ) (command : Command) where
   abbrev Told : Type 0
   Told = (refusal : Refusal) × IsRefused book expect command refusal
 
-  -- a refusal is told, or none that is told before turn n holds
+  -- a refusal is reported, or none that comes before turn n holds
   abbrev Judged : ℕ → Type 0
   Judged n = Told ⊎ Passes book expect command n
 

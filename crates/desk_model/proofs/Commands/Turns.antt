@@ -1,4 +1,4 @@
--- How a command is judged while no version is expected, by what it names.
+-- How a command is checked while no version is expected, by what it names.
 use Rattle.std.proofs.Common.{◌≡◌, ℕ, zero, suc, ◌<◌, ◌≤◌, true, false, List, [], ◌∷◌, length, Some, None, sym, ap, subst, ◌∙◌, arith, inl, inr}
 use Rattle.std.specs.List.{Contains}
 use Rattle.std.specs.Prelude.{IsSome, is_some}

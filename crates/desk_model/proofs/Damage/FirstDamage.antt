@@ -20,7 +20,7 @@ le_antisymm (negsuc a) (negsuc b) up down =
     let same : a ≡ b = omega (arith, low, high) in
     ap negsuc same
 
--- the table that is judged in a turn, where this is the one that has the entries
+-- the table that is checked in a turn, if this is the one that has the entries
 abbrev in_turn : FileTable → ℕ → FileTable
 in_turn entries n = cond (n == 1) Book (cond (n == 2) Tab (cond (n == 3) Para (cond (n == 4) entries (cond (n == 5) Mark Cache))))
 

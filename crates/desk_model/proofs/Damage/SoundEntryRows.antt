@@ -89,7 +89,7 @@ own-entries (q ∷ ps) p apart c =
           (own-entries ps p (AreApart-rest q ps apart) later)
     ]
 
--- ---- what rows tell of
+-- ---- what rows stand for
 
 abbrev read : NamedCorr → Entry
 read row =

@@ -28,7 +28,7 @@ slice_get-append_left [] ys i within = absurd (omega arith)
 slice_get-append_left (x ∷ xs) ys zero within = refl
 slice_get-append_left (x ∷ xs) ys (suc i) within = slice_get-append_left xs ys i (omega arith)
 
--- the item behind all others
+-- the item after all others
 pub slice_get-push : {X : Type 0} (xs : List X) (y : X) → slice_get (xs ++ y ∷ []) (length xs) ≡ Some y
 slice_get-push [] y = refl
 slice_get-push (x ∷ xs) y = slice_get-push xs y

@@ -1,4 +1,4 @@
--- The parts of a book that sound rows tell of have these rows, and are sound.
+-- The parts of a book that sound rows stand for have these rows, and are sound.
 use Rattle.std.proofs.Common.{◌≡◌, ◌⊎◌, ℕ, zero, suc, ◌+◌, ◌≤◌, ℤ, pos, negsuc, ◌+ℤ◌, ◌≤ℤ◌, nat_abs, List, [], ◌∷◌, map, length, take, Some, refl, sym, ap, ap₂, subst, ◌∙◌, arith, inl, inr}
 use Rattle.std.specs.List.{All, enumerate_from, take-map}
 use Rattle.std.specs.Ordering.{int_eq}

@@ -276,7 +276,7 @@ gap-unsound sound =
       ]
     ]
 
--- a gap is told at the row after it
+-- a gap is reported at the row after it
 gap-told : IsDamagedMark one_para gap (pos 3)
 gap-told = (mark_at (pos 3), Contains-behind (mark_at (pos 1)) (mark_at (pos 3)) (mark_at (pos 3) ∷ []) (Contains-here (mark_at (pos 3)) []), refl, gap-unsound)
 
@@ -288,7 +288,7 @@ gap-only id (row, c, named, unsound) =
       | inr later ↦ sym named ∙ ap (λ (m : Mark). m.id) (sym (only (mark_at (pos 3)) row later))
     ]
 
--- a number that two rows have is told
+-- a number that two rows have is reported
 twice-told : IsDamagedMark one_para twice (pos 2)
 twice-told = (
   mark_at (pos 2),
@@ -305,7 +305,7 @@ twice-only id (row, c, named, unsound) =
       | inr later ↦ sym named ∙ ap (λ (m : Mark). m.id) (sym (elim (Contains-cases (mark_at (pos 2)) row (mark_at (pos 2) ∷ []) later) [ inl same ↦ same | inr last ↦ only (mark_at (pos 2)) row last ]))
     ]
 
--- ---- a place that two paragraphs have: the smaller id keeps it, and it is told at the greater; whatever
+-- ---- a place that two paragraphs have: the smaller id keeps it, and it is reported at the greater; whatever
 -- table they name
 
 module _ (tab : Tab) (meaning : Meaning) (means : Means tab.body meaning) where

@@ -93,7 +93,7 @@ after-it = refl
 around-it : mark_moved (put 0 9 []) (look 5 8 false) ≡ look 0 0 true
 around-it = refl
 
--- taken back, what comes again stands behind the empty mark
+-- taken back, what comes again stands after the empty mark
 came-again : mark_moved_back (put 0 9 []) (look 0 0 true) ≡ look 0 0 true
 came-again = refl
 
@@ -119,7 +119,7 @@ empty-mark = refl
 abbrev fault : TableFault
 fault = record { line = 1; cause = 1 }
 
--- the refusals in the order in which they are told
+-- the refusals in the order in which they are reported
 abbrev refusals : List Refusal
 refusals =
     Moved 0 ∷ BadName ∷ BadReader ∷ BadText 0 ∷ NoParagraph ∷ NoTable ∷ NoMark ∷ Struck ∷ NotStruck ∷ Resolved ∷ BadSpan ∷ NothingToUndo
@@ -151,7 +151,7 @@ taken_back_book = cat_book 4 (Corrects dog [] ∷ Undoes 1 ∷ []) false
 numbers-of-entries : map (λ command. number_of taken_back_book command) (Correct 1 0 0 [] [] ∷ Undo 1 ∷ Correct 2 0 0 [] [] ∷ Strike 1 ∷ []) ≡ Some 3 ∷ Some 3 ∷ None ∷ None ∷ []
 numbers-of-entries = refl
 
--- a replacement by `x`, without a name, is judged by what its paragraph is
+-- a replacement by `x`, without a name, is checked by what its paragraph is
 x-passes : (book : Book) (id start count : ℕ) → Passes book None (Correct id start count (120 ∷ []) []) 30
 x-passes book id start count =
     let named : IsProofreaderName [] = record { short = lit≤ tt; characters = All-nil (λ character. is_proofreader_character character ≡ true) } in
@@ -247,7 +247,7 @@ ab-means =
     let mean : LinesMean lines ab_meaning = record { all = []; gives = Reached-all lines lines ab_meaning [] both; complete = refl; rules = refl } in
     LinesMean-Means ab_text ab_text ab-is-text refl ab_meaning (subst (λ (ls : List (List ℕ)). LinesMean ls ab_meaning) (sym ab-lines) mean)
 
--- `c`, corrected to `a` and given the table `ab`: an undo is judged by that table, for the print `c`
+-- `c`, corrected to `a` and given the table `ab`: an undo is checked by that table, for the print `c`
 abbrev c_corrected : Paragraph
 c_corrected = record { id = 1; table = 97 ∷ 98 ∷ []; original = 99 ∷ []; history = Corrects (put 0 1 (97 ∷ [])) [] ∷ []; style = Body; begins_volume = false; struck = false }
 
