@@ -1,4 +1,4 @@
--- What a change does, and what it has in it, so that nothing is left to be asked for when it is put into its book.
+-- What a change does, and what it has in it, so that nothing is left to be asked for when it is applied to its book.
 use Rattle.std.specs.Coded.{Coded, code_by, coded×, coded_option, coded_ℕ}
 use Rattle.std.specs.Prelude.{refl, ◌≡◌, ◌≢◌, ℕ, ◌+◌, ◌<◌, ◌≤◌, List, [], ◌∷◌, ◌++◌, length, map, Option, Some, None, IsSome, MatchOption}
 use Rattle.std.specs.List.{All, insert}

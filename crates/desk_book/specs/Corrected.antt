@@ -66,7 +66,7 @@ pub record TakesEntry (book : Book) (kept : KeptParagraph) (count : ℕ) : Type 
   pub few : length kept.history < most_entries
   pub left : book.version < most_version
 
--- the table doesn't define the print, or memory was refused
+-- the table doesn't define the print, or an allocation failed
 abbrev pub HaltsPrint : Meaning → List ℕ → Refusal → Type 0
 HaltsPrint meaning print refusal =
     ((place : ℕ) × (refusal ≡ Undefined place) × IsFirstUndefined meaning print place) ⊎ (refusal ≡ NoMemory)

@@ -1,4 +1,4 @@
--- What is told where the rows of a table are not those of a book.
+-- What is reported if the rows of a table are not those of a book.
 use Rattle.std.specs.Prelude.{◌≡◌, ℤ, List, Option, Some, ⊤}
 use Rattle.desk_parts.specs.declared.file_table.FileTable.{FileTable}
 use Rattle.desk_model.specs.declared.fault.PartsFault.{PartsFault}
@@ -9,7 +9,7 @@ use Rattle.desk_model.specs.Damage.{IsDamagedCache}
 use Rattle.desk_book.specs.Judged.{IsFirstId}
 use Rattle.desk_parts.specs.Rows.{Cached, Para, Tab}
 
--- the smallest id of the damage is told, of this table, or memory was refused
+-- the smallest id of the damage is reported, of this table, or an allocation failed
 abbrev pub TellsDamageOf : FileTable → (ℤ → Type 0) → PartsFault → Type 0
 TellsDamageOf table damaged (Damaged other id) = (other ≡ table) × IsFirstId damaged id
 TellsDamageOf table damaged NoMemory = ⊤

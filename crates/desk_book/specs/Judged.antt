@@ -1,4 +1,4 @@
--- What is read of the rows of a book's file, table by table, and what is told where a table is damaged.
+-- What is read of the rows of a book's file, table by table, and what is reported if a table is damaged.
 use Rattle.std.specs.Prelude.{◌≡◌, ℕ, ℤ, pos, ◌+◌, ◌-◌, ◌≤ℤ◌, nat_abs, List, [], map, filter, length, slice_get, Some, ⊤}
 use Rattle.std.specs.List.{All, range_with_len}
 use Rattle.std.specs.List.Sorted.{IsPermutation, IsStrictlySortedBy}
@@ -21,7 +21,7 @@ use Rattle.desk_model.specs.Print.{corrected}
 use Rattle.desk_parts.specs.Rows.{Mark as MarkRow, NamedCorr, Para, Tab}
 use Rattle.desk_model.specs.Shows.{flag_number, mark_row_of, style_number, tab_of}
 
--- ---- what is told
+-- ---- what is reported
 
 -- nothing of the table is damaged
 abbrev pub IsWhole : (ℤ → Type 0) → Type 0
@@ -31,7 +31,7 @@ IsWhole damaged = (id : ℤ) → ¬ damaged id
 abbrev pub IsFirstId : (ℤ → Type 0) → ℤ → Type 0
 IsFirstId damaged id = damaged id × ((other : ℤ) → damaged other → id ≤ℤ other)
 
--- the smallest id of the damage is told, or memory was refused
+-- the smallest id of the damage is reported, or an allocation failed
 abbrev pub TellsDamage : (ℤ → Type 0) → RowsFault → Type 0
 TellsDamage damaged (Damaged id) = IsFirstId damaged id
 TellsDamage damaged NoMemory = ⊤

@@ -43,6 +43,6 @@ pub record IsUnread (groups : List (List NamedCorr)) (items : List KeptParagraph
   pub before : (k : ℕ) (others : List NamedCorr) (other : KeptParagraph) → k < index → slice_get groups k ≡ Some others → slice_get items k ≡ Some other
       → CanBeRead others other.original other.print
 
--- the first paragraph whose rows can't be read is told
+-- the first paragraph whose rows can't be read is reported
 abbrev pub IsFirstUnread : List (List NamedCorr) → List KeptParagraph → RowsFault → Type 0
 IsFirstUnread groups items fault = (index : ℕ) × (fault ≡ Damaged (pos (index + 1))) × IsUnread groups items index

@@ -1,4 +1,4 @@
--- Rows of marks, judged beside the paragraphs that are kept.
+-- Rows of marks, checked against the paragraphs that are kept.
 use Rattle.std.specs.Prelude.{◌≡◌, ℕ, ℤ, pos, ◌+◌, ◌<◌, ◌≤◌, ◌≤ℤ◌, List, length, slice_get, Some, ⊤}
 use Rattle.std.specs.List.Sorted.{IsSortedByKey}
 use Rattle.std.specs.Ordering.{int_cmp}
@@ -83,7 +83,7 @@ pub record IsFirstUnsound (items : List KeptParagraph) (rows : List MarkRow) (id
   pub before : AreSoundUpTo items index rows
   pub unsound : ¬ IsSoundAt items index row
 
--- the first row that isn't sound is told, or memory was refused
+-- the first row that isn't sound is reported, or an allocation failed
 abbrev pub TellsUnsound : List KeptParagraph → List MarkRow → RowsFault → Type 0
 TellsUnsound items rows (Damaged id) = IsFirstUnsound items rows id
 TellsUnsound items rows NoMemory = ⊤

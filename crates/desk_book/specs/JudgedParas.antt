@@ -1,4 +1,4 @@
--- Rows of paragraphs, judged beside the tables that are kept.
+-- Rows of paragraphs, checked against the tables that are kept.
 use Rattle.std.specs.Prelude.{◌≡◌, ◌≢◌, ℕ, suc, ℤ, pos, ◌+◌, ◌<◌, List, [], length, nat_eq, slice_get, Some, ⊤}
 use Rattle.std.specs.Cmp.Lexicographic.{pointwise}
 use Rattle.std.specs.List.Sorted.{IsSortedByKey}
@@ -94,7 +94,7 @@ pub record IsFirstUnsound (tables : KeptTables) (rows : List Para) (id : ℤ) : 
   pub before : AreSoundUpTo tables (length rows) index rows
   pub unsound : ¬ IsSoundAt tables (length rows) rows index row
 
--- the first row that isn't sound is told, or memory was refused
+-- the first row that isn't sound is reported, or an allocation failed
 abbrev pub TellsUnsound : KeptTables → List Para → RowsFault → Type 0
 TellsUnsound tables rows (Damaged id) = IsFirstUnsound tables rows id
 TellsUnsound tables rows NoMemory = ⊤

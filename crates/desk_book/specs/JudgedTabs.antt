@@ -34,7 +34,7 @@ pub record AreRead (sorted done : List Tab) (tables : KeptTables) : Type 0 where
   pub few : length tables ≤ most_tables
   pub sound : (index : ℕ) (row : Tab) → index < length done → slice_get sorted index ≡ Some row → IsSoundTabRow sorted index row
 
--- the row after so many isn't sound, which is told at its number, from 1; or memory was refused
+-- the row after so many isn't sound, which is reported at its number, from 1; or an allocation failed
 abbrev pub TellsUnsoundTab : List Tab → ℕ → Tab → RowsFault → Type 0
 TellsUnsoundTab sorted index row (Damaged id) = (id ≡ pos (index + 1)) × ¬ IsSoundTabRow sorted index row
 TellsUnsoundTab sorted index row NoMemory = ⊤
@@ -45,12 +45,12 @@ pub record MayCome (tables : KeptTables) (name : List ℕ) : Type 0 where
   pub named : IsTableName name
   pub new : lookup (pointwise nat_eq name) tables ≡ None
 
--- the text has no meaning, which is told at this number; or memory was refused
+-- the text has no meaning, which is reported at this number; or an allocation failed
 abbrev pub TellsNoMeaning : List ℕ → ℤ → RowsFault → Type 0
 TellsNoMeaning text id (Damaged told) = (told ≡ id) × ((meaning : Meaning) → ¬ Means text meaning)
 TellsNoMeaning text id NoMemory = ⊤
 
--- of rows in order the first that isn't sound is told at its number, from 1; or memory was refused
+-- of rows in order the first that isn't sound is reported at its number, from 1; or an allocation failed
 abbrev pub TellsFirstUnsound : List Tab → RowsFault → Type 0
 TellsFirstUnsound sorted (Damaged id) =
     (index : ℕ) × (row : Tab) × (slice_get sorted index ≡ Some row) × (id ≡ pos (index + 1)) × ¬ IsSoundTabRow sorted index row

@@ -30,7 +30,7 @@ pub(crate) struct PrintChange {
     pub(crate) added: usize,
 }
 
-/// What a change puts in. It has room for all that it adds.
+/// What a change does to a book. It has room for all that it adds.
 #[derive(Drop)]
 pub(crate) enum Effect {
     /// A table comes.

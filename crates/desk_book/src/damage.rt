@@ -13,7 +13,7 @@ use std::alloc::AllocError;
 pub(crate) enum RowsFault {
     /// The smallest id of the damage in the table.
     Damaged(i64),
-    /// An allocation was refused.
+    /// An allocation failed.
     NoMemory,
 }
 

@@ -1,4 +1,4 @@
-//! The rows of `cache`, judged, and the braille that they are.
+//! The rows of `cache`, validated and converted into braille.
 ghost use Rattle.desk_book.specs.Changes.{AreCellsOf};
 ghost use Rattle.desk_model.specs.Damage.{IsDamagedCache, IsDamagedPara};
 ghost use Rattle.desk_book.specs.Judged.{AreOf, AreTables, HasCells, IsWhole, TellsDamage, without_cells};

@@ -1,4 +1,4 @@
-//! The rows of `corr` and `corr2`, judged, and the histories that they are.
+//! The rows of `corr` and `corr2`, validated and converted into histories.
 ghost use Rattle.desk_model.specs.Damage.{IsDamagedEntries, IsWithin};
 ghost use Rattle.desk_book.specs.Judged.{AreOf, HasHistory, IsWhole, TellsDamage, without_history};
 ghost use Rattle.desk_book.specs.JudgedEntries.{AreGrouped, HaveRead, IsFirstStray, IsFirstUnread};

@@ -1,4 +1,4 @@
-//! The rows of one paragraph's entries, judged, and the history that they are.
+//! The rows of one paragraph's entries, validated and converted into its history.
 ghost use Rattle.desk_model.specs.Damage.{IsSoundCorrection, IsSoundUndo};
 ghost use Rattle.desk_book.specs.Histories.{entries_kept};
 ghost use Rattle.desk_book.specs.Judged.{without_history};
@@ -46,7 +46,7 @@ struct Next {
     print: Vec<char>,
 }
 
-/// The correction of a print that the row tells of, where the print has what it takes away.
+/// The correction of a print that the row stands for, if the print has what it takes away.
 fn correction(alloc: Global, print: &[char], row: NamedCorrRow) -> Result<Option<Next>, AllocError>
     requires { row.entry.kind ≡ pos 0 }
     ensures sound { IfOk result (λ next. IfSome next (IsCorrecting print.now row)) }
@@ -74,7 +74,7 @@ fn correction(alloc: Global, print: &[char], row: NamedCorrRow) -> Result<Option
     }))
 }
 
-/// The undo that the row tells of, where it is one of the newest correction in force of a history, which left this print.
+/// The undo that the row stands for, if it is one of the newest correction in force of a history, which left this print.
 fn undo(
     alloc: Global,
     history: &[KeptEntry],
@@ -117,7 +117,7 @@ struct Reading {
 }
 
 impl Reading {
-    /// What the row tells of, where it fits what the rows before it leave.
+    /// What the row stands for, if it fits what the rows before it leave.
     fn next(&self, alloc: Global, row: NamedCorrRow) -> Result<Option<Next>, AllocError>
         requires { (original : List ℕ) × LeavePrint original self.now.entries.items self.now.print.items }
         ensures sound { (original : List ℕ) → LeavePrint original self.now.entries.items self.now.print.items

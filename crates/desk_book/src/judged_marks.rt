@@ -1,4 +1,4 @@
-//! The rows of `mark`, judged, and the marks that they are.
+//! The rows of `mark`, validated and converted into marks.
 ghost use Rattle.desk_model.specs.Damage.{IsDamagedMark};
 ghost use Rattle.desk_book.specs.Judged.{AreMarksOf, AreOf, HaveMarks, IsWhole, TellsDamage, without_marks};
 ghost use Rattle.desk_book.specs.JudgedMarks.{AreInOrder, AreKeptOf, HasId, IsKeptOf, IsMarkOn, IsNext, IsNoteText, IsOnOne, IsSpan, TellsUnsound};

@@ -1,4 +1,4 @@
-//! The rows of `para`, judged, and the paragraphs that they are.
+//! The rows of `para`, validated and converted into paragraphs.
 ghost use Rattle.desk_model.specs.Damage.{IsDamagedPara, IsFlag, IsPrintText};
 ghost use Rattle.desk_book.specs.Judged.{AreInPlaces, AreOf, AreTables, IsWhole, TellsDamage};
 ghost use Rattle.desk_book.specs.JudgedParas.{AreDefinedBy, AreInOrder, AreKeptOf, IsFree, IsKeptOf, IsNext, IsParaOn, TellsUnsound};

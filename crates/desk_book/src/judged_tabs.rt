@@ -1,4 +1,4 @@
-//! The rows of `tab`, judged, and the tables that they are.
+//! The rows of `tab`, validated and converted into tables.
 ghost use Rattle.desk_model.specs.Damage.{AreInOrder, IsDamagedTab};
 ghost use Rattle.desk_book.specs.Judged.{AreTables, IsWhole, TellsDamage};
 ghost use Rattle.desk_book.specs.JudgedTabs.{AreRead, MayCome, TellsFirstUnsound, TellsNoMeaning, TellsUnsoundTab, rows_of, tab_order};

@@ -2,7 +2,7 @@
 //! what is shown of them.
 //!
 //! A command is planned on a book first: it is refused, and all stays as it was, or it gives a change, which has room
-//! for all that it adds. The change is then put in, and this can't fail. So a change can be written to a file between
+//! for all that it adds. The change is then applied, and this can't fail. So a change can be written to a file between
 //! the two.
 //!
 //! ```rust
@@ -16,7 +16,7 @@
 //! assert_eq!(rt; book.version(), 1);
 //! ```
 //!
-//! What a book is, what each command makes of it and when it is refused, is said by `desk_model`. Files are left to
+//! `desk_model` says what a book is, what each command makes of it and when it is refused. Files are left to
 //! `desk_store`, pages to `desk_brf`, and the lines of requests and replies to `desk_line`.
 #![tactic(auto)]
 

@@ -1,4 +1,4 @@
-//! What a book tells of a paragraph's marks.
+//! What a book shows of a paragraph's marks.
 ghost use Rattle.desk_book.specs.ItemsLeft.{AreMarks, marks_at};
 ghost use Rattle.std.specs.Prelude.{◌≡◌};
 

@@ -125,7 +125,7 @@ impl Model for Paragraphs {
     ghost invariant = { λ p. IsPermutation (range_with_len 1 (length p.items)) p.order };
 }
 
-/// Puts all ids behind the list, and the new one behind each that is the one given.
+/// Puts all ids after the list, and the new one after each that is the one given.
 fn put_behind(all: &mut Vec<u64>, ids: &[u64], new: u64, id: u64) -> Result<(), AllocError>
     ensures { OnOk result (all.new.items ≡ all.old.items ++ with_id (Anchor.Para id) new ids.now) }
 {
@@ -182,7 +182,7 @@ fn put_over(ids: &mut Items<u64>, new: &[u64])
     ids.items.copy_from_slice(new);
 }
 
-/// Whether a paragraph with this id would be put behind itself.
+/// Whether a paragraph with this id would be put after itself.
 fn stays_behind(id: u64, after: Anchor) -> bool
     ensures { result ≡ is_after id after }
 {

@@ -153,9 +153,10 @@ impl Book {
     /// a limit, the one with the smallest number; a bad table; an undefined character; a paragraph that a table no longer
     /// defines.
     ///
-    /// `NoMemory` where an allocation was refused, in place of a refusal that is judged after that alone. Resolve, Strike,
-    /// Restore, Style and Volume ask for no memory; Mark, Retable and Move only when nothing speaks against them any more;
-    /// Table when its text is read; TypeIn, Correct and Undo before a text that is too long is refused.
+    /// `NoMemory` if an allocation failed, and no refusal holds that is checked before the command allocates. Resolve,
+    /// Strike, Restore, Style and Volume allocate nothing; Mark, Retable and Move only once no refusal holds; Table when its
+    /// text is read; TypeIn and Correct before a text that is too long is refused; Undo before the characters of its print
+    /// are checked.
     pub fn plan(
         &self,
         alloc: Global,
@@ -269,7 +270,7 @@ impl Book {
         self.paragraphs.get(id).ok_or(Refusal::NoParagraph)
     }
 
-    /// The paragraph that a command puts something behind is there.
+    /// The paragraph that a command puts something after is there.
     fn check_anchor(&self, anchor: Anchor) -> Result<(), Refusal>
         ensures there { OnOk result (AreThere self.now (paragraph_before anchor)) }
         ensures missing { IfErr result (λ refusal.
@@ -563,7 +564,7 @@ fn check_name(name: &Text) -> Result<(), Refusal>
     Ok(())
 }
 
-/// A table of a text. The heap is asked for room for it once the text was judged.
+/// A table of a text. The heap is asked for room for it after the text is checked.
 fn read_table(alloc: Global, text: &Bytes) -> Result<BoxedTable, Refusal>
     ensures text { IfOk result (λ table. table.text ≡ text.now) }
     ensures means { IfOk result (λ table. Means text.now table.rules) }

@@ -84,7 +84,7 @@ fn with_names(alloc: Global, entries: EntryRows) -> Result<Vec<NamedCorrRow>, Al
     }
 }
 
-/// What was read of a table, or the fault, told of this table.
+/// What was read of a table, or the fault, reported of this table.
 fn of_table<T>(table: FileTable, read: Result<T, RowsFault>) -> Result<T, PartsFault>
     ensures { MatchResult read (λ rows. result ≡ Ok rows) (λ fault. result ≡ Err (fault_in table fault)) }
 {
@@ -171,7 +171,7 @@ impl Book {
     ///
     /// # Errors
     ///
-    /// The first damage of parts that show no book, and [`PartsFault::NoMemory`] where an allocation was refused.
+    /// The first damage of parts that show no book, and [`PartsFault::NoMemory`] if an allocation failed.
     pub fn rebuild(alloc: Global, parts: Parts) -> Result<Self, PartsFault>
         ensures shown { IfOk result (Shows (rows_in parts)) }
         ensures damaged { IfErr result (IsFaultOf (rows_in parts)) }

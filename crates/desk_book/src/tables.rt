@@ -42,8 +42,8 @@ fn read_rules(alloc: Global, text: &[u8]) -> Result<RuleIndex, ReadFault>
 }
 
 impl BookTable {
-    /// Reads the text of a table, of which it keeps a copy. The fault is that which is told of the text, or that an
-    /// allocation was refused.
+    /// Reads the text of a table, of which it keeps a copy. The fault is the one that is reported of the text, or that an
+    /// allocation failed.
     pub(crate) fn read(alloc: Global, text: &[u8]) -> Result<Self, ReadFault>
         ensures text { IfOk result (λ table. table.text ≡ text.now) }
         ensures means { IfOk result (λ table. Means text.now table.rules) }

@@ -1,4 +1,4 @@
-//! What a book tells of a paragraph's history.
+//! What a book shows of a paragraph's history.
 ghost use Rattle.desk_book.specs.Histories.{entries_kept, entry_kept};
 ghost use Rattle.desk_model.specs.Limits.{most_entries};
 ghost use Rattle.desk_model.specs.Told.{TellsOf};

@@ -15,7 +15,7 @@ use Rattle.desk_model.specs.Rebuilt.{IsFaultOf}
 use Rattle.desk_parts.specs.Rows.{Cached, Para as ParaRow, Tab as TabRow}
 use Rattle.desk_model.proofs.Commands.Turns.{same_some}
 
--- the fault of a table's rows is told of it
+-- the fault of a table's rows is reported of it
 pub told-of : (table : FileTable) (damaged : ℤ → Type 0) (fault : RowsFault) → TellsDamage damaged fault → TellsDamageOf table damaged (fault_in table fault)
 told-of table damaged (rows_fault.Damaged id) first = (refl, first)
 told-of table damaged rows_fault.NoMemory first = tt
@@ -25,7 +25,7 @@ pub on-any : {T E : Type 0} (result : Result T E) (P : Type 0) → P → OnOk re
 on-any (Ok x) P holds = holds
 on-any (Err e) P holds = tt
 
--- what is read of a table, and the fault told of it
+-- what is read of a table, and the fault reported of it
 module _ {T : Type 0} (table : FileTable) (given : Result T RowsFault) (result : Result T PartsFault)
     (is : MatchResult given (λ rows. result ≡ Ok rows) (λ fault. result ≡ Err (fault_in table fault))) where
   pub of-table-fault : (damaged : ℤ → Type 0) → IfErr given (TellsDamage damaged) → IfErr result (TellsDamageOf table damaged)
@@ -64,7 +64,7 @@ pub no-braille-told : (tabs : List TabRow) (paras : List ParaRow) (fault : RowsF
 no-braille-told tabs paras fault is = subst (TellsDamage (IsDamagedBraille tabs paras None)) (sym is) tt
 
 module _ (rows : FileRows) where
-  -- no table that is judged before this one is damaged
+  -- no table that is checked before this one is damaged
   abbrev pub IsWholeBefore : FileTable → Type 0
   IsWholeBefore table = (other : FileTable) (id : ℤ) → IsDamaged rows other id → table_turn table ≤ table_turn other
 

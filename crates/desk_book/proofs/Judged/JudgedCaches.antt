@@ -51,7 +51,7 @@ parted zero xs = refl
 parted (suc i) [] = refl
 parted {X} (suc i) (x ∷ xs) = ap (λ (rest : List X). x ∷ rest) (parted i xs)
 
--- what stands behind so many stands there at a later place
+-- what stands after so many stands there at a later place
 from-drop : {X : Type 0} (i : ℕ) (xs : List X) (x : X) → Contains (drop i xs) x → (j : ℕ) × (i ≤ j) × (slice_get xs j ≡ Some x)
 from-drop zero xs x c = let at = place-of xs x c in (at.0, omega arith, at.1)
 from-drop (suc i) [] x c = absurd (Contains-none x c)

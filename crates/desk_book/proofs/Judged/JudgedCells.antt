@@ -30,7 +30,7 @@ module _ (meaning : Meaning) (print : List ℕ) where
   one_braille cells others (choices, tiles, is) (other, tiled, are) =
       is ∙ (ap (braille meaning print) (one_cover meaning print 0 choices other tiles tiled) ∙ sym are)
 
-  -- what is left of the masks stands behind the cells of the choices before those left
+  -- what is left of the masks stands after the cells of the choices before those left
   pub record IsBehind (left : List Made) (masks rest : List ℕ) : Type 0 where
     pub cells : List ℕ
     pub so_far : CellsSoFar meaning print left cells

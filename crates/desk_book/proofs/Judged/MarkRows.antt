@@ -149,7 +149,7 @@ module _ (paras : List Para) (items : List KeptParagraph) (of : AreOf paras item
         resolved = s.resolved;
       }
 
-  -- ---- what is told
+  -- ---- what is reported
 
   module _ (rows sorted : List MarkRow) (moved : IsPermutation rows sorted) where
     abbrev key : MarkRow → ℤ

@@ -1,4 +1,4 @@
--- What is told of rows of paragraphs that were read in the order of their ids, and the paragraphs that they are, by id and by
+-- What is reported of rows of paragraphs that were read in the order of their ids, and the paragraphs that they are, by id and by
 -- place.
 use Rattle.std.proofs.Common.{◌≡◌, ℕ, zero, suc, ◌+◌, ◌-◌, ◌<◌, ◌≤◌, ℤ, pos, ◌≤ℤ◌, nat_abs, List, [], ◌∷◌, ◌++◌, map, length, take, drop, get_or, Some, Contains, refl, sym, ap, subst, ◌∙◌, arith, inl, inr}
 use Rattle.std.specs.List.{All}
@@ -99,7 +99,7 @@ module _ (tables : KeptTables) (places : ℕ) (sorted : List Para) (count : ℕ)
             | inr past ↦ absurd (let end = past.0 in omega (arith, is, end, within))
           ]
 
--- ---- what is told
+-- ---- what is reported
 
 module _ (tabs : List Tab) (tables : KeptTables) (are : AreTables tabs tables) (rows sorted : List Para) (moved : IsPermutation rows sorted) (up : AreInOrder sorted) where
   back-number : (row : Para) → IsNumber key most_paragraphs rows row.id → IsNumber key most_paragraphs sorted row.id

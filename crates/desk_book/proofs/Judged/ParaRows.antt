@@ -225,7 +225,7 @@ module _ (tables : KeptTables) (places : ℕ) (rows : List Para) (items : List K
         );
       }
 
--- ---- what is told
+-- ---- what is reported
 
 module _ (tabs : List Tab) (tables : KeptTables) (are : AreTables tabs tables) where
   abbrev key : Para → ℤ

@@ -313,7 +313,7 @@ in-order rows up k d low inside =
     subst (λ t. less (get_or (map row rows) (k + 1) d) t ≡ false) (sym (get_or-map row rows k e d (omega (arith, inside, long))))
     (subst (λ t. less t (row (get_or rows k e)) ≡ false) (sym (get_or-map row rows (k + 1) e d (omega (arith, inside, long)))) (up k e low (omega (arith, inside, long))))
 
--- ---- what is told of a row
+-- ---- what is reported of a row
 
 -- the number of the row after so many
 pub number-after : (n : ℕ) → n ≤ most_tables → to_z w64 (of_z w64 (to_z w64 n +ℤ pos 1)) ≡ pos (n + 1)

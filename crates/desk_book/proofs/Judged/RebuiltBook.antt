@@ -1,4 +1,4 @@
--- What is told of the parts of a book's file, and the book that is made of them.
+-- What is reported of the parts of a book's file, and the book that is made of them.
 use Rattle.std.proofs.Common.{◌≡◌, ℕ, ◌≤◌, ℤ, pos, List, [], ◌∷◌, get_or, map, refl, sym, ap, ◌∙◌, arith}
 use Rattle.std.specs.List.{All, flat_map}
 use Rattle.std.proofs.lemmas.List.Elements.{All-contains}
@@ -45,7 +45,7 @@ unmarked-with_history items others same none k d within =
     ap (λ (kept : KeptParagraph). kept.marks) other.2
     ∙ All-contains (λ (kept : KeptParagraph). kept.marks ≡ []) items other.0 none (Contains-there items k other.0 other.1)
 
--- ---- what is told
+-- ---- what is reported
 
 format-low : (entries : EntryRows) → 1 ≤ format_of entries
 format-low (Unnamed corrs) = omega arith

@@ -226,7 +226,7 @@ module _ {Z : Type 0} where
 
 -- ---- maps
 
--- entries that are inserted in turn, each under a key of its own, stand behind those that are there
+-- entries that are inserted in turn, each under a key of its own, stand after those that are there
 pub insert_all-distinct : {K V : Type 0} (eq : K → K → Bool) → IsEquivalence eq → (done es : List (K × V)) → IsDistinct eq (keys_of (done ++ es)) → insert_all eq done es ≡ done ++ es
 insert_all-distinct eq laws done [] distinct = sym (append-nil done)
 insert_all-distinct eq laws done (e ∷ es) distinct =

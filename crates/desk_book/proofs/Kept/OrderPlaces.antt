@@ -45,7 +45,7 @@ position-at id place order e =
     let found = position-Some (λ other. nat_eq other id) order place id e in
     (found.0, slice_get_read order (length order) place id refl found.0 (sym (eqb-true (get_or order place id) id found.1)))
 
--- ---- an id that is put behind another
+-- ---- an id that is put after another
 
 behind-none : (id new : ℕ) (order : List ℕ) → All (λ other. nat_eq other id ≡ false) order → with_id (Para id) new order ≡ order
 behind-none id new [] none = refl
@@ -73,7 +73,7 @@ insert-behind id new place order apart at =
     let next : place + 1 ≡ suc place = omega arith in
     ap (λ (k : ℕ). insert order k new) next ∙ insert-behind_from id new place order apart at
 
--- an id that is put behind all others
+-- an id that is put after all others
 pub insert-end : (new : ℕ) (order : List ℕ) → insert order (length order) new ≡ order ++ new ∷ []
 insert-end new order =
     ap (λ (front : List ℕ). front ++ new ∷ drop (length order) order) (take-length order) ∙ ap (λ (back : List ℕ). order ++ new ∷ back) (drop-length order)

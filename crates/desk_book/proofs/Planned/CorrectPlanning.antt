@@ -1,4 +1,4 @@
--- How a correction is judged while no version is expected.
+-- How a correction is checked while no version is expected.
 use Rattle.std.proofs.Common.{◌≡◌, ℕ, ◌+◌, ◌-◌, ◌<◌, ◌≤◌, false, List, length, Some, None, refl, sym, ap, subst, ◌∙◌, arith, inl, lit≤}
 use Rattle.std.specs.Prelude.{option_map}
 use Rattle.louis_table.specs.Meaning.{Meaning}

@@ -1,4 +1,4 @@
--- How a command that brings an entry into a history is judged while no version is expected.
+-- How a command that brings an entry into a history is checked while no version is expected.
 use Rattle.std.proofs.Common.{◌≡◌, ℕ, ◌<◌, ◌≤◌, true, List, [], ◌∷◌, length, Some, None, refl, sym, ap, subst, ◌∙◌, arith, inl, inr}
 use Rattle.std.proofs.lemmas.List.{length-map}
 use Rattle.louis_table.specs.Meaning.{Meaning}

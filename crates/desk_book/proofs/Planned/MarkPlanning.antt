@@ -1,4 +1,4 @@
--- How a new mark, and the resolving of one, are judged while no version is expected.
+-- How a new mark, and the resolving of one, are checked while no version is expected.
 use Rattle.std.proofs.Common.{◌≡◌, ℕ, ◌<◌, ◌≤◌, false, true, List, length, Some, None, refl, sym, ap, subst, ◌∙◌, arith, inl, inr}
 use Rattle.std.proofs.lemmas.Bool.{both_ways}
 use Rattle.louis_table.specs.Meaning.{Meaning}

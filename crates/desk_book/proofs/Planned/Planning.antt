@@ -1,4 +1,4 @@
--- How a command is judged while no version is expected, by what was found in the book.
+-- How a command is checked while no version is expected, by what was found in the book.
 use Rattle.std.proofs.Common.{◌≡◌, ℕ, zero, suc, ◌<◌, ◌≤◌, true, false, List, [], ◌∷◌, length, Some, None, refl, sym, ap, subst, ◌∙◌, arith, inl, inr}
 use Rattle.std.specs.Prelude.{IsSome, is_some}
 use Rattle.std.proofs.lemmas.Bool.{both_ways}

@@ -1,4 +1,4 @@
--- How a command that gives a table is judged while no version is expected.
+-- How a command that gives a table is checked while no version is expected.
 use Rattle.std.proofs.Common.{◌≡◌, ◌⊎◌, ℕ, ◌<◌, ◌≤◌, List, ◌∷◌, length, None, refl, sym, ap, subst, ◌∙◌, arith, inl, inr}
 use Rattle.std.specs.List.{All, Contains}
 use Rattle.std.specs.Prelude.{IsSome, is_some}

@@ -3,7 +3,7 @@ use Rattle.desk_book.specs.Histories.{entries_kept}
 use Rattle.desk_model.specs.Print.{stack}
 use Rattle.desk_book.proofs.history.newest.Given as goal
 
--- the entries behind the place were taken back
+-- the entries after the place were taken back
 abbrev pub invariant-loop-count : goal.invariant-loop-count
 invariant-loop-count l = (l.count ≤ length l.history) × (stack (take l.count (entries_kept l.history)) ≡ stack (entries_kept l.history))
 
