@@ -18,7 +18,7 @@ pub IsReading-none : (a : Option (List ℕ)) (input : Input) (line : Option (Lis
 IsReading-none a input line held = record { bytes = []; used = Used-none a input; held = held; none = tt }
 
 module _ (a b : Option (List ℕ)) (old mid new : Input) (was line : Option (List ℕ)) (part : IsReading a b old mid was) where
-  -- the rest of the line waited
+  -- the rest of the line was read already
   pub ReadsLine-fed : (F : Type 0) → PassesLine true mid new was line → ReadsLine F a b old new line (Ok true)
   ReadsLine-fed F (bytes, uses, held, fed) = record {
     bytes = part.bytes ++ bytes;
@@ -27,7 +27,7 @@ module _ (a b : Option (List ℕ)) (old mid new : Input) (was line : Option (Lis
     ends = fed-append part.bytes bytes part.none fed;
   }
 
-  -- all that waited has no line feed
+  -- the unused bytes have no line feed
   pub IsReading-more : PassesLine false mid new was line → IsReading a b old new line
   IsReading-more (uses, empty, held, none) = record {
     bytes = part.bytes ++ mid.waiting;

@@ -19,7 +19,7 @@ Used-none a input = record {
   ends = λ knows. knows;
 }
 
--- bytes that waited
+-- unused bytes
 pub Used-waiting : (a : Option (List ℕ)) (old new : Input) (bytes : List ℕ) → UsesWaiting old new bytes → Used a a old new bytes
 Used-waiting a old new bytes uses = record {
   read = [];

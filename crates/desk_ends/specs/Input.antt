@@ -1,11 +1,11 @@
--- How an input is read: the bytes that wait, what was used of it, and its lines.
+-- How an input is read: the bytes that aren't used yet, what was used of it, and its lines.
 use Rattle.std.specs.Prelude.{◌≡◌, ◌⊎◌, ℕ, ◌+◌, ◌≤◌, ◌<◌, Bool, true, false, List, [], ◌++◌, length, Option, Result, Ok, Err}
 use Rattle.std.specs.Io.KnownBytes.{Consumes, IsAtEnd}
 use Rattle.desk_ends.specs.declared.ends.Failed.{Failed}
 use Rattle.desk_ends.specs.Limits.{chunk_bytes, most_input}
 use Rattle.desk_ends.specs.Lines.{HasNoFeed, IsFed, extended, kept}
 
--- what was read of an input: the bytes that wait to be used, how many were read in all, and whether the end was reached
+-- what was read of an input: the bytes that aren't used yet, how many were read in all, and whether the end was reached
 pub record Input : Type 0 where
   pub waiting : List ℕ
   pub total : ℕ
@@ -36,7 +36,7 @@ pub record Used (left_old left_new : Option (List ℕ)) (old new : Input) (bytes
   pub over : old.is_over ≡ true → (read ≡ []) × (new.is_over ≡ true)
   pub ends : KnowsEnd left_old old → KnowsEnd left_new new
 
--- bytes that waited were used
+-- bytes that had been read were used
 pub record UsesWaiting (old new : Input) (bytes : List ℕ) : Type 0 where
   pub parts : old.waiting ≡ bytes ++ new.waiting
   pub total : new.total ≡ old.total

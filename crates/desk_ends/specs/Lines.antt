@@ -24,7 +24,7 @@ EndsLine bytes = (front : List ℕ) × (bytes ≡ front ++ 10 ∷ [])
 abbrev pub without_ending : List ℕ → List ℕ
 without_ending line = strip_last 13 (strip_last 10 line)
 
--- what is kept of a line: nothing where it has more bytes than a line may have and an ending of two
+-- what is kept of a line: nothing if it has more bytes than a line may have and an ending of two
 abbrev pub kept : List ℕ → Option (List ℕ)
 kept line = if nat_le (length line) (most_line_bytes + 2) then Some line else None
 

@@ -8,7 +8,7 @@ use super::limits::MOST_INPUT;
 use super::line::Line;
 use std::marker::Model;
 
-/// What was read of an input. Contracts see the bytes that wait to be used, how many were read in all, and whether the end
+/// What was read of an input. Contracts see the bytes that aren't used yet, how many were read in all, and whether the end
 /// of the input was reached. Nothing is read any more then.
 #[derive(Drop)]
 pub struct Input {
@@ -37,7 +37,7 @@ impl Input {
         }
     }
 
-    /// Reads more bytes, where none wait. Whether there are any: none are there only at the end of the input. After
+    /// Reads more bytes, once all were used. Whether there are any: none are there only at the end of the input. After
     /// `MOST_INPUT` bytes the next read counts as failed.
     pub fn fill<S: Source>(&mut self, source: &mut S) -> Result<bool, Failed>
         requires { self.old.waiting ≡ [] }
@@ -55,7 +55,7 @@ impl Input {
         Ok(count > 0)
     }
 
-    /// Passes the bytes that wait on to a line, up to the first line feed and with it, or all where there is none. Whether
+    /// Passes unused bytes on to a line, up to the first line feed and with it, or all if there is none. Whether
     /// there was one.
     pub fn pass_line(&mut self, line: &mut Line) -> bool
         ensures { PassesLine result self.old self.new line.old line.new }
