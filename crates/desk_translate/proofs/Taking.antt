@@ -20,7 +20,7 @@ TakesLine-fed RF WF a b v w f old mid new was line taking passes =
     let read = ReadsLine-fed a b old mid new was line taking.part RF passes in
     record { bytes = read.bytes; used = read.used; held = read.held; still = taking.still; ends = read.ends }
 
--- all that waited has no line feed, and a flush follows
+-- the unused bytes have no line feed, and a flush follows
 pub IsTaking-more : (a b v w x : Option (List ℕ)) (old mid new : Input) (was line : Option (List ℕ)) → IsTaking a b v w old mid was
     → PassesLine false mid new was line → Keeps w x → IsTaking a b v x old new line
 IsTaking-more a b v w x old mid new was line taking passes keeps =

@@ -32,7 +32,7 @@ pub fn translate_lines<S: Source, K: Sink, B: RuleBook>(
     ensures run { Ran S.Source source.old source.new
         K.Sink sink.old sink.new (B.meaning book.now) result }
 
-    // However it ended, where the source tells its bytes, what went out is a beginning of the answers to all of them.
+    // However it ended, if the source reports its bytes, what went out is a beginning of the answers to all of them.
     ensures beginning { AnswersBeginning (B.meaning book.now)
         (S.remaining source.old) (K.contents sink.old) (K.contents sink.new) }
 {
