@@ -203,7 +203,7 @@ module _ {V X : Type 0} (items : V → List X) (w : Which) (view : X → ShownOf
   judged xs (Ok false) r a is begins ok not none = subst (λ (s : Result V Fault). AnswersRows s items w view Apart old new) (sym (not refl)) (are_together xs a is)
   judged xs (Err e) r a is begins ok not none = subst (λ (s : Result V Fault). AnswersRows s items w view Apart old new) (sym none) (not_judged xs a begins)
 
--- ---- braille tables, of which memory is asked for the first
+-- ---- braille tables, for the first of which something is allocated
 
 pub tabs_begin : (rows : List Row) (xs : List StoredTab) → map (given tabs) rows ≡ map (shown tabs) xs → xs ≢ []
     → AllByRecursion (λ x. IsUtf8Row tabs (own tabs x)) xs → BeginWith (asked tabs).kinds rows

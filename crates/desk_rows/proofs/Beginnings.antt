@@ -1,4 +1,4 @@
--- The rows for which memory is asked begin with values of their kinds.
+-- The rows for which something is allocated begin with values of their kinds.
 use Rattle.std.proofs.Common.{◌≡◌, ◌<◌, ℕ, suc, zero, List, [], ◌∷◌, get_or, length, take, arith, refl, subst}
 use Rattle.std.specs.Prelude.{⊤}
 use Rattle.sqlite_value.specs.Order.{Row, column}
@@ -39,7 +39,7 @@ kind_there (k ∷ kinds) (v ∷ row) (suc i) lt all = kind_there kinds row i (om
 pub int_there : (kinds : List Kind) (row : Row) (i : ℕ) → i < length kinds → get_or kinds i Any ≡ Integer → HasKinds kinds row → IsInt (column row i)
 int_there kinds row i lt is all = subst (λ (k : Kind). IsOfKind k (column row i)) is (kind_there kinds row i lt all)
 
--- a value that is as it has to be is told as want of memory, if it isn't read
+-- a value that is of its kind is reported as a failed allocation, if it isn't read
 pub value_told : (IsSo : Type 0) (fault : Fault) → IsValueFault IsSo fault → IsSo → fault ≡ NoMemory
 value_told IsSo NoMemory told so = refl
 value_told IsSo Lost told so = absurd told

@@ -27,7 +27,7 @@ FailsToReopen before after NoMemory = ⊤
 FailsToReopen before after Lost = MoreFaults before after
 FailsToReopen before after Refused = ⊥
 
--- A value isn't read: it is refused where it isn't as it has to be, and only one that is can be told as want of memory.
+-- A value isn't read: it is refused if it isn't of its kind, and only one that is can be reported as a failed allocation.
 abbrev pub IsValueFault : Type 0 → Fault → Type 0
 IsValueFault IsSo NoMemory = IsSo
 IsValueFault IsSo Lost = ⊥
