@@ -316,7 +316,7 @@ module _ (s : State) (book : Book) (shows : RowsShowIn s book) (read : List Book
   pub has_its_tables : (row : BookRow) → IsBookRow read row → has_tables (format_in row.format) s.now.schema ≡ true
   has_its_tables row is = subst (λ (f : Format). has_tables f s.now.schema ≡ true) (kept_by_row row is) shows.are.tables
 
--- what is told of the rows of `book` refuses the file
+-- what is reported of the rows of `book` refuses the file
 pub row_refuses : (rows : List BookRow) (fault : OpenFault) → TellsOfRow rows fault → IsRefusal fault
 row_refuses rows NotABook told = tt
 row_refuses rows (Damaged table id) told = tt

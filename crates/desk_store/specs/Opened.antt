@@ -188,8 +188,8 @@ HoldsEitherWith ws l book db = HoldsBook l book db ⊎ HoldsBook (with_tables ws
 abbrev pub HoldsEither : Layout → Book → Trees → Type 0
 HoldsEither l = HoldsEitherWith (lacked l) l
 
--- The book stood there, it stands there in a file with the tables of a new one, and a crash leaves it so, also if it left it in either
--- form before.
+-- The book stood there, it stands there in a file with the tables of a new one, and a crash leaves it so, also if one before left it with
+-- these tables or without.
 pub record IsOpened (l : Layout) (c : Contents) (book : Book) (old new : State) : Type 0 where
   pub stood : StandsAs l c book old
   pub tables : HasNewTables (completed l)
@@ -215,7 +215,7 @@ pub record StopsReading {S : Type 0} (g : Ghosts S) (old : Held S) (new : State)
   pub stays : Stays (state g old) (state g before)
   pub fails : FailsAs (asked table) (shown table) (AreToldApart table) (state g before) new why
 
--- how an error is told that stops the filling of a file which shows a book, so that it isn't refused
+-- how an error is reported that stops the filling of a file which shows a book, so that it isn't refused
 abbrev pub filled_as : Fault → OpenFault
 filled_as fault.NoMemory = NoMemory
 filled_as fault.Lost = Lost
@@ -224,7 +224,7 @@ filled_as fault.Refused = Lost
 abbrev pub IsFilledAs : Error → OpenFault → Type 0
 IsFilledAs e told = (why : Fault) × IsToldAs e why × (told ≡ filled_as why)
 
--- A statement that makes these tables or puts what the book has for them failed with an error that is told so, or the commit did. If the
+-- A statement that makes these tables or puts what the book has for them failed with an error that is reported so, or the commit did. If the
 -- connection is open still, it shows what it showed before.
 pub record StopsFilling {S : Type 0} (g : Ghosts S) (tables : NewTables) (book : Book) (old : Held S) (new : State) (told : OpenFault)
     : Type 0 where

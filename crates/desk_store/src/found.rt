@@ -51,8 +51,8 @@ pub fn found_after_a_crash<S: Alter, T: Alter>(
     let _ = next.schema();
 }
 
-/// What opening a book and keeping a change leave, at any exit, is one of some books: the one that stood there, in the form that its file
-/// had or with the tables that it lacked; the book or the next one; or the empty book.
+/// What opening a book and keeping a change leave, at any exit, is one of some books: the one that stood there, in the file as it was
+/// or with the tables that it lacked; the book or the next one; or the empty book.
 pub fn left_at_any_exit<S: Alter>(conn: &Connection<S>)
     ensures opened { (format : Format) (l : Layout) (book : Book) → IsOfFormat format l
         → Leaves (HoldsEither l book) (state S.Store conn.now)

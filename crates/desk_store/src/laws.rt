@@ -63,7 +63,7 @@ pub fn kept_then_opened<S: Alter, T: Alter>(last: &Store<S>, next: &Connection<T
 }
 
 /// If a book was opened or made, a change that leads on from it may be kept; and a crash leaves the book, if one before it was opened did,
-/// in the form that its file had or with the tables that it lacked.
+/// in the file as it was or with the tables that it lacked.
 pub fn opened_then_kept<S: Alter>(before: &Connection<S>, after: &Store<S>, change: &Change)
     ensures opened { (l : Layout) (c : Contents) (book next : Book)
         → IsOpened l c book (state S.Store before.now) (shown_by S.Store after.now)

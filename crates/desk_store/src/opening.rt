@@ -1,4 +1,4 @@
-//! A book's file opened: checked, read whole, and completed if it is of an older form; or made.
+//! A book's file opened: checked, read whole, and completed if it lacks tables; or made.
 
 ghost use Rattle.std.specs.Prelude.{◌≡◌, ◌⊎◌, Bool, None, Some, false, true, IfErr, IfOk, IsTrue, Ok, OnOk};
 ghost use Rattle.desk_model.specs.declared.new_tables.NewTables.{NewTables};
@@ -110,8 +110,8 @@ fn open_new<S: Alter>(alloc: Global, conn: &mut Connection<S>) -> Result<Book, O
 }
 
 impl<S: Alter> Store<S> {
-    /// Opens the book of a file: the one that its rows show, with the braille of its prints. A file of the first format is
-    /// brought to the second, and one without the cells of its paragraphs gets them, as one transaction. If none of a book's
+    /// Opens the book of a file: the one that its rows show, with the braille of its prints. A file of format 1 is brought
+    /// to format 2, and one without the cells of its paragraphs gets them, as one transaction. If none of a book's
     /// tables is there and `make` is true, the file of the empty book is made. The caller's conditions: no transaction is open
     /// on the connection, and it has no limit on steps.
     ///
@@ -119,7 +119,7 @@ impl<S: Alter> Store<S> {
     ///
     /// [`OpenFault::NotABook`], [`OpenFault::NewerFormat`] and [`OpenFault::Damaged`] if the file shows no book; it then stays
     /// as it was. [`OpenFault::Lost`] if a call of the database failed, and [`OpenFault::NoMemory`]: the file holds the same
-    /// book in the older form or the newer one.
+    /// book, as it was or with the tables that it lacked.
     pub fn open_on(
         alloc: Global,
         connection: &mut Connection<S>,

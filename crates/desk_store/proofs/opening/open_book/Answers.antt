@@ -19,7 +19,7 @@ use Rattle.desk_store.specs.Opening.{IsRefusal, rebuilt_as}
 use Rattle.desk_store.specs.declared.fault.OpenFault.TheVariants.{NoMemory}
 use Rattle.desk_store.proofs.opening.open_book.Goals as goal
 
--- of what is told of rows that are read only want of memory is no refusal
+-- of what is reported of rows that are read only a failed allocation is no refusal
 only_memory : (fault : PartsFault) → (¬ IsRefusal (rebuilt_as fault)) → rebuilt_as fault ≡ NoMemory
 only_memory (rebuilt.Damaged table id) none = absurd (none tt)
 only_memory rebuilt.NoMemory none = refl
