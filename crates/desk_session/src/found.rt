@@ -44,8 +44,8 @@ pub fn opened_after_a_session<S: Alter, T: Alter>(
     let _ = next.schema();
 }
 
-/// A session may begin where a book is opened again after its file was left in either form, as by an opening that failed to bring it to the
-/// new one; and with each book that is kept in a file with the tables of a new one.
+/// A session may begin with a book that is opened again after its file was left as it was or as completed, as by an opening that failed to
+/// complete it; and with each book that is kept in a file with the tables of a new one.
 pub fn begins_after_a_failed_opening<S: Alter>(old: &Connection<S>, new: &Connection<S>)
     ensures opened { (make : Bool) (book : Book)
         → OpensSo S.Store make old.now (state S.Store new.now) (Ok book) → (l : Layout)
