@@ -30,7 +30,7 @@ IsFaultOf text faults.BadLayout = ⊥
 IsFaultOf text faults.File = ⊥
 IsFaultOf text (faults.Taken version) = ⊥
 
--- how the fault of a text is told
+-- how the fault of a text is reported
 abbrev pub read_as : ReadFault → Fault
 read_as (reading.Table fault) = faults.Table fault
 read_as reading.NoMemory = faults.NoMemory

@@ -63,7 +63,7 @@ pub fn make_book<F: Databases + AllocGlobal, K: Sink>(
     tell_version(sink, version)
 }
 
-/// Tells the version of the book in the file at this path.
+/// Shows the version of the book in the file at this path.
 pub fn check_book<F: Databases + AllocGlobal, K: Sink>(
     rt: &F,
     path: &str,
@@ -127,7 +127,7 @@ fn export_volume<K: Sink>(
     Ok(sink.flush()?)
 }
 
-/// Tells a version.
+/// Shows a version.
 fn tell_version<K: Sink>(sink: &mut K, version: u64) -> Result<(), Stop>
     ensures { Says K.Sink sink.old sink.new (version_line version) result }
 {

@@ -20,16 +20,16 @@ use desk_translate::{Ended, translate_lines};
 use desk_words::{Action, Reading, read_words};
 use itoa::{Buffer, Integer};
 
-/// The exit status where what was asked is done.
+/// The exit status if what was asked is done.
 pub const DONE: u8 = 0;
 
-/// The exit status where the words are refused.
+/// The exit status if the words are refused.
 pub const OTHER_WORDS: u8 = 1;
 
 /// The exit status if a file, a table, a book or a volume is refused, or an allocation failed.
 pub const REFUSED: u8 = 2;
 
-/// The exit status where the file of a book, standard input or standard output failed.
+/// The exit status if the file of a book, standard input or standard output failed.
 pub const FAILED: u8 = 3;
 
 // The contracts name them.
