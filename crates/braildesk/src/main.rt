@@ -23,7 +23,7 @@ const NOT_TEXT: &str = "error: a word is not UTF-8\n";
 /// The program's name, which stands before the words.
 const NAME: &str = "braildesk";
 
-/// The words behind the program's name.
+/// The words after the program's name.
 fn read_words(rt: &HostRuntime) -> Result<Vec<Vec<u8>>, Fault> {
     let mut buffer = [0u8; MOST_WORD_BYTES];
     let mut words = Vec::new(rt.alloc());
