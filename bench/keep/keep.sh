@@ -2,7 +2,7 @@
 # Counts how many commands a second are kept durably in books of 10, 100, 1,000 and 10,000 paragraphs, typing at the end, correcting
 # and marking, beside a C program over SQLite's library (bench/keep/keep.c) that writes the same rows in the same transactions, the
 # journal in mode WAL with synchronous FULL. The two take turns on one disk. Where strace is installed, the syncs of a command are counted.
-# Then the opening of the largest book is timed, which reads all rows and judges them with their braille, beside the C program that
+# Then the opening of the largest book is timed, which reads all rows and validates them with their braille, beside the C program that
 # reads the same rows and, where liblouis is installed, lou_translate over the same prints.
 #   bench/keep/keep.sh     RUNS (3): timings of each, of which the best counts; TIMES (200): commands of each kind; COUNTS: sizes of
 #                          books; FOLDER: where the files are, on the disk that is meant
