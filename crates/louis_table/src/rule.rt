@@ -17,7 +17,7 @@ pub enum RuleKind {
     EndWord,
 }
 
-/// A rule of a table: the cells that stand for its characters where its kind allows it.
+/// A rule of a table: the cells that stand for its characters wherever its kind allows it.
 #[derive(Debug, Drop)]
 pub struct Rule {
     /// The number of its line, from 1.
