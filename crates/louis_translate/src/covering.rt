@@ -43,7 +43,7 @@ fn has_no_sign_inside(table: &Table, print: &[char], start: usize, end: usize) -
     true
 }
 
-/// Whether a rule of a kind may cover the places from `start` up to `end`, where its characters stand there.
+/// Whether a rule of a kind may cover the places from `start` up to `end`, if its characters stand there.
 pub(crate) fn may_cover(
     table: &Table,
     print: &[char],

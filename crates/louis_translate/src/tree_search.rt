@@ -7,7 +7,7 @@ use super::covering::may_cover;
 use super::indexed_table::IndexedTable;
 use louis_table::Table;
 
-/// The first of the rules of a node that may be used, where the characters from `at` up to `end` lead to the node.
+/// The first of the rules of a node that may be used, if the characters from `at` up to `end` lead to the node.
 #[inline(always)]
 fn first_of(table: &Table, print: &[char], at: usize, end: usize, rules: &[usize]) -> Option<usize>
     requires order { at < end }
