@@ -37,7 +37,7 @@ entry_row id seq (Undoes undone) = record {
   who = [];
 }
 
--- the new cells of the paragraph with this id, where it has any
+-- the new cells of the paragraph with this id, if it has any
 abbrev pub cells_put : ℕ × Option (List ℕ) → List RowPut
 cells_put (id, None) = []
 cells_put (id, Some new) = PutCache (record { para = row_number id; cells = new }) ∷ []

@@ -22,7 +22,7 @@ pub record AreGrouped (count : ℕ) (rows : List NamedCorr) (groups : List (List
 abbrev pub IsStray : ℕ → List NamedCorr → ℤ → Type 0
 IsStray count rows id = ((row : NamedCorr) × Contains rows row × (row.entry.para ≡ id)) × ¬ IsWithin 1 count id
 
--- the smallest of such ids, where there is one
+-- the smallest of such ids, if there is one
 abbrev pub IsFirstStray : ℕ → List NamedCorr → Option ℤ → Type 0
 IsFirstStray count rows None = (id : ℤ) → ¬ IsStray count rows id
 IsFirstStray count rows (Some first) = IsStray count rows first × ((id : ℤ) → IsStray count rows id → first ≤ℤ id)

@@ -57,7 +57,7 @@ pub record IsFree (order : List ℕ) (place : ℤ) (index : ℕ) : Type 0 where
 abbrev pub IsNext : ℕ → ℤ → Type 0
 IsNext count id = (count < most_paragraphs) × (id ≡ pos (count + 1))
 
--- the row at this index, from 0, is sound, where there are so many places
+-- the row at this index, from 0, is sound, if there are so many places
 pub record IsSoundAt (tables : KeptTables) (places : ℕ) (rows : List Para) (index : ℕ) (row : Para) : Type 0 where
   pub next : IsNext index row.id
   pub place : IsWithin 1 places row.place

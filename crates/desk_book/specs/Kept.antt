@@ -63,19 +63,19 @@ with_id (Para id) new order = flat_map (λ other. if other == id then other ∷ 
 abbrev pub with_id_moved : Anchor → ℕ → List ℕ → List ℕ
 with_id_moved anchor id order = if is_after id anchor then order else with_id anchor id (filter (λ other. not (other == id)) order)
 
--- the paragraph's new cells, where it has any: by its id, from 1
+-- the paragraph's new cells, if it has any: by its id, from 1
 abbrev pub new_cells : List (Option (List ℕ)) → ℕ → Option (List ℕ)
 new_cells cells id = option_and_then (λ found. found) (slice_get cells (id - 1))
 
--- the paragraph with its new cells, where it has any
+-- the paragraph with its new cells, if it has any
 abbrev pub renewed : List (Option (List ℕ)) → ℕ × KeptParagraph → ℕ × KeptParagraph
 renewed cells (id, kept) = (id, option_map_or (λ new. record kept { cells = new }) (new_cells cells id) kept)
 
--- the kept paragraph with these cells, where there are any
+-- the kept paragraph with these cells, if there are any
 abbrev pub with_cells : Option (List ℕ) → KeptParagraph → KeptParagraph
 with_cells new kept = option_map_or (λ cells. record kept { cells = cells }) new kept
 
--- the kept paragraphs in the order of their ids, each with its new cells, where it has any
+-- the kept paragraphs in the order of their ids, each with its new cells, if it has any
 abbrev pub renewed_items : List (Option (List ℕ)) → List KeptParagraph → List KeptParagraph
 renewed_items cells [] = []
 renewed_items [] (kept ∷ items) = kept ∷ items

@@ -48,7 +48,7 @@ pub(crate) enum Effect {
         name: Text,
         /// What comes in its place.
         table: BoxedTable,
-        /// For each paragraph in the order of ids its new cells, or nothing where it doesn't use the table.
+        /// For each paragraph in the order of ids its new cells, or nothing if it doesn't use the table.
         cells: Vec<Option<Cells>>,
     },
     /// A paragraph comes.

@@ -135,7 +135,7 @@ impl Book {
         self.check_version()
     }
 
-    /// What a new entry does, for which there is room, where the table defines its print.
+    /// What a new entry does, for which there is room, if the table defines its print.
     fn entered(
         &self,
         alloc: Global,

@@ -166,7 +166,7 @@ impl<'a> BraillePuts<'a> {
     }
 }
 
-/// The next entry, where entries are put.
+/// The next entry, if entries are put.
 fn next_entry<'a>(entries: &mut Option<EntryPuts<'a>>) -> Option<Put<'a>>
     ensures { LendsFirst (unwrap_or entries.old []) result (unwrap_or entries.new []) }
 {
@@ -176,7 +176,7 @@ fn next_entry<'a>(entries: &mut Option<EntryPuts<'a>>) -> Option<Put<'a>>
     }
 }
 
-/// The next paragraph's braille, where braille is put.
+/// The next paragraph's braille, if braille is put.
 fn next_braille<'a>(braille: &mut Option<BraillePuts<'a>>) -> Option<Put<'a>>
     ensures { LendsFirst (unwrap_or braille.old []) result (unwrap_or braille.new []) }
 {
@@ -224,7 +224,7 @@ impl<'a> Iterator for Filling<'a> {
 }
 
 impl Book {
-    /// What the book puts into new tables of its file, which are empty: the row of the book in the second format with the
+    /// What the book puts into new tables of its file, which are empty: the row of the book in format 2 with the
     /// entries of all histories, or the braille of all paragraphs, or both. Rows that show the book show it still once
     /// they have these tables, and this in them. It takes no memory.
     pub fn filling(&self, tables: NewTables) -> Filling<'_>

@@ -30,7 +30,7 @@ impl<T: Drop> Drop for Items<T> {
     }
 }
 
-/// Room for a list that is longer by one, where the list itself has none. Contracts see how much it is.
+/// Room for a list that is longer by one, if the list itself has none. Contracts see how much it is.
 #[derive(Drop)]
 pub(crate) struct Room<T> {
     items: Option<Vec<T>>,
@@ -47,7 +47,7 @@ impl<T> Model for Room<T> {
     ghost invariant = { λ r. ForSome r.items (λ v. v.items ≡ []) };
 }
 
-/// The room of a list of so many items, where it had this room before the last of them came.
+/// The room of a list of so many items, if it had this room before the last of them came.
 fn grown(room: usize, count: usize) -> usize
     requires { count < 2 ^ 32 }
     ensures { result ≡ grown_lem room count }

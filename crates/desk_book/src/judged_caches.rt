@@ -34,7 +34,7 @@ fn are_masks(masks: &[u8], cells: &[Cell]) -> bool
     true
 }
 
-/// What stands after the masks of cells, where those stand in front.
+/// What stands after the masks of cells, if those stand in front.
 fn after<'a>(masks: &'a [u8], cells: &[Cell]) -> Option<&'a [u8]>
     ensures some { IfSome result (λ rest. masks.now ≡ cells.now ++ rest.now) }
     ensures none { IfNone result ((rest : List _) → masks.now ≢ cells.now ++ rest) }
@@ -47,7 +47,7 @@ fn after<'a>(masks: &'a [u8], cells: &[Cell]) -> Option<&'a [u8]>
     }
 }
 
-/// What stands after the masks of a piece, where those stand in front.
+/// What stands after the masks of a piece, if those stand in front.
 fn after_piece<'a>(masks: &'a [u8], piece: Piece<'_>) -> Option<&'a [u8]>
     ensures some { IfSome result (λ rest. masks.now ≡ (piece.entry.sign.now ++ piece.entry.own.now) ++ rest.now) }
     ensures none { IfNone result ((rest : List _) → masks.now ≢ (piece.entry.sign.now ++ piece.entry.own.now) ++ rest) }

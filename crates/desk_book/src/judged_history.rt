@@ -19,7 +19,7 @@ use desk_parts::{CorrRow, NamedCorrRow};
 use louis_table::Characters;
 use std::alloc::{AllocError, Global};
 
-/// A span's first place and how many characters it has, where a print of so many characters has them all.
+/// A span's first place and how many characters it has, if a print of so many characters has them all.
 fn span(start: i64, len: i64, length: usize) -> Option<(usize, usize)>
     ensures within { IfSome result (λ span. (start ≡ pos span.0) × (len ≡ pos span.1) × (span.0 + span.1 ≤ length)) }
     ensures past { IfNone result ((pos 0 ≤ℤ start) × (pos 0 ≤ℤ len) × ((start +ℤ len) ≤ℤ pos length) → ⊥) }

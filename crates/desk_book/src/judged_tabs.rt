@@ -41,7 +41,7 @@ fn may_come(tables: &Tables, name: &str) -> bool
     tables.len() < MOST_TABLES && is_table_name(name) && tables.get(name).is_none()
 }
 
-/// Reads the text of a row's table. The fault is damage at this number, where the text has no meaning.
+/// Reads the text of a row's table. The fault is damage at this number, if the text has no meaning.
 fn read_body(alloc: Global, body: &[u8], id: i64) -> Result<BookTable, RowsFault>
     ensures text { IfOk result (λ table. table.text ≡ body.now) }
     ensures means { IfOk result (λ table. Means body.now table.rules) }

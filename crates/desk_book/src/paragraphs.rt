@@ -60,7 +60,7 @@ impl Drop for Paragraph {
 }
 
 impl Paragraph {
-    /// Gives the paragraph new cells, where there are any.
+    /// Gives the paragraph new cells, if there are any.
     fn renew(&mut self, new: Option<Cells>)
         ensures { self.new ≡ option_map_or (λ cells. record self.old { cells = cells }) new self.old }
     {
@@ -70,7 +70,7 @@ impl Paragraph {
     }
 }
 
-/// Gives paragraphs, in the order of their ids, new cells, where there are any.
+/// Gives paragraphs, in the order of their ids, new cells, if there are any.
 pub(crate) fn renew(paragraphs: &mut [Paragraph], cells: Vec<Option<Cells>>)
     ensures { paragraphs.new ≡ renewed_items cells.items paragraphs.old }
 {
@@ -413,7 +413,7 @@ impl Paragraphs {
         paragraph.marks.push(room, index);
     }
 
-    /// Gives paragraphs new cells: those with id n the item n - 1, where that has any.
+    /// Gives paragraphs new cells: those with id n the item n - 1, if that has any.
     pub(crate) fn renew(&mut self, cells: Vec<Option<Cells>>)
         ensures { self.new ≡ map (renewed cells.items) self.old }
     {

@@ -485,7 +485,7 @@ impl Book {
         Ok(())
     }
 
-    /// For each paragraph in the order of ids its cells by the rules, where it uses the name.
+    /// For each paragraph in the order of ids its cells by the rules, if it uses the name.
     fn cells_by(
         &self,
         alloc: Global,

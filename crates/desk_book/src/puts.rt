@@ -71,7 +71,7 @@ pub(crate) fn entry(id: u64, seq: u64, entry: &KeptEntry) -> Put<'_>
     }
 }
 
-/// The new cells of paragraphs, those of the paragraph with id n at the index n - 1, where it has any. Contracts see those
+/// The new cells of paragraphs, those of the paragraph with id n at the index n - 1, if it has any. Contracts see those
 /// that are left.
 #[derive(Drop)]
 struct CellPuts<'a> {
@@ -588,7 +588,7 @@ impl Effect {
 impl Change {
     /// What the change puts into the rows of the file of the book on which it was planned: the version, and the rows and the
     /// columns of rows that it gives, to be put by their keys. Put into any rows that show the book, with the table of entries
-    /// with names where one is among it, it makes rows that show the next book: braille is put only where there is `cache`. It
+    /// with names if one is among it, it makes rows that show the next book: braille is put only if there is `cache`. It
     /// takes no memory.
     pub fn puts<'a>(&'a self, book: &'a Book) -> Puts<'a>
         requires { (command : _) × (next : _) × Carries book.now command next self.now }

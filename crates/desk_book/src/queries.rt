@@ -44,7 +44,7 @@ impl Book {
     ///
     /// # Errors
     ///
-    /// `NoParagraph` exactly where the book has none with this id.
+    /// `NoParagraph` exactly if the book has none with this id.
     pub fn print(&self, id: u64) -> Result<&[char], Refusal>
         ensures found { IfOk result (λ print. (paragraph : _) × (paragraph_of self.now id ≡ Some paragraph)
             × (print.now ≡ print_of paragraph)) }
@@ -72,7 +72,7 @@ impl Book {
     ///
     /// # Errors
     ///
-    /// `NoParagraph` exactly where the book has no such paragraph, else `BadSpan` exactly where its print has no such
+    /// `NoParagraph` exactly if the book has no such paragraph, else `BadSpan` exactly if its print has no such
     /// place.
     pub fn where_is(&self, id: u64, place: usize) -> Result<usize, Refusal>
         ensures found { IfOk result (λ cell. (paragraph : _) × (paragraph_of self.now id ≡ Some paragraph)
@@ -94,7 +94,7 @@ impl Book {
     ///
     /// # Errors
     ///
-    /// `NoParagraph` exactly where the book has no such paragraph, else `BadSpan` exactly where its braille has no such
+    /// `NoParagraph` exactly if the book has no such paragraph, else `BadSpan` exactly if its braille has no such
     /// cell.
     pub fn whence(&self, id: u64, cell: usize) -> Result<usize, Refusal>
         ensures found { IfOk result (λ place. (paragraph : _) × (paragraph_of self.now id ≡ Some paragraph)

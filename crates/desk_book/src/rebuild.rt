@@ -62,7 +62,7 @@ fn look_at_marks(rows: &[MarkRow])
     }
 }
 
-/// The entries of the first format as those of proofreaders without a name.
+/// The entries of format 1 as those of proofreaders without a name.
 fn with_no_names(alloc: Global, rows: Vec<CorrRow>) -> Result<Vec<NamedCorrRow>, AllocError>
     ensures { IfOk result (λ named. named.items ≡ map unnamed rows.items) }
 {
@@ -74,7 +74,7 @@ fn with_no_names(alloc: Global, rows: Vec<CorrRow>) -> Result<Vec<NamedCorrRow>,
     Ok(named)
 }
 
-/// The entries of either format as those of the second.
+/// The entries of either format as those of format 2.
 fn with_names(alloc: Global, entries: EntryRows) -> Result<Vec<NamedCorrRow>, AllocError>
     ensures { IfOk result (λ named. named.items ≡ entries_in (entry_rows entries)) }
 {
