@@ -1,6 +1,6 @@
 //! A buffer in front of a writer.
 //!
-//! std's buffer writes again where a write was interrupted, and once more when it is dropped. This one writes once.
+//! std's buffer writes again if a write was interrupted, and once more when it is dropped. This one writes once.
 ghost use Rattle.std.specs.Io.KnownBytes.{Appends, Keeps, append_known};
 ghost use Rattle.std.specs.Prelude.{IfOk, OnOk, [], drop, length, take, vec_capacity, vec_len, ◌+◌, ◌++◌, ◌≡◌, ◌≤◌};
 

@@ -18,7 +18,7 @@ pub struct Failed;
 
 /// Where bytes come from.
 pub trait Source {
-    // The bytes that are left, where they are known.
+    // The bytes that are left, if they are known.
     ghost remaining: { Self → Option (List ℕ) };
 
     // Whether a read can fail.
@@ -33,10 +33,10 @@ pub trait Source {
 
 /// Where bytes go.
 pub trait Sink {
-    // The bytes that went in, where they are known.
+    // The bytes that went in, if they are known.
     ghost contents: { Self → Option (List ℕ) };
 
-    // What of it was passed on by flushes, where that is known.
+    // What of it was passed on by flushes, if that is known.
     ghost flushed: { Self → Option (List ℕ) };
 
     // Whether a write or a flush can fail.

@@ -70,7 +70,7 @@ impl Line {
         self.len == 0 && !self.is_over
     }
 
-    /// The line with its ending, or `None` where it has more bytes than a line may have.
+    /// The line with its ending, or `None` if it has more bytes than a line may have.
     pub fn bytes(&self) -> Option<&[u8]>
         ensures { option_copied result ≡ self.now }
     {
