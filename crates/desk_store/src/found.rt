@@ -19,7 +19,7 @@ ghost use Rattle.std.specs.Prelude.{Bool, IfErr, IfOk, IsTrue, List, Ok, Result,
 
 use sqlite::{Alter, Connection};
 
-/// Whatever a crash leaves of a connection, where each outcome holds one of some books in a file of either format: a connection that opened
+/// Whatever a crash leaves of a connection, if each outcome holds one of some books in a file of either format: a connection that opened
 /// at it finds one of these when the book is opened, or no refusal is reported. If the new connection leaves just what it shows, the book
 /// that is found is then kept in a file with the tables of a new one. If each outcome holds no book or the empty one, only the empty book
 /// is found or made, or it is reported that there is none, and there is none.

@@ -32,7 +32,7 @@ pub fn puts_of_the_book()
         → rows_of l (puts_into puts c) ≡ with_puts puts (rows_of l c) }
 {}
 
-/// Rows that show a book differ by their numbers, where a table's key is one.
+/// Rows that show a book differ by their numbers, in each table whose key is one.
 pub fn numbers_differ()
     ensures { (rows : FileRows) (book : Book) → RowsShow rows book → HaveOwnNumbers rows }
 {}
