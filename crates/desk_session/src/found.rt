@@ -18,9 +18,9 @@ ghost use Rattle.std.specs.Prelude.{Bool, IfErr, IfOk, IsTrue, List, Ok, Result,
 use desk_store::Store;
 use sqlite::{Alter, Connection};
 
-/// Whatever a crash leaves after a session, however that ended: where a connection opened at it and the book is opened, the book after the
+/// Whatever a crash leaves after a session, however that ended: if a connection opened at it and the book is opened, the book after the
 /// first of the commands that the session gave is found, with all that were acknowledged and at most one more, or no refusal is reported. The
-/// next session may begin with that book, where a crash of the new connection leaves just what it shows.
+/// next session may begin with that book, if a crash of the new connection leaves just what it shows.
 pub fn opened_after_a_session<S: Alter, T: Alter>(
     last: &Store<S>,
     next: &Connection<T>,
@@ -55,7 +55,7 @@ pub fn begins_after_a_failed_opening<S: Alter>(old: &Connection<S>, new: &Connec
         → MayBegin book (state S.Store new.now) }
 {}
 
-/// A session may begin too where the file of a book wasn't opened at first, though it isn't refused, and the book is opened on the same
+/// A session may begin too if the file of a book wasn't opened at first, though it isn't refused, and the book is opened on the same
 /// connection then, which was open still. What a crash would leave in between is what opening leaves at any exit.
 pub fn begins_where_opening_stopped_first<S: Alter>(
     first: &Connection<S>,

@@ -20,7 +20,7 @@ ghost use Rattle.std.specs.List.{All, Contains};
 use desk_store::Store;
 use sqlite::{Alter, Connection};
 
-/// Each command that a session gave was a request of it, done and acknowledged where the writer took the whole reply,
+/// Each command that a session gave was a request of it, done and acknowledged if the writer took the whole reply,
 /// or lost and not acknowledged; and each request that was done was given so.
 pub fn given_commands()
     ensures given { (book last : Book) (turns : List Turn) (given : List Given) (one : Given)
@@ -39,8 +39,8 @@ pub fn first_requests()
         → (others : List (List ℕ)) × (all ≡ requests ++ others) }
 {}
 
-/// The book that a session holds at its end is the one after all the commands that it gave, but where the store failed
-/// to keep the last one: without that.
+/// The book that a session holds at its end is the one after all the commands that it gave, without the last one if the
+/// store failed to keep that.
 pub fn held_books()
     ensures { (book last : Book) (turns : List Turn) (given : List Given)
         → IsSession book turns given last → IsHeld book turns given last }
@@ -67,8 +67,8 @@ pub fn life()
         → IsLife book sessions found → Contains sessions lived → AllButOne lived.kept }
 {}
 
-/// A session may begin over a connection on which a book was opened: where the book stood in the file and a crash would have
-/// left it, or where it was made.
+/// A session may begin over a connection on which a book was opened: if the book stood in the file and a crash would have
+/// left it, or if it was made.
 pub fn begins_where_a_book_was_opened<S: Alter>(old: &Connection<S>, new: &Connection<S>)
     ensures opened { (make : Bool) (book : Book)
         → OpensSo S.Store make old.now (state S.Store new.now) (Ok book) → (l : Layout)

@@ -28,7 +28,7 @@ pub enum Ended {
 /// Answers the requests of a source, one after another, by replies to a sink.
 ///
 /// Each accepted command is kept in the file of the store, before it is put into the book and acknowledged. A reply is
-/// flushed before the next request is read. A read, a write or a flush that fails, in any way, isn't tried again. Where a
+/// flushed before the next request is read. A read, a write or a flush that fails, in any way, isn't tried again. If a
 /// command is lost, this is replied, and the session ends. The first failure says how it ended.
 ///
 /// The caller's condition: no change was lost on the store, and its file shows the book in tables as they are made.
