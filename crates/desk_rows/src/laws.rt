@@ -78,7 +78,7 @@ pub fn texts_as_written()
         → HaveOwnRowids xs }
 {}
 
-/// A file where the tables were made keeps what the database keeps aside.
+/// A file in which the tables were made keeps what the database keeps aside.
 pub fn made_keeps()
     ensures { (s : Schema) (rows db : Trees) → IsNew s rows (λ c. IsFile (made s) c db)
         → KeepsAside s rows db }

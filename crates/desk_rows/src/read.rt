@@ -87,7 +87,7 @@ pub fn read_rows<T: TableRow, S: Alter>(
 fn have_own_rowids(alloc: Global, tabs: &[StoredTab]) -> Result<bool, AllocError>
     ensures apart { IfOk result (λ apart. MatchBool apart (HaveOwnRowids tabs.now)
         (¬ HaveOwnRowids tabs.now)) }
-    // Memory is asked for only where there is a table.
+    // Memory is asked for only if there is a table.
     ensures no_memory { OnErr result (tabs.now ≢ []) }
 {
     let mut seen = BTreeSet::new(alloc);
