@@ -205,7 +205,7 @@ IsDamagedCache tabs paras caches id =
 
 -- ---- what is reported
 
--- the table has damage at this id; `cache` only where it is there, and of `corr` and `corr2` the one that is read
+-- the table has damage at this id; `cache` only if it is there, and of `corr` and `corr2` the one that is read
 abbrev pub IsDamaged : FileRows → FileTable → ℤ → Type 0
 IsDamaged rows Book id = IsDamagedBook rows.books id
 IsDamaged rows Tab id = IsDamagedTab rows.tabs id
@@ -231,6 +231,6 @@ pub record IsFirstDamage (rows : FileRows) (table : FileTable) (id : ℤ) : Type
   pub tables : (other : FileTable) (n : ℤ) → IsDamaged rows other n → table_turn table ≤ table_turn other
   pub ids : (n : ℤ) → IsDamaged rows table n → id ≤ℤ n
 
--- where `book` has one row, with a format from 1 on, the entries are those of this format
+-- if `book` has one row, with a format from 1 on, the entries are those of this format
 abbrev pub HasItsTables : FileRows → Type 0
 HasItsTables rows = (row : BookRow) → rows.books ≡ row ∷ [] → pos 1 ≤ℤ row.format → row.format ≡ pos (format_of rows.entries)

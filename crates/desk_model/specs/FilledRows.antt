@@ -26,7 +26,7 @@ new_rows = record {
 abbrev pub with_caches : List Cached → FileRows → FileRows
 with_caches caches rows = record rows { caches = Some caches }
 
--- in the second format, each entry with a name, empty where it had none
+-- in the second format, each entry with a name, empty if it had none
 abbrev pub in_second_format : FileRows → FileRows
 in_second_format rows = record rows {
   books = map (λ (row : BookRow). record row { format = pos 2 }) rows.books;

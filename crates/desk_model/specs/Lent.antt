@@ -79,11 +79,11 @@ IsLent book next command (SetVersion version) = version ≡ row_number next.vers
 abbrev pub AreLent : (book next : Book) → Command → List RowPut → Type 0
 AreLent book next command puts = All (IsLent book next command) puts
 
--- the rows have the table of entries with names, where one is put
+-- the rows have the table of entries with names, if one is put
 abbrev pub TakesEntries : FileRows → List RowPut → Type 0
 TakesEntries rows puts = (row : NamedCorr) → Contains puts (PutEntry row) → table_of rows.entries ≡ NamedCorrTable
 
 -- Put into any rows that show the book, and that take the entries among them, they make rows that show the next. A row of
--- `cache` is put only where that is there.
+-- `cache` is put only if that is there.
 abbrev pub LeadTo : Book → List RowPut → Book → Type 0
 LeadTo book puts next = (rows : FileRows) → Shows rows book → TakesEntries rows puts → Shows (with_puts puts rows) next

@@ -20,7 +20,7 @@ pub record IsTableName (name : List ℕ) : Type 0 where
 abbrev pub is_proofreader_character : ℕ → Bool
 is_proofreader_character character = not (character == 32) && not (is_barred character)
 
--- such characters, no more than a proofreader's name may have; none where the proofreader isn't named
+-- such characters, no more than a proofreader's name may have; none if the proofreader isn't named
 pub record IsProofreaderName (name : List ℕ) : Type 0 where
   pub short : length name ≤ most_proofreader
   pub characters : All (λ character. is_proofreader_character character ≡ true) name

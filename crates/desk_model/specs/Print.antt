@@ -12,7 +12,7 @@ abbrev pub undoes : ℕ → Entry → Bool
 undoes n (Corrects r who) = false
 undoes n (Undoes undone) = undone == n
 
--- the entry with its number n, where it is a correction that no undo of the history names
+-- the entry with its number n, if it is a correction that no undo of the history names
 abbrev pub in_force : List Entry → ℕ × Entry → List (ℕ × Replacement)
 in_force history (n, Corrects r who) = if list_any (undoes n) history then [] else (n, r) ∷ []
 in_force history (n, Undoes undone) = []

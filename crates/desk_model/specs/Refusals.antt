@@ -323,7 +323,7 @@ HasNothingToUndo book (Volume id begins) = ⊥
 HasNothingToUndo book (Retable id table) = ⊥
 HasNothingToUndo book (Move id anchor) = ⊥
 
--- the print that a paragraph would have by the command, where that changes one
+-- the print that a paragraph would have by the command, if that changes one
 abbrev pub new_print : Book → Command → Option (List ℕ)
 new_print book (Table name text) = None
 new_print book (TypeIn anchor table text) = Some (stored text)
@@ -402,7 +402,7 @@ pub record IsBadTable (command : Command) (fault : TableFault) : Type 0 where
   pub given : table_given command ≡ Some (name, text)
   pub bad : Bad text fault.line fault.cause
 
--- the print that a paragraph would have, and the name of the table that it would use, where the command changes one
+-- the print that a paragraph would have, and the name of the table that it would use, if the command changes one
 abbrev pub print_to_translate : Book → Command → Option (List ℕ × List ℕ)
 print_to_translate book (Table name text) = None
 print_to_translate book (TypeIn anchor table text) = Some (stored text, table)

@@ -124,7 +124,7 @@ with_resolved id marks = map (resolved_by id) marks
 
 -- ---- each command
 
--- the command, where it is accepted, makes the next book of this one
+-- the command, if it is accepted, makes the next book of this one
 abbrev pub Makes : Book → Command → Book → Type 0
 Makes book (Table name text) next = next ≡ next_with_tables book (put (slice_cmp nat_cmp) name text book.tables)
 Makes book (TypeIn anchor table text) next =

@@ -20,7 +20,7 @@ ghost use Rattle.std.specs.List.{All};
 ghost use Rattle.std.specs.Prelude.{IsNone, IsSome, List, None, Option, [], ◌∷◌, map, ℕ, ℤ, ◌++◌, ◌↔◌, ◌≡◌};
 
 /// A list of commands, cut anywhere: the whole of it makes of a book what its second part makes of the book that its
-/// first part makes, and is accepted exactly where both parts are.
+/// first part makes, and is accepted exactly if both parts are.
 pub fn histories_in_parts()
     ensures { (book last : Book) (u v : List Command)
         → After book (u ++ v) last ↔ ((middle : Book) × After book u middle × After middle v last) }
@@ -102,7 +102,7 @@ pub fn shown_rows_are_sound()
     ensures { (rows : FileRows) (book : Book) → Shows rows book → (table : FileTable) (id : ℤ) → ¬ IsDamaged rows table id }
 {}
 
-/// Rows show a book exactly where their texts are UTF-8, their tables are those of their format, and they have no
+/// Rows show a book exactly if their texts are UTF-8, their tables are those of their format, and they have no
 /// damage.
 pub fn undamaged_rows_show_a_book()
     ensures { (rows : FileRows) → ((book : Book) × Shows rows book)
