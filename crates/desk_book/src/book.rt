@@ -35,7 +35,7 @@ impl Model for Book {
 }
 
 impl Book {
-    /// A book without anything, at version 0. It takes no memory, so it is always `Ok`.
+    /// A book without anything, at version 0. It allocates nothing, so it is always `Ok`.
     pub fn new(alloc: Global) -> Result<Self, AllocError>
         ensures { MatchResult result (λ book. book ≡ empty_book) (λ _. ⊥) }
     {

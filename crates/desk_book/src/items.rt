@@ -113,7 +113,7 @@ impl<T: Drop> Items<T> {
         Ok(Room { items: Some(items) })
     }
 
-    /// Puts an item after the others. It takes no memory.
+    /// Puts an item after the others. It allocates nothing.
     pub(crate) fn push(&mut self, room: Room<T>, item: T)
         requires few { length self.old + 1 < 2 ^ 32 }
         requires room { Suffices (length self.old) room }
@@ -129,7 +129,7 @@ impl<T: Drop> Items<T> {
         self.items = items;
     }
 
-    /// The items with one more at a place, before those that stand there and after. It takes no memory.
+    /// The items with one more at a place, before those that stand there and after. It allocates nothing.
     pub(crate) fn inserted(self, room: Room<T>, place: usize, item: T) -> Self
         requires few { length self + 1 < 2 ^ 32 }
         requires room { Suffices (length self) room }

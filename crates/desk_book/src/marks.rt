@@ -187,7 +187,7 @@ impl Marks {
         self.items.room(alloc)
     }
 
-    /// Puts a mark after the others. It takes no memory.
+    /// Puts a mark after the others. It allocates nothing.
     pub(crate) fn push(&mut self, room: Room<KeptMark>, mark: KeptMark)
         requires few { length self.old + 1 < 2 ^ 32 }
         requires room { Suffices (length self.old) room }

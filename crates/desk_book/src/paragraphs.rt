@@ -174,7 +174,7 @@ fn place_of(ids: &[u64], id: u64) -> Option<usize>
     ids.iter().position(|other| *other == id)
 }
 
-/// Puts the ids in the place of those that a list has. It takes no memory.
+/// Puts the ids in the place of those that a list has. It allocates nothing.
 fn put_over(ids: &mut Items<u64>, new: &[u64])
     requires { length new.now ≡ length ids.old }
     ensures { ids.new ≡ new.now }
@@ -316,7 +316,7 @@ impl Paragraphs {
         Ok(Order { ids })
     }
 
-    /// These paragraphs and a new one, which stands at a place of the order. It takes no memory.
+    /// These paragraphs and a new one, which stands at a place of the order. It allocates nothing.
     pub(crate) fn typed(
         self,
         paragraph: Paragraph,
@@ -338,7 +338,7 @@ impl Paragraphs {
         Paragraphs { items, order }
     }
 
-    /// These paragraphs in another order. It takes no memory.
+    /// These paragraphs in another order. It allocates nothing.
     pub(crate) fn reordered(self, order: Order) -> Self
         requires { IsPermutation (range_with_len 1 (length self)) order }
         ensures { result ≡ arranged order self }
@@ -378,7 +378,7 @@ impl Paragraphs {
     }
 
     /// Gives the paragraph with an id, which is there, another print and the cells of it, and its history one entry more.
-    /// It takes no memory.
+    /// It allocates nothing.
     pub(crate) fn change_print(&mut self, id: u64, change: PrintChange)
         requires { HasRoomFor self.old id change.room }
         ensures { self.new ≡ with_kept_change id (with_print_changed change) self.old }
@@ -401,7 +401,7 @@ impl Paragraphs {
         paragraph.cells = cells;
     }
 
-    /// Gives the paragraph with an id, if there is one, the index of one more of its marks. It takes no memory.
+    /// Gives the paragraph with an id, if there is one, the index of one more of its marks. It allocates nothing.
     pub(crate) fn add_mark(&mut self, id: u64, room: Room<usize>, index: usize)
         requires { HasRoomForMark self.old id room }
         ensures { self.new ≡ with_kept_change id (with_mark index) self.old }

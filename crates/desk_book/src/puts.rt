@@ -289,7 +289,7 @@ impl<'a> Walk<'a> {
     }
 }
 
-/// What a change puts into the rows of its book's file, in order. It takes no memory. Contracts see what is left.
+/// What a change puts into the rows of its book's file, in order. It allocates nothing. Contracts see what is left.
 #[derive(Drop)]
 pub struct Puts<'a> {
     version: Option<Put<'a>>,
@@ -589,7 +589,7 @@ impl Change {
     /// What the change puts into the rows of the file of the book on which it was planned: the version, and the rows and the
     /// columns of rows that it gives, to be put by their keys. Put into any rows that show the book, with the table of entries
     /// with names if one is among it, it makes rows that show the next book: braille is put only if there is `cache`. It
-    /// takes no memory.
+    /// allocates nothing.
     pub fn puts<'a>(&'a self, book: &'a Book) -> Puts<'a>
         requires { (command : _) × (next : _) × Carries book.now command next self.now }
         ensures these { result ≡ change_puts book.now self.now }

@@ -220,7 +220,7 @@ impl Book {
         }
     }
 
-    /// The book with a change that was planned on it. It takes no memory.
+    /// The book with a change that was planned on it. It allocates nothing.
     pub fn settle(self, change: Change) -> Self
         requires { (command : _) × (next : _) × Carries self command next change }
         ensures { (command : _) (next : _) → Carries self command next change → result ≡ next }

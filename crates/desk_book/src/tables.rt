@@ -203,7 +203,7 @@ impl Tables {
         *old = table.into_inner();
     }
 
-    /// These tables and a new one. It takes no memory.
+    /// These tables and a new one. It allocates nothing.
     pub(crate) fn joined(self, name: Text, table: BoxedTable, room: TablesRoom) -> Self
         requires room { length self < room }
         requires new { lookup (pointwise nat_eq name) self ≡ None }

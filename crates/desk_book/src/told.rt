@@ -9,7 +9,7 @@ use super::history::KeptEntry;
 use desk_model::{Done, HistoryItem};
 use std::marker::Model;
 
-/// The entries of a paragraph's history in order. It takes no memory. Contracts see it as those that are left, with
+/// The entries of a paragraph's history in order. It allocates nothing. Contracts see it as those that are left, with
 /// their numbers.
 #[derive(Drop)]
 pub struct History<'a> {
