@@ -9,7 +9,7 @@
 //! ```
 //!
 //! Every reader of std is a `Source` and every writer a `Sink`. An `Input` reads a source line by line, each into a `Line`
-//! that takes no memory. What lines mean is left to the crates above.
+//! that allocates nothing. What lines mean is left to the crates above.
 #![tactic(auto)]
 
 mod block;

@@ -7,7 +7,7 @@
 //! assert_eq!(rt; ended, Ended::Done);
 //! ```
 //!
-//! No memory is taken. Which cells a print has is `louis_translate`'s, by the rule book that is given; lines are read from a
+//! Nothing is allocated. Which cells a print has is `louis_translate`'s, by the rule book that is given; lines are read from a
 //! source of `desk_ends`, and answers go to a sink of it. Where a table comes from is left to `desk_program`.
 #![tactic(auto)]
 
