@@ -1,5 +1,5 @@
 -- When a command is refused, and with which refusal. Only the first that holds is reported.
-use Rattle.std.specs.Prelude.{◌≡◌, ◌≢◌, ℕ, ◌⊎◌, ◌+◌, ◌*◌, ◌<◌, ◌≤◌, Bool, true, false, List, [], ◌∷◌, ◌++◌, length, Option, Some, None, option_map}
+use Rattle.std.specs.Prelude.{◌≡◌, ◌≢◌, ℕ, ◌⊎◌, ◌+◌, ◌*◌, ◌<◌, ◌≤◌, Bool, true, false, List, [], ◌∷◌, ◌++◌, length, Option, Some, None, MatchOption, option_map}
 use Rattle.std.specs.List.{All, Contains}
 use Rattle.std.specs.Option.{option_and_then}
 use Rattle.louis_table.specs.Meaning.{Meaning}
@@ -25,125 +25,59 @@ use Rattle.desk_model.specs.Translated.{LacksCells}
 
 -- ---- what a command names
 
--- the name of the table that it adds or replaces, and the text
-abbrev pub table_given : Command → Option (List ℕ × List ℕ)
-table_given (Table name text) = Some (name, text)
-table_given (TypeIn anchor table text) = None
-table_given (Correct id start count text who) = None
-table_given (Undo id) = None
-table_given (Mark id cell count note) = None
-table_given (Resolve id) = None
-table_given (Strike id) = None
-table_given (Restore id) = None
-table_given (Style id style) = None
-table_given (Volume id begins) = None
-table_given (Retable id table) = None
-table_given (Move id anchor) = None
+-- characters of a paragraph's print, up to a place, or cells of its braille, from a place, so many
+pub data Span : Type 0 where
+  Characters : (id end : ℕ) → Span
+  Cells : (id cell count : ℕ) → Span
 
--- a text that is given, which may have no barred character
-abbrev pub text_given : Command → Option (List ℕ)
-text_given (Table name text) = None
-text_given (TypeIn anchor table text) = Some text
-text_given (Correct id start count text who) = Some text
-text_given (Undo id) = None
-text_given (Mark id cell count note) = Some note
-text_given (Resolve id) = None
-text_given (Strike id) = None
-text_given (Restore id) = None
-text_given (Style id style) = None
-text_given (Volume id begins) = None
-text_given (Retable id table) = None
-text_given (Move id anchor) = None
+-- What a command gives and names that a refusal may speak of. What it doesn't name is None, [] or false.
+pub record Named : Type 0 where
+  -- the name of the table that it adds or replaces, and the text
+  pub table_given : Option (List ℕ × List ℕ)
+  -- a text that is given, which may have no barred character
+  pub text_given : Option (List ℕ)
+  -- the name of a proofreader that is given
+  pub proofreader_given : Option (List ℕ)
+  -- a text that is typed or put in place of another, as it is stored
+  pub text_stored : Option (List ℕ)
+  -- the note of a new mark
+  pub note_given : Option (List ℕ)
+  -- the mark that it speaks of
+  pub mark_named : Option ℕ
+  -- the paragraph whose history gets an entry
+  pub history_grown : Option ℕ
+  -- whether it makes a new paragraph
+  pub adds_paragraph : Bool
+  -- the paragraphs that it speaks of
+  pub paragraphs_named : List ℕ
+  -- the table that a paragraph is to use
+  pub table_named : Option (List ℕ)
+  -- the paragraph that it can't act on while that is struck
+  pub live_paragraph : Option ℕ
+  -- the paragraph that it can't act on unless that is struck
+  pub struck_paragraph : Option ℕ
+  -- the characters that it replaces or the cells that it marks
+  pub span_named : Option Span
+  -- the paragraph whose newest correction it takes back
+  pub paragraph_undone : Option ℕ
 
--- the name of a proofreader that is given
-abbrev pub proofreader_given : Command → Option (List ℕ)
-proofreader_given (Table name text) = None
-proofreader_given (TypeIn anchor table text) = None
-proofreader_given (Correct id start count text who) = Some who
-proofreader_given (Undo id) = None
-proofreader_given (Mark id cell count note) = None
-proofreader_given (Resolve id) = None
-proofreader_given (Strike id) = None
-proofreader_given (Restore id) = None
-proofreader_given (Style id style) = None
-proofreader_given (Volume id begins) = None
-proofreader_given (Retable id table) = None
-proofreader_given (Move id anchor) = None
-
--- a text that is typed or put in place of another, as it is stored
-abbrev pub text_stored : Command → Option (List ℕ)
-text_stored (Table name text) = None
-text_stored (TypeIn anchor table text) = Some (stored text)
-text_stored (Correct id start count text who) = Some (stored text)
-text_stored (Undo id) = None
-text_stored (Mark id cell count note) = None
-text_stored (Resolve id) = None
-text_stored (Strike id) = None
-text_stored (Restore id) = None
-text_stored (Style id style) = None
-text_stored (Volume id begins) = None
-text_stored (Retable id table) = None
-text_stored (Move id anchor) = None
-
--- the note of a new mark
-abbrev pub note_given : Command → Option (List ℕ)
-note_given (Table name text) = None
-note_given (TypeIn anchor table text) = None
-note_given (Correct id start count text who) = None
-note_given (Undo id) = None
-note_given (Mark id cell count note) = Some note
-note_given (Resolve id) = None
-note_given (Strike id) = None
-note_given (Restore id) = None
-note_given (Style id style) = None
-note_given (Volume id begins) = None
-note_given (Retable id table) = None
-note_given (Move id anchor) = None
-
--- the mark that it speaks of
-abbrev pub mark_named : Command → Option ℕ
-mark_named (Table name text) = None
-mark_named (TypeIn anchor table text) = None
-mark_named (Correct id start count text who) = None
-mark_named (Undo id) = None
-mark_named (Mark id cell count note) = None
-mark_named (Resolve id) = Some id
-mark_named (Strike id) = None
-mark_named (Restore id) = None
-mark_named (Style id style) = None
-mark_named (Volume id begins) = None
-mark_named (Retable id table) = None
-mark_named (Move id anchor) = None
-
--- the paragraph whose history gets an entry
-abbrev pub history_grown : Command → Option ℕ
-history_grown (Table name text) = None
-history_grown (TypeIn anchor table text) = None
-history_grown (Correct id start count text who) = Some id
-history_grown (Undo id) = Some id
-history_grown (Mark id cell count note) = None
-history_grown (Resolve id) = None
-history_grown (Strike id) = None
-history_grown (Restore id) = None
-history_grown (Style id style) = None
-history_grown (Volume id begins) = None
-history_grown (Retable id table) = None
-history_grown (Move id anchor) = None
-
--- whether it makes a new paragraph
-abbrev pub adds_paragraph : Command → Bool
-adds_paragraph (Table name text) = false
-adds_paragraph (TypeIn anchor table text) = true
-adds_paragraph (Correct id start count text who) = false
-adds_paragraph (Undo id) = false
-adds_paragraph (Mark id cell count note) = false
-adds_paragraph (Resolve id) = false
-adds_paragraph (Strike id) = false
-adds_paragraph (Restore id) = false
-adds_paragraph (Style id style) = false
-adds_paragraph (Volume id begins) = false
-adds_paragraph (Retable id table) = false
-adds_paragraph (Move id anchor) = false
+abbrev pub nothing_named : Named
+nothing_named = record {
+  table_given = None;
+  text_given = None;
+  proofreader_given = None;
+  text_stored = None;
+  note_given = None;
+  mark_named = None;
+  history_grown = None;
+  adds_paragraph = false;
+  paragraphs_named = [];
+  table_named = None;
+  live_paragraph = None;
+  struck_paragraph = None;
+  span_named = None;
+  paragraph_undone = None;
+}
 
 -- the paragraph that something is put after
 abbrev pub paragraph_before : Anchor → List ℕ
@@ -151,65 +85,84 @@ paragraph_before Front = []
 paragraph_before End = []
 paragraph_before (Para id) = id ∷ []
 
--- the paragraphs that it speaks of
+abbrev pub named_by : Command → Named
+named_by (Table name text) = record nothing_named { table_given = Some (name, text) }
+named_by (TypeIn anchor table text) = record nothing_named {
+  text_given = Some text;
+  text_stored = Some (stored text);
+  adds_paragraph = true;
+  paragraphs_named = paragraph_before anchor;
+  table_named = Some table;
+}
+named_by (Correct id start count text who) = record nothing_named {
+  text_given = Some text;
+  proofreader_given = Some who;
+  text_stored = Some (stored text);
+  history_grown = Some id;
+  paragraphs_named = id ∷ [];
+  live_paragraph = Some id;
+  span_named = Some (Characters id (start + count));
+}
+named_by (Undo id) = record nothing_named {
+  history_grown = Some id;
+  paragraphs_named = id ∷ [];
+  live_paragraph = Some id;
+  paragraph_undone = Some id;
+}
+named_by (Mark id cell count note) = record nothing_named {
+  text_given = Some note;
+  note_given = Some note;
+  paragraphs_named = id ∷ [];
+  live_paragraph = Some id;
+  span_named = Some (Cells id cell count);
+}
+named_by (Resolve id) = record nothing_named { mark_named = Some id }
+named_by (Strike id) = record nothing_named { paragraphs_named = id ∷ []; live_paragraph = Some id }
+named_by (Restore id) = record nothing_named { paragraphs_named = id ∷ []; struck_paragraph = Some id }
+named_by (Style id style) = record nothing_named { paragraphs_named = id ∷ [] }
+named_by (Volume id begins) = record nothing_named { paragraphs_named = id ∷ [] }
+named_by (Retable id table) = record nothing_named {
+  paragraphs_named = id ∷ [];
+  table_named = Some table;
+  live_paragraph = Some id;
+}
+named_by (Move id anchor) = record nothing_named { paragraphs_named = id ∷ paragraph_before anchor }
+
+abbrev pub table_given : Command → Option (List ℕ × List ℕ)
+table_given command = (named_by command).table_given
+
+abbrev pub text_given : Command → Option (List ℕ)
+text_given command = (named_by command).text_given
+
+abbrev pub proofreader_given : Command → Option (List ℕ)
+proofreader_given command = (named_by command).proofreader_given
+
+abbrev pub text_stored : Command → Option (List ℕ)
+text_stored command = (named_by command).text_stored
+
+abbrev pub note_given : Command → Option (List ℕ)
+note_given command = (named_by command).note_given
+
+abbrev pub mark_named : Command → Option ℕ
+mark_named command = (named_by command).mark_named
+
+abbrev pub history_grown : Command → Option ℕ
+history_grown command = (named_by command).history_grown
+
+abbrev pub adds_paragraph : Command → Bool
+adds_paragraph command = (named_by command).adds_paragraph
+
 abbrev pub paragraphs_named : Command → List ℕ
-paragraphs_named (Table name text) = []
-paragraphs_named (TypeIn anchor table text) = paragraph_before anchor
-paragraphs_named (Correct id start count text who) = id ∷ []
-paragraphs_named (Undo id) = id ∷ []
-paragraphs_named (Mark id cell count note) = id ∷ []
-paragraphs_named (Resolve id) = []
-paragraphs_named (Strike id) = id ∷ []
-paragraphs_named (Restore id) = id ∷ []
-paragraphs_named (Style id style) = id ∷ []
-paragraphs_named (Volume id begins) = id ∷ []
-paragraphs_named (Retable id table) = id ∷ []
-paragraphs_named (Move id anchor) = id ∷ paragraph_before anchor
+paragraphs_named command = (named_by command).paragraphs_named
 
--- the table that a paragraph is to use
 abbrev pub table_named : Command → Option (List ℕ)
-table_named (Table name text) = None
-table_named (TypeIn anchor table text) = Some table
-table_named (Correct id start count text who) = None
-table_named (Undo id) = None
-table_named (Mark id cell count note) = None
-table_named (Resolve id) = None
-table_named (Strike id) = None
-table_named (Restore id) = None
-table_named (Style id style) = None
-table_named (Volume id begins) = None
-table_named (Retable id table) = Some table
-table_named (Move id anchor) = None
+table_named command = (named_by command).table_named
 
--- the paragraph that it can't act on while that is struck
 abbrev pub live_paragraph : Command → Option ℕ
-live_paragraph (Table name text) = None
-live_paragraph (TypeIn anchor table text) = None
-live_paragraph (Correct id start count text who) = Some id
-live_paragraph (Undo id) = Some id
-live_paragraph (Mark id cell count note) = Some id
-live_paragraph (Resolve id) = None
-live_paragraph (Strike id) = Some id
-live_paragraph (Restore id) = None
-live_paragraph (Style id style) = None
-live_paragraph (Volume id begins) = None
-live_paragraph (Retable id table) = Some id
-live_paragraph (Move id anchor) = None
+live_paragraph command = (named_by command).live_paragraph
 
--- the paragraph that it can't act on unless that is struck
 abbrev pub struck_paragraph : Command → Option ℕ
-struck_paragraph (Table name text) = None
-struck_paragraph (TypeIn anchor table text) = None
-struck_paragraph (Correct id start count text who) = None
-struck_paragraph (Undo id) = None
-struck_paragraph (Mark id cell count note) = None
-struck_paragraph (Resolve id) = None
-struck_paragraph (Strike id) = None
-struck_paragraph (Restore id) = Some id
-struck_paragraph (Style id style) = None
-struck_paragraph (Volume id begins) = None
-struck_paragraph (Retable id table) = None
-struck_paragraph (Move id anchor) = None
+struck_paragraph command = (named_by command).struck_paragraph
 
 -- ---- the refusals, each by what makes it hold
 
@@ -287,20 +240,14 @@ pub record IsPastPrint (book : Book) (id end : ℕ) : Type 0 where
   pub found : paragraph_of book id ≡ Some paragraph
   pub past : length (print_of paragraph) < end
 
+-- the print ends before the characters do, or the braille before the cells do, or there is no cell
+abbrev pub LacksSpan : Book → Span → Type 0
+LacksSpan book (Characters id end) = IsPastPrint book id end
+LacksSpan book (Cells id cell count) = LacksCells book id cell count
+
 -- the places or cells that it names are not all there, or it marks no cell
 abbrev pub IsBadSpan : Book → Command → Type 0
-IsBadSpan book (Table name text) = ⊥
-IsBadSpan book (TypeIn anchor table text) = ⊥
-IsBadSpan book (Correct id start count text who) = IsPastPrint book id (start + count)
-IsBadSpan book (Undo id) = ⊥
-IsBadSpan book (Mark id cell count note) = LacksCells book id cell count
-IsBadSpan book (Resolve id) = ⊥
-IsBadSpan book (Strike id) = ⊥
-IsBadSpan book (Restore id) = ⊥
-IsBadSpan book (Style id style) = ⊥
-IsBadSpan book (Volume id begins) = ⊥
-IsBadSpan book (Retable id table) = ⊥
-IsBadSpan book (Move id anchor) = ⊥
+IsBadSpan book command = MatchOption (named_by command).span_named ⊥ (LacksSpan book)
 
 -- the book has the paragraph, no correction of which is in force
 pub record HasNoCorrection (book : Book) (id : ℕ) : Type 0 where
@@ -310,18 +257,7 @@ pub record HasNoCorrection (book : Book) (id : ℕ) : Type 0 where
 
 -- it would take back a correction where none is in force
 abbrev pub HasNothingToUndo : Book → Command → Type 0
-HasNothingToUndo book (Table name text) = ⊥
-HasNothingToUndo book (TypeIn anchor table text) = ⊥
-HasNothingToUndo book (Correct id start count text who) = ⊥
-HasNothingToUndo book (Undo id) = HasNoCorrection book id
-HasNothingToUndo book (Mark id cell count note) = ⊥
-HasNothingToUndo book (Resolve id) = ⊥
-HasNothingToUndo book (Strike id) = ⊥
-HasNothingToUndo book (Restore id) = ⊥
-HasNothingToUndo book (Style id style) = ⊥
-HasNothingToUndo book (Volume id begins) = ⊥
-HasNothingToUndo book (Retable id table) = ⊥
-HasNothingToUndo book (Move id anchor) = ⊥
+HasNothingToUndo book command = MatchOption (named_by command).paragraph_undone ⊥ (HasNoCorrection book)
 
 -- the print that a paragraph would have by the command, if that changes one
 abbrev pub new_print : Book → Command → Option (List ℕ)
