@@ -2,7 +2,7 @@
 use Rattle.std.proofs.Common.{◌≡◌, ◌⊎◌, ℕ, zero, suc, List, [], ◌∷◌, Option, Some, None, refl, ap, sym, subst, inl, inr}
 use Rattle.std.specs.Prelude.{IfSome, replicate, slice_get, slice_set}
 use Rattle.louis_table.specs.Meaning.{Meaning}
-use Rattle.louis_translate.specs.LoneCell.{AreLoneCells, IsLoneCell}
+use Rattle.louis_translate.specs.Piece.{AreLoneCells, IsLoneCell}
 
 abbrev nothing : Option ℕ
 nothing = None

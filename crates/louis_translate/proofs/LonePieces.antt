@@ -12,8 +12,7 @@ use Rattle.louis_translate.specs.Braille.{chosen_cells, own_cells}
 use Rattle.louis_translate.specs.Choice.{IsChosen}
 use Rattle.louis_translate.specs.Items.{Made, made_by}
 use Rattle.louis_translate.specs.Left.{choices_from}
-use Rattle.louis_translate.specs.LoneCell.{IsFree, IsLoneCell}
-use Rattle.louis_translate.specs.Piece.{IsLoneAt, one_character}
+use Rattle.louis_translate.specs.Piece.{IsFree, IsLoneAt, IsLoneCell, one_character}
 use Rattle.louis_translate.proofs.Numbers.{ends_number-never, follows_number-never}
 use Rattle.louis_translate.proofs.Tilings.{choices_from-next}
 

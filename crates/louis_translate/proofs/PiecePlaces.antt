@@ -9,10 +9,9 @@ use Rattle.louis_translate.specs.Position.{AreDefined}
 use Rattle.louis_translate.specs.Tiling.{Tiles}
 use Rattle.louis_translate.specs.Braille.{cells_of, braille, IsPart, IsTranslation}
 use Rattle.louis_translate.specs.Items.{Made, shown, made_by}
-use Rattle.louis_translate.specs.Reading.{outputs_from, inputs_of}
 use Rattle.louis_translate.proofs.Fronts.{IsPart-whole, IsPart-cut}
 use Rattle.louis_translate.proofs.PieceLists.{Left, Left-start, Left-next, Left-step, Left-all, Left-end, braille-next, count-next}
-use Rattle.louis_translate.proofs.PlaceLists.{flat_map-push, outputs_from-push, IsTranslation-lists}
+use Rattle.louis_translate.proofs.PlaceLists.{outputs_from, inputs_of, flat_map-push, outputs_from-push, IsTranslation-lists}
 
 module _ (meaning : Meaning) (print : List ℕ) where
   -- ---- all of them

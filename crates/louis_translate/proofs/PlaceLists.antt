@@ -1,4 +1,5 @@
--- The cells and places of one more choice, and what the lists of places have at a place.
+-- The places as lists that grow choice by choice: those of one more choice, and what the lists have at a place. `Braille`
+-- says what the places mean.
 use Rattle.std.proofs.Common.{◌≡◌, ℕ, ◌+◌, ◌-◌, ◌<◌, ◌≤◌, ◌⊎◌, List, [], ◌∷◌, ◌++◌, length, replicate, get_or, refl, sym, ap, subst, ◌∙◌, append_assoc, add_assoc, zero-add, arith, inl, inr}
 use Rattle.std.specs.List.{flat_map}
 use Rattle.std.proofs.Math.ListN.{get_or-append}
@@ -10,7 +11,16 @@ use Rattle.louis_translate.specs.declared.choices.Choice.{Choice}
 use Rattle.louis_translate.specs.Tiling.{Covers, Tiles}
 use Rattle.louis_translate.specs.Position.{AreDefined}
 use Rattle.louis_translate.specs.Braille.{cells_of, braille, IsAmong, Holds, IsPrintPlace, IsTranslation}
-use Rattle.louis_translate.specs.Reading.{outputs_from, inputs_of}
+
+-- for each place, how many cells the choices before the one that covers it have, where n come before these choices
+abbrev pub outputs_from : Meaning → List ℕ → ℕ → List Choice → List ℕ
+outputs_from meaning print n [] = []
+outputs_from meaning print n (choice ∷ choices) =
+    replicate (choice.end - choice.start) n ++ outputs_from meaning print (n + length (cells_of meaning print choice)) choices
+
+-- for each cell, the start of the choice that made it
+abbrev pub inputs_of : Meaning → List ℕ → List Choice → List ℕ
+inputs_of meaning print choices = flat_map (λ choice. replicate (length (cells_of meaning print choice)) choice.start) choices
 
 cases_below : (a b : ℕ) → (a < b) ⊎ (b ≤ a)
 cases_below a b = elim (cases_order a b) [

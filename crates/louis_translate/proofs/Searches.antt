@@ -9,8 +9,7 @@ use Rattle.louis_table.specs.Meaning.{Meaning, folded}
 use Rattle.louis_table.specs.declared.rule.Rule.{Rule}
 use Rattle.louis_translate.specs.declared.rule_tree.RuleTree.{RuleTree}
 use Rattle.louis_translate.specs.declared.indexed_table.IndexedTable.{IndexedTable}
-use Rattle.louis_translate.specs.Choice.{IsCandidate, IsChosen, Matches, YieldsTo, span}
-use Rattle.louis_translate.specs.Covering.{MayCover}
+use Rattle.louis_translate.specs.Choice.{IsCandidate, IsChosen, Matches, MayCover, YieldsTo, span}
 use Rattle.louis_translate.specs.Tree.{AreAscending, HasCharacters, IsAt, IsTree, LeadTo, StandsIn, leads, rules_at}
 use Rattle.louis_translate.specs.Search.{AreThose, IsBestBelow, IsFirstOf, IsOnWay, IsWhole, folded_from}
 use Rattle.louis_translate.proofs.Trees.{text_is, way_next, way_within, ways_same}

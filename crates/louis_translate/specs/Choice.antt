@@ -1,28 +1,14 @@
--- Which candidate is chosen at a place of a print, by the sign before each place. A candidate is the index of a rule, or none for the
--- definition of the character there.
+-- Which candidate is chosen at a place of a print. A candidate is the index of a rule, or none for the definition of the
+-- character there.
 use Rattle.std.specs.Prelude.{◌≡◌, ℕ, ◌+◌, ◌<◌, ◌≤◌, ◌⊎◌, true, List, [], length, take, drop, map, slice_get, Option, Some, None, IsSomeAnd}
 use Rattle.std.specs.Option.{option_map_or}
 use Rattle.louis_table.specs.Meaning.{Meaning, folded}
 use Rattle.louis_table.specs.declared.rule.Rule.{Rule}
+use Rattle.louis_table.specs.declared.rule.RuleKind.{RuleKind}
 use Rattle.louis_translate.specs.Position.{fits}
 use Rattle.louis_translate.specs.Sign.{sign_at}
 
--- the rule may be used at place i: its characters are the folded print's, its position test holds, and no sign stands inside it
-pub record MatchesBy (sign : ℕ → List ℕ) (meaning : Meaning) (print : List ℕ) (i : ℕ) (rule : Rule) : Type 0 where
-  pub characters : map (folded meaning) (take (length rule.chars) (drop i print)) ≡ rule.chars
-  pub position : fits meaning print rule.kind i (i + length rule.chars) ≡ true
-  pub no_sign_inside : (k : ℕ) → i < k → k < i + length rule.chars → sign k ≡ []
-
-abbrev pub Matches : Meaning → List ℕ → ℕ → Rule → Type 0
-Matches meaning print = MatchesBy (sign_at meaning print) meaning print
-
--- the definition of a character may always be used
-abbrev pub IsCandidateBy : (ℕ → List ℕ) → Meaning → List ℕ → ℕ → Option ℕ → Type 0
-IsCandidateBy sign meaning print i None = Unit {0}
-IsCandidateBy sign meaning print i (Some k) = IsSomeAnd (slice_get meaning.rules k) (MatchesBy sign meaning print i)
-
-abbrev pub IsCandidate : Meaning → List ℕ → ℕ → Option ℕ → Type 0
-IsCandidate meaning print = IsCandidateBy (sign_at meaning print) meaning print
+-- ---- the order of candidates
 
 -- how many characters a candidate covers
 abbrev pub span : Meaning → Option ℕ → ℕ
@@ -39,10 +25,43 @@ abbrev pub YieldsTo : Meaning → Option ℕ → Option ℕ → Type 0
 YieldsTo meaning d c =
     (span meaning d < span meaning c) ⊎ ((span meaning d ≡ span meaning c) × (rank meaning c ≤ rank meaning d))
 
--- c is a candidate, and each candidate yields to it
-pub record IsChosenBy (sign : ℕ → List ℕ) (meaning : Meaning) (print : List ℕ) (i : ℕ) (c : Option ℕ) : Type 0 where
-  pub candidate : IsCandidateBy sign meaning print i c
-  pub first : (d : Option ℕ) → IsCandidateBy sign meaning print i d → YieldsTo meaning d c
+-- ---- candidates, by any signs before the places of the print
 
-abbrev pub IsChosen : Meaning → List ℕ → ℕ → Option ℕ → Type 0
-IsChosen meaning print = IsChosenBy (sign_at meaning print) meaning print
+module _ (sign : ℕ → List ℕ) (meaning : Meaning) (print : List ℕ) where
+  -- the rule may be used at place i: its characters are the folded print's, its position test holds, and no sign stands
+  -- inside it
+  pub record MatchesBy (i : ℕ) (rule : Rule) : Type 0 where
+    pub characters : map (folded meaning) (take (length rule.chars) (drop i print)) ≡ rule.chars
+    pub position : fits meaning print rule.kind i (i + length rule.chars) ≡ true
+    pub no_sign_inside : (k : ℕ) → i < k → k < i + length rule.chars → sign k ≡ []
+
+  -- the definition of a character may always be used
+  abbrev pub IsCandidateBy : ℕ → Option ℕ → Type 0
+  IsCandidateBy i None = Unit {0}
+  IsCandidateBy i (Some k) = IsSomeAnd (slice_get meaning.rules k) (MatchesBy i)
+
+  -- c is a candidate, and each candidate yields to it
+  pub record IsChosenBy (i : ℕ) (c : Option ℕ) : Type 0 where
+    pub candidate : IsCandidateBy i c
+    pub first : (d : Option ℕ) → IsCandidateBy i d → YieldsTo meaning d c
+
+-- ---- candidates, by the signs of the table
+
+module _ (meaning : Meaning) (print : List ℕ) where
+  abbrev pub Matches : ℕ → Rule → Type 0
+  Matches = MatchesBy (sign_at meaning print) meaning print
+
+  abbrev pub IsCandidate : ℕ → Option ℕ → Type 0
+  IsCandidate = IsCandidateBy (sign_at meaning print) meaning print
+
+  abbrev pub IsChosen : ℕ → Option ℕ → Type 0
+  IsChosen = IsChosenBy (sign_at meaning print) meaning print
+
+  -- the position test of the kind holds from place i up to but not including j, and no sign stands between the two
+  abbrev pub MayCover : RuleKind → ℕ → ℕ → Type 0
+  MayCover kind i j = (fits meaning print kind i j ≡ true) × ((k : ℕ) → i < k → k < j → sign_at meaning print k ≡ [])
+
+-- no print has a sign before the character
+abbrev pub NeverHasSign : Meaning → ℕ → Type 0
+NeverHasSign meaning character =
+    (print : List ℕ) (i : ℕ) → slice_get print i ≡ Some character → sign_at meaning print i ≡ []

@@ -1,15 +1,12 @@
 pub mod Position
 pub mod Sign
-pub mod LoneCell
-pub mod Covering
 pub mod Choice
 pub mod Tree
 pub mod Search
 pub mod Start
 pub mod Tiling
 pub mod Braille
-pub mod Piece
 pub mod Items
+pub mod Piece
 pub mod Left
 pub mod Profiles
-pub mod Reading

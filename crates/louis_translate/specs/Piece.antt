@@ -1,12 +1,36 @@
--- Pieces of one cell.
-use Rattle.std.specs.Prelude.{◌≡◌, ◌<◌, ◌+◌, ℕ, List, [], ◌∷◌, None, length}
-use Rattle.louis_table.specs.Meaning.{Meaning}
+-- Pieces of one cell: characters that stand as one cell wherever their definition is chosen and no number reaches them, and
+-- the places where they do.
+use Rattle.std.specs.Prelude.{◌≡◌, ◌⊎◌, ◌<◌, ◌+◌, ℕ, List, [], ◌∷◌, Option, Some, None, false, length, slice_get}
+use Rattle.louis_table.specs.declared.definition.Definition.{Definition}
+use Rattle.louis_table.specs.Meaning.{Meaning, definition_of}
 use Rattle.louis_translate.specs.declared.choices.Choice.{Choice}
 use Rattle.louis_translate.specs.Braille.{chosen_cells}
 use Rattle.louis_translate.specs.Choice.{IsChosen}
 use Rattle.louis_translate.specs.Items.{Made}
-use Rattle.louis_translate.specs.LoneCell.{IsFree}
-use Rattle.louis_translate.specs.Sign.{sign_at}
+use Rattle.louis_translate.specs.Position.{is_digit}
+use Rattle.louis_translate.specs.Sign.{follows_number, is_capital, sign_at}
+
+-- ---- characters
+
+-- the definition of the character has this cell alone, and the character is neither a digit nor a capital: so the only sign
+-- that may stand before it is the one after a number
+pub record IsLoneCell (meaning : Meaning) (character cell : ℕ) : Type 0 where
+  pub defined : Definition
+  pub definition : definition_of meaning character ≡ Some defined
+  pub alone : defined.cells ≡ cell ∷ []
+  pub no_digit : is_digit (Some defined.class) ≡ false
+  pub no_capital : is_capital meaning character ≡ false
+
+-- each cell of a list is the lone cell of the character whose code is its place
+abbrev pub AreLoneCells : Meaning → List (Option ℕ) → Type 0
+AreLoneCells meaning cells =
+    (character cell : ℕ) → slice_get cells character ≡ Some (Some cell) → IsLoneCell meaning character cell
+
+-- ---- places
+
+-- no sign after a number can stand at a place: the table has none, or no number reaches the place
+abbrev pub IsFree : Meaning → List ℕ → ℕ → Type 0
+IsFree meaning print i = (meaning.nocontractsign ≡ []) ⊎ (follows_number meaning print i ≡ false)
 
 -- at the place of the print the definition of its character is chosen, which makes this cell and has no sign; and the next
 -- place is free of a sign after a number

@@ -1,5 +1,5 @@
 //! Which places of a print a rule may cover.
-ghost use Rattle.louis_translate.specs.Covering.{MayCover, NeverHasSign};
+ghost use Rattle.louis_translate.specs.Choice.{MayCover, NeverHasSign};
 ghost use Rattle.louis_translate.specs.Sign.{sign_at};
 ghost use Rattle.std.specs.Bool.{OnTrue};
 ghost use Rattle.std.specs.Prelude.{◌≡◌, ◌<◌, ◌≤◌, ◌↔◌, ℕ, [], length, IsTrue};

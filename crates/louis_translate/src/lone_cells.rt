@@ -1,5 +1,5 @@
 //! Characters that stand as one cell wherever their definition is chosen and no number reaches them.
-ghost use Rattle.louis_translate.specs.LoneCell.{AreLoneCells, IsLoneCell};
+ghost use Rattle.louis_translate.specs.Piece.{AreLoneCells, IsLoneCell};
 ghost use Rattle.std.specs.Option.{option_and_then, option_copied};
 ghost use Rattle.std.specs.Prelude.{◌≡◌, ◌<◌, IfSome, slice_get};
 

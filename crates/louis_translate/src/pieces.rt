@@ -1,7 +1,6 @@
 //! The cells that the choices of a print make, choice after choice.
 ghost use Rattle.louis_translate.specs.Braille.{own_cells as own_cells_lem};
-ghost use Rattle.louis_translate.specs.LoneCell.{IsFree, IsLoneCell};
-ghost use Rattle.louis_translate.specs.Piece.{IsLoneAt};
+ghost use Rattle.louis_translate.specs.Piece.{IsFree, IsLoneAt, IsLoneCell};
 ghost use Rattle.louis_translate.specs.Position.{AreDefined};
 ghost use Rattle.std.specs.Bool.{OnTrue};
 ghost use Rattle.std.specs.Option.{ForSome, option_copied};
@@ -46,7 +45,7 @@ pub struct Pieces<'a, B: RuleBook> {
 impl<'a, B: RuleBook> Model for Pieces<'a, B> {
     ghost use Rattle.louis_translate.specs.Items.{Made, made_by};
     ghost use Rattle.louis_translate.specs.Left.{choices_from};
-    ghost use Rattle.louis_translate.specs.LoneCell.{IsFree};
+    ghost use Rattle.louis_translate.specs.Piece.{IsFree};
     ghost use Rattle.louis_translate.specs.Position.{AreDefined};
     ghost use Rattle.std.specs.Prelude.{◌≡◌, ◌≤◌, List, length, map, true};
 

@@ -6,7 +6,7 @@ use louis_table::Table;
 pub trait RuleBook {
     ghost use Rattle.louis_table.specs.Meaning.{Meaning};
     ghost use Rattle.louis_translate.specs.Choice.{IsChosen};
-    ghost use Rattle.louis_translate.specs.LoneCell.{IsLoneCell};
+    ghost use Rattle.louis_translate.specs.Piece.{IsLoneCell};
     ghost use Rattle.louis_translate.specs.Position.{AreDefined};
     ghost use Rattle.std.specs.Bool.{OnTrue};
     ghost use Rattle.std.specs.Option.{option_copied};

@@ -7,9 +7,8 @@ use Rattle.louis_table.specs.Table.{Means}
 use Rattle.louis_translate.specs.declared.choices.Choice.{Choice}
 use Rattle.louis_translate.specs.Braille.{braille, cells_of, IsPrintEnd, IsPrintPlace, MakesCell}
 use Rattle.louis_translate.specs.Position.{AreDefined}
-use Rattle.louis_translate.specs.Reading.{inputs_of, outputs_from}
 use Rattle.louis_translate.specs.Tiling.{Tiles}
-use Rattle.louis_translate.proofs.PlaceLists.{IsTranslation-lists}
+use Rattle.louis_translate.proofs.PlaceLists.{inputs_of, outputs_from, IsTranslation-lists}
 use Rattle.louis_translate.proofs.Tilings.{one_cover, one_tiling}
 use Rattle.desk_model.specs.Book.{Book, Paragraph, paragraph_of, text_of}
 use Rattle.desk_model.specs.Print.{print_of}

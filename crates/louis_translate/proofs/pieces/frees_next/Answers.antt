@@ -2,7 +2,7 @@ use Rattle.std.proofs.Common.{◌≡◌, ℕ, Bool, ◌+◌, List, Option, Some,
 use Rattle.std.specs.Prelude.{not, slice_get}
 use Rattle.std.specs.Option.{option_and_then}
 use Rattle.std.proofs.lemmas.Bool.{OnTrue_from}
-use Rattle.louis_translate.specs.LoneCell.{IsFree}
+use Rattle.louis_translate.specs.Piece.{IsFree}
 use Rattle.louis_translate.specs.Position.{class_of, is_digit}
 use Rattle.louis_translate.specs.Sign.{is_digit_at, is_mode_char}
 use Rattle.louis_translate.proofs.Numbers.{follows_number-off}

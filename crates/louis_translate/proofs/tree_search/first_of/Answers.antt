@@ -4,7 +4,7 @@ use Rattle.std.proofs.lemmas.Bool.{both_ways}
 use Rattle.std.proofs.lemmas.Option.{slice_get-get_or, slice_get_read}
 use Rattle.louis_table.specs.declared.rule.Rule.{Rule}
 use Rattle.louis_table.specs.declared.rule.RuleKind.{RuleKind}
-use Rattle.louis_translate.specs.Covering.{MayCover}
+use Rattle.louis_translate.specs.Choice.{MayCover}
 use Rattle.louis_translate.proofs.Searches.{NoneBefore-all, NoneBefore-first, NoneBefore-next, candidate_here, covers_here, has_within}
 use Rattle.louis_translate.proofs.tree_search.first_of.Goals as goal
 

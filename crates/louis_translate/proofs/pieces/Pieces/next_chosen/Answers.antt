@@ -8,7 +8,7 @@ use Rattle.louis_translate.specs.Position.{class_at, class_of}
 use Rattle.louis_translate.specs.Braille.{chosen_cells, own_cells}
 use Rattle.louis_translate.specs.Items.{Made, made_by}
 use Rattle.louis_translate.specs.Left.{choices_from}
-use Rattle.louis_translate.specs.LoneCell.{IsFree}
+use Rattle.louis_translate.specs.Piece.{IsFree}
 use Rattle.louis_translate.proofs.LonePieces.{made_is, no_sign, own, own_or_lone}
 use Rattle.louis_translate.proofs.Runs.{sign_at-same}
 use Rattle.louis_translate.proofs.Tilings.{choices_from-next}
