@@ -18,7 +18,7 @@ use Rattle.louis_table.specs.Characters.{Spells, Writes, itself, escape, number}
 use Rattle.louis_table.specs.Fields.{Begins, HasFields}
 use Rattle.louis_table.specs.Meaning.{Meaning, definition_of, folded, sign_cells}
 use Rattle.louis_table.specs.Profile.{Profile}
-use Rattle.louis_table.specs.Table.{Entry, Defines, Pairs, Replaces, Announces, Collects, PairDots, RuleDots, GivesIn, definition_line, pair_line, rule_line, sign_line, set_line, GiveFromIn, FaultIn, long_line, line_too_many, HasCauseIn, on_line, definitions_in, cells_in_definition, cells_for, rule_cells, rules_in, is_same_sign, MeansIn, text_lines, most_lines, most_line_characters}
+use Rattle.louis_table.specs.Table.{Entry, Defines, Pairs, Replaces, Announces, Collects, PairDots, RuleDots, Gives, definition_line, pair_line, rule_line, sign_line, set_line, GiveFrom, Fault, long_line, line_too_many, HasCause, on_line, definitions_in, cells_in_definition, cells_for, rule_cells, rules_in, is_same_sign, MeansIn, text_lines, most_lines, most_line_characters}
 
 split_at : {X : Type 0} (n : ℕ) (xs : List X) → n < length xs → (before : List X) × (x : X) × (after : List X) × (xs ≡ before ++ x ∷ after) × (length before ≡ n)
 split_at n [] lt = absurd (omega (arith, lt))
@@ -99,7 +99,7 @@ rule-dots-few dots (Some cells) short d written e =
     let size = ap length same in
     omega (arith, few, size, short)
 
-gives-few : (profile : Profile) (line : List ℕ) (entry : Entry) → length line ≤ 1000 → GivesIn profile line entry → FewCells entry
+gives-few : (profile : Profile) (line : List ℕ) (entry : Entry) → length line ≤ 1000 → Gives profile line entry → FewCells entry
 gives-few profile line entry short (definition_line class characters dots c cells has h s d e) =
     let few = cells-short dots cells d in
     let field = third-short line _ characters dots [] h in
@@ -118,8 +118,8 @@ gives-few profile line entry short (sign_line sign dots cells has h d e) =
     subst FewCells (sym e) (omega (arith, few, field, short))
 gives-few profile line entry short (set_line set characters text has h s e) = subst FewCells (sym e) tt
 
-module _ (profile : Profile) (all : List (List ℕ)) (sound : (n cause : ℕ) → HasCauseIn profile all n cause → ⊥) where
-  no_fault : (before : List (List ℕ)) (line : List ℕ) (after : List (List ℕ)) → all ≡ before ++ line ∷ after → (cause : ℕ) → FaultIn profile before line cause → ⊥
+module _ (profile : Profile) (all : List (List ℕ)) (sound : (n cause : ℕ) → HasCause profile all n cause → ⊥) where
+  no_fault : (before : List (List ℕ)) (line : List ℕ) (after : List (List ℕ)) → all ≡ before ++ line ∷ after → (cause : ℕ) → Fault profile before line cause → ⊥
   no_fault before line after parts cause fault = sound (length before + 1) cause (on_line before line after parts refl fault)
 
   line-short : (before : List (List ℕ)) (line : List ℕ) (after : List (List ℕ)) → all ≡ before ++ line ∷ after → length line ≤ 1000
@@ -129,7 +129,7 @@ module _ (profile : Profile) (all : List (List ℕ)) (sound : (n cause : ℕ) �
         | inr few ↦ few
       ]
 
-  entries-few : (before lines : List (List ℕ)) (n : ℕ) (entries : List (ℕ × Entry)) → all ≡ before ++ lines → GiveFromIn profile n lines entries
+  entries-few : (before lines : List (List ℕ)) (n : ℕ) (entries : List (ℕ × Entry)) → all ≡ before ++ lines → GiveFrom profile n lines entries
       → All (λ e. FewCells e.1) entries
   entries-few before [] n entries parts h = subst (All (λ (e : ℕ × Entry). FewCells e.1)) (sym h) (All-nil (λ (e : ℕ × Entry). FewCells e.1))
   entries-few before (line ∷ lines) n entries parts (inl (says, h)) =
@@ -149,7 +149,7 @@ module _ (profile : Profile) (all : List (List ℕ)) (sound : (n cause : ℕ) �
         | inr few ↦ few
       ]
 
-entries-count : (profile : Profile) (n : ℕ) (lines : List (List ℕ)) (entries : List (ℕ × Entry)) → GiveFromIn profile n lines entries → length entries ≤ length lines
+entries-count : (profile : Profile) (n : ℕ) (lines : List (List ℕ)) (entries : List (ℕ × Entry)) → GiveFrom profile n lines entries → length entries ≤ length lines
 entries-count profile n [] entries h = let e = ap length h in omega (arith, e)
 entries-count profile n (line ∷ lines) entries (inl (says, h)) = let few = entries-count profile (n + 1) lines entries h in omega (arith, few)
 entries-count profile n (line ∷ lines) entries (inr (entry, rest, gives, e, h)) =

@@ -112,14 +112,14 @@ front_field line name characters dots h = (h.0, h.1, (h.2.0, h.2.1, tt))
 -- what a verdict on the fields of a line says of it
 abbrev pub Says : List ℕ → Result (Option Entry) ℕ → Type 0
 Says line (Ok None) = SaysNothing line
-Says line (Ok (Some entry)) = Gives line entry
-Says line (Err cause) = (before : List (List ℕ)) → Fault before line cause
+Says line (Ok (Some entry)) = Gives WithNumericMode line entry
+Says line (Err cause) = (before : List (List ℕ)) → Fault WithNumericMode before line cause
 
 map_none : {A B : Type 0} (f : A → B) (o : Option A) → option_map f o ≡ None → o ≡ None
 map_none f None e = refl
 map_none f (Some x) e = absurd cc
 
-or_cause_says : (line : List ℕ) (cause : ℕ) (o : Option Entry) → ((entry : Entry) → o ≡ Some entry → Gives line entry) → (o ≡ None → (before : List (List ℕ)) → Fault before line cause)
+or_cause_says : (line : List ℕ) (cause : ℕ) (o : Option Entry) → ((entry : Entry) → o ≡ Some entry → Gives WithNumericMode line entry) → (o ≡ None → (before : List (List ℕ)) → Fault WithNumericMode before line cause)
     → Says line (as_some (or_cause cause o))
 or_cause_says line cause None g f = f refl
 or_cause_says line cause (Some entry) g f = g entry refl
@@ -136,7 +136,7 @@ wrong_length opcode characters text e n other a s =
 
 module _ (line characters dots : List ℕ) where
   wrong_says : (opcode : Opcode) (text : List ℕ) → TakesBoth opcode → HasFields line (name_of opcode ∷ characters ∷ dots ∷ []) → characters_in characters ≡ Some text
-      → ¬ AreCharactersFor opcode text → (before : List (List ℕ)) → Fault before line 3
+      → ¬ AreCharactersFor opcode text → (before : List (List ℕ)) → Fault WithNumericMode before line 3
   wrong_says opcode text b h e n before =
       bad_characters opcode characters (has_opcode opcode) (HasCharacters-both line characters opcode b (front_field line (name_of opcode) characters dots h)) (wrong_length opcode characters text e n) refl
 
@@ -392,7 +392,7 @@ line_gives-nothing line (comment field rest b h) = first_gives line field rest b
 some_entry : {A : Type 0} (f : A → Entry) (cause : ℕ) (o : Option A) (x : A) (entry : Entry) → o ≡ Some x → entry ≡ f x → as_some (or_cause cause (option_map f o)) ≡ Ok (Some entry)
 some_entry f cause o x entry e s = ap (λ p. as_some (or_cause cause (option_map f p))) e ∙ ap (λ (y : Entry). Ok (Some y)) (sym s)
 
-pub line_gives-entry : (line : List ℕ) (entry : Entry) → Gives line entry → line_gives line ≡ Ok (Some entry)
+pub line_gives-entry : (line : List ℕ) (entry : Entry) → Gives WithNumericMode line entry → line_gives line ≡ Ok (Some entry)
 line_gives-entry line entry (definition_line class characters dots c cells has h s d e) =
     text_gives line characters dots (c ∷ []) (Define class) tt h s
     ∙ some_entry (λ (cells : List ℕ). Defines c (record { class = class; cells = cells })) 4 (cells_in dots) cells entry (cells_in-from_Dots dots cells d) e
@@ -636,7 +636,7 @@ many_cells_large line dots cells (Announce sign) h w lt =
 many_cells_large line dots cells (Collect set) h w lt = absurd h
 
 -- an entry with an operand beyond its limit is a fault
-pub large_fault : (before : List (List ℕ)) (line : List ℕ) (entry : Entry) → Gives line entry → is_large entry ≡ true → Fault before line 8
+pub large_fault : (before : List (List ℕ)) (line : List ℕ) (entry : Entry) → Gives WithNumericMode line entry → is_large entry ≡ true → Fault WithNumericMode before line 8
 large_fault before line entry (definition_line class characters dots c cells has h s d e) t =
     many_cells (Define class) dots cells (has_opcode (Define class)) (characters, h) d (ltb-true _ _ (sym (ap is_large e) ∙ t)) refl
 large_fault before line entry (pair_line characters dots upper lower upper_cells lower_cells has h s d e) t =
@@ -650,7 +650,7 @@ large_fault before line entry (rule_line kind characters dots text cells has h s
       | inr m ↦ written cells d m
     ]
   where
-    written : (cells : Option (List ℕ)) → RuleDots dots cells → are_many_written cells ≡ true → Fault before line 8
+    written : (cells : Option (List ℕ)) → RuleDots dots cells → are_many_written cells ≡ true → Fault WithNumericMode before line 8
     written None d m = absurd cc
     written (Some cells) d m = many_cells (Replace kind) dots cells (has_opcode (Replace kind)) (characters, h) d (ltb-true _ _ m) refl
 large_fault before line entry (sign_line sign dots cells has h d e) t =

@@ -20,7 +20,7 @@ use Rattle.louis_table.specs.Lines.{lines_of}
 use Rattle.louis_table.specs.Meaning.{Meaning, definition_of, folded, sign_cells, set_characters}
 use Rattle.louis_table.specs.Profile.{Profile, WithNumericMode}
 use Rattle.louis_table.specs.Reading.{no_meaning, with_given, written_in, is_known, are_defined, finished, first_lacking, is_complete, line_of, Gathers, LinesGive, LinesMean, IsTold, IsLackingIn, LinesTell, judge}
-use Rattle.louis_table.specs.Table.{Entry, Defines, Pairs, Replaces, Announces, Collects, Gives, GivesIn, definition_line, pair_line, rule_line, sign_line, set_line, GiveFromIn, rules_in, IsToldNoLater, text_lines, line_of_stop, without_byte_order_mark, IsMadeOf, IsLacking, Bad, BadIn, no_text, bad_line, undefined_character, Means, MeansIn}
+use Rattle.louis_table.specs.Table.{Entry, Defines, Pairs, Replaces, Announces, Collects, Gives, definition_line, pair_line, rule_line, sign_line, set_line, GiveFrom, rules_in, IsToldNoLater, text_lines, line_of_stop, without_byte_order_mark, IsMadeOf, IsLacking, Bad, BadIn, no_text, bad_line, undefined_character, Means, MeansIn}
 use Rattle.louis_table.specs.Tells.{Tells}
 use Rattle.louis_table.specs.declared.opcode.Opcode.TheVariants.{Define, UpLow, Replace, Announce, Collect}
 use Rattle.louis_table.proofs.EntryLaws.{has_opcode}
@@ -31,14 +31,14 @@ use Rattle.louis_table.proofs.RuleLaws.{finished_entries, first_in, first_lackin
 -- ---- one meaning
 
 -- what a line gives in a profile it gives in the last one too
-pub in_last : (profile : Profile) (line : List ℕ) (entry : Entry) → GivesIn profile line entry → Gives line entry
+pub in_last : (profile : Profile) (line : List ℕ) (entry : Entry) → Gives profile line entry → Gives WithNumericMode line entry
 in_last profile line entry (definition_line class characters dots c cells has h s d e) = definition_line class characters dots c cells (has_opcode (Define class)) h s d e
 in_last profile line entry (pair_line characters dots upper lower upper_cells lower_cells has h s d e) = pair_line characters dots upper lower upper_cells lower_cells (has_opcode UpLow) h s d e
 in_last profile line entry (rule_line kind characters dots text cells has h s d e) = rule_line kind characters dots text cells (has_opcode (Replace kind)) h s d e
 in_last profile line entry (sign_line sign dots cells has h d e) = sign_line sign dots cells (has_opcode (Announce sign)) h d e
 in_last profile line entry (set_line set characters text has h s e) = set_line set characters text (has_opcode (Collect set)) h s e
 
-same_entries : (profile : Profile) (n : ℕ) (lines : List (List ℕ)) (es fs : List (ℕ × Entry)) → GiveFromIn profile n lines es → GiveFromIn profile n lines fs → es ≡ fs
+same_entries : (profile : Profile) (n : ℕ) (lines : List (List ℕ)) (es fs : List (ℕ × Entry)) → GiveFrom profile n lines es → GiveFrom profile n lines fs → es ≡ fs
 same_entries profile n [] es fs g h = g ∙ sym h
 same_entries profile n (line ∷ lines) es fs (inl (s, g)) (inl (t, h)) = same_entries profile (n + 1) lines es fs g h
 same_entries profile n (line ∷ lines) es fs (inl (s, g)) (inr (f, rest, gives, e, h)) = absurd (nothing_or_entry line f s (in_last profile line f gives))
@@ -107,7 +107,7 @@ made_once entries t u m n =
     (record { signs = λ sign. m.signs sign ∙ sym (n.signs sign); sets = λ set. m.sets set ∙ sym (n.sets set) })
 
 -- what the lines give makes one meaning
-given_once : (profile : Profile) (n : ℕ) (lines : List (List ℕ)) (es fs : List (ℕ × Entry)) (t u : Meaning) → GiveFromIn profile n lines es → GiveFromIn profile n lines fs → IsMadeOf es t → IsMadeOf fs u
+given_once : (profile : Profile) (n : ℕ) (lines : List (List ℕ)) (es fs : List (ℕ × Entry)) (t u : Meaning) → GiveFrom profile n lines es → GiveFrom profile n lines fs → IsMadeOf es t → IsMadeOf fs u
     → (es ≡ fs) × (t ≡ u)
 given_once profile n lines es fs t u g h m k =
     let same = same_entries profile n lines es fs g h in

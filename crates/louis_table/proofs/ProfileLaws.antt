@@ -11,9 +11,9 @@ use Rattle.louis_table.specs.declared.sign.Sign.TheVariants as signs
 use Rattle.louis_table.specs.Fields.{Begins}
 use Rattle.louis_table.specs.Meaning.{Meaning}
 use Rattle.louis_table.specs.Opcode.{name_of, HasOpcode}
-use Rattle.louis_table.specs.Profile.{Profile, WithoutNumericMode}
+use Rattle.louis_table.specs.Profile.{Profile, WithoutNumericMode, WithNumericMode}
 use Rattle.louis_table.specs.Reading.{as_some, opcode_named}
-use Rattle.louis_table.specs.Table.{Entry, SaysNothing, Gives, GivesIn, definition_line, pair_line, rule_line, sign_line, set_line, GiveFrom, GiveFromIn, SomeGives, SomeGivesIn, cells_for, characters_for, is_same_sign, HasCharacters, HasDots, Fault, FaultIn, unknown_opcode, missing_operand, bad_characters, bad_dots, defined_before, defined_twice, given_before, long_line, line_too_many, many_characters, many_cells, HasCause, HasCauseIn, on_line, text_lines, Means, MeansIn}
+use Rattle.louis_table.specs.Table.{Entry, SaysNothing, Gives, definition_line, pair_line, rule_line, sign_line, set_line, GiveFrom, SomeGives, cells_for, characters_for, is_same_sign, HasCharacters, HasDots, Fault, unknown_opcode, missing_operand, bad_characters, bad_dots, defined_before, defined_twice, given_before, long_line, line_too_many, many_characters, many_cells, HasCause, on_line, text_lines, Means, MeansIn}
 use Rattle.louis_table.proofs.FieldLaws.{Begins-field_at}
 use Rattle.louis_table.proofs.EntryLaws.{has_opcode, opcode_named-name_of, opcode_line, line_gives-nothing}
 use Rattle.louis_table.proofs.VerdictLaws.{only_one}
@@ -21,7 +21,7 @@ use Rattle.louis_table.proofs.OneMeaning.{in_last}
 
 -- the line says nothing, or gives an entry without numeric mode
 abbrev pub IsEarly : List ℕ → Type 0
-IsEarly line = SaysNothing line ⊎ ((entry : Entry) × GivesIn WithoutNumericMode line entry)
+IsEarly line = SaysNothing line ⊎ ((entry : Entry) × Gives WithoutNumericMode line entry)
 
 -- no later opcode stands at the front of the line
 abbrev pub StartsEarly : List ℕ → Type 0
@@ -36,7 +36,7 @@ same_opcode one other e =
     cc
 
 -- a line that gives an entry begins with an opcode of the profile
-begins_with : (profile : Profile) (line : List ℕ) (entry : Entry) → GivesIn profile line entry
+begins_with : (profile : Profile) (line : List ℕ) (entry : Entry) → Gives profile line entry
     → (opcode : Opcode) × (rest : List ℕ) × HasOpcode profile opcode × Begins line (name_of opcode) rest
 begins_with profile line entry (definition_line class characters dots c cells has h s d e) = (Define class, h.0, has, h.1)
 begins_with profile line entry (pair_line characters dots upper lower upper_cells lower_cells has h s d e) = (UpLow, h.0, has, h.1)
@@ -71,7 +71,7 @@ dots_begin line dots (Announce sign) h = (h.0, h.1)
 dots_begin line dots (Collect set) h = absurd h
 
 -- what such a line gives, it gives without numeric mode
-pub early_entry : (line : List ℕ) (entry : Entry) → StartsEarly line → Gives line entry → GivesIn WithoutNumericMode line entry
+pub early_entry : (line : List ℕ) (entry : Entry) → StartsEarly line → Gives WithNumericMode line entry → Gives WithoutNumericMode line entry
 early_entry line entry early (definition_line class characters dots c cells has h s d e) =
     definition_line class characters dots c cells (early (Define class) h.0 h.1) h s d e
 early_entry line entry early (pair_line characters dots upper lower upper_cells lower_cells has h s d e) =
@@ -84,7 +84,7 @@ early_entry line entry early (set_line set characters text has h s e) = set_line
 -- ---- faults of such lines
 
 module _ (before : List (List ℕ)) (line : List ℕ) (others : (other : List ℕ) → Contains before other → StartsEarly other) (early : StartsEarly line) where
-  early_some : (Holds : Entry → Type 0) → SomeGives before Holds → SomeGivesIn WithoutNumericMode before Holds
+  early_some : (Holds : Entry → Type 0) → SomeGives WithNumericMode before Holds → SomeGives WithoutNumericMode before Holds
   early_some Holds (other, entry, m, gives, h) = (other, entry, m, early_entry other entry (others other m) gives, h)
 
   by_characters : (characters : List ℕ) (opcode : Opcode) → HasCharacters line opcode characters → HasOpcode WithoutNumericMode opcode
@@ -93,7 +93,7 @@ module _ (before : List (List ℕ)) (line : List ℕ) (others : (other : List �
   by_dots : (dots : List ℕ) (opcode : Opcode) → HasDots line opcode dots → HasOpcode WithoutNumericMode opcode
   by_dots dots opcode h = let b = dots_begin line dots opcode h in early opcode b.0 b.1
 
-  pub early_fault : (cause : ℕ) → Fault before line cause → FaultIn WithoutNumericMode before line cause
+  pub early_fault : (cause : ℕ) → Fault WithNumericMode before line cause → Fault WithoutNumericMode before line cause
   early_fault cause (unknown_opcode field rest b n u e) = unknown_opcode field rest b n (λ opcode has. u opcode (has_opcode opcode)) e
   early_fault cause (missing_operand opcode rest has b n e) = missing_operand opcode rest (early opcode rest b) b n e
   early_fault cause (bad_characters opcode characters has h n e) = bad_characters opcode characters (by_characters characters opcode h) h n e
@@ -106,11 +106,11 @@ module _ (before : List (List ℕ)) (line : List ℕ) (others : (other : List �
   early_fault cause (many_characters opcode characters text has h s many e) = many_characters opcode characters text (by_characters characters opcode h) h s many e
   early_fault cause (many_cells opcode dots cells has h w lt e) = many_cells opcode dots cells (by_dots dots opcode h) h w lt e
 
-  late_some : (Holds : Entry → Type 0) → SomeGivesIn WithoutNumericMode before Holds → SomeGives before Holds
+  late_some : (Holds : Entry → Type 0) → SomeGives WithoutNumericMode before Holds → SomeGives WithNumericMode before Holds
   late_some Holds (other, entry, m, gives, h) = (other, entry, m, in_last WithoutNumericMode other entry gives, h)
 
   -- and the other way round
-  pub late_fault : (cause : ℕ) → FaultIn WithoutNumericMode before line cause → Fault before line cause
+  pub late_fault : (cause : ℕ) → Fault WithoutNumericMode before line cause → Fault WithNumericMode before line cause
   late_fault cause (unknown_opcode field rest b n u e) =
       unknown_opcode field rest b n (λ opcode has same. u opcode (early opcode rest (subst (λ (f : List ℕ). Begins line f rest) same b)) same) e
   late_fault cause (missing_operand opcode rest has b n e) = missing_operand opcode rest (has_opcode opcode) b n e
@@ -124,7 +124,7 @@ module _ (before : List (List ℕ)) (line : List ℕ) (others : (other : List �
   late_fault cause (many_characters opcode characters text has h s many e) = many_characters opcode characters text (has_opcode opcode) h s many e
   late_fault cause (many_cells opcode dots cells has h w lt e) = many_cells opcode dots cells (has_opcode opcode) h w lt e
 
-pub early_cause : (lines : List (List ℕ)) (n cause : ℕ) → ((line : List ℕ) → Contains lines line → StartsEarly line) → HasCause lines n cause → HasCauseIn WithoutNumericMode lines n cause
+pub early_cause : (lines : List (List ℕ)) (n cause : ℕ) → ((line : List ℕ) → Contains lines line → StartsEarly line) → HasCause WithNumericMode lines n cause → HasCause WithoutNumericMode lines n cause
 early_cause lines n cause early (on_line before line after e at f) =
     on_line before line after e at
     (early_fault before line
@@ -134,7 +134,7 @@ early_cause lines n cause early (on_line before line after e at f) =
 
 -- ---- lines that give entries without numeric mode
 
-pub all_early : (n : ℕ) (lines : List (List ℕ)) (entries : List (ℕ × Entry)) → GiveFromIn WithoutNumericMode n lines entries → (line : List ℕ) → Contains lines line → IsEarly line
+pub all_early : (n : ℕ) (lines : List (List ℕ)) (entries : List (ℕ × Entry)) → GiveFrom WithoutNumericMode n lines entries → (line : List ℕ) → Contains lines line → IsEarly line
 all_early n [] entries g line (k, lt, e) = absurd (omega arith)
 all_early n (first ∷ lines) entries (inl (s, g)) line m =
     elim (Contains-append_cases (first ∷ []) lines line m) [
@@ -147,14 +147,14 @@ all_early n (first ∷ lines) entries (inr (entry, rest, gives, e, g)) line m =
       | inr there ↦ all_early (n + 1) lines rest g line there
     ]
 
-all_in_last : (profile : Profile) (n : ℕ) (lines : List (List ℕ)) (entries : List (ℕ × Entry)) → GiveFromIn profile n lines entries → GiveFrom n lines entries
+all_in_last : (profile : Profile) (n : ℕ) (lines : List (List ℕ)) (entries : List (ℕ × Entry)) → GiveFrom profile n lines entries → GiveFrom WithNumericMode n lines entries
 all_in_last profile n [] entries g = g
 all_in_last profile n (line ∷ lines) entries (inl (s, g)) = inl (s, all_in_last profile (n + 1) lines entries g)
 all_in_last profile n (line ∷ lines) entries (inr (entry, rest, gives, e, g)) = inr (entry, rest, in_last profile line entry gives, e, all_in_last profile (n + 1) lines rest g)
 
 -- what no such line gives, the lines don't give together
-none_together : (f : Entry → List ℕ) → ((line : List ℕ) (entry : Entry) → GivesIn WithoutNumericMode line entry → f entry ≡ [])
-    → (n : ℕ) (lines : List (List ℕ)) (entries : List (ℕ × Entry)) → GiveFromIn WithoutNumericMode n lines entries → flat_map (λ e. f e.1) entries ≡ []
+none_together : (f : Entry → List ℕ) → ((line : List ℕ) (entry : Entry) → Gives WithoutNumericMode line entry → f entry ≡ [])
+    → (n : ℕ) (lines : List (List ℕ)) (entries : List (ℕ × Entry)) → GiveFrom WithoutNumericMode n lines entries → flat_map (λ e. f e.1) entries ≡ []
 none_together f none n [] entries g = ap (flat_map (λ e. f e.1)) g
 none_together f none n (line ∷ lines) entries (inl (s, g)) = none_together f none (n + 1) lines entries g
 none_together f none n (line ∷ lines) entries (inr (entry, rest, gives, e, g)) =
@@ -171,14 +171,14 @@ no_set : (set : CharacterSet) → ¬ HasOpcode WithoutNumericMode (Collect set)
 no_set sets.NumericMode has = has
 no_set sets.NoContraction has = has
 
-no_cells : (line : List ℕ) (entry : Entry) → GivesIn WithoutNumericMode line entry → cells_for signs.NoContraction entry ≡ []
+no_cells : (line : List ℕ) (entry : Entry) → Gives WithoutNumericMode line entry → cells_for signs.NoContraction entry ≡ []
 no_cells line entry (definition_line class characters dots c cells has h s d e) = ap (cells_for signs.NoContraction) e
 no_cells line entry (pair_line characters dots upper lower upper_cells lower_cells has h s d e) = ap (cells_for signs.NoContraction) e
 no_cells line entry (rule_line kind characters dots text cells has h s d e) = ap (cells_for signs.NoContraction) e
 no_cells line entry (sign_line sign dots cells has h d e) = ap (cells_for signs.NoContraction) e ∙ ap (λ (b : Bool). cond b cells []) (other_sign sign has)
 no_cells line entry (set_line set characters text has h s e) = absurd (no_set set has)
 
-no_characters : (set : CharacterSet) (line : List ℕ) (entry : Entry) → GivesIn WithoutNumericMode line entry → characters_for set entry ≡ []
+no_characters : (set : CharacterSet) (line : List ℕ) (entry : Entry) → Gives WithoutNumericMode line entry → characters_for set entry ≡ []
 no_characters set line entry (definition_line class characters dots c cells has h s d e) = ap (characters_for set) e
 no_characters set line entry (pair_line characters dots upper lower upper_cells lower_cells has h s d e) = ap (characters_for set) e
 no_characters set line entry (rule_line kind characters dots text cells has h s d e) = ap (characters_for set) e

@@ -10,7 +10,7 @@ use Rattle.louis_table.specs.Meaning.{Meaning}
 use Rattle.louis_table.specs.Opcode.{name_of, profile_of, HasOpcode}
 use Rattle.louis_table.specs.Profile.{Profile, WithoutNumericMode, WithNumericMode, Includes}
 use Rattle.louis_table.specs.Reading.{field_at, opcode_named, no_meaning, IsTold}
-use Rattle.louis_table.specs.Table.{Entry, GiveFrom, GiveFromIn, comment, FaultIn, unknown_opcode, missing_operand, bad_characters, bad_dots, defined_before, defined_twice, given_before, long_line, line_too_many, many_characters, many_cells, HasCause, HasCauseIn, on_line, IsToldNoLater, text_lines, line_of_stop, Bad, BadIn, no_text, bad_line, undefined_character, Means, MeansIn}
+use Rattle.louis_table.specs.Table.{Entry, GiveFrom, comment, Fault, unknown_opcode, missing_operand, bad_characters, bad_dots, defined_before, defined_twice, given_before, long_line, line_too_many, many_characters, many_cells, HasCause, on_line, IsToldNoLater, text_lines, line_of_stop, Bad, BadIn, no_text, bad_line, undefined_character, Means, MeansIn}
 use Rattle.louis_table.proofs.FieldLaws.{Begins-field_at, field_at-Begins}
 use Rattle.louis_table.proofs.EntryLaws.{opcode_named-name_of, opcode_named-Some, opcode_line, line_gives-nothing}
 use Rattle.louis_table.proofs.VerdictLaws.{only_one}
@@ -99,13 +99,13 @@ all_or_first (line ∷ lines) =
     ]
 
 -- such a line has cause 1 without numeric mode
-late_unknown : (before : List (List ℕ)) (line : List ℕ) → StartsLate line → FaultIn WithoutNumericMode before line 1
+late_unknown : (before : List (List ℕ)) (line : List ℕ) → StartsLate line → Fault WithoutNumericMode before line 1
 late_unknown before line late =
     unknown_opcode (name_of late.opcode) late.rest late.begins
     (λ is. not_nothing _ (sym (opcode_line line late.rest late.opcode late.begins) ∙ line_gives-nothing line (comment (name_of late.opcode) late.rest late.begins is)))
     (λ opcode has same. late.later (subst (HasOpcode WithoutNumericMode) (sym (same_opcode late.opcode opcode same)) has)) refl
 
-least_cause : (profile : Profile) (before : List (List ℕ)) (line : List ℕ) (cause : ℕ) → FaultIn profile before line cause → 1 ≤ cause
+least_cause : (profile : Profile) (before : List (List ℕ)) (line : List ℕ) (cause : ℕ) → Fault profile before line cause → 1 ≤ cause
 least_cause profile before line cause (unknown_opcode field rest b n u e) = rw e (lit≤ tt)
 least_cause profile before line cause (missing_operand opcode rest has b n e) = rw e (lit≤ tt)
 least_cause profile before line cause (bad_characters opcode characters has h n e) = rw e (lit≤ tt)
@@ -139,13 +139,13 @@ front_early before front more line e early = (
 
 module _ (lines before rest : List (List ℕ)) (parts : lines ≡ before ++ rest) (early : (other : List ℕ) → Contains before other → StartsEarly other) where
   -- what is wrong among these lines is so in either profile
-  to_last : (n cause : ℕ) → n ≤ length before → HasCauseIn WithoutNumericMode lines n cause → HasCause lines n cause
+  to_last : (n cause : ℕ) → n ≤ length before → HasCause WithoutNumericMode lines n cause → HasCause WithNumericMode lines n cause
   to_last n cause le (on_line front line after e at f) =
       let s = split_at before rest front after line (sym parts ∙ e) (omega arith) in
       let h = front_early before front s.0 line s.1 early in
       on_line front line after e at (late_fault front line h.0 h.1 cause f)
 
-  from_last : (n cause : ℕ) → n ≤ length before → HasCause lines n cause → HasCauseIn WithoutNumericMode lines n cause
+  from_last : (n cause : ℕ) → n ≤ length before → HasCause WithNumericMode lines n cause → HasCause WithoutNumericMode lines n cause
   from_last n cause le (on_line front line after e at f) =
       let s = split_at before rest front after line (sym parts ∙ e) (omega arith) in
       let h = front_early before front s.0 line s.1 early in
@@ -153,23 +153,23 @@ module _ (lines before rest : List (List ℕ)) (parts : lines ≡ before ++ rest
 
 -- this fault of the lines is reported without numeric mode
 pub record IsToldEarly (lines : List (List ℕ)) (n cause : ℕ) : Type 0 where
-  pub has : HasCauseIn WithoutNumericMode lines n cause
-  pub first : (m other : ℕ) → HasCauseIn WithoutNumericMode lines m other → IsToldNoLater n cause m other
+  pub has : HasCause WithoutNumericMode lines n cause
+  pub first : (m other : ℕ) → HasCause WithoutNumericMode lines m other → IsToldNoLater n cause m other
 
 module _ (lines : List (List ℕ)) (f : FirstLate lines) where
   -- if the lines before have no fault, the later opcode is reported
-  tell_opcode : ((m other : ℕ) → HasCause lines m other → length f.before < m) → IsToldEarly lines (length f.before + 1) 1
+  tell_opcode : ((m other : ℕ) → HasCause WithNumericMode lines m other → length f.before < m) → IsToldEarly lines (length f.before + 1) 1
   tell_opcode none =
       record { has = on_line f.before f.line f.after f.parts refl (late_unknown f.before f.line f.late); first = λ m other h. first m other h (cases_lt (length f.before) m) }
     where
-      least : (m other : ℕ) → HasCauseIn WithoutNumericMode lines m other → 1 ≤ other
+      least : (m other : ℕ) → HasCause WithoutNumericMode lines m other → 1 ≤ other
       least m other (on_line front line after e at g) = least_cause WithoutNumericMode front line other g
 
-      beyond : (m other : ℕ) → HasCauseIn WithoutNumericMode lines m other → length f.before < m → (length f.before + 1 < m) ⊎ (m ≤ length f.before + 1) → IsToldNoLater (length f.before + 1) 1 m other
+      beyond : (m other : ℕ) → HasCause WithoutNumericMode lines m other → length f.before < m → (length f.before + 1 < m) ⊎ (m ≤ length f.before + 1) → IsToldNoLater (length f.before + 1) 1 m other
       beyond m other h past (inl lt) = inl lt
       beyond m other h past (inr le) = inr (omega arith, least m other h)
 
-      first : (m other : ℕ) → HasCauseIn WithoutNumericMode lines m other → (length f.before < m) ⊎ (m ≤ length f.before) → IsToldNoLater (length f.before + 1) 1 m other
+      first : (m other : ℕ) → HasCause WithoutNumericMode lines m other → (length f.before < m) ⊎ (m ≤ length f.before) → IsToldNoLater (length f.before + 1) 1 m other
       first m other h (inl past) = beyond m other h past (cases_lt (length f.before + 1) m)
       first m other h (inr le) = let past = none m other (to_last lines f.before (f.line ∷ f.after) f.parts f.early m other le h) in absurd (omega arith)
 
@@ -181,11 +181,11 @@ module _ (lines : List (List ℕ)) (f : FirstLate lines) where
         first = λ m other h. first m other h (cases_lt (length f.before) m);
       }
     where
-      first : (m other : ℕ) → HasCauseIn WithoutNumericMode lines m other → (length f.before < m) ⊎ (m ≤ length f.before) → IsToldNoLater n cause m other
+      first : (m other : ℕ) → HasCause WithoutNumericMode lines m other → (length f.before < m) ⊎ (m ≤ length f.before) → IsToldNoLater n cause m other
       first m other h (inl past) = inl (omega arith)
       first m other h (inr within) = told.first m other (to_last lines f.before (f.line ∷ f.after) f.parts f.early m other within h)
 
-  after_told : (n cause : ℕ) → IsTold lines n cause → length f.before < n → (m other : ℕ) → HasCause lines m other → length f.before < m
+  after_told : (n cause : ℕ) → IsTold lines n cause → length f.before < n → (m other : ℕ) → HasCause WithNumericMode lines m other → length f.before < m
   after_told n cause told past m other h = by (told.first m other h)
     where
       by : IsToldNoLater n cause m other → length f.before < m
@@ -204,12 +204,12 @@ module _ (lines : List (List ℕ)) (f : FirstLate lines) where
 
 -- ---- texts
 
-late_cause : (lines : List (List ℕ)) → ((line : List ℕ) → Contains lines line → StartsEarly line) → (n cause : ℕ) → HasCauseIn WithoutNumericMode lines n cause → HasCause lines n cause
+late_cause : (lines : List (List ℕ)) → ((line : List ℕ) → Contains lines line → StartsEarly line) → (n cause : ℕ) → HasCause WithoutNumericMode lines n cause → HasCause WithNumericMode lines n cause
 late_cause lines early n cause (on_line front line after e at f) =
     let h = front_early lines front after line e early in
     on_line front line after e at (late_fault front line h.0 h.1 cause f)
 
-early_given : (n : ℕ) (lines : List (List ℕ)) (entries : List (ℕ × Entry)) → ((line : List ℕ) → Contains lines line → StartsEarly line) → GiveFrom n lines entries → GiveFromIn WithoutNumericMode n lines entries
+early_given : (n : ℕ) (lines : List (List ℕ)) (entries : List (ℕ × Entry)) → ((line : List ℕ) → Contains lines line → StartsEarly line) → GiveFrom WithNumericMode n lines entries → GiveFrom WithoutNumericMode n lines entries
 early_given n [] entries early g = g
 early_given n (line ∷ lines) entries early (inl (s, g)) =
     inl (s, early_given (n + 1) lines entries (λ other m. early other (Contains-append_right (line ∷ []) lines other m)) g)

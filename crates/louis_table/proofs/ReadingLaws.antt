@@ -17,19 +17,20 @@ use Rattle.louis_table.specs.declared.written.Written.{Written}
 use Rattle.louis_table.specs.Lines.{lines_of}
 use Rattle.louis_table.specs.Meaning.{Meaning, sign_cells, set_characters}
 use Rattle.louis_table.specs.Reading.{no_meaning, Gathers, LinesGive, IsTold, HasDefinedPartners, with_given, written_in, written_by, judge}
+use Rattle.louis_table.specs.Profile.{WithNumericMode}
 use Rattle.louis_table.specs.Table.{most_lines, Entry, Defines, Pairs, Replaces, Announces, Collects, SaysNothing, Gives, GiveFrom, definitions_in, partners_in, cells_for, characters_for, Fault, HasCause, on_line, IsToldNoLater}
 use Rattle.louis_table.proofs.EntryLaws.{Says}
 use Rattle.louis_table.proofs.VerdictLaws.{any_gives, lookup-flat_map, judge-Fault, Fault-judge, judge-few, judge-given}
 
 -- ---- one more line
 
-GiveFrom-nothing : (n : ℕ) (lines : List (List ℕ)) (line : List ℕ) (entries : List (ℕ × Entry)) → GiveFrom n lines entries → SaysNothing line → GiveFrom n (lines ++ line ∷ []) entries
+GiveFrom-nothing : (n : ℕ) (lines : List (List ℕ)) (line : List ℕ) (entries : List (ℕ × Entry)) → GiveFrom WithNumericMode n lines entries → SaysNothing line → GiveFrom WithNumericMode n (lines ++ line ∷ []) entries
 GiveFrom-nothing n [] line entries g s = inl (s, g)
 GiveFrom-nothing n (l ∷ lines) line entries (inl (t, g)) s = inl (t, GiveFrom-nothing (n + 1) lines line entries g s)
 GiveFrom-nothing n (l ∷ lines) line entries (inr (entry, rest, gives, e, g)) s = inr (entry, rest, gives, e, GiveFrom-nothing (n + 1) lines line rest g s)
 
-GiveFrom-entry : (n k : ℕ) (lines : List (List ℕ)) (line : List ℕ) (entries : List (ℕ × Entry)) (entry : Entry) → k ≡ n + length lines → GiveFrom n lines entries → Gives line entry
-    → GiveFrom n (lines ++ line ∷ []) (entries ++ (k, entry) ∷ [])
+GiveFrom-entry : (n k : ℕ) (lines : List (List ℕ)) (line : List ℕ) (entries : List (ℕ × Entry)) (entry : Entry) → k ≡ n + length lines → GiveFrom WithNumericMode n lines entries → Gives WithNumericMode line entry
+    → GiveFrom WithNumericMode n (lines ++ line ∷ []) (entries ++ (k, entry) ∷ [])
 GiveFrom-entry n k [] line entries entry at g s =
     let same : k ≡ n = omega arith in
     inr (entry, [], s, ap (λ (es : List (ℕ × Entry)). es ++ (k, entry) ∷ []) g ∙ ap (λ (m : ℕ). (m, entry) ∷ []) same, refl)
@@ -142,7 +143,7 @@ same_place (w ∷ xs) (z ∷ ys) x y after rest e l =
 -- these lines stand before the rest, have no fault, and give this
 pub record Reached (lines before rest : List (List ℕ)) (meaning : Meaning) (rules : List Written) : Type 0 where
   pub parts : lines ≡ before ++ rest
-  pub sound : (n cause : ℕ) → HasCause lines n cause → length before < n
+  pub sound : (n cause : ℕ) → HasCause WithNumericMode lines n cause → length before < n
   pub gathered : Gathers before meaning rules
 
 pub Reached-none : (lines : List (List ℕ)) (meaning : Meaning) (rules : List Written) → meaning ≡ no_meaning → rules ≡ [] → Reached lines [] lines meaning rules
@@ -161,15 +162,15 @@ Reached-none lines meaning rules e w =
       };
     }
   where
-    from_one : (n cause : ℕ) → HasCause lines n cause → 0 < n
+    from_one : (n cause : ℕ) → HasCause WithNumericMode lines n cause → 0 < n
     from_one n cause (on_line before line after e at f) = omega arith
 
 module _ (lines before rest : List (List ℕ)) (line : List ℕ) (meaning : Meaning) (rules : List Written) (r : Reached lines before (line ∷ rest) meaning rules) where
   -- a fault of the line that comes next
-  here : (n cause : ℕ) → HasCause lines n cause → n ≡ length before + 1 → Fault before line cause
+  here : (n cause : ℕ) → HasCause WithNumericMode lines n cause → n ≡ length before + 1 → Fault WithNumericMode before line cause
   here n cause (on_line front other after e at f) h =
       let same = same_place front before other line after rest (sym e ∙ r.parts) (omega arith) in
-      subst (λ (b : List (List ℕ)). Fault b line cause) same.0 (subst (λ (l : List ℕ). Fault front l cause) same.1 f)
+      subst (λ (b : List (List ℕ)). Fault WithNumericMode b line cause) same.0 (subst (λ (l : List ℕ). Fault WithNumericMode front l cause) same.1 f)
 
   pub Reached-more : (given : Option Entry) (new : Meaning) (all : List Written) → judge meaning (length before) line ≡ Ok given
       → new ≡ with_given meaning given → all ≡ rules ++ written_in (length before + 1) given → Reached lines (before ++ line ∷ []) rest new all
@@ -180,10 +181,10 @@ module _ (lines before rest : List (List ℕ)) (line : List ℕ) (meaning : Mean
         gathered = Gathers-more before line meaning new rules all given r.gathered (judge-given meaning (length before) line given j) e w;
       }
     where
-      no_fault : (cause : ℕ) → ¬ Fault before line cause
+      no_fault : (cause : ℕ) → ¬ Fault WithNumericMode before line cause
       no_fault cause f = let k = Fault-judge before line meaning rules r.gathered cause f in let bad : judge meaning (length before) line ≡ Err k.0 = k.1 in cc
 
-      beyond : (n cause : ℕ) → HasCause lines n cause → length (before ++ line ∷ []) < n
+      beyond : (n cause : ℕ) → HasCause WithNumericMode lines n cause → length (before ++ line ∷ []) < n
       beyond n cause h =
           let past : length before < n = r.sound n cause h in
           let more : n ≢ length before + 1 = λ e. no_fault cause (here n cause h e) in
@@ -196,18 +197,18 @@ module _ (lines before rest : List (List ℕ)) (line : List ℕ) (meaning : Mean
         first = λ m other h. told m other h;
       }
     where
-      least : (other : ℕ) → Fault before line other → cause ≤ other
+      least : (other : ℕ) → Fault WithNumericMode before line other → cause ≤ other
       least other f =
           let k = Fault-judge before line meaning rules r.gathered other f in
           let same : cause ≡ k.0 = let bad : judge meaning (length before) line ≡ Err k.0 = k.1 in cc in
           let le : k.0 ≤ other = k.2 in
           omega arith
 
-      by : (m other : ℕ) → HasCause lines m other → (m ≡ length before + 1) ⊎ (length before + 1 < m) → IsToldNoLater (length before + 1) cause m other
+      by : (m other : ℕ) → HasCause WithNumericMode lines m other → (m ≡ length before + 1) ⊎ (length before + 1 < m) → IsToldNoLater (length before + 1) cause m other
       by m other h (inl e) = inr (sym e, least other (here m other h e))
       by m other h (inr lt) = inl lt
 
-      told : (m other : ℕ) → HasCause lines m other → IsToldNoLater (length before + 1) cause m other
+      told : (m other : ℕ) → HasCause WithNumericMode lines m other → IsToldNoLater (length before + 1) cause m other
       told m other h =
           let past : length before < m = r.sound m other h in
           by m other h (elim (cases_lt (length before + 1) m) [ inl lt ↦ inr lt | inr le ↦ inl (omega arith) ])
@@ -217,7 +218,7 @@ Reached-all lines before meaning rules r =
     let whole : lines ≡ before = r.parts ∙ append-nil before in
     record { is_sound = λ n cause h. sound n cause whole h; gathered = subst (λ (ls : List (List ℕ)). Gathers ls meaning rules) (sym whole) r.gathered }
   where
-    sound : (n cause : ℕ) → lines ≡ before → ¬ HasCause lines n cause
+    sound : (n cause : ℕ) → lines ≡ before → ¬ HasCause WithNumericMode lines n cause
     sound n cause whole (on_line front line after e at f) =
         let past : length before < n = r.sound n cause (on_line front line after e at f) in
         let long : length before ≡ length (front ++ line ∷ after) = ap length (sym whole ∙ e) in

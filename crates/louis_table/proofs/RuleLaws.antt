@@ -10,6 +10,7 @@ use Rattle.louis_table.specs.declared.fault.ReadFault.{ReadFault}
 use Rattle.louis_table.specs.declared.fault.ReadFault.TheVariants as faults
 use Rattle.louis_table.specs.Meaning.{Meaning, definition_of, folded}
 use Rattle.louis_table.specs.Reading.{is_known, are_defined, is_complete, line_of, finished, first_lacking, written_by, Finishes, FinishesAll}
+use Rattle.louis_table.specs.Profile.{WithNumericMode}
 use Rattle.louis_table.specs.Table.{Entry, Defines, Pairs, Replaces, Announces, Collects, GiveFrom, rules_in, IsLacking}
 use Rattle.louis_table.proofs.VerdictLaws.{only_one}
 
@@ -141,7 +142,7 @@ first_in-None meaning (x ∷ entries) n rule e m h = by (is_whole meaning x.1) r
     by false f e rec = cc
 
 -- entries are in the order of their lines
-GiveFrom-least : (n : ℕ) (lines : List (List ℕ)) (entries : List (ℕ × Entry)) (m : ℕ) (entry : Entry) → GiveFrom n lines entries → Contains entries (m, entry) → n ≤ m
+GiveFrom-least : (n : ℕ) (lines : List (List ℕ)) (entries : List (ℕ × Entry)) (m : ℕ) (entry : Entry) → GiveFrom WithNumericMode n lines entries → Contains entries (m, entry) → n ≤ m
 GiveFrom-least n [] entries m entry g c = none entries g c
   where
     none : (entries : List (ℕ × Entry)) → entries ≡ [] → Contains entries (m, entry) → n ≤ m
@@ -161,7 +162,7 @@ pub record IsFirstLacking (meaning : Meaning) (entries : List (ℕ × Entry)) (n
   pub lacking : IsLacking meaning rule
   pub first : (m : ℕ) (other : Entry) → Contains entries (m, other) → IsLacking meaning other → n ≤ m
 
-pub first_in-Some : (meaning : Meaning) (k : ℕ) (lines : List (List ℕ)) (entries : List (ℕ × Entry)) (n : ℕ) → GiveFrom k lines entries → first_in meaning entries ≡ Some n
+pub first_in-Some : (meaning : Meaning) (k : ℕ) (lines : List (List ℕ)) (entries : List (ℕ × Entry)) (n : ℕ) → GiveFrom WithNumericMode k lines entries → first_in meaning entries ≡ Some n
     → IsFirstLacking meaning entries n
 first_in-Some meaning k [] entries n g e = let none : first_in meaning entries ≡ None = ap (first_in meaning) g in absurd cc
 first_in-Some meaning k (line ∷ lines) entries n (inl (s, g)) e = first_in-Some meaning (k + 1) lines entries n g e

@@ -17,19 +17,20 @@ use Rattle.louis_table.specs.Fields.{IsField}
 use Rattle.louis_table.specs.Characters.{Spells}
 use Rattle.louis_table.specs.Meaning.{Meaning, definition_of, sign_cells, set_characters}
 use Rattle.louis_table.specs.Reading.{Gathers, as_some, is_known, repeats, announces, is_large, verdict_by, entry_verdict, line_verdict, line_gives, judge_line, within_limits, judge, IsNewFor, CanTake, HasDefinedPartners}
+use Rattle.louis_table.specs.Profile.{WithNumericMode}
 use Rattle.louis_table.specs.Table.{most_lines, most_line_characters, Entry, Defines, Pairs, Replaces, Announces, Collects, SaysNothing, Gives, definition_line, pair_line, rule_line, sign_line, set_line, GiveFrom, definitions_in, is_same_sign, is_same_set, cells_for, characters_for, IsDefinedIn, GivesAgain, SomeGives, Fault, unknown_opcode, missing_operand, bad_characters, bad_dots, defined_before, defined_twice, given_before, long_line, line_too_many, many_characters, many_cells}
 use Rattle.louis_table.proofs.CharacterLaws.{chosen}
 use Rattle.louis_table.proofs.EntryLaws.{Says, FailsBy, IsLargeBy, or_right, or_left, or_cases, line_gives-Says, line_gives-nothing, line_gives-entry, unknown_fails, missing_fails, characters_fail, dots_fail, many_characters_large, many_cells_large, large_fault}
 
 -- ---- lines and entries
 
-pub one_entry : (line : List ℕ) (e f : Entry) → Gives line e → Gives line f → e ≡ f
+pub one_entry : (line : List ℕ) (e f : Entry) → Gives WithNumericMode line e → Gives WithNumericMode line f → e ≡ f
 one_entry line e f g h =
     let one : line_gives line ≡ Ok (Some e) = line_gives-entry line e g in
     let other : line_gives line ≡ Ok (Some f) = line_gives-entry line f h in
     cc
 
-pub nothing_or_entry : (line : List ℕ) (e : Entry) → SaysNothing line → ¬ Gives line e
+pub nothing_or_entry : (line : List ℕ) (e : Entry) → SaysNothing line → ¬ Gives WithNumericMode line e
 nothing_or_entry line e s g =
     let one : line_gives line ≡ Ok None = line_gives-nothing line s in
     let other : line_gives line ≡ Ok (Some e) = line_gives-entry line e g in
@@ -39,8 +40,8 @@ nothing_or_entry line e s g =
 abbrev pub any_gives : (Entry → Bool) → List (ℕ × Entry) → Bool
 any_gives p entries = list_any (λ e. p e.1) entries
 
-pub any_gives-SomeGives : (p : Entry → Bool) (n : ℕ) (lines : List (List ℕ)) (entries : List (ℕ × Entry)) → GiveFrom n lines entries → any_gives p entries ≡ true
-    → SomeGives lines (λ entry. p entry ≡ true)
+pub any_gives-SomeGives : (p : Entry → Bool) (n : ℕ) (lines : List (List ℕ)) (entries : List (ℕ × Entry)) → GiveFrom WithNumericMode n lines entries → any_gives p entries ≡ true
+    → SomeGives WithNumericMode lines (λ entry. p entry ≡ true)
 any_gives-SomeGives p n [] entries g h = let none : any_gives p entries ≡ false = ap (any_gives p) g in absurd cc
 any_gives-SomeGives p n (line ∷ lines) entries (inl (s, g)) h =
     let d = any_gives-SomeGives p (n + 1) lines entries g h in
@@ -48,31 +49,31 @@ any_gives-SomeGives p n (line ∷ lines) entries (inl (s, g)) h =
 any_gives-SomeGives p n (line ∷ lines) entries (inr (entry, rest, gives, e, g)) h =
     by (p entry) refl (sym (ap (any_gives p) e) ∙ h) (λ t. any_gives-SomeGives p (n + 1) lines rest g t)
   where
-    by : (b : Bool) → p entry ≡ b → b || any_gives p rest ≡ true → (any_gives p rest ≡ true → SomeGives lines (λ entry. p entry ≡ true)) → SomeGives (line ∷ lines) (λ entry. p entry ≡ true)
+    by : (b : Bool) → p entry ≡ b → b || any_gives p rest ≡ true → (any_gives p rest ≡ true → SomeGives WithNumericMode lines (λ entry. p entry ≡ true)) → SomeGives WithNumericMode (line ∷ lines) (λ entry. p entry ≡ true)
     by true t h rec = (line, entry, (0, omega arith, refl), gives, t)
     by false f h rec = let d = rec h in (d.0, d.1, Contains-append_right (line ∷ []) lines d.0 d.2, d.3, d.4)
 
 pub only_one : {X : Type 0} (x y : X) → Contains (x ∷ []) y → x ≡ y
 only_one x y m = elim (Contains-push_cases [] x y m) [ inl (k, lt, e) ↦ absurd (omega arith) | inr e ↦ e ]
 
-pub SomeGives-any_gives : (p : Entry → Bool) (n : ℕ) (lines : List (List ℕ)) (entries : List (ℕ × Entry)) → GiveFrom n lines entries → SomeGives lines (λ entry. p entry ≡ true)
+pub SomeGives-any_gives : (p : Entry → Bool) (n : ℕ) (lines : List (List ℕ)) (entries : List (ℕ × Entry)) → GiveFrom WithNumericMode n lines entries → SomeGives WithNumericMode lines (λ entry. p entry ≡ true)
     → any_gives p entries ≡ true
 SomeGives-any_gives p n [] entries g (l, entry, (k, lt, e), gives, t) = absurd (omega arith)
 SomeGives-any_gives p n (line ∷ lines) entries (inl (s, g)) (l, entry, m, gives, t) =
     elim (Contains-append_cases (line ∷ []) lines l m) [
-      | inl here ↦ absurd (nothing_or_entry line entry s (subst (λ (x : List ℕ). Gives x entry) (sym (only_one line l here)) gives))
+      | inl here ↦ absurd (nothing_or_entry line entry s (subst (λ (x : List ℕ). Gives WithNumericMode x entry) (sym (only_one line l here)) gives))
       | inr there ↦ SomeGives-any_gives p (n + 1) lines entries g (l, entry, there, gives, t)
     ]
 SomeGives-any_gives p n (line ∷ lines) entries (inr (given, rest, i, e, g)) (l, entry, m, gives, t) =
     ap (any_gives p) e ∙
     elim (Contains-append_cases (line ∷ []) lines l m) [
       | inl here ↦
-          let same : entry ≡ given = one_entry line entry given (subst (λ (x : List ℕ). Gives x entry) (sym (only_one line l here)) gives) i in
+          let same : entry ≡ given = one_entry line entry given (subst (λ (x : List ℕ). Gives WithNumericMode x entry) (sym (only_one line l here)) gives) i in
           or_left (p given) (any_gives p rest) (sym (ap p same) ∙ t)
       | inr there ↦ or_right (p given) (any_gives p rest) (SomeGives-any_gives p (n + 1) lines rest g (l, entry, there, gives, t))
     ]
 
-map_SomeGives : (lines : List (List ℕ)) (P Q : Entry → Type 0) → SomeGives lines P → ((line : List ℕ) (entry : Entry) → Gives line entry → P entry → Q entry) → SomeGives lines Q
+map_SomeGives : (lines : List (List ℕ)) (P Q : Entry → Type 0) → SomeGives WithNumericMode lines P → ((line : List ℕ) (entry : Entry) → Gives WithNumericMode line entry → P entry → Q entry) → SomeGives WithNumericMode lines Q
 map_SomeGives lines P Q (line, entry, m, gives, h) f = (line, entry, m, gives, f line entry gives h)
 
 -- ---- the characters that entries define
@@ -121,12 +122,12 @@ module _ (lines : List (List ℕ)) (meaning : Meaning) (written : List Written) 
   is_known-any : (c : ℕ) → is_known meaning c ≡ any_gives (defines c) g.entries
   is_known-any c = ap (λ (ds : List (ℕ × Definition)). is_some (lookup (nat_eq c) ds)) g.definitions ∙ lookup-flat_map (nat_eq c) definitions_in g.entries
 
-  pub is_known-SomeGives : (c : ℕ) → is_known meaning c ≡ true → SomeGives lines (IsDefinedIn c)
+  pub is_known-SomeGives : (c : ℕ) → is_known meaning c ≡ true → SomeGives WithNumericMode lines (IsDefinedIn c)
   is_known-SomeGives c t =
       map_SomeGives lines (λ entry. defines c entry ≡ true) (IsDefinedIn c) (any_gives-SomeGives (defines c) 1 lines g.entries g.given (sym (is_known-any c) ∙ t))
       (λ line entry gives h. lookup-Contains c (definitions_in entry) h)
 
-  pub SomeGives-is_known : (c : ℕ) → SomeGives lines (IsDefinedIn c) → is_known meaning c ≡ true
+  pub SomeGives-is_known : (c : ℕ) → SomeGives WithNumericMode lines (IsDefinedIn c) → is_known meaning c ≡ true
   SomeGives-is_known c s =
       is_known-any c
       ∙ SomeGives-any_gives (defines c) 1 lines g.entries g.given
@@ -218,7 +219,7 @@ Spells-some [] text f s = absurd f
 Spells-some (x ∷ characters) [] f s = absurd cc
 Spells-some (x ∷ characters) (c ∷ text) f s = ap not (ne_eqb _ _ (λ e. omega arith))
 
-Gives-some : (line : List ℕ) (entry : Entry) (sign : Sign) (cells : List ℕ) → Gives line entry → entry ≡ Announces sign cells → are_some cells ≡ true
+Gives-some : (line : List ℕ) (entry : Entry) (sign : Sign) (cells : List ℕ) → Gives WithNumericMode line entry → entry ≡ Announces sign cells → are_some cells ≡ true
 Gives-some line entry sign cells (definition_line class characters dots c others has h s d e) same = absurd cc
 Gives-some line entry sign cells (pair_line characters dots upper lower upper_cells lower_cells has h s d e) same = absurd cc
 Gives-some line entry sign cells (rule_line kind characters dots text others has h s d e) same = absurd cc
@@ -227,7 +228,7 @@ Gives-some line entry sign cells (sign_line other dots others has h d e) same =
     ap are_some (sym equal) ∙ Dots-some dots others d
 Gives-some line entry sign cells (set_line set characters text has h s e) same = absurd cc
 
-Gives-some_text : (line : List ℕ) (entry : Entry) (set : CharacterSet) (text : List ℕ) → Gives line entry → entry ≡ Collects set text → are_some text ≡ true
+Gives-some_text : (line : List ℕ) (entry : Entry) (set : CharacterSet) (text : List ℕ) → Gives WithNumericMode line entry → entry ≡ Collects set text → are_some text ≡ true
 Gives-some_text line entry set text (definition_line class characters dots c others has h s d e) same = absurd cc
 Gives-some_text line entry set text (pair_line characters dots upper lower upper_cells lower_cells has h s d e) same = absurd cc
 Gives-some_text line entry set text (rule_line kind characters dots others cells has h s d e) same = absurd cc
@@ -244,7 +245,7 @@ module _ (lines : List (List ℕ)) (meaning : Meaning) (written : List Written) 
   set_characters-any set = ap are_some (g.sets set) ∙ are_some-flat_map (characters_for set) g.entries
 
   -- an earlier line gives the sign or the set of the entry
-  pub announces-SomeGives : (entry : Entry) → announces meaning entry ≡ true → SomeGives lines (GivesAgain entry)
+  pub announces-SomeGives : (entry : Entry) → announces meaning entry ≡ true → SomeGives WithNumericMode lines (GivesAgain entry)
   announces-SomeGives (Defines k definition) t = absurd cc
   announces-SomeGives (Pairs u uc l lc) t = absurd cc
   announces-SomeGives (Replaces kind text cells) t = absurd cc
@@ -257,10 +258,10 @@ module _ (lines : List (List ℕ)) (meaning : Meaning) (written : List Written) 
       (any_gives-SomeGives (λ entry. are_some (characters_for set entry)) 1 lines g.entries g.given (sym (set_characters-any set) ∙ t))
       (λ line entry gives h. characters_for-Collects set entry h)
 
-  nobody_again : SomeGives lines (λ entry. ⊥) → ⊥
+  nobody_again : SomeGives WithNumericMode lines (λ entry. ⊥) → ⊥
   nobody_again (line, entry, m, gives, h) = h
 
-  pub SomeGives-announces : (entry : Entry) → SomeGives lines (GivesAgain entry) → announces meaning entry ≡ true
+  pub SomeGives-announces : (entry : Entry) → SomeGives WithNumericMode lines (GivesAgain entry) → announces meaning entry ≡ true
   SomeGives-announces (Defines k definition) s = absurd (nobody_again s)
   SomeGives-announces (Pairs u uc l lc) s = absurd (nobody_again s)
   SomeGives-announces (Replaces kind text cells) s = absurd (nobody_again s)
@@ -296,7 +297,7 @@ err_is : (a c : ℕ) → (let r : Result (Option Entry) ℕ = Err a in r) ≡ Er
 err_is a c e = cc
 
 module _ (before : List (List ℕ)) (line : List ℕ) (meaning : Meaning) (written : List Written) (gathered : Gathers before meaning written) where
-  limits_fault : (given : Option Entry) (c : ℕ) → within_limits (length before) line (Ok given) ≡ Err c → Fault before line c
+  limits_fault : (given : Option Entry) (c : ℕ) → within_limits (length before) line (Ok given) ≡ Err c → Fault WithNumericMode before line c
   limits_fault given c e =
       elim (chosen (is_long (length before) line) _ _ _ e) [
         | inl p ↦ elim (is_long-IsLong (length before) line p.0) [
@@ -306,13 +307,13 @@ module _ (before : List (List ℕ)) (line : List ℕ) (meaning : Meaning) (writt
         | inr p ↦ absurd cc
       ]
 
-  repeats_fault : (entry : Entry) → Gives line entry → repeats meaning entry ≡ true → Fault before line 5
+  repeats_fault : (entry : Entry) → Gives WithNumericMode line entry → repeats meaning entry ≡ true → Fault WithNumericMode before line 5
   repeats_fault (Defines k definition) g t =
       defined_before (Defines k definition) k g (0, omega arith, refl) (is_known-SomeGives before meaning written gathered k t) refl
   repeats_fault (Pairs u uc l lc) g t =
       elim (or_cases (eqb u l || is_known meaning u) (is_known meaning l) t) [
         | inl p ↦ elim (or_cases (eqb u l) (is_known meaning u) p) [
-          | inl q ↦ defined_twice u uc lc (subst (λ (x : ℕ). Gives line (Pairs u uc x lc)) (sym (eqb-true u l q)) g) refl
+          | inl q ↦ defined_twice u uc lc (subst (λ (x : ℕ). Gives WithNumericMode line (Pairs u uc x lc)) (sym (eqb-true u l q)) g) refl
           | inr q ↦ defined_before (Pairs u uc l lc) u g (0, omega arith, refl) (is_known-SomeGives before meaning written gathered u q) refl
         ]
         | inr p ↦ defined_before (Pairs u uc l lc) l g (1, omega arith, refl) (is_known-SomeGives before meaning written gathered l p) refl
@@ -321,24 +322,24 @@ module _ (before : List (List ℕ)) (line : List ℕ) (meaning : Meaning) (writt
   repeats_fault (Announces sign cells) g t = absurd cc
   repeats_fault (Collects set text) g t = absurd cc
 
-  announces_fault : (entry : Entry) → Gives line entry → announces meaning entry ≡ true → Fault before line 6
+  announces_fault : (entry : Entry) → Gives WithNumericMode line entry → announces meaning entry ≡ true → Fault WithNumericMode before line 6
   announces_fault entry g t = given_before entry g (announces-SomeGives before meaning written gathered entry t) refl
 
-  entry_fault : (entry : Entry) (c : ℕ) → Gives line entry → (r a l : Bool) → repeats meaning entry ≡ r → announces meaning entry ≡ a → is_large entry ≡ l
-      → within_limits (length before) line (as_some (verdict_by r a l entry)) ≡ Err c → Fault before line c
-  entry_fault entry c g true a l x y z e = subst (Fault before line) (sym (err_is 5 c e)) (repeats_fault entry g x)
-  entry_fault entry c g false true l x y z e = subst (Fault before line) (sym (err_is 6 c e)) (announces_fault entry g y)
-  entry_fault entry c g false false true x y z e = subst (Fault before line) (sym (err_is 8 c e)) (large_fault before line entry g z)
+  entry_fault : (entry : Entry) (c : ℕ) → Gives WithNumericMode line entry → (r a l : Bool) → repeats meaning entry ≡ r → announces meaning entry ≡ a → is_large entry ≡ l
+      → within_limits (length before) line (as_some (verdict_by r a l entry)) ≡ Err c → Fault WithNumericMode before line c
+  entry_fault entry c g true a l x y z e = subst (Fault WithNumericMode before line) (sym (err_is 5 c e)) (repeats_fault entry g x)
+  entry_fault entry c g false true l x y z e = subst (Fault WithNumericMode before line) (sym (err_is 6 c e)) (announces_fault entry g y)
+  entry_fault entry c g false false true x y z e = subst (Fault WithNumericMode before line) (sym (err_is 8 c e)) (large_fault before line entry g z)
   entry_fault entry c g false false false x y z e = limits_fault (Some entry) c e
 
-  verdict_fault : (v : Result (Option Entry) ℕ) (c : ℕ) → Says line v → within_limits (length before) line (line_verdict meaning v) ≡ Err c → Fault before line c
+  verdict_fault : (v : Result (Option Entry) ℕ) (c : ℕ) → Says line v → within_limits (length before) line (line_verdict meaning v) ≡ Err c → Fault WithNumericMode before line c
   unfolding entry_verdict
   verdict_fault (Ok None) c s e = limits_fault None c e
   verdict_fault (Ok (Some entry)) c s e = entry_fault entry c s _ _ _ refl refl refl e
-  verdict_fault (Err a) c s e = subst (λ (x : ℕ). Fault before line x) (sym (err_is a c e)) (s before)
+  verdict_fault (Err a) c s e = subst (λ (x : ℕ). Fault WithNumericMode before line x) (sym (err_is a c e)) (s before)
 
   -- the cause that is given is one
-  pub judge-Fault : (c : ℕ) → judge meaning (length before) line ≡ Err c → Fault before line c
+  pub judge-Fault : (c : ℕ) → judge meaning (length before) line ≡ Err c → Fault WithNumericMode before line c
   unfolding judge judge_line
   judge-Fault c e = verdict_fault (line_gives line) c (line_gives-Says line) e
 
@@ -357,14 +358,14 @@ module _ (before : List (List ℕ)) (line : List ℕ) (meaning : Meaning) (writt
   unfolding judge judge_line entry_verdict
   entry_judged entry e = ap (λ (v : Result (Option Entry) ℕ). within_limits (length before) line (line_verdict meaning v)) e
 
-  repeats_judged : (entry : Entry) → Gives line entry → repeats meaning entry ≡ true → IsJudged 5
+  repeats_judged : (entry : Entry) → Gives WithNumericMode line entry → repeats meaning entry ≡ true → IsJudged 5
   repeats_judged entry g t = (5, entry_judged entry (line_gives-entry line entry g) ∙ by (repeats meaning entry) t, lit≤ tt)
     where
       by : (r : Bool) → r ≡ true → within_limits (length before) line (as_some (verdict_by r (announces meaning entry) (is_large entry) entry)) ≡ Err 5
       by true t = refl
       by false t = absurd cc
 
-  announces_judged : (entry : Entry) → Gives line entry → announces meaning entry ≡ true → IsJudged 6
+  announces_judged : (entry : Entry) → Gives WithNumericMode line entry → announces meaning entry ≡ true → IsJudged 6
   announces_judged entry g t =
       let b = by (repeats meaning entry) (announces meaning entry) t in
       (b.0, entry_judged entry (line_gives-entry line entry g) ∙ b.1, b.2)
@@ -386,7 +387,7 @@ module _ (before : List (List ℕ)) (line : List ℕ) (meaning : Meaning) (writt
       by false false true t = (8, refl, lit≤ tt)
       by false false false t = absurd cc
 
-  fault_small : (c : ℕ) → Fault before line c → c ≤ 8
+  fault_small : (c : ℕ) → Fault WithNumericMode before line c → c ≤ 8
   fault_small c (unknown_opcode field rest b n u e) = rw e (lit≤ tt)
   fault_small c (missing_operand opcode rest has b n e) = rw e (lit≤ tt)
   fault_small c (bad_characters opcode characters has h n e) = rw e (lit≤ tt)
@@ -418,7 +419,7 @@ module _ (before : List (List ℕ)) (line : List ℕ) (meaning : Meaning) (writt
   repeats-defined (Announces sign cells) c (k, lt, e) t = absurd (omega arith)
   repeats-defined (Collects set text) c (k, lt, e) t = absurd (omega arith)
 
-  pub Fault-judge : (cause : ℕ) → Fault before line cause → IsJudged cause
+  pub Fault-judge : (cause : ℕ) → Fault WithNumericMode before line cause → IsJudged cause
   Fault-judge cause (unknown_opcode field rest b n u e) = rw e (fails_judged 1 (unknown_fails line field rest b n u))
   Fault-judge cause (missing_operand opcode rest has b n e) = rw e (fails_judged 2 (missing_fails line rest opcode b n))
   Fault-judge cause (bad_characters opcode characters has h n e) = rw e (fails_judged 3 (characters_fail line characters opcode h n))

@@ -35,6 +35,7 @@ use Rattle.louis_table.specs.Fields.{is_gap}
 use Rattle.louis_table.specs.Characters.{digits_behind, escaped}
 use Rattle.louis_table.specs.Opcode.{name_of}
 use Rattle.louis_table.specs.Meaning.{Meaning, definition_of, folded, partner_of, sign_cells, set_characters}
+use Rattle.louis_table.specs.Profile.{WithNumericMode}
 use Rattle.louis_table.specs.Table.{most_lines, most_line_characters, most_rule_characters, most_set_characters, Entry, Defines, Pairs, Replaces, Announces, Collects, GiveFrom, HasCause, IsToldNoLater, cells_in_definition, rule_cells, definitions_in, partners_in, cells_for, characters_for}
 
 -- ---- fields
@@ -510,7 +511,7 @@ FinishesAll (Err faults.NoMemory) meaning all = Unit {0}
 -- the lines give a table without rules, and what can be checked only once all definitions are known
 pub record Gathers (lines : List (List ℕ)) (meaning : Meaning) (all : List Written) : Type 0 where
   pub entries : List (ℕ × Entry)
-  pub given : GiveFrom 1 lines entries
+  pub given : GiveFrom WithNumericMode 1 lines entries
   pub definitions : meaning.definitions ≡ flat_map (λ e. definitions_in e.1) entries
   pub partners : meaning.partners ≡ flat_map (λ e. partners_in e.1) entries
   pub signs : (sign : Sign) → sign_cells meaning sign ≡ flat_map (λ e. cells_for sign e.1) entries
@@ -519,7 +520,7 @@ pub record Gathers (lines : List (List ℕ)) (meaning : Meaning) (all : List Wri
 
 -- lines without a fault that give this
 pub record LinesGive (lines : List (List ℕ)) (meaning : Meaning) (all : List Written) : Type 0 where
-  pub is_sound : (n cause : ℕ) → ¬ HasCause lines n cause
+  pub is_sound : (n cause : ℕ) → ¬ HasCause WithNumericMode lines n cause
   pub gathered : Gathers lines meaning all
 
 -- lines without a fault, in whose rules and sets every character is defined, mean this
@@ -531,8 +532,8 @@ pub record LinesMean (lines : List (List ℕ)) (meaning : Meaning) : Type 0 wher
 
 -- this fault of the lines is reported
 pub record IsTold (lines : List (List ℕ)) (n cause : ℕ) : Type 0 where
-  pub has : HasCause lines n cause
-  pub first : (m other : ℕ) → HasCause lines m other → IsToldNoLater n cause m other
+  pub has : HasCause WithNumericMode lines n cause
+  pub first : (m other : ℕ) → HasCause WithNumericMode lines m other → IsToldNoLater n cause m other
 
 -- a rule or a set of lines without a fault lacks a definition
 pub record IsLackingIn (lines : List (List ℕ)) (n : ℕ) : Type 0 where

@@ -148,35 +148,6 @@ pub data Entry : Type 0 where
   Announces : Sign → List ℕ → Entry
   Collects : CharacterSet → List ℕ → Entry
 
--- the line is of a form of the profile that gives the entry; what follows its last operand is a comment
-pub data GivesIn (profile : Profile) (line : List ℕ) (entry : Entry) : Type 0 where
-  definition_line : (class : Class) (characters dots : List ℕ) (character : ℕ) (cells : List ℕ)
-      → HasOpcode profile (Define class) → HasFields line (name_of (Define class) ∷ characters ∷ dots ∷ [])
-      → Spells characters (character ∷ []) → Dots dots cells
-      → entry ≡ Defines character (record { class = class; cells = cells }) → GivesIn profile line entry
-  pair_line : (characters dots : List ℕ) (upper lower : ℕ) (upper_cells lower_cells : List ℕ)
-      → HasOpcode profile UpLow → HasFields line (name_of UpLow ∷ characters ∷ dots ∷ [])
-      → Spells characters (upper ∷ lower ∷ []) → PairDots dots upper_cells lower_cells
-      → entry ≡ Pairs upper upper_cells lower lower_cells → GivesIn profile line entry
-  rule_line : (kind : RuleKind) (characters dots text : List ℕ) (cells : Option (List ℕ))
-      → HasOpcode profile (Replace kind) → HasFields line (name_of (Replace kind) ∷ characters ∷ dots ∷ [])
-      → Spells characters text → RuleDots dots cells
-      → entry ≡ Replaces kind text cells → GivesIn profile line entry
-  sign_line : (sign : Sign) (dots cells : List ℕ)
-      → HasOpcode profile (Announce sign) → HasFields line (name_of (Announce sign) ∷ dots ∷ []) → Dots dots cells
-      → entry ≡ Announces sign cells → GivesIn profile line entry
-  set_line : (set : CharacterSet) (characters text : List ℕ)
-      → HasOpcode profile (Collect set) → HasFields line (name_of (Collect set) ∷ characters ∷ [])
-      → Spells characters text → entry ≡ Collects set text → GivesIn profile line entry
-
--- these entries and no others are what the lines from number n on give, each with its line's number
-abbrev pub GiveFromIn : Profile → ℕ → List (List ℕ) → List (ℕ × Entry) → Type 0
-GiveFromIn profile n [] entries = entries ≡ []
-GiveFromIn profile n (line ∷ lines) entries =
-    (SaysNothing line × GiveFromIn profile (n + 1) lines entries)
-    ⊎ ((entry : Entry) × (rest : List (ℕ × Entry)) × GivesIn profile line entry × (entries ≡ (n, entry) ∷ rest)
-    × GiveFromIn profile (n + 1) lines rest)
-
 -- ---- the table that entries make
 
 -- the characters that an entry defines, with their definitions; both of a pair are letters
@@ -255,7 +226,15 @@ rules_in meaning (n, Replaces kind text cells) =
 rules_in meaning (n, Announces sign cells) = []
 rules_in meaning (n, Collects set text) = []
 
--- ---- what is bad in a line
+-- all that a table has is that of the entries
+pub record IsMadeOf (entries : List (ℕ × Entry)) (meaning : Meaning) : Type 0 where
+  pub definitions : meaning.definitions ≡ flat_map (λ e. definitions_in e.1) entries
+  pub partners : meaning.partners ≡ flat_map (λ e. partners_in e.1) entries
+  pub rules : meaning.rules ≡ flat_map (rules_in meaning) entries
+  pub signs : (sign : Sign) → sign_cells meaning sign ≡ flat_map (λ e. cells_for sign e.1) entries
+  pub sets : (set : CharacterSet) → set_characters meaning set ≡ flat_map (λ e. characters_for set e.1) entries
+
+-- ---- what is bad in entries
 
 -- the entry defines the character
 abbrev pub IsDefinedIn : ℕ → Entry → Type 0
@@ -269,70 +248,6 @@ GivesAgain (Replaces kind text cells) other = ⊥
 GivesAgain (Announces sign cells) other = (others : List ℕ) × (other ≡ Announces sign others)
 GivesAgain (Collects set text) other = (others : List ℕ) × (other ≡ Collects set others)
 
--- one of the lines gives an entry of which this holds
-abbrev pub SomeGivesIn : Profile → List (List ℕ) → (Entry → Type 0) → Type 0
-SomeGivesIn profile lines Holds =
-    (line : List ℕ) × (entry : Entry) × Contains lines line × GivesIn profile line entry × Holds entry
-
--- the line, after the lines before it, has a fault with this cause; only lines that give an entry count as
--- repetitions: a line that says something and gives none has a cause from 1 to 4 of its own
-pub data FaultIn (profile : Profile) (before : List (List ℕ)) (line : List ℕ) (cause : ℕ) : Type 0 where
-  -- the first field isn't an opcode of the profile
-  unknown_opcode : (field rest : List ℕ) → Begins line field rest → ¬ IsComment field
-      → ((opcode : Opcode) → HasOpcode profile opcode → field ≢ name_of opcode)
-      → cause ≡ 1 → FaultIn profile before line cause
-  -- the line lacks one of its operands
-  missing_operand : (opcode : Opcode) (rest : List ℕ) → HasOpcode profile opcode → Begins line (name_of opcode) rest
-      → ¬ HasOperands line opcode → cause ≡ 2 → FaultIn profile before line cause
-  -- the characters operand isn't one for the opcode
-  bad_characters : (opcode : Opcode) (characters : List ℕ)
-      → HasOpcode profile opcode → HasCharacters line opcode characters
-      → ((text : List ℕ) → AreCharactersFor opcode text → ¬ Spells characters text)
-      → cause ≡ 3 → FaultIn profile before line cause
-  -- the dots operand isn't one for the opcode
-  bad_dots : (opcode : Opcode) (dots : List ℕ) → HasOpcode profile opcode → HasDots line opcode dots
-      → ¬ IsDotsFor opcode dots → cause ≡ 4 → FaultIn profile before line cause
-  -- an earlier line defines a character of this one, or this one defines it twice
-  defined_before : (entry : Entry) (character : ℕ) → GivesIn profile line entry → IsDefinedIn character entry
-      → SomeGivesIn profile before (IsDefinedIn character) → cause ≡ 5 → FaultIn profile before line cause
-  defined_twice : (character : ℕ) (upper_cells lower_cells : List ℕ)
-      → GivesIn profile line (Pairs character upper_cells character lower_cells)
-      → cause ≡ 5 → FaultIn profile before line cause
-  -- an earlier line gives the sign or the set too
-  given_before : (entry : Entry) → GivesIn profile line entry → SomeGivesIn profile before (GivesAgain entry)
-      → cause ≡ 6 → FaultIn profile before line cause
-  -- the line is too long or one too many, an operand has too many characters, or too many written cells
-  long_line : most_line_characters < length line → cause ≡ 8 → FaultIn profile before line cause
-  line_too_many : most_lines ≤ length before → cause ≡ 8 → FaultIn profile before line cause
-  many_characters : (opcode : Opcode) (characters text : List ℕ)
-      → HasOpcode profile opcode → HasCharacters line opcode characters
-      → Spells characters text → AreTooManyFor opcode text → cause ≡ 8 → FaultIn profile before line cause
-  many_cells : (opcode : Opcode) (dots cells : List ℕ) → HasOpcode profile opcode → HasDots line opcode dots
-      → WritesCells opcode dots cells → most_cells < length cells → cause ≡ 8 → FaultIn profile before line cause
-
--- line n of the lines, counted from 1, has a fault with this cause
-pub data HasCauseIn (profile : Profile) (lines : List (List ℕ)) (n cause : ℕ) : Type 0 where
-  on_line : (before : List (List ℕ)) (line : List ℕ) (after : List (List ℕ)) → lines ≡ before ++ line ∷ after
-      → n ≡ length before + 1 → FaultIn profile before line cause → HasCauseIn profile lines n cause
-
--- ---- the whole text
-
--- a fault of line n is reported no later than one of line m: the smaller line first, for one line the smaller cause
-abbrev pub IsToldNoLater : ℕ → ℕ → ℕ → ℕ → Type 0
-IsToldNoLater n cause m other = (n < m) ⊎ ((n ≡ m) × (cause ≤ other))
-
--- the line on which bytes stop being UTF-8: one more than the line feeds in the longest front that is
-abbrev pub line_of_stop : List ℕ → ℕ
-line_of_stop bytes = count_by (λ b. b == 10) (take (utf8_valid_len bytes) bytes) + 1
-
--- all that a table has is that of the entries
-pub record IsMadeOf (entries : List (ℕ × Entry)) (meaning : Meaning) : Type 0 where
-  pub definitions : meaning.definitions ≡ flat_map (λ e. definitions_in e.1) entries
-  pub partners : meaning.partners ≡ flat_map (λ e. partners_in e.1) entries
-  pub rules : meaning.rules ≡ flat_map (rules_in meaning) entries
-  pub signs : (sign : Sign) → sign_cells meaning sign ≡ flat_map (λ e. cells_for sign e.1) entries
-  pub sets : (set : CharacterSet) → set_characters meaning set ≡ flat_map (λ e. characters_for set e.1) entries
-
 -- a folded character of the entry's rule is not defined, or a character of its set as it is written
 abbrev pub IsLacking : Meaning → Entry → Type 0
 IsLacking meaning (Defines character defined) = ⊥
@@ -343,44 +258,123 @@ IsLacking meaning (Announces sign cells) = ⊥
 IsLacking meaning (Collects set text) =
     (character : ℕ) × Contains text character × (definition_of meaning character ≡ None)
 
--- the text is bad in the profile: line n is reported, with this cause
-pub data BadIn (profile : Profile) (bytes : List ℕ) (n cause : ℕ) : Type 0 where
-  no_text : ¬ IsUtf8 bytes → n ≡ line_of_stop bytes → cause ≡ 9 → BadIn profile bytes n cause
-  bad_line : IsUtf8 bytes → HasCauseIn profile (text_lines bytes) n cause
-      → ((m other : ℕ) → HasCauseIn profile (text_lines bytes) m other → IsToldNoLater n cause m other)
-      → BadIn profile bytes n cause
-  undefined_character : IsUtf8 bytes → ((m other : ℕ) → ¬ HasCauseIn profile (text_lines bytes) m other)
-      → (entries : List (ℕ × Entry)) (meaning : Meaning)
-      → GiveFromIn profile 1 (text_lines bytes) entries → IsMadeOf entries meaning
-      → (entry : Entry) → Contains entries (n, entry) → IsLacking meaning entry
-      → ((m : ℕ) (other : Entry) → Contains entries (m, other) → IsLacking meaning other → n ≤ m)
-      → cause ≡ 7 → BadIn profile bytes n cause
+-- ---- which fault is reported
 
--- the text is a table of the profile with this meaning: what its lines give, and nothing else
-pub record MeansIn (profile : Profile) (bytes : List ℕ) (meaning : Meaning) : Type 0 where
-  pub is_text : IsUtf8 bytes
-  pub is_sound : (n cause : ℕ) → ¬ HasCauseIn profile (text_lines bytes) n cause
-  pub entries : List (ℕ × Entry)
-  pub given : GiveFromIn profile 1 (text_lines bytes) entries
-  pub made : IsMadeOf entries meaning
-  pub is_complete : (n : ℕ) (entry : Entry) → Contains entries (n, entry) → ¬ IsLacking meaning entry
+-- a fault of line n is reported no later than one of line m: the smaller line first, for one line the smaller cause
+abbrev pub IsToldNoLater : ℕ → ℕ → ℕ → ℕ → Type 0
+IsToldNoLater n cause m other = (n < m) ⊎ ((n ≡ m) × (cause ≤ other))
+
+-- the line on which bytes stop being UTF-8: one more than the line feeds in the longest front that is
+abbrev pub line_of_stop : List ℕ → ℕ
+line_of_stop bytes = count_by (λ b. b == 10) (take (utf8_valid_len bytes) bytes) + 1
+
+-- ---- by a profile
+
+module _ (profile : Profile) where
+  -- ---- lines
+
+  -- the line is of a form of the profile that gives the entry; what follows its last operand is a comment
+  pub data Gives (line : List ℕ) (entry : Entry) : Type 0 where
+    definition_line : (class : Class) (characters dots : List ℕ) (character : ℕ) (cells : List ℕ)
+        → HasOpcode profile (Define class) → HasFields line (name_of (Define class) ∷ characters ∷ dots ∷ [])
+        → Spells characters (character ∷ []) → Dots dots cells
+        → entry ≡ Defines character (record { class = class; cells = cells }) → Gives line entry
+    pair_line : (characters dots : List ℕ) (upper lower : ℕ) (upper_cells lower_cells : List ℕ)
+        → HasOpcode profile UpLow → HasFields line (name_of UpLow ∷ characters ∷ dots ∷ [])
+        → Spells characters (upper ∷ lower ∷ []) → PairDots dots upper_cells lower_cells
+        → entry ≡ Pairs upper upper_cells lower lower_cells → Gives line entry
+    rule_line : (kind : RuleKind) (characters dots text : List ℕ) (cells : Option (List ℕ))
+        → HasOpcode profile (Replace kind) → HasFields line (name_of (Replace kind) ∷ characters ∷ dots ∷ [])
+        → Spells characters text → RuleDots dots cells
+        → entry ≡ Replaces kind text cells → Gives line entry
+    sign_line : (sign : Sign) (dots cells : List ℕ)
+        → HasOpcode profile (Announce sign) → HasFields line (name_of (Announce sign) ∷ dots ∷ []) → Dots dots cells
+        → entry ≡ Announces sign cells → Gives line entry
+    set_line : (set : CharacterSet) (characters text : List ℕ)
+        → HasOpcode profile (Collect set) → HasFields line (name_of (Collect set) ∷ characters ∷ [])
+        → Spells characters text → entry ≡ Collects set text → Gives line entry
+
+  -- these entries and no others are what the lines from number n on give, each with its line's number
+  abbrev pub GiveFrom : ℕ → List (List ℕ) → List (ℕ × Entry) → Type 0
+  GiveFrom n [] entries = entries ≡ []
+  GiveFrom n (line ∷ lines) entries =
+      (SaysNothing line × GiveFrom (n + 1) lines entries)
+      ⊎ ((entry : Entry) × (rest : List (ℕ × Entry)) × Gives line entry × (entries ≡ (n, entry) ∷ rest)
+      × GiveFrom (n + 1) lines rest)
+
+  -- one of the lines gives an entry of which this holds
+  abbrev pub SomeGives : List (List ℕ) → (Entry → Type 0) → Type 0
+  SomeGives lines Holds =
+      (line : List ℕ) × (entry : Entry) × Contains lines line × Gives line entry × Holds entry
+
+  -- ---- faults
+
+  -- the line, after the lines before it, has a fault with this cause; only lines that give an entry count as
+  -- repetitions: a line that says something and gives none has a cause from 1 to 4 of its own
+  pub data Fault (before : List (List ℕ)) (line : List ℕ) (cause : ℕ) : Type 0 where
+    -- the first field isn't an opcode of the profile
+    unknown_opcode : (field rest : List ℕ) → Begins line field rest → ¬ IsComment field
+        → ((opcode : Opcode) → HasOpcode profile opcode → field ≢ name_of opcode)
+        → cause ≡ 1 → Fault before line cause
+    -- the line lacks one of its operands
+    missing_operand : (opcode : Opcode) (rest : List ℕ) → HasOpcode profile opcode → Begins line (name_of opcode) rest
+        → ¬ HasOperands line opcode → cause ≡ 2 → Fault before line cause
+    -- the characters operand isn't one for the opcode
+    bad_characters : (opcode : Opcode) (characters : List ℕ)
+        → HasOpcode profile opcode → HasCharacters line opcode characters
+        → ((text : List ℕ) → AreCharactersFor opcode text → ¬ Spells characters text)
+        → cause ≡ 3 → Fault before line cause
+    -- the dots operand isn't one for the opcode
+    bad_dots : (opcode : Opcode) (dots : List ℕ) → HasOpcode profile opcode → HasDots line opcode dots
+        → ¬ IsDotsFor opcode dots → cause ≡ 4 → Fault before line cause
+    -- an earlier line defines a character of this one, or this one defines it twice
+    defined_before : (entry : Entry) (character : ℕ) → Gives line entry → IsDefinedIn character entry
+        → SomeGives before (IsDefinedIn character) → cause ≡ 5 → Fault before line cause
+    defined_twice : (character : ℕ) (upper_cells lower_cells : List ℕ)
+        → Gives line (Pairs character upper_cells character lower_cells)
+        → cause ≡ 5 → Fault before line cause
+    -- an earlier line gives the sign or the set too
+    given_before : (entry : Entry) → Gives line entry → SomeGives before (GivesAgain entry)
+        → cause ≡ 6 → Fault before line cause
+    -- the line is too long or one too many, an operand has too many characters, or too many written cells
+    long_line : most_line_characters < length line → cause ≡ 8 → Fault before line cause
+    line_too_many : most_lines ≤ length before → cause ≡ 8 → Fault before line cause
+    many_characters : (opcode : Opcode) (characters text : List ℕ)
+        → HasOpcode profile opcode → HasCharacters line opcode characters
+        → Spells characters text → AreTooManyFor opcode text → cause ≡ 8 → Fault before line cause
+    many_cells : (opcode : Opcode) (dots cells : List ℕ) → HasOpcode profile opcode → HasDots line opcode dots
+        → WritesCells opcode dots cells → most_cells < length cells → cause ≡ 8 → Fault before line cause
+
+  -- line n of the lines, counted from 1, has a fault with this cause
+  pub data HasCause (lines : List (List ℕ)) (n cause : ℕ) : Type 0 where
+    on_line : (before : List (List ℕ)) (line : List ℕ) (after : List (List ℕ)) → lines ≡ before ++ line ∷ after
+        → n ≡ length before + 1 → Fault before line cause → HasCause lines n cause
+
+  -- ---- the whole text
+
+  -- the text is bad in the profile: line n is reported, with this cause
+  pub data BadIn (bytes : List ℕ) (n cause : ℕ) : Type 0 where
+    no_text : ¬ IsUtf8 bytes → n ≡ line_of_stop bytes → cause ≡ 9 → BadIn bytes n cause
+    bad_line : IsUtf8 bytes → HasCause (text_lines bytes) n cause
+        → ((m other : ℕ) → HasCause (text_lines bytes) m other → IsToldNoLater n cause m other)
+        → BadIn bytes n cause
+    undefined_character : IsUtf8 bytes → ((m other : ℕ) → ¬ HasCause (text_lines bytes) m other)
+        → (entries : List (ℕ × Entry)) (meaning : Meaning)
+        → GiveFrom 1 (text_lines bytes) entries → IsMadeOf entries meaning
+        → (entry : Entry) → Contains entries (n, entry) → IsLacking meaning entry
+        → ((m : ℕ) (other : Entry) → Contains entries (m, other) → IsLacking meaning other → n ≤ m)
+        → cause ≡ 7 → BadIn bytes n cause
+
+  -- the text is a table of the profile with this meaning: what its lines give, and nothing else
+  pub record MeansIn (bytes : List ℕ) (meaning : Meaning) : Type 0 where
+    pub is_text : IsUtf8 bytes
+    pub is_sound : (n cause : ℕ) → ¬ HasCause (text_lines bytes) n cause
+    pub entries : List (ℕ × Entry)
+    pub given : GiveFrom 1 (text_lines bytes) entries
+    pub made : IsMadeOf entries meaning
+    pub is_complete : (n : ℕ) (entry : Entry) → Contains entries (n, entry) → ¬ IsLacking meaning entry
 
 -- ---- tables with numeric mode, which the crate reads
-
-abbrev pub Gives : List ℕ → Entry → Type 0
-Gives = GivesIn WithNumericMode
-
-abbrev pub GiveFrom : ℕ → List (List ℕ) → List (ℕ × Entry) → Type 0
-GiveFrom = GiveFromIn WithNumericMode
-
-abbrev pub SomeGives : List (List ℕ) → (Entry → Type 0) → Type 0
-SomeGives = SomeGivesIn WithNumericMode
-
-abbrev pub Fault : List (List ℕ) → List ℕ → ℕ → Type 0
-Fault = FaultIn WithNumericMode
-
-abbrev pub HasCause : List (List ℕ) → ℕ → ℕ → Type 0
-HasCause = HasCauseIn WithNumericMode
 
 abbrev pub Bad : List ℕ → ℕ → ℕ → Type 0
 Bad = BadIn WithNumericMode
