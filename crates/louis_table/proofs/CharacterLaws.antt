@@ -7,7 +7,7 @@ use lib.Utf8.{scalar}
 use Rattle.std.proofs.lemmas.Bool.{eqb-true, eqb-false, ne_eqb, ltb-true, ltb-false, lt-ltb, le-ltb}
 use Rattle.std.proofs.lemmas.List.{take-append-drop, length-take, length-append, take_at, drop_at}
 use Rattle.louis_table.specs.Characters.{escaped, digits_behind, spelled_behind, Writes, itself, escape, number, Spells}
-use Rattle.louis_table.specs.Reading.{with_rest, hex_value, scalar_from, number_at, escape_by, character_at, characters_within, characters_in}
+use Rattle.louis_table.specs.Steps.Characters.{with_rest, hex_value, scalar_from, number_at, escape_by, character_at, characters_within, characters_in}
 
 -- which way a test went
 pub chosen : {A : Type 0} (b : Bool) (x y z : A) → cond b x y ≡ z → ((b ≡ true) × (x ≡ z)) ⊎ ((b ≡ false) × (y ≡ z))

@@ -19,7 +19,11 @@ use Rattle.louis_table.specs.Fields.{IsGap, IsField, Begins, HasFields}
 use Rattle.louis_table.specs.Characters.{Spells}
 use Rattle.louis_table.specs.Profile.{Profile, WithoutNumericMode, WithNumericMode, Includes}
 use Rattle.louis_table.specs.Opcode.{name_of, profile_of, HasOpcode}
-use Rattle.louis_table.specs.Reading.{field_at, characters_in, opcode_among, opcodes, opcode_named, pair_in, rule_in, or_cause, entry_from, entry_with, entry_of_two, entry_of_one, entry_of_set, entry_of_fields, entry_at, as_some, opcode_gives, fields_give, line_gives, are_many, are_many_written, is_large}
+use Rattle.louis_table.specs.Steps.Fields.{field_at}
+use Rattle.louis_table.specs.Steps.Characters.{characters_in}
+use Rattle.louis_table.specs.Steps.Opcode.{opcode_among, opcodes, opcode_named}
+use Rattle.louis_table.specs.Steps.Dots.{pair_in, rule_in, are_many, are_many_written}
+use Rattle.louis_table.specs.Steps.Line.{or_cause, entry_from, entry_with, entry_of_two, entry_of_one, entry_of_set, entry_of_fields, entry_at, as_some, opcode_gives, fields_give, line_gives, is_large}
 use Rattle.louis_table.specs.Table.{Entry, Defines, Pairs, Replaces, Announces, Collects, AreCharactersFor, HasCharacters, HasDots, HasOperands, AreTooManyFor, RuleDots, IsDotsFor, WritesCells, most_rule_characters, IsComment, SaysNothing, blank, comment, Gives, definition_line, pair_line, rule_line, sign_line, set_line, Fault, unknown_opcode, missing_operand, bad_characters, bad_dots, many_characters, many_cells}
 use Rattle.louis_table.proofs.FieldLaws.{field_at-Begins, Begins-field_at, IsGap-field_at, field_at-gap, gap_without_field}
 use Rattle.louis_table.proofs.CharacterLaws.{chosen, map_some, characters_in-Spells, Spells-characters_in}

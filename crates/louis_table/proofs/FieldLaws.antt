@@ -4,7 +4,7 @@ use Rattle.std.specs.List.{AllByRecursion, prefix_len}
 use Rattle.std.proofs.lemmas.Bool.{cases_Bool, not-true, not-false}
 use Rattle.std.proofs.lemmas.List.{take-append-drop, take_at, drop_at, append-nil, drop_all}
 use Rattle.louis_table.specs.Fields.{is_gap, IsGap, IsField, IsApart, Begins}
-use Rattle.louis_table.specs.Reading.{behind_gap, field_len, field_at}
+use Rattle.louis_table.specs.Steps.Fields.{behind_gap, field_len, field_at}
 
 -- the text is nothing, or begins with what fails the test
 abbrev pub Stops : (ℕ → Bool) → List ℕ → Type 0

@@ -5,7 +5,7 @@ use Rattle.std.specs.Map.{lookup}
 use Rattle.std.proofs.lemmas.Bool.{ne_eqb}
 use Rattle.louis_table.specs.declared.definition.Definition.{Definition}
 use Rattle.louis_table.specs.Meaning.{Meaning, definition_of}
-use Rattle.louis_table.specs.Reading.{with_definition}
+use Rattle.louis_table.specs.Steps.Table.{with_definition}
 
 lookup-absent : {X : Type 0} (p : ℕ → Bool) (xs ys : List (ℕ × X)) → lookup p xs ≡ None → lookup p (xs ++ ys) ≡ lookup p ys
 lookup-absent p [] ys e = refl

@@ -19,7 +19,10 @@ use Rattle.louis_table.specs.declared.written.Written.TheVariants as writtens
 use Rattle.louis_table.specs.Lines.{lines_of}
 use Rattle.louis_table.specs.Meaning.{Meaning, definition_of, folded, sign_cells, set_characters}
 use Rattle.louis_table.specs.Profile.{Profile, WithNumericMode}
-use Rattle.louis_table.specs.Reading.{no_meaning, with_given, written_in, is_known, are_defined, finished, first_lacking, is_complete, line_of, Gathers, LinesGive, LinesMean, IsTold, IsLackingIn, LinesTell, judge}
+use Rattle.louis_table.specs.Steps.Table.{no_meaning, with_given, is_known}
+use Rattle.louis_table.specs.Steps.Draft.{written_in}
+use Rattle.louis_table.specs.Steps.Written.{are_defined, finished, first_lacking, is_complete, line_of}
+use Rattle.louis_table.specs.Steps.Read.{Gathers, LinesGive, LinesMean, IsTold, IsLackingIn, LinesTell, judge}
 use Rattle.louis_table.specs.Table.{Entry, Defines, Pairs, Replaces, Announces, Collects, Gives, definition_line, pair_line, rule_line, sign_line, set_line, GiveFrom, rules_in, IsToldNoLater, text_lines, line_of_stop, without_byte_order_mark, IsMadeOf, IsLacking, Bad, BadIn, no_text, bad_line, undefined_character, Means, MeansIn}
 use Rattle.louis_table.specs.Tells.{Tells}
 use Rattle.louis_table.specs.declared.opcode.Opcode.TheVariants.{Define, UpLow, Replace, Announce, Collect}

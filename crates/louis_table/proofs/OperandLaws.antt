@@ -11,7 +11,7 @@ use Rattle.cell_core.specs.Dots.{ListsDots, SpellsCell, blank, dotted, Dots}
 use Rattle.cell_core.specs.Reading.{cells_in}
 use Rattle.cell_core.proofs.DotsLaws.{Dots-from_cells_in, cells_in-from_Dots}
 use Rattle.louis_table.specs.Table.{PairDots, RuleDots}
-use Rattle.louis_table.specs.Reading.{part_len, pair_parts, both_of, pair_in, rule_in}
+use Rattle.louis_table.specs.Steps.Dots.{part_len, pair_parts, both_of, pair_in, rule_in}
 use Rattle.louis_table.proofs.FieldLaws.{prefix_at}
 
 -- ---- commas

@@ -12,7 +12,8 @@ use Rattle.louis_table.specs.Fields.{Begins}
 use Rattle.louis_table.specs.Meaning.{Meaning}
 use Rattle.louis_table.specs.Opcode.{name_of, HasOpcode}
 use Rattle.louis_table.specs.Profile.{Profile, WithoutNumericMode, WithNumericMode}
-use Rattle.louis_table.specs.Reading.{as_some, opcode_named}
+use Rattle.louis_table.specs.Steps.Opcode.{opcode_named}
+use Rattle.louis_table.specs.Steps.Line.{as_some}
 use Rattle.louis_table.specs.Table.{Entry, SaysNothing, Gives, definition_line, pair_line, rule_line, sign_line, set_line, GiveFrom, SomeGives, cells_for, characters_for, is_same_sign, HasCharacters, HasDots, Fault, unknown_opcode, missing_operand, bad_characters, bad_dots, defined_before, defined_twice, given_before, long_line, line_too_many, many_characters, many_cells, HasCause, on_line, text_lines, Means, MeansIn}
 use Rattle.louis_table.proofs.FieldLaws.{Begins-field_at}
 use Rattle.louis_table.proofs.EntryLaws.{has_opcode, opcode_named-name_of, opcode_line, line_gives-nothing}

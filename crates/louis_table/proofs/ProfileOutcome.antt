@@ -9,7 +9,10 @@ use Rattle.louis_table.specs.Fields.{Begins}
 use Rattle.louis_table.specs.Meaning.{Meaning}
 use Rattle.louis_table.specs.Opcode.{name_of, profile_of, HasOpcode}
 use Rattle.louis_table.specs.Profile.{Profile, WithoutNumericMode, WithNumericMode, Includes}
-use Rattle.louis_table.specs.Reading.{field_at, opcode_named, no_meaning, IsTold}
+use Rattle.louis_table.specs.Steps.Fields.{field_at}
+use Rattle.louis_table.specs.Steps.Opcode.{opcode_named}
+use Rattle.louis_table.specs.Steps.Table.{no_meaning}
+use Rattle.louis_table.specs.Steps.Read.{IsTold}
 use Rattle.louis_table.specs.Table.{Entry, GiveFrom, comment, Fault, unknown_opcode, missing_operand, bad_characters, bad_dots, defined_before, defined_twice, given_before, long_line, line_too_many, many_characters, many_cells, HasCause, on_line, IsToldNoLater, text_lines, line_of_stop, Bad, BadIn, no_text, bad_line, undefined_character, Means, MeansIn}
 use Rattle.louis_table.proofs.FieldLaws.{Begins-field_at, field_at-Begins}
 use Rattle.louis_table.proofs.EntryLaws.{opcode_named-name_of, opcode_named-Some, opcode_line, line_gives-nothing}

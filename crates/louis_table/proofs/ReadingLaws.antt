@@ -16,7 +16,9 @@ use Rattle.louis_table.specs.declared.character_set.CharacterSet.TheVariants as 
 use Rattle.louis_table.specs.declared.written.Written.{Written}
 use Rattle.louis_table.specs.Lines.{lines_of}
 use Rattle.louis_table.specs.Meaning.{Meaning, sign_cells, set_characters}
-use Rattle.louis_table.specs.Reading.{no_meaning, Gathers, LinesGive, IsTold, HasDefinedPartners, with_given, written_in, written_by, judge}
+use Rattle.louis_table.specs.Steps.Table.{no_meaning, HasDefinedPartners, with_given}
+use Rattle.louis_table.specs.Steps.Draft.{written_in, written_by}
+use Rattle.louis_table.specs.Steps.Read.{Gathers, LinesGive, IsTold, judge}
 use Rattle.louis_table.specs.Profile.{WithNumericMode}
 use Rattle.louis_table.specs.Table.{most_lines, Entry, Defines, Pairs, Replaces, Announces, Collects, SaysNothing, Gives, GiveFrom, definitions_in, partners_in, cells_for, characters_for, Fault, HasCause, on_line, IsToldNoLater}
 use Rattle.louis_table.proofs.EntryLaws.{Says}

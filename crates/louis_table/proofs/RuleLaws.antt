@@ -9,7 +9,9 @@ use Rattle.louis_table.specs.declared.written.Written.{Written}
 use Rattle.louis_table.specs.declared.fault.ReadFault.{ReadFault}
 use Rattle.louis_table.specs.declared.fault.ReadFault.TheVariants as faults
 use Rattle.louis_table.specs.Meaning.{Meaning, definition_of, folded}
-use Rattle.louis_table.specs.Reading.{is_known, are_defined, is_complete, line_of, finished, first_lacking, written_by, Finishes, FinishesAll}
+use Rattle.louis_table.specs.Steps.Table.{is_known}
+use Rattle.louis_table.specs.Steps.Draft.{written_by}
+use Rattle.louis_table.specs.Steps.Written.{are_defined, is_complete, line_of, finished, first_lacking, Finishes, FinishesAll}
 use Rattle.louis_table.specs.Profile.{WithNumericMode}
 use Rattle.louis_table.specs.Table.{Entry, Defines, Pairs, Replaces, Announces, Collects, GiveFrom, rules_in, IsLacking}
 use Rattle.louis_table.proofs.VerdictLaws.{only_one}

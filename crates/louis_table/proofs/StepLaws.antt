@@ -19,7 +19,13 @@ use Rattle.louis_table.specs.declared.fault.LineFault.TheVariants as line_faults
 use Rattle.louis_table.specs.declared.fault.Cause.{Cause}
 use Rattle.louis_table.specs.Meaning.{Meaning}
 use Rattle.louis_table.specs.Table.{Entry, Defines, Pairs, Replaces, Announces, Collects, AreCharactersFor}
-use Rattle.louis_table.specs.Reading.{field_at, only_character, only_pair, characters_in, opcode_named, pair_parts, pair_in, Fits, FitsPair, rule_in, both_of, or_cause, entry_from, entry_with, entry_of_two, entry_of_one, entry_of_set, entry_at, both_from, both_at, with_dots, as_some, opcode_gives, fields_give, line_gives, repeats, announces, are_many, is_large, verdict_by, entry_verdict, line_verdict, judge_opcode, judge_line, judge, cause_number, FailsOperands, IsVerdict, ReadsCells, ReadsPair, ReadsRule, TakesLine}
+use Rattle.louis_table.specs.Steps.Fields.{field_at}
+use Rattle.louis_table.specs.Steps.Characters.{only_character, only_pair, characters_in}
+use Rattle.louis_table.specs.Steps.Opcode.{opcode_named}
+use Rattle.louis_table.specs.Steps.Fault.{cause_number}
+use Rattle.louis_table.specs.Steps.Dots.{pair_parts, pair_in, Fits, FitsPair, rule_in, both_of, are_many, ReadsCells, ReadsPair, ReadsRule}
+use Rattle.louis_table.specs.Steps.Line.{or_cause, entry_from, entry_with, entry_of_two, entry_of_one, entry_of_set, entry_at, both_from, both_at, with_dots, as_some, opcode_gives, fields_give, line_gives, repeats, announces, is_large, verdict_by, entry_verdict, line_verdict, judge_opcode, judge_line, FailsOperands, IsVerdict}
+use Rattle.louis_table.specs.Steps.Read.{judge, TakesLine}
 use Rattle.louis_table.specs.declared.draft.Draft.{Draft}
 use Rattle.louis_table.proofs.EntryLaws.{TakesBoth, or_left, or_right, entry_at-both, entry_at-sign, entry_at-set, wrong_entry}
 use Rattle.louis_table.proofs.VerdictLaws.{judge-from_line}

@@ -15,7 +15,13 @@ use Rattle.louis_table.specs.Lines.{lines_of}
 use Rattle.louis_table.specs.Meaning.{Meaning}
 use Rattle.louis_table.specs.SuppliedTable.{english}
 use Rattle.louis_table.specs.Table.{Entry, Means, text_lines}
-use Rattle.louis_table.specs.Reading.{LinesGive, LinesMean, no_meaning, with_given, written_in, judge, judge_line, line_gives, opcode_named, entry_at, characters_in, entry_verdict, pair_in}
+use Rattle.louis_table.specs.Steps.Characters.{characters_in}
+use Rattle.louis_table.specs.Steps.Opcode.{opcode_named}
+use Rattle.louis_table.specs.Steps.Dots.{pair_in}
+use Rattle.louis_table.specs.Steps.Table.{no_meaning, with_given}
+use Rattle.louis_table.specs.Steps.Line.{judge_line, line_gives, entry_at, entry_verdict}
+use Rattle.louis_table.specs.Steps.Draft.{written_in}
+use Rattle.louis_table.specs.Steps.Read.{LinesGive, LinesMean, judge}
 use Rattle.louis_table.proofs.OneMeaning.{LinesMean-Means}
 use Rattle.louis_table.proofs.ReadingLaws.{Reached, Reached-none, Reached-more, Reached-all}
 

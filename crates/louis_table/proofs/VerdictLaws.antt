@@ -16,7 +16,9 @@ use Rattle.louis_table.specs.declared.written.Written.{Written}
 use Rattle.louis_table.specs.Fields.{IsField}
 use Rattle.louis_table.specs.Characters.{Spells}
 use Rattle.louis_table.specs.Meaning.{Meaning, definition_of, sign_cells, set_characters}
-use Rattle.louis_table.specs.Reading.{Gathers, as_some, is_known, repeats, announces, is_large, verdict_by, entry_verdict, line_verdict, line_gives, judge_line, within_limits, judge, IsNewFor, CanTake, HasDefinedPartners}
+use Rattle.louis_table.specs.Steps.Table.{is_known, IsNewFor, CanTake, HasDefinedPartners}
+use Rattle.louis_table.specs.Steps.Line.{as_some, repeats, announces, is_large, verdict_by, entry_verdict, line_verdict, line_gives, judge_line}
+use Rattle.louis_table.specs.Steps.Read.{Gathers, within_limits, judge}
 use Rattle.louis_table.specs.Profile.{WithNumericMode}
 use Rattle.louis_table.specs.Table.{most_lines, most_line_characters, Entry, Defines, Pairs, Replaces, Announces, Collects, SaysNothing, Gives, definition_line, pair_line, rule_line, sign_line, set_line, GiveFrom, definitions_in, is_same_sign, is_same_set, cells_for, characters_for, IsDefinedIn, GivesAgain, SomeGives, Fault, unknown_opcode, missing_operand, bad_characters, bad_dots, defined_before, defined_twice, given_before, long_line, line_too_many, many_characters, many_cells}
 use Rattle.louis_table.proofs.CharacterLaws.{chosen}

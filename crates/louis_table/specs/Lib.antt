@@ -6,6 +6,6 @@ pub mod Opcode
 pub mod Meaning
 pub mod Table
 pub mod Tells
-pub mod Reading
+pub mod Steps
 pub mod Places
 pub mod SuppliedTable

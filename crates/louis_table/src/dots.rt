@@ -1,6 +1,6 @@
 //! The dots operands of the opcodes.
 ghost use Rattle.cell_core.specs.Reading.{cells_in};
-ghost use Rattle.louis_table.specs.Reading.{ReadsCells, ReadsPair, ReadsRule, pair_in, pair_parts, part_len, rule_in};
+ghost use Rattle.louis_table.specs.Steps.Dots.{ReadsCells, ReadsPair, ReadsRule, pair_in, pair_parts, part_len, rule_in};
 ghost use Rattle.std.specs.Prelude.{◌≡◌, ◌≤◌, IfOk, codes, length};
 ghost use Rattle.std.specs.Str.{bytes_eq, encode_utf8_all};
 ghost use Rattle.std.specs.String.{string_bytes};

@@ -1,5 +1,7 @@
 //! A table while its lines are read.
-ghost use Rattle.louis_table.specs.Reading.{CanTake, entry_in, no_meaning, with_given, written_in};
+ghost use Rattle.louis_table.specs.Steps.Draft.{written_in};
+ghost use Rattle.louis_table.specs.Steps.Line.{entry_in};
+ghost use Rattle.louis_table.specs.Steps.Table.{CanTake, no_meaning, with_given};
 ghost use Rattle.std.specs.Prelude.{◌≡◌, ◌++◌, [], OnOk};
 
 use super::line::Given;

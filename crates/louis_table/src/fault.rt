@@ -1,5 +1,5 @@
 //! What keeps a text from being a table.
-ghost use Rattle.louis_table.specs.Reading.{cause_number};
+ghost use Rattle.louis_table.specs.Steps.Fault.{cause_number};
 ghost use Rattle.std.specs.Prelude.{◌≡◌};
 
 use thiserror::Error;

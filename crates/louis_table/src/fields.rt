@@ -1,6 +1,6 @@
 //! The fields of a line, with blanks and tabs around them.
 ghost use Rattle.louis_table.specs.Fields.{is_gap};
-ghost use Rattle.louis_table.specs.Reading.{field_at, field_len};
+ghost use Rattle.louis_table.specs.Steps.Fields.{field_at, field_len};
 ghost use Rattle.std.specs.List.{prefix_len};
 ghost use Rattle.std.specs.Prelude.{◌≡◌, ◌≤◌, length};
 

@@ -1,6 +1,6 @@
 //! What one line gives to its table.
 ghost use Rattle.louis_table.specs.Meaning.{Meaning};
-ghost use Rattle.louis_table.specs.Reading.{FailsOperands, IsVerdict, both_at, judge_line, judge_opcode, is_taken};
+ghost use Rattle.louis_table.specs.Steps.Line.{FailsOperands, IsVerdict, both_at, judge_line, judge_opcode, is_taken};
 ghost use Rattle.louis_table.specs.declared.opcode.Opcode.TheVariants as opcodes;
 ghost use Rattle.std.specs.Prelude.{◌≡◌, IfErr, IfOk, Ok};
 

@@ -1,5 +1,5 @@
 //! The opcodes of table lines, and their names.
-ghost use Rattle.louis_table.specs.Reading.{opcode_among, opcode_named};
+ghost use Rattle.louis_table.specs.Steps.Opcode.{opcode_among, opcode_named};
 ghost use Rattle.std.specs.Prelude.{◌≡◌, map};
 ghost use Rattle.std.specs.Str.{bytes_eq};
 
@@ -110,7 +110,7 @@ fn opcode_among(mut opcodes: &[(&[u8], Opcode)], field: &[char]) -> Option<Opcod
 
 impl Opcode {
     /// The opcode with this name, if there is one.
-    #[tactic(auto, unfolding(crate::specs::Reading::opcode_named))]
+    #[tactic(auto, unfolding(crate::specs::Steps::Opcode::opcode_named))]
     pub(crate) fn named(field: &[char]) -> Option<Self>
         ensures { result ≡ opcode_named field.now }
     {

@@ -1,6 +1,7 @@
 //! Reads a table text, line by line.
 ghost use Rattle.louis_table.specs.Lines.{lines_of};
-ghost use Rattle.louis_table.specs.Reading.{HasDefinedPartners, LinesGive, LinesMean, LinesTell, LinesTellEarly, TakesLine, judge};
+ghost use Rattle.louis_table.specs.Steps.Read.{LinesGive, LinesMean, LinesTell, LinesTellEarly, TakesLine, judge};
+ghost use Rattle.louis_table.specs.Steps.Table.{HasDefinedPartners};
 ghost use Rattle.louis_table.specs.Table.{Means};
 ghost use Rattle.louis_table.specs.Tells.{Tells, not_utf_8};
 ghost use Rattle.std.specs.Prelude.{◌≡◌, ◌+◌, ◌==◌, ◌≤◌, count_by, length, map, take, Err, IfOk, IfErr};

@@ -1,7 +1,7 @@
 //! A table that was read.
 ghost use Rattle.std.specs.Prelude.{◌≡◌, ◌≢◌, ◌∷◌, ◌++◌, [], None, Some, OnOk, option_map, is_some};
 ghost use Rattle.louis_table.specs.Meaning.{definition_of, folded, partner_of, set_characters, sign_cells};
-ghost use Rattle.louis_table.specs.Reading.{CanTake, is_known, no_meaning, with_definition, with_given, with_partner};
+ghost use Rattle.louis_table.specs.Steps.Table.{CanTake, is_known, no_meaning, with_definition, with_given, with_partner};
 ghost use Rattle.louis_table.specs.Table.{Announces, Collects, Pairs};
 ghost use Rattle.std.specs.Option.{option_copied};
 

@@ -1,6 +1,6 @@
 //! Rules and sets as they are written, until all definitions of their table are known.
 ghost use Rattle.louis_table.specs.Meaning.{folded};
-ghost use Rattle.louis_table.specs.Reading.{ChecksSet, Finishes, FinishesAll, FinishesRule, are_defined, cells_of_all};
+ghost use Rattle.louis_table.specs.Steps.Written.{ChecksSet, Finishes, FinishesAll, FinishesRule, are_defined, cells_of_all};
 ghost use Rattle.std.specs.Prelude.{◌≡◌, IfOk, map};
 
 use super::fault::{Cause, ReadFault, TableFault};

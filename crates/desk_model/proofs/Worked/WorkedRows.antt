@@ -9,7 +9,11 @@ use Rattle.louis_table.specs.declared.definition.Definition.{Definition}
 use Rattle.louis_table.specs.declared.fault.TableFault.{TableFault}
 use Rattle.louis_table.specs.Lines.{lines_of}
 use Rattle.louis_table.specs.Meaning.{Meaning}
-use Rattle.louis_table.specs.Reading.{LinesMean, characters_in, entry_at, entry_verdict, judge, judge_line, line_gives, no_meaning, opcode_named, with_given}
+use Rattle.louis_table.specs.Steps.Characters.{characters_in}
+use Rattle.louis_table.specs.Steps.Opcode.{opcode_named}
+use Rattle.louis_table.specs.Steps.Table.{no_meaning, with_given}
+use Rattle.louis_table.specs.Steps.Line.{entry_at, entry_verdict, judge_line, line_gives}
+use Rattle.louis_table.specs.Steps.Read.{LinesMean, judge}
 use Rattle.louis_table.specs.Table.{Defines, Means}
 use Rattle.louis_table.proofs.OneMeaning.{LinesMean-Means}
 use Rattle.louis_table.proofs.ReadingLaws.{Reached-all, Reached-more, Reached-none}

@@ -1,5 +1,5 @@
 use Rattle.std.proofs.Common.{◌≡◌, ◌<◌, ◌^◌, drop}
-use Rattle.louis_table.specs.Reading.{hex_value}
+use Rattle.louis_table.specs.Steps.Characters.{hex_value}
 use Rattle.louis_table.proofs.characters.read_hexadecimal.Given as goal
 
 -- the digits left complete the value

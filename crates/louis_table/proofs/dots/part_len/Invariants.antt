@@ -1,5 +1,5 @@
 use Rattle.std.proofs.Common.{◌≡◌, ◌+◌, drop}
-use Rattle.louis_table.specs.Reading.{part_len}
+use Rattle.louis_table.specs.Steps.Dots.{part_len}
 use Rattle.louis_table.proofs.dots.part_len.Given as goal
 
 -- the rest of the part completes it

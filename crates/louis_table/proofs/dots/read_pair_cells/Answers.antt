@@ -2,7 +2,7 @@ use Rattle.std.proofs.Common.{Ok, Err, sym, ap, subst, ◌∙◌}
 use Rattle.std.specs.Option.{option_zip}
 use Rattle.std.proofs.lemmas.Result.{err_from_is_err_and}
 use Rattle.cell_core.specs.Reading.{cells_in}
-use Rattle.louis_table.specs.Reading.{ReadsPair, pair_in}
+use Rattle.louis_table.specs.Steps.Dots.{ReadsPair, pair_in}
 use Rattle.louis_table.proofs.StepLaws.{pair_in-read, first_fault, second_fault, both_told}
 use Rattle.louis_table.proofs.dots.read_pair_cells.Goals as goal
 

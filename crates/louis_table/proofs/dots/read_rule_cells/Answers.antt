@@ -1,6 +1,6 @@
 use Rattle.std.proofs.Common.{None, refl, Err, sym, ap, subst, ◌∙◌}
 use Rattle.std.proofs.lemmas.Result.{err_from_is_err_and}
-use Rattle.louis_table.specs.Reading.{ReadsRule, rule_in}
+use Rattle.louis_table.specs.Steps.Dots.{ReadsRule, rule_in}
 use Rattle.louis_table.proofs.StepLaws.{rule_in-equals, rule_fault, rule_told, rule_untold}
 use Rattle.louis_table.proofs.dots.read_rule_cells.Goals as goal
 

@@ -1,5 +1,5 @@
 use Rattle.std.proofs.Common.{◌≡◌, ◌+◌, drop}
-use Rattle.louis_table.specs.Reading.{field_len}
+use Rattle.louis_table.specs.Steps.Fields.{field_len}
 use Rattle.louis_table.proofs.fields.front_field_len.Given as goal
 
 -- the rest of the field completes it

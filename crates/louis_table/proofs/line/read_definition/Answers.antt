@@ -2,7 +2,8 @@ use Rattle.std.proofs.Common.{◌≡◌, ◌∷◌, [], List, ℕ, length, true,
 use Rattle.std.proofs.lemmas.Result.{err_from_is_err_and}
 use Rattle.louis_table.specs.declared.opcode.Opcode.TheVariants.{Define}
 use Rattle.louis_table.specs.Table.{Defines}
-use Rattle.louis_table.specs.Reading.{IsVerdict, are_many, both_at, judge_opcode}
+use Rattle.louis_table.specs.Steps.Dots.{are_many}
+use Rattle.louis_table.specs.Steps.Line.{IsVerdict, both_at, judge_opcode}
 use Rattle.louis_table.proofs.StepLaws.{only_character-Some, only_character-None, operands_fault, characters_fault, judged, definition_fault, definition_at}
 use Rattle.louis_table.proofs.line.read_definition.Goals as goal
 

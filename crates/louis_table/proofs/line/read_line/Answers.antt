@@ -1,6 +1,6 @@
 use Rattle.std.proofs.Common.{Some, sym, ap, subst, ◌∙◌, inl, inr}
 use Rattle.louis_table.specs.declared.opcode.Opcode.TheVariants.{Define, UpLow, Replace, Announce, Collect}
-use Rattle.louis_table.specs.Reading.{IsVerdict}
+use Rattle.louis_table.specs.Steps.Line.{IsVerdict}
 use Rattle.louis_table.proofs.StepLaws.{nil_from_test, not_nil_from_test, judge_line-skipped, judge_line-unknown, judge_line-known}
 use Rattle.louis_table.proofs.line.read_line.Goals as goal
 use Rattle.louis_table.proofs.line.read_line.Goals.{then-is_empty-via-then-is_empty, then-is_empty-via-else-is_empty+then-name-eq-COMMENT}

@@ -2,7 +2,8 @@ use Rattle.std.proofs.Common.{◌≡◌, ◌∷◌, [], ◌||◌, List, ℕ, len
 use Rattle.std.proofs.lemmas.Result.{err_from_is_err_and}
 use Rattle.louis_table.specs.declared.opcode.Opcode.TheVariants.{UpLow}
 use Rattle.louis_table.specs.Table.{Pairs}
-use Rattle.louis_table.specs.Reading.{IsVerdict, are_many, both_at, judge_opcode}
+use Rattle.louis_table.specs.Steps.Dots.{are_many}
+use Rattle.louis_table.specs.Steps.Line.{IsVerdict, both_at, judge_opcode}
 use Rattle.louis_table.proofs.StepLaws.{only_pair-Some, only_pair-None, operands_fault, characters_fault, judged, pair_fault, pair_at}
 use Rattle.louis_table.proofs.line.read_pair.Goals as goal
 

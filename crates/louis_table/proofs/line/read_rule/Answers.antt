@@ -3,7 +3,8 @@ use Rattle.std.proofs.lemmas.Bool.{lt-ltb, le-ltb}
 use Rattle.std.proofs.lemmas.Result.{err_from_is_err_and}
 use Rattle.louis_table.specs.declared.opcode.Opcode.TheVariants.{Replace}
 use Rattle.louis_table.specs.Table.{Replaces, most_rule_characters}
-use Rattle.louis_table.specs.Reading.{IsVerdict, are_many_written, judge_opcode}
+use Rattle.louis_table.specs.Steps.Dots.{are_many_written}
+use Rattle.louis_table.specs.Steps.Line.{IsVerdict, judge_opcode}
 use Rattle.louis_table.proofs.EntryLaws.{or_left, or_right}
 use Rattle.louis_table.proofs.StepLaws.{neither, operands_fault, judged, rule_bad, rule_at}
 use Rattle.louis_table.proofs.line.read_rule.Goals as goal

@@ -2,7 +2,7 @@ use Rattle.std.proofs.Common.{◌≡◌, ◌<◌, ◌≤◌, List, ℕ, length, 
 use Rattle.std.proofs.lemmas.Bool.{lt-ltb, le-ltb}
 use Rattle.louis_table.specs.declared.opcode.Opcode.TheVariants.{Collect}
 use Rattle.louis_table.specs.Table.{Collects, most_set_characters}
-use Rattle.louis_table.specs.Reading.{judge_opcode}
+use Rattle.louis_table.specs.Steps.Line.{judge_opcode}
 use Rattle.louis_table.proofs.StepLaws.{nil_from_test, not_nil_from_test, judged, set_missing, set_bad, set_at}
 use Rattle.louis_table.proofs.line.read_set.Goals as goal
 

@@ -2,7 +2,8 @@ use Rattle.std.proofs.Common.{List, ℕ, true, false, not, eqb, length, refl, So
 use Rattle.std.proofs.lemmas.Result.{err_from_is_err_and}
 use Rattle.louis_table.specs.declared.opcode.Opcode.TheVariants.{Announce}
 use Rattle.louis_table.specs.Table.{Announces}
-use Rattle.louis_table.specs.Reading.{IsVerdict, are_many, judge_opcode}
+use Rattle.louis_table.specs.Steps.Dots.{are_many}
+use Rattle.louis_table.specs.Steps.Line.{IsVerdict, judge_opcode}
 use Rattle.louis_table.proofs.StepLaws.{nil_from_test, not_nil_from_test, judged, sign_missing, sign_fault, sign_at}
 use Rattle.louis_table.proofs.line.read_sign.Goals as goal
 

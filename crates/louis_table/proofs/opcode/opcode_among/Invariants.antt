@@ -1,5 +1,5 @@
 use Rattle.std.proofs.Common.{◌≡◌, length, map}
-use Rattle.louis_table.specs.Reading.{opcode_among}
+use Rattle.louis_table.specs.Steps.Opcode.{opcode_among}
 use Rattle.louis_table.proofs.opcode.opcode_among.Given as goal
 
 -- the opcodes that are left decide

@@ -3,7 +3,7 @@ use Rattle.std.specs.Prelude.{map}
 use Rattle.std.specs.Str.{chars}
 use Rattle.louis_table.specs.Lines.{lines_of}
 use Rattle.louis_table.specs.Meaning.{Meaning}
-use Rattle.louis_table.specs.Reading.{LinesMean}
+use Rattle.louis_table.specs.Steps.Read.{LinesMean}
 use Rattle.louis_table.proofs.OneMeaning.{LinesMean-finished}
 use Rattle.louis_table.proofs.read.read_text.Goals as goal
 

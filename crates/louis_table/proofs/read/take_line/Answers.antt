@@ -1,6 +1,7 @@
 use Rattle.std.proofs.Common.{Err, sym, ap, subst, ◌∙◌, inl, inr}
 use Rattle.std.proofs.lemmas.Result.{err_from_is_err_and}
-use Rattle.louis_table.specs.Reading.{TakesLine, entry_in, judge}
+use Rattle.louis_table.specs.Steps.Line.{entry_in}
+use Rattle.louis_table.specs.Steps.Read.{TakesLine, judge}
 use Rattle.louis_table.proofs.VerdictLaws.{judge-beyond, judge-within, judge_line-CanTake}
 use Rattle.louis_table.proofs.StepLaws.{IsVerdict-TakesLine}
 use Rattle.louis_table.proofs.read.take_line.Goals as goal

@@ -1,5 +1,5 @@
 use Rattle.std.proofs.Common.{◌≡◌, drop}
-use Rattle.louis_table.specs.Reading.{are_defined}
+use Rattle.louis_table.specs.Steps.Written.{are_defined}
 use Rattle.louis_table.proofs.written.are_defined.Given as goal
 
 -- the characters that are left decide

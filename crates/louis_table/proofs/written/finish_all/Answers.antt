@@ -4,7 +4,7 @@ use Rattle.std.proofs.lemmas.Grind.{flat_map-append}
 use Rattle.std.proofs.lemmas.Result.{err_from_is_err_and}
 use Rattle.louis_table.specs.declared.rule.Rule.{Rule}
 use Rattle.louis_table.specs.declared.written.Written.{Written}
-use Rattle.louis_table.specs.Reading.{FinishesAll, finished}
+use Rattle.louis_table.specs.Steps.Written.{FinishesAll, finished}
 use Rattle.louis_table.proofs.RuleLaws.{first_lacking-append, FinishesAll-fault}
 use Rattle.louis_table.proofs.written.finish_all.Goals as goal
 

@@ -1,7 +1,7 @@
 use Rattle.std.proofs.Common.{◌≡◌, ◌++◌, None}
 use Rattle.std.specs.List.{flat_map}
 use Rattle.std.specs.Vec.Iter.{into_iter_items}
-use Rattle.louis_table.specs.Reading.{finished, first_lacking}
+use Rattle.louis_table.specs.Steps.Written.{finished, first_lacking}
 use Rattle.louis_table.proofs.written.finish_all.Given as goal
 
 -- what was taken so far is complete, and its rules finished

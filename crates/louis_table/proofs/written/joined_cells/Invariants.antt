@@ -1,5 +1,5 @@
 use Rattle.std.proofs.Common.{◌≡◌, take}
-use Rattle.louis_table.specs.Reading.{cells_of_all}
+use Rattle.louis_table.specs.Steps.Written.{cells_of_all}
 use Rattle.louis_table.proofs.written.joined_cells.Given as goal
 
 -- the cells of the characters so far

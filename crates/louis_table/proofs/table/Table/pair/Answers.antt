@@ -1,7 +1,7 @@
 use Rattle.std.proofs.Common.{ap, ◌∙◌}
 use Rattle.louis_table.specs.declared.definition.Class.TheVariants.{Letter}
 use Rattle.louis_table.specs.Meaning.{Meaning, definition_of}
-use Rattle.louis_table.specs.Reading.{with_definition}
+use Rattle.louis_table.specs.Steps.Table.{with_definition}
 use Rattle.louis_table.proofs.MeaningLaws.{definition_of-other}
 use Rattle.louis_table.proofs.table.Table.pair.Goals as goal
 

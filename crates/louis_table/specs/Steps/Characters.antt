@@ -1,0 +1,65 @@
+-- The characters of an operand, read one by one.
+use Rattle.std.specs.Prelude.{ℕ, zero, suc, ◌+◌, ◌*◌, ◌==◌, nat_lt, if◌then◌else◌, List, [], ◌∷◌, length, take, drop, Option, Some, None, option_map}
+use Rattle.std.specs.Char.{digit_value}
+use Rattle.std.specs.Option.{option_and_then}
+use lib.Utf8.{scalar}
+use Rattle.louis_table.specs.Characters.{digits_behind, escaped}
+
+-- ---- escapes
+
+abbrev pub with_rest : Option ℕ → List ℕ → Option (ℕ × List ℕ)
+with_rest None rest = None
+with_rest (Some character) rest = Some (character, rest)
+
+-- the number that hexadecimal digits spell after others, unless one isn't a digit
+abbrev pub hex_value : ℕ → List ℕ → Option ℕ
+hex_value n [] = Some n
+hex_value n (digit ∷ digits) = if nat_lt (digit_value digit) 16 then hex_value (16 * n + digit_value digit) digits else None
+
+abbrev pub scalar_from : Option ℕ → Option ℕ
+scalar_from None = None
+scalar_from (Some number) = if scalar number then Some number else None
+
+-- the character that so many digits at the front number, and what follows them
+abbrev pub number_at : ℕ → List ℕ → Option (ℕ × List ℕ)
+number_at count text = if nat_lt (length text) count then None else with_rest (scalar_from (hex_value 0 (take count text))) (drop count text)
+
+abbrev pub escape_by : Option ℕ → Option ℕ → List ℕ → Option (ℕ × List ℕ)
+escape_by (Some character) digits rest = Some (character, rest)
+escape_by None (Some count) rest = number_at count rest
+escape_by None None rest = None
+
+abbrev pub escape_at : List ℕ → Option (ℕ × List ℕ)
+escape_at [] = None
+escape_at (letter ∷ rest) = escape_by (escaped letter) (digits_behind letter) rest
+
+-- ---- operands
+
+-- the character at the front and what follows it
+abbrev pub character_at : List ℕ → Option (ℕ × List ℕ)
+character_at [] = None
+character_at (c ∷ rest) = if c == 92 then escape_at rest else Some (c, rest)
+
+-- the characters of an operand, of which there are at most so many
+abbrev pub characters_within : ℕ → List ℕ → Option (List ℕ)
+characters_within n [] = Some []
+characters_within zero (c ∷ text) = None
+characters_within (suc n) (c ∷ text) =
+    option_and_then (λ found. option_map (λ more. found.0 ∷ more) (characters_within n found.1)) (character_at (c ∷ text))
+
+-- the characters of an operand, unless it has a bad escape
+unfoldable pub characters_in : List ℕ → Option (List ℕ)
+characters_in text = characters_within (length text) text
+
+-- the character of a text of one
+abbrev pub only_character : List ℕ → Option ℕ
+only_character [] = None
+only_character (c ∷ []) = Some c
+only_character (c ∷ d ∷ text) = None
+
+-- the characters of a text of two
+abbrev pub only_pair : List ℕ → Option (ℕ × ℕ)
+only_pair [] = None
+only_pair (c ∷ []) = None
+only_pair (c ∷ d ∷ []) = Some (c, d)
+only_pair (c ∷ d ∷ e ∷ text) = None

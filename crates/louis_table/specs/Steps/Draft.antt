@@ -1,0 +1,25 @@
+-- What the lines so far give, as long as not all of them are read.
+use Rattle.std.specs.Prelude.{◌≡◌, ℕ, List, [], ◌∷◌, ◌++◌, Option, Some, None}
+use Rattle.louis_table.specs.declared.written.Written.{Written}
+use Rattle.louis_table.specs.declared.written.Written.TheVariants as written
+use Rattle.louis_table.specs.declared.draft.Draft.{Draft}
+use Rattle.louis_table.specs.Table.{Entry, Defines, Pairs, Replaces, Announces, Collects}
+use Rattle.louis_table.specs.Steps.Table.{with_given}
+
+-- what an entry gives that can be checked only once all definitions are known, as it is written
+abbrev pub written_by : ℕ → Entry → List Written
+written_by n (Defines character definition) = []
+written_by n (Pairs upper upper_cells lower lower_cells) = []
+written_by n (Replaces kind text cells) = written.Rule (record { line = n; kind = kind; characters = text; cells = cells }) ∷ []
+written_by n (Announces sign cells) = []
+written_by n (Collects set text) = written.Set (record { line = n; characters = text }) ∷ []
+
+-- the same of what a line gives
+abbrev pub written_in : ℕ → Option Entry → List Written
+written_in n None = []
+written_in n (Some entry) = written_by n entry
+
+-- the draft has what the line gives as well
+pub record Adds (old new : Draft) (n : ℕ) (given : Option Entry) : Type 0 where
+  pub table : new.table ≡ with_given old.table given
+  pub written : new.written.items ≡ old.written.items ++ written_in n given

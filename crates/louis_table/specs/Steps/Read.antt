@@ -1,0 +1,81 @@
+-- What lines give, one after another, and what is reported of them.
+use Rattle.std.specs.Prelude.{◌≡◌, ℕ, ◌+◌, ◌||◌, ◌⊎◌, nat_lt, nat_le, if◌then◌else◌, List, length, Option, Some, None, Result, Ok, Err}
+use Rattle.std.specs.List.{flat_map}
+use Rattle.louis_table.specs.declared.sign.Sign.{Sign}
+use Rattle.louis_table.specs.declared.character_set.CharacterSet.{CharacterSet}
+use Rattle.louis_table.specs.declared.written.Written.{Written}
+use Rattle.louis_table.specs.declared.draft.Draft.{Draft}
+use Rattle.louis_table.specs.declared.fault.LineFault.{LineFault}
+use Rattle.louis_table.specs.declared.fault.LineFault.TheVariants as line_faults
+use Rattle.louis_table.specs.declared.fault.ReadFault.{ReadFault}
+use Rattle.louis_table.specs.declared.fault.ReadFault.TheVariants as faults
+use Rattle.louis_table.specs.Meaning.{Meaning, sign_cells, set_characters}
+use Rattle.louis_table.specs.Profile.{WithNumericMode}
+use Rattle.louis_table.specs.Table.{most_lines, most_line_characters, Entry, GiveFrom, HasCause, IsToldNoLater, definitions_in, partners_in, cells_for, characters_for}
+use Rattle.louis_table.specs.Steps.Fault.{cause_number}
+use Rattle.louis_table.specs.Steps.Line.{judge_line}
+use Rattle.louis_table.specs.Steps.Draft.{written_by, Adds}
+use Rattle.louis_table.specs.Steps.Written.{finished, first_lacking}
+
+-- ---- one more line
+
+-- what a line gives, or 8 where the line is too long or one too many and has no smaller cause
+abbrev pub within_limits : ℕ → List ℕ → Result (Option Entry) ℕ → Result (Option Entry) ℕ
+within_limits before line (Ok given) = if nat_lt most_line_characters (length line) || nat_le most_lines before then Err 8 else Ok given
+within_limits before line (Err cause) = Err cause
+
+-- what a line after this many others gives to their table, or the smallest cause
+unfoldable pub judge : Meaning → ℕ → List ℕ → Result (Option Entry) ℕ
+judge meaning before line = within_limits before line (judge_line meaning line)
+
+-- a line was taken into a draft, or has this fault
+abbrev pub TakesLine : Result (Unit {0}) LineFault → ℕ → Draft → Draft → Result (Option Entry) ℕ → Type 0
+TakesLine (Ok _) before old new verdict = (given : Option Entry) × (verdict ≡ Ok given) × Adds old new (before + 1) given
+TakesLine (Err (line_faults.Bad cause)) before old new verdict = verdict ≡ Err (cause_number cause)
+TakesLine (Err line_faults.NoMemory) before old new verdict = Unit {0}
+
+-- ---- what they mean
+
+-- the lines give a table without rules, and what can be checked only once all definitions are known
+pub record Gathers (lines : List (List ℕ)) (meaning : Meaning) (all : List Written) : Type 0 where
+  pub entries : List (ℕ × Entry)
+  pub given : GiveFrom WithNumericMode 1 lines entries
+  pub definitions : meaning.definitions ≡ flat_map (λ e. definitions_in e.1) entries
+  pub partners : meaning.partners ≡ flat_map (λ e. partners_in e.1) entries
+  pub signs : (sign : Sign) → sign_cells meaning sign ≡ flat_map (λ e. cells_for sign e.1) entries
+  pub sets : (set : CharacterSet) → set_characters meaning set ≡ flat_map (λ e. characters_for set e.1) entries
+  pub written : all ≡ flat_map (λ e. written_by e.0 e.1) entries
+
+-- lines without a fault that give this
+pub record LinesGive (lines : List (List ℕ)) (meaning : Meaning) (all : List Written) : Type 0 where
+  pub is_sound : (n cause : ℕ) → ¬ HasCause WithNumericMode lines n cause
+  pub gathered : Gathers lines meaning all
+
+-- lines without a fault, in whose rules and sets every character is defined, mean this
+pub record LinesMean (lines : List (List ℕ)) (meaning : Meaning) : Type 0 where
+  pub all : List Written
+  pub gives : LinesGive lines meaning all
+  pub complete : first_lacking meaning all ≡ None
+  pub rules : meaning.rules ≡ flat_map (finished meaning) all
+
+-- ---- what is reported
+
+-- this fault of the lines is reported
+pub record IsTold (lines : List (List ℕ)) (n cause : ℕ) : Type 0 where
+  pub has : HasCause WithNumericMode lines n cause
+  pub first : (m other : ℕ) → HasCause WithNumericMode lines m other → IsToldNoLater n cause m other
+
+-- a rule or a set of lines without a fault lacks a definition
+pub record IsLackingIn (lines : List (List ℕ)) (n : ℕ) : Type 0 where
+  pub meaning : Meaning
+  pub all : List Written
+  pub gives : LinesGive lines meaning all
+  pub lacking : first_lacking meaning all ≡ Some n
+
+abbrev pub LinesTellEarly : List (List ℕ) → ReadFault → Type 0
+LinesTellEarly lines (faults.Table fault) = IsTold lines fault.line fault.cause
+LinesTellEarly lines faults.NoMemory = Unit {0}
+
+abbrev pub LinesTell : List (List ℕ) → ReadFault → Type 0
+LinesTell lines (faults.Table fault) = IsTold lines fault.line fault.cause ⊎ (IsLackingIn lines fault.line × (fault.cause ≡ 7))
+LinesTell lines faults.NoMemory = Unit {0}

@@ -1,0 +1,72 @@
+-- A table that grows entry by entry.
+use Rattle.std.specs.Prelude.{◌≡◌, ◌≢◌, ℕ, Bool, [], ◌∷◌, ◌++◌, Option, Some, None, is_some}
+use Rattle.louis_table.specs.declared.definition.Definition.{Definition}
+use Rattle.louis_table.specs.declared.sign.Sign.TheVariants as signs
+use Rattle.louis_table.specs.declared.character_set.CharacterSet.TheVariants as sets
+use Rattle.louis_table.specs.Meaning.{Meaning, definition_of, partner_of, sign_cells, set_characters}
+use Rattle.louis_table.specs.Table.{Entry, Defines, Pairs, Replaces, Announces, Collects, definitions_in, partners_in, cells_for, characters_for}
+
+-- the meaning defines the character
+abbrev pub is_known : Meaning → ℕ → Bool
+is_known meaning character = is_some (definition_of meaning character)
+
+-- ---- what entries add
+
+-- what no entries give
+abbrev pub no_meaning : Meaning
+no_meaning =
+    record {
+      definitions = [];
+      partners = [];
+      rules = [];
+      numsign = [];
+      capsletter = [];
+      begcapsword = [];
+      nocontractsign = [];
+      mode_chars = [];
+      nocontract_chars = [];
+    }
+
+abbrev pub with_definition : Meaning → ℕ → Definition → Meaning
+with_definition meaning character definition = record meaning { definitions = meaning.definitions ++ (character, definition) ∷ [] }
+
+abbrev pub with_partner : Meaning → ℕ → ℕ → Meaning
+with_partner meaning upper lower = record meaning { partners = meaning.partners ++ (upper, lower) ∷ [] }
+
+-- the meaning with what an entry gives to it, without rules
+abbrev pub with_entry : Meaning → Entry → Meaning
+with_entry meaning entry = record {
+  definitions = meaning.definitions ++ definitions_in entry;
+  partners = meaning.partners ++ partners_in entry;
+  rules = meaning.rules;
+  numsign = meaning.numsign ++ cells_for signs.Number entry;
+  capsletter = meaning.capsletter ++ cells_for signs.Capital entry;
+  begcapsword = meaning.begcapsword ++ cells_for signs.CapitalWord entry;
+  nocontractsign = meaning.nocontractsign ++ cells_for signs.NoContraction entry;
+  mode_chars = meaning.mode_chars ++ characters_for sets.NumericMode entry;
+  nocontract_chars = meaning.nocontract_chars ++ characters_for sets.NoContraction entry;
+}
+
+-- the same of what a line gives
+abbrev pub with_given : Meaning → Option Entry → Meaning
+with_given meaning None = meaning
+with_given meaning (Some entry) = with_entry meaning entry
+
+-- ---- what may be added
+
+-- what the entry gives isn't in the meaning yet
+abbrev pub IsNewFor : Meaning → Entry → Type 0
+IsNewFor meaning (Defines character definition) = definition_of meaning character ≡ None
+IsNewFor meaning (Pairs upper upper_cells lower lower_cells) =
+    (definition_of meaning upper ≡ None) × (definition_of meaning lower ≡ None) × (upper ≢ lower) × (partner_of meaning upper ≡ None)
+IsNewFor meaning (Replaces kind text cells) = Unit {0}
+IsNewFor meaning (Announces sign cells) = sign_cells meaning sign ≡ []
+IsNewFor meaning (Collects set text) = set_characters meaning set ≡ []
+
+abbrev pub CanTake : Meaning → Option Entry → Type 0
+CanTake meaning None = Unit {0}
+CanTake meaning (Some entry) = IsNewFor meaning entry
+
+-- each capital is defined
+abbrev pub HasDefinedPartners : Meaning → Type 0
+HasDefinedPartners meaning = (character : ℕ) → definition_of meaning character ≡ None → partner_of meaning character ≡ None

@@ -1,0 +1,85 @@
+-- Rules and sets as they are written, and the rules that they become once all definitions are known.
+use Rattle.std.specs.Prelude.{◌≡◌, ℕ, Bool, true, false, if◌then◌else◌, List, [], ◌∷◌, ◌++◌, map, Option, Some, None, Result, Ok, Err, Vec}
+use Rattle.std.specs.List.{flat_map}
+use Rattle.std.specs.declared.alloc.Global.{Global}
+use Rattle.louis_table.specs.declared.rule.Rule.{Rule}
+use Rattle.louis_table.specs.declared.written.Written.{Written}
+use Rattle.louis_table.specs.declared.written.Written.TheVariants as written
+use Rattle.louis_table.specs.declared.written.WrittenRule.{WrittenRule}
+use Rattle.louis_table.specs.declared.written.WrittenSet.{WrittenSet}
+use Rattle.louis_table.specs.declared.fault.ReadFault.{ReadFault}
+use Rattle.louis_table.specs.declared.fault.ReadFault.TheVariants as faults
+use Rattle.louis_table.specs.Meaning.{Meaning, definition_of, folded}
+use Rattle.louis_table.specs.Table.{cells_in_definition, rule_cells}
+use Rattle.louis_table.specs.Steps.Table.{is_known}
+
+-- ---- what they become
+
+-- the meaning defines each of the characters
+abbrev pub are_defined : Meaning → List ℕ → Bool
+are_defined meaning [] = true
+are_defined meaning (character ∷ characters) = if is_known meaning character then are_defined meaning characters else false
+
+-- the cells of the definitions of the characters
+abbrev pub cells_of_all : Meaning → List ℕ → List ℕ
+cells_of_all meaning characters = flat_map (λ c. cells_in_definition (definition_of meaning c)) characters
+
+abbrev pub is_complete_rule : Meaning → WrittenRule → Bool
+is_complete_rule meaning rule = are_defined meaning (map (folded meaning) rule.characters)
+
+-- the meaning defines each character of what is written
+abbrev pub is_complete : Meaning → Written → Bool
+is_complete meaning (written.Rule rule) = is_complete_rule meaning rule
+is_complete meaning (written.Set set) = are_defined meaning set.characters
+
+-- the number of its line
+abbrev pub line_of : Written → ℕ
+line_of (written.Rule rule) = rule.line
+line_of (written.Set set) = set.line
+
+-- the rule with folded characters and all its cells
+abbrev pub finished_rule : Meaning → WrittenRule → Rule
+finished_rule meaning rule = record {
+  line = rule.line;
+  kind = rule.kind;
+  chars = map (folded meaning) rule.characters;
+  cells = rule_cells meaning (map (folded meaning) rule.characters) rule.cells;
+}
+
+-- the rule of what is written, if it is one
+abbrev pub finished : Meaning → Written → List Rule
+finished meaning (written.Rule rule) = finished_rule meaning rule ∷ []
+finished meaning (written.Set set) = []
+
+-- the line of the first that has a character that is not defined
+abbrev pub first_lacking : Meaning → List Written → Option ℕ
+first_lacking meaning [] = None
+first_lacking meaning (one ∷ more) = if is_complete meaning one then first_lacking meaning more else Some (line_of one)
+
+-- ---- what is said of the code
+
+-- a rule was finished, or has a character that is not defined
+abbrev pub FinishesRule : Result Rule ReadFault → Meaning → WrittenRule → Type 0
+FinishesRule (Ok rule) meaning from = (is_complete_rule meaning from ≡ true) × (rule ≡ finished_rule meaning from)
+FinishesRule (Err (faults.Table fault)) meaning from =
+    (is_complete_rule meaning from ≡ false) × (fault.line ≡ from.line) × (fault.cause ≡ 7)
+FinishesRule (Err faults.NoMemory) meaning from = Unit {0}
+
+-- each character of a set is defined, or one is not
+abbrev pub ChecksSet : Result (Unit {0}) ReadFault → Meaning → WrittenSet → Type 0
+ChecksSet (Ok _) meaning set = are_defined meaning set.characters ≡ true
+ChecksSet (Err (faults.Table fault)) meaning set =
+    (are_defined meaning set.characters ≡ false) × (fault.line ≡ set.line) × (fault.cause ≡ 7)
+ChecksSet (Err faults.NoMemory) meaning set = ⊥
+
+-- what is written was finished, its rule put after the others, or has a character that is not defined
+abbrev pub Finishes : Result (Unit {0}) ReadFault → Meaning → Written → List Rule → List Rule → Type 0
+Finishes (Ok _) meaning one old new = (is_complete meaning one ≡ true) × (new ≡ old ++ finished meaning one)
+Finishes (Err (faults.Table fault)) meaning one old new =
+    (is_complete meaning one ≡ false) × (fault.line ≡ line_of one) × (fault.cause ≡ 7)
+Finishes (Err faults.NoMemory) meaning one old new = Unit {0}
+
+abbrev pub FinishesAll : Result (Vec Rule Global) ReadFault → Meaning → List Written → Type 0
+FinishesAll (Ok rules) meaning all = (first_lacking meaning all ≡ None) × (rules.items ≡ flat_map (finished meaning) all)
+FinishesAll (Err (faults.Table fault)) meaning all = (first_lacking meaning all ≡ Some fault.line) × (fault.cause ≡ 7)
+FinishesAll (Err faults.NoMemory) meaning all = Unit {0}
