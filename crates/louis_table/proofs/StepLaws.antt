@@ -23,7 +23,7 @@ use Rattle.louis_table.specs.Steps.Fields.{field_at}
 use Rattle.louis_table.specs.Steps.Characters.{only_character, only_pair, characters_in}
 use Rattle.louis_table.specs.Steps.Opcode.{opcode_named}
 use Rattle.louis_table.specs.Steps.Fault.{cause_number}
-use Rattle.louis_table.specs.Steps.Dots.{pair_parts, pair_in, Fits, FitsPair, rule_in, both_of, are_many, ReadsCells, ReadsPair, ReadsRule}
+use Rattle.louis_table.specs.Steps.Dots.{pair_parts, pair_in, rule_in, both_of, are_many, ReadsDots, Fits, are_many_of_two, are_many_written}
 use Rattle.louis_table.specs.Steps.Line.{or_cause, entry_from, entry_with, entry_of_two, entry_of_one, entry_of_set, entry_at, both_from, both_at, with_dots, as_some, opcode_gives, fields_give, line_gives, repeats, announces, is_large, verdict_by, entry_verdict, line_verdict, judge_opcode, judge_line, FailsOperands, IsVerdict}
 use Rattle.louis_table.specs.Steps.Read.{judge, TakesLine}
 use Rattle.louis_table.specs.declared.draft.Draft.{Draft}
@@ -60,11 +60,11 @@ pub pair_in-read : (dots first second : List ℕ) → first ≡ (pair_parts dots
 unfolding pair_in
 pair_in-read dots first second e f = ap (λ (t : List ℕ). both_of (cells_in t) (cells_in (pair_parts dots).1)) (sym e) ∙ ap (λ (t : List ℕ). both_of (cells_in first) (cells_in t)) (sym f)
 
-pub first_fault : (fault : LineFault) (o p : Option (List ℕ)) → ReadsCells (Err fault) o → ReadsPair (Err fault) (both_of o p)
+pub first_fault : (fault : LineFault) (o p : Option (List ℕ)) → ReadsDots are_many (Err fault) o → ReadsDots are_many_of_two (Err fault) (both_of o p)
 first_fault (line_faults.Bad cause) o p h = (ap (λ (x : Option (List ℕ)). both_of x p) h.0, h.1)
 first_fault line_faults.NoMemory o p h = tt
 
-pub second_fault : (fault : LineFault) (told : Option (List ℕ)) (o p : Option (List ℕ)) → ReadsCells (Ok told) o → ReadsCells (Err fault) p → ReadsPair (Err fault) (both_of o p)
+pub second_fault : (fault : LineFault) (told : Option (List ℕ)) (o p : Option (List ℕ)) → ReadsDots are_many (Ok told) o → ReadsDots are_many (Err fault) p → ReadsDots are_many_of_two (Err fault) (both_of o p)
 second_fault (line_faults.Bad cause) told o p g h = (ap (λ (x : Option (List ℕ)). both_of x p) g.1 ∙ ap (both_of (Some g.0)) h.0, h.1)
 second_fault line_faults.NoMemory told o p g h = tt
 
@@ -72,14 +72,14 @@ pub neither : (b c : Bool) → b ≡ false → c ≡ false → b || c ≡ false
 neither true c e f = e
 neither false c e f = f
 
-pub both_told : (a b o p : Option (List ℕ)) → ReadsCells (Ok a) o → ReadsCells (Ok b) p → ReadsPair (Ok (option_zip a b)) (both_of o p)
+pub both_told : (a b o p : Option (List ℕ)) → ReadsDots are_many (Ok a) o → ReadsDots are_many (Ok b) p → ReadsDots are_many_of_two (Ok (option_zip a b)) (both_of o p)
 both_told a b o p (upper, e, g) (lower, f, h) =
-    (upper, lower, ap (λ (x : Option (List ℕ)). both_of x p) e ∙ ap (both_of (Some upper)) f, fits a b g h)
+    ((upper, lower), ap (λ (x : Option (List ℕ)). both_of x p) e ∙ ap (both_of (Some upper)) f, fits a b g h)
   where
-    fits : (a b : Option (List ℕ)) → Fits a upper → Fits b lower → FitsPair (option_zip a b) upper lower
+    fits : (a b : Option (List ℕ)) → Fits are_many a upper → Fits are_many b lower → Fits are_many_of_two (option_zip a b) (upper, lower)
     fits None b g h = or_left _ _ g
     fits (Some x) None g h = or_right (are_many upper) _ h
-    fits (Some x) (Some y) g h = (g.0, h.0, neither _ _ g.1 h.1)
+    fits (Some x) (Some y) g h = (ap (λ (t : List ℕ). (t, lower)) g.0 ∙ ap (λ (t : List ℕ). (x, t)) h.0, neither _ _ g.1 h.1)
 
 -- ---- the cells of a rule
 
@@ -91,14 +91,14 @@ rule_in-cells : (dots : List ℕ) → bytes_eq dots (codes "=") ≡ false → ru
 unfolding rule_in
 rule_in-cells dots f = cond-false _ _ _ f
 
-pub rule_fault : (dots : List ℕ) (fault : LineFault) → bytes_eq dots (codes "=") ≡ false → ReadsCells (Err fault) (cells_in dots) → ReadsRule (Err fault) (rule_in dots)
+pub rule_fault : (dots : List ℕ) (fault : LineFault) → bytes_eq dots (codes "=") ≡ false → ReadsDots are_many (Err fault) (cells_in dots) → ReadsDots are_many_written (Err fault) (rule_in dots)
 rule_fault dots (line_faults.Bad cause) f h = (rule_in-cells dots f ∙ ap (option_map Some) h.0, h.1)
 rule_fault dots line_faults.NoMemory f h = tt
 
-pub rule_told : (dots told : List ℕ) → bytes_eq dots (codes "=") ≡ false → ReadsCells (Ok (Some told)) (cells_in dots) → ReadsRule (Ok (Some (Some told))) (rule_in dots)
+pub rule_told : (dots told : List ℕ) → bytes_eq dots (codes "=") ≡ false → ReadsDots are_many (Ok (Some told)) (cells_in dots) → ReadsDots are_many_written (Ok (Some (Some told))) (rule_in dots)
 rule_told dots told f (cells, e, h) = (Some cells, rule_in-cells dots f ∙ ap (option_map Some) e, (ap Some h.0, h.1))
 
-pub rule_untold : (dots : List ℕ) → bytes_eq dots (codes "=") ≡ false → ReadsCells (Ok None) (cells_in dots) → ReadsRule (Ok None) (rule_in dots)
+pub rule_untold : (dots : List ℕ) → bytes_eq dots (codes "=") ≡ false → ReadsDots are_many (Ok None) (cells_in dots) → ReadsDots are_many_written (Ok None) (rule_in dots)
 rule_untold dots f (cells, e, h) = (Some cells, rule_in-cells dots f ∙ ap (option_map Some) e, h)
 
 -- ---- two operands
@@ -155,7 +155,7 @@ module _ (class : Class) (operands dots : List ℕ) (character : ℕ) (b : both_
       entry_then (Define class) operands _ tt b
       ∙ ap (λ (p : Option (List ℕ)). or_cause 4 (option_map (λ cells. Defines character (record { class = class; cells = cells })) p)) e
 
-  pub definition_fault : (meaning : Meaning) (fault : LineFault) → ReadsCells (Err fault) (cells_in dots) → IsVerdict (Err fault) (judge_opcode meaning (Define class) operands)
+  pub definition_fault : (meaning : Meaning) (fault : LineFault) → ReadsDots are_many (Err fault) (cells_in dots) → IsVerdict (Err fault) (judge_opcode meaning (Define class) operands)
   definition_fault meaning (line_faults.Bad cause) h =
       judge_by meaning (Define class) operands _ (definition_read None h.0) ∙ ap (λ (x : Cause). Err (cause_number x)) (sym h.1)
   definition_fault meaning line_faults.NoMemory h = tt
@@ -169,7 +169,7 @@ module _ (operands dots : List ℕ) (upper lower : ℕ) (b : both_at operands �
   pair_read : (o : Option (List ℕ × List ℕ)) → pair_in dots ≡ o → entry_at UpLow operands ≡ or_cause 4 (option_map (λ cells. Pairs upper cells.0 lower cells.1) o)
   pair_read o e = entry_then UpLow operands _ tt b ∙ ap (λ (p : Option (List ℕ × List ℕ)). or_cause 4 (option_map (λ cells. Pairs upper cells.0 lower cells.1) p)) e
 
-  pub pair_fault : (meaning : Meaning) (fault : LineFault) → ReadsPair (Err fault) (pair_in dots) → IsVerdict (Err fault) (judge_opcode meaning UpLow operands)
+  pub pair_fault : (meaning : Meaning) (fault : LineFault) → ReadsDots are_many_of_two (Err fault) (pair_in dots) → IsVerdict (Err fault) (judge_opcode meaning UpLow operands)
   pair_fault meaning (line_faults.Bad cause) h = judge_by meaning UpLow operands _ (pair_read None h.0) ∙ ap (λ (x : Cause). Err (cause_number x)) (sym h.1)
   pair_fault meaning line_faults.NoMemory h = tt
 
@@ -182,7 +182,7 @@ module _ (kind : RuleKind) (operands text dots : List ℕ) (b : both_at operands
   rule_read : (o : Option (Option (List ℕ))) → rule_in dots ≡ o → entry_at (Replace kind) operands ≡ or_cause 4 (option_map (λ cells. Replaces kind text cells) o)
   rule_read o e = entry_then (Replace kind) operands _ tt b ∙ ap (λ (p : Option (Option (List ℕ))). or_cause 4 (option_map (λ cells. Replaces kind text cells) p)) e
 
-  pub rule_bad : (meaning : Meaning) (fault : LineFault) → ReadsRule (Err fault) (rule_in dots) → IsVerdict (Err fault) (judge_opcode meaning (Replace kind) operands)
+  pub rule_bad : (meaning : Meaning) (fault : LineFault) → ReadsDots are_many_written (Err fault) (rule_in dots) → IsVerdict (Err fault) (judge_opcode meaning (Replace kind) operands)
   rule_bad meaning (line_faults.Bad cause) h = judge_by meaning (Replace kind) operands _ (rule_read None h.0) ∙ ap (λ (x : Cause). Err (cause_number x)) (sym h.1)
   rule_bad meaning line_faults.NoMemory h = tt
 
@@ -205,7 +205,7 @@ module _ (sign : Sign) (operands dots : List ℕ) (d : dots ≡ (field_at operan
       by [] n = absurd (n refl)
       by (y ∷ dots) n = refl
 
-  pub sign_fault : (meaning : Meaning) (fault : LineFault) → dots ≢ [] → ReadsCells (Err fault) (cells_in dots) → IsVerdict (Err fault) (judge_opcode meaning (Announce sign) operands)
+  pub sign_fault : (meaning : Meaning) (fault : LineFault) → dots ≢ [] → ReadsDots are_many (Err fault) (cells_in dots) → IsVerdict (Err fault) (judge_opcode meaning (Announce sign) operands)
   sign_fault meaning (line_faults.Bad cause) n h = judge_by meaning (Announce sign) operands _ (sign_read None n h.0) ∙ ap (λ (x : Cause). Err (cause_number x)) (sym h.1)
   sign_fault meaning line_faults.NoMemory n h = tt
 

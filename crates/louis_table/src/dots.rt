@@ -1,6 +1,6 @@
 //! The dots operands of the opcodes.
 ghost use Rattle.cell_core.specs.Reading.{cells_in};
-ghost use Rattle.louis_table.specs.Steps.Dots.{ReadsCells, ReadsPair, ReadsRule, pair_in, pair_parts, part_len, rule_in};
+ghost use Rattle.louis_table.specs.Steps.Dots.{ReadsDots, are_many, are_many_of_two, are_many_written, pair_in, pair_parts, part_len, rule_in};
 ghost use Rattle.std.specs.Prelude.{◌≡◌, ◌≤◌, IfOk, codes, length};
 ghost use Rattle.std.specs.Str.{bytes_eq, encode_utf8_all};
 ghost use Rattle.std.specs.String.{string_bytes};
@@ -24,7 +24,7 @@ fn text_of(alloc: Global, characters: &[char]) -> Result<String, AllocError>
 
 /// The cells of a dots operand, or nothing if it has more than an operand may have.
 pub(crate) fn read_cells(alloc: Global, dots: &[char]) -> Result<Option<Cells>, LineFault>
-    ensures { ReadsCells result (cells_in dots.now) }
+    ensures { ReadsDots are_many result (cells_in dots.now) }
 {
     let Ok(text) = text_of(alloc, dots) else {
         return Err(LineFault::NoMemory);
@@ -68,7 +68,7 @@ pub(crate) fn read_pair_cells(
     alloc: Global,
     dots: &[char],
 ) -> Result<Option<(Cells, Cells)>, LineFault>
-    ensures { ReadsPair result (pair_in dots.now) }
+    ensures { ReadsDots are_many_of_two result (pair_in dots.now) }
 {
     let (upper, lower) = pair_parts(dots);
     let upper = read_cells(alloc, upper)?;
@@ -88,7 +88,7 @@ pub(crate) fn read_rule_cells(
     alloc: Global,
     dots: &[char],
 ) -> Result<Option<Option<Cells>>, LineFault>
-    ensures { ReadsRule result (rule_in dots.now) }
+    ensures { ReadsDots are_many_written result (rule_in dots.now) }
 {
     if is_equals(dots) {
         return Ok(Some(None));

@@ -1,7 +1,8 @@
 //! Rules and sets as they are written, until all definitions of their table are known.
 ghost use Rattle.louis_table.specs.Meaning.{folded};
-ghost use Rattle.louis_table.specs.Steps.Written.{ChecksSet, Finishes, FinishesAll, FinishesRule, are_defined, cells_of_all};
-ghost use Rattle.std.specs.Prelude.{◌≡◌, IfOk, map};
+ghost use Rattle.louis_table.specs.Steps.Written.{ChecksSet, Finishes, FinishesAll, FinishesRule, are_defined};
+ghost use Rattle.louis_table.specs.Table.{rule_cells};
+ghost use Rattle.std.specs.Prelude.{◌≡◌, IfOk, None, map};
 
 use super::fault::{Cause, ReadFault, TableFault};
 use super::rule::{Characters, Rule, RuleKind};
@@ -61,7 +62,7 @@ fn are_defined(table: &Table, characters: &[char]) -> bool
 
 /// The cells of the definitions of characters, joined in order.
 fn joined_cells(alloc: Global, table: &Table, characters: &[char]) -> Result<Vec<Cell>, AllocError>
-    ensures { IfOk result (λ cells. cells.items ≡ cells_of_all table.now characters.now) }
+    ensures { IfOk result (λ cells. cells.items ≡ rule_cells table.now characters.now None) }
 {
     let mut cells = Vec::new(alloc);
     for character in characters {

@@ -43,31 +43,17 @@ abbrev pub are_many_written : Option (List ℕ) → Bool
 are_many_written None = false
 are_many_written (Some cells) = are_many cells
 
--- the cells are these, or none are given, since there are too many
-abbrev pub Fits : Option (List ℕ) → List ℕ → Type 0
-Fits (Some told) cells = (cells ≡ told) × (are_many cells ≡ false)
-Fits None cells = are_many cells ≡ true
+abbrev pub are_many_of_two : List ℕ × List ℕ → Bool
+are_many_of_two cells = are_many cells.0 || are_many cells.1
 
--- the cells of an operand were read, or nothing if there are too many
-abbrev pub ReadsCells : Result (Option (List ℕ)) LineFault → Option (List ℕ) → Type 0
-ReadsCells (Ok told) read = (cells : List ℕ) × (read ≡ Some cells) × Fits told cells
-ReadsCells (Err (line_faults.Bad cause)) read = (read ≡ None) × (cause ≡ causes.BadDots)
-ReadsCells (Err line_faults.NoMemory) read = Unit {0}
+module _ {A : Type 0} (is_large : A → Bool) where
+  -- the value is this one, or none is given, since it is too large
+  abbrev pub Fits : Option A → A → Type 0
+  Fits (Some told) value = (value ≡ told) × (is_large value ≡ false)
+  Fits None value = is_large value ≡ true
 
-abbrev pub FitsPair : Option (List ℕ × List ℕ) → List ℕ → List ℕ → Type 0
-FitsPair (Some told) upper lower = (upper ≡ told.0) × (lower ≡ told.1) × (are_many upper || are_many lower ≡ false)
-FitsPair None upper lower = are_many upper || are_many lower ≡ true
-
-abbrev pub ReadsPair : Result (Option (List ℕ × List ℕ)) LineFault → Option (List ℕ × List ℕ) → Type 0
-ReadsPair (Ok told) read = (upper : List ℕ) × (lower : List ℕ) × (read ≡ Some (upper, lower)) × FitsPair told upper lower
-ReadsPair (Err (line_faults.Bad cause)) read = (read ≡ None) × (cause ≡ causes.BadDots)
-ReadsPair (Err line_faults.NoMemory) read = Unit {0}
-
-abbrev pub FitsRule : Option (Option (List ℕ)) → Option (List ℕ) → Type 0
-FitsRule (Some told) cells = (cells ≡ told) × (are_many_written cells ≡ false)
-FitsRule None cells = are_many_written cells ≡ true
-
-abbrev pub ReadsRule : Result (Option (Option (List ℕ))) LineFault → Option (Option (List ℕ)) → Type 0
-ReadsRule (Ok told) read = (cells : Option (List ℕ)) × (read ≡ Some cells) × FitsRule told cells
-ReadsRule (Err (line_faults.Bad cause)) read = (read ≡ None) × (cause ≡ causes.BadDots)
-ReadsRule (Err line_faults.NoMemory) read = Unit {0}
+  -- what an operand spells was read, or nothing if it is too large; or the operand spells nothing
+  abbrev pub ReadsDots : Result (Option A) LineFault → Option A → Type 0
+  ReadsDots (Ok told) spelled = (value : A) × (spelled ≡ Some value) × Fits told value
+  ReadsDots (Err (line_faults.Bad cause)) spelled = (spelled ≡ None) × (cause ≡ causes.BadDots)
+  ReadsDots (Err line_faults.NoMemory) spelled = Unit {0}

@@ -1,4 +1,4 @@
--- What the lines so far give, as long as not all of them are read.
+-- What the lines so far give, before the rest is read.
 use Rattle.std.specs.Prelude.{◌≡◌, ℕ, List, [], ◌∷◌, ◌++◌, Option, Some, None}
 use Rattle.louis_table.specs.declared.written.Written.{Written}
 use Rattle.louis_table.specs.declared.written.Written.TheVariants as written

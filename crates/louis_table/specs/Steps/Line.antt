@@ -1,4 +1,4 @@
--- What one line gives to the table that the lines before it make, or the smallest cause that it doesn't.
+-- What one line gives to the table that the lines before it make, or the smallest cause for which it gives nothing.
 use Rattle.std.specs.Prelude.{◌≡◌, ℕ, Bool, not, ◌||◌, ◌==◌, nat_lt, false, if◌then◌else◌, List, [], ◌∷◌, length, Option, Some, None, option_map, Result, Ok, Err}
 use Rattle.cell_core.specs.Reading.{cells_in}
 use Rattle.louis_table.specs.declared.character_set.CharacterSet.{CharacterSet}

@@ -9,8 +9,8 @@ use Rattle.louis_table.specs.declared.written.WrittenRule.{WrittenRule}
 use Rattle.louis_table.specs.declared.written.WrittenSet.{WrittenSet}
 use Rattle.louis_table.specs.declared.fault.ReadFault.{ReadFault}
 use Rattle.louis_table.specs.declared.fault.ReadFault.TheVariants as faults
-use Rattle.louis_table.specs.Meaning.{Meaning, definition_of, folded}
-use Rattle.louis_table.specs.Table.{cells_in_definition, rule_cells}
+use Rattle.louis_table.specs.Meaning.{Meaning, folded}
+use Rattle.louis_table.specs.Table.{rule_cells}
 use Rattle.louis_table.specs.Steps.Table.{is_known}
 
 -- ---- what they become
@@ -19,10 +19,6 @@ use Rattle.louis_table.specs.Steps.Table.{is_known}
 abbrev pub are_defined : Meaning → List ℕ → Bool
 are_defined meaning [] = true
 are_defined meaning (character ∷ characters) = if is_known meaning character then are_defined meaning characters else false
-
--- the cells of the definitions of the characters
-abbrev pub cells_of_all : Meaning → List ℕ → List ℕ
-cells_of_all meaning characters = flat_map (λ c. cells_in_definition (definition_of meaning c)) characters
 
 abbrev pub is_complete_rule : Meaning → WrittenRule → Bool
 is_complete_rule meaning rule = are_defined meaning (map (folded meaning) rule.characters)

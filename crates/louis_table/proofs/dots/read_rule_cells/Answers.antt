@@ -1,6 +1,6 @@
 use Rattle.std.proofs.Common.{None, refl, Err, sym, ap, subst, ◌∙◌}
 use Rattle.std.proofs.lemmas.Result.{err_from_is_err_and}
-use Rattle.louis_table.specs.Steps.Dots.{ReadsRule, rule_in}
+use Rattle.louis_table.specs.Steps.Dots.{rule_in, ReadsDots, are_many_written}
 use Rattle.louis_table.proofs.StepLaws.{rule_in-equals, rule_fault, rule_told, rule_untold}
 use Rattle.louis_table.proofs.dots.read_rule_cells.Goals as goal
 
@@ -10,7 +10,7 @@ returns-then-is_equals c = (None, rule_in-equals c.args.dots.now (sym c.is_equal
 pub returns-in_err-cells : goal.returns-in_err-cells
 returns-in_err-cells c =
     let exit = err_from_is_err_and c.from_residual.result c.from_residual.ensures.1 in
-    subst (λ r. ReadsRule r (rule_in c.args.dots.now)) (sym (exit.1 ∙ ap (λ e. Err e) exit.2))
+    subst (λ r. ReadsDots are_many_written r (rule_in c.args.dots.now)) (sym (exit.1 ∙ ap (λ e. Err e) exit.2))
     (rule_fault c.args.dots.now c.in_err-cells.field-0.0 (sym c.is_equals.ensures ∙ c.if-is_equals.false) c.in_err-cells.ensures)
 
 pub returns-in-Some : goal.returns-in-Some

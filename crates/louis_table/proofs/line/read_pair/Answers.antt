@@ -1,8 +1,8 @@
-use Rattle.std.proofs.Common.{◌≡◌, ◌∷◌, [], ◌||◌, List, ℕ, length, true, false, refl, Some, Ok, Err, sym, ap, subst, ◌∙◌}
+use Rattle.std.proofs.Common.{◌≡◌, ◌∷◌, [], List, ℕ, length, true, false, refl, Some, Ok, Err, sym, ap, subst, ◌∙◌}
 use Rattle.std.proofs.lemmas.Result.{err_from_is_err_and}
 use Rattle.louis_table.specs.declared.opcode.Opcode.TheVariants.{UpLow}
 use Rattle.louis_table.specs.Table.{Pairs}
-use Rattle.louis_table.specs.Steps.Dots.{are_many}
+use Rattle.louis_table.specs.Steps.Dots.{are_many_of_two}
 use Rattle.louis_table.specs.Steps.Line.{IsVerdict, both_at, judge_opcode}
 use Rattle.louis_table.proofs.StepLaws.{only_pair-Some, only_pair-None, operands_fault, characters_fault, judged, pair_fault, pair_at}
 use Rattle.louis_table.proofs.line.read_pair.Goals as goal
@@ -35,8 +35,8 @@ returns-then-is_taken c =
     let both : both_at c.args.operands.now ≡ Ok (c.in-Some.upper ∷ c.in-Some.lower ∷ [], c.in_ok-characters.dots.now) =
     c.in_ok-characters.ensures.ok ∙ ap (λ (t : List ℕ). Ok (t, c.in_ok-characters.dots.now)) two in
     let told = c.in_ok-cells.ensures in
-    judged c.args.table.now UpLow c.args.operands.now (Pairs c.in-Some.upper told.0 c.in-Some.lower told.1) true _ _
-    (pair_at c.args.operands.now c.in_ok-characters.dots.now c.in-Some.upper c.in-Some.lower both told.0 told.1 told.2) (sym c.is_taken.ensures ∙ c.if-is_taken.true) refl refl
+    judged c.args.table.now UpLow c.args.operands.now (Pairs c.in-Some.upper told.0.0 c.in-Some.lower told.0.1) true _ _
+    (pair_at c.args.operands.now c.in_ok-characters.dots.now c.in-Some.upper c.in-Some.lower both told.0.0 told.0.1 told.1) (sym c.is_taken.ensures ∙ c.if-is_taken.true) refl refl
 
 pub returns-in_default-cells : goal.returns-in_default-cells
 returns-in_default-cells c =
@@ -45,8 +45,8 @@ returns-in_default-cells c =
     let both : both_at c.args.operands.now ≡ Ok (c.in-Some.upper ∷ c.in-Some.lower ∷ [], c.in_ok-characters.dots.now) =
     c.in_ok-characters.ensures.ok ∙ ap (λ (t : List ℕ). Ok (t, c.in_ok-characters.dots.now)) two in
     let told = rw c.in_default-cells.is at c.in_ok-cells.ensures in
-    judged c.args.table.now UpLow c.args.operands.now (Pairs c.in-Some.upper told.0 c.in-Some.lower told.1) false false true
-    (pair_at c.args.operands.now c.in_ok-characters.dots.now c.in-Some.upper c.in-Some.lower both told.0 told.1 told.2) (sym c.is_taken.ensures ∙ c.if-is_taken.false) refl told.3
+    judged c.args.table.now UpLow c.args.operands.now (Pairs c.in-Some.upper told.0.0 c.in-Some.lower told.0.1) false false true
+    (pair_at c.args.operands.now c.in_ok-characters.dots.now c.in-Some.upper c.in-Some.lower both told.0.0 told.0.1 told.1) (sym c.is_taken.ensures ∙ c.if-is_taken.false) refl told.2
 
 pub returns : goal.returns
 returns c =
@@ -57,6 +57,6 @@ returns c =
     let told = rw c.in-Some-cells.is at c.in_ok-cells.ensures in
     judged c.args.table.now UpLow c.args.operands.now (Pairs c.in-Some.upper c.in-Some-cells.upper_cells c.in-Some.lower c.in-Some-cells.lower_cells) false false false
     (pair_at c.args.operands.now c.in_ok-characters.dots.now c.in-Some.upper c.in-Some.lower both c.in-Some-cells.upper_cells c.in-Some-cells.lower_cells
-    (told.2 ∙ (ap (λ (t : List ℕ). Some (t, told.1)) told.3.0 ∙ ap (λ (t : List ℕ). Some (c.in-Some-cells.upper_cells, t)) told.3.1)))
+    (told.1 ∙ ap Some told.2.0))
     (sym c.is_taken.ensures ∙ c.if-is_taken.false) refl
-    (sym (ap (λ (t : List ℕ). are_many t || are_many told.1) told.3.0 ∙ ap (λ (t : List ℕ). are_many c.in-Some-cells.upper_cells || are_many t) told.3.1) ∙ told.3.2)
+    (sym (ap are_many_of_two told.2.0) ∙ told.2.1)
