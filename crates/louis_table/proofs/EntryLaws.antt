@@ -23,7 +23,7 @@ use Rattle.louis_table.specs.Steps.Fields.{field_at}
 use Rattle.louis_table.specs.Steps.Characters.{characters_in}
 use Rattle.louis_table.specs.Steps.Opcode.{opcode_among, opcodes, opcode_named}
 use Rattle.louis_table.specs.Steps.Dots.{pair_in, rule_in, are_many, are_many_written}
-use Rattle.louis_table.specs.Steps.Line.{or_cause, entry_from, entry_with, entry_of_two, entry_of_one, entry_of_set, entry_of_fields, entry_at, as_some, opcode_gives, fields_give, line_gives, is_large}
+use Rattle.louis_table.specs.Steps.Line.{or_cause, entry_from, with_dots, both_from, both_at, entry_of_both, entry_of_one, entry_of_set, entry_at, as_some, opcode_gives, fields_give, line_gives, is_large}
 use Rattle.louis_table.specs.Table.{Entry, Defines, Pairs, Replaces, Announces, Collects, AreCharactersFor, HasCharacters, HasDots, HasOperands, AreTooManyFor, RuleDots, IsDotsFor, WritesCells, most_rule_characters, IsComment, SaysNothing, blank, comment, Gives, definition_line, pair_line, rule_line, sign_line, set_line, Fault, unknown_opcode, missing_operand, bad_characters, bad_dots, many_characters, many_cells}
 use Rattle.louis_table.proofs.FieldLaws.{field_at-Begins, Begins-field_at, IsGap-field_at, field_at-gap, gap_without_field}
 use Rattle.louis_table.proofs.CharacterLaws.{chosen, map_some, characters_in-Spells, Spells-characters_in}
@@ -170,7 +170,7 @@ module _ (line characters dots : List ℕ) where
   text_says (Collect set) text b h e = absurd b
 
   both_says : (opcode : Opcode) (o : Option (List ℕ)) → characters_in characters ≡ o → TakesBoth opcode → HasFields line (name_of opcode ∷ characters ∷ dots ∷ [])
-      → Says line (as_some (entry_with opcode o dots))
+      → Says line (as_some (entry_of_both opcode (with_dots o dots)))
   both_says opcode None e b h =
       λ before. bad_characters opcode characters (has_opcode opcode) (HasCharacters-both line characters opcode b (front_field line (name_of opcode) characters dots h))
       (λ text a s. unread (characters_in characters) text e (Spells-characters_in characters text s)) refl
@@ -223,7 +223,7 @@ missing_both line rest opcode two b n has =
 two_say : (line rest characters more dots end : List ℕ) (opcode : Opcode) → TakesBoth opcode → Begins line (name_of opcode) rest
     → (characters ≢ [] → Begins rest characters more) → (characters ≡ [] → IsGap rest)
     → (dots ≢ [] → Begins more dots end) → (dots ≡ [] → IsGap more)
-    → Says line (as_some (entry_of_two opcode characters dots))
+    → Says line (as_some (entry_of_both opcode (both_from characters dots)))
 two_say line rest [] more dots end opcode two b f n g m =
     λ before. missing_operand opcode rest (has_opcode opcode) b (missing_both line rest opcode two b (λ characters dots h. gap_without_field rest characters h.0 (n refl) h.1)) refl
 two_say line rest (x ∷ characters) more [] end opcode two b f n g m =
@@ -250,7 +250,7 @@ entry_says : (line rest : List ℕ) (opcode : Opcode) → Begins line (name_of o
 unfolding entry_at
 entry_says line rest opcode b = by opcode b
   where
-    two : (opcode : Opcode) → TakesBoth opcode → Begins line (name_of opcode) rest → Says line (as_some (entry_of_fields opcode rest))
+    two : (opcode : Opcode) → TakesBoth opcode → Begins line (name_of opcode) rest → Says line (as_some (entry_of_both opcode (both_at rest)))
     two opcode both b =
         two_say line rest (field_at rest).0 (field_at rest).1 (field_at (field_at rest).1).0 (field_at (field_at rest).1).1 opcode both b
         (field_at-Begins rest) (IsGap-field_at rest) (field_at-Begins (field_at rest).1) (IsGap-field_at (field_at rest).1)
@@ -307,7 +307,7 @@ opcode_field (Announce signs.NoContraction) rest = refl
 opcode_field (Collect sets.NumericMode) rest = refl
 opcode_field (Collect sets.NoContraction) rest = refl
 
-pub entry_at-both : (opcode : Opcode) (rest : List ℕ) → TakesBoth opcode → entry_at opcode rest ≡ entry_of_fields opcode rest
+pub entry_at-both : (opcode : Opcode) (rest : List ℕ) → TakesBoth opcode → entry_at opcode rest ≡ entry_of_both opcode (both_at rest)
 unfolding entry_at
 entry_at-both (Define class) rest b = refl
 entry_at-both UpLow rest b = refl
@@ -324,14 +324,14 @@ unfolding entry_at
 entry_at-set set rest = refl
 
 operands_at : (opcode : Opcode) (rest characters more dots : List ℕ) → Begins rest characters more → (field_at more).0 ≡ dots
-    → entry_of_fields opcode rest ≡ entry_of_two opcode characters dots
+    → entry_of_both opcode (both_at rest) ≡ entry_of_both opcode (both_from characters dots)
 operands_at opcode rest characters more dots b e =
     let h = Begins-field_at rest characters more b in
-    ap (λ (f : List ℕ). entry_of_two opcode f (field_at (field_at rest).1).0) h.0
-    ∙ (ap (λ (m : List ℕ). entry_of_two opcode characters (field_at m).0) h.1 ∙ ap (entry_of_two opcode characters) e)
+    ap (λ (f : List ℕ). entry_of_both opcode (both_from f (field_at (field_at rest).1).0)) h.0
+    ∙ (ap (λ (m : List ℕ). entry_of_both opcode (both_from characters (field_at m).0)) h.1 ∙ ap (λ (d : List ℕ). entry_of_both opcode (both_from characters d)) e)
 
 operands_both : (opcode : Opcode) (characters dots : List ℕ) → IsField characters → IsField dots
-    → entry_of_two opcode characters dots ≡ entry_with opcode (characters_in characters) dots
+    → entry_of_both opcode (both_from characters dots) ≡ entry_of_both opcode (with_dots (characters_in characters) dots)
 operands_both opcode [] dots f g = absurd f
 operands_both opcode (x ∷ characters) [] f g = absurd g
 operands_both opcode (x ∷ characters) (y ∷ dots) f g = refl
@@ -354,7 +354,7 @@ opcode_line line rest opcode b = first_gives line (name_of opcode) rest b ∙ op
 
 -- a line with both operands
 two_give : (line characters dots : List ℕ) (opcode : Opcode) → TakesBoth opcode → HasFields line (name_of opcode ∷ characters ∷ dots ∷ [])
-    → line_gives line ≡ as_some (entry_with opcode (characters_in characters) dots)
+    → line_gives line ≡ as_some (entry_of_both opcode (with_dots (characters_in characters) dots))
 two_give line characters dots opcode two h =
     opcode_line line h.0 opcode h.1
     ∙ ap as_some (entry_at-both opcode h.0 two
@@ -365,7 +365,7 @@ two_give line characters dots opcode two h =
 text_gives : (line characters dots text : List ℕ) (opcode : Opcode) → TakesBoth opcode → HasFields line (name_of opcode ∷ characters ∷ dots ∷ []) → Spells characters text
     → line_gives line ≡ as_some (entry_from opcode text dots)
 text_gives line characters dots text opcode two h s =
-    two_give line characters dots opcode two h ∙ ap (λ (o : Option (List ℕ)). as_some (entry_with opcode o dots)) (Spells-characters_in characters text s)
+    two_give line characters dots opcode two h ∙ ap (λ (o : Option (List ℕ)). as_some (entry_of_both opcode (with_dots o dots))) (Spells-characters_in characters text s)
 
 -- a line of a sign
 one_gives : (line dots : List ℕ) (sign : Sign) → HasFields line (name_of (Announce sign) ∷ dots ∷ []) → line_gives line ≡ as_some (entry_from (Announce sign) [] dots)
@@ -431,7 +431,7 @@ unknown_fails line field rest b n u = (1, first_gives line field rest b ∙ unkn
 module _ (line rest : List ℕ) where
   two_missing : (opcode : Opcode) (characters dots : List ℕ) → TakesBoth opcode → Begins line (name_of opcode) rest → ¬ HasOperands line opcode
       → (characters ≢ [] → Begins rest characters (field_at rest).1)
-      → (dots ≢ [] → Begins (field_at rest).1 dots (field_at (field_at rest).1).1) → entry_of_two opcode characters dots ≡ Err 2
+      → (dots ≢ [] → Begins (field_at rest).1 dots (field_at (field_at rest).1).1) → entry_of_both opcode (both_from characters dots) ≡ Err 2
   two_missing opcode [] dots two b n f g = refl
   two_missing opcode (x ∷ characters) [] two b n f g = refl
   two_missing opcode (x ∷ characters) (y ∷ dots) two b n f g =
@@ -479,20 +479,20 @@ wrong_entry (Collect set) text dots b n = absurd b
 
 -- a line with the characters operand alone, or with both
 with_characters : (line characters : List ℕ) (opcode : Opcode) → TakesBoth opcode → HasFields line (name_of opcode ∷ characters ∷ [])
-    → (line_gives line ≡ Err 2) ⊎ ((dots : List ℕ) × (line_gives line ≡ as_some (entry_with opcode (characters_in characters) dots)))
+    → (line_gives line ≡ Err 2) ⊎ ((dots : List ℕ) × (line_gives line ≡ as_some (entry_of_both opcode (with_dots (characters_in characters) dots))))
 with_characters line characters opcode two h = by characters (field_at h.2.0).0 (field_of h.0 characters h.2.0 h.2.1) refl
   where
-    to : (dots : List ℕ) → (field_at h.2.0).0 ≡ dots → line_gives line ≡ as_some (entry_of_two opcode characters dots)
+    to : (dots : List ℕ) → (field_at h.2.0).0 ≡ dots → line_gives line ≡ as_some (entry_of_both opcode (both_from characters dots))
     to dots e = opcode_line line h.0 opcode h.1 ∙ ap as_some (entry_at-both opcode h.0 two ∙ operands_at opcode h.0 characters h.2.0 dots h.2.1 e)
 
     read : (cs dots : List ℕ) → IsField cs → characters ≡ cs → (field_at h.2.0).0 ≡ dots
-        → (line_gives line ≡ Err 2) ⊎ ((dots : List ℕ) × (line_gives line ≡ as_some (entry_with opcode (characters_in characters) dots)))
+        → (line_gives line ≡ Err 2) ⊎ ((dots : List ℕ) × (line_gives line ≡ as_some (entry_of_both opcode (with_dots (characters_in characters) dots))))
     read [] dots f c e = absurd f
-    read (x ∷ cs) [] f c e = inl (to [] e ∙ ap (λ (t : List ℕ). as_some (entry_of_two opcode t [])) c)
+    read (x ∷ cs) [] f c e = inl (to [] e ∙ ap (λ (t : List ℕ). as_some (entry_of_both opcode (both_from t []))) c)
     read (x ∷ cs) (y ∷ dots) f c e =
-        inr (y ∷ dots, to (y ∷ dots) e ∙ (ap (λ (t : List ℕ). as_some (entry_of_two opcode t (y ∷ dots))) c ∙ ap (λ (t : List ℕ). as_some (entry_with opcode (characters_in t) (y ∷ dots))) (sym c)))
+        inr (y ∷ dots, to (y ∷ dots) e ∙ (ap (λ (t : List ℕ). as_some (entry_of_both opcode (both_from t (y ∷ dots)))) c ∙ ap (λ (t : List ℕ). as_some (entry_of_both opcode (with_dots (characters_in t) (y ∷ dots)))) (sym c)))
 
-    by : (cs dots : List ℕ) → IsField cs → (field_at h.2.0).0 ≡ dots → (line_gives line ≡ Err 2) ⊎ ((dots : List ℕ) × (line_gives line ≡ as_some (entry_with opcode (characters_in characters) dots)))
+    by : (cs dots : List ℕ) → IsField cs → (field_at h.2.0).0 ≡ dots → (line_gives line ≡ Err 2) ⊎ ((dots : List ℕ) × (line_gives line ≡ as_some (entry_of_both opcode (with_dots (characters_in characters) dots))))
     by cs dots f e = read characters dots (field_of h.0 characters h.2.0 h.2.1) refl e
 
 two_characters_fail : (line characters : List ℕ) (opcode : Opcode) → TakesBoth opcode → HasFields line (name_of opcode ∷ characters ∷ [])
@@ -503,7 +503,7 @@ two_characters_fail line characters opcode two h n =
       | inr (dots, e) ↦ (3, e ∙ ap as_some (by dots (characters_in characters) refl), lit≤ tt)
     ]
   where
-    by : (dots : List ℕ) (o : Option (List ℕ)) → characters_in characters ≡ o → entry_with opcode o dots ≡ Err 3
+    by : (dots : List ℕ) (o : Option (List ℕ)) → characters_in characters ≡ o → entry_of_both opcode (with_dots o dots) ≡ Err 3
     by dots None e = refl
     by dots (Some text) e = wrong_entry opcode text dots two (λ a. n text a (characters_in-Spells characters text e))
 
@@ -539,7 +539,7 @@ two_dots_fail line dots opcode two h n =
     let o = by (characters_in f.0) in
     (o.0, two_give line f.0 dots opcode two f.1 ∙ ap as_some o.1, o.2)
   where
-    by : (o : Option (List ℕ)) → Fails (entry_with opcode o dots) 4
+    by : (o : Option (List ℕ)) → Fails (entry_of_both opcode (with_dots o dots)) 4
     by None = (3, refl, lit≤ tt)
     by (Some text) = dots_entry opcode text dots n
 
@@ -587,7 +587,7 @@ long_rule_large line characters text kind h s lt =
       | inl e ↦ inl (2, e, lit≤ tt)
       | inr (dots, e) ↦
           large_line line (entry_from (Replace kind) text dots)
-          (e ∙ ap (λ (o : Option (List ℕ)). as_some (entry_with (Replace kind) o dots)) (Spells-characters_in characters text s))
+          (e ∙ ap (λ (o : Option (List ℕ)). as_some (entry_of_both (Replace kind) (with_dots o dots))) (Spells-characters_in characters text s))
           (rule_large kind text (rule_in dots) lt)
     ]
 
@@ -625,9 +625,9 @@ cells_large (Collect set) text dots cells w lt = absurd w
 two_cells_large : (line dots cells : List ℕ) (opcode : Opcode) → TakesBoth opcode → HasDots line opcode dots → WritesCells opcode dots cells → most_cells < length cells → IsLargeBy line
 two_cells_large line dots cells opcode two h w lt =
     let f = both-HasDots line dots opcode two h in
-    large_line line (entry_with opcode (characters_in f.0) dots) (two_give line f.0 dots opcode two f.1) (by (characters_in f.0))
+    large_line line (entry_of_both opcode (with_dots (characters_in f.0) dots)) (two_give line f.0 dots opcode two f.1) (by (characters_in f.0))
   where
-    by : (o : Option (List ℕ)) → IsLargeEntry (entry_with opcode o dots)
+    by : (o : Option (List ℕ)) → IsLargeEntry (entry_of_both opcode (with_dots o dots))
     by None = inl (3, refl, lit≤ tt)
     by (Some text) = cells_large opcode text dots cells w lt
 

@@ -24,7 +24,7 @@ use Rattle.louis_table.specs.Steps.Characters.{only_character, only_pair, charac
 use Rattle.louis_table.specs.Steps.Opcode.{opcode_named}
 use Rattle.louis_table.specs.Steps.Fault.{cause_number}
 use Rattle.louis_table.specs.Steps.Dots.{pair_parts, pair_in, rule_in, both_of, are_many, ReadsDots, Fits, are_many_of_two, are_many_written}
-use Rattle.louis_table.specs.Steps.Line.{or_cause, entry_from, entry_with, entry_of_two, entry_of_one, entry_of_set, entry_at, both_from, both_at, with_dots, as_some, opcode_gives, fields_give, line_gives, repeats, announces, is_large, verdict_by, entry_verdict, line_verdict, judge_opcode, judge_line, FailsOperands, IsVerdict}
+use Rattle.louis_table.specs.Steps.Line.{or_cause, entry_from, entry_of_both, entry_of_one, entry_of_set, entry_at, both_at, as_some, opcode_gives, fields_give, line_gives, repeats, announces, is_large, verdict_by, entry_verdict, line_verdict, judge_opcode, judge_line, FailsOperands, IsVerdict}
 use Rattle.louis_table.specs.Steps.Read.{judge, TakesLine}
 use Rattle.louis_table.specs.declared.draft.Draft.{Draft}
 use Rattle.louis_table.proofs.EntryLaws.{TakesBoth, or_left, or_right, entry_at-both, entry_at-sign, entry_at-set, wrong_entry}
@@ -103,22 +103,8 @@ rule_untold dots f (cells, e, h) = (Some cells, rule_in-cells dots f ∙ ap (opt
 
 -- ---- two operands
 
--- the entry of both operands, or the cause that keeps them from being read
-abbrev pub then_entry : Opcode → Result (List ℕ × List ℕ) ℕ → Result Entry ℕ
-then_entry opcode (Ok both) = entry_from opcode both.0 both.1
-then_entry opcode (Err cause) = Err cause
-
-two_then : (opcode : Opcode) (characters dots : List ℕ) → entry_of_two opcode characters dots ≡ then_entry opcode (both_from characters dots)
-two_then opcode [] dots = refl
-two_then opcode (x ∷ characters) [] = refl
-two_then opcode (x ∷ characters) (y ∷ dots) = by (characters_in (x ∷ characters))
-  where
-    by : (o : Option (List ℕ)) → entry_with opcode o (y ∷ dots) ≡ then_entry opcode (with_dots o (y ∷ dots))
-    by None = refl
-    by (Some text) = refl
-
-entry_then : (opcode : Opcode) (operands : List ℕ) (both : Result (List ℕ × List ℕ) ℕ) → TakesBoth opcode → both_at operands ≡ both → entry_at opcode operands ≡ then_entry opcode both
-entry_then opcode operands both two e = entry_at-both opcode operands two ∙ (two_then opcode _ _ ∙ ap (then_entry opcode) e)
+entry_then : (opcode : Opcode) (operands : List ℕ) (both : Result (List ℕ × List ℕ) ℕ) → TakesBoth opcode → both_at operands ≡ both → entry_at opcode operands ≡ entry_of_both opcode both
+entry_then opcode operands both two e = entry_at-both opcode operands two ∙ ap (entry_of_both opcode) e
 
 judge_by : (meaning : Meaning) (opcode : Opcode) (operands : List ℕ) (read : Result Entry ℕ) → entry_at opcode operands ≡ read → judge_opcode meaning opcode operands ≡ line_verdict meaning (as_some read)
 unfolding judge_opcode

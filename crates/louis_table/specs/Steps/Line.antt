@@ -17,6 +17,23 @@ use Rattle.louis_table.specs.Steps.Fault.{cause_number}
 use Rattle.louis_table.specs.Steps.Dots.{pair_in, rule_in, are_many, are_many_written}
 use Rattle.louis_table.specs.Steps.Table.{is_known}
 
+-- ---- two operands
+
+-- the characters and the dots operand, or the cause
+abbrev pub with_dots : Option (List ℕ) → List ℕ → Result (List ℕ × List ℕ) ℕ
+with_dots None dots = Err 3
+with_dots (Some text) dots = Ok (text, dots)
+
+-- the same of the texts of two operands, either of which may be missing
+abbrev pub both_from : List ℕ → List ℕ → Result (List ℕ × List ℕ) ℕ
+both_from [] dots = Err 2
+both_from (c ∷ characters) [] = Err 2
+both_from (c ∷ characters) (d ∷ dots) = with_dots (characters_in (c ∷ characters)) (d ∷ dots)
+
+-- the same of what follows an opcode
+abbrev pub both_at : List ℕ → Result (List ℕ × List ℕ) ℕ
+both_at rest = both_from (field_at rest).0 (field_at (field_at rest).1).0
+
 -- ---- what a line gives
 
 -- the entry, or this cause where there is none
@@ -37,15 +54,10 @@ entry_from (Replace kind) text dots = or_cause 4 (option_map (λ cells. Replaces
 entry_from (Announce sign) text dots = or_cause 4 (option_map (λ cells. Announces sign cells) (cells_in dots))
 entry_from (Collect set) text dots = Err 4
 
-abbrev pub entry_with : Opcode → Option (List ℕ) → List ℕ → Result Entry ℕ
-entry_with opcode None dots = Err 3
-entry_with opcode (Some text) dots = entry_from opcode text dots
-
--- the entry of an opcode with a characters and a dots operand, either of which may be missing
-abbrev pub entry_of_two : Opcode → List ℕ → List ℕ → Result Entry ℕ
-entry_of_two opcode [] dots = Err 2
-entry_of_two opcode (c ∷ characters) [] = Err 2
-entry_of_two opcode (c ∷ characters) (d ∷ dots) = entry_with opcode (characters_in (c ∷ characters)) (d ∷ dots)
+-- the entry of both operands, or the cause that keeps them from being read
+abbrev pub entry_of_both : Opcode → Result (List ℕ × List ℕ) ℕ → Result Entry ℕ
+entry_of_both opcode (Ok both) = entry_from opcode both.0 both.1
+entry_of_both opcode (Err cause) = Err cause
 
 -- the entry of an opcode with a dots operand, which may be missing
 abbrev pub entry_of_one : Opcode → List ℕ → Result Entry ℕ
@@ -57,14 +69,11 @@ abbrev pub entry_of_set : CharacterSet → List ℕ → Result Entry ℕ
 entry_of_set set [] = Err 2
 entry_of_set set (c ∷ characters) = or_cause 3 (option_map (λ text. Collects set text) (characters_in (c ∷ characters)))
 
-abbrev pub entry_of_fields : Opcode → List ℕ → Result Entry ℕ
-entry_of_fields opcode rest = entry_of_two opcode (field_at rest).0 (field_at (field_at rest).1).0
-
 -- what the opcode and what follows it give, or the cause
 unfoldable pub entry_at : Opcode → List ℕ → Result Entry ℕ
-entry_at (Define class) rest = entry_of_fields (Define class) rest
-entry_at UpLow rest = entry_of_fields UpLow rest
-entry_at (Replace kind) rest = entry_of_fields (Replace kind) rest
+entry_at (Define class) rest = entry_of_both (Define class) (both_at rest)
+entry_at UpLow rest = entry_of_both UpLow (both_at rest)
+entry_at (Replace kind) rest = entry_of_both (Replace kind) (both_at rest)
 entry_at (Announce sign) rest = entry_of_one (Announce sign) (field_at rest).0
 entry_at (Collect set) rest = entry_of_set set (field_at rest).0
 
@@ -152,19 +161,6 @@ abbrev pub IsVerdict : Result Given LineFault → Result (Option Entry) ℕ → 
 IsVerdict (Ok given) verdict = verdict ≡ Ok (entry_in given)
 IsVerdict (Err (line_faults.Bad cause)) verdict = verdict ≡ Err (cause_number cause)
 IsVerdict (Err line_faults.NoMemory) verdict = Unit {0}
-
--- the characters and the dots operand, or the cause
-abbrev pub with_dots : Option (List ℕ) → List ℕ → Result (List ℕ × List ℕ) ℕ
-with_dots None dots = Err 3
-with_dots (Some text) dots = Ok (text, dots)
-
-abbrev pub both_from : List ℕ → List ℕ → Result (List ℕ × List ℕ) ℕ
-both_from [] dots = Err 2
-both_from (c ∷ characters) [] = Err 2
-both_from (c ∷ characters) (d ∷ dots) = with_dots (characters_in (c ∷ characters)) (d ∷ dots)
-
-abbrev pub both_at : List ℕ → Result (List ℕ × List ℕ) ℕ
-both_at rest = both_from (field_at rest).0 (field_at (field_at rest).1).0
 
 -- the cause that keeps two operands from being read, unless an allocation failed
 abbrev pub FailsOperands : Result (List ℕ × List ℕ) ℕ → LineFault → Type 0
