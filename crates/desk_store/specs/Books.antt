@@ -1,5 +1,5 @@
 -- The book of a file: what a connection shows of it, what a crash leaves, and the book once a change is kept.
-use Rattle.std.specs.Prelude.{◌≡◌, ◌⊎◌, Bool, true, refl}
+use Rattle.std.specs.Prelude.{◌≡◌, ◌⊎◌, Bool, true, List, map, refl}
 use Rattle.std.specs.Coded.{Coded, code_by, coded×, coded_bool}
 use Rattle.std.specs.List.{AllByRecursion}
 use Rattle.sqlite_trees.specs.declared.store.Store.{Ghosts}
@@ -19,8 +19,9 @@ use Rattle.desk_rows.specs.Failing.{FailsToPut, of_items}
 use Rattle.desk_rows.specs.Fault.{CountsLoss}
 use Rattle.desk_rows.specs.Layout.{Layout}
 use Rattle.desk_rows.specs.Making.{new_tables}
+use Rattle.desk_rows.specs.Puts.{statement}
 use Rattle.desk_rows.specs.States.{IsFile, Shows}
-use Rattle.desk_rows.specs.Turns.{begun}
+use Rattle.desk_rows.specs.Turns.{Statement, begun}
 
 -- ---- the book of a file
 
@@ -63,6 +64,10 @@ pub record IsKept (l : Layout) (book : Book) (s : State) : Type 0 where
 -- the trees hold the next book, of whatever file the connection showed in which the change may be kept
 abbrev pub HoldsKept : Book → Change → State → Trees → Type 0
 HoldsKept book change s db = (l : Layout) (next : Book) → MayKeep l book change next s → HoldsBook l next db
+
+-- the statements of what this change puts, in their order
+abbrev pub statements_of : Book → Change → List Statement
+statements_of book change = map statement (change_puts book change)
 
 -- Why a change isn't kept: the database answered the error to one of the statements of what this change puts, once
 -- those before it had run in turn, or to the commit, or an allocation for a put failed. What was lost is counted, or

@@ -2,8 +2,9 @@
 
 ghost use Rattle.std.specs.Prelude.{◌≡◌, false, true, IfErr, IsErr, IsTrue, OnErr, OnOk};
 ghost use Rattle.desk_book.specs.Changes.{Carries};
-ghost use Rattle.desk_store.specs.Books.{FailsToKeep, HoldsKept, IsKept, LeavesBook, LeavesEither, MayKeep, shown_by};
+ghost use Rattle.desk_store.specs.Books.{FailsToKeep, HoldsKept, IsKept, LeavesBook, LeavesEither, MayKeep, shown_by, statements_of};
 ghost use Rattle.desk_rows.specs.Layout.{Layout};
+ghost use Rattle.desk_rows.specs.Turns.{AreRun, IsLeftBy};
 ghost use Rattle.sqlite.specs.Held.{state};
 ghost use Rattle.sqlite.specs.State.{HasCleanDisk, Survives};
 
@@ -56,6 +57,10 @@ fn put_change<S: Alter>(
         → OnOk result (IsKept l next (state S.Store conn.new)) }
     ensures survives { Survives (state S.Store conn.old) (state S.Store conn.new)
         (HoldsKept book.now change.now (state S.Store conn.old)) }
+    ensures ran { HasCleanDisk (state S.Store conn.new)
+        → OnOk result (AreRun S.Store (statements_of book.now change.now) conn.old (state S.Store conn.new)) }
+    ensures left { Survives (state S.Store conn.old) (state S.Store conn.new)
+        (λ db. IsLeftBy S.Store (statements_of book.now change.now) conn.old db) }
     ensures told { HasCleanDisk (state S.Store conn.new)
         → IfErr result (FailsToKeep S.Store book.now change.now conn.old (state S.Store conn.new)) }
 {
@@ -95,6 +100,13 @@ impl<S: Alter> Store<S> {
         // Nothing is committed but the change.
         ensures survives { Survives (shown_by S.Store self.old) (shown_by S.Store self.new)
             (HoldsKept book.now change.now (shown_by S.Store self.old)) }
+        // In any file the statements of what this change puts ran in turn, as one transaction, and no others: at `Ok` the
+        // connection shows what they made of it, and at any exit a crash leaves nothing else new.
+        ensures ran { HasCleanDisk (shown_by S.Store self.new)
+            → OnOk result (AreRun S.Store (statements_of book.now change.now)
+            self.old.connection (shown_by S.Store self.new)) }
+        ensures left { Survives (shown_by S.Store self.old) (shown_by S.Store self.new)
+            (λ db. IsLeftBy S.Store (statements_of book.now change.now) self.old.connection db) }
         // The first loss has a cause: the database answered an error to one of the statements of what this change puts, or to
         // the commit, or an allocation failed. That this isn't reported without one is shown by tests.
         ensures told { HasCleanDisk (shown_by S.Store self.new) → self.old.lost ≡ false

@@ -1,10 +1,10 @@
-use Rattle.std.proofs.Common.{List, subst}
+use Rattle.std.proofs.Common.{List, map, subst, ◌∙◌}
 use Rattle.sqlite.specs.Held.{state}
 use Rattle.sqlite.proofs.StateLemmas.{survives_weaker}
 use Rattle.desk_parts.specs.Puts.{LendsFirst, RowPut}
 use Rattle.desk_rows.specs.Failing.{FailsToPut, of_items}
-use Rattle.desk_rows.specs.Puts.{IsFileWith, Writes}
-use Rattle.desk_rows.specs.Turns.{begun}
+use Rattle.desk_rows.specs.Puts.{IsFileWith, Writes, statement}
+use Rattle.desk_rows.specs.Turns.{AreRun, IsLeftBy, begun}
 use Rattle.desk_store.proofs.BookKeeps.{holds_next, is_kept}
 use Rattle.desk_rows.proofs.LentPuts.{all_lent}
 use Rattle.desk_rows.proofs.Both.{if_err_both, on_ok_both}
@@ -29,6 +29,21 @@ returns-clause-survives g c =
     survives_weaker old new _ _ (λ clean db left l next may.
     let file = subst (λ (xs : List RowPut). IsFileWith xs old db) (all_lent puts left.0 left.1) left.2.0 in
     holds_next l may.tables puts c.args.book.now next (c.puts.ensures.leads may.leads.0 next may.leads.1) old db file may.shows)
+    c.write.ensures.crash
+
+pub returns-clause-ran : goal.returns-clause-ran
+returns-clause-ran g c clean =
+    let new = state g.S.Store c.write.new.conn in
+    let ran = c.write.ensures.ran clean in
+    on_ok_both c.write.result _ _ _ (λ turns _.
+    subst (λ (xs : List RowPut). AreRun g.S.Store (map statement xs) c.args.conn.now new)
+    (all_lent c.puts.result turns.0 turns.1 ∙ c.puts.ensures.these) turns.2) ran ran
+
+pub returns-clause-left : goal.returns-clause-left
+returns-clause-left g c =
+    survives_weaker (state g.S.Store c.args.conn.now) (state g.S.Store c.write.new.conn) _ _ (λ clean db left.
+    subst (λ (xs : List RowPut). IsLeftBy g.S.Store (map statement xs) c.args.conn.now db)
+    (all_lent c.puts.result left.0 left.1 ∙ c.puts.ensures.these) left.2.1)
     c.write.ensures.crash
 
 pub returns-clause-told : goal.returns-clause-told
