@@ -1,6 +1,5 @@
 -- Lines that are ended by line feeds, counted by them.
 use Rattle.std.proofs.Common.{◌≡◌, ◌≢◌, ◌⊎◌, ℕ, zero, suc, ◌+◌, ◌<◌, ◌≤◌, Bool, true, false, cond, eqb, List, [], ◌∷◌, ◌++◌, length, refl, sym, ap, ◌∙◌, inl, inr, arith}
-use Rattle.std.specs.Prelude.{map}
 use Rattle.std.specs.List.{onto_first}
 use Rattle.std.specs.Io.BufRead.{strip_last}
 use Rattle.std.proofs.lemmas.Bool.{cases_Bool, eqb-true}

@@ -1,9 +1,9 @@
 -- A session over its ends and its file, turn by turn.
-use Rattle.std.proofs.Common.{◌≡◌, ◌≢◌, ◌⊎◌, ℕ, ◌+◌, ◌-◌, ◌^◌, ◌<◌, ◌≤◌, Bool, true, false, List, [], ◌∷◌, ◌++◌, length, Option, None, Some, Ok, Err, refl, sym, ap, subst, ◌∙◌, inl, inr, arith}
+use Rattle.std.proofs.Common.{◌≡◌, ◌≢◌, ◌⊎◌, ℕ, ◌<◌, ◌≤◌, Bool, true, false, List, [], ◌∷◌, ◌++◌, length, Option, None, Some, Ok, Err, refl, sym, ap, subst, ◌∙◌, inl, inr, arith}
 use Rattle.std.specs.Io.KnownBytes.{Appends, IsAtEnd}
 use Rattle.std.specs.List.{AllByRecursion}
 use Rattle.std.proofs.KnownBytes.{Appends-nil, Appends-trans}
-use Rattle.std.proofs.lemmas.List.{append-nil, length-append, map-append}
+use Rattle.std.proofs.lemmas.List.{append-nil, map-append}
 use Rattle.sqlite_trees.specs.Tree.{Trees}
 use Rattle.sqlite.specs.State.{HasCleanDisk, State}
 use Rattle.desk_command.specs.declared.command.Command.{Command}
@@ -12,7 +12,7 @@ use Rattle.desk_model.specs.Book.{Book}
 use Rattle.desk_model.proofs.Callers.{After-append}
 use Rattle.desk_ends.specs.declared.ends.Failed.{Failed}
 use Rattle.desk_ends.specs.Ends.{IsFlushed}
-use Rattle.desk_ends.specs.Input.{Input, KnowsEnd, Used, unread}
+use Rattle.desk_ends.specs.Input.{Input, Used, unread}
 use Rattle.desk_ends.specs.Limits.{most_input}
 use Rattle.desk_ends.proofs.UsedInput.{Used-none, Used-then, left_to_use, left_to_use-fewer, no-parts, unread-knows}
 use Rattle.desk_line.specs.declared.answer.Answer.{Answer}
