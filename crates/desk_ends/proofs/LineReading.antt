@@ -1,6 +1,5 @@
 -- A line that is read in parts.
-use Rattle.std.proofs.Common.{◌≡◌, ℕ, Bool, true, false, List, [], ◌++◌, Option, Some, Result, Ok, Err, sym, ap, subst, ◌∙◌}
-use Rattle.std.proofs.lemmas.List.{append-nil}
+use Rattle.std.proofs.Common.{◌≡◌, ℕ, Bool, true, false, List, [], ◌++◌, Option, Some, Result, Ok, Err, ap, subst, ◌∙◌}
 use Rattle.desk_ends.specs.declared.ends.Failed.{Failed}
 use Rattle.desk_ends.specs.Input.{FillsInput, Input, PassesLine, ReadsLine, Used}
 use Rattle.desk_ends.specs.Lines.{HasNoFeed, extended, kept}

@@ -1,5 +1,5 @@
 -- What is left at the end of an input, and what goes out of it.
-use Rattle.std.proofs.Common.{◌≡◌, ◌≢◌, ℕ, Bool, true, List, [], ◌∷◌, ◌++◌, refl, sym, subst, inr}
+use Rattle.std.proofs.Common.{◌≡◌, ◌≢◌, ℕ, Bool, true, List, [], ◌∷◌, refl, sym, subst, inr}
 use Rattle.std.proofs.KnownBytes.{Appends-nil}
 use Rattle.louis_table.specs.Meaning.{Meaning}
 use Rattle.desk_ends.specs.Lines.{HasNoFeed, without_ending}

@@ -1,6 +1,5 @@
 use Rattle.std.proofs.Common.{◌≡◌, ◌++◌, ◌∷◌, List, [], is_ok, refl, sym, ap, ◌∙◌, append_assoc}
 use Rattle.std.proofs.lemmas.Result.{err_from_is_err_and}
-use Rattle.louis_translate.specs.declared.choices.Choice.{Choice}
 use Rattle.louis_translate.specs.Items.{Made}
 use Rattle.desk_ends.proofs.Sending.{Sending-done, Sending-none}
 use Rattle.desk_translate.proofs.Putting.{Sending-cell, Sending-no_cell, lone}

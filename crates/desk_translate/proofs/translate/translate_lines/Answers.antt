@@ -1,4 +1,4 @@
-use Rattle.std.proofs.Common.{◌≡◌, ◌∙◌, Ok, Err, not, false, true, is_ok, ap}
+use Rattle.std.proofs.Common.{◌≡◌, ◌∙◌, Ok, not, false, true, is_ok, ap}
 use Rattle.desk_ends.specs.Lines.{without_ending}
 use Rattle.desk_ends.proofs.Sending.{at_ok}
 use Rattle.desk_translate.proofs.Answering.{answer_to, is-answer}

@@ -1,4 +1,4 @@
-use Rattle.std.proofs.Common.{◌≡◌, ◌∙◌, sym, ap}
+use Rattle.std.proofs.Common.{◌∙◌, sym, ap}
 use Rattle.std.proofs.lemmas.Bool.{both_ways}
 use Rattle.desk_ends.specs.Lines.{kept}
 use Rattle.desk_ends.proofs.OneLine.{kept-some}

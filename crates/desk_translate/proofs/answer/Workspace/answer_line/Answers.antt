@@ -1,4 +1,4 @@
-use Rattle.std.proofs.Common.{◌≡◌, ◌∙◌, sym}
+use Rattle.std.proofs.Common.{◌≡◌, ◌∙◌}
 use Rattle.desk_ends.proofs.OneLine.{kept-some, long-line}
 use Rattle.desk_translate.proofs.Answering.{long_answer}
 use Rattle.desk_translate.proofs.answer.Workspace.answer_line.Goals as goal
