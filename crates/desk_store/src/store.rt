@@ -42,12 +42,12 @@ impl<S: Alter> Model for Store<S> {
 }
 
 /// Puts what a change lends, as one transaction. The caller's conditions: no transaction is open, and the change was planned
-/// on the book.
-fn put_change<S: Alter>(
+/// on the book. What is put is lent from both.
+fn put_change<'a, S: Alter>(
     alloc: Global,
     conn: &mut Connection<S>,
-    book: &Book,
-    change: &Change,
+    book: &'a Book,
+    change: &'a Change,
 ) -> Result<(), DatabaseError>
     requires idle { conn.old.in_transaction ≡ false }
     requires planned { (command : _) × (next : _) × Carries book.now command next change.now }
