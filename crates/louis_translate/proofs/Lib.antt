@@ -8,7 +8,9 @@ pub mod Best
 pub mod Trees
 pub mod Searches
 pub mod Starts
+pub mod CodeLists
 pub mod LoneCells
+pub mod KnownCharacters
 pub mod LonePieces
 pub mod Spans
 pub mod Characters

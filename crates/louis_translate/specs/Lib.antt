@@ -1,5 +1,8 @@
 pub mod Position
 pub mod Sign
+pub mod LoneCell
+pub mod Known
+pub mod Covering
 pub mod Choice
 pub mod Tree
 pub mod Search

@@ -25,6 +25,7 @@ mod choices;
 mod counterpart;
 mod covering;
 mod indexed_table;
+mod known_characters;
 pub mod laws;
 mod lone_cells;
 mod pieces;

@@ -28,12 +28,12 @@ pub enum Fault {
 pub fn is_defined<B: RuleBook>(book: &B, character: char) -> bool
     ensures { result ≡ is_some (definition_of (B.meaning book.now) character) }
 {
-    book.lone_cell(character).is_some() || defines(book.table(), character)
+    book.knows(character) || defines(book.table(), character)
 }
 
 /// Whether a table defines a character.
 #[inline(always)]
-fn defines(table: &Table, character: char) -> bool
+pub(crate) fn defines(table: &Table, character: char) -> bool
     ensures { result ≡ is_some (definition_of table.now character) }
 {
     table.definition(character).is_some()

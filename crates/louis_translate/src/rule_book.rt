@@ -4,13 +4,13 @@ use louis_table::Table;
 
 /// A table, and which of its rules is chosen at each place of a print.
 pub trait RuleBook {
-    ghost use Rattle.louis_table.specs.Meaning.{Meaning};
+    ghost use Rattle.louis_table.specs.Meaning.{Meaning, definition_of};
     ghost use Rattle.louis_translate.specs.Choice.{IsChosen};
     ghost use Rattle.louis_translate.specs.Piece.{IsLoneCell};
     ghost use Rattle.louis_translate.specs.Position.{AreDefined};
     ghost use Rattle.std.specs.Bool.{OnTrue};
     ghost use Rattle.std.specs.Option.{option_copied};
-    ghost use Rattle.std.specs.Prelude.{◌≡◌, ◌<◌, IfSome, None, length};
+    ghost use Rattle.std.specs.Prelude.{◌≡◌, ◌<◌, IfSome, IsSome, None, length};
 
     ghost meaning: { Self → Meaning };
 
@@ -23,6 +23,15 @@ pub trait RuleBook {
         requires defined { AreDefined (meaning self.now) print.now }
         requires within { at < length print.now }
         ensures { IsChosen (meaning self.now) print.now at result };
+
+    /// Whether it is seen at once that the table defines a character. `false` says nothing. A book that knows none is only
+    /// slower.
+    #[inline(always)]
+    fn knows(&self, _character: char) -> bool
+        ensures { OnTrue result (IsSome (definition_of (meaning self.now) _character)) }
+    {
+        false
+    }
 
     /// The one cell of a character that is neither a digit nor a capital, or `None` if it has more, or the book doesn't
     /// know it at once: wherever the definition of the character is chosen, and no number reaches it, this cell is all

@@ -6,6 +6,7 @@ ghost use Rattle.std.specs.Bool.{OnTrue};
 ghost use Rattle.std.specs.Prelude.{◌≡◌, ◌<◌, ◌*◌, None, length};
 
 use super::indexed_table::IndexedTable;
+use super::known_characters::KnownCharacters;
 use super::lone_cells::LoneCells;
 use super::rule_book::RuleBook;
 use super::start::{Start, make_starts, start_at};
@@ -21,12 +22,14 @@ pub struct RuleIndex {
     index: IndexedTable,
     // where walks begin
     starts: Vec<Start>,
+    known: KnownCharacters,
     lone_cells: LoneCells,
 }
 
 impl Model for RuleIndex {
     ghost use Rattle.louis_table.specs.Meaning.{Meaning};
-    ghost use Rattle.louis_translate.specs.Piece.{AreLoneCells};
+    ghost use Rattle.louis_translate.specs.Known.{AreKnown};
+    ghost use Rattle.louis_translate.specs.LoneCell.{AreLoneCells};
     ghost use Rattle.louis_translate.specs.Search.{IsWhole};
     ghost use Rattle.louis_translate.specs.Start.{AreAll, AreStarts};
 
@@ -35,7 +38,8 @@ impl Model for RuleIndex {
     ghost view = { λ r. r.index.table };
 
     ghost invariant = { λ r. IsWhole r.index × AreStarts r.index.table r.index.tree r.starts.items
-        × AreAll r.index.table r.starts.items × AreLoneCells r.index.table r.lone_cells };
+        × AreAll r.index.table r.starts.items × AreLoneCells r.index.table r.lone_cells
+        × AreKnown r.index.table r.known };
 }
 
 // Written out, as the drop of a table is.
@@ -44,6 +48,7 @@ impl Drop for RuleIndex {
         let RuleIndex {
             index: _,
             starts: _,
+            known: _,
             lone_cells: _,
         } = self;
     }
@@ -58,10 +63,12 @@ impl RuleIndex {
     {
         let index = IndexedTable::new(alloc, table)?;
         let starts = make_starts(alloc, &index)?;
+        let known = KnownCharacters::new(&index.table);
         let lone_cells = LoneCells::new(&index.table);
         Ok(RuleIndex {
             index,
             starts,
+            known,
             lone_cells,
         })
     }
@@ -148,6 +155,11 @@ impl RuleBook for RuleIndex {
             return true;
         }
         begins_nowhere(&self.index, self.starts.as_slice(), print, at)
+    }
+
+    #[inline(always)]
+    fn knows(&self, character: char) -> bool {
+        self.known.has(character)
     }
 
     #[inline(always)]
