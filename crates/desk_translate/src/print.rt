@@ -1,6 +1,8 @@
 //! The print of the line that is being answered.
 ghost use Rattle.desk_translate.specs.Refusal.{FindsUndefined};
 ghost use Rattle.desk_translate.specs.Reply.{most_characters};
+ghost use Rattle.louis_translate.specs.Position.{AreDefined};
+ghost use Rattle.std.specs.Bool.{OnTrue};
 ghost use Rattle.std.specs.Prelude.{IfOk, List, OnErr, OnOk, [], length, ◌++◌, ◌<◌, ◌≡◌, ◌≤◌, ◌∷◌, ℕ};
 ghost use Rattle.std.specs.Str.{IsAscii, chars};
 
@@ -139,7 +141,22 @@ fn first_undefined<B: RuleBook>(book: &B, print: &[char]) -> Option<usize>
 fn first_undefined_byte<B: RuleBook>(book: &B, bytes: &[u8]) -> Option<usize>
     ensures { FindsUndefined (B.meaning book.now) bytes.now result }
 {
+    if knows_all(book, bytes) {
+        return None;
+    }
     bytes
         .iter()
         .position(|byte| !is_defined(book, char::from(*byte)))
+}
+
+/// Whether it is seen at once that the table of a book defines each byte, as a character. It doesn't stop at one of which that
+/// isn't seen, so that many bytes are looked at with one test.
+fn knows_all<B: RuleBook>(book: &B, bytes: &[u8]) -> bool
+    ensures { OnTrue result (AreDefined (B.meaning book.now) bytes.now) }
+{
+    let mut known = true;
+    for byte in bytes {
+        known &= book.knows(char::from(*byte));
+    }
+    known
 }
