@@ -3,6 +3,8 @@ pub mod Encoding
 pub mod Numerals
 pub mod OneLine
 pub mod ManyLines
+pub mod LineFeeds
+pub mod FirstLine
 pub mod UsedInput
 pub mod WaitingBytes
 pub mod LineReading

@@ -1,5 +1,5 @@
 -- A line as it is read: its line feed, its ending, and what is kept of it. Which lines some bytes have, `louis_table` says.
-use Rattle.std.specs.Prelude.{◌≡◌, ◌⊎◌, ℕ, ◌+◌, ◌==◌, false, if◌then◌else◌, nat_le, List, [], ◌∷◌, ◌++◌, length, Option, Some, None}
+use Rattle.std.specs.Prelude.{◌≡◌, ◌⊎◌, ℕ, suc, ◌+◌, ◌==◌, false, if◌then◌else◌, nat_le, List, [], ◌∷◌, ◌++◌, length, Option, Some, None}
 use Rattle.std.specs.Io.BufRead.{strip_last}
 use Rattle.std.specs.List.{AllByRecursion}
 use Rattle.desk_ends.specs.Limits.{most_line_bytes}
@@ -7,6 +7,11 @@ use Rattle.desk_ends.specs.Limits.{most_line_bytes}
 -- no byte is a line feed
 abbrev pub HasNoFeed : List ℕ → Type 0
 HasNoFeed bytes = AllByRecursion (λ b. (b == 10) ≡ false) bytes
+
+-- how many line feeds are among the bytes
+abbrev pub feeds : List ℕ → ℕ
+feeds [] = 0
+feeds (b ∷ bytes) = if b == 10 then suc (feeds bytes) else feeds bytes
 
 -- a line, with its line feed
 abbrev pub IsFed : List ℕ → Type 0

@@ -1,12 +1,11 @@
 //! The bytes that were read from a source and not used yet.
 ghost use Rattle.desk_ends.specs.Input.{Passes};
 ghost use Rattle.std.specs.Io.KnownBytes.{Consumes, IsAtEnd, Keeps};
-ghost use Rattle.std.specs.Prelude.{EachIndex, IsTrue, List, MatchOption, MatchResult, [], length, slice_index, take, drop, ◌++◌, ◌+◌, ◌<◌, ◌≡◌, ◌≢◌, ◌≤◌, ◌↔◌, ◌∷◌, ℕ};
+ghost use Rattle.std.specs.Prelude.{MatchResult, [], length, ◌≡◌, ◌≤◌};
 
 use super::ends::{Failed, Source};
 use super::limits::CHUNK_BYTES;
-use super::line::Line;
-use memchr::memchr;
+use super::line::{Line, feed_in};
 use std::marker::Model;
 
 /// Bytes that were read and not used yet, at most `CHUNK_BYTES` of them. Contracts see their list.
@@ -26,16 +25,6 @@ impl Model for Chunk {
     ghost view = { λ c. drop c.from (take c.to c.bytes) };
 
     ghost invariant = { λ c. (c.from ≤ c.to) × (c.to ≤ CHUNK_BYTES) };
-}
-
-/// The place of the first line feed, if there is one.
-fn feed_in(bytes: &[u8]) -> Option<usize>
-    ensures { MatchOption result (EachIndex bytes.now (λ k. slice_index bytes.now k ≢ 10))
-        (λ end. (end < length bytes.now)
-        × EachIndex (take end bytes.now) (λ k. slice_index (take end bytes.now) k ≢ 10)
-        × (bytes.now ≡ take end bytes.now ++ 10 ∷ drop (end + 1) bytes.now)) }
-{
-    memchr(b'\n', bytes)
 }
 
 impl Chunk {

@@ -29,5 +29,5 @@ pub use cells::{put_cell, put_cells, send_block};
 pub use ends::{Failed, Memory, Sink, Source};
 pub use input::Input;
 pub use limits::{CHUNK_BYTES, MOST_INPUT, MOST_LINE_BYTES};
-pub use line::{Line, without_ending, without_return};
+pub use line::{Line, split_line, without_ending};
 pub use texts::{send, send_parts};

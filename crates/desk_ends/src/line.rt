@@ -1,10 +1,12 @@
 //! The line that is being read.
 ghost use Rattle.desk_ends.specs.Lines.{extended, without_ending};
 ghost use Rattle.std.specs.Io.BufRead.{strip_last};
+ghost use Rattle.std.specs.List.{after_first, before_first};
 ghost use Rattle.std.specs.Option.{option_copied};
-ghost use Rattle.std.specs.Prelude.{IsSome, IsTrue, Some, [], ◌≡◌, ◌↔◌};
+ghost use Rattle.std.specs.Prelude.{EachIndex, IsSome, IsTrue, MatchOption, Some, [], drop, length, slice_index, take, ◌++◌, ◌+◌, ◌<◌, ◌==◌, ◌≡◌, ◌≢◌, ◌↔◌, ◌∷◌};
 
 use super::limits::MOST_LINE_BYTES;
+use memchr::memchr;
 use std::marker::Model;
 
 /// Two bytes more than a line may have, for a carriage return and a line feed at its end.
@@ -89,6 +91,27 @@ impl Line {
     }
 }
 
+/// The place of the first line feed, if there is one.
+pub(crate) fn feed_in(bytes: &[u8]) -> Option<usize>
+    ensures { MatchOption result (EachIndex bytes.now (λ k. slice_index bytes.now k ≢ 10))
+        (λ end. (end < length bytes.now)
+        × EachIndex (take end bytes.now) (λ k. slice_index (take end bytes.now) k ≢ 10)
+        × (bytes.now ≡ take end bytes.now ++ 10 ∷ drop (end + 1) bytes.now)) }
+{
+    memchr(b'\n', bytes)
+}
+
+/// The first line of bytes without its ending, and the bytes after it. Without a line feed they are all of that line.
+pub fn split_line(bytes: &[u8]) -> (&[u8], &[u8])
+    ensures line { result.0.now ≡ strip_last 13 (before_first (λ b. b == 10) bytes.now) }
+    ensures rest { result.1.now ≡ after_first (λ b. b == 10) bytes.now }
+{
+    match feed_in(bytes) {
+        Some(end) => (without_return(&bytes[..end]), &bytes[end + 1..]),
+        None => (without_return(bytes), &[]),
+    }
+}
+
 /// A line without its ending: one line feed, and one carriage return before it.
 pub fn without_ending(line: &[u8]) -> &[u8]
     ensures { result.now ≡ without_ending line.now }
@@ -107,7 +130,7 @@ fn without_feed(bytes: &[u8]) -> &[u8]
 }
 
 /// Bytes without one carriage return at their end.
-pub fn without_return(bytes: &[u8]) -> &[u8]
+fn without_return(bytes: &[u8]) -> &[u8]
     ensures { result.now ≡ strip_last 13 bytes.now }
 {
     match bytes {

@@ -10,8 +10,9 @@ use Rattle.desk_line.specs.Lines.{after_first_line}
 use Rattle.desk_line.specs.Request.{IsLast, IsRequestBefore, IsWhole, Requests, Takes, WholeRequests, last, block_lines, said, unsaid, whole}
 use Rattle.desk_line.proofs.HeadLaws.{head-found}
 use Rattle.desk_line.proofs.HeadLines.{some-is}
+use Rattle.desk_ends.specs.Lines.{feeds}
+use Rattle.desk_ends.proofs.LineFeeds.{begins, feeds-append, lines-fed, lines-few, no-lines, same-front}
 use Rattle.desk_ends.proofs.ManyLines.{fed, fed-some, lines-then}
-use Rattle.desk_line.proofs.LineFeeds.{begins, feeds, feeds-append, lines-fed, lines-few, no-lines, same-front}
 use Rattle.desk_line.proofs.RequestLaws.{heads-same, some-lines, tails-same, takes-none, takes-some}
 
 -- ---- what a head line takes

@@ -7,7 +7,6 @@ pub mod FieldParts
 pub mod DirectiveLaws
 pub mod QueryLaws
 pub mod HeadLaws
-pub mod LineFeeds
 pub mod LineLists
 pub mod OperandLaws
 pub mod RequestLaws

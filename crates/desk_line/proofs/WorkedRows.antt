@@ -27,7 +27,8 @@ use Rattle.desk_line.specs.Reply.{IsReply, entry_line, listed, mark_line, no_par
 use Rattle.desk_line.specs.Request.{IsWhole, Reads, Requests, Takes, WholeRequests, last, said, unsaid, whole}
 use Rattle.desk_line.proofs.HeadLines.{head-of-long, head-of-text}
 use Rattle.desk_line.proofs.HeadLaws.{head-found}
-use Rattle.desk_line.proofs.LineFeeds.{feeds, feeds-append}
+use Rattle.desk_ends.specs.Lines.{feeds}
+use Rattle.desk_ends.proofs.LineFeeds.{feeds-append}
 use Rattle.desk_line.proofs.RequestLaws.{heads-same}
 
 -- ---- lines

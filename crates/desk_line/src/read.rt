@@ -1,10 +1,8 @@
 //! Reads requests.
-ghost use Rattle.desk_line.specs.Lines.{after_first_line};
-ghost use Rattle.desk_line.specs.Reading.{Gives, are_lines, head_line, request_in};
+ghost use Rattle.desk_line.specs.Reading.{Gives, are_lines, request_in};
 ghost use Rattle.desk_line.specs.Request.{HasText, Reads, Takes, Tells, command_of, correction_of, mark_of, request_of};
 ghost use Rattle.louis_table.specs.Lines.{lines_of};
-ghost use Rattle.std.specs.List.{after_first, before_first, position_or_len};
-ghost use Rattle.std.specs.Prelude.{◌==◌, ◌≡◌, ◌≤◌, IfOk, MatchResult, OnErr, Some, length};
+ghost use Rattle.std.specs.Prelude.{◌≡◌, IfOk, MatchResult, OnErr, Some};
 ghost use Rattle.std.specs.Str.{chars};
 
 use super::directive::{Directive, SpanText};
@@ -13,7 +11,7 @@ use super::fields::Field;
 use super::head::{Head, block_lines, read_head};
 use super::request::Request;
 use desk_command::{Anchor, Bytes, Command, Text};
-use desk_ends::{MOST_LINE_BYTES, without_return};
+use desk_ends::{MOST_LINE_BYTES, split_line};
 use louis_table::EN;
 use std::alloc::{AllocError, Global};
 
@@ -47,38 +45,13 @@ fn read(alloc: Global, bytes: &[u8]) -> Result<Request, Fault>
     ensures { Gives result (request_in bytes.now) }
 {
     let (line, text) = split_line(bytes);
-    let Some(head) = read_head(without_return(line)) else {
+    let Some(head) = read_head(line) else {
         return Err(Fault::Syntax);
     };
     if !are_lines(text, block_lines(&head)) {
         return Err(Fault::Syntax);
     }
     make_request(alloc, head, text)
-}
-
-/// How many bytes stand before the first line feed, or in all.
-fn line_len(bytes: &[u8]) -> usize
-    ensures within { result ≤ length bytes.now }
-    ensures value { result ≡ position_or_len (λ b. b == 10) bytes.now }
-{
-    for (i, byte) in bytes.iter().enumerate() {
-        if *byte == b'\n' {
-            return i;
-        }
-    }
-    bytes.len()
-}
-
-/// What stands before the first line feed, and what follows it.
-fn split_line(bytes: &[u8]) -> (&[u8], &[u8])
-    ensures line { result.0.now ≡ before_first (λ b. b == 10) bytes.now }
-    ensures rest { result.1.now ≡ after_first (λ b. b == 10) bytes.now }
-{
-    let len = line_len(bytes);
-    if len == bytes.len() {
-        return (bytes, &[]);
-    }
-    (&bytes[..len], &bytes[len + 1..])
 }
 
 /// Whether the bytes are this many lines, none of them too long.
@@ -92,7 +65,7 @@ fn are_lines(bytes: &[u8], count: u64) -> bool
             return false;
         }
         let (line, later) = split_line(rest);
-        if without_return(line).len() > MOST_LINE_BYTES {
+        if line.len() > MOST_LINE_BYTES {
             return false;
         }
         left -= 1;

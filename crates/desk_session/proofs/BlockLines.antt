@@ -1,40 +1,11 @@
--- The lines of a block: their line feeds, and whether they are short.
-use Rattle.std.proofs.Common.{◌≡◌, ◌≢◌, ℕ, suc, ◌+◌, eqb, List, [], ◌∷◌, ◌++◌, length, None, refl, sym, ap, subst, ◌∙◌, inl, inr, arith}
+-- The lines of a block, and whether they are short.
+use Rattle.std.proofs.Common.{◌≡◌, ◌≢◌, ℕ, List, [], ◌∷◌, ◌++◌, length, None, sym, ap, subst, ◌∙◌, arith}
 use Rattle.std.specs.List.{AllByRecursion}
-use Rattle.std.proofs.lemmas.Bool.{cases_Bool}
 use Rattle.louis_table.specs.Lines.{lines_of}
-use Rattle.desk_ends.specs.Lines.{EndsLine, HasNoFeed, IsFed, IsLine, kept, without_ending}
+use Rattle.desk_ends.specs.Lines.{EndsLine, IsLine, kept, without_ending}
 use Rattle.desk_ends.proofs.ManyLines.{lines-then}
 use Rattle.desk_ends.proofs.OneLine.{kept-none, long-line, one-line}
 use Rattle.desk_line.specs.Lines.{IsShort}
-use Rattle.desk_line.proofs.LineFeeds.{feeds as line_feeds}
-use Rattle.desk_session.specs.Reading.{feeds}
-
--- ---- line feeds
-
-pub no-feeds : (bytes : List ℕ) → HasNoFeed bytes → feeds bytes ≡ 0
-no-feeds [] none = refl
-no-feeds (b ∷ bytes) none = rw none.0 (no-feeds bytes none.1)
-
-pub same-feeds : (bytes : List ℕ) → feeds bytes ≡ line_feeds bytes
-same-feeds [] = refl
-same-feeds (b ∷ bytes) =
-    let h = same-feeds bytes in
-    elim (cases_Bool (eqb b 10)) [ inl e ↦ rw e (ap suc h) | inr e ↦ rw e h ]
-
-pub feeds-append : (these those : List ℕ) → feeds (these ++ those) ≡ feeds these + feeds those
-feeds-append [] those = omega arith
-feeds-append (b ∷ these) those =
-    let h = feeds-append these those in
-    elim (cases_Bool (eqb b 10)) [ inl e ↦ rw e (omega arith) | inr e ↦ rw e h ]
-
-pub fed-feeds : (bytes : List ℕ) → IsFed bytes → feeds bytes ≡ 1
-fed-feeds bytes (front, is, none) =
-    let h = feeds-append front (10 ∷ []) in
-    let n = no-feeds front none in
-    ap feeds is ∙ omega arith
-
--- ---- lines that are short
 
 short-parts : (these those : List (List ℕ)) → AllByRecursion IsShort (these ++ those) → AllByRecursion IsShort these × AllByRecursion IsShort those
 short-parts [] those all = (tt, all)

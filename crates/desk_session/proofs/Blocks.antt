@@ -5,13 +5,14 @@ use Rattle.std.specs.declared.alloc.Global.{Global}
 use Rattle.std.proofs.lemmas.List.{append-nil}
 use Rattle.desk_ends.specs.declared.ends.Failed.{Failed}
 use Rattle.desk_ends.specs.Input.{Input, ReadsLine, Used}
-use Rattle.desk_ends.specs.Lines.{EndsLine, IsLine, kept}
+use Rattle.desk_ends.specs.Lines.{EndsLine, IsLine, feeds, kept}
+use Rattle.desk_ends.proofs.LineFeeds.{fed-feeds, feeds-append, no-feeds}
 use Rattle.desk_ends.proofs.OneLine.{ends-append, fed-ends}
 use Rattle.desk_ends.proofs.UsedInput.{Used-none, Used-then}
 use Rattle.desk_line.specs.declared.fault.Fault.{Fault}
 use Rattle.desk_line.specs.declared.fault.Fault.TheVariants.{Syntax, NoMemory}
-use Rattle.desk_session.specs.Reading.{HoldsBlock, HoldsText, ReadsBlock, feeds}
-use Rattle.desk_session.proofs.BlockLines.{fed-feeds, feeds-append, long-before, no-feeds}
+use Rattle.desk_session.specs.Reading.{HoldsBlock, HoldsText, ReadsBlock}
+use Rattle.desk_session.proofs.BlockLines.{long-before}
 
 -- ---- a text with a line more
 

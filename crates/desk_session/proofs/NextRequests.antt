@@ -8,7 +8,8 @@ use Rattle.louis_table.specs.Lines.{lines_of}
 use Rattle.desk_ends.specs.declared.ends.Failed.{Failed}
 use Rattle.desk_ends.specs.Input.{Input, LineEnds, ReadsLine, Used}
 use Rattle.desk_ends.specs.Limits.{most_line_bytes}
-use Rattle.desk_ends.specs.Lines.{EndsLine, HasNoFeed, IsFed, IsLine, kept, without_ending}
+use Rattle.desk_ends.specs.Lines.{EndsLine, HasNoFeed, IsFed, IsLine, feeds, kept, without_ending}
+use Rattle.desk_ends.proofs.LineFeeds.{fed-feeds, feeds-append, lines-fed, lines-few, no-feeds}
 use Rattle.desk_ends.proofs.ManyLines.{lines-then}
 use Rattle.desk_ends.proofs.OneLine.{ends-some, fed-ends, kept-none, kept-some, one-line}
 use Rattle.desk_ends.proofs.UsedInput.{Used-then}
@@ -20,13 +21,12 @@ use Rattle.desk_line.specs.Request.{IsLast, IsWhole, Reads, Takes, Tells}
 use Rattle.desk_line.proofs.CutLaws.{none-whole, whole-feeds}
 use Rattle.desk_line.proofs.HeadLaws.{head-found}
 use Rattle.desk_line.proofs.HeadLines.{head-of-long}
-use Rattle.desk_line.proofs.LineFeeds.{feeds as line_feeds, lines-fed, lines-few}
 use Rattle.desk_line.proofs.RequestLaws.{asks-for-memory, takes-none}
 use Rattle.desk_session.specs.declared.reader.Found.TheVariants as found
-use Rattle.desk_session.specs.Reading.{AreLines, BeginsWithNone, HoldsText, ReadsBlock, ReadsRequest, feeds}
+use Rattle.desk_session.specs.Reading.{AreLines, BeginsWithNone, HoldsText, ReadsBlock, ReadsRequest}
 use Rattle.desk_session.specs.Requests.{IsFaultOf, IsNext}
 use Rattle.desk_session.proofs.Blocks.{head-ends}
-use Rattle.desk_session.proofs.BlockLines.{fed-feeds, feeds-append, no-feeds, not-short, same-feeds}
+use Rattle.desk_session.proofs.BlockLines.{not-short}
 
 -- ---- lines that are too long
 
@@ -75,7 +75,7 @@ none-line bytes none request later parts is =
     let n = no-feeds bytes none in
     let all = ap feeds parts ∙ feeds-append request later in
     let some = whole-feeds request is in
-    let same = same-feeds request ∙ ap line_feeds is.ends in
+    let same = ap feeds is.ends in
     absurd (omega arith)
 
 -- ---- a head line and its block
@@ -89,7 +89,7 @@ module _ (head block : List ℕ) (count : ℕ) (is : IsFed head) (takes : Takes 
 
   counted : (block ≡ []) ⊎ EndsLine block → length (lines_of block) ≡ feeds block
   counted (inl none) = ap (λ (t : List ℕ). length (lines_of t)) none ∙ sym (ap feeds none)
-  counted (inr ends) = ap (λ (t : List ℕ). length (lines_of t)) ends.1 ∙ (lines-fed ends.0 ∙ (sym (ap line_feeds ends.1) ∙ sym (same-feeds block)))
+  counted (inr ends) = ap (λ (t : List ℕ). length (lines_of t)) ends.1 ∙ (lines-fed ends.0 ∙ sym (ap feeds ends.1))
 
   whole-block : AreLines count block → IsWhole (head ++ block)
   whole-block lines =
@@ -106,14 +106,12 @@ module _ (head block : List ℕ) (count : ℕ) (is : IsFed head) (takes : Takes 
   last-block : feeds block < count → IsLast (head ++ block)
   last-block fewer =
       let few = lines-few block in
-      let same = same-feeds block in
       record { line = without_ending head; block = lines_of block; lines = block-lines; count = count; takes = takes; most = omega arith }
 
   none-block : feeds block < count → BeginsWithNone (head ++ block)
   none-block fewer =
       let one = fed-feeds head is in
       let all = feeds-append head block in
-      let same = same-feeds (head ++ block) in
       none-whole (head ++ block) (without_ending head) (lines_of block) count block-lines takes (omega arith)
 
   block-fault : (fault : Fault) → HoldsText (Err fault) (head ++ block) → 0 < count → IsFaultOf (head ++ block) fault

@@ -1,11 +1,11 @@
 -- How requests are read from an input, step by step. Only private functions and proofs need these words.
-use Rattle.std.specs.Prelude.{◌≡◌, ◌⊎◌, ℕ, suc, ◌<◌, ◌==◌, true, false, if◌then◌else◌, List, [], ◌∷◌, ◌++◌, Option, Some, None, Result, Ok, Err, Vec}
+use Rattle.std.specs.Prelude.{◌≡◌, ◌⊎◌, ℕ, ◌<◌, true, false, List, [], ◌++◌, Option, Some, None, Result, Ok, Err, Vec}
 use Rattle.std.specs.declared.alloc.Global.{Global}
 use Rattle.std.specs.List.{AllByRecursion}
 use Rattle.louis_table.specs.Lines.{lines_of}
 use Rattle.desk_ends.specs.declared.ends.Failed.{Failed}
 use Rattle.desk_ends.specs.Input.{Input, IsStopped, Used}
-use Rattle.desk_ends.specs.Lines.{EndsLine}
+use Rattle.desk_ends.specs.Lines.{EndsLine, feeds}
 use Rattle.desk_line.specs.declared.fault.Fault.{Fault}
 use Rattle.desk_line.specs.declared.fault.Fault.TheVariants.{Syntax, NoMemory}
 use Rattle.desk_line.specs.Lines.{IsShort}
@@ -15,11 +15,6 @@ use Rattle.desk_session.specs.declared.reader.Found.TheVariants as found
 use Rattle.desk_session.specs.Requests.{IsFaultOf, IsNext}
 
 -- ---- a block
-
--- how many line feeds are among the bytes
-abbrev pub feeds : List ℕ → ℕ
-feeds [] = 0
-feeds (b ∷ bytes) = if b == 10 then suc (feeds bytes) else feeds bytes
 
 -- a text holds the bytes, or it doesn't since a line of them is too long or an allocation failed
 abbrev pub HoldsText : Result (Vec ℕ Global) Fault → List ℕ → Type 0

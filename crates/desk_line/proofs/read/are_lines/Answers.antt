@@ -1,5 +1,4 @@
 use Rattle.std.proofs.Common.{ℕ, sym, ap, ◌∙◌, arith}
-use Rattle.std.specs.Io.BufRead.{strip_last}
 use Rattle.louis_table.specs.Lines.{lines_of}
 use Rattle.desk_line.specs.Reading.{are_lines}
 use Rattle.desk_line.proofs.LineLists.{not-empty, no-line-left, line-too-long, line-taken}
@@ -11,14 +10,14 @@ returns-then-left-eq0 c =
     ∙ (ap (λ (n : ℕ). are_lines (lines_of c.loop-rest.rest.now) n) c.if-left-eq0.true
     ∙ no-line-left c.loop-rest.rest.now (not-empty c.loop-rest.rest.now (sym c.loop-rest-test.ensures))))
 
-pub returns-then-without_return-gt-MOST_LINE_BYTES : goal.returns-then-without_return-gt-MOST_LINE_BYTES
-returns-then-without_return-gt-MOST_LINE_BYTES c =
+pub returns-then-line-gt-MOST_LINE_BYTES : goal.returns-then-line-gt-MOST_LINE_BYTES
+returns-then-line-gt-MOST_LINE_BYTES c =
     sym (c.loop-rest.invariant
-    ∙ line-too-long c.loop-rest.rest.now c.without_return.result.now c.loop-rest.left (not-empty c.loop-rest.rest.now (sym c.loop-rest-test.ensures))
-    (c.without_return.ensures ∙ ap (strip_last 13) c.split_line.ensures.line) c.if-without_return-gt-MOST_LINE_BYTES.true)
+    ∙ line-too-long c.loop-rest.rest.now c.split_line.result.0.now c.loop-rest.left (not-empty c.loop-rest.rest.now (sym c.loop-rest-test.ensures))
+    c.split_line.ensures.line c.if-line-gt-MOST_LINE_BYTES.true)
 
 pub loop-rest-preserved : goal.loop-rest-preserved
 loop-rest-preserved c =
     c.loop-rest.invariant
-    ∙ line-taken c.loop-rest.rest.now c.without_return.result.now c.loop-rest.left (not-empty c.loop-rest.rest.now (sym c.loop-rest-test.ensures))
-    (c.without_return.ensures ∙ ap (strip_last 13) c.split_line.ensures.line) c.split_line.result.1.now c.split_line.ensures.rest (omega arith) c.if-without_return-gt-MOST_LINE_BYTES.false
+    ∙ line-taken c.loop-rest.rest.now c.split_line.result.0.now c.loop-rest.left (not-empty c.loop-rest.rest.now (sym c.loop-rest-test.ensures))
+    c.split_line.ensures.line c.split_line.result.1.now c.split_line.ensures.rest (omega arith) c.if-line-gt-MOST_LINE_BYTES.false

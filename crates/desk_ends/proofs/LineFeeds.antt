@@ -6,12 +6,8 @@ use Rattle.std.proofs.lemmas.Bool.{cases_Bool, eqb-true}
 use Rattle.std.proofs.lemmas.List.{length-map}
 use Rattle.louis_table.specs.Lines.{pieces_of, lines_of}
 use Rattle.louis_table.proofs.LineLaws.{lines_of-split}
+use Rattle.desk_ends.specs.Lines.{HasNoFeed, IsFed, feeds}
 use Rattle.desk_ends.proofs.ManyLines.{fed, pieces-some}
-
--- how many line feeds are among the bytes
-abbrev pub feeds : List ℕ → ℕ
-feeds [] = 0
-feeds (b ∷ bytes) = cond (eqb b 10) (suc (feeds bytes)) (feeds bytes)
 
 -- ---- lists
 
@@ -62,8 +58,19 @@ feeds-append (b ∷ these) those =
     let h = feeds-append these those in
     elim (cases_Bool (eqb b 10)) [ inl e ↦ rw e (omega arith) | inr e ↦ rw e h ]
 
-feeds-some : (front : List ℕ) → 0 < feeds (fed front)
+pub feeds-some : (front : List ℕ) → 0 < feeds (fed front)
 feeds-some front = let h = feeds-append front (10 ∷ []) in omega arith
+
+pub no-feeds : (bytes : List ℕ) → HasNoFeed bytes → feeds bytes ≡ 0
+no-feeds [] none = refl
+no-feeds (b ∷ bytes) none = rw none.0 (no-feeds bytes none.1)
+
+-- a line with its line feed has no other
+pub fed-feeds : (bytes : List ℕ) → IsFed bytes → feeds bytes ≡ 1
+fed-feeds bytes (front, is, none) =
+    let h = feeds-append front (10 ∷ []) in
+    let n = no-feeds front none in
+    ap feeds is ∙ omega arith
 
 feed-first : (b : ℕ) (bytes : List ℕ) → b ≡ 10 → feeds (b ∷ bytes) ≡ suc (feeds bytes)
 feed-first b bytes e = rw e refl
