@@ -3,7 +3,7 @@ ghost use Rattle.desk_ends.specs.Lines.{extended, without_ending};
 ghost use Rattle.std.specs.Io.BufRead.{strip_last};
 ghost use Rattle.std.specs.List.{after_first, before_first};
 ghost use Rattle.std.specs.Option.{option_copied};
-ghost use Rattle.std.specs.Prelude.{EachIndex, IsSome, IsTrue, MatchOption, Some, [], drop, length, slice_index, take, ◌++◌, ◌+◌, ◌<◌, ◌==◌, ◌≡◌, ◌≢◌, ◌↔◌, ◌∷◌};
+ghost use Rattle.std.specs.Prelude.{EachIndex, IsTrue, MatchOption, Some, [], drop, length, slice_index, take, ◌++◌, ◌+◌, ◌<◌, ◌==◌, ◌≡◌, ◌≢◌, ◌↔◌, ◌∷◌};
 
 use super::limits::MOST_LINE_BYTES;
 use memchr::memchr;
@@ -79,15 +79,7 @@ impl Line {
         if self.is_over {
             return None;
         }
-        Some(self.held())
-    }
-
-    /// The line with its ending, which hasn't more bytes than a line may have.
-    pub fn held(&self) -> &[u8]
-        requires { IsSome self.now }
-        ensures { self.now ≡ Some result.now }
-    {
-        &self.bytes[..self.len]
+        Some(&self.bytes[..self.len])
     }
 }
 

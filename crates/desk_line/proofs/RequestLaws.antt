@@ -20,7 +20,7 @@ use Rattle.desk_line.specs.Head.{Says}
 use Rattle.desk_ends.specs.Limits.{most_line_bytes}
 use Rattle.desk_line.specs.Lines.{IsShort, after_first_line}
 use Rattle.desk_line.specs.Reading.{Gives, are_lines, head_line, head_in, head_of, query_in, directive_in, request_in, with_text}
-use Rattle.desk_line.specs.Request.{AsksForMemory, HasText, Reads, Takes, said, unsaid, Tells, block_lines, command_of, directive_block_lines, request_of}
+use Rattle.desk_line.specs.Request.{AsksForMemory, HasHead, HasText, Reads, Takes, said, unsaid, Tells, block_lines, command_of, directive_block_lines, request_of}
 use Rattle.desk_line.proofs.HeadLines.{some-is, head-of-text}
 use Rattle.desk_line.proofs.HeadLaws.{head-read, head-found}
 use Rattle.desk_line.proofs.OperandLaws.{taken, followed}
@@ -79,13 +79,23 @@ tails-same x y xs ys e = cc
 pub some-lines : (bytes line : List ℕ) (block : List (List ℕ)) → lines_of bytes ≡ line ∷ block → bytes ≢ []
 some-lines bytes line block e n = let h : lines_of [] ≡ line ∷ block = ap lines_of (sym n) ∙ e in cc
 
-pub request-found : (bytes : List ℕ) (request : Request) → Reads bytes request → request_in bytes ≡ Some request
+-- what is read of a head line and of the bytes after it
+head-request : (bytes : List ℕ) (head : Head) (text : List ℕ) → HasHead bytes head text → request_in bytes ≡ with_text text head
 unfolding request_in
+head-request bytes head text has =
+    let split = sym has.lines ∙ lines_of-split bytes (some-lines bytes has.line has.block has.lines) in
+    let line = heads-same has.line (head_line bytes) has.block (lines_of (after_first_line bytes)) split in
+    ap (option_and_then (with_text (after_first_line bytes))) (head-found (head_line bytes) head (subst (λ (l : List ℕ). Says l head) line has.says))
+    ∙ ap (λ (t : List ℕ). with_text t head) (sym has.rest)
+
+reads-head : (bytes : List ℕ) (request : Request) (r : Reads bytes request) → HasHead bytes r.head (after_first_line bytes)
+reads-head bytes request r = record { line = r.line; block = r.block; lines = r.lines; says = r.says; rest = refl }
+
+pub request-found : (bytes : List ℕ) (request : Request) → Reads bytes request → request_in bytes ≡ Some request
 request-found bytes request r =
     let split = sym r.lines ∙ lines_of-split bytes (some-lines bytes r.line r.block r.lines) in
-    let line = heads-same r.line (head_line bytes) r.block (lines_of (after_first_line bytes)) split in
     let block = tails-same r.line (head_line bytes) r.block (lines_of (after_first_line bytes)) split in
-    ap (option_and_then (with_text (after_first_line bytes))) (head-found (head_line bytes) r.head (subst (λ (l : List ℕ). Says l r.head) line r.says))
+    head-request bytes r.head (after_first_line bytes) (reads-head bytes request r)
     ∙ (cond-true (are_lines (lines_of (after_first_line bytes)) (block_lines r.head)) (Some (request_of r.head (after_first_line bytes))) None
     (ap (λ (lines : List (List ℕ)). are_lines lines (block_lines r.head)) (sym block) ∙ lines-tested r.block (block_lines r.head) r.whole r.short)
     ∙ ap Some (sym r.is))
@@ -104,11 +114,42 @@ is-told bytes (Ok request) e = request-read bytes request e
 is-told bytes (Err Syntax) e = λ request r. some-none request (request_in bytes) (request-found bytes request r) e
 is-told bytes (Err NoMemory) e = (e.0, e.1, request-read bytes (Do e.0 e.1) e.2, e.3)
 
+-- so of a head line and the bytes after it
+pub head-told : (bytes : List ℕ) (head : Head) (text : List ℕ) (result : Result Request Fault) → Gives result (with_text text head) → HasHead bytes head text
+    → MatchResult result (Reads bytes) (Tells bytes)
+head-told bytes head text result gives has = is-told bytes result (subst (Gives result) (sym (head-request bytes head text has)) gives)
+
+-- bytes are the head line that their first line is, and what follows it
+pub first-head : (bytes line text : List ℕ) (head : Head) → line ≡ head_line bytes → text ≡ after_first_line bytes → Says line head → HasHead bytes head text
+first-head [] line text head is rest says =
+    absurd (some-none head (head_of (head_line [])) (head-found (head_line []) head (subst (λ (l : List ℕ). Says l head) is says)) nothing-said)
+first-head (b ∷ bytes) line text head is rest says = record {
+  line = line;
+  block = lines_of (after_first_line (b ∷ bytes));
+  lines = lines_of-split (b ∷ bytes) (λ n. cc) ∙ ap (λ (l : List ℕ). l ∷ lines_of (after_first_line (b ∷ bytes))) (sym is);
+  says = says;
+  rest = rest;
+}
+
+-- bytes whose first line says nothing are no request
+pub unsaid-tells : (bytes line : List ℕ) (block : List (List ℕ)) → lines_of bytes ≡ line ∷ block → ((head : Head) → ¬ Says line head) → Tells bytes Syntax
+unsaid-tells bytes line block lines none request reads =
+    none reads.head (subst (λ (l : List ℕ). Says l reads.head) (heads-same reads.line line reads.block block (sym reads.lines ∙ lines)) reads.says)
+
+pub first-tells : (bytes line : List ℕ) → line ≡ head_line bytes → ((head : Head) → ¬ Says line head) → Tells bytes Syntax
+first-tells bytes line is none request reads =
+    let split = lines_of-split bytes (some-lines bytes reads.line reads.block reads.lines) in
+    let lines = split ∙ ap (λ (l : List ℕ). l ∷ lines_of (after_first_line bytes)) (sym is) in
+    unsaid-tells bytes line (lines_of (after_first_line bytes)) lines none request reads
+
+pub head-unsaid : (line : List ℕ) → head_of line ≡ None → (head : Head) → ¬ Says line head
+head-unsaid line e head says = some-none head (head_of line) (head-found line head says) e
+
 pub takes-some : (line : List ℕ) (head : Head) → head_of line ≡ Some head → Takes line (block_lines head)
 takes-some line head e = said head (head-read line head e) refl
 
 pub takes-none : (line : List ℕ) → head_of line ≡ None → Takes line 0
-takes-none line e = unsaid (λ head s. some-none head (head_of line) (head-found line head s) e) refl
+takes-none line e = unsaid (head-unsaid line e) refl
 
 -- what takes lines allocates
 directive-asks : (directive : Directive) → 0 < directive_block_lines directive → HasText (command_of directive [])

@@ -122,6 +122,14 @@ pub record Reads (bytes : List ℕ) (request : Request) : Type 0 where
   pub short : AllByRecursion IsShort block
   pub is : request ≡ request_of head (after_first_line bytes)
 
+-- the bytes are a head line that says this, and then this text
+pub record HasHead (bytes : List ℕ) (head : Head) (text : List ℕ) : Type 0 where
+  pub line : List ℕ
+  pub block : List (List ℕ)
+  pub lines : lines_of bytes ≡ line ∷ block
+  pub says : Says line head
+  pub rest : text ≡ after_first_line bytes
+
 -- the command has a text or a name, which is copied
 abbrev pub HasText : Command → Type 0
 HasText (commands.Table name text) = Unit {0}

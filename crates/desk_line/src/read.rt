@@ -1,8 +1,10 @@
 //! Reads requests.
-ghost use Rattle.desk_line.specs.Reading.{Gives, are_lines, request_in};
-ghost use Rattle.desk_line.specs.Request.{HasText, Reads, Takes, Tells, command_of, correction_of, mark_of, request_of};
+ghost use Rattle.desk_line.specs.Head.{Says};
+ghost use Rattle.desk_line.specs.Reading.{Gives, are_lines, with_text};
+ghost use Rattle.desk_line.specs.Request.{HasHead, HasText, Reads, Takes, Tells, block_lines, command_of, correction_of, mark_of, request_of};
+ghost use Rattle.desk_line.specs.declared.head.Head.{Head};
 ghost use Rattle.louis_table.specs.Lines.{lines_of};
-ghost use Rattle.std.specs.Prelude.{◌≡◌, IfOk, MatchResult, OnErr, Some};
+ghost use Rattle.std.specs.Prelude.{◌≡◌, IfOk, List, MatchOption, MatchResult, OnErr, Some, ℕ};
 ghost use Rattle.std.specs.Str.{chars};
 
 use super::directive::{Directive, SpanText};
@@ -14,6 +16,51 @@ use desk_command::{Anchor, Bytes, Command, Text};
 use desk_ends::{MOST_LINE_BYTES, split_line};
 use louis_table::EN;
 use std::alloc::{AllocError, Global};
+use std::marker::Model;
+
+/// A head line that was read: a request, but for the lines that follow. Contracts see what it says.
+#[derive(Drop)]
+pub struct RequestHead<'a> {
+    head: Head<'a>,
+}
+
+impl<'a> Model for RequestHead<'a> {
+    ghost use Rattle.desk_line.specs.declared.head.Head.{Head};
+
+    ghost Value = { Head };
+
+    ghost view = { λ r. r.head };
+}
+
+impl<'a> RequestHead<'a> {
+    /// How many lines follow it in its request.
+    pub fn lines_after(&self) -> u64
+        ensures { result ≡ block_lines self.now }
+    {
+        block_lines(&self.head)
+    }
+
+    /// The request that it is with the lines that follow it, given as they came.
+    ///
+    /// # Errors
+    ///
+    /// `Syntax` exactly if they aren't as many lines as follow it, or one of them is too long; `NoMemory` if an allocation
+    /// for the text or a name of a command failed.
+    pub fn finish(self, alloc: Global, text: &[u8]) -> Result<Request, Fault>
+        ensures { (bytes : List ℕ) → HasHead bytes self.entry text.now
+            → MatchResult result (Reads bytes) (Tells bytes) }
+    {
+        complete(alloc, self.head, text)
+    }
+}
+
+/// Reads the head line of a request, given as to [`lines_after`], if it says something.
+pub fn begin_request(line: &[u8]) -> Option<RequestHead<'_>>
+    ensures { MatchOption result ((head : Head) → ¬ Says line.now head) (Says line.now) }
+{
+    let head = read_head(line)?;
+    Some(RequestHead { head })
+}
 
 /// How many lines follow a head line in its request. The head line is given without its ending, a line feed and one
 /// carriage return before it, and no line feed stands in it. It is 0 if the line takes none: a query, another command than
@@ -22,8 +69,8 @@ use std::alloc::{AllocError, Global};
 pub fn lines_after(head: &[u8]) -> u64
     ensures { Takes head.now result }
 {
-    match read_head(head) {
-        Some(head) => block_lines(&head),
+    match begin_request(head) {
+        Some(head) => head.lines_after(),
         None => 0,
     }
 }
@@ -36,18 +83,17 @@ pub fn lines_after(head: &[u8]) -> u64
 pub fn read_request(alloc: Global, bytes: &[u8]) -> Result<Request, Fault>
     ensures { MatchResult result (Reads bytes.now) (Tells bytes.now) }
 {
-    read(alloc, bytes)
+    let (line, text) = split_line(bytes);
+    match begin_request(line) {
+        Some(head) => head.finish(alloc, text),
+        None => Err(Fault::Syntax),
+    }
 }
 
-/// Reads a request.
-#[tactic(auto, unfolding(crate::specs::Reading::request_in))]
-fn read(alloc: Global, bytes: &[u8]) -> Result<Request, Fault>
-    ensures { Gives result (request_in bytes.now) }
+/// The request that a head line makes with the bytes of the lines after it, if these are as many as it takes.
+fn complete(alloc: Global, head: Head<'_>, text: &[u8]) -> Result<Request, Fault>
+    ensures { Gives result (with_text text.now head.entry) }
 {
-    let (line, text) = split_line(bytes);
-    let Some(head) = read_head(line) else {
-        return Err(Fault::Syntax);
-    };
     if !are_lines(text, block_lines(&head)) {
         return Err(Fault::Syntax);
     }

@@ -1,30 +1,35 @@
 -- The lines of a block, and whether they are short.
-use Rattle.std.proofs.Common.{◌≡◌, ◌≢◌, ℕ, List, [], ◌∷◌, ◌++◌, length, None, sym, ap, subst, ◌∙◌, arith}
+use Rattle.std.proofs.Common.{◌≡◌, ◌≢◌, ℕ, List, [], ◌∷◌, ◌++◌, length, None, sym, ap, subst, ◌∙◌, inl, inr, arith}
 use Rattle.std.specs.List.{AllByRecursion}
 use Rattle.louis_table.specs.Lines.{lines_of}
-use Rattle.desk_ends.specs.Lines.{EndsLine, IsLine, kept, without_ending}
+use Rattle.desk_ends.specs.Lines.{IsLine, kept, without_ending}
 use Rattle.desk_ends.proofs.ManyLines.{lines-then}
 use Rattle.desk_ends.proofs.OneLine.{kept-none, long-line, one-line}
 use Rattle.desk_line.specs.Lines.{IsShort}
+use Rattle.desk_session.specs.Reading.{AreFed}
 
 short-parts : (these those : List (List ℕ)) → AllByRecursion IsShort (these ++ those) → AllByRecursion IsShort these × AllByRecursion IsShort those
 short-parts [] those all = (tt, all)
 short-parts (line ∷ these) those all = let h = short-parts these those all.1 in ((all.0, h.0), h.1)
 
-short-lines : (bytes more : List ℕ) → EndsLine bytes → AllByRecursion IsShort (lines_of (bytes ++ more)) → AllByRecursion IsShort (lines_of bytes) × AllByRecursion IsShort (lines_of more)
-short-lines bytes more (front, is) all =
-    let h = short-parts (lines_of (front ++ 10 ∷ [])) (lines_of more)
-    (subst (AllByRecursion IsShort) (ap (λ (t : List ℕ). lines_of (t ++ more)) is ∙ lines-then front more) all) in
-    (subst (λ (t : List ℕ). AllByRecursion IsShort (lines_of t)) (sym is) h.0, h.1)
+lines-more : (bytes more : List ℕ) → AreFed bytes → lines_of (bytes ++ more) ≡ lines_of bytes ++ lines_of more
+lines-more bytes more (inl none) =
+    ap (λ (t : List ℕ). lines_of (t ++ more)) none ∙ sym (ap (λ (t : List ℕ). lines_of t ++ lines_of more) none)
+lines-more bytes more (inr (front, is)) =
+    ap (λ (t : List ℕ). lines_of (t ++ more)) is
+    ∙ (lines-then front more ∙ sym (ap (λ (t : List ℕ). lines_of t ++ lines_of more) is))
 
-pub long-before : (bytes more : List ℕ) → EndsLine bytes → ¬ AllByRecursion IsShort (lines_of bytes) → ¬ AllByRecursion IsShort (lines_of (bytes ++ more))
-long-before bytes more ends long all = long (short-lines bytes more ends all).0
+short-lines : (bytes more : List ℕ) → AreFed bytes → AllByRecursion IsShort (lines_of (bytes ++ more)) → AllByRecursion IsShort (lines_of bytes) × AllByRecursion IsShort (lines_of more)
+short-lines bytes more fed all = short-parts (lines_of bytes) (lines_of more) (subst (AllByRecursion IsShort) (lines-more bytes more fed) all)
+
+pub long-before : (bytes more : List ℕ) → AreFed bytes → ¬ AllByRecursion IsShort (lines_of bytes) → ¬ AllByRecursion IsShort (lines_of (bytes ++ more))
+long-before bytes more fed long all = long (short-lines bytes more fed all).0
 
 -- a line that isn't kept is too long
 pub not-short : (bytes : List ℕ) → None ≡ kept bytes → ¬ IsShort (without_ending bytes)
 not-short bytes is short = let many = long-line bytes is in absurd (omega arith)
 
-pub long-after : (bytes more : List ℕ) → EndsLine bytes → IsLine more → None ≡ kept more → ¬ AllByRecursion IsShort (lines_of (bytes ++ more))
-long-after bytes more ends line is all =
+pub long-after : (bytes more : List ℕ) → AreFed bytes → IsLine more → None ≡ kept more → ¬ AllByRecursion IsShort (lines_of (bytes ++ more))
+long-after bytes more fed line is all =
     let some : more ≢ [] = λ none. let many = kept-none more is in let n = ap length none in omega arith in
-    not-short more is (subst (AllByRecursion IsShort) (one-line more line some) (short-lines bytes more ends all).1).0
+    not-short more is (subst (AllByRecursion IsShort) (one-line more line some) (short-lines bytes more fed all).1).0

@@ -1,61 +1,46 @@
 -- A block that is read line by line.
-use Rattle.std.proofs.Common.{◌≡◌, ◌⊎◌, ℕ, ◌+◌, ◌-◌, ◌<◌, true, false, List, [], ◌++◌, Option, Result, Ok, Err, refl, sym, ap, subst, ◌∙◌, append_assoc, inl, inr, arith}
+use Rattle.std.proofs.Common.{◌≡◌, ◌≢◌, ℕ, ◌+◌, ◌-◌, ◌<◌, true, false, List, [], ◌++◌, Option, Result, Ok, Err, refl, ap, inl, inr, arith}
 use Rattle.std.specs.Prelude.{Vec}
 use Rattle.std.specs.declared.alloc.Global.{Global}
-use Rattle.std.proofs.lemmas.List.{append-nil}
 use Rattle.desk_ends.specs.declared.ends.Failed.{Failed}
 use Rattle.desk_ends.specs.Input.{Input, ReadsLine, Used}
-use Rattle.desk_ends.specs.Lines.{EndsLine, IsLine, feeds, kept}
-use Rattle.desk_ends.proofs.LineFeeds.{fed-feeds, feeds-append, no-feeds}
+use Rattle.desk_ends.specs.Lines.{IsLine, feeds, kept}
+use Rattle.desk_ends.proofs.LineFeeds.{fed-feeds, feeds-append, feeds-some, no-feeds}
 use Rattle.desk_ends.proofs.OneLine.{ends-append, fed-ends}
-use Rattle.desk_ends.proofs.UsedInput.{Used-none, Used-then}
+use Rattle.desk_ends.proofs.UsedInput.{Used-none, Used-then, no-parts}
 use Rattle.desk_line.specs.declared.fault.Fault.{Fault}
 use Rattle.desk_line.specs.declared.fault.Fault.TheVariants.{Syntax, NoMemory}
-use Rattle.desk_session.specs.Reading.{HoldsBlock, HoldsText, ReadsBlock}
+use Rattle.desk_session.specs.Reading.{AreFed, BlockEnds, HoldsText, ReadsBlock}
 use Rattle.desk_session.proofs.BlockLines.{long-before}
 
 -- ---- a text with a line more
 
 -- a fault stays one
-pub fault-stays : (fault : Fault) (bytes more : List ℕ) → EndsLine bytes → HoldsText (Err fault) bytes → HoldsText (Err fault) (bytes ++ more)
-fault-stays Syntax bytes more ends long = long-before bytes more ends long
-fault-stays NoMemory bytes more ends none = tt
+pub fault-stays : (fault : Fault) (bytes more : List ℕ) → AreFed bytes → HoldsText (Err fault) bytes → HoldsText (Err fault) (bytes ++ more)
+fault-stays Syntax bytes more fed long = long-before bytes more fed long
+fault-stays NoMemory bytes more fed some = λ none. some (no-parts bytes more none).0
 
 -- ---- a block
 
 -- so many lines of a block are left
-pub record IsFilling (a b : Option (List ℕ)) (old now : Input) (text held : Result (Vec ℕ Global) Fault) (left count : ℕ) : Type 0 where
+pub record IsFilling (a b : Option (List ℕ)) (old now : Input) (text : Result (Vec ℕ Global) Fault) (left count : ℕ) : Type 0 where
   pub block : List ℕ
   pub used : Used a b old now block
-  pub holds : HoldsBlock text held block
+  pub holds : HoldsText text block
   pub lines : feeds block + left ≡ count
-  pub ends : (block ≡ []) ⊎ EndsLine block
+  pub fed : AreFed block
 
-pub IsFilling-none : (a : Option (List ℕ)) (input : Input) (text : Result (Vec ℕ Global) Fault) (count : ℕ) → IsFilling a a input input text text count count
-IsFilling-none a input text count = record {
-  block = [];
-  used = Used-none a input;
-  holds = λ head ends holds. subst (HoldsText text) (sym (append-nil head)) holds;
-  lines = omega arith;
-  ends = inl refl;
-}
-
-pub head-ends : (head block : List ℕ) → EndsLine head → (block ≡ []) ⊎ EndsLine block → EndsLine (head ++ block)
-head-ends head block ends (inl none) = subst EndsLine (sym (ap (λ (t : List ℕ). head ++ t) none ∙ append-nil head)) ends
-head-ends head block ends (inr more) = ends-append head block more
+pub IsFilling-none : (a : Option (List ℕ)) (input : Input) (text : Vec ℕ Global) (count : ℕ) → text.items ≡ [] → IsFilling a a input input (Ok text) count count
+IsFilling-none a input text count empty =
+    record { block = []; used = Used-none a input; holds = empty; lines = omega arith; fed = inl refl }
 
 -- what add_line promises
 abbrev pub Adds : (text held : Result (Vec ℕ Global) Fault) → Option (List ℕ) → Type 0
-Adds text held line = (bytes more : List ℕ) → EndsLine bytes → IsLine more → HoldsText text bytes → line ≡ kept more → HoldsText held (bytes ++ more)
+Adds text held line = (bytes more : List ℕ) → AreFed bytes → IsLine more → HoldsText text bytes → line ≡ kept more → HoldsText held (bytes ++ more)
 
-module _ (a b c : Option (List ℕ)) (old mid new : Input) (text was held : Result (Vec ℕ Global) Fault) (left count : ℕ) (line : Option (List ℕ))
-    (part : IsFilling a b old mid text was left count) (some : 0 < left) (F : Type 0) where
-  holds-more : (bytes : List ℕ) → IsLine bytes → line ≡ kept bytes → Adds was held line → HoldsBlock text held (part.block ++ bytes)
-  holds-more bytes is keeps adds head ends holds =
-      subst (HoldsText held) (append_assoc head part.block bytes)
-      (adds (head ++ part.block) bytes (head-ends head part.block ends part.ends) is (part.holds head ends holds) keeps)
-
-  pub IsFilling-line : ReadsLine F b c mid new line (Ok true) → Adds was held line → IsFilling a c old new text held (left - 1) count
+module _ (a b c : Option (List ℕ)) (old mid new : Input) (text held : Result (Vec ℕ Global) Fault) (left count : ℕ) (line : Option (List ℕ))
+    (part : IsFilling a b old mid text left count) (some : 0 < left) (F : Type 0) where
+  pub IsFilling-line : ReadsLine F b c mid new line (Ok true) → Adds text held line → IsFilling a c old new held (left - 1) count
   IsFilling-line read adds =
       let one = fed-feeds read.bytes read.ends in
       let all = feeds-append part.block read.bytes in
@@ -63,12 +48,12 @@ module _ (a b c : Option (List ℕ)) (old mid new : Input) (text was held : Resu
       record {
         block = part.block ++ read.bytes;
         used = Used-then a b c old mid new part.block read.bytes part.used read.used;
-        holds = holds-more read.bytes (inl read.ends) read.held adds;
+        holds = adds part.block read.bytes part.fed (inl read.ends) part.holds read.held;
         lines = omega arith;
-        ends = inr (ends-append part.block read.bytes (fed-ends read.bytes read.ends));
+        fed = inr (ends-append part.block read.bytes (fed-ends read.bytes read.ends));
       }
 
-  pub ReadsBlock-short : ReadsLine F b c mid new line (Ok false) → Adds was held line → ReadsBlock F a c old new count text (Ok held)
+  pub ReadsBlock-short : ReadsLine F b c mid new line (Ok false) → Adds text held line → ReadsBlock F a c old new count (Ok held)
   ReadsBlock-short read adds =
       let none = no-feeds read.bytes read.ends.0 in
       let all = feeds-append part.block read.bytes in
@@ -77,10 +62,10 @@ module _ (a b c : Option (List ℕ)) (old mid new : Input) (text was held : Resu
       record {
         block = part.block ++ read.bytes;
         used = Used-then a b c old mid new part.block read.bytes part.used read.used;
-        ends = (holds-more read.bytes (inr read.ends.0) read.held adds, inr (fewer, read.ends.1, read.ends.2));
+        ends = (adds part.block read.bytes part.fed (inr read.ends.0) part.holds read.held, inr (fewer, read.ends.1, read.ends.2));
       }
 
-  pub ReadsBlock-failed : (failed : Failed) → ReadsLine F b c mid new line (Err failed) → ReadsBlock F a c old new count text (Err failed)
+  pub ReadsBlock-failed : (failed : Failed) → ReadsLine F b c mid new line (Err failed) → ReadsBlock F a c old new count (Err failed)
   ReadsBlock-failed failed read =
       let none = no-feeds read.bytes read.ends.0 in
       let all = feeds-append part.block read.bytes in
@@ -92,8 +77,17 @@ module _ (a b c : Option (List ℕ)) (old mid new : Input) (text was held : Resu
         ends = (fewer, read.ends.1, read.ends.2, read.ends.3);
       }
 
-pub ReadsBlock-done : (F : Type 0) (a b : Option (List ℕ)) (old now : Input) (text held : Result (Vec ℕ Global) Fault) (left count : ℕ) → IsFilling a b old now text held left count
-    → left ≡ 0 → ReadsBlock F a b old now count text (Ok held)
-ReadsBlock-done F a b old now text held left count part none =
+pub ReadsBlock-done : (F : Type 0) (a b : Option (List ℕ)) (old now : Input) (text : Result (Vec ℕ Global) Fault) (left count : ℕ) → IsFilling a b old now text left count
+    → left ≡ 0 → ReadsBlock F a b old now count (Ok text)
+ReadsBlock-done F a b old now text left count part none =
     let so_far = part.lines in
-    record { block = part.block; used = part.used; ends = (part.holds, inl (omega arith, part.ends)) }
+    record { block = part.block; used = part.used; ends = (part.holds, inl (omega arith, part.fed)) }
+
+-- lines of which there are bytes are one or more
+pub block-some : (F : Type 0) (new : Input) (count : ℕ) (block : List ℕ) (text : Result (Vec ℕ Global) Fault) → BlockEnds F new count block (Ok text) → block ≢ [] → 0 < count
+block-some F new count block text (holds, inl (same, inl none)) some = absurd (some none)
+block-some F new count block text (holds, inl (same, inr (front, is))) some =
+    let all = ap feeds is in
+    let one = feeds-some front in
+    omega arith
+block-some F new count block text (holds, inr (fewer, over, empty)) some = omega arith

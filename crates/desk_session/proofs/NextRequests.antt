@@ -1,31 +1,33 @@
 -- The next request of an input, made of a head line and its block.
-use Rattle.std.proofs.Common.{◌≡◌, ◌≢◌, ◌⊎◌, ℕ, ◌<◌, Bool, true, false, eqb, List, [], ◌∷◌, ◌++◌, length, Option, Some, None, Result, Ok, Err, sym, ap, subst, ◌∙◌, inl, inr, arith}
-use Rattle.std.specs.Prelude.{Vec}
+use Rattle.std.proofs.Common.{◌≡◌, ◌≢◌, ◌⊎◌, ℕ, ◌<◌, Bool, true, false, eqb, List, [], ◌∷◌, ◌++◌, length, Option, Some, None, Result, Ok, Err, refl, sym, ap, subst, ◌∙◌, append_assoc, inl, inr, arith}
+use Rattle.std.specs.Prelude.{MatchResult, Vec}
 use Rattle.std.specs.declared.alloc.Global.{Global}
 use Rattle.std.specs.List.{AllByRecursion}
 use Rattle.std.proofs.lemmas.Bool.{cases_lt}
+use Rattle.std.proofs.lemmas.List.{append-nil}
 use Rattle.louis_table.specs.Lines.{lines_of}
 use Rattle.desk_ends.specs.declared.ends.Failed.{Failed}
 use Rattle.desk_ends.specs.Input.{Input, LineEnds, ReadsLine, Used}
 use Rattle.desk_ends.specs.Limits.{most_line_bytes}
 use Rattle.desk_ends.specs.Lines.{EndsLine, HasNoFeed, IsFed, IsLine, feeds, kept, without_ending}
+use Rattle.desk_ends.proofs.FirstLine.{after-fed, after-none}
 use Rattle.desk_ends.proofs.LineFeeds.{fed-feeds, feeds-append, lines-fed, lines-few, no-feeds}
-use Rattle.desk_ends.proofs.ManyLines.{lines-then}
-use Rattle.desk_ends.proofs.OneLine.{ends-some, fed-ends, kept-none, kept-some, one-line}
-use Rattle.desk_ends.proofs.UsedInput.{Used-then}
+use Rattle.desk_ends.proofs.OneLine.{ends-append, ends-some, fed-ends, fed-first, kept-none, kept-some, lone-line, one-line}
+use Rattle.desk_ends.proofs.UsedInput.{Used-then, no-parts}
 use Rattle.desk_line.specs.declared.fault.Fault.{Fault}
 use Rattle.desk_line.specs.declared.fault.Fault.TheVariants.{Syntax, NoMemory}
+use Rattle.desk_line.specs.declared.head.Head.{Head}
 use Rattle.desk_line.specs.declared.request.Request.{Request}
-use Rattle.desk_line.specs.Lines.{IsShort}
-use Rattle.desk_line.specs.Request.{IsLast, IsWhole, Reads, Takes, Tells}
+use Rattle.desk_line.specs.Head.{Says}
+use Rattle.desk_line.specs.Lines.{IsShort, after_first_line}
+use Rattle.desk_line.specs.Request.{HasHead, IsLast, IsWhole, Reads, Takes, Tells, block_lines, said, unsaid}
 use Rattle.desk_line.proofs.CutLaws.{none-whole, whole-feeds}
 use Rattle.desk_line.proofs.HeadLaws.{head-found}
 use Rattle.desk_line.proofs.HeadLines.{head-of-long}
-use Rattle.desk_line.proofs.RequestLaws.{asks-for-memory, takes-none}
-use Rattle.desk_session.specs.declared.reader.Found.TheVariants as found
-use Rattle.desk_session.specs.Reading.{AreLines, BeginsWithNone, HoldsText, ReadsBlock, ReadsRequest}
+use Rattle.desk_line.proofs.RequestLaws.{asks-for-memory, takes-none, text-asks, unsaid-tells}
+use Rattle.desk_session.specs.Reading.{AreFed, AreLines, BeginsWithNone, HoldsText, ReadsBlock, ReadsRequest}
 use Rattle.desk_session.specs.Requests.{IsFaultOf, IsNext}
-use Rattle.desk_session.proofs.Blocks.{head-ends}
+use Rattle.desk_session.proofs.Blocks.{block-some}
 use Rattle.desk_session.proofs.BlockLines.{not-short}
 
 -- ---- lines that are too long
@@ -47,6 +49,16 @@ takes-long line long =
       | inl lt ↦ takes-none line (head-of-long line lt)
       | inr le ↦ absurd (long le)
     ]
+
+-- ---- what is read of bytes
+
+fault-of : (bytes : List ℕ) (fault : Fault) → Tells bytes fault → IsFaultOf bytes fault
+fault-of bytes Syntax tells = tells
+fault-of bytes NoMemory (command, expect, reads, text) = text-asks bytes command expect reads text
+
+found-of : (bytes : List ℕ) (found : Result Request Fault) → MatchResult found (Reads bytes) (Tells bytes) → MatchResult found (Reads bytes) (IsFaultOf bytes)
+found-of bytes (Ok request) reads = reads
+found-of bytes (Err fault) tells = fault-of bytes fault tells
 
 -- ---- a head line
 
@@ -80,71 +92,97 @@ none-line bytes none request later parts is =
 
 -- ---- a head line and its block
 
-module _ (head block : List ℕ) (count : ℕ) (is : IsFed head) (takes : Takes (without_ending head) count) where
-  block-lines : lines_of (head ++ block) ≡ without_ending head ∷ lines_of block
-  block-lines =
-      ap (λ (t : List ℕ). lines_of (t ++ block)) is.1
-      ∙ (lines-then is.0 block
-      ∙ ap (λ (ls : List (List ℕ)). ls ++ lines_of block) (ap lines_of (sym is.1) ∙ one-line head (inl is) (ends-some head (fed-ends head is))))
+-- the head line has its line feed, or nothing follows it
+abbrev MayBeFollowed : (head block : List ℕ) → Type 0
+MayBeFollowed head block = IsFed head ⊎ (HasNoFeed head × (block ≡ []))
 
-  counted : (block ≡ []) ⊎ EndsLine block → length (lines_of block) ≡ feeds block
-  counted (inl none) = ap (λ (t : List ℕ). length (lines_of t)) none ∙ sym (ap feeds none)
+module _ (head block : List ℕ) (some : head ≢ []) where
+  head-alone : block ≡ [] → head ++ block ≡ head
+  head-alone empty = ap (λ (t : List ℕ). head ++ t) empty ∙ append-nil head
+
+  block-lines : MayBeFollowed head block → lines_of (head ++ block) ≡ without_ending head ∷ lines_of block
+  block-lines (inl fed_) = fed-first head block fed_
+  block-lines (inr (none, empty)) =
+      ap lines_of (head-alone empty)
+      ∙ (lone-line head none some ∙ ap (λ (t : List ℕ). without_ending head ∷ lines_of t) (sym empty))
+
+  block-after : MayBeFollowed head block → block ≡ after_first_line (head ++ block)
+  block-after (inl (front, is, none)) =
+      sym (ap (λ (t : List ℕ). after_first_line (t ++ block)) is
+      ∙ (ap after_first_line (append_assoc front (10 ∷ []) block) ∙ after-fed front block none))
+  block-after (inr (none, empty)) = empty ∙ sym (ap after_first_line (head-alone empty) ∙ after-none head none)
+
+  head-ends : IsFed head → AreFed block → EndsLine (head ++ block)
+  head-ends fed_ (inl empty) = subst EndsLine (sym (head-alone empty)) (fed-ends head fed_)
+  head-ends fed_ (inr ends) = ends-append head block ends
+
+  counted : AreFed block → length (lines_of block) ≡ feeds block
+  counted (inl empty) = ap (λ (t : List ℕ). length (lines_of t)) empty ∙ sym (ap feeds empty)
   counted (inr ends) = ap (λ (t : List ℕ). length (lines_of t)) ends.1 ∙ (lines-fed ends.0 ∙ sym (ap feeds ends.1))
 
-  whole-block : AreLines count block → IsWhole (head ++ block)
-  whole-block lines =
-      let ends = head-ends head block (fed-ends head is) lines.1 in
-      record {
-        line = without_ending head;
-        block = lines_of block;
-        lines = block-lines;
-        takes = subst (Takes (without_ending head)) (sym (counted lines.1 ∙ lines.0)) takes;
-        front = ends.0;
-        ends = ends.1;
-      }
+  module _ (count : ℕ) (takes : Takes (without_ending head) count) where
+    whole-block : IsFed head → AreLines count block → IsWhole (head ++ block)
+    whole-block fed_ lines =
+        let ends = head-ends fed_ lines.1 in
+        record {
+          line = without_ending head;
+          block = lines_of block;
+          lines = block-lines (inl fed_);
+          takes = subst (Takes (without_ending head)) (sym (counted lines.1 ∙ lines.0)) takes;
+          front = ends.0;
+          ends = ends.1;
+        }
 
-  last-block : feeds block < count → IsLast (head ++ block)
-  last-block fewer =
-      let few = lines-few block in
-      record { line = without_ending head; block = lines_of block; lines = block-lines; count = count; takes = takes; most = omega arith }
+    last-block : MayBeFollowed head block → feeds block < count → IsLast (head ++ block)
+    last-block may fewer =
+        let few = lines-few block in
+        record { line = without_ending head; block = lines_of block; lines = block-lines may; count = count; takes = takes; most = omega arith }
 
-  none-block : feeds block < count → BeginsWithNone (head ++ block)
-  none-block fewer =
-      let one = fed-feeds head is in
-      let all = feeds-append head block in
-      none-whole (head ++ block) (without_ending head) (lines_of block) count block-lines takes (omega arith)
+    none-block : IsFed head → feeds block < count → BeginsWithNone (head ++ block)
+    none-block fed_ fewer =
+        let one = fed-feeds head fed_ in
+        let all = feeds-append head block in
+        none-whole (head ++ block) (without_ending head) (lines_of block) count (block-lines (inl fed_)) takes (omega arith)
 
-  block-fault : (fault : Fault) → HoldsText (Err fault) (head ++ block) → 0 < count → IsFaultOf (head ++ block) fault
-  block-fault Syntax long some = tells-long (head ++ block) long
-  block-fault NoMemory none some = asks-for-memory (head ++ block) (without_ending head) (lines_of block) count block-lines takes some
+    block-fault : (fault : Fault) → MayBeFollowed head block → HoldsText (Err fault) block → (block ≢ [] → 0 < count) → IsFaultOf (head ++ block) fault
+    block-fault Syntax may long more =
+        tells-long (head ++ block) (λ all. long (subst (AllByRecursion IsShort) (block-lines may) all).1)
+    block-fault NoMemory may empty more =
+        asks-for-memory (head ++ block) (without_ending head) (lines_of block) count (block-lines may) takes (more empty)
 
 -- ---- what was read
 
-module _ (F : Type 0) (a b : Option (List ℕ)) (old mid : Input) (line : Option (List ℕ)) where
-  pub ReadsRequest-failed : (failed : Failed) → ReadsLine F a b old mid line (Err failed) → ReadsRequest F a b old mid line (Err failed)
-  ReadsRequest-failed failed read =
+module _ (F : Type 0) (a b : Option (List ℕ)) (old mid : Input) where
+  pub ReadsRequest-failed : (line : Option (List ℕ)) (failed : Failed) → ReadsLine F a b old mid line (Err failed) → ReadsRequest F a b old mid (Err failed)
+  ReadsRequest-failed line failed read =
       record { bytes = read.bytes; used = read.used; found = (none-line read.bytes read.ends.0, read.ends.1, read.ends.2, read.ends.3) }
 
+  -- a line that takes no other
+  next-alone : (whole : Bool) (bytes : List ℕ) → bytes ≢ [] → Takes (without_ending bytes) 0 → LineEnds F mid bytes (Ok whole) → IsNext (mid.is_over ≡ true) mid.waiting bytes
+  next-alone true bytes some takes fed_ = inl (whole-head bytes fed_ takes)
+  next-alone false bytes some takes (none, over, empty) = inr (over, empty, last-head bytes none some 0 takes)
+
+  line-of : (whole : Bool) (bytes : List ℕ) → LineEnds F mid bytes (Ok whole) → IsLine bytes
+  line-of true bytes fed_ = inl fed_
+  line-of false bytes (none, over, empty) = inr none
+
   -- a line with no room
-  next-long : (whole : Bool) (bytes : List ℕ) → None ≡ kept bytes → LineEnds F mid bytes (Ok whole) → IsNext (mid.is_over ≡ true) mid.waiting bytes × IsFaultOf bytes Syntax
-  next-long whole bytes keeps ends = by whole ends
-    where
-      some : bytes ≢ []
-      some none = let many = kept-none bytes keeps in let n = ap length none in omega arith
+  pub ReadsRequest-long : (line : Option (List ℕ)) (whole : Bool) → ReadsLine F a b old mid line (Ok whole) → None ≡ line → ReadsRequest F a b old mid (Ok (Some (Err Syntax)))
+  ReadsRequest-long line whole read none =
+      let keeps : None ≡ kept read.bytes = none ∙ read.held in
+      let long = not-short read.bytes keeps in
+      let some : read.bytes ≢ [] = λ empty. let many = kept-none read.bytes keeps in let n = ap length empty in omega arith in
+      let lines = one-line read.bytes (line-of whole read.bytes read.ends) some in
+      record {
+        bytes = read.bytes;
+        used = read.used;
+        found = (
+          next-alone whole read.bytes some (takes-long (without_ending read.bytes) long) read.ends,
+          tells-long read.bytes (λ all. long (subst (AllByRecursion IsShort) lines all).0),
+        );
+      }
 
-      long : (w : IsLine bytes) → IsFaultOf bytes Syntax
-      long w = tells-long bytes (λ all. not-short bytes keeps (subst (AllByRecursion IsShort) (one-line bytes w some) all).0)
-
-      by : (whole : Bool) → LineEnds F mid bytes (Ok whole) → IsNext (mid.is_over ≡ true) mid.waiting bytes × IsFaultOf bytes Syntax
-      by true fed_ = (inl (whole-head bytes fed_ (takes-long (without_ending bytes) (not-short bytes keeps))), long (inl fed_))
-      by false (none, over, empty) =
-          (inr (over, empty, last-head bytes none some 0 (takes-long (without_ending bytes) (not-short bytes keeps))), long (inr none))
-
-  pub ReadsRequest-long : (whole : Bool) → ReadsLine F a b old mid line (Ok whole) → None ≡ line → ReadsRequest F a b old mid line (Ok (Some (found.Fault Syntax)))
-  ReadsRequest-long whole read none =
-      record { bytes = read.bytes; used = read.used; found = next-long whole read.bytes (none ∙ read.held) read.ends }
-
-  module _ (head : List ℕ) (is : Some head ≡ line) (whole : Bool) (read : ReadsLine F a b old mid line (Ok whole)) where
+  module _ (line : Option (List ℕ)) (head : List ℕ) (is : Some head ≡ line) (whole : Bool) (read : ReadsLine F a b old mid line (Ok whole)) where
     bytes-are : head ≡ read.bytes
     bytes-are = kept-some read.bytes head (is ∙ read.held)
 
@@ -158,49 +196,93 @@ module _ (F : Type 0) (a b : Option (List ℕ)) (old mid : Input) (line : Option
     end-of true none fed_ = absurd (ends-some head (fed-ends head fed_) none)
     end-of false none (lacks, over, empty) = (over, empty)
 
-    pub ReadsRequest-end : head ≡ [] → ReadsRequest F a b old mid line (Ok None)
+    pub ReadsRequest-end : head ≡ [] → ReadsRequest F a b old mid (Ok None)
     ReadsRequest-end none =
         let end = end-of whole none head-line in
         record { bytes = head; used = head-used; found = (none, end.0, end.1) }
 
-    module _ (some : head ≢ []) (count : ℕ) (takes : Takes (without_ending head) count) where
-      next-alone : (whole : Bool) → LineEnds F mid head (Ok whole) → (count ≡ 0) ⊎ (whole ≡ false) → IsNext (mid.is_over ≡ true) mid.waiting head
-      next-alone true fed_ (inl none) = inl (whole-head head fed_ (subst (Takes (without_ending head)) none takes))
-      next-alone true fed_ (inr lacks) = absurd (cc)
-      next-alone false (none, over, empty) alone = inr (over, empty, last-head head none some count takes)
+    module _ (some : head ≢ []) where
+      -- it says nothing
+      pub ReadsRequest-unsaid : ((h : Head) → ¬ Says (without_ending head) h) → ReadsRequest F a b old mid (Ok (Some (Err Syntax)))
+      ReadsRequest-unsaid none = record {
+        bytes = head;
+        used = head-used;
+        found = (
+          next-alone whole head some (unsaid none refl) head-line,
+          unsaid-tells head (without_ending head) [] (one-line head (line-of whole head head-line) some) none,
+        );
+      }
 
-      pub ReadsRequest-head : (count ≡ 0) ⊎ (whole ≡ false) → ReadsRequest F a b old mid line (Ok (Some found.Head))
-      ReadsRequest-head alone =
-          record { bytes = head; used = head-used; found = (next-alone whole head-line alone, sym is) }
+      module _ (c : Option (List ℕ)) (new : Input) (h : Head) (says : Says (without_ending head) h) (count : ℕ) (same : count ≡ block_lines h) where
+        takes : Takes (without_ending head) count
+        takes = said h says same
 
-      module _ (c : Option (List ℕ)) (new : Input) (after : Option (List ℕ)) (text : Result (Vec ℕ Global) Fault) (more : 0 < count) (fed_ : whole ≡ true) (holds : HoldsText text head) where
-        head-fed : IsFed head
-        head-fed = subst (λ (w : Bool). LineEnds F mid head (Ok w)) fed_ head-line
+        -- at the end of the input nothing follows
+        abbrev Ends : (block : List ℕ) → Type 0
+        Ends block = IsFed head ⊎ (HasNoFeed head × (block ≡ []) × (new.is_over ≡ true) × (new.waiting ≡ []))
 
-        next-block : (block : List ℕ) → AreLines count block ⊎ ((feeds block < count) × (new.is_over ≡ true) × (new.waiting ≡ [])) → IsNext (new.is_over ≡ true) new.waiting (head ++ block)
-        next-block block (inl lines) = inl (whole-block head block count head-fed takes lines)
-        next-block block (inr (fewer, over, empty)) = inr (over, empty, last-block head block count head-fed takes fewer)
+        ends-by : (whole : Bool) → LineEnds F mid head (Ok whole) → (block : List ℕ) → Used b c mid new block → Ends block
+        ends-by true fed_ block used = inl fed_
+        ends-by false (none, over, empty) block used =
+            let still = used.over over in
+            let parts : block ++ new.waiting ≡ [] =
+            sym used.parts ∙ (ap (λ (t : List ℕ). mid.waiting ++ t) still.0 ∙ (append-nil mid.waiting ∙ empty)) in
+            let both = no-parts block new.waiting parts in
+            inr (none, both.0, still.1, both.1)
 
-        pub ReadsRequest-whole : (held : Vec ℕ Global) → ReadsBlock F b c mid new count text (Ok (Ok held)) → ReadsRequest F a c old new after (Ok (Some (found.Whole held)))
-        ReadsRequest-whole held block = record {
-          bytes = head ++ block.block;
-          used = Used-then a b c old mid new head block.block head-used block.used;
-          found = (next-block block.block block.ends.1, block.ends.0 head (fed-ends head head-fed) holds);
+        may-be : (block : List ℕ) → Ends block → MayBeFollowed head block
+        may-be block (inl fed_) = inl fed_
+        may-be block (inr (none, empty, over, left)) = inr (none, empty)
+
+        next-block : (block : List ℕ) → Ends block → AreLines count block ⊎ ((feeds block < count) × (new.is_over ≡ true) × (new.waiting ≡ []))
+            → IsNext (new.is_over ≡ true) new.waiting (head ++ block)
+        next-block block (inl fed_) (inl lines) = inl (whole-block head block some count takes fed_ lines)
+        next-block block (inl fed_) (inr (fewer, over, empty)) = inr (over, empty, last-block head block some count takes (inl fed_) fewer)
+        next-block block (inr (none, empty, over, left)) lines =
+            inr (over, left, subst IsLast (sym (head-alone head block some empty)) (last-head head none some count takes))
+
+        has-head : (block : List ℕ) → Ends block → HasHead (head ++ block) h block
+        has-head block ends = record {
+          line = without_ending head;
+          block = lines_of block;
+          lines = block-lines head block some (may-be block ends);
+          says = says;
+          rest = block-after head block some (may-be block ends);
         }
 
-        pub ReadsRequest-fault : (fault : Fault) → ReadsBlock F b c mid new count text (Ok (Err fault)) → ReadsRequest F a c old new after (Ok (Some (found.Fault fault)))
-        ReadsRequest-fault fault block = record {
-          bytes = head ++ block.block;
-          used = Used-then a b c old mid new head block.block head-used block.used;
-          found = (next-block block.block block.ends.1, block-fault head block.block count head-fed takes fault (block.ends.0 head (fed-ends head head-fed) holds) more);
-        }
+        pub ReadsRequest-block : (text : Vec ℕ Global) (found : Result Request Fault) → ReadsBlock F b c mid new count (Ok (Ok text))
+            → ((bytes : List ℕ) → HasHead bytes h text.items → MatchResult found (Reads bytes) (Tells bytes)) → ReadsRequest F a c old new (Ok (Some found))
+        ReadsRequest-block text found block finish =
+            let ends = ends-by whole head-line block.block block.used in
+            let has = subst (HasHead (head ++ block.block) h) (sym block.ends.0) (has-head block.block ends) in
+            record {
+              bytes = head ++ block.block;
+              used = Used-then a b c old mid new head block.block head-used block.used;
+              found = (next-block block.block ends block.ends.1, found-of (head ++ block.block) found (finish (head ++ block.block) has));
+            }
 
-        pub ReadsRequest-cut : (failed : Failed) → ReadsBlock F b c mid new count text (Err failed) → ReadsRequest F a c old new after (Err failed)
+        pub ReadsRequest-fault : (fault : Fault) → ReadsBlock F b c mid new count (Ok (Err fault)) → ReadsRequest F a c old new (Ok (Some (Err fault)))
+        ReadsRequest-fault fault block =
+            let ends = ends-by whole head-line block.block block.used in
+            record {
+              bytes = head ++ block.block;
+              used = Used-then a b c old mid new head block.block head-used block.used;
+              found = (
+                next-block block.block ends block.ends.1,
+                block-fault head block.block some count takes fault (may-be block.block ends) block.ends.0 (block-some F new count block.block (Err fault) block.ends),
+              );
+            }
+
+        pub ReadsRequest-cut : (failed : Failed) → ReadsBlock F b c mid new count (Err failed) → ReadsRequest F a c old new (Err failed)
         ReadsRequest-cut failed block = record {
           bytes = head ++ block.block;
           used = Used-then a b c old mid new head block.block head-used block.used;
-          found = (none-block head block.block count head-fed takes block.ends.0, block.ends.1, block.ends.2, block.ends.3);
+          found = (cut-by (ends-by whole head-line block.block block.used), block.ends.1, block.ends.2, block.ends.3);
         }
+          where
+            cut-by : Ends block.block → BeginsWithNone (head ++ block.block)
+            cut-by (inl fed_) = none-block head block.block some count takes fed_ block.ends.0
+            cut-by (inr (none, empty, over, left)) = absurd (let h = sym over ∙ block.ends.2 in cc)
 
 pub some-bytes : (bytes : List ℕ) → eqb (length bytes) 0 ≡ false → bytes ≢ []
 some-bytes [] some = absurd (cc some)

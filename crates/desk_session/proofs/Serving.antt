@@ -1,5 +1,5 @@
 -- A session over its ends and its file, turn by turn.
-use Rattle.std.proofs.Common.{◌≡◌, ◌≢◌, ◌⊎◌, ℕ, ◌<◌, ◌≤◌, Bool, true, false, List, [], ◌∷◌, ◌++◌, length, Option, None, Some, Ok, Err, refl, sym, ap, subst, ◌∙◌, inl, inr, arith}
+use Rattle.std.proofs.Common.{◌≡◌, ◌≢◌, ◌⊎◌, ℕ, ◌+◌, ◌-◌, ◌^◌, ◌<◌, ◌≤◌, Bool, true, false, List, [], ◌∷◌, ◌++◌, length, Option, None, Some, Result, Ok, Err, refl, sym, ap, subst, ◌∙◌, inl, inr, arith}
 use Rattle.std.specs.Io.KnownBytes.{Appends, IsAtEnd}
 use Rattle.std.specs.List.{AllByRecursion}
 use Rattle.std.proofs.KnownBytes.{Appends-nil, Appends-trans}
@@ -17,12 +17,13 @@ use Rattle.desk_ends.specs.Limits.{most_input}
 use Rattle.desk_ends.proofs.UsedInput.{Used-none, Used-then, left_to_use, left_to_use-fewer, no-parts, unread-knows}
 use Rattle.desk_line.specs.declared.answer.Answer.{Answer}
 use Rattle.desk_line.specs.declared.answer.Answer.TheVariants as answers
+use Rattle.desk_line.specs.declared.fault.Fault.{Fault}
+use Rattle.desk_line.specs.declared.request.Request.{Request}
 use Rattle.desk_line.specs.declared.request.Request.TheVariants.{Do}
 use Rattle.desk_line.specs.Request.{WholeRequests}
 use Rattle.desk_line.proofs.RequestLaws.{one-request}
 use Rattle.desk_store.specs.Books.{HoldsBook, IsKept}
 use Rattle.desk_rows.specs.Layout.{Layout}
-use Rattle.desk_session.specs.declared.reader.Found.{Found}
 use Rattle.desk_session.specs.declared.session.Ended.{Ended}
 use Rattle.desk_session.specs.declared.session.Ended.TheVariants as ended
 use Rattle.desk_session.specs.Reading.{ReadsRequest}
@@ -135,14 +136,14 @@ IsServing-none book a v flushed s = record {
   kept = λ clean l may. may.kept;
 }
 
-module _ (RF WF : Type 0) (start book : Book) (a b c v w flushed : Option (List ℕ)) (input new : Input) (old s : State) (line : Option (List ℕ))
+module _ (RF WF : Type 0) (start book : Book) (a b c v w flushed : Option (List ℕ)) (input new : Input) (old s : State)
     (so_far : IsServing start book a b v w flushed input old s) where
   all-left : (e : Ended) → MayLack e [] → HasCleanDisk s → (l : Layout) → MayServe l start old → IsLeft l start book e so_far.given s
   all-left e lacks clean l may =
       held-left l start book e so_far.turns so_far.given s so_far.session (goes-held so_far.turns so_far.goes) lacks (so_far.kept clean l may)
 
   -- the input is at its end
-  pub Served-done : ReadsRequest RF b c input new line (Ok None) → Served start book ended.Done a c v w flushed RF WF old s
+  pub Served-done : ReadsRequest RF b c input new (Ok None) → Served start book ended.Done a c v w flushed RF WF old s
   Served-done read =
       let used = Used-then a b c unread input new so_far.bytes read.bytes so_far.used read.used in
       let knows = used.ends (unread-knows a) read.found.1 in
@@ -167,7 +168,7 @@ module _ (RF WF : Type 0) (start book : Book) (a b c v w flushed : Option (List 
       }
 
   -- a read failed
-  pub Served-input : (failed : Failed) → ReadsRequest RF b c input new line (Err failed) → Served start book ended.Input a c v w flushed RF WF old s
+  pub Served-input : (failed : Failed) → ReadsRequest RF b c input new (Err failed) → Served start book ended.Input a c v w flushed RF WF old s
   Served-input failed read =
       let used = Used-then a b c unread input new so_far.bytes read.bytes so_far.used read.used in
       let going : ¬ (input.is_over ≡ true) = λ over. let h = sym (read.used.over over).1 ∙ read.found.2 in cc h in
@@ -194,8 +195,8 @@ module _ (RF WF : Type 0) (start book : Book) (a b c v w flushed : Option (List 
 
   -- ---- one turn more
 
-  module _ (found : Found) (next : Book) (answer : Answer) (s' : State) (x passed : Option (List ℕ)) (ok : Bool)
-      (read : ReadsRequest RF b c input new line (Ok (Some found)))
+  module _ (found : Result Request Fault) (next : Book) (answer : Answer) (s' : State) (x passed : Option (List ℕ)) (ok : Bool)
+      (read : ReadsRequest RF b c input new (Ok (Some found)))
       (took : TakesTurn read.bytes book next answer s s') (sends : SendsReply WF w x passed next answer ok) where
     abbrev turn : Turn
     turn = record { request = read.bytes; answer = answer; taken = sends.taken }

@@ -23,8 +23,7 @@ use Rattle.desk_line.specs.declared.request.Query.{Query}
 use Rattle.desk_line.specs.declared.request.Request.TheVariants.{Ask, Do}
 use Rattle.desk_line.specs.Answered.{IsAnswered, accepted, asked, lost, no_request, refused, unplanned, unread}
 use Rattle.desk_line.specs.Reply.{IsReplied}
-use Rattle.desk_line.specs.Request.{Reads, Tells}
-use Rattle.desk_line.proofs.RequestLaws.{text-asks}
+use Rattle.desk_line.specs.Request.{Reads}
 use Rattle.desk_store.specs.Books.{HasNewTables, IsKept, LeavesBook, LeavesEither, MayKeep}
 use Rattle.desk_rows.specs.Layout.{Layout}
 use Rattle.desk_session.specs.Requests.{IsFaultOf}
@@ -41,10 +40,6 @@ fault-turn bytes book faults.Syntax s tells =
     record { answered = no_request tells refl refl; clean = λ clean. clean; left = λ clean l tables kept. kept }
 fault-turn bytes book faults.NoMemory s asks =
     record { answered = unread asks refl refl; clean = λ clean. clean; left = λ clean l tables kept. kept }
-
-pub fault-of : (bytes : List ℕ) (fault : Fault) → Tells bytes fault → IsFaultOf bytes fault
-fault-of bytes faults.Syntax tells = tells
-fault-of bytes faults.NoMemory (command, expect, reads, text) = text-asks bytes command expect reads text
 
 refused-answer : (bytes : List ℕ) (book : Book) (command : Command) (expect : Option ℕ) (refusal : Refusal) → Reads bytes (Do command expect)
     → IsRefused book expect command refusal ⊎ ((refusal ≡ refusals.NoMemory) × MayLackMemory book expect command)

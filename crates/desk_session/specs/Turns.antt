@@ -1,5 +1,5 @@
 -- One turn of a session. Only private functions and proofs need these words.
-use Rattle.std.specs.Prelude.{◌≡◌, ℕ, Bool, true, false, List, Option, IsSome}
+use Rattle.std.specs.Prelude.{◌≡◌, ℕ, Bool, true, false, List, Option}
 use Rattle.std.specs.Io.KnownBytes.{Appends}
 use Rattle.sqlite.specs.State.{HasCleanDisk, State}
 use Rattle.desk_command.specs.declared.command.Command.{Command}
@@ -16,8 +16,6 @@ use Rattle.desk_line.specs.Answered.{IsAnswered}
 use Rattle.desk_line.specs.Reply.{IsReply}
 use Rattle.desk_store.specs.Books.{HasNewTables, IsKept, LeavesEither}
 use Rattle.desk_rows.specs.Layout.{Layout}
-use Rattle.desk_session.specs.declared.reader.Found.{Found}
-use Rattle.desk_session.specs.declared.reader.Found.TheVariants as found
 use Rattle.desk_session.specs.Served.{IsPart}
 use Rattle.desk_session.specs.Session.{IsCommand}
 
@@ -25,12 +23,6 @@ use Rattle.desk_session.specs.Session.{IsCommand}
 abbrev pub fault_answer : Fault → Answer
 fault_answer faults.Syntax = Syntax
 fault_answer faults.NoMemory = NoMemory
-
--- a head line is held where the request is one
-abbrev pub HoldsHead : Option (List ℕ) → Found → Type 0
-HoldsHead line found.Head = IsSome line
-HoldsHead line (found.Whole text) = Unit {0}
-HoldsHead line (found.Fault fault) = Unit {0}
 
 -- a command was lost: whatever a crash leaves holds the book, or the next one that the command makes
 pub record LeavesLost (l : Layout) (request : List ℕ) (book : Book) (s : State) : Type 0 where

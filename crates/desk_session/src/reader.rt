@@ -1,43 +1,27 @@
 //! The requests of an input.
 ghost use Rattle.desk_ends.specs.Input.{unread};
-ghost use Rattle.desk_ends.specs.Lines.{EndsLine, IsLine, kept};
-ghost use Rattle.desk_session.specs.Reading.{HoldsText, ReadsBlock, ReadsRequest};
-ghost use Rattle.std.specs.Prelude.{Err, IfErr, List, None, OnOk, Some, [], false, ◌++◌, ◌≡◌, ℕ};
+ghost use Rattle.desk_ends.specs.Lines.{IsLine, kept};
+ghost use Rattle.desk_session.specs.Reading.{AreFed, HoldsText, ReadsBlock, ReadsRequest};
+ghost use Rattle.std.specs.Prelude.{Err, IfErr, List, None, OnOk, ◌++◌, ◌≡◌, ℕ};
 
 use desk_ends::{Failed, Input, Line, Source, without_ending};
-use desk_line::{Fault, lines_after};
+use desk_line::{Fault, Request, begin_request};
 use std::alloc::Global;
 
-/// Where the bytes of a request are.
-#[derive(Drop)]
-pub(crate) enum Found {
-    /// It is a head line alone, which the reader holds.
-    Head,
-    /// It has lines after its head line.
-    Whole(Vec<u8>),
-    /// It was read through: it isn't a request, or an allocation for it failed.
-    Fault(Fault),
-}
-
-/// Reads an input request by request, and holds the line that was read last.
+/// Reads an input request by request.
 #[derive(Drop)]
 pub(crate) struct Reader {
     /// What was read of the input.
     pub(crate) input: Input,
-    /// The line.
-    pub(crate) line: Line,
+    /// The head line that was read last.
+    head: Line,
+    /// The line of a block that was read last.
+    line: Line,
 }
 
-/// The bytes of a line.
-fn copy_line(alloc: Global, line: &[u8]) -> Result<Vec<u8>, Fault>
-    ensures { HoldsText result line.now }
-{
-    Ok(Vec::from_slice(alloc, line)?)
-}
-
-/// Bytes with a line after them. With a line that is too long they aren't a request, and no more of them is kept.
+/// Bytes with a line after them. With a line that is too long they aren't of a request, and no more of them is kept.
 fn add_line(text: Result<Vec<u8>, Fault>, line: &Line) -> Result<Vec<u8>, Fault>
-    ensures holds { (bytes more : List ℕ) → EndsLine bytes → IsLine more
+    ensures holds { (bytes more : List ℕ) → AreFed bytes → IsLine more
         → HoldsText text bytes → line.now ≡ kept more → HoldsText result (bytes ++ more) }
     // What is known of the block by then stays so, and a line that is too long is a fault of syntax.
     ensures still { IfErr text (λ fault. result ≡ Err fault) }
@@ -59,65 +43,66 @@ fn append(text: Vec<u8>, bytes: &[u8]) -> Result<Vec<u8>, Fault>
     Ok(text)
 }
 
+/// Reads so many lines, or those that are left, into a line one after another, and gives their bytes.
+fn read_block<S: Source>(
+    alloc: Global,
+    source: &mut S,
+    input: &mut Input,
+    line: &mut Line,
+    count: u64,
+) -> Result<Result<Vec<u8>, Fault>, Failed>
+    ensures { ReadsBlock S.can_fail (S.remaining source.old) (S.remaining source.new)
+        input.old input.new count result }
+{
+    let mut text = Ok(Vec::new(alloc));
+    let mut left = count;
+    while left > 0 {
+        let is_whole = input.read_line(source, line)?;
+        text = add_line(text, line);
+        if !is_whole {
+            return Ok(text);
+        }
+        left -= 1;
+    }
+    Ok(text)
+}
+
 impl Reader {
     /// Nothing read yet.
     pub(crate) fn new() -> Self
-        ensures { result ≡ record { input = unread; line = Some [] } }
+        ensures { result.input ≡ unread }
     {
         Reader {
             input: Input::new(),
+            head: Line::new(),
             line: Line::new(),
         }
     }
 
-    /// Reads the next request, if there is one. A line that is too long is read through, and so is one for which an allocation
-    /// fails.
+    /// Reads the next request, if there is one, or says why the bytes that it read are none. A line that is too long is read
+    /// through, and so is a block for which an allocation fails.
     pub(crate) fn read<S: Source>(
         &mut self,
         alloc: Global,
         source: &mut S,
-    ) -> Result<Option<Found>, Failed>
+    ) -> Result<Option<Result<Request, Fault>>, Failed>
         ensures { ReadsRequest S.can_fail (S.remaining source.old) (S.remaining source.new)
-            self.old.input self.new.input self.new.line result }
+            self.old.input self.new.input result }
     {
-        let is_whole = self.input.read_line(source, &mut self.line)?;
-        let Some(head) = self.line.bytes() else {
-            return Ok(Some(Found::Fault(Fault::Syntax)));
+        self.input.read_line(source, &mut self.head)?;
+        let Some(line) = self.head.bytes() else {
+            return Ok(Some(Err(Fault::Syntax)));
         };
-        if head.is_empty() {
+        if line.is_empty() {
             return Ok(None);
         }
-        let count = lines_after(without_ending(head));
-        if count == 0 || !is_whole {
-            return Ok(Some(Found::Head));
+        let Some(head) = begin_request(without_ending(line)) else {
+            return Ok(Some(Err(Fault::Syntax)));
+        };
+        let count = head.lines_after();
+        match read_block(alloc, source, &mut self.input, &mut self.line, count)? {
+            Ok(text) => Ok(Some(head.finish(alloc, text.as_slice()))),
+            Err(fault) => Ok(Some(Err(fault))),
         }
-        let text = copy_line(alloc, head);
-        match self.read_block(source, text, count)? {
-            Ok(text) => Ok(Some(Found::Whole(text))),
-            Err(fault) => Ok(Some(Found::Fault(fault))),
-        }
-    }
-
-    /// Reads so many lines, or those that are left, and adds them to a text.
-    fn read_block<S: Source>(
-        &mut self,
-        source: &mut S,
-        text: Result<Vec<u8>, Fault>,
-        count: u64,
-    ) -> Result<Result<Vec<u8>, Fault>, Failed>
-        ensures { ReadsBlock S.can_fail (S.remaining source.old) (S.remaining source.new)
-            self.old.input self.new.input count text result }
-    {
-        let mut text = text;
-        let mut left = count;
-        while left > 0 {
-            let is_whole = self.input.read_line(source, &mut self.line)?;
-            text = add_line(text, &self.line);
-            if !is_whole {
-                return Ok(text);
-            }
-            left -= 1;
-        }
-        Ok(text)
     }
 }

@@ -53,7 +53,7 @@ pub fn serve<R: Source, W: Sink, S: Alter>(
             Ok(None) => return (Ended::Done, book),
             Err(_) => return (Ended::Input, book),
         };
-        let (answer, next) = answer_found(alloc, store, book, &reader.line, found);
+        let (answer, next) = answer_found(alloc, store, book, found);
         book = next;
         let sent = reply(sink, &book, &answer);
         if is_lost(&answer) {

@@ -1,51 +1,31 @@
 //! One request to a book and its file, from its bytes to its reply.
 ghost use Rattle.desk_line.specs.Request.{Reads};
-ghost use Rattle.desk_session.specs.Reading.{IsFound};
-ghost use Rattle.desk_session.specs.Turns.{HoldsHead, SendsReply, TakesTurn, fault_answer};
+ghost use Rattle.desk_session.specs.Requests.{IsFaultOf};
+ghost use Rattle.desk_session.specs.Turns.{SendsReply, TakesTurn, fault_answer};
 ghost use Rattle.desk_store.specs.Books.{shown_by};
-ghost use Rattle.std.specs.Prelude.{IsTrue, List, is_ok, true, ◌≡◌, ◌≢◌, ◌↔◌, ℕ};
+ghost use Rattle.std.specs.Prelude.{IsTrue, List, MatchResult, is_ok, true, ◌≡◌, ◌≢◌, ◌↔◌, ℕ};
 
-use super::reader::Found;
 use desk_book::Book;
 use desk_command::Command;
-use desk_ends::{Failed, Line, Sink};
-use desk_line::{Answer, Fault, Request, read_request, write_reply};
+use desk_ends::{Failed, Sink};
+use desk_line::{Answer, Fault, Request, write_reply};
 use desk_store::Store;
 use sqlite::Alter;
 use std::alloc::Global;
 
-/// Answers a request that was found, and gives the book as it is then. The line is the one that is held.
+/// Answers a request that was found, and gives the book as it is then.
 pub(crate) fn answer_found<S: Alter>(
     alloc: Global,
     store: &mut Store<S>,
     book: Book,
-    line: &Line,
-    found: Found,
+    found: Result<Request, Fault>,
 ) -> (Answer, Book)
-    requires { HoldsHead line.now found }
-    ensures taken { (bytes : List ℕ) → IsFound line.now bytes found → TakesTurn bytes book result.1 result.0
+    ensures taken { (bytes : List ℕ) → MatchResult found (Reads bytes) (IsFaultOf bytes)
+        → TakesTurn bytes book result.1 result.0
         (shown_by S.Store store.old) (shown_by S.Store store.new) }
     ensures lost { result.0 ≡ Answer.Lost → store.new.lost ≡ true }
 {
     match found {
-        Found::Head => answer(alloc, store, book, line.held()),
-        Found::Whole(text) => answer(alloc, store, book, text.as_slice()),
-        Found::Fault(fault) => (fault_answer(fault), book),
-    }
-}
-
-/// Answers a request.
-fn answer<S: Alter>(
-    alloc: Global,
-    store: &mut Store<S>,
-    book: Book,
-    request: &[u8],
-) -> (Answer, Book)
-    ensures taken { TakesTurn request.now book result.1 result.0
-        (shown_by S.Store store.old) (shown_by S.Store store.new) }
-    ensures lost { result.0 ≡ Answer.Lost → store.new.lost ≡ true }
-{
-    match read_request(alloc, request) {
         Ok(Request::Do { command, expect }) => carry_out(alloc, store, book, &command, expect),
         Ok(Request::Ask(query)) => (Answer::Asked(query), book),
         Err(fault) => (fault_answer(fault), book),

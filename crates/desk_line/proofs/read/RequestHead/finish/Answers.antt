@@ -1,0 +1,5 @@
+use Rattle.desk_line.proofs.RequestLaws.{head-told}
+use Rattle.desk_line.proofs.read.RequestHead.finish.Goals as goal
+
+pub returns : goal.returns
+returns c = λ bytes has. head-told bytes c.args.self c.args.text.now c.complete.result (rw c.self.view_is at c.complete.ensures) has
