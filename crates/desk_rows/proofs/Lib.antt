@@ -4,6 +4,7 @@ pub mod Beginnings
 pub mod Both
 pub mod ByName
 pub mod Changing
+pub mod Commits
 pub mod Committing
 pub mod Creates
 pub mod Distinct

@@ -60,7 +60,7 @@ more_before : (a b c : ℕ) → MoreFaults a b → b ≤ c → MoreFaults a c
 more_before a b c more up = omega (arith, more, up)
 
 -- what is said once the disk is clean
-abbrev Loss : State → State → Error → Type 0
+abbrev pub Loss : State → State → Error → Type 0
 Loss old new e = HasCleanDisk new → CountsLoss old new e
 
 -- failures are only ever added
@@ -100,7 +100,7 @@ module _ {S : Type 0} (g : Ghosts S) where
 
   -- ---- a change
 
-  abbrev StopsLost : Putting S → Type 1
+  abbrev pub StopsLost : Putting S → Type 1
   StopsLost putting = (old : Held S) (new : State) (e : Error) → putting.stops old new e → Loss (state g old) new e
 
   pub items_lost : {I : Type 0} (gives : I → Option Put → I → Type 0) (it : I) → StopsLost (of_items g gives it)
@@ -116,7 +116,7 @@ module _ {S : Type 0} (g : Ghosts S) where
   put_lost putting stops old new e (at_commit last ran put left why) =
       later_loss (state g old) (state g last) new e _ ran (goes _ _ _ left) (λ clean. caused (state g last) new e (fails_so (state g last) new ⊥ e why))
 
-  tables_lost : (ws : List Which) (putting : Putting S) → StopsLost putting → StopsLost (after_tables g ws putting)
+  pub tables_lost : (ws : List Which) (putting : Putting S) → StopsLost putting → StopsLost (after_tables g ws putting)
   tables_lost ws putting stops old new e (inl stopped) =
       stops_lost (map creation stopped.done) (Failed (creation stopped.next)) old new e (λ a b. failed (creation stopped.next) a b e) stopped.stops
   tables_lost ws putting stops old new e (inr it) =

@@ -11,4 +11,5 @@ pub mod Fault
 pub mod Asked
 pub mod Making
 pub mod Failing
+pub mod Commits
 pub mod Whole

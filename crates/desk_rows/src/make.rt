@@ -1,18 +1,16 @@
 //! The making of tables.
 
-ghost use Rattle.std.specs.Prelude.{◌≡◌, false, true, [], ◌∷◌, IfErr, IsTrue, OnErr, OnOk, map};
+ghost use Rattle.std.specs.Prelude.{◌≡◌, false, true, [], ◌∷◌, IfErr, IsTrue, OnOk, map};
 ghost use Rattle.sqlite.specs.Held.{state};
 ghost use Rattle.sqlite.specs.State.{HasCleanDisk, KeepsCommit, Survives};
-ghost use Rattle.sql_tables.specs.States.{IsCommitted, IsSettled, IsUndone, ShowsAsBefore, seen};
+ghost use Rattle.sql_tables.specs.States.{seen};
+ghost use Rattle.desk_rows.specs.Commits.{Commits, making_file};
 ghost use Rattle.desk_rows.specs.Described.{described};
-ghost use Rattle.desk_rows.specs.Failing.{FailsToChange, StopsMaking, after_tables, of_first_row};
-ghost use Rattle.desk_rows.specs.Fault.{CountsLoss, IsToldAs};
-ghost use Rattle.desk_rows.specs.Making.{AreAbsent, AreMade, IsMade, IsNew, MakesTables, creation, made, making, new_tables};
-ghost use Rattle.desk_rows.specs.States.{Shows};
+ghost use Rattle.desk_rows.specs.Failing.{StopsMaking, after_tables, of_first_row};
+ghost use Rattle.desk_rows.specs.Making.{AreMade, MakesTables, creation, new_tables};
 ghost use Rattle.desk_rows.specs.Tables.{AreWritten, which};
-ghost use Rattle.desk_rows.specs.Turns.{AreRun, Failed, IsLeftBy, Ran, begun};
+ghost use Rattle.desk_rows.specs.Turns.{Failed, Ran};
 
-use crate::fault::Fault;
 use crate::put::{put_book, run};
 use crate::table::create_text;
 use crate::transaction::{begin, end};
@@ -126,38 +124,11 @@ pub fn make_tables<S: Alter>(conn: &mut Connection<S>) -> Result<(), Error>
     requires { conn.old.in_transaction ≡ false }
     ensures idle { conn.new.in_transaction ≡ false }
     // If a name is taken, the answer is an error.
-    ensures free { HasCleanDisk (state S.Store conn.new)
-        → OnOk result (AreAbsent (state S.Store conn.old).now.schema) }
-    ensures made { HasCleanDisk (state S.Store conn.new)
-        → OnOk result (IsNew (state S.Store conn.old).now.schema (state S.Store conn.old).now.trees
-        (λ c. Shows (made (state S.Store conn.old).now.schema) c (state S.Store conn.new))) }
-    ensures open { HasCleanDisk (state S.Store conn.new)
-        → OnOk result (IsCommitted (state S.Store conn.new)) }
-    // In any file, at `Ok` the connection shows what the statements, in turn, made of it.
-    ensures ran { HasCleanDisk (state S.Store conn.new)
-        → OnOk result (AreRun S.Store making conn.old (state S.Store conn.new)) }
+    ensures commits { HasCleanDisk (state S.Store conn.new)
+        → Commits S.Store (making_file S.Store) conn.old (state S.Store conn.new) result }
     // Of a crash at any exit: nothing new is left but all of it, and that only if no name was taken.
     ensures crash { Survives (state S.Store conn.old) (state S.Store conn.new)
-        (λ db. IsMade (state S.Store conn.old) db × IsLeftBy S.Store making conn.old db) }
-    // At `Ok` it leaves the trees that the connection shows.
-    ensures settled { HasCleanDisk (state S.Store conn.new)
-        → OnOk result (IsSettled (state S.Store conn.new)) }
-    // The error is what the database answered to one of the statements or to the commit.
-    ensures told { HasCleanDisk (state S.Store conn.new)
-        → IfErr result (FailsToChange S.Store new_tables (of_first_row S.Store) (begun conn.old)
-        (state S.Store conn.new)) }
-    ensures undone { HasCleanDisk (state S.Store conn.new)
-        → OnErr result (IsUndone (state S.Store conn.old) (state S.Store conn.new)) }
-    // The connection shows what it showed before, if it is still open.
-    ensures as_before { HasCleanDisk (state S.Store conn.new)
-        → OnErr result (ShowsAsBefore (state S.Store conn.old) (state S.Store conn.new)) }
-    // What was lost is counted, or was too big.
-    ensures lost { HasCleanDisk (state S.Store conn.new)
-        → IfErr result (CountsLoss (state S.Store conn.old) (state S.Store conn.new)) }
-    // After a refusal a crash leaves nothing new.
-    ensures refused { HasCleanDisk (state S.Store conn.new)
-        → IfErr result (λ e. IsToldAs e Fault.Refused
-        → Survives (state S.Store conn.old) (state S.Store conn.new) (λ _. ⊥)) }
+        ((making_file S.Store).Left conn.old) }
 {
     let mut tx = begin(conn);
     let ran = make_all(&mut tx);

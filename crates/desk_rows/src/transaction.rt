@@ -1,19 +1,15 @@
 //! A change of the file, as one transaction.
 
-ghost use Rattle.std.specs.Prelude.{◌≡◌, ◌++◌, false, true, IfErr, IsOk, IsTrue, OnErr, OnOk, map};
+ghost use Rattle.std.specs.Prelude.{◌≡◌, false, true, IfErr, IsOk, IsTrue, OnOk, map};
 ghost use Rattle.std.specs.Iterator.{IsFinite};
 ghost use Rattle.sqlite.specs.Held.{state};
 ghost use Rattle.sqlite.specs.State.{HasCleanDisk, IsLive, KeepsCommit, Survives};
+ghost use Rattle.desk_rows.specs.Commits.{Commits, making_tables, putting_items};
 ghost use Rattle.desk_rows.specs.Ending.{Ends};
-ghost use Rattle.desk_rows.specs.Failing.{FailsToChange, FailsToPut, after_tables, of_items};
-ghost use Rattle.desk_rows.specs.Fault.{CountsLoss, IsToldAs};
-ghost use Rattle.desk_rows.specs.Puts.{IsFileWith, OfItems, Writes, statement};
-ghost use Rattle.desk_rows.specs.Making.{IsFileWithTables, WritesWithTables, creation};
+ghost use Rattle.desk_rows.specs.Failing.{after_tables, of_items};
 ghost use Rattle.desk_rows.specs.Tables.{AreWritten, which};
-ghost use Rattle.desk_rows.specs.Turns.{AreRun, IsLeftBy, begun};
-ghost use Rattle.sql_tables.specs.States.{IsCommitted, IsSettled, IsUndone, ShowsAsBefore, seen};
+ghost use Rattle.sql_tables.specs.States.{seen};
 
-use crate::fault::Fault;
 use crate::make::create_all;
 use crate::put::put_all;
 use desk_parts::{FileTable, Put};
@@ -59,39 +55,12 @@ pub fn write<'a, S: Alter, I: Iterator<Item = Put<'a>> + Drop>(
     requires can { I.can_next puts }
     requires ends { IsFinite (I.remaining puts) }
     ensures idle { conn.new.in_transaction ≡ false }
-    ensures written { HasCleanDisk (state S.Store conn.new)
-        → OnOk result (OfItems I.next_gives puts (λ xs. Writes xs (state S.Store conn.old)
-        (state S.Store conn.new))) }
-    ensures open { HasCleanDisk (state S.Store conn.new)
-        → OnOk result (IsCommitted (state S.Store conn.new)) }
-    // In any file, at `Ok` the connection shows what the statements, in turn, made of it.
-    ensures ran { HasCleanDisk (state S.Store conn.new)
-        → OnOk result (OfItems I.next_gives puts (λ xs. AreRun S.Store (map statement xs) conn.old
-        (state S.Store conn.new))) }
+    ensures commits { HasCleanDisk (state S.Store conn.new)
+        → Commits S.Store (putting_items S.Store I.next_gives puts) conn.old
+        (state S.Store conn.new) result }
     // Of a crash at any exit: nothing new is left but all of it.
     ensures crash { Survives (state S.Store conn.old) (state S.Store conn.new)
-        (λ db. OfItems I.next_gives puts (λ xs.
-        IsFileWith xs (state S.Store conn.old) db
-        × IsLeftBy S.Store (map statement xs) conn.old db)) }
-    // At `Ok` it leaves the trees that the connection shows.
-    ensures settled { HasCleanDisk (state S.Store conn.new)
-        → OnOk result (IsSettled (state S.Store conn.new)) }
-    // The error is what the database answered to one of the statements or to the commit, or an allocation for what is put failed.
-    ensures told { HasCleanDisk (state S.Store conn.new)
-        → IfErr result (FailsToPut S.Store (of_items S.Store I.next_gives puts) (begun conn.old)
-        (state S.Store conn.new)) }
-    ensures undone { HasCleanDisk (state S.Store conn.new)
-        → OnErr result (IsUndone (state S.Store conn.old) (state S.Store conn.new)) }
-    // The connection shows what it showed before, if it is still open.
-    ensures as_before { HasCleanDisk (state S.Store conn.new)
-        → OnErr result (ShowsAsBefore (state S.Store conn.old) (state S.Store conn.new)) }
-    // What was lost is counted, or was too big.
-    ensures lost { HasCleanDisk (state S.Store conn.new)
-        → IfErr result (CountsLoss (state S.Store conn.old) (state S.Store conn.new)) }
-    // After a refusal a crash leaves nothing new.
-    ensures refused { HasCleanDisk (state S.Store conn.new)
-        → IfErr result (λ e. IsToldAs e Fault.Refused
-        → Survives (state S.Store conn.old) (state S.Store conn.new) (λ _. ⊥)) }
+        ((putting_items S.Store I.next_gives puts).Left conn.old) }
 {
     let mut tx = begin(conn);
     let ran = put_all(alloc, &mut tx, puts);
@@ -141,39 +110,12 @@ pub fn write_with_tables<'a, S: Alter, I: Iterator<Item = Put<'a>> + Drop>(
     requires can { I.can_next puts }
     requires ends { IsFinite (I.remaining puts) }
     ensures idle { conn.new.in_transaction ≡ false }
-    ensures written { HasCleanDisk (state S.Store conn.new)
-        → OnOk result (OfItems I.next_gives puts (λ xs. WritesWithTables (map which tables.now) xs
-        (state S.Store conn.old) (state S.Store conn.new))) }
-    ensures open { HasCleanDisk (state S.Store conn.new)
-        → OnOk result (IsCommitted (state S.Store conn.new)) }
-    // In any file, at `Ok` the connection shows what the statements, in turn, made of it.
-    ensures ran { HasCleanDisk (state S.Store conn.new)
-        → OnOk result (OfItems I.next_gives puts (λ xs.
-        AreRun S.Store (map creation (map which tables.now) ++ map statement xs) conn.old (state S.Store conn.new))) }
+    ensures commits { HasCleanDisk (state S.Store conn.new)
+        → Commits S.Store (making_tables S.Store (map which tables.now) I.next_gives puts) conn.old
+        (state S.Store conn.new) result }
     // Of a crash at any exit: nothing new is left but all of it.
     ensures crash { Survives (state S.Store conn.old) (state S.Store conn.new)
-        (λ db. OfItems I.next_gives puts (λ xs.
-        IsFileWithTables (map which tables.now) xs (state S.Store conn.old) db
-        × IsLeftBy S.Store (map creation (map which tables.now) ++ map statement xs) conn.old db)) }
-    // At `Ok` it leaves the trees that the connection shows.
-    ensures settled { HasCleanDisk (state S.Store conn.new)
-        → OnOk result (IsSettled (state S.Store conn.new)) }
-    // The error is what the database answered to one of the statements or to the commit, or an allocation for what is put failed.
-    ensures told { HasCleanDisk (state S.Store conn.new)
-        → IfErr result (FailsToChange S.Store (map which tables.now)
-        (of_items S.Store I.next_gives puts) (begun conn.old) (state S.Store conn.new)) }
-    ensures undone { HasCleanDisk (state S.Store conn.new)
-        → OnErr result (IsUndone (state S.Store conn.old) (state S.Store conn.new)) }
-    // The connection shows what it showed before, if it is still open.
-    ensures as_before { HasCleanDisk (state S.Store conn.new)
-        → OnErr result (ShowsAsBefore (state S.Store conn.old) (state S.Store conn.new)) }
-    // What was lost is counted, or was too big.
-    ensures lost { HasCleanDisk (state S.Store conn.new)
-        → IfErr result (CountsLoss (state S.Store conn.old) (state S.Store conn.new)) }
-    // After a refusal a crash leaves nothing new.
-    ensures refused { HasCleanDisk (state S.Store conn.new)
-        → IfErr result (λ e. IsToldAs e Fault.Refused
-        → Survives (state S.Store conn.old) (state S.Store conn.new) (λ _. ⊥)) }
+        ((making_tables S.Store (map which tables.now) I.next_gives puts).Left conn.old) }
 {
     let mut tx = begin(conn);
     let ran = make_and_put(alloc, &mut tx, tables, puts);

@@ -2,7 +2,7 @@ use Rattle.std.proofs.Common.{arith, inl, inr, subst, sym}
 use Rattle.sqlite.specs.Held.{state}
 use Rattle.desk_rows.specs.Puts.{puts_into}
 use Rattle.desk_rows.specs.States.{IsFile}
-use Rattle.desk_rows.proofs.Both.{on_ok_both}
+use Rattle.desk_rows.proofs.Both.{on_done}
 use Rattle.desk_rows.proofs.Schemas.{shows_own}
 use Rattle.desk_rows.proofs.crash.reopen_after_write.Goals as goal
 
@@ -23,13 +23,14 @@ returns-clause-kept g c clean =
     let early = c.in_ok-after.ensures.clean clean in
     let opened = c.in_ok-after.ensures.opens clean in
     let found = c.in_ok-after.ensures.found clean in
-    on_ok_both c.write-answer.result _ _ _ (λ written leaves. (
+    on_done c.write-answer.result _ _ _ (λ done.
+    let written = done.shown in (
       written.0,
       written.1,
       λ l contents there was.
           shows_own after l (puts_into written.0 contents) opened.1 opened.0.is_open
-          (subst (IsFile l (puts_into written.0 contents)) (sym (leaves after.now.trees found)) (written.2 l contents there was).is),
-    )) (c.write-answer.ensures.written early) (c.write-answer.ensures.settled early)
+          (subst (IsFile l (puts_into written.0 contents)) (sym (done.settled after.now.trees found)) (written.2.0 l contents there was).is),
+    )) (c.write-answer.ensures.commits early)
 
 pub returns-clause-clean : goal.returns-clause-clean
 returns-clause-clean g c clean = let early = c.in_ok-after.ensures.clean clean in omega (arith, c.write-answer.ensures.crash.clean, early)

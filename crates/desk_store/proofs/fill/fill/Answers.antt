@@ -20,9 +20,15 @@ returns-in-Ok-clause-filled g c clean l d stands =
     let old = state g.S.Store c.args.conn.now in
     let new = state g.S.Store c.write_with_tables.new.conn in
     let puts = c.filling.result in
-    let written = c.in-Ok.ensures.written clean in
-    let writes = subst (λ (xs : List RowPut). WritesWithTables (map which c.file_tables.result.now) xs old new) (all_lent puts written.0 written.1) written.2 in
+    let written = (c.in-Ok.ensures.commits clean).shown in
+    let writes = subst (λ (xs : List RowPut). WritesWithTables (map which c.file_tables.result.now) xs old new) (all_lent puts written.0 written.1) written.2.0 in
     shows_gained c.args.tables c.args.book.now puts c.filling.ensures c.file_tables.result.now c.file_tables.ensures old new writes l d stands
+
+pub returns-in-Ok-clause-open : goal.returns-in-Ok-clause-open
+returns-in-Ok-clause-open g c clean = (c.in-Ok.ensures.commits clean).committed
+
+pub returns-in-Ok-clause-settled : goal.returns-in-Ok-clause-settled
+returns-in-Ok-clause-settled g c clean = (c.in-Ok.ensures.commits clean).settled
 
 pub returns-in-Ok-clause-crash : goal.returns-in-Ok-clause-crash
 returns-in-Ok-clause-crash g c =
@@ -48,7 +54,7 @@ returns-in-Err-clause-stops g c clean = record {
   fill = c.filling.ensures;
   error = c.in-Err.error;
   fails = subst (λ (ws : List Which). FailsToChange g.S.Store ws (of_items g.S.Store LendsFirst c.filling.result) (begun c.args.conn.now) (state g.S.Store c.write_with_tables.new.conn) c.in-Err.error)
-      c.file_tables.ensures (c.in-Err.ensures.told clean);
+      c.file_tables.ensures (c.in-Err.ensures.commits clean).fails;
   is_told = c.stopped_by.ensures.told;
-  as_before = c.in-Err.ensures.as_before clean;
+  as_before = (c.in-Err.ensures.commits clean).as_before;
 }

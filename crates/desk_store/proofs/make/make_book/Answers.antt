@@ -1,6 +1,21 @@
+use Rattle.std.proofs.Common.{◌≡◌, ◌∙◌, sym}
+use Rattle.sqlite.specs.declared.error.Error.{Error}
 use Rattle.sqlite.specs.Held.{state}
+use Rattle.desk_rows.specs.Fault.{IsToldAs}
+use Rattle.desk_rows.specs.declared.fault.Fault.{Fault}
+use Rattle.desk_rows.specs.declared.fault.Fault.TheVariants as fault
+use Rattle.desk_store.specs.Opening.{opened_as}
+use Rattle.desk_store.specs.declared.fault.OpenFault.TheVariants.{NotABook}
 use Rattle.sqlite.proofs.StateLemmas.{survives_weaker}
 use Rattle.desk_store.proofs.make.make_book.Goals as goal
+
+-- only a refusal is reported as no book
+is_refused : (e : Error) (why : Fault) → opened_as why ≡ NotABook → IsToldAs e why → IsToldAs e fault.Refused
+is_refused e fault.NoMemory is told = absurd (cc is)
+is_refused e fault.Lost is told = absurd (cc is)
+is_refused e fault.Refused is told = told
+
+-- ---- it isn't made
 
 pub returns-in-Err-clause-crash : goal.returns-in-Err-clause-crash
 returns-in-Err-clause-crash g c =
@@ -8,4 +23,22 @@ returns-in-Err-clause-crash g c =
 
 pub returns-in-Err-clause-told : goal.returns-in-Err-clause-told
 returns-in-Err-clause-told g c clean none =
-    (c.in-Err.error, c.in-Err.ensures.told clean, (c.of.result, c.of.ensures, c.from.ensures))
+    (c.in-Err.error, (c.in-Err.ensures.commits clean).fails, (c.of.result, c.of.ensures, c.from.ensures))
+
+pub returns-in-Err-clause-as_before : goal.returns-in-Err-clause-as_before
+returns-in-Err-clause-as_before g c clean = (c.in-Err.ensures.commits clean).as_before
+
+pub returns-in-Err-clause-refused : goal.returns-in-Err-clause-refused
+returns-in-Err-clause-refused g c clean is =
+    (c.in-Err.ensures.commits clean).refused (is_refused c.in-Err.error c.of.result (sym c.from.ensures ∙ is) c.of.ensures)
+
+-- ---- it is made
+
+pub returns-in-Ok-clause-made : goal.returns-in-Ok-clause-made
+returns-in-Ok-clause-made g c clean = (c.in-Ok.ensures.commits clean).shown.1
+
+pub returns-in-Ok-clause-open : goal.returns-in-Ok-clause-open
+returns-in-Ok-clause-open g c clean = (c.in-Ok.ensures.commits clean).committed
+
+pub returns-in-Ok-clause-settled : goal.returns-in-Ok-clause-settled
+returns-in-Ok-clause-settled g c clean = (c.in-Ok.ensures.commits clean).settled

@@ -7,7 +7,7 @@ use Rattle.desk_rows.specs.Puts.{IsFileWith, Writes, statement}
 use Rattle.desk_rows.specs.Turns.{AreRun, IsLeftBy, begun}
 use Rattle.desk_store.proofs.BookKeeps.{holds_next, is_kept}
 use Rattle.desk_rows.proofs.LentPuts.{all_lent}
-use Rattle.desk_rows.proofs.Both.{if_err_both, on_ok_both}
+use Rattle.desk_rows.proofs.Both.{on_done, on_given_up}
 use Rattle.desk_store.proofs.store.put_change.Goals as goal
 
 pub returns-clause-kept : goal.returns-clause-kept
@@ -16,10 +16,11 @@ returns-clause-kept g c clean l next may =
     let new = state g.S.Store c.write.new.conn in
     let puts = c.puts.result in
     let leads = c.puts.ensures.leads may.leads.0 next may.leads.1 in
-    on_ok_both c.write.result _ _ _ (λ written settled.
-    let writes = subst (λ (xs : List RowPut). Writes xs old new) (all_lent puts written.0 written.1) written.2 in
-    is_kept l may.tables puts c.args.book.now next leads old new writes settled may.shows)
-    (c.write.ensures.written clean) (c.write.ensures.settled clean)
+    on_done c.write.result _ _ _ (λ done.
+    let written = done.shown in
+    let writes = subst (λ (xs : List RowPut). Writes xs old new) (all_lent puts written.0 written.1) written.2.0 in
+    is_kept l may.tables puts c.args.book.now next leads old new writes done.settled may.shows)
+    (c.write.ensures.commits clean)
 
 pub returns-clause-survives : goal.returns-clause-survives
 returns-clause-survives g c =
@@ -48,7 +49,7 @@ returns-clause-left g c =
 
 pub returns-clause-told : goal.returns-clause-told
 returns-clause-told g c clean =
-    if_err_both c.write.result _ _ _ (λ e fails counts. record {
-      fails = subst (λ (puts : List RowPut). FailsToPut g.S.Store (of_items g.S.Store LendsFirst puts) (begun c.args.conn.now) (state g.S.Store c.write.new.conn) e) c.puts.ensures.these fails;
-      counts = counts;
-    }) (c.write.ensures.told clean) (c.write.ensures.lost clean)
+    on_given_up c.write.result _ _ _ (λ e it. record {
+      fails = subst (λ (puts : List RowPut). FailsToPut g.S.Store (of_items g.S.Store LendsFirst puts) (begun c.args.conn.now) (state g.S.Store c.write.new.conn) e) c.puts.ensures.these it.fails;
+      counts = it.lost;
+    }) (c.write.ensures.commits clean)
