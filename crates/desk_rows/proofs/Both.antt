@@ -7,10 +7,6 @@ module _ {A E : Type 0} where
   on_ok_both (Ok a) P Q R f p q = f p q
   on_ok_both (Err e) P Q R f p q = tt
 
-  pub if_err_both : (r : Result A E) (P Q R : E → Type 0) → ((e : E) → P e → Q e → R e) → IfErr r P → IfErr r Q → IfErr r R
-  if_err_both (Ok a) P Q R f p q = tt
-  if_err_both (Err e) P Q R f p q = f e p q
-
   pub on_done : (r : Result A E) (P R : Type 0) (Q : E → Type 0) → (P → R) → MatchResult r (λ _. P) Q → OnOk r R
   on_done (Ok a) P R Q f p = f p
   on_done (Err e) P R Q f q = tt

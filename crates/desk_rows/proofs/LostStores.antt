@@ -14,7 +14,7 @@ use Rattle.desk_parts.specs.Puts.{RowPut, put_of}
 use Rattle.sql_tables.proofs.Failures.{IsCaused, answered, fails_so}
 use Rattle.sql_tables.proofs.Refusals.{not_of_store}
 use Rattle.desk_rows.specs.Described.{Which, books}
-use Rattle.desk_rows.specs.Failing.{FailsToChange, FailsToPut, Putting, after_tables, at_commit, at_put, of_first_row, of_items}
+use Rattle.desk_rows.specs.Failing.{FailsToPut, Putting, after_tables, at_commit, at_put, of_first_row, of_items}
 use Rattle.desk_rows.specs.Fault.{CountsLoss}
 use Rattle.desk_rows.specs.Making.{creation, first_row}
 use Rattle.desk_rows.specs.Puts.{NotPut, row_put, statement}
@@ -121,6 +121,3 @@ module _ {S : Type 0} (g : Ghosts S) where
       stops_lost (map creation stopped.done) (Failed (creation stopped.next)) old new e (λ a b. failed (creation stopped.next) a b e) stopped.stops
   tables_lost ws putting stops old new e (inr it) =
       later_loss (state g old) (state g it.0) new e _ it.1 (goes (state g it.0) new _ it.3) (stops it.0 new e it.4)
-
-  pub change_lost : (ws : List Which) (putting : Putting S) → StopsLost putting → (old : Held S) (new : State) (e : Error) → FailsToChange g ws putting old new e → Loss (state g old) new e
-  change_lost ws putting stops = put_lost (after_tables g ws putting) (tables_lost ws putting stops)
