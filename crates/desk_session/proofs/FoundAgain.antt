@@ -1,6 +1,6 @@
 -- What is found of a book after a session, and what a session begins with.
 use Rattle.std.proofs.Common.{IsTrue, inl, ◌≡◌, ◌∙◌, ◌≤◌, Bool, false, List, [], ◌∷◌, ◌++◌, length, refl, sym, ap, subst, arith}
-use Rattle.std.specs.Prelude.{IfErr, IfOk, Ok, Result}
+use Rattle.std.specs.Prelude.{Ok, Result}
 use Rattle.std.specs.List.{All}
 use Rattle.std.proofs.lemmas.List.Elements.{All-cons, All-nil}
 use Rattle.sqlite_trees.specs.Tree.{Trees}
@@ -19,8 +19,7 @@ use Rattle.desk_store.specs.Formats.{named}
 use Rattle.desk_store.specs.Found.{HasNone}
 use Rattle.desk_rows.specs.Layout.{Layout}
 use Rattle.desk_rows.specs.Making.{made}
-use Rattle.desk_store.specs.Opened.{HoldsEither, Opens, Stands, StopsOpening, completed}
-use Rattle.desk_store.specs.Opening.{IsRefusal}
+use Rattle.desk_store.specs.Opened.{FindsBook, HoldsEither, Opens, Stands, StopsOpening, completed}
 use Rattle.desk_store.specs.Reopened.{IsKeptThere}
 use Rattle.desk_store.specs.declared.fault.OpenFault.{OpenFault}
 use Rattle.desk_rows.specs.States.{IsFile, Shows}
@@ -106,13 +105,8 @@ is_found l book held end turns given db s tables session ends holds shows = reco
   next = holds.next;
   after = holds.after;
   stands = (
-    holds.holds.0,
-    record {
-      format = named;
-      of = second_format l holds.holds.0 db tables holds.holds.1;
-      shows = shows holds.holds.0 holds.holds.1;
-      rows = holds.holds.2;
-    },
+    (named, second_format l holds.holds.0 db tables holds.holds.1),
+    (holds.holds.0, shows holds.holds.0 holds.holds.1, holds.holds.2),
   );
 }
 
@@ -120,32 +114,26 @@ is_found l book held end turns given db s tables session ends holds shows = reco
 
 module _ {S : Type 0} (g : Ghosts S) (make : Bool) (book : Book) (old : Held S) (new : State) (opens : Opens g make old new (Ok book)) where
   pub begins_again : (l : Layout) → Stands l book (state g old) → Leaves (HoldsEither l book) (state g old) → MayServe (completed l) book new
-  begins_again l (c, stands) leaves =
-      let opened = opens.opened stands.format l c stands.of stands.shows in
-      record { tables = opened.tables; kept = record { shows = (opened.shows.0, opened.shows.1, opened.shows.2); leaves = opened.leaves leaves } }
+  begins_again l (of, (c, shows, rows)) leaves =
+      let opened = opens.stands.opened l c of shows in
+      record { tables = opened.tables; kept = record { shows = (opened.shows.0, opened.shows.1.0, opened.shows.2); leaves = opened.leaves leaves } }
 
   pub begins_opened : (l : Layout) → Stands l book (state g old) → LeavesBook l book (state g old) → MayServe (completed l) book new
   begins_opened l stands leaves = begins_again l stands (λ db left. inl (leaves db left))
 
   pub begins_made : HasNone (state g old).now.schema → MayServe (made (state g old).now.schema) book new
   begins_made none =
-      let is = opens.made none in
+      let is = opens.stands.made none in
       record { tables = is.tables; kept = record { shows = is.shows; leaves = is.leaves } }
 
 -- a book that stands in what a connection shows stands where another shows the same
 stands_still : (l : Layout) (book : Book) (old new : State) → new.now ≡ old.now → Stands l book old → Stands l book new
-stands_still l book old new same (c, is) = (
-  c,
-  record {
-    format = is.format;
-    of = is.of;
-    shows = record {
-      schema = ap (λ (d : Database). d.schema) same ∙ is.shows.schema;
-      is = subst (λ (d : Database). IsFile l c d.trees) (sym same) is.shows.is;
-    };
-    rows = is.rows;
-  },
-)
+stands_still l book old new same (of, (c, shows, rows)) =
+    let still : Shows l c new = record {
+      schema = ap (λ (d : Database). d.schema) same ∙ shows.schema;
+      is = subst (λ (d : Database). IsFile l c d.trees) (sym same) shows.is;
+    } in
+    (of, (c, still, rows))
 
 pub begins_after_a_stop : {S : Type 0} (g : Ghosts S) (make : Bool) (book : Book) (first old : Held S) (new : State) (fault : OpenFault) → StopsOpening g first (state g old) fault
     → (state g first).now ≡ (state g first).committed → IsTrue (state g old).is_open → (l : Layout) → Stands l book (state g first) → Leaves (HoldsEither l book) (state g old)
@@ -161,7 +149,7 @@ begins_kept book s (l, tables, kept) = (l, record { tables = tables; kept = kept
 module _ {S : Type 0} (g : Ghosts S) (make : Bool) (next : Held S) (after : State) (anew : IsOpenedAnew (state g next)) (live : IsLive (state g next)) (l : Layout) (tables : HasNewTables l)
     (book : Book) (end : Ended) (given : List Given) (holds : HoldsGiven l book end given (state g next).committed.trees) where
   pub finds_kept : (held : Book) (turns : List Turn) → IsSession book turns given held → EndsAs end turns → (result : Result Book OpenFault) → Opens g make next after result
-      → IfOk result (IsKeptBook book turns given) × IfErr result (λ fault. ¬ IsRefusal fault)
+      → FindsBook (IsKeptBook book turns given) result
   finds_kept held turns session ends =
       let lost : HoldsAcknowledged (record { turns = turns; given = given; kept = holds.kept }) =
       record { lost = holds.missing; front = holds.front; unacknowledged = missing_lost end turns book held given holds.kept holds.missing session ends holds.front holds.lacks } in

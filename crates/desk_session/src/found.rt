@@ -6,14 +6,13 @@ ghost use Rattle.desk_session.specs.Served.{EndsAs, IsLeft, MayServe};
 ghost use Rattle.desk_session.specs.Session.{Given, IsSession, Turn};
 ghost use Rattle.desk_session.specs.declared.session.Ended.{Ended};
 ghost use Rattle.desk_store.specs.Books.{HasNewTables, shown_by};
-ghost use Rattle.desk_store.specs.Opened.{HoldsEither, Opens as OpensSo, Stands, StopsOpening, completed};
-ghost use Rattle.desk_store.specs.Opening.{IsRefusal};
+ghost use Rattle.desk_store.specs.Opened.{FindsBook, HoldsEither, Opens as OpensSo, Stands, StopsOpening, completed};
 ghost use Rattle.desk_store.specs.Reopened.{IsKeptThere};
 ghost use Rattle.desk_store.specs.declared.fault.OpenFault.{OpenFault};
 ghost use Rattle.sql_tables.specs.States.{IsSettled, Leaves};
 ghost use Rattle.sqlite.specs.Held.{state};
 ghost use Rattle.sqlite.specs.State.{Opens};
-ghost use Rattle.std.specs.Prelude.{Bool, IfErr, IfOk, IsTrue, List, Ok, Result, ◌≡◌};
+ghost use Rattle.std.specs.Prelude.{Bool, IsTrue, List, Ok, Result, ◌≡◌};
 
 use desk_store::Store;
 use sqlite::{Alter, Connection};
@@ -32,7 +31,7 @@ pub fn opened_after_a_session<S: Alter, T: Alter>(
         → (shown_by S.Store last.now).may_leave (state T.Store next.now).committed.trees
         → Opens (state T.Store next.now) → (make : Bool) (result : Result Book OpenFault)
         → OpensSo T.Store make next.now (state T.Store opened.now) result
-        → IfOk result (IsKeptBook book turns given) × IfErr result (λ fault. ¬ IsRefusal fault) }
+        → FindsBook (IsKeptBook book turns given) result }
     ensures begins { (l : Layout) (book held : Book) (ended : Ended) (given : List Given)
         → HasNewTables l → IsLeft l book held ended given (shown_by S.Store last.now)
         → (shown_by S.Store last.now).may_leave (state T.Store next.now).committed.trees

@@ -43,7 +43,7 @@ not_damaged rows row id is damaged = damaged.1 (row, is.alone, is.sound)
 -- ---- a file that shows a book has no damage
 
 pub undamaged : (l : Layout) (c : Contents) → HasBook l c → IsUndamaged l c
-undamaged l c (f, of, (book, shows)) =
+undamaged l c ((f, of), (book, shows)) =
     let head = sound-book (c.rows books) (λ id. sound (rows_of l c) book shows file.Book id) in
     let format = row_is l c book shows f of head.0 head.1 in
     record {
@@ -54,7 +54,7 @@ undamaged l c (f, of, (book, shows)) =
     }
 
 pub unrefused : (l : Layout) (c : Contents) (fault : OpenFault) → HasBook l c → TellsOf l c fault → ¬ IsRefusal fault
-unrefused l c fault (f, of, (book, shows)) = never_refused l c book shows f of fault
+unrefused l c fault ((f, of), (book, shows)) = never_refused l c book shows f of fault
 
 -- ---- and one without damage shows a book
 
@@ -93,7 +93,7 @@ module _ (l : Layout) (c : Contents) where
       let its : HasItsTables (rows_of l c) = λ row alone low.
       let same : row ≡ u.row = same_head row u.row (sym alone ∙ u.book.alone) in
       ap (λ (r : BookRow). r.format) same ∙ sym (row_number u.row.format u.book.sound.format u.book.format (rows_of l c).entries (entries_are f of)) in
-      (f, of, shown (rows_of l c) (texts f of u.readable) its u.none)
+      ((f, of), shown (rows_of l c) (texts f of u.readable) its u.none)
 
   -- ---- at most one refusal is reported
 

@@ -20,7 +20,7 @@ use Rattle.desk_rows.specs.Described.{Which, books, caches, corrs, named_corrs, 
 use Rattle.desk_store.specs.Formats.{Format, IsOfFormat, unnamed, named}
 use Rattle.desk_rows.specs.Layout.{Layout}
 use Rattle.desk_rows.specs.Making.{Differ, IsFileWithTables, IsGrown, WritesWithTables, with_none, with_tables}
-use Rattle.desk_store.specs.Opened.{HasGained, HoldsWith, StandsAs, which_new}
+use Rattle.desk_store.specs.Opened.{HasGained, HoldsWith, Keeps, Stands, which_new}
 use Rattle.desk_rows.specs.Puts.{HasThem, put_into, puts_into}
 use Rattle.desk_rows.specs.States.{IsFile, Shows}
 use Rattle.desk_rows.specs.Tables.{AreWritten, which}
@@ -120,34 +120,35 @@ none_of_corrs Braille others c = refl
 
 -- ---- the book in the file with these tables
 
-module _ (t : NewTables) (l : Layout) (c : Contents) (book : Book) (puts : List RowPut) (fills : Fills t book puts) (s : State) (stands : StandsAs l c book s) (P : Layout → Contents → Type 0) where
-  pub gained : IsGrown (which_new t) puts l c s.now.trees P → HasGained (which_new t) l c book s.now.trees P
+module _ (t : NewTables) (l : Layout) (book : Book) (puts : List RowPut) (fills : Fills t book puts) (s : State) (stands : Stands l book s) (P : Layout → Contents → Type 0) where
+  pub gained : IsGrown (which_new t) puts l stands.1.0 s.now.trees P → HasGained (which_new t) l stands.1.0 book s.now.trees P
   gained (others, rows, aside, is) =
+      let c = stands.1.0 in
       let after = with_tables (which_new t) l in
       let empty = with_none (which_new t) others c in
-      let same = all_put after empty puts (new_there t stands.format l stands.of book puts fills) ∙ ap (with_puts puts) (emptied t l others c) in (
+      let same = all_put after empty puts (new_there t stands.0.0 l stands.0.1 book puts fills) ∙ ap (with_puts puts) (emptied t l others c) in
+      let keeps : Keeps l c s.now.trees (puts_into puts empty) = record {
+        corrs = keep_corrs puts empty ∙ none_of_corrs t others c;
+        others = subst (KeepsRows l.schema.tables s.now.trees) (sym (keep_others puts empty)) rows;
+        aside = subst (KeepsAside l.schema s.now.trees) (sym (keep_others puts empty)) aside;
+      } in (
         puts_into puts empty,
-        is,
-        subst (λ (rows : FileRows). RowsShow rows book) (sym same) (filled-shown t (rows_of l c) book puts stands.rows fills),
-        record {
-          corrs = keep_corrs puts empty ∙ none_of_corrs t others c;
-          others = subst (KeepsRows l.schema.tables s.now.trees) (sym (keep_others puts empty)) rows;
-          aside = subst (KeepsAside l.schema s.now.trees) (sym (keep_others puts empty)) aside;
-        },
+        (is, keeps),
+        subst (λ (rows : FileRows). RowsShow rows book) (sym same) (filled-shown t (rows_of l c) book puts stands.1.2 fills),
       )
 
 -- ---- what is written, and what a crash leaves
 
 module _ (t : NewTables) (book : Book) (puts : List RowPut) (fills : Fills t book puts) (ts : List FileTable) (are : map which ts ≡ which_new t) (old : State) where
   pub shows_gained : (new : State) → WritesWithTables (map which ts) puts old new
-      → (l : Layout) (c : Contents) → StandsAs l c book old → HasGained (which_new t) l c book old.now.trees (λ after d. Shows after d new)
-  shows_gained new writes l c stands =
+      → (l : Layout) (stands : Stands l book old) → HasGained (which_new t) l stands.1.0 book old.now.trees (λ after d. Shows after d new)
+  shows_gained new writes l stands =
       let writes_new = subst (λ (ws : List Which). WritesWithTables ws puts old new) are writes in
-      gained t l c book puts fills old stands (λ after d. Shows after d new)
-      (writes_new l c (new_differ t) (new_there t stands.format l stands.of book puts fills) stands.shows)
+      gained t l book puts fills old stands (λ after d. Shows after d new)
+      (writes_new l stands.1.0 (new_differ t) (new_there t stands.0.0 l stands.0.1 book puts fills) stands.1.1)
 
   pub holds_gained : (db : Trees) → IsFileWithTables (map which ts) puts old db → HoldsWith (which_new t) book old db
-  holds_gained db file l c stands =
+  holds_gained db file l stands =
       let file_new = subst (λ (ws : List Which). IsFileWithTables ws puts old db) are file in
-      gained t l c book puts fills old stands (λ after d. IsFile after d db)
-      (file_new l c (new_differ t) (new_there t stands.format l stands.of book puts fills) stands.shows)
+      gained t l book puts fills old stands (λ after d. IsFile after d db)
+      (file_new l stands.1.0 (new_differ t) (new_there t stands.0.0 l stands.0.1 book puts fills) stands.1.1)

@@ -7,13 +7,15 @@ use Rattle.sqlite_trees.specs.Tree.{Trees}
 use Rattle.sqlite.specs.State.{State}
 use Rattle.sql_tables.specs.States.{IsSettled, Leaves}
 use Rattle.desk_model.specs.Book.{Book}
+use Rattle.desk_model.specs.Shows.{Shows as RowsShow}
+use Rattle.desk_store.specs.BookFile.{rows_of}
 use Rattle.desk_store.specs.Books.{HoldsBook, LeavesBook}
 use Rattle.desk_rows.specs.Contents.{Contents}
 use Rattle.desk_rows.specs.Described.{Which}
 use Rattle.desk_rows.specs.Layout.{IsOther, Layout}
 use Rattle.desk_rows.specs.Making.{with_tables}
 use Rattle.desk_model.specs.declared.new_tables.NewTables.{NewTables}
-use Rattle.desk_store.specs.Opened.{HasGained, HoldsEitherWith, StandsAs, which_lacked}
+use Rattle.desk_store.specs.Opened.{HasGained, HoldsEitherWith, Keeps, which_lacked}
 use Rattle.desk_rows.specs.States.{Shows}
 
 own_rows : (tables : List Table) (rows : Trees) → KeepsRows tables rows rows
@@ -25,36 +27,37 @@ module _ (l : Layout) (c : Contents) (book : Book) (s : State) where
   abbrev as_it_stands : Contents
   as_it_stands = record { rows = c.rows; others = s.now.trees }
 
-  pub gains_none : StandsAs l c book s → HasGained [] l c book s.now.trees (λ after d. Shows after d s)
-  gains_none stands = (
-    as_it_stands,
-    record {
-      schema = stands.shows.schema;
-      is = record {
-        declared = stands.shows.is.declared;
-        sound = stands.shows.is.sound;
-        holds = record {
-          tables = stands.shows.is.holds.tables;
-          ids = stands.shows.is.holds.ids;
-          others = own_others l.schema.tables;
-          aside = λ tree other no_index. refl;
-        };
+  stays_shown : Shows l c s → Shows l as_it_stands s
+  stays_shown shows = record {
+    schema = shows.schema;
+    is = record {
+      declared = shows.is.declared;
+      sound = shows.is.sound;
+      holds = record {
+        tables = shows.is.holds.tables;
+        ids = shows.is.holds.ids;
+        others = own_others l.schema.tables;
+        aside = λ tree other no_index. refl;
       };
-    },
-    stands.rows,
-    record {
-      corrs = refl;
-      others = own_rows l.schema.tables s.now.trees;
-      aside = record { rows = λ tree is. refl; texts = λ row has foreign. has; version = refl };
-    },
-  )
+    };
+  }
     where
       own_others : (tables : List Table) → AllByRecursion (λ t. IsOther l t.tree → s.now.trees t.tree ≡ s.now.trees t.tree) tables
       own_others [] = tt
       own_others (t ∷ tables) = (λ other. refl, own_others tables)
 
+  keeps_all : Keeps l c s.now.trees as_it_stands
+  keeps_all = record {
+    corrs = refl;
+    others = own_rows l.schema.tables s.now.trees;
+    aside = record { rows = λ tree is. refl; texts = λ row has foreign. has; version = refl };
+  }
+
+  pub gains_none : Shows l c s → RowsShow (rows_of l c) book → HasGained [] l c book s.now.trees (λ after d. Shows after d s)
+  gains_none shows rows = (as_it_stands, (stays_shown shows, keeps_all), rows)
+
   pub leaves_gained : (ws : List Which) (rows : Trees) → HasGained ws l c book rows (λ after d. Shows after d s) → IsSettled s → LeavesBook (with_tables ws l) book s
-  leaves_gained ws rows gained settled db left = subst (HoldsBook (with_tables ws l) book) (sym (settled db left)) (gained.0, gained.1.is, gained.2)
+  leaves_gained ws rows gained settled db left = subst (HoldsBook (with_tables ws l) book) (sym (settled db left)) (gained.0, gained.1.0.is, gained.2)
 
 -- one that lacks no table has exactly one form
 pub left_whole : (lacked : Option NewTables) (l : Layout) (book : Book) (s : State) → lacked ≡ None → Leaves (HoldsEitherWith (which_lacked lacked) l book) s

@@ -23,11 +23,11 @@ use Rattle.desk_store.specs.Books.{HoldsBook, LeavesBook, ShowsBook}
 use Rattle.desk_rows.specs.Contents.{Contents}
 use Rattle.desk_rows.specs.Described.{Which, books, caches}
 use Rattle.desk_rows.specs.Failing.{FailsToChange, of_first_row}
-use Rattle.desk_store.specs.Formats.{Format, HasThoseRead, IsOfFormat}
+use Rattle.desk_store.specs.Formats.{Format, HasThoseRead, IsOfEither, IsOfFormat}
 use Rattle.desk_store.specs.Found.{AreFileRows, HasNone, RowsShowIn}
 use Rattle.desk_rows.specs.Layout.{Layout}
 use Rattle.desk_rows.specs.Making.{IsMade, IsNew, made, new_tables, with_tables}
-use Rattle.desk_store.specs.Opened.{HasGained, HoldsEither, HoldsEitherWith, HoldsEmpty, HoldsNone, HoldsWith, IsMadeNew, IsReadOf, MayBring, Opens, Stands, StandsAs, TellsOf, TellsOfNone, TellsOfTables, lacked, lacked_by, which_lacked}
+use Rattle.desk_store.specs.Opened.{HasGained, HoldsEither, HoldsEitherWith, HoldsEmpty, HoldsNone, HoldsWith, IsMadeNew, IsReadOf, MayBring, Opens, Stands, TellsOf, TellsOfNone, TellsOfTables, lacked, lacked_by, which_lacked}
 use Rattle.desk_store.specs.Opening.{IsOpenedAs, IsRefusal, Stays, rebuilt_as}
 use Rattle.desk_rows.specs.States.{IsFile, Shows}
 use Rattle.desk_rows.specs.Tables.{is_there}
@@ -46,7 +46,7 @@ pub leaves_either : (make : Bool) (old new : State) → Survives old new (MayBri
     → Leaves (HoldsEither l book) old → Leaves (HoldsEither l book) new
 leaves_either make old new survives clean l book stands leaves db left = elim (survives.crash clean db left) [
   | inl before ↦ leaves db before
-  | inr brought ↦ let gained = brought.old l stands.0 book stands.1 in inr (gained.0, gained.1, gained.2)
+  | inr brought ↦ let gained = brought.old l book stands in inr (gained.0, gained.1.0, gained.2)
 ]
 
 -- no book, or the empty one
@@ -87,15 +87,9 @@ module _ {S : Type 0} (g : Ghosts S) (make : Bool) (old : Held S) (there : ¬ Ha
   pub refuses : (new : State) (fault : OpenFault) → ((book : Book) → RowsShowIn s book → ¬ IsRefusal fault)
       → ((l : Layout) (c : Contents) → HasThoseRead l → Shows l c s → TellsOf l c fault) → (IsRefusal fault → ShowsAsBefore s new) → Opens g make old new (Err fault)
   refuses new fault unrefused told before = record {
-    found = tt;
-    given = λ book shows. tt;
-    unrefused = unrefused;
-    told = λ l c some. told l c;
-    bare = λ none. absurd (there none);
-    as_before = before;
-    is_open = tt;
-    opened = λ format l c of shows. tt;
-    made = λ none. tt;
+    answers = record { found = tt; shown = λ book shows. (tt, unrefused book shows) };
+    reports = record { declared = λ l c some. told l c; bare = λ none. absurd (there none) };
+    stands = record { is_open = tt; opened = λ l c of shows. tt; made = λ none. tt; refused = before };
   }
 
   -- ---- once the rows are read
@@ -118,58 +112,51 @@ module _ {S : Type 0} (g : Ghosts S) (make : Bool) (old : Held S) (there : ¬ Ha
     -- ---- once they show a book
 
     module _ (book : Book) (shows_it : RowsShow rows book) (mid : State) (stays : Stays s mid) where
-      stood : (format : Format) (l : Layout) (c : Contents) → IsOfFormat format l → Shows l c s → StandsAs l c book s
-      stood format l c of shows = record {
-        format = format;
-        of = of;
-        shows = shows;
-        rows = shown rows (rows_of l c) (turned (rows_of l c) rows (read format l c of shows).same) book shows_it;
-      }
-
-      still : (l : Layout) (c : Contents) (other : Book) → StandsAs l c other s → StandsAs l c other mid
-      still l c other st = record { format = st.format; of = st.of; shows = shows_still s mid stays l c st.shows; rows = st.rows }
+      stood : (l : Layout) (c : Contents) → IsOfEither l → Shows l c s → RowsShow (rows_of l c) book
+      stood l c of shows = shown rows (rows_of l c) (turned (rows_of l c) rows (read of.0 l c of.1 shows).same) book shows_it
 
       -- what stands there is this book
-      one_stood : (l : Layout) (c : Contents) (other : Book) → StandsAs l c other s → other ≡ book
-      one_stood l c other st = one_book rows other book (shown (rows_of l c) rows (read st.format l c st.of st.shows).same other st.rows) shows_it
+      one_stood : (l : Layout) (other : Book) → Stands l other s → other ≡ book
+      one_stood l other (of, (c, shows, others)) = one_book rows other book (shown (rows_of l c) rows (read of.0 l c of.1 shows).same other others) shows_it
 
-      lacks : (l : Layout) (c : Contents) (other : Book) → StandsAs l c other s → which_lacked (lacked_by rows) ≡ lacked l
-      lacks l c other st = ap which_lacked (sym (lacked_same (rows_of l c) rows (read st.format l c st.of st.shows).same) ∙ lacked_rows l c)
+      lacks : (l : Layout) (c : Contents) → IsOfEither l → Shows l c s → which_lacked (lacked_by rows) ≡ lacked l
+      lacks l c of shows = ap which_lacked (sym (lacked_same (rows_of l c) rows (read of.0 l c of.1 shows).same) ∙ lacked_rows l c)
 
       pub brings : (db : Trees) → HoldsWith (which_lacked (lacked_by rows)) book mid db → MayBring make s db
       brings db holds = record {
         only = inr (book, (rows, found, shows_it));
         new = λ none. absurd (there none);
-        old = λ l c other st.
-            let one = one_stood l c other st in
-            let here = subst (λ (b : Book). StandsAs l c b mid) one (still l c other st) in
-            gained_same _ _ l c book other mid.now s.now (λ after d. IsFile after d db) (lacks l c other st) (sym one) stays.now (holds l c here);
+        old = λ l other st.
+            let c = st.1.0 in
+            let one = one_stood l other st in
+            let here : Stands l book mid = (st.0, (c, shows_still s mid stays l c st.1.1, subst (λ (b : Book). RowsShow (rows_of l c) b) one st.1.2)) in
+            gained_same _ _ l c book other mid.now s.now (λ after d. IsFile after d db) (lacks l c st.0 st.1.1) (sym one) stays.now (holds l here);
       }
 
-      pub opens : (new : State) → ((l : Layout) (c : Contents) → StandsAs l c book mid → HasGained (which_lacked (lacked_by rows)) l c book mid.now.trees (λ after d. Shows after d new))
-          → ((l : Layout) (c : Contents) → StandsAs l c book mid → Leaves (HoldsEitherWith (which_lacked (lacked_by rows)) l book) mid → LeavesBook (with_tables (which_lacked (lacked_by rows)) l) book new)
+      pub opens : (new : State) → ((l : Layout) (stands : Stands l book mid) → HasGained (which_lacked (lacked_by rows)) l stands.1.0 book mid.now.trees (λ after d. Shows after d new))
+          → ((l : Layout) → Stands l book mid → Leaves (HoldsEitherWith (which_lacked (lacked_by rows)) l book) mid → LeavesBook (with_tables (which_lacked (lacked_by rows)) l) book new)
           → ((db : Trees) → mid.may_leave db → s.may_leave db) → IsTrue new.is_open → Opens g make old new (Ok book)
       opens new filled leaves left is_open = record {
-        found = inl (rows, found, shows_it);
-        given = λ other shows. one_book rows book other shows_it (shows.each rows found);
-        unrefused = λ other shows. tt;
-        told = λ l c some those shows. tt;
-        bare = λ none. tt;
-        as_before = tt;
-        is_open = is_open;
-        opened = λ format l c of shows.
-            let st = stood format l c of shows in
-            let same = lacks l c book st in
-            record {
-              stood = st;
-              tables = completed_tables format l of;
-              shows = gained_same _ _ l c book book mid.now s.now (λ after d. Shows after d new) same refl stays.now (filled l c (still l c book st));
-              leaves = λ was.
-                  let here : Leaves (HoldsEither l book) mid = λ db here. was db (left db here) in
-                  let either = subst (λ (ws : List Which). Leaves (HoldsEitherWith ws l book) mid) (sym same) here in
-                  subst (λ (ws : List Which). LeavesBook (with_tables ws l) book new) same (leaves l c (still l c book st) either);
-            };
-        made = λ none. absurd (there none);
+        answers = record { found = inl (rows, found, shows_it); shown = λ other shows. (one_book rows book other shows_it (shows.each rows found), tt) };
+        reports = tt;
+        stands = record {
+          is_open = is_open;
+          opened = λ l c of shows.
+              let it = stood l c of shows in
+              let same = lacks l c of shows in
+              let still : Stands l book mid = (of, (c, shows_still s mid stays l c shows, it)) in
+              record {
+                rows = it;
+                tables = completed_tables of.0 l of.1;
+                shows = gained_same _ _ l c book book mid.now s.now (λ after d. Shows after d new) same refl stays.now (filled l still);
+                leaves = λ was.
+                    let here : Leaves (HoldsEither l book) mid = λ db here. was db (left db here) in
+                    let either = subst (λ (ws : List Which). Leaves (HoldsEitherWith ws l book) mid) (sym same) here in
+                    subst (λ (ws : List Which). LeavesBook (with_tables ws l) book new) same (leaves l still either);
+              };
+          made = λ none. absurd (there none);
+          refused = tt;
+        };
       }
 
   -- if the tables that it lacks are made, a crash leaves nothing new but all of it
@@ -197,30 +184,24 @@ module _ {S : Type 0} (g : Ghosts S) (make : Bool) (old : Held S) (none : HasNon
   no_books : is_there bare.now.schema books ≡ true → ⊥
   no_books there = true≢false (sym there ∙ first_none (is_there bare.now.schema books) _ none)
 
-  no_file : (format : Format) (l : Layout) (c : Contents) → IsOfFormat format l → Shows l c bare → ⊥
-  no_file format l c of shows = no_books (subst (λ (x : Schema). is_there x books ≡ true) (sym shows.schema) (books_there format l of))
+  no_file : (l : Layout) (c : Contents) → IsOfEither l → Shows l c bare → ⊥
+  no_file l c of shows = no_books (subst (λ (x : Schema). is_there x books ≡ true) (sym shows.schema) (books_there of.0 l of.1))
 
   no_exact : (l : Layout) (c : Contents) → (¬ HasNone l.schema) → Shows l c bare → ⊥
   no_exact l c some shows = some (subst HasNone shows.schema none)
 
   pub refuses_new : (new : State) (fault : OpenFault) → TellsOfNone make g old new fault → (IsRefusal fault → ShowsAsBefore bare new) → Opens g make old new (Err fault)
   refuses_new new fault told before = record {
-    found = tt;
-    given = λ book shows. tt;
-    unrefused = λ book shows. absurd (no_books shows.are.book);
-    told = λ l c some those shows. absurd (no_exact l c some shows);
-    bare = λ still. told;
-    as_before = before;
-    is_open = tt;
-    opened = λ format l c of shows. tt;
-    made = λ still. tt;
+    answers = record { found = tt; shown = λ book shows. absurd (no_books shows.are.book) };
+    reports = record { declared = λ l c some those shows. absurd (no_exact l c some shows); bare = λ still. told };
+    stands = record { is_open = tt; opened = λ l c of shows. tt; made = λ still. tt; refused = before };
   }
 
   pub brings_new : make ≡ true → (db : Trees) → IsMade bare db → MayBring make bare db
   brings_new wanted db is = record {
     only = inl none;
     new = λ still. (wanted, is);
-    old = λ l c book st. absurd (no_file st.format l c st.of st.shows);
+    old = λ l book st. absurd (no_file l st.1.0 st.0 st.1.1);
   }
 
   pub makes : (new : State) (book : Book) → make ≡ true → book ≡ empty_book → IsNew bare.now.schema bare.now.trees (λ c. Shows (made bare.now.schema) c new) → IsSettled new
@@ -238,15 +219,9 @@ module _ {S : Type 0} (g : Ghosts S) (make : Bool) (old : Held S) (none : HasNon
             (λ db left. subst (HoldsBook (made bare.now.schema) empty_book) (sym (settled db left)) (shows.0, shows.1.is, shows.2));
       } in
       record {
-        found = inr it;
-        given = λ other shows. absurd (no_books shows.are.book);
-        unrefused = λ other shows. tt;
-        told = λ l c some those shows. tt;
-        bare = λ still. tt;
-        as_before = tt;
-        is_open = is_open;
-        opened = λ format l c of shows. absurd (no_file format l c of shows);
-        made = λ still. it;
+        answers = record { found = inr it; shown = λ other shows. absurd (no_books shows.are.book) };
+        reports = tt;
+        stands = record { is_open = is_open; opened = λ l c of shows. absurd (no_file l c of shows); made = λ still. it; refused = tt };
       }
 
   -- ---- what is reported if making the tables failed

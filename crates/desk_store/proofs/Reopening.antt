@@ -21,7 +21,7 @@ use Rattle.desk_rows.specs.Tables.{is_there}
 use Rattle.desk_rows.proofs.Schemas.{shows_committed}
 use Rattle.desk_store.specs.Formats.{Format, IsOfFormat, named}
 use Rattle.desk_store.specs.Found.{HasNone}
-use Rattle.desk_store.specs.Opened.{HoldsEither, HoldsEmpty, HoldsNone, Opens, Stands, completed}
+use Rattle.desk_store.specs.Opened.{FindsBook, HoldsEither, HoldsEmpty, HoldsNone, Opens, Stands, completed}
 use Rattle.desk_store.specs.Opening.{IsRefusal}
 use Rattle.desk_store.specs.Reopened.{HoldsOneOf, HoldsStanding, IsKeptThere}
 use Rattle.desk_store.specs.declared.fault.OpenFault.{OpenFault}
@@ -47,10 +47,10 @@ second_format l c db tables is named_corrs = (tables.1.1.1.1.1.0 ∙ sym (there_
 -- ---- what a crash leaves
 
 pub holds_new : (l : Layout) (book : Book) (db : Trees) → HasNewTables l → HoldsBook l book db → HoldsStanding book db
-holds_new l book db tables holds = (named, l, second_format l holds.0 db tables holds.1, holds)
+holds_new l book db tables holds = (l, (named, second_format l holds.0 db tables holds.1), holds)
 
 pub holds_either : (format : Format) (l : Layout) (book : Book) (db : Trees) → IsOfFormat format l → HoldsEither l book db → HoldsStanding book db
-holds_either format l book db of (inl old) = (format, l, of, old)
+holds_either format l book db of (inl old) = (l, (format, of), old)
 holds_either format l book db of (inr new) = holds_new (completed l) book db (completed_tables format l of) new
 
 pub holds_empty : (db : Trees) → HoldsEmpty db → HoldsStanding empty_book db
@@ -70,15 +70,15 @@ module _ {S : Type 0} (g : Ghosts S) (make : Bool) (next : Held S) (after : Stat
   s = state g next
 
   stands_there : (book : Book) → HoldsStanding book s.committed.trees → (l : Layout) × Stands l book s
-  stands_there book (format, l, of, (c, is, shows)) = (l, (c, record { format = format; of = of; shows = shows_committed s anew live l c is; rows = shows }))
+  stands_there book (l, of, (c, is, shows)) = (l, (of, (c, shows_committed s anew live l c is, shows)))
 
   -- what stands there is found
   pub finds : (book : Book) → HoldsStanding book s.committed.trees → (result : Result Book OpenFault) → Opens g make next after result
-      → IfOk result (λ found. found ≡ book) × IfErr result (λ fault. ¬ IsRefusal fault)
+      → FindsBook (λ found. found ≡ book) result
   finds book holds result opens = let there = stands_there book holds in found_there g make next after result opens there.0 book there.1
 
   pub finds_such : (P : Book → Type 0) (book : Book) → P book → HoldsStanding book s.committed.trees → (result : Result Book OpenFault) → Opens g make next after result
-      → IfOk result P × IfErr result (λ fault. ¬ IsRefusal fault)
+      → FindsBook P result
   finds_such P book p holds (Ok found) opens = (subst P (sym (finds book holds (Ok found) opens).0) p, tt)
   finds_such P book p holds (Err fault) opens = (tt, (finds book holds (Err fault) opens).1)
 
@@ -88,9 +88,9 @@ module _ {S : Type 0} (g : Ghosts S) (make : Bool) (next : Held S) (after : Stat
       let there = stands_there book holds in
       let l = there.0 in
       let stands = there.1.1 in
-      let opened = opens.opened stands.format l there.1.0 stands.of stands.shows in
-      let was : LeavesBook l found s = λ db left. subst (HoldsBook l found) (sym (settled db left)) (there.1.0, stands.shows.is, opened.stood.rows) in
-      (completed l, opened.tables, record { shows = (opened.shows.0, opened.shows.1, opened.shows.2); leaves = opened.leaves (λ db left. inl (was db left)) })
+      let opened = opens.stands.opened l stands.0 there.1.0 stands.1 in
+      let was : LeavesBook l found s = λ db left. subst (HoldsBook l found) (sym (settled db left)) (stands.0, stands.1.is, opened.rows) in
+      (completed l, opened.tables, record { shows = (opened.shows.0, opened.shows.1.0, opened.shows.2); leaves = opened.leaves (λ db left. inl (was db left)) })
 
   -- ---- where no book was left, or the empty one
 
@@ -103,8 +103,8 @@ module _ {S : Type 0} (g : Ghosts S) (make : Bool) (next : Held S) (after : Stat
   FindsNone result = IfOk result (λ found. found ≡ empty_book) × IfErr result (λ fault. IsRefusal fault → (fault ≡ NotABook) × HasNone s.now.schema)
 
   finds_none : HasNone s.now.schema → (result : Result Book OpenFault) → Opens g make next after result → FindsNone result
-  finds_none none (Ok found) opens = ((opens.made none).empty, tt)
-  finds_none none (Err fault) opens = (tt, λ refusal. (only_no_book g make next none after fault (opens.bare none) refusal, none))
+  finds_none none (Ok found) opens = ((opens.stands.made none).empty, tt)
+  finds_none none (Err fault) opens = (tt, λ refusal. (only_no_book g make next none after fault (opens.reports.bare none) refusal, none))
 
   finds_empty : HoldsStanding empty_book s.committed.trees → (result : Result Book OpenFault) → Opens g make next after result → FindsNone result
   finds_empty holds (Ok found) opens = ((finds empty_book holds (Ok found) opens).0, tt)

@@ -228,13 +228,12 @@ module _ (l : Layout) (c : Contents) (s : State) (is_open : IsTrue s.is_open) (s
 -- ---- a book that stands in a file
 
 pub shown_where_it_stands : (s : State) → IsTrue s.is_open → (l : Layout) (book : Book) → Stands l book s → RowsShowIn s book
-shown_where_it_stands s is_open l book (c, stands) =
-    let f = stands.format in
-    let some = some_rows l c s is_open stands.shows f stands.of in
-    let readable = can_be_read l c book stands.rows f stands.of in
+shown_where_it_stands s is_open l book ((f, of), (c, shows, rows)) =
+    let some = some_rows l c s is_open shows f of in
+    let readable = can_be_read l c book rows f of in
     record {
       rows = some.0;
       are = some.1;
-      answer = subst (λ (g : Format). CanAllAnswer g s) (sym some.2) (can_all l c s is_open stands.shows f stands.of readable);
-      each = λ others are. shown_too (rows_of l c) others (same_file l c s is_open stands.shows f book stands.of stands.rows others are) book stands.rows;
+      answer = subst (λ (g : Format). CanAllAnswer g s) (sym some.2) (can_all l c s is_open shows f of readable);
+      each = λ others are. shown_too (rows_of l c) others (same_file l c s is_open shows f book of rows others are) book rows;
     }

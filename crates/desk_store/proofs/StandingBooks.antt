@@ -1,6 +1,6 @@
 -- A book that stands in a file is never refused there.
 use Rattle.std.proofs.Common.{◌≡◌, ℤ, pos, Bool, true, false, List, [], ◌∷◌, map, inl, inr, arith, refl, sym, subst, ap, ◌∙◌, true≢false}
-use Rattle.std.specs.Prelude.{◌<ℤ◌, ◌≤ℤ◌, if◌then◌else◌, Result, Ok, Err, IfOk, IfErr}
+use Rattle.std.specs.Prelude.{◌<ℤ◌, ◌≤ℤ◌, if◌then◌else◌, Result, Ok, Err}
 use Rattle.std.specs.List.{AllByRecursion}
 use Rattle.std.proofs.lemmas.Int.{ints}
 use Rattle.std.proofs.lemmas.List.Elements.{recursion_from_All}
@@ -20,7 +20,7 @@ use Rattle.desk_rows.specs.Described.{books, corrs, named_corrs}
 use Rattle.desk_store.specs.Formats.{Format, IsOfFormat, unnamed, named}
 use Rattle.desk_rows.specs.Layout.{Layout}
 use Rattle.desk_store.specs.Found.{HasNone}
-use Rattle.desk_store.specs.Opened.{Opens, Stands, TellsOf}
+use Rattle.desk_store.specs.Opened.{FindsBook, Opens, Stands, TellsOf}
 use Rattle.desk_rows.specs.Tables.{is_there}
 use Rattle.desk_store.specs.Opening.{AreEntriesReadable, CanAllBeRead, IsRefusal, format_in}
 use Rattle.desk_rows.specs.Whole.{IsUtf8Row}
@@ -113,11 +113,8 @@ not_bare named l of none =
 
 module _ {S : Type 0} (g : Ghosts S) (make : Bool) (old : Held S) (new : State) where
   pub found_there : (result : Result Book OpenFault) → Opens g make old new result → (l : Layout) (book : Book) → Stands l book (state g old)
-      → IfOk result (λ found. found ≡ book) × IfErr result (λ fault. ¬ IsRefusal fault)
-  found_there (Ok found) opens l book (c, stands) =
-      (one_book (rows_of l c) found book (opens.opened stands.format l c stands.of stands.shows).stood.rows stands.rows, tt)
-  found_there (Err fault) opens l book (c, stands) = (
-    tt,
-    never_refused l c book stands.rows stands.format stands.of fault
-        (opens.told l c (not_bare stands.format l stands.of) (inr (stands.format, stands.of)) stands.shows),
-  )
+      → FindsBook (λ found. found ≡ book) result
+  found_there (Ok found) opens l book (of, (c, shows, rows)) =
+      (one_book (rows_of l c) found book (opens.stands.opened l c of shows).rows rows, tt)
+  found_there (Err fault) opens l book (of, (c, shows, rows)) =
+      (tt, never_refused l c book rows of.0 of.1 fault (opens.reports.declared l c (not_bare of.0 l of.1) (inr of) shows))

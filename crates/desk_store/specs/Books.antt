@@ -25,13 +25,17 @@ use Rattle.desk_rows.specs.Turns.{Statement, begun}
 
 -- ---- the book of a file
 
--- the connection shows a file of this layout, whose rows show the book
+-- A file of this layout shows the book: there are contents of which this is known, and their rows show it.
+abbrev pub WithBook : Layout → Book → (Contents → Type 0) → Type 0
+WithBook l book P = (c : Contents) × P c × RowsShow (rows_of l c) book
+
+-- the connection shows such a file
 abbrev pub ShowsBook : Layout → Book → State → Type 0
-ShowsBook l book s = (c : Contents) × Shows l c s × RowsShow (rows_of l c) book
+ShowsBook l book s = WithBook l book (λ c. Shows l c s)
 
 -- the trees are such a file
 abbrev pub HoldsBook : Layout → Book → Trees → Type 0
-HoldsBook l book db = (c : Contents) × IsFile l c db × RowsShow (rows_of l c) book
+HoldsBook l book db = WithBook l book (λ c. IsFile l c db)
 
 -- a crash now leaves the book, and one of these two
 abbrev pub LeavesBook : Layout → Book → State → Type 0
@@ -72,8 +76,8 @@ statements_of book change = map statement (change_puts book change)
 -- Why a change isn't kept: the database answered the error to one of the statements of what this change puts, once
 -- those before it had run in turn, or to the commit, or an allocation for a put failed. What was lost is counted, or
 -- was too big.
-pub record FailsToKeep {S : Type 0} (g : Ghosts S) (book : Book) (change : Change) (old : Held S) (new : State) (e : Error)
-    : Type 0 where
+pub record FailsToKeep {S : Type 0} (g : Ghosts S) (book : Book) (change : Change) (old : Held S)
+    (new : State) (e : Error) : Type 0 where
   pub fails : FailsToPut g (of_items g LendsFirst (change_puts book change)) (begun old) new e
   pub counts : CountsLoss (state g old) new e
 

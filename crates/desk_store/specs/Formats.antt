@@ -47,6 +47,10 @@ IsPresent unread has there = ⊤
 abbrev pub IsOfFormat : Format → Layout → Type 0
 IsOfFormat format l = (w : Which) → IsPresent (presence format w) (l.has w) (is_there l.schema w)
 
+-- it is of one of the two formats
+abbrev pub IsOfEither : Layout → Type 0
+IsOfEither l = (format : Format) × IsOfFormat format l
+
 -- It has each of our tables that is there, or those that are read in a file of a format.
 abbrev pub HasThoseRead : Layout → Type 0
-HasThoseRead l = IsExact l ⊎ ((format : Format) × IsOfFormat format l)
+HasThoseRead l = IsExact l ⊎ IsOfEither l

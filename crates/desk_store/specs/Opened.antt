@@ -23,13 +23,13 @@ use Rattle.desk_parts.specs.declared.file_table.FileTable.{FileTable}
 use Rattle.desk_parts.specs.declared.file_table.FileTable.TheVariants.{Book as BookTable}
 use Rattle.desk_parts.specs.declared.rows.BookRow.{BookRow}
 use Rattle.desk_store.specs.BookFile.{rows_of}
-use Rattle.desk_store.specs.Books.{HasNewTables, HoldsBook, LeavesBook, ShowsBook}
+use Rattle.desk_store.specs.Books.{HasNewTables, HoldsBook, LeavesBook, ShowsBook, WithBook}
 use Rattle.desk_rows.specs.Contents.{Contents}
 use Rattle.desk_rows.specs.Described.{Which, books, caches, corrs, named_corrs}
 use Rattle.desk_rows.specs.Asked.{FailsAs, asked}
 use Rattle.desk_rows.specs.Failing.{FailsToChange, of_first_row, of_items}
 use Rattle.desk_rows.specs.Fault.{IsToldAs}
-use Rattle.desk_store.specs.Formats.{Format, HasThoseRead, IsOfFormat}
+use Rattle.desk_store.specs.Formats.{HasThoseRead, IsOfEither, IsOfFormat}
 use Rattle.desk_store.specs.Found.{AreFileRows, AreToldApart, HasNone, RowsShowIn, ShowsIn}
 use Rattle.desk_rows.specs.Layout.{Layout}
 use Rattle.desk_rows.specs.Making.{IsMade, IsNew, made, new_tables, with_tables}
@@ -49,7 +49,8 @@ use Rattle.desk_store.specs.declared.fault.OpenFault.TheVariants.{NotABook, Dama
 abbrev pub LacksTables : Layout → Contents → Type 0
 LacksTables l c =
     (l.has books ≡ false)
-    ⊎ ((row : BookRow) × (l.has books ≡ true) × IsBookRow (c.rows books) row × ¬ CanAllBeRead (format_in row.format) l c)
+    ⊎ ((row : BookRow) × (l.has books ≡ true) × IsBookRow (c.rows books) row
+    × ¬ CanAllBeRead (format_in row.format) l c)
 
 -- Before the rows of the tables but `book` are checked, the first of these is reported: a table is missing, `book` is of a later format,
 -- or is damaged; but a missing table other than `book` is reported last.
@@ -138,15 +139,9 @@ completed l = with_tables (lacked l) l
 
 -- ---- what stands in a file, and what it is after opening
 
--- the connection shows the book in a file of either format, which has these contents
-pub record StandsAs (l : Layout) (c : Contents) (book : Book) (s : State) : Type 0 where
-  pub format : Format
-  pub of : IsOfFormat format l
-  pub shows : Shows l c s
-  pub rows : RowsShow (rows_of l c) book
-
+-- the connection shows the book in a file of either format
 abbrev pub Stands : Layout → Book → State → Type 0
-Stands l book s = (c : Contents) × StandsAs l c book s
+Stands l book s = IsOfEither l × ShowsBook l book s
 
 -- The rows of `corr`, of all tables that aren't those of a book, and what the database keeps aside are as they were.
 pub record Keeps (l : Layout) (c : Contents) (rows : Trees) (d : Contents) : Type 0 where
@@ -155,14 +150,16 @@ pub record Keeps (l : Layout) (c : Contents) (rows : Trees) (d : Contents) : Typ
   pub aside : KeepsAside l.schema rows d.others
 
 -- The book in the file with these tables too, in which nothing else is lost.
-abbrev pub HasGained : List Which → Layout → Contents → Book → Trees → (Layout → Contents → Type 0) → Type 0
+abbrev pub HasGained :
+    List Which → Layout → Contents → Book → Trees → (Layout → Contents → Type 0) → Type 0
 HasGained ws l c book rows P =
-    (d : Contents) × P (with_tables ws l) d × RowsShow (rows_of (with_tables ws l) d) book × Keeps l c rows d
+    WithBook (with_tables ws l) book (λ d. P (with_tables ws l) d × Keeps l c rows d)
 
 -- the trees are such a file, of whatever file the book stood in
 abbrev pub HoldsWith : List Which → Book → State → Trees → Type 0
 HoldsWith ws book s db =
-    (l : Layout) (c : Contents) → StandsAs l c book s → HasGained ws l c book s.now.trees (λ after d. IsFile after d db)
+    (l : Layout) (stands : Stands l book s)
+    → HasGained ws l stands.1.0 book s.now.trees (λ after d. IsFile after d db)
 
 -- the trees are those of a database without the tables of a book
 abbrev pub HoldsNone : Trees → Type 0
@@ -177,8 +174,8 @@ HoldsEmpty db = (l : Layout) × HasNewTables l × HoldsBook l empty_book db
 pub record MayBring (make : Bool) (s : State) (db : Trees) : Type 0 where
   pub only : HasNone s.now.schema ⊎ ((book : Book) × ShowsIn s book)
   pub new : HasNone s.now.schema → (make ≡ true) × IsMade s db
-  pub old : (l : Layout) (c : Contents) (book : Book) → StandsAs l c book s
-      → HasGained (lacked l) l c book s.now.trees (λ after d. IsFile after d db)
+  pub old : (l : Layout) (book : Book) (stands : Stands l book s)
+      → HasGained (lacked l) l stands.1.0 book s.now.trees (λ after d. IsFile after d db)
 
 -- the book in the file as it was, or with these tables
 abbrev pub HoldsEitherWith : List Which → Layout → Book → Trees → Type 0
@@ -188,10 +185,10 @@ HoldsEitherWith ws l book db = HoldsBook l book db ⊎ HoldsBook (with_tables ws
 abbrev pub HoldsEither : Layout → Book → Trees → Type 0
 HoldsEither l = HoldsEitherWith (lacked l) l
 
--- The book stood there, it stands there in a file with the tables of a new one, and a crash leaves it so, also if one before left it with
--- these tables or without.
+-- The rows of the file showed the book, it stands there in a file with the tables of a new one, and a crash leaves it so, also if it left
+-- it in either form before.
 pub record IsOpened (l : Layout) (c : Contents) (book : Book) (old new : State) : Type 0 where
-  pub stood : StandsAs l c book old
+  pub rows : RowsShow (rows_of l c) book
   pub tables : HasNewTables (completed l)
   pub shows : HasGained (lacked l) l c book old.now.trees (λ after d. Shows after d new)
   pub leaves : Leaves (HoldsEither l book) old → LeavesBook (completed l) book new
@@ -226,8 +223,8 @@ IsFilledAs e told = (why : Fault) × IsToldAs e why × (told ≡ filled_as why)
 
 -- A statement that makes these tables or puts what the book has for them failed with an error that is reported so, or the commit did. If the
 -- connection is open still, it shows what it showed before.
-pub record StopsFilling {S : Type 0} (g : Ghosts S) (tables : NewTables) (book : Book) (old : Held S) (new : State) (told : OpenFault)
-    : Type 0 where
+pub record StopsFilling {S : Type 0} (g : Ghosts S) (tables : NewTables) (book : Book) (old : Held S)
+    (new : State) (told : OpenFault) : Type 0 where
   pub puts : List RowPut
   pub fill : Fills tables book puts
   pub error : Error
@@ -236,36 +233,55 @@ pub record StopsFilling {S : Type 0} (g : Ghosts S) (tables : NewTables) (book :
   pub as_before : ShowsAsBefore (state g old) new
 
 -- A table isn't read; or all of them are, and there is no memory for the book; or they show a book, and what the file lacks isn't filled.
-pub data StopsOpening {S : Type 0} (g : Ghosts S) (old : Held S) (new : State) (told : OpenFault) : Type 0 where
+pub data StopsOpening {S : Type 0} (g : Ghosts S) (old : Held S) (new : State) (told : OpenFault)
+    : Type 0 where
   reading : (why : Fault) → StopsReading g old new why → told ≡ opened_as why → StopsOpening g old new told
-  rebuilding : (rows : FileRows) → AreFileRows (state g old) rows → Stays (state g old) new → told ≡ NoMemory → StopsOpening g old new told
-  filling : (rows : FileRows) (book : Book) (tables : NewTables) (before : Held S) → AreFileRows (state g old) rows → RowsShow rows book
-      → lacked_by rows ≡ Some tables → Stays (state g old) (state g before) → StopsFilling g tables book before new told
+  rebuilding : (rows : FileRows) → AreFileRows (state g old) rows → Stays (state g old) new → told ≡ NoMemory
+      → StopsOpening g old new told
+  filling : (rows : FileRows) (book : Book) (tables : NewTables) (before : Held S)
+      → AreFileRows (state g old) rows → RowsShow rows book → lacked_by rows ≡ Some tables
+      → Stays (state g old) (state g before) → StopsFilling g tables book before new told
       → StopsOpening g old new told
 
 -- ---- the whole
 
--- What opening answers, and what the connection shows then.
-pub record Opens {S : Type 0} (g : Ghosts S) (make : Bool) (old : Held S) (new : State) (result : Result Book OpenFault) : Type 0 where
-  -- in any file: a book only if its rows show it, or if a new one was made; if they show a book, that one or no refusal
-  pub found : IfOk result (λ book. ShowsIn (state g old) book ⊎ IsMadeNew make book (state g old) new)
-  pub given : (book : Book) → RowsShowIn (state g old) book → IfOk result (λ found. found ≡ book)
-  pub unrefused : (book : Book) → RowsShowIn (state g old) book → IfErr result (λ fault. ¬ IsRefusal fault)
-  -- if the tables that are there are declared as those of a new file, exactly this is reported
-  pub told : (l : Layout) (c : Contents) → (¬ HasNone l.schema) → HasThoseRead l → Shows l c (state g old) → IfErr result (TellsOf l c)
-  -- and in any file that has none of them this
-  pub bare : HasNone (state g old).now.schema → IfErr result (TellsOfNone make g old new)
-  -- a file that is refused stays as it was
-  pub as_before : IfErr result (λ fault. IsRefusal fault → ShowsAsBefore (state g old) new)
+-- such a book is found, or no refusal is reported
+abbrev pub FindsBook : (Book → Type 0) → Result Book OpenFault → Type 0
+FindsBook P result = IfOk result P × IfErr result (λ fault. ¬ IsRefusal fault)
+
+-- What is answered of any file: a book only if its rows show it, or if a new one was made; and if they show one, that or no refusal.
+pub record AnswersBook (make : Bool) (old new : State) (result : Result Book OpenFault) : Type 0 where
+  pub found : IfOk result (λ book. ShowsIn old book ⊎ IsMadeNew make book old new)
+  pub shown : (book : Book) → RowsShowIn old book → FindsBook (λ found. found ≡ book) result
+
+-- What is reported: exactly this if the tables that are there are declared as those of a new file, and of any file that has none of them.
+pub record Reports {S : Type 0} (g : Ghosts S) (make : Bool) (old : Held S) (new : State) (fault : OpenFault)
+    : Type 0 where
+  pub declared : (l : Layout) (c : Contents) → (¬ HasNone l.schema) → HasThoseRead l
+      → Shows l c (state g old) → TellsOf l c fault
+  pub bare : HasNone (state g old).now.schema → TellsOfNone make g old new fault
+
+-- What then stands in the file: a book, the one that stood there or a new one; or, if it is refused, what was there.
+pub record LeavesStanding (make : Bool) (old new : State) (result : Result Book OpenFault) : Type 0 where
   pub is_open : OnOk result (IsTrue new.is_open)
-  pub opened : (format : Format) (l : Layout) (c : Contents) → IsOfFormat format l → Shows l c (state g old)
-      → IfOk result (λ book. IsOpened l c book (state g old) new)
-  pub made : HasNone (state g old).now.schema → IfOk result (λ book. IsMadeNew make book (state g old) new)
+  pub opened : (l : Layout) (c : Contents) → IsOfEither l → Shows l c old
+      → IfOk result (λ book. IsOpened l c book old new)
+  pub made : HasNone old.now.schema → IfOk result (λ book. IsMadeNew make book old new)
+  pub refused : IfErr result (λ fault. IsRefusal fault → ShowsAsBefore old new)
+
+-- What opening answers and reports, and what then stands in the file.
+pub record Opens {S : Type 0} (g : Ghosts S) (make : Bool) (old : Held S) (new : State)
+    (result : Result Book OpenFault) : Type 0 where
+  pub answers : AnswersBook make (state g old) new result
+  pub reports : IfErr result (Reports g make old new)
+  pub stands : LeavesStanding make (state g old) new result
 
 -- No book is opened, this is reported, and what a crash leaves is what opening may bring; after a refusal nothing new. If a table of a book
 -- was there, and the file isn't refused, it has a cause.
-pub record IsRefusedWith {S : Type 0} (g : Ghosts S) (make : Bool) (old : Held S) (new : State) (fault : OpenFault) : Type 0 where
+pub record IsRefusedWith {S : Type 0} (g : Ghosts S) (make : Bool) (old : Held S) (new : State)
+    (fault : OpenFault) : Type 0 where
   pub opens : HasCleanDisk new → Opens g make old new (Err fault)
   pub crash : Survives (state g old) new (MayBring make (state g old))
   pub refused : HasCleanDisk new → IsRefusal fault → Survives (state g old) new (λ _. ⊥)
-  pub stopped : HasCleanDisk new → (¬ HasNone (state g old).now.schema) → (¬ IsRefusal fault) → StopsOpening g old new fault
+  pub stopped : HasCleanDisk new → (¬ HasNone (state g old).now.schema) → (¬ IsRefusal fault)
+      → StopsOpening g old new fault

@@ -7,11 +7,11 @@ use Rattle.sql_tables.specs.States.{Leaves}
 use Rattle.desk_model.specs.Book.{Book}
 use Rattle.desk_rows.specs.Layout.{Layout}
 use Rattle.desk_store.specs.Books.{HasNewTables, HoldsBook, IsKept}
-use Rattle.desk_store.specs.Formats.{Format, IsOfFormat}
+use Rattle.desk_store.specs.Formats.{IsOfEither}
 
 -- the trees are a file of either format, whose rows show the book
 abbrev pub HoldsStanding : Book → Trees → Type 0
-HoldsStanding book db = (format : Format) × (l : Layout) × IsOfFormat format l × HoldsBook l book db
+HoldsStanding book db = (l : Layout) × IsOfEither l × HoldsBook l book db
 
 -- they show one of these books
 abbrev pub HoldsOneOf : List Book → Trees → Type 0

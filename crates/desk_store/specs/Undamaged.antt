@@ -9,12 +9,12 @@ use Rattle.desk_rows.specs.Contents.{Contents}
 use Rattle.desk_rows.specs.Described.{books}
 use Rattle.desk_rows.specs.Layout.{Layout}
 use Rattle.desk_store.specs.BookFile.{rows_of}
-use Rattle.desk_store.specs.Formats.{Format, IsOfFormat}
+use Rattle.desk_store.specs.Formats.{IsOfEither}
 use Rattle.desk_store.specs.Opening.{CanAllBeRead, IsBookRow, format_in}
 
 -- it is of either format, and its rows show a book
 abbrev pub HasBook : Layout → Contents → Type 0
-HasBook l c = (format : Format) × IsOfFormat format l × ((book : Book) × RowsShow (rows_of l c) book)
+HasBook l c = IsOfEither l × ((book : Book) × RowsShow (rows_of l c) book)
 
 -- its row of `book` is sound and of a known format, the tables of that format can all be read, and no row of them is damaged
 pub record IsUndamaged (l : Layout) (c : Contents) : Type 0 where

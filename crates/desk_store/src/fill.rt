@@ -2,9 +2,8 @@
 
 ghost use Rattle.std.specs.Prelude.{◌≡◌, false, IfErr, OnOk, map};
 ghost use Rattle.desk_parts.specs.Parts.{rows_in};
-ghost use Rattle.desk_rows.specs.Contents.{Contents};
 ghost use Rattle.desk_rows.specs.Layout.{Layout};
-ghost use Rattle.desk_store.specs.Opened.{HasGained, HoldsWith, IsFilledAs, StandsAs, StopsFilling, lacked_by, which_new};
+ghost use Rattle.desk_store.specs.Opened.{HasGained, HoldsWith, IsFilledAs, Stands, StopsFilling, lacked_by, which_new};
 ghost use Rattle.desk_store.specs.Opening.{IsRefusal};
 ghost use Rattle.desk_rows.specs.States.{Shows};
 ghost use Rattle.desk_rows.specs.Tables.{which};
@@ -68,9 +67,10 @@ pub(crate) fn fill<S: Alter>(
 ) -> Result<(), OpenFault>
     requires { conn.old.in_transaction ≡ false }
     ensures idle { conn.new.in_transaction ≡ false }
-    ensures filled { HasCleanDisk (state S.Store conn.new) → (l : Layout) (c : Contents)
-        → StandsAs l c book.now (state S.Store conn.old) → OnOk result (HasGained (which_new tables)
-        l c book.now (state S.Store conn.old).now.trees (λ after d. Shows after d (state S.Store conn.new))) }
+    ensures filled { HasCleanDisk (state S.Store conn.new) → (l : Layout)
+        (stands : Stands l book.now (state S.Store conn.old))
+        → OnOk result (HasGained (which_new tables) l stands.1.0 book.now
+        (state S.Store conn.old).now.trees (λ after d. Shows after d (state S.Store conn.new))) }
     ensures open { HasCleanDisk (state S.Store conn.new)
         → OnOk result (IsCommitted (state S.Store conn.new)) }
     ensures settled { HasCleanDisk (state S.Store conn.new)

@@ -11,14 +11,13 @@ ghost use Rattle.desk_rows.specs.Described.{Which, caches, named_corrs};
 ghost use Rattle.desk_rows.specs.Layout.{Layout};
 ghost use Rattle.desk_store.specs.Formats.{Format, IsExact, IsOfFormat, named, unnamed};
 ghost use Rattle.desk_rows.specs.Making.{after, is_among, made, with_tables};
-ghost use Rattle.desk_store.specs.Opened.{HoldsEither, IsMadeNew, IsOpened, Opens as OpensSo, Stands, completed};
-ghost use Rattle.desk_store.specs.Opening.{IsRefusal};
+ghost use Rattle.desk_store.specs.Opened.{FindsBook, HoldsEither, IsMadeNew, IsOpened, Opens as OpensSo, Stands, completed};
 ghost use Rattle.desk_store.specs.declared.fault.OpenFault.{OpenFault};
 ghost use Rattle.sql_tables.specs.States.{Leaves};
 ghost use Rattle.sqlite.specs.Held.{state};
 ghost use Rattle.sqlite.specs.State.{HasCleanDisk, Opens, Survives};
 ghost use Rattle.sqlite_schema.specs.declared.schema.Schema.{Schema};
-ghost use Rattle.std.specs.Prelude.{Bool, IfErr, IfOk, List, Result, [], ◌∷◌, true, ◌≡◌, ◌⊎◌, ◌||◌};
+ghost use Rattle.std.specs.Prelude.{Bool, List, Result, [], ◌∷◌, true, ◌≡◌, ◌⊎◌, ◌||◌};
 ghost use Rattle.desk_rows.specs.Puts.{HasThem, puts_into};
 ghost use Rattle.desk_rows.specs.Tables.{is_there};
 
@@ -105,5 +104,5 @@ pub fn found_where_it_stands<S: Alter>(old: &Connection<S>, new: &Connection<S>)
     ensures { (make : Bool) (result : Result Book OpenFault)
         → OpensSo S.Store make old.now (state S.Store new.now) result → (l : Layout) (book : Book)
         → Stands l book (state S.Store old.now)
-        → IfOk result (λ found. found ≡ book) × IfErr result (λ fault. ¬ IsRefusal fault) }
+        → FindsBook (λ found. found ≡ book) result }
 {}

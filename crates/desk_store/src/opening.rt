@@ -4,11 +4,10 @@ ghost use Rattle.std.specs.Prelude.{◌≡◌, ◌⊎◌, Bool, None, Some, fals
 ghost use Rattle.desk_model.specs.declared.new_tables.NewTables.{NewTables};
 ghost use Rattle.desk_model.specs.Book.{Book as BookOf};
 ghost use Rattle.desk_store.specs.Books.{LeavesBook, shown_by};
-ghost use Rattle.desk_rows.specs.Contents.{Contents};
 ghost use Rattle.desk_store.specs.Found.{HasNone};
 ghost use Rattle.desk_rows.specs.Layout.{Layout};
 ghost use Rattle.desk_rows.specs.Making.{with_tables};
-ghost use Rattle.desk_store.specs.Opened.{HasGained, HoldsEither, HoldsEitherWith, HoldsEmpty, HoldsNone, HoldsWith, IsRefusedWith, MayBring, Opens, Stands, StandsAs, StopsFilling, StopsOpening, which_lacked};
+ghost use Rattle.desk_store.specs.Opened.{HasGained, HoldsEither, HoldsEitherWith, HoldsEmpty, HoldsNone, HoldsWith, IsRefusedWith, MayBring, Opens, Stands, StopsFilling, StopsOpening, which_lacked};
 ghost use Rattle.desk_store.specs.Opening.{IsRefusal};
 ghost use Rattle.desk_rows.specs.States.{Shows};
 ghost use Rattle.sql_tables.specs.States.{Leaves};
@@ -44,14 +43,14 @@ fn complete<S: Alter>(
 ) -> Result<(), OpenFault>
     requires { conn.old.in_transaction ≡ false }
     ensures idle { conn.new.in_transaction ≡ false }
-    ensures filled { HasCleanDisk (state S.Store conn.new) → (l : Layout) (c : Contents)
-        → StandsAs l c book.now (state S.Store conn.old)
-        → OnOk result (HasGained (which_lacked lacked) l c book.now (state S.Store conn.old).now.trees
-        (λ after d. Shows after d (state S.Store conn.new))) }
+    ensures filled { HasCleanDisk (state S.Store conn.new) → (l : Layout)
+        (stands : Stands l book.now (state S.Store conn.old))
+        → OnOk result (HasGained (which_lacked lacked) l stands.1.0 book.now
+        (state S.Store conn.old).now.trees (λ after d. Shows after d (state S.Store conn.new))) }
     ensures open { HasCleanDisk (state S.Store conn.new) → IsTrue (state S.Store conn.old).is_open
         → OnOk result (IsTrue (state S.Store conn.new).is_open) }
-    ensures leaves { HasCleanDisk (state S.Store conn.new) → (l : Layout) (c : Contents)
-        → StandsAs l c book.now (state S.Store conn.old)
+    ensures leaves { HasCleanDisk (state S.Store conn.new) → (l : Layout)
+        → Stands l book.now (state S.Store conn.old)
         → Leaves (HoldsEitherWith (which_lacked lacked) l book.now) (state S.Store conn.old) → OnOk result
         (LeavesBook (with_tables (which_lacked lacked) l) book.now (state S.Store conn.new)) }
     // Of a crash at any exit: nothing new is left but all of it.

@@ -16,13 +16,13 @@ write_with_tables-requires g c κs =
     ((refl, tt), (c.requires, (are_written c.args.tables c.file_tables.result.now c.file_tables.ensures, (tt, tt))))
 
 pub returns-in-Ok-clause-filled : goal.returns-in-Ok-clause-filled
-returns-in-Ok-clause-filled g c clean l d stands =
+returns-in-Ok-clause-filled g c clean l stands =
     let old = state g.S.Store c.args.conn.now in
     let new = state g.S.Store c.write_with_tables.new.conn in
     let puts = c.filling.result in
     let written = (c.in-Ok.ensures.commits clean).shown in
     let writes = subst (λ (xs : List RowPut). WritesWithTables (map which c.file_tables.result.now) xs old new) (all_lent puts written.0 written.1) written.2.0 in
-    shows_gained c.args.tables c.args.book.now puts c.filling.ensures c.file_tables.result.now c.file_tables.ensures old new writes l d stands
+    shows_gained c.args.tables c.args.book.now puts c.filling.ensures c.file_tables.result.now c.file_tables.ensures old new writes l stands
 
 pub returns-in-Ok-clause-open : goal.returns-in-Ok-clause-open
 returns-in-Ok-clause-open g c clean = (c.in-Ok.ensures.commits clean).committed

@@ -9,19 +9,19 @@ pub returns-in-Some-clause-filled : goal.returns-in-Some-clause-filled
 returns-in-Some-clause-filled g c = rw c.in-Some.is c.fill.ensures.filled
 
 pub returns-in-Some-clause-leaves : goal.returns-in-Some-clause-leaves
-returns-in-Some-clause-leaves g c clean l contents stands left =
+returns-in-Some-clause-leaves g c clean l stands left =
     let old = state g.S.Store c.args.conn.now in
     let new = state g.S.Store c.fill.new.conn in
     rw c.in-Some.is
-    (on_ok_both c.fill.result _ _ _ (λ gained settled. leaves_gained l contents c.args.book.now new (which_new c.in-Some.tables) old.now.trees gained settled)
-    (c.fill.ensures.filled clean l contents stands) (c.fill.ensures.settled clean))
+    (on_ok_both c.fill.result _ _ _ (λ gained settled. leaves_gained l stands.1.0 c.args.book.now new (which_new c.in-Some.tables) old.now.trees gained settled)
+    (c.fill.ensures.filled clean l stands) (c.fill.ensures.settled clean))
 
 pub returns-in-None-clause-filled : goal.returns-in-None-clause-filled
-returns-in-None-clause-filled g c clean l contents stands =
-    rw c.in-None.is (gains_none l contents c.args.book.now (state g.S.Store c.args.conn.now) stands)
+returns-in-None-clause-filled g c clean l stands =
+    rw c.in-None.is (gains_none l stands.1.0 c.args.book.now (state g.S.Store c.args.conn.now) stands.1.1 stands.1.2)
 
 pub returns-in-None-clause-leaves : goal.returns-in-None-clause-leaves
-returns-in-None-clause-leaves g c clean l contents stands left =
+returns-in-None-clause-leaves g c clean l stands left =
     left_whole c.args.lacked l c.args.book.now (state g.S.Store c.args.conn.now) c.in-None.is left
 
 pub returns-in-Some-clause-stops : goal.returns-in-Some-clause-stops

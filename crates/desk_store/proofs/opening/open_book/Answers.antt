@@ -6,11 +6,10 @@ use Rattle.sqlite.specs.State.{HasCleanDisk}
 use Rattle.desk_parts.specs.Parts.{rows_in}
 use Rattle.desk_model.specs.declared.new_tables.NewTables.{NewTables}
 use Rattle.desk_store.specs.Books.{LeavesBook}
-use Rattle.desk_rows.specs.Contents.{Contents}
 use Rattle.desk_rows.specs.Layout.{Layout}
 use Rattle.desk_rows.specs.Making.{with_tables}
 use Rattle.sql_tables.specs.States.{Leaves}
-use Rattle.desk_store.specs.Opened.{HasGained, HoldsEitherWith, StandsAs, filling, rebuilding, which_lacked}
+use Rattle.desk_store.specs.Opened.{HasGained, HoldsEitherWith, Stands, filling, rebuilding, which_lacked}
 use Rattle.desk_rows.specs.States.{Shows}
 use Rattle.desk_store.proofs.Openings.{fills, opens, refuses, refuses_damaged, tells, tells_no_refusal}
 use Rattle.desk_model.specs.declared.fault.PartsFault.{PartsFault}
@@ -87,9 +86,9 @@ returns-clause-opens g c clean make =
     let early : HasCleanDisk mid = omega (arith, clean, c.complete.ensures.crash.clean) in
     opens g.S.Store make old c.requires.there (rows_in c.in_ok-parts.parts) (read.found early) (read.read early)
     book c.in_ok-book.ensures.shown mid (read.unchanged early) new
-    (subst (λ (x : Option NewTables). (l : Layout) (d : Contents) → StandsAs l d book mid → HasGained (which_lacked x) l d book mid.now.trees (λ after e. Shows after e new))
+    (subst (λ (x : Option NewTables). (l : Layout) (stands : Stands l book mid) → HasGained (which_lacked x) l stands.1.0 book mid.now.trees (λ after e. Shows after e new))
     c.lacked_by-lacked.ensures (done.filled clean))
-    (subst (λ (x : Option NewTables). (l : Layout) (d : Contents) → StandsAs l d book mid → Leaves (HoldsEitherWith (which_lacked x) l book) mid → LeavesBook (with_tables (which_lacked x) l) book new)
+    (subst (λ (x : Option NewTables). (l : Layout) → Stands l book mid → Leaves (HoldsEitherWith (which_lacked x) l book) mid → LeavesBook (with_tables (which_lacked x) l) book new)
     c.lacked_by-lacked.ensures (done.leaves clean))
     (λ db here. elim (c.read_parts.ensures.survives.crash early db here) [ inl before ↦ before | inr none ↦ absurd none ])
     (done.open clean (read.is_open early))
