@@ -32,11 +32,16 @@ abbrev pub given : Which → Row → Row
 given w = picked (numbers_from 0 (described w).shown)
 
 abbrev pub asked : Which → Asked
-asked w = record { text = (described w).read; columns = given w; kinds = map (kind_at (described w).columns) (described w).shown }
+asked w = record {
+  text = (described w).read;
+  columns = given w;
+  kinds = map (kind_at (described w).columns) (described w).shown;
+}
 
 -- what is read are the rows that the statement showed, in turn
 abbrev pub Gives : {X : Type 0} → Asked → (X → Row) → State → State → List X → Type 0
-Gives asked written before after xs = (rows : List Row) × Shown asked.text [] before after rows × (map asked.columns rows ≡ map written xs)
+Gives asked written before after xs =
+    (rows : List Row) × Shown asked.text [] before after rows × (map asked.columns rows ≡ map written xs)
 
 -- From this place on the values are of these kinds as far as the first text or bytes, the first thing that is allocated.
 abbrev pub Begins : ℕ → List Kind → Row → Type 0
@@ -54,12 +59,17 @@ BeginWith kinds (row ∷ rows) = Begins 0 kinds row
 
 -- Why nothing is read: the statement failed, or not all rows that it showed have the kinds, or they aren't apart as they have to be, or an
 -- allocation for them failed, the first of which is for the first row.
-pub data FailsAs {X : Type 0} (asked : Asked) (written : X → Row) (Apart : List X → Type 0) (before after : State) (fault : Fault) : Type 0 where
-  failed : (e : Error) → FailsToQuery asked.text [] before after e → IsToldAs e fault → FailsAs asked written Apart before after fault
-  unreadable : (rows : List Row) → Shown asked.text [] before after rows → ¬ AllByRecursion (HasKinds asked.kinds) rows
+pub data FailsAs {X : Type 0} (asked : Asked) (written : X → Row) (Apart : List X → Type 0)
+    (before after : State) (fault : Fault) : Type 0 where
+  failed : (e : Error) → FailsToQuery asked.text [] before after e → IsToldAs e fault
+      → FailsAs asked written Apart before after fault
+  unreadable : (rows : List Row) → Shown asked.text [] before after rows
+      → ¬ AllByRecursion (HasKinds asked.kinds) rows
       → fault ≡ Refused → FailsAs asked written Apart before after fault
-  together : (xs : List X) → Gives asked written before after xs → ¬ Apart xs → fault ≡ Refused → FailsAs asked written Apart before after fault
-  no_memory : (rows : List Row) → Shown asked.text [] before after rows → BeginWith asked.kinds rows → fault ≡ NoMemory
+  together : (xs : List X) → Gives asked written before after xs → ¬ Apart xs → fault ≡ Refused
+      → FailsAs asked written Apart before after fault
+  no_memory : (rows : List Row) → Shown asked.text [] before after rows
+      → BeginWith asked.kinds rows → fault ≡ NoMemory
       → FailsAs asked written Apart before after fault
 
 -- The rows of a tree can be read: their rowids are integers where these are shown, and the texts are UTF-8 where there are any.
@@ -72,8 +82,8 @@ abbrev pub AnyRows : {X : Type 0} → List X → Type 0
 AnyRows xs = ⊤
 
 -- A read of a whole table answers so, in rows that are viewed as those of the table and have to be apart so.
-pub record AnswersRows {V X : Type 0} (result : Result V Fault) (items : V → List X) (w : Which) (view : X → ShownOf w) (Apart : List X → Type 0)
-    (old new : State) : Type 0 where
+pub record AnswersRows {V X : Type 0} (result : Result V Fault) (items : V → List X) (w : Which)
+    (view : X → ShownOf w) (Apart : List X → Type 0) (old new : State) : Type 0 where
   -- what the statement shows in any file
   pub gives : IfOk result (λ xs. Gives (asked w) (λ x. shown w (view x)) old new (items xs))
   pub apart : IfOk result (λ xs. Apart (items xs))
@@ -88,11 +98,14 @@ pub record AnswersRows {V X : Type 0} (result : Result V Fault) (items : V → L
   pub told : IfErr result (FailsAs (asked w) (λ x. shown w (view x)) Apart old new)
   pub refused : IfErr result (λ fault. fault ≡ Refused → IsUnchanged old new)
   -- where its rows can be read and are apart, and the steps have no limit, it isn't refused
-  pub cause : (tree : ℕ) → HasTable (table_of w tree) old → old.step_limit ≡ None → AreReadable w (old.now.trees tree)
-      → ((xs : List X) → Lists (λ x. shown w (view x)) (picked (described w).shown) xs (old.now.trees tree) → Apart xs)
+  pub cause : (tree : ℕ) → HasTable (table_of w tree) old → old.step_limit ≡ None
+      → AreReadable w (old.now.trees tree)
+      → ((xs : List X) → Lists (λ x. shown w (view x)) (picked (described w).shown) xs (old.now.trees tree)
+      → Apart xs)
       → IfErr result (λ fault. fault ≢ Refused)
   -- in any file, where the statement has an answer whose values can be read and are apart, and the steps have no limit, it isn't refused
   pub answered : HasAnswer (asked w).text old → old.step_limit ≡ None
-      → ((rows : List Row) → Shown (asked w).text [] old new rows → AllByRecursion (HasKinds (asked w).kinds) rows)
+      → ((rows : List Row) → Shown (asked w).text [] old new rows
+      → AllByRecursion (HasKinds (asked w).kinds) rows)
       → ((xs : List X) → Gives (asked w) (λ x. shown w (view x)) old new xs → Apart xs)
       → IfErr result (λ fault. fault ≢ Refused)

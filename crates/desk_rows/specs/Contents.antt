@@ -15,7 +15,8 @@ pub record Contents : Type 0 where
 
 -- the tables hold just this
 pub record Holds (l : Layout) (c : Contents) (db : Trees) : Type 0 where
-  pub tables : (w : Which) → l.has w ≡ true → Lists (written w) (picked (described w).own) (c.rows w) (db (l.tree w))
+  pub tables : (w : Which) → l.has w ≡ true
+      → Lists (written w) (picked (described w).own) (c.rows w) (db (l.tree w))
   -- the rows that may be changed are distinguished, those of `tab` by their hidden rowids too
   pub ids : (w : Which) → l.has w ≡ true → (described w).is_changed ≡ true → HaveRowids (db (l.tree w))
   pub others : AllByRecursion (λ t. IsOther l t.tree → db t.tree ≡ c.others t.tree) l.schema.tables

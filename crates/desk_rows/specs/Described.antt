@@ -44,7 +44,8 @@ pub record Described : Type 0 where
 abbrev pub described : Which → Described
 described books = record {
   name = codes "book";
-  columns = needed (codes "id") Integer ∷ needed (codes "format") Integer ∷ needed (codes "version") Integer ∷ [];
+  columns = needed (codes "id") Integer ∷ needed (codes "format") Integer
+      ∷ needed (codes "version") Integer ∷ [];
   key = Some 0;
   primary = 0 ∷ [];
   uniques = [];
@@ -76,8 +77,10 @@ described tabs = record {
 }
 described paras = record {
   name = codes "para";
-  columns = needed (codes "id") Integer ∷ needed (codes "place") Integer ∷ needed (codes "tab") Text ∷ needed (codes "original") Text ∷ needed (codes "print") Text
-      ∷ needed (codes "style") Integer ∷ needed (codes "volume") Integer ∷ needed (codes "struck") Integer ∷ [];
+  columns = needed (codes "id") Integer ∷ needed (codes "place") Integer ∷ needed (codes "tab") Text
+      ∷ needed (codes "original") Text ∷ needed (codes "print") Text
+      ∷ needed (codes "style") Integer ∷ needed (codes "volume") Integer
+      ∷ needed (codes "struck") Integer ∷ [];
   key = Some 0;
   primary = 0 ∷ [];
   uniques = [];
@@ -93,7 +96,8 @@ described paras = record {
 }
 described corrs = record {
   name = codes "corr";
-  columns = needed (codes "para") Integer ∷ needed (codes "seq") Integer ∷ needed (codes "kind") Integer ∷ needed (codes "start") Integer ∷ needed (codes "len") Integer
+  columns = needed (codes "para") Integer ∷ needed (codes "seq") Integer ∷ needed (codes "kind") Integer
+      ∷ needed (codes "start") Integer ∷ needed (codes "len") Integer
       ∷ needed (codes "body") Text ∷ [];
   key = None;
   primary = 1 ∷ 2 ∷ [];
@@ -110,7 +114,8 @@ described corrs = record {
 }
 described marks = record {
   name = codes "mark";
-  columns = needed (codes "id") Integer ∷ needed (codes "para") Integer ∷ needed (codes "start") Integer ∷ needed (codes "stop") Integer ∷ needed (codes "note") Text
+  columns = needed (codes "id") Integer ∷ needed (codes "para") Integer ∷ needed (codes "start") Integer
+      ∷ needed (codes "stop") Integer ∷ needed (codes "note") Text
       ∷ needed (codes "touched") Integer ∷ needed (codes "resolved") Integer ∷ [];
   key = Some 0;
   primary = 0 ∷ [];
@@ -143,7 +148,8 @@ described caches = record {
 }
 described named_corrs = record {
   name = codes "corr2";
-  columns = needed (codes "para") Integer ∷ needed (codes "seq") Integer ∷ needed (codes "kind") Integer ∷ needed (codes "start") Integer ∷ needed (codes "len") Integer
+  columns = needed (codes "para") Integer ∷ needed (codes "seq") Integer ∷ needed (codes "kind") Integer
+      ∷ needed (codes "start") Integer ∷ needed (codes "len") Integer
       ∷ needed (codes "body") Text ∷ needed (codes "who") Text ∷ [];
   key = None;
   primary = 1 ∷ 2 ∷ [];
@@ -161,7 +167,9 @@ described named_corrs = record {
 
 -- the table in this tree
 abbrev pub table_of : Which → ℕ → Table
-table_of w = plain_table (described w).name (described w).columns (described w).key (described w).primary (described w).uniques (described w).orders
+table_of w =
+    plain_table (described w).name (described w).columns (described w).key (described w).primary
+    (described w).uniques (described w).orders
 
 -- what stands at a place of a row as its tree keeps it
 abbrev pub kind_at : List Column → ℕ → Kind

@@ -12,7 +12,8 @@ use Rattle.desk_rows.specs.Turns.{Failed, Ran, Stops}
 use Rattle.desk_parts.specs.declared.put.Put.{Put}
 
 -- Of these tables those so far were made, and this is what the database answered to the statement that makes the next.
-pub record StopsMaking {S : Type 0} (g : Ghosts S) (ws : List Which) (old : Held S) (new : State) (e : Error) : Type 0 where
+pub record StopsMaking {S : Type 0} (g : Ghosts S) (ws : List Which) (old : Held S) (new : State) (e : Error)
+    : Type 0 where
   pub done : List Which
   pub next : Which
   pub later : List Which
@@ -36,7 +37,8 @@ of_items g gives it = record {
 abbrev pub of_first_row : {S : Type 0} → Ghosts S → Putting S
 of_first_row g = record {
   stops = λ old new e. Failed (row_put books first_row) (state g old) new e;
-  puts = λ old new. PutsRow books first_row (state g old) (state g new) × Ran (row_put books first_row) (state g old) (state g new);
+  puts = λ old new. PutsRow books first_row (state g old) (state g new)
+      × Ran (row_put books first_row) (state g old) (state g new);
 }
 
 -- These tables are made first: some of them aren't, or what is put then isn't.

@@ -39,7 +39,10 @@ after (w ∷ ws) s = after ws (first_created s (table_of w 0))
 -- the tree that a table takes when these are made
 abbrev pub tree_in : List Which → Schema → Which → ℕ
 tree_in [] s w = 0
-tree_in (v ∷ vs) s w = if bytes_eq (described v).name (described w).name then next_tree s else tree_in vs (first_created s (table_of v 0)) w
+tree_in (v ∷ vs) s w =
+    if bytes_eq (described v).name (described w).name
+    then next_tree s
+    else tree_in vs (first_created s (table_of v 0)) w
 
 -- whether a table is one of these
 abbrev pub is_among : List Which → Which → Bool
@@ -67,7 +70,9 @@ CountsNone s db = lacks_sequence s ≡ true → db (next_tree (created s (table_
 -- The contents of a new file, beside the tables that were there with the rows that they had, an empty counter if it was missing, and
 -- what the database keeps aside.
 abbrev pub IsNew : Schema → Trees → (Contents → Type 0) → Type 0
-IsNew s rows P = (others : Trees) × KeepsRows s.tables rows others × CountsNone s others × KeepsAside s rows others × P (first_contents others)
+IsNew s rows P =
+    (others : Trees) × KeepsRows s.tables rows others × CountsNone s others × KeepsAside s rows others
+    × P (first_contents others)
 
 -- each differs from those after it
 abbrev pub Differ : List Which → Type 0
@@ -114,16 +119,20 @@ with_none ws others c = record { rows = λ v. if is_among ws v then [] else c.ro
 
 -- What a file is once these tables are made in it and these rows are put: the rows of all other tables that were there, and what the
 -- database keeps aside, are as they were.
-abbrev pub IsGrown : List Which → List RowPut → Layout → Contents → Trees → (Layout → Contents → Type 0) → Type 0
+abbrev pub IsGrown : List Which → List RowPut → Layout → Contents → Trees → (Layout → Contents → Type 0)
+    → Type 0
 IsGrown ws puts l c rows P =
-    (others : Trees) × KeepsRows l.schema.tables rows others × KeepsAside l.schema rows others × P (with_tables ws l) (puts_into puts (with_none ws others c))
+    (others : Trees) × KeepsRows l.schema.tables rows others × KeepsAside l.schema rows others
+    × P (with_tables ws l) (puts_into puts (with_none ws others c))
 
 -- The tables were made in whatever file the connection showed, and the rows put, which have their tables then.
 abbrev pub WritesWithTables : List Which → List RowPut → State → State → Type 0
 WritesWithTables ws puts old new =
-    (l : Layout) (c : Contents) → Differ ws → HasThem (with_tables ws l) puts → Shows l c old → IsGrown ws puts l c old.now.trees (λ after d. Shows after d new)
+    (l : Layout) (c : Contents) → Differ ws → HasThem (with_tables ws l) puts → Shows l c old
+    → IsGrown ws puts l c old.now.trees (λ after d. Shows after d new)
 
 -- The trees are such a file.
 abbrev pub IsFileWithTables : List Which → List RowPut → State → Trees → Type 0
 IsFileWithTables ws puts s db =
-    (l : Layout) (c : Contents) → Differ ws → HasThem (with_tables ws l) puts → Shows l c s → IsGrown ws puts l c s.now.trees (λ after d. IsFile after d db)
+    (l : Layout) (c : Contents) → Differ ws → HasThem (with_tables ws l) puts → Shows l c s
+    → IsGrown ws puts l c s.now.trees (λ after d. IsFile after d db)

@@ -200,13 +200,14 @@ abbrev pub ArePut : {S : Type 0} → Ghosts S → List RowPut → Held S → Hel
 ArePut g puts old new = PutsAll puts (state g old) (state g new) × RunInTurn g (map statement puts) old new
 
 -- Those so far were put, and then this one wasn't, with this error.
-pub record StopsAt {S : Type 0} (g : Ghosts S) (done : List RowPut) (next : RowPut) (old : Held S) (new : State) (e : Error)
-    : Type 0 where
+pub record StopsAt {S : Type 0} (g : Ghosts S) (done : List RowPut) (next : RowPut) (old : Held S)
+    (new : State) (e : Error) : Type 0 where
   pub stops : Stops g (map statement done) (NotPut next) old new e
   pub put : PutsAll done (state g old) (state g stops.before)
 
 -- what an iterator lends until it ends, as what it puts
-pub record Lends {I : Type 0} (gives : I → Option Put → I → Type 0) (it : I) (puts : List RowPut) : Type 0 where
+pub record Lends {I : Type 0} (gives : I → Option Put → I → Type 0) (it : I) (puts : List RowPut)
+    : Type 0 where
   pub lent : List Put
   pub drained : Drains gives it lent
   pub are : puts ≡ map put_of lent
@@ -216,6 +217,8 @@ abbrev pub OfItems : {I : Type 0} → (I → Option Put → I → Type 0) → I 
 OfItems gives it P = (puts : List RowPut) × Lends gives it puts × P puts
 
 -- what it puts before an item, and the item, with this
-abbrev pub OfItemsBefore : {I : Type 0} → (I → Option Put → I → Type 0) → I → (List RowPut → RowPut → Type 0) → Type 0
+abbrev pub OfItemsBefore : {I : Type 0} → (I → Option Put → I → Type 0) → I
+    → (List RowPut → RowPut → Type 0) → Type 0
 OfItemsBefore {I} gives it P =
-    (lent : List Put) × (next : Put) × (rest : I) × YieldsThen gives it lent (Some next) rest × P (map put_of lent) (put_of next)
+    (lent : List Put) × (next : Put) × (rest : I) × YieldsThen gives it lent (Some next) rest
+    × P (map put_of lent) (put_of next)

@@ -34,11 +34,17 @@ ShownOf named_corrs = NamedCorr
 abbrev pub written : (w : Which) → RowOf w → Row
 written books b = Int b.id ∷ Int b.format ∷ Int b.version ∷ []
 written tabs t = Text t.name ∷ Blob t.body ∷ []
-written paras p = Int p.id ∷ Int p.place ∷ Text p.tab ∷ Text p.original ∷ Text p.print ∷ Int p.style ∷ Int p.volume ∷ Int p.struck ∷ []
+written paras p =
+    Int p.id ∷ Int p.place ∷ Text p.tab ∷ Text p.original ∷ Text p.print
+    ∷ Int p.style ∷ Int p.volume ∷ Int p.struck ∷ []
 written corrs e = Int e.para ∷ Int e.seq ∷ Int e.kind ∷ Int e.start ∷ Int e.len ∷ Text e.body ∷ []
-written marks m = Int m.id ∷ Int m.para ∷ Int m.start ∷ Int m.stop ∷ Text m.note ∷ Int m.touched ∷ Int m.resolved ∷ []
+written marks m =
+    Int m.id ∷ Int m.para ∷ Int m.start ∷ Int m.stop ∷ Text m.note
+    ∷ Int m.touched ∷ Int m.resolved ∷ []
 written caches k = Int k.para ∷ Blob k.cells ∷ []
-written named_corrs e = Int e.entry.para ∷ Int e.entry.seq ∷ Int e.entry.kind ∷ Int e.entry.start ∷ Int e.entry.len ∷ Text e.entry.body ∷ Text e.who ∷ []
+written named_corrs e =
+    Int e.entry.para ∷ Int e.entry.seq ∷ Int e.entry.kind ∷ Int e.entry.start ∷ Int e.entry.len
+    ∷ Text e.entry.body ∷ Text e.who ∷ []
 
 -- the columns of a row that the query shows
 abbrev pub shown : (w : Which) → ShownOf w → Row
@@ -81,7 +87,8 @@ put_to caches k = put_in (λ j. int_eq j.para k.para) k
 put_to named_corrs e = λ es. e ∷ es
 
 -- with other rows in one table
-abbrev pub set_at : (w : Which) → (List (RowOf w) → List (RowOf w)) → ((v : Which) → List (RowOf v)) → (v : Which) → List (RowOf v)
+abbrev pub set_at : (w : Which) → (List (RowOf w) → List (RowOf w))
+    → ((v : Which) → List (RowOf v)) → (v : Which) → List (RowOf v)
 set_at books f rows books = f (rows books)
 set_at tabs f rows tabs = f (rows tabs)
 set_at paras f rows paras = f (rows paras)

@@ -25,8 +25,8 @@ RunInTurn {S} g (it ∷ more) old new = (mid : Held S) × Ran it (state g old) (
     × Survives (state g old) (state g mid) (λ _. ⊥) × RunInTurn g more mid new
 
 -- These ran in turn, and what came next failed so.
-pub record Stops {S : Type 0} (g : Ghosts S) (done : List Statement) (Fails : State → State → Error → Type 0) (old : Held S) (new : State)
-    (e : Error) : Type 0 where
+pub record Stops {S : Type 0} (g : Ghosts S) (done : List Statement) (Fails : State → State → Error → Type 0)
+    (old : Held S) (new : State) (e : Error) : Type 0 where
   pub before : Held S
   pub ran : RunInTurn g done old before
   pub failed : Fails (state g before) new e
@@ -41,4 +41,5 @@ abbrev pub AreRun : {S : Type 0} → Ghosts S → List Statement → Held S → 
 AreRun {S} g its old new = (last : Held S) × RunInTurn g its (begun old) last × (new.now ≡ (state g last).now)
 
 abbrev pub IsLeftBy : {S : Type 0} → Ghosts S → List Statement → Held S → Trees → Type 0
-IsLeftBy {S} g its old db = (last : Held S) × RunInTurn g its (begun old) last × (db ≡ (state g last).now.trees)
+IsLeftBy {S} g its old db =
+    (last : Held S) × RunInTurn g its (begun old) last × (db ≡ (state g last).now.trees)

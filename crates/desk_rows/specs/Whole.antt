@@ -24,7 +24,8 @@ Rows = (w : Which) → List (ShownOf w)
 
 -- these are the rows of the tables, in any order
 abbrev pub AreRows : Layout → Rows → Trees → Type 0
-AreRows l rows db = (w : Which) → l.has w ≡ true → Lists (shown w) (picked (described w).shown) (rows w) (db (l.tree w))
+AreRows l rows db =
+    (w : Which) → l.has w ≡ true → Lists (shown w) (picked (described w).shown) (rows w) (db (l.tree w))
 
 -- no two have the same number
 abbrev pub DifferBy : {X : Type 0} → (X → ℤ) → List X → Type 0

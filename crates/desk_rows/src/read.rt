@@ -36,7 +36,8 @@ fn ask<S: Alter>(conn: &mut Connection<S>, sql: &str) -> Result<Vec<Row>, Fault>
         × FailsToQuery sql.now [] (state S.Store conn.old) (state S.Store conn.new) e
         × IsToldAs e fault) }
     ensures mode { conn.old.in_transaction ≡ false → conn.new.in_transaction ≡ false }
-    ensures survives { Survives (state S.Store conn.old) (state S.Store conn.new) (CommitsShowing sql.now [] (state S.Store conn.old)) }
+    ensures survives { Survives (state S.Store conn.old) (state S.Store conn.new)
+        (CommitsShowing sql.now [] (state S.Store conn.old)) }
 {
     match conn.query_all(sql, &[]) {
         Ok(rows) => Ok(rows),

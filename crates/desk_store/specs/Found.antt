@@ -84,7 +84,8 @@ ShowsIn s book = (rows : FileRows) × AreFileRows s rows × RowsShow rows book
 -- The statement that reads the table has an answer, and whatever it answers can be read.
 pub record CanAnswer (s : State) (w : Which) : Type 0 where
   pub has : HasAnswer (asked w).text s
-  pub kinds : (rows : List Row) → Shown (asked w).text [] s s rows → AllByRecursion (HasKinds (asked w).kinds) rows
+  pub kinds : (rows : List Row) → Shown (asked w).text [] s s rows
+      → AllByRecursion (HasKinds (asked w).kinds) rows
   pub apart : (rows : List (ShownOf w)) → Gives (asked w) (shown w) s s rows → AreToldApart w rows
 
 -- whether a table is read, of which something is there by its name

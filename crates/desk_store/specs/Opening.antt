@@ -88,7 +88,8 @@ format_read read.Named = named
 -- the tables of the format are there, `book` aside
 abbrev pub has_tables : Format → Schema → Bool
 has_tables unnamed s =
-    (is_there s tabs && is_there s paras && is_there s marks) && (is_there s corrs && not (is_there s named_corrs))
+    (is_there s tabs && is_there s paras && is_there s marks)
+    && (is_there s corrs && not (is_there s named_corrs))
 has_tables named s = (is_there s tabs && is_there s paras && is_there s marks) && is_there s named_corrs
 
 -- ---- what is read
@@ -126,4 +127,5 @@ OfFile format s P = (l : Layout) (c : Contents) → IsOfFormat format l → Show
 -- The connection shows a file of this format that can be read, and has no limit on steps.
 abbrev pub ShowsReadable : Format → State → Type 0
 ShowsReadable format s =
-    (l : Layout) × (c : Contents) × IsOfFormat format l × Shows l c s × CanAllBeRead format l c × (s.step_limit ≡ None)
+    (l : Layout) × (c : Contents) × IsOfFormat format l × Shows l c s
+    × CanAllBeRead format l c × (s.step_limit ≡ None)
