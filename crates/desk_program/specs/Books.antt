@@ -15,7 +15,7 @@ use Rattle.desk_brf.specs.declared.volume.ExportFault.TheVariants as export
 use Rattle.desk_ends.specs.declared.ends.Sink.{Ghosts as Sink}
 use Rattle.desk_ends.specs.declared.ends.Source.{Ghosts as Source}
 use Rattle.desk_ends.specs.Sent.{HasFlushed, Sends}
-use Rattle.desk_session.specs.Served.{Served}
+use Rattle.desk_session.specs.Served.{Served, ends_of}
 use Rattle.desk_session.specs.declared.session.Ended.{Ended}
 use Rattle.desk_session.specs.declared.session.Ended.TheVariants.{Done, Input, Output, Lost as LostChange}
 use Rattle.desk_store.specs.Opened.{IsRefusedWith, MayBring, Opens}
@@ -141,9 +141,8 @@ pub data Holds {D S K : Type 0} (at : Place D) (source : Source S) (old_source n
       → outcome ≡ Err stop → Holds at source old_source new_source sink old new outcome
   held : (book last : Book) (opened left : Held D) (ended : Ended)
       → Opening at false opened book
-      → Served book last ended (source.remaining old_source) (source.remaining new_source)
-      (sink.contents old) (sink.contents new) (sink.flushed new) source.can_fail sink.can_fail
-      (state at.store opened) (state at.store left)
+      → Served book last ended (ends_of source old_source new_source sink old new
+      (state at.store opened) (state at.store left))
       → Closed at left
       → outcome ≡ after_session ended → Holds at source old_source new_source sink old new outcome
 

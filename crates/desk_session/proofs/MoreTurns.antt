@@ -7,9 +7,8 @@ use Rattle.desk_model.specs.Book.{Book}
 use Rattle.desk_line.specs.declared.answer.Answer.{Answer}
 use Rattle.desk_line.specs.declared.answer.Answer.TheVariants as answers
 use Rattle.desk_line.specs.Answered.{IsAnswered, accepted, asked, lost, no_request, refused, unplanned, unread}
-use Rattle.desk_line.specs.Reply.{IsReply}
-use Rattle.desk_session.specs.Served.{AllTaken, IsPart, IsWritten, requests_of}
-use Rattle.desk_session.specs.Session.{EndsLost, Given, Gives, IsHeld, IsSession, MayGoOn, Turn, commands_of}
+use Rattle.desk_session.specs.Served.{AllTaken, requests_of}
+use Rattle.desk_session.specs.Session.{EndsLost, Given, Gives, IsHeld, IsSession, MayGoOn, Turn, TurnsFrom, commands_of}
 use Rattle.desk_session.proofs.Sessions.{IsSession-held}
 
 -- ---- what a turn gives
@@ -74,45 +73,25 @@ module _ (turn : Turn) where
   -- ---- the session
 
   module _ (mid next : Book) (answered : IsAnswered turn.request mid next turn.answer) where
-    pub IsSession-more : (gives : List Given) → Gives turn turn.answer gives → (turns : List Turn) (book : Book) (given : List Given) → AllByRecursion MayGoOn turns
-        → IsSession book turns given mid → IsSession book (turns ++ turn ∷ []) (given ++ gives) next
-    IsSession-more gives is [] book given goes (none, same) = (
+    pub TurnsFrom-more : {X : Type 0} (Adds : Turn → Book → List X → Type 0) (piece : List X) → Adds turn next piece
+        → (turns : List Turn) (book : Book) (made : List X) → AllByRecursion MayGoOn turns
+        → TurnsFrom Adds book turns made mid → TurnsFrom Adds book (turns ++ turn ∷ []) (made ++ piece) next
+    TurnsFrom-more {X} Adds piece is [] book made goes (none, same) = (
       next,
       subst (λ (b : Book). IsAnswered turn.request b next turn.answer) same answered,
       inl refl,
-      (gives, [], is, ap (λ (all : List Given). all ++ gives) none ∙ sym (append-nil gives), (refl, refl)),
+      (piece, [], is, ap (λ (all : List X). all ++ piece) none ∙ sym (append-nil piece), (refl, refl)),
     )
-    IsSession-more gives is (first ∷ turns) book given goes (after, answer, on, (front, others, gave, whole, session)) = (
+    TurnsFrom-more {X} Adds piece is (first ∷ turns) book made goes (after, answer, on, (front, others, added, whole, session)) = (
       after,
       answer,
       inr goes.0,
       (
         front,
-        others ++ gives,
-        gave,
-        ap (λ (all : List Given). all ++ gives) whole ∙ append_assoc front others gives,
-        IsSession-more gives is turns after others goes.1 session,
-      ),
-    )
-
-    pub IsWritten-more : (reply piece : List ℕ) → IsReply next turn.answer reply → IsPart turn.taken piece reply → (turns : List Turn) (book : Book) (output : List ℕ)
-        → IsWritten book turns output mid → IsWritten book (turns ++ turn ∷ []) (output ++ piece) next
-    IsWritten-more reply piece is part [] book output (none, same) = (
-      next,
-      subst (λ (b : Book). IsAnswered turn.request b next turn.answer) same answered,
-      (reply, piece, [], is, part, ap (λ (t : List ℕ). t ++ piece) none ∙ sym (append-nil piece), (refl, refl)),
-    )
-    IsWritten-more reply piece is part (first ∷ turns) book output (after, answer, (text, front, others, replied, whole, parts, written)) = (
-      after,
-      answer,
-      (
-        text,
-        front,
         others ++ piece,
-        replied,
-        whole,
-        ap (λ (t : List ℕ). t ++ piece) parts ∙ append_assoc front others piece,
-        IsWritten-more reply piece is part turns after others written,
+        added,
+        ap (λ (all : List X). all ++ piece) whole ∙ append_assoc front others piece,
+        TurnsFrom-more Adds piece is turns after others goes.1 session,
       ),
     )
 

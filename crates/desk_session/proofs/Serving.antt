@@ -11,6 +11,8 @@ use Rattle.desk_model.specs.After.{After}
 use Rattle.desk_model.specs.Book.{Book}
 use Rattle.desk_model.proofs.Callers.{After-append}
 use Rattle.desk_ends.specs.declared.ends.Failed.{Failed}
+use Rattle.desk_ends.specs.declared.ends.Sink.{Ghosts as Sink}
+use Rattle.desk_ends.specs.declared.ends.Source.{Ghosts as Source}
 use Rattle.desk_ends.specs.Ends.{IsFlushed}
 use Rattle.desk_ends.specs.Input.{Input, Used, unread}
 use Rattle.desk_ends.specs.Limits.{most_input}
@@ -28,10 +30,10 @@ use Rattle.desk_session.specs.declared.session.Ended.{Ended}
 use Rattle.desk_session.specs.declared.session.Ended.TheVariants as ended
 use Rattle.desk_session.specs.Reading.{ReadsRequest}
 use Rattle.desk_session.specs.Requests.{FirstRequests}
-use Rattle.desk_session.specs.Served.{AllTaken, HoldsGiven, IsLeft, IsWritten, MayLack, MayServe, Served, requests_of}
+use Rattle.desk_session.specs.Served.{AllTaken, GoesOut, HoldsGiven, IsLeft, IsWritten, MayLack, MayServe, Served, SessionEnds, ends_of, requests_of}
 use Rattle.desk_session.specs.Session.{EndsLost, Given, Gives, IsCommand, IsSession, MayGoOn, Turn, commands_of}
 use Rattle.desk_session.specs.Turns.{LeavesLost, LeftBy, SendsReply, TakesTurn}
-use Rattle.desk_session.proofs.MoreTurns.{IsSession-more, IsWritten-more, after-given, ends-held, ends-lost, gives-some, goes-held, goes-more, requests-more, taken-more}
+use Rattle.desk_session.proofs.MoreTurns.{TurnsFrom-more, after-given, ends-held, ends-lost, gives-some, goes-held, goes-more, requests-more, taken-more}
 use Rattle.desk_session.proofs.RequestCuts.{CutInto, CutInto-all, CutInto-first, CutInto-more, CutInto-whole, next-some}
 
 -- ---- the file
@@ -104,49 +106,53 @@ empty-list (b ∷ bytes) none = absurd (omega arith)
 
 -- ---- a session so far
 
-pub record IsServing (start book : Book) (a b v w flushed : Option (List ℕ)) (input : Input) (old s : State) : Type 0 where
+pub record IsServing (start book : Book) (over : SessionEnds) (input : Input) : Type 0 where
   pub bytes : List ℕ
   pub output : List ℕ
   pub turns : List Turn
   pub given : List Given
-  pub used : Used a b unread input bytes
+  pub used : Used over.unread over.left unread input bytes
   pub cut : CutInto (input.is_over ≡ true) bytes (requests_of turns)
   pub session : IsSession start turns given book
   pub written : IsWritten start turns output book
-  pub appends : Appends v w output
+  pub appends : Appends over.before over.written output
   pub goes : AllByRecursion MayGoOn turns
-  pub passed : (turns ≡ []) ⊎ IsFlushed w flushed
-  pub clean : HasCleanDisk s → HasCleanDisk old
-  pub kept : HasCleanDisk s → (l : Layout) → MayServe l start old → IsKept l book s
+  pub passed : (turns ≡ []) ⊎ IsFlushed over.written over.flushed
+  pub clean : HasCleanDisk over.new → HasCleanDisk over.old
+  pub kept : HasCleanDisk over.new → (l : Layout) → MayServe l start over.old → IsKept l book over.new
 
-pub IsServing-none : (book : Book) (a v flushed : Option (List ℕ)) (s : State) → IsServing book book a a v v flushed unread s s
-IsServing-none book a v flushed s = record {
+pub IsServing-none : {R W : Type 0} (book : Book) (source : Source R) (r : R) (sink : Sink W) (w : W) (s : State) → IsServing book book (ends_of source r r sink w w s s) unread
+IsServing-none book source r sink w s = record {
   bytes = [];
   output = [];
   turns = [];
   given = [];
-  used = Used-none a unread;
+  used = Used-none (source.remaining r) unread;
   cut = refl;
   session = (refl, refl);
   written = (refl, refl);
-  appends = Appends-nil v;
+  appends = Appends-nil (sink.contents w);
   goes = tt;
   passed = inl refl;
   clean = λ clean. clean;
   kept = λ clean l may. may.kept;
 }
 
-module _ (RF WF : Type 0) (start book : Book) (a b c v w flushed : Option (List ℕ)) (input new : Input) (old s : State)
-    (so_far : IsServing start book a b v w flushed input old s) where
-  all-left : (e : Ended) → MayLack e [] → HasCleanDisk s → (l : Layout) → MayServe l start old → IsLeft l start book e so_far.given s
+module _ (start book : Book) (over : SessionEnds) (c : Option (List ℕ)) (input new : Input) (line : Option (List ℕ))
+    (so_far : IsServing start book over input) where
+  -- the ends once more was read
+  abbrev having_read : SessionEnds
+  having_read = record over { left = c }
+
+  all-left : (e : Ended) → MayLack e [] → HasCleanDisk over.new → (l : Layout) → MayServe l start over.old → IsLeft l start book e so_far.given over.new
   all-left e lacks clean l may =
-      held-left l start book e so_far.turns so_far.given s so_far.session (goes-held so_far.turns so_far.goes) lacks (so_far.kept clean l may)
+      held-left l start book e so_far.turns so_far.given over.new so_far.session (goes-held so_far.turns so_far.goes) lacks (so_far.kept clean l may)
 
   -- the input is at its end
-  pub Served-done : ReadsRequest RF b c input new (Ok None) → Served start book ended.Done a c v w flushed RF WF old s
+  pub Served-done : ReadsRequest over.ReadsFail over.left c input new line (Ok None) → Served start book ended.Done having_read
   Served-done read =
-      let used = Used-then a b c unread input new so_far.bytes read.bytes so_far.used read.used in
-      let knows = used.ends (unread-knows a) read.found.1 in
+      let used = Used-then over.unread over.left c unread input new so_far.bytes read.bytes so_far.used read.used in
+      let knows = used.ends (unread-knows over.unread) read.found.1 in
       let all : used.read ≡ so_far.bytes =
       used.parts
       ∙ (ap (λ (t : List ℕ). (so_far.bytes ++ read.bytes) ++ t) read.found.2
@@ -168,10 +174,10 @@ module _ (RF WF : Type 0) (start book : Book) (a b c v w flushed : Option (List 
       }
 
   -- a read failed
-  pub Served-input : (failed : Failed) → ReadsRequest RF b c input new (Err failed) → Served start book ended.Input a c v w flushed RF WF old s
+  pub Served-input : (failed : Failed) → ReadsRequest over.ReadsFail over.left c input new line (Err failed) → Served start book ended.Input having_read
   Served-input failed read =
-      let used = Used-then a b c unread input new so_far.bytes read.bytes so_far.used read.used in
-      let going : ¬ (input.is_over ≡ true) = λ over. let h = sym (read.used.over over).1 ∙ read.found.2 in cc h in
+      let used = Used-then over.unread over.left c unread input new so_far.bytes read.bytes so_far.used read.used in
+      let going : ¬ (input.is_over ≡ true) = λ at_end. let h = sym (read.used.over at_end).1 ∙ read.found.2 in cc h in
       let all : used.read ≡ so_far.bytes ++ read.bytes =
       used.parts
       ∙ (ap (λ (t : List ℕ). (so_far.bytes ++ read.bytes) ++ t) read.found.1 ∙ append-nil (so_far.bytes ++ read.bytes)) in
@@ -195,9 +201,13 @@ module _ (RF WF : Type 0) (start book : Book) (a b c v w flushed : Option (List 
 
   -- ---- one turn more
 
-  module _ (found : Result Request Fault) (next : Book) (answer : Answer) (s' : State) (x passed : Option (List ℕ)) (ok : Bool)
-      (read : ReadsRequest RF b c input new (Ok (Some found)))
-      (took : TakesTurn read.bytes book next answer s s') (sends : SendsReply WF w x passed next answer ok) where
+  module _ (found : Found) (next : Book) (answer : Answer) (s' : State) (x passed : Option (List ℕ)) (ok : Bool)
+      (read : ReadsRequest over.ReadsFail over.left c input new line (Ok (Some found)))
+      (took : TakesTurn read.bytes book next answer over.new s') (sends : SendsReply over.WritesFail over.written x passed next answer ok) where
+    -- the ends after that
+    abbrev after : SessionEnds
+    after = record over { left = c; written = x; flushed = passed; new = s' }
+
     abbrev turn : Turn
     turn = record { request = read.bytes; answer = answer; taken = sends.taken }
 
@@ -207,20 +217,20 @@ module _ (RF WF : Type 0) (start book : Book) (a b c v w flushed : Option (List 
     gave : (given : List Given) × Gives turn answer given
     gave = gives-some turn book next took.answered
 
-    used : Used a c unread new (so_far.bytes ++ read.bytes)
-    used = Used-then a b c unread input new so_far.bytes read.bytes so_far.used read.used
+    used : Used over.unread c unread new (so_far.bytes ++ read.bytes)
+    used = Used-then over.unread over.left c unread input new so_far.bytes read.bytes so_far.used read.used
 
     going : ¬ (input.is_over ≡ true)
-    going over =
-        let none = (read.used.over over).0 in
-        let empty = (so_far.used.ends (unread-knows a) over).1 in
+    going at_end =
+        let none = (read.used.over at_end).0 in
+        let empty = (so_far.used.ends (unread-knows over.unread) at_end).1 in
         let parts : read.bytes ++ new.waiting ≡ [] = sym read.used.parts ∙ (ap (λ (t : List ℕ). input.waiting ++ t) none ∙ (append-nil input.waiting ∙ empty)) in
         next-some (new.is_over ≡ true) new.waiting read.bytes read.found.0 (no-parts read.bytes new.waiting parts).0
 
     -- bytes were used
     pub fewer-left : left_to_use new < left_to_use input
     fewer-left =
-        left_to_use-fewer b c input new read.bytes read.used (so_far.used.bound (omega arith))
+        left_to_use-fewer over.left c input new read.bytes read.used (so_far.used.bound (omega arith))
         (λ none. next-some (new.is_over ≡ true) new.waiting read.bytes read.found.0 (empty-list read.bytes none))
 
     cut : CutInto (new.is_over ≡ true) (so_far.bytes ++ read.bytes) (requests_of turns)
@@ -229,24 +239,28 @@ module _ (RF WF : Type 0) (start book : Book) (a b c v w flushed : Option (List 
         (CutInto-more (input.is_over ≡ true) (new.is_over ≡ true) going new.waiting read.bytes read.found.0 so_far.bytes (requests_of so_far.turns) so_far.cut)
 
     session : IsSession start turns (so_far.given ++ gave.0) next
-    session = IsSession-more turn book next took.answered gave.0 gave.1 so_far.turns start so_far.given so_far.goes so_far.session
+    session =
+        TurnsFrom-more turn book next took.answered (λ (one : Turn) (later : Book) (given : List Given). Gives one one.answer given) gave.0 gave.1
+        so_far.turns start so_far.given so_far.goes so_far.session
 
     written : IsWritten start turns (so_far.output ++ sends.piece) next
-    written = IsWritten-more turn book next took.answered sends.reply sends.piece sends.is sends.part so_far.turns start so_far.output so_far.written
+    written =
+        TurnsFrom-more turn book next took.answered GoesOut sends.piece (sends.reply, sends.is, sends.part)
+        so_far.turns start so_far.output so_far.goes so_far.written
 
-    appends : Appends v x (so_far.output ++ sends.piece)
-    appends = Appends-trans v w x so_far.output sends.piece so_far.appends sends.appends
+    appends : Appends over.before x (so_far.output ++ sends.piece)
+    appends = Appends-trans over.before over.written x so_far.output sends.piece so_far.appends sends.appends
 
     first : FirstRequests (IsAtEnd c) used.read (requests_of turns)
     first =
         subst (λ (t : List ℕ). FirstRequests (IsAtEnd c) t (requests_of turns)) (sym used.parts)
-        (CutInto-first (new.is_over ≡ true) (IsAtEnd c) new.waiting (used.ends (unread-knows a)) (so_far.bytes ++ read.bytes) (requests_of turns) cut)
+        (CutInto-first (new.is_over ≡ true) (IsAtEnd c) new.waiting (used.ends (unread-knows over.unread)) (so_far.bytes ++ read.bytes) (requests_of turns) cut)
 
-    kept-next : answer ≢ answers.Lost → HasCleanDisk s' → (l : Layout) → MayServe l start old → IsKept l next s'
+    kept-next : answer ≢ answers.Lost → HasCleanDisk s' → (l : Layout) → MayServe l start over.old → IsKept l next s'
     kept-next held clean l may =
         kept-by l read.bytes book next answer s' held (took.left clean l may.tables (so_far.kept (took.clean clean) l may))
 
-    pub IsServing-more : answer ≢ answers.Lost → ok ≡ true → IsServing start next a c v x passed new old s'
+    pub IsServing-more : answer ≢ answers.Lost → ok ≡ true → IsServing start next after new
     IsServing-more held whole = record {
       bytes = so_far.bytes ++ read.bytes;
       output = so_far.output ++ sends.piece;
@@ -264,7 +278,7 @@ module _ (RF WF : Type 0) (start book : Book) (a b c v w flushed : Option (List 
     }
 
     -- a write failed
-    pub Served-output : answer ≢ answers.Lost → ok ≡ false → Served start next ended.Output a c v x passed RF WF old s'
+    pub Served-output : answer ≢ answers.Lost → ok ≡ false → Served start next ended.Output after
     Served-output held broken = record {
       read = used.read;
       output = so_far.output ++ sends.piece;
@@ -288,12 +302,12 @@ module _ (RF WF : Type 0) (start book : Book) (a b c v w flushed : Option (List 
     gave-lost : answer ≡ answers.Lost → Gives turn answers.Lost gave.0
     gave-lost is = subst (λ (one : Answer). Gives turn one gave.0) is gave.1
 
-    all-told : (whole : Bool) → ok ≡ whole → (AllTaken turns × IsFlushed x passed) ⊎ WF
+    all-told : (whole : Bool) → ok ≡ whole → (AllTaken turns × IsFlushed x passed) ⊎ over.WritesFail
     all-told true is = inl (taken-more turn so_far.turns so_far.goes (sends.all is).0, (sends.all is).1)
     all-told false is = inr (sends.fails is)
 
     -- a command was lost
-    pub Served-lost : answer ≡ answers.Lost → Served start next ended.Lost a c v x passed RF WF old s'
+    pub Served-lost : answer ≡ answers.Lost → Served start next ended.Lost after
     Served-lost is = record {
       read = used.read;
       output = so_far.output ++ sends.piece;

@@ -45,15 +45,20 @@ pub record MayGoOn (turn : Turn) : Type 0 where
   pub taken : turn.taken ≡ true
   pub held : turn.answer ≢ Lost
 
--- The turns of a session that began with this book: each request is answered on the book that the turns before it made.
--- These commands were given, and this book is held at the end, without a command that was lost.
-abbrev pub IsSession : Book → List Turn → List Given → Book → Type 0
-IsSession book [] given last = (given ≡ []) × (last ≡ book)
-IsSession book (turn ∷ turns) given last =
+-- The turns of a session that began with this book: each request is answered on the book that the turns before it made, and all but the
+-- last turn go on. Each adds something, by the book after it, to what all of them make, and this book is held at the end.
+abbrev pub TurnsFrom : {X : Type 0} → (Turn → Book → List X → Type 0)
+    → Book → List Turn → List X → Book → Type 0
+TurnsFrom Adds book [] made last = (made ≡ []) × (last ≡ book)
+TurnsFrom {X} Adds book (turn ∷ turns) made last =
     (next : Book) × IsAnswered turn.request book next turn.answer
     × ((turns ≡ []) ⊎ MayGoOn turn)
-    × ((first others : List Given) × Gives turn turn.answer first × (given ≡ first ++ others)
-    × IsSession next turns others last)
+    × ((first others : List X) × Adds turn next first × (made ≡ first ++ others)
+    × TurnsFrom Adds next turns others last)
+
+-- These commands were given by the turns. The book at the end is without a command that was lost.
+abbrev pub IsSession : Book → List Turn → List Given → Book → Type 0
+IsSession = TurnsFrom (λ turn next given. Gives turn turn.answer given)
 
 -- the commands of what was given
 abbrev pub commands_of : List Given → List Command
@@ -109,4 +114,5 @@ kept_commands sessions = flat_map (λ lived. commands_of lived.kept) sessions
 pub data IsGivenBy (turn : Turn) (one : Given) : Type 0 where
   done : (number : Option ℕ) → turn.answer ≡ Done number → IsCommand turn.request one.command
       → one.acknowledged ≡ turn.taken → IsGivenBy turn one
-  lost : turn.answer ≡ Lost → IsCommand turn.request one.command → one.acknowledged ≡ false → IsGivenBy turn one
+  lost : turn.answer ≡ Lost → IsCommand turn.request one.command → one.acknowledged ≡ false
+      → IsGivenBy turn one

@@ -1,5 +1,5 @@
 //! A session over two ends.
-ghost use Rattle.desk_session.specs.Served.{Served};
+ghost use Rattle.desk_session.specs.Served.{Served, ends_of};
 ghost use Rattle.desk_model.specs.Book.{Book};
 ghost use Rattle.desk_store.specs.Books.{Store as Shown, shown_by};
 ghost use Rattle.std.specs.Prelude.{true, ◌≡◌};
@@ -39,9 +39,8 @@ pub fn serve<R: Source, W: Sink, S: Alter>(
     store: &mut Store<S>,
     book: Book,
 ) -> (Ended, Book)
-    ensures served { Served book result.1 result.0 (R.remaining source.old) (R.remaining source.new)
-        (W.contents sink.old) (W.contents sink.new) (W.flushed sink.new) R.can_fail W.can_fail
-        (shown_by S.Store store.old) (shown_by S.Store store.new) }
+    ensures served { Served book result.1 result.0 (ends_of R.Source source.old source.new
+        W.Sink sink.old sink.new (shown_by S.Store store.old) (shown_by S.Store store.new)) }
     // Only a store on which a change was lost ends it so.
     ensures lost { result.0 ≡ Ended.Lost → store.new.lost ≡ true }
 {
@@ -75,9 +74,9 @@ pub fn run<R: Source, W: Sink, S: Alter + Drop>(
     book: Book,
 ) -> Ended
     // What became of the book and of the file is known of `serve`; here it is a book and a state that fit.
-    ensures { (last : Book) × (left : Shown S) × Served book last result (R.remaining source.old) (R.remaining source.new)
-        (W.contents sink.old) (W.contents sink.new) (W.flushed sink.new) R.can_fail W.can_fail
-        (shown_by S.Store store) (shown_by S.Store left) }
+    ensures { (last : Book) × (left : Shown S)
+        × Served book last result (ends_of R.Source source.old source.new
+        W.Sink sink.old sink.new (shown_by S.Store store) (shown_by S.Store left)) }
 {
     let mut store = store;
     let (ended, _) = serve(alloc, source, sink, &mut store, book);
