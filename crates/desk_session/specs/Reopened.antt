@@ -10,7 +10,8 @@ use Rattle.desk_session.specs.Session.{Given, HoldsAcknowledged, Turn, commands_
 -- the book after the first of the given commands, with all that were acknowledged and at most one more
 abbrev pub IsKeptBook : Book → List Turn → List Given → Book → Type 0
 IsKeptBook book turns given found =
-    (kept : List Given) × HoldsAcknowledged (record { turns = turns; given = given; kept = kept }) × After book (commands_of kept) found
+    (kept : List Given) × HoldsAcknowledged (record { turns = turns; given = given; kept = kept })
+    × After book (commands_of kept) found
 
 -- a session may begin with the book on this connection
 abbrev pub MayBegin : Book → State → Type 0

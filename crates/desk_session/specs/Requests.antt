@@ -12,7 +12,8 @@ IsNext AtEnd later request = IsWhole request ⊎ (AtEnd × (later ≡ []) × IsL
 abbrev pub FirstRequests : (AtEnd : Type 0) → List ℕ → List (List ℕ) → Type 0
 FirstRequests AtEnd bytes [] = Unit {0}
 FirstRequests AtEnd bytes (request ∷ requests) =
-    (later : List ℕ) × (bytes ≡ request ++ later) × IsNext AtEnd later request × FirstRequests AtEnd later requests
+    (later : List ℕ) × (bytes ≡ request ++ later) × IsNext AtEnd later request
+    × FirstRequests AtEnd later requests
 
 -- why the bytes of a request were not read: they are none, or an allocation failed
 abbrev pub IsFaultOf : List ℕ → Fault → Type 0

@@ -46,10 +46,12 @@ LeftBy l request book next Lost s = LeavesLost l request book s
 pub record TakesTurn (request : List ℕ) (book next : Book) (answer : Answer) (old new : State) : Type 0 where
   pub answered : IsAnswered request book next answer
   pub clean : HasCleanDisk new → HasCleanDisk old
-  pub left : HasCleanDisk new → (l : Layout) → HasNewTables l → IsKept l book old → LeftBy l request book next answer new
+  pub left : HasCleanDisk new → (l : Layout) → HasNewTables l → IsKept l book old
+      → LeftBy l request book next answer new
 
 -- A reply, or a beginning of it, was written. At true it was taken, and is flushed.
-pub record SendsReply (CanFail : Type 0) (old new flushed : Option (List ℕ)) (book : Book) (answer : Answer) (whole : Bool) : Type 0 where
+pub record SendsReply (CanFail : Type 0) (old new flushed : Option (List ℕ)) (book : Book) (answer : Answer)
+    (whole : Bool) : Type 0 where
   pub taken : Bool
   pub reply : List ℕ
   pub piece : List ℕ

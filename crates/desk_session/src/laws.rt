@@ -26,7 +26,8 @@ pub fn given_commands()
     ensures given { (book last : Book) (turns : List Turn) (given : List Given) (one : Given)
         → IsSession book turns given last → Contains given one
         → (turn : Turn) × Contains turns turn × IsGivenBy turn one }
-    ensures done { (book last : Book) (turns : List Turn) (given : List Given) (turn : Turn) (number : Option ℕ)
+    ensures done { (book last : Book) (turns : List Turn) (given : List Given)
+        (turn : Turn) (number : Option ℕ)
         → IsSession book turns given last → Contains turns turn → turn.answer ≡ Done number
         → (one : Given) × Contains given one × IsGivenBy turn one }
 {}
@@ -49,7 +50,8 @@ pub fn held_books()
 /// Any first part of the commands that a session gave makes a book.
 pub fn kept_parts()
     ensures { (book last : Book) (turns : List Turn) (given kept lost : List Given)
-        → IsSession book turns given last → given ≡ kept ++ lost → (next : Book) × After book (commands_of kept) next }
+        → IsSession book turns given last → given ≡ kept ++ lost
+        → (next : Book) × After book (commands_of kept) next }
 {}
 
 /// The life of a book, over any number of sessions, however each of them was stopped: the book found last is the one
