@@ -13,7 +13,11 @@ entry_rows (parts.Named corrs) = Named corrs.items
 -- the rows of parts, and the row of `book` in their format with their version
 abbrev pub rows_in : Parts → FileRows
 rows_in parts = record {
-  books = record { id = pos 1; format = pos (format_of (entry_rows parts.entries)); version = parts.version } ∷ [];
+  books = record {
+    id = pos 1;
+    format = pos (format_of (entry_rows parts.entries));
+    version = parts.version;
+  } ∷ [];
   tabs = map (λ stored. stored.row) parts.tabs.items;
   paras = parts.paras.items;
   entries = entry_rows parts.entries;

@@ -129,7 +129,9 @@ with_put (PutTab row) rows = record rows { tabs = put_in (λ t. bytes_eq t.name 
 with_put (PutPara row) rows = record rows { paras = put_in (λ p. int_eq p.id row.id) row rows.paras }
 with_put (PutMark row) rows = record rows { marks = put_in (λ m. int_eq m.id row.id) row rows.marks }
 with_put (PutCache row) rows =
-    record rows { caches = option_map (λ caches. put_in (λ c. int_eq c.para row.para) row caches) rows.caches }
+    record rows {
+      caches = option_map (λ caches. put_in (λ c. int_eq c.para row.para) row caches) rows.caches;
+    }
 with_put (PutEntry row) rows = record rows { entries = with_entry_row row rows.entries }
 with_put (SetPlace id place) rows = with_para_set id (λ p. record p { place = place }) rows
 with_put (SetFlags id style volume struck) rows =
@@ -140,7 +142,9 @@ with_put (SetSpan id start stop touched) rows =
     with_mark_set id (λ m. record m { start = start; stop = stop; touched = touched }) rows
 with_put (SetResolved id resolved) rows = with_mark_set id (λ m. record m { resolved = resolved }) rows
 with_put (SetVersion version) rows =
-    record rows { books = set_where (λ b. int_eq b.id (pos 1)) (λ b. record b { version = version }) rows.books }
+    record rows {
+      books = set_where (λ b. int_eq b.id (pos 1)) (λ b. record b { version = version }) rows.books;
+    }
 
 -- the rows once these are put in turn
 abbrev pub with_puts : List RowPut → FileRows → FileRows

@@ -70,7 +70,16 @@ pub struct ParaRow {
 impl Model for ParaRow {
     ghost Value = { Para };
 
-    ghost view = { λ r. record { id = r.id; place = r.place; tab = string_bytes r.tab; original = string_bytes r.original; print = string_bytes r.print; style = r.style; volume = r.volume; struck = r.struck } };
+    ghost view = { λ r. record {
+      id = r.id;
+      place = r.place;
+      tab = string_bytes r.tab;
+      original = string_bytes r.original;
+      print = string_bytes r.print;
+      style = r.style;
+      volume = r.volume;
+      struck = r.struck;
+    } };
 }
 
 /// A row of `corr`: an entry of a paragraph's history.
@@ -93,7 +102,14 @@ pub struct CorrRow {
 impl Model for CorrRow {
     ghost Value = { Corr };
 
-    ghost view = { λ r. record { para = r.para; seq = r.seq; kind = r.kind; start = r.start; len = r.len; body = string_bytes r.body } };
+    ghost view = { λ r. record {
+      para = r.para;
+      seq = r.seq;
+      kind = r.kind;
+      start = r.start;
+      len = r.len;
+      body = string_bytes r.body;
+    } };
 }
 
 /// A row of `corr2`: an entry of a paragraph's history, and the name of the proofreader who corrected.
@@ -133,7 +149,15 @@ pub struct MarkRow {
 impl Model for MarkRow {
     ghost Value = { Mark };
 
-    ghost view = { λ r. record { id = r.id; para = r.para; start = r.start; stop = r.stop; note = string_bytes r.note; touched = r.touched; resolved = r.resolved } };
+    ghost view = { λ r. record {
+      id = r.id;
+      para = r.para;
+      start = r.start;
+      stop = r.stop;
+      note = string_bytes r.note;
+      touched = r.touched;
+      resolved = r.resolved;
+    } };
 }
 
 /// A row of `cache`: the braille of a paragraph.

@@ -38,7 +38,8 @@ pub record IsForeignTree (s : Schema) (db : Trees) (tree : ℕ) : Type 0 where
   pub view : Stored
   pub listed : Has s.views view
   pub there : view.tree ≡ tree
-  pub frozen : AllByRecursion (λ row. has_rowid (pos (tree + 1)) row ≡ true → 4 ≤ number_in (column row 5) % 8) (db catalog_tree)
+  pub frozen : AllByRecursion (λ row.
+      has_rowid (pos (tree + 1)) row ≡ true → 4 ≤ number_in (column row 5) % 8) (db catalog_tree)
   pub no_table : AllByRecursion (λ t. t.tree ≢ tree) s.tables
   pub no_index : IsNoIndex s tree
 
@@ -49,7 +50,8 @@ pub record KeepsAside (s : Schema) (old new : Trees) : Type 0 where
   pub version : new version_tree ≡ old version_tree
 
 -- within a transaction over this commit the schema is this one so far, and the tables have those rows
-pub record IsMaking (committed : Database) (first : Schema) (rows : Trees) (now : Schema) (s : State) : Type 0 where
+pub record IsMaking (committed : Database) (first : Schema) (rows : Trees) (now : Schema) (s : State)
+    : Type 0 where
   pub schema : s.now.schema ≡ now
   pub sound : IsSound now s.now.trees
   pub kept : AllByRecursion (λ t. s.now.trees t.tree ≡ first_rows first rows t.tree) now.tables
@@ -65,4 +67,5 @@ AreFree names s = AllByRecursion (λ name. is_used s.now.schema name ≡ false) 
 
 -- a name that is free now was free
 abbrev pub FreesNone : State → State → Type 0
-FreesNone old new = (name : List ℕ) → is_used new.now.schema name ≡ false → is_used old.now.schema name ≡ false
+FreesNone old new =
+    (name : List ℕ) → is_used new.now.schema name ≡ false → is_used old.now.schema name ≡ false

@@ -48,4 +48,5 @@ pub record HasAnswer (text : List ℕ) (s : State) : Type 0 where
   pub compiled : Compiled
   pub is : IsStatement s text [] compiled
   pub timeless : compiled.formats ≡ []
-  pub unrefused : (db : Database) → IsSourceOf (reads_listing s.now.schema text) s.now db → (e : Error) → ¬ RefusesToRead None compiled.command db [] e
+  pub unrefused : (db : Database) → IsSourceOf (reads_listing s.now.schema text) s.now db
+      → (e : Error) → ¬ RefusesToRead None compiled.command db [] e

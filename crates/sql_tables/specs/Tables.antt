@@ -18,11 +18,25 @@ use Rattle.sqlite_catalog.specs.Change.{automatics}
 
 -- a column of this kind, which takes no NULL
 abbrev pub needed : List ℕ → Kind → Column
-needed name kind = record { name = name; kind = kind; is_strict = true; not_null = true; default = Null; collation = Binary }
+needed name kind = record {
+  name = name;
+  kind = kind;
+  is_strict = true;
+  not_null = true;
+  default = Null;
+  collation = Binary;
+}
 
 -- a column with no type and no rule
 abbrev pub untyped : List ℕ → Column
-untyped name = record { name = name; kind = Any; is_strict = false; not_null = false; default = Null; collation = Binary }
+untyped name = record {
+  name = name;
+  kind = Any;
+  is_strict = false;
+  not_null = false;
+  default = Null;
+  collation = Binary;
+}
 
 -- a table with no rule but its columns' kinds and its key
 abbrev pub plain_table : List ℕ → List Column → Option ℕ → List ℕ → List (List ℕ) → List Order → ℕ → Table
@@ -51,7 +65,9 @@ keyed name places columns = plain_table name columns None places (places ∷ [])
 
 -- the table in which the database counts the rowids of those that are declared with AUTOINCREMENT
 abbrev pub counter : ℕ → Table
-counter = plain_table (codes "sqlite_sequence") (untyped (codes "name") ∷ untyped (codes "seq") ∷ []) None [] [] []
+counter =
+    plain_table (codes "sqlite_sequence") (untyped (codes "name") ∷ untyped (codes "seq") ∷ [])
+    None [] [] []
 
 -- The schema has this table under its name, in a tree that is no other table's, and no unique index on it except those of its key.
 pub record IsDeclared (schema : Schema) (table : Table) : Type 0 where
