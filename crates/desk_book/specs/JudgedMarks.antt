@@ -1,21 +1,15 @@
--- Rows of marks, checked against the paragraphs that are kept.
-use Rattle.std.specs.Prelude.{◌≡◌, ℕ, ℤ, pos, ◌+◌, ◌<◌, ◌≤◌, ◌≤ℤ◌, List, length, slice_get, Some, ⊤}
-use Rattle.std.specs.List.Sorted.{IsSortedByKey}
-use Rattle.std.specs.Ordering.{int_cmp}
+-- Rows of marks, judged beside the paragraphs that are kept.
+use Rattle.std.specs.Prelude.{◌≡◌, ℕ, ℤ, pos, ◌+◌, ◌<◌, ◌≤◌, ◌≤ℤ◌, List, length, slice_get, Some}
 use Rattle.std.specs.Str.{chars}
 use Rattle.desk_book.specs.declared.marks.KeptMark.{KeptMark}
 use Rattle.desk_book.specs.declared.paragraphs.Paragraph.{Paragraph as KeptParagraph}
-use Rattle.desk_book.specs.declared.damage.RowsFault.{RowsFault}
-use Rattle.desk_book.specs.declared.damage.RowsFault.TheVariants.{Damaged, NoMemory}
 use Rattle.desk_model.specs.Damage.{IsFlag}
+use Rattle.desk_book.specs.OrderedRows.{AreKeptUpTo, RowRule}
 use Rattle.desk_model.specs.Limits.{most_marks, most_note}
+use Rattle.desk_parts.specs.FileRows.{HasMarkText}
 use Rattle.desk_parts.specs.Rows.{Mark as MarkRow}
 use Rattle.desk_model.specs.Shows.{flag_number}
 use Rattle.desk_model.specs.Stored.{IsUnbarred}
-
--- the rows stand in the order of their ids
-abbrev pub AreInOrder : List MarkRow → Type 0
-AreInOrder = IsSortedByKey (λ row. row.id) int_cmp
 
 -- ---- a row, but for its id
 
@@ -55,38 +49,13 @@ pub record IsKeptOf (row : MarkRow) (mark : KeptMark) : Type 0 where
 
 -- ---- rows in the order of their ids
 
--- the id is the next one after so many, and there is room for it
-abbrev pub IsNext : ℕ → ℤ → Type 0
-IsNext count id = (count < most_marks) × (id ≡ pos (count + 1))
-
--- the row at this index, from 0, is sound
-pub record IsSoundAt (items : List KeptParagraph) (index : ℕ) (row : MarkRow) : Type 0 where
-  pub next : IsNext index row.id
-  pub mark : IsMarkOn items row
-
--- so many rows are sound
-abbrev pub AreSoundUpTo : List KeptParagraph → ℕ → List MarkRow → Type 0
-AreSoundUpTo items count rows = (index : ℕ) (row : MarkRow) → index < count → slice_get rows index ≡ Some row → IsSoundAt items index row
+-- what is asked of the rows beside these paragraphs
+abbrev pub mark_rule : List KeptParagraph → RowRule MarkRow
+mark_rule items = record { id = λ row. row.id; most = most_marks; IsSound = λ index row. IsMarkOn items row; HasTexts = HasMarkText }
 
 -- each row is sound, and has its mark
-pub record AreKeptOf (items : List KeptParagraph) (rows : List MarkRow) (marks : List KeptMark) : Type 0 where
-  pub sound : AreSoundUpTo items (length rows) rows
-  pub count : length marks ≡ length rows
-  pub each : (index : ℕ) (row : MarkRow) (mark : KeptMark) → slice_get rows index ≡ Some row → slice_get marks index ≡ Some mark → IsKeptOf row mark
-
--- the first row that isn't sound has this id
-pub record IsFirstUnsound (items : List KeptParagraph) (rows : List MarkRow) (id : ℤ) : Type 0 where
-  pub index : ℕ
-  pub row : MarkRow
-  pub at : slice_get rows index ≡ Some row
-  pub told : row.id ≡ id
-  pub before : AreSoundUpTo items index rows
-  pub unsound : ¬ IsSoundAt items index row
-
--- the first row that isn't sound is reported, or an allocation failed
-abbrev pub TellsUnsound : List KeptParagraph → List MarkRow → RowsFault → Type 0
-TellsUnsound items rows (Damaged id) = IsFirstUnsound items rows id
-TellsUnsound items rows NoMemory = ⊤
+abbrev pub AreKeptOf : List KeptParagraph → List MarkRow → List KeptMark → Type 0
+AreKeptOf items rows marks = AreKeptUpTo (mark_rule items) IsKeptOf (length rows) rows marks
 
 -- ---- the indexes of a paragraph's marks
 

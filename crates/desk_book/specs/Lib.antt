@@ -12,6 +12,7 @@ pub mod Room
 pub mod ItemsLeft
 pub mod Judged
 pub mod JudgedTabs
+pub mod OrderedRows
 pub mod JudgedMarks
 pub mod JudgedHistory
 pub mod JudgedEntries

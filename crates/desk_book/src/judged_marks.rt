@@ -1,7 +1,9 @@
 //! The rows of `mark`, validated and converted into marks.
 ghost use Rattle.desk_model.specs.Damage.{IsDamagedMark};
+ghost use Rattle.desk_parts.specs.FileRows.{HasMarkText};
 ghost use Rattle.desk_book.specs.Judged.{AreMarksOf, AreOf, HaveMarks, IsWhole, TellsDamage, without_marks};
-ghost use Rattle.desk_book.specs.JudgedMarks.{AreInOrder, AreKeptOf, HasId, IsKeptOf, IsMarkOn, IsNext, IsNoteText, IsOnOne, IsSpan, TellsUnsound};
+ghost use Rattle.desk_book.specs.JudgedMarks.{AreKeptOf, HasId, IsKeptOf, IsMarkOn, IsNoteText, IsOnOne, IsSpan, mark_rule};
+ghost use Rattle.desk_book.specs.OrderedRows.{AreInOrder, TellsUnsound};
 ghost use Rattle.desk_model.specs.Limits.{most_marks};
 ghost use Rattle.desk_parts.specs.Rows.{Para};
 ghost use Rattle.std.specs.List.{All};
@@ -12,6 +14,7 @@ ghost use Rattle.std.specs.Str.{chars};
 use super::damage::{RowsFault, flag_of};
 use super::limits::{MOST_MARKS, MOST_NOTE};
 use super::marks::KeptMark;
+use super::ordered_rows::is_next;
 use super::paragraphs::Paragraph;
 use super::stored::{count_of, first_barred};
 use desk_command::Text;
@@ -49,7 +52,7 @@ fn span_of(count: usize, start: i64, stop: i64) -> Option<(usize, usize)>
 /// The mark of a row, if the row is sound but for its id.
 fn mark_of(items: &[Paragraph], row: MarkRow) -> Option<KeptMark>
     ensures { MatchOption result (¬ IsMarkOn items.now row)
-        (λ mark. IsMarkOn items.now row × IsKeptOf row mark) }
+        (λ mark. IsMarkOn items.now row × HasMarkText row × IsKeptOf row mark) }
 {
     let paragraph = paragraph_of(items, row.para)?;
     let (start, end) = span_of(paragraph.print.as_slice().len(), row.start, row.stop)?;
@@ -68,13 +71,6 @@ fn mark_of(items: &[Paragraph], row: MarkRow) -> Option<KeptMark>
     })
 }
 
-/// Whether a row with this id may be the next one after so many.
-fn is_next(id: i64, count: usize) -> bool
-    ensures { IsTrue result ↔ IsNext count id }
-{
-    count < MOST_MARKS && id == count as i64 + 1
-}
-
 /// The marks of rows in the order of their ids, or the first of these that isn't sound.
 fn marks_of(
     alloc: Global,
@@ -82,12 +78,12 @@ fn marks_of(
     rows: Vec<MarkRow>,
 ) -> Result<Vec<KeptMark>, RowsFault>
     ensures marks { IfOk result (λ marks. AreKeptOf items.now rows.items marks.items) }
-    ensures damaged { IfErr result (TellsUnsound items.now rows.items) }
+    ensures damaged { IfErr result (TellsUnsound (mark_rule items.now) rows.items) }
 {
     let mut marks = Vec::new(alloc);
     for row in rows {
         let id = row.id;
-        if !is_next(id, marks.len()) {
+        if !is_next(id, marks.len(), MOST_MARKS) {
             return Err(RowsFault::Damaged(id));
         }
         let Some(mark) = mark_of(items, row) else {
@@ -123,7 +119,7 @@ fn give_indexes(
 /// Puts rows in the order of their ids.
 fn sort(rows: &mut Vec<MarkRow>)
     ensures same { IsPermutation rows.old.items rows.new.items }
-    ensures sorted { AreInOrder rows.new.items }
+    ensures sorted { AreInOrder (λ row. row.id) rows.new.items }
 {
     rows.sort_unstable_by_key(|row| row.id);
 }
@@ -139,6 +135,7 @@ pub(crate) fn judged_marks(
     requires unmarked { All (λ kept. kept.marks ≡ []) items.old.items }
     ensures whole { (paras : List Para) → AreOf paras items.old.items
         → IfOk result (λ _. IsWhole (IsDamagedMark paras rows.items)) }
+    ensures texts { IfOk result (λ _. All HasMarkText rows.items) }
     ensures marks { IfOk result (λ marks. AreMarksOf rows.items marks.items) }
     ensures indexes { IfOk result (λ marks. HaveMarks marks.items items.new.items) }
     ensures same { IfOk result (λ _. map without_marks items.new.items ≡ map without_marks items.old.items) }

@@ -1,7 +1,9 @@
 //! The rows of `para`, validated and converted into paragraphs.
 ghost use Rattle.desk_model.specs.Damage.{IsDamagedPara, IsFlag, IsPrintText};
 ghost use Rattle.desk_book.specs.Judged.{AreInPlaces, AreOf, AreTables, IsWhole, TellsDamage};
-ghost use Rattle.desk_book.specs.JudgedParas.{AreDefinedBy, AreInOrder, AreKeptOf, IsFree, IsKeptOf, IsNext, IsParaOn, TellsUnsound};
+ghost use Rattle.desk_book.specs.JudgedParas.{AreDefinedBy, AreKeptOf, IsFree, IsKeptOf, IsParaOn, para_rule};
+ghost use Rattle.desk_book.specs.OrderedRows.{AreInOrder, TellsUnsound};
+ghost use Rattle.desk_parts.specs.FileRows.{HasParaTexts};
 ghost use Rattle.desk_parts.specs.Rows.{Tab};
 ghost use Rattle.desk_model.specs.Shows.{style_number};
 ghost use Rattle.std.specs.List.{All};
@@ -12,6 +14,7 @@ ghost use Rattle.std.specs.Str.{chars};
 use super::damage::{RowsFault, flag_of};
 use super::items::Items;
 use super::limits::{MOST_PARAGRAPHS, MOST_PRINT};
+use super::ordered_rows::is_next;
 use super::paragraphs::Paragraph;
 use super::stored::{count_of, first_barred};
 use super::tables::Tables;
@@ -65,7 +68,7 @@ fn paragraph_of(
     row: ParaRow,
 ) -> Result<Option<Paragraph>, AllocError>
     ensures { IfOk result (λ found. MatchOption found (¬ IsParaOn tables.now row)
-        (λ kept. IsParaOn tables.now row × IsKeptOf row kept)) }
+        (λ kept. IsParaOn tables.now row × HasParaTexts row × IsKeptOf row kept)) }
 {
     let (Some(style), Some(begins_volume), Some(struck)) = (
         style_of(row.style),
@@ -92,13 +95,6 @@ fn paragraph_of(
         cells: Cells::from_vec(Vec::new(alloc)),
         marks: Items::new(alloc),
     }))
-}
-
-/// Whether a row with this id may be the next one after so many.
-fn is_next(id: i64, count: usize) -> bool
-    ensures { IsTrue result ↔ IsNext count id }
-{
-    count < MOST_PARAGRAPHS && id == count as i64 + 1
 }
 
 /// The index of a place at which no id stands yet, if it is one.
@@ -133,13 +129,13 @@ fn paragraphs_of(
 ) -> Result<JudgedParas, RowsFault>
     ensures kept { IfOk result
         (λ judged. AreKeptOf tables.now (length rows.items) rows.items judged.items.items judged.order.items) }
-    ensures damaged { IfErr result (TellsUnsound tables.now rows.items) }
+    ensures damaged { IfErr result (TellsUnsound (para_rule tables.now rows.items) rows.items) }
 {
     let mut order = free_places(alloc, rows.len())?;
     let mut items = Vec::new(alloc);
     for row in rows {
         let id = row.id;
-        if !is_next(id, items.len()) {
+        if !is_next(id, items.len(), MOST_PARAGRAPHS) {
             return Err(RowsFault::Damaged(id));
         }
         let Some(index) = free_index(&order, row.place) else {
@@ -159,7 +155,7 @@ fn paragraphs_of(
 /// Puts rows in the order of their ids.
 fn sort(rows: &mut Vec<ParaRow>)
     ensures same { IsPermutation rows.old.items rows.new.items }
-    ensures sorted { AreInOrder rows.new.items }
+    ensures sorted { AreInOrder (λ row. row.id) rows.new.items }
 {
     rows.sort_unstable_by_key(|row| row.id);
 }

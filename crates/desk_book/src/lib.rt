@@ -39,6 +39,7 @@ mod limits;
 mod list;
 mod marking;
 mod marks;
+mod ordered_rows;
 mod paragraph_marks;
 mod paragraphs;
 mod plan;

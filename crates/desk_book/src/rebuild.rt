@@ -1,6 +1,6 @@
 //! A book from the rows of its file.
 ghost use Rattle.desk_model.specs.Damage.{IsDamagedEntries, IsDamagedPara, IsWithin};
-ghost use Rattle.desk_parts.specs.FileRows.{HasEntryTexts, HasMarkText, entries_in, table_of, unnamed};
+ghost use Rattle.desk_parts.specs.FileRows.{HasEntryTexts, entries_in, table_of, unnamed};
 ghost use Rattle.desk_book.specs.Joined.{IsDamagedBraille, TellsDamageOf, fault_in};
 ghost use Rattle.desk_book.specs.Judged.{AreOf, AreTables, HasCells, HasHistory, IsWhole, without_cells, without_history};
 ghost use Rattle.desk_book.specs.Kept.{IsKept, book_kept, numbered};
@@ -26,7 +26,7 @@ use super::marks::{KeptMark, Marks};
 use super::paragraphs::{Paragraph, Paragraphs};
 use super::tables::Tables;
 use desk_model::PartsFault;
-use desk_parts::{CacheRow, CorrRow, EntryRows, FileTable, MarkRow, NamedCorrRow, Parts};
+use desk_parts::{CacheRow, CorrRow, EntryRows, FileTable, NamedCorrRow, Parts};
 use std::alloc::{AllocError, Global};
 
 /// The version in the row of `book`, if a book may have it.
@@ -53,16 +53,7 @@ fn look_at_entries(rows: &[NamedCorrRow])
     }
 }
 
-/// Looks at the notes of marks, as at the texts of entries.
-fn look_at_marks(rows: &[MarkRow])
-    ensures { All HasMarkText rows.now }
-{
-    for row in rows {
-        let _ = &row.note;
-    }
-}
-
-/// The entries of format 1 as those of proofreaders without a name.
+/// The entries of the first format as those of proofreaders without a name.
 fn with_no_names(alloc: Global, rows: Vec<CorrRow>) -> Result<Vec<NamedCorrRow>, AllocError>
     ensures { IfOk result (λ named. named.items ≡ map unnamed rows.items) }
 {
@@ -186,7 +177,6 @@ impl Book {
         let paras = of_table(FileTable::Para, judged_paras(alloc, &tables, parts.paras))?;
         let JudgedParas { mut items, order } = paras;
         give_histories(alloc, &mut items, parts.entries)?;
-        look_at_marks(&parts.marks);
         let marks = of_table(
             FileTable::Mark,
             judged_marks(alloc, &mut items, parts.marks),

@@ -1,33 +1,30 @@
 -- Rows of marks, read in the order of their ids, beside kept paragraphs.
-use Rattle.std.proofs.Common.{◌≡◌, ℕ, zero, suc, ◌+◌, ◌-◌, ◌<◌, ◌≤◌, ℤ, pos, ◌≤ℤ◌, nat_abs, false, List, [], ◌∷◌, ◌++◌, map, length, take, drop, set, get_or, Some, Contains, refl, sym, ap, subst, ◌∙◌, arith, inl, inr}
+use Rattle.std.proofs.Common.{◌≡◌, ℕ, zero, suc, ◌+◌, ◌-◌, ◌<◌, ◌≤◌, ℤ, pos, ◌≤ℤ◌, nat_abs, false, List, [], ◌∷◌, ◌++◌, map, length, take, set, get_or, Some, Contains, refl, sym, ap, subst, ◌∙◌, arith, inl, inr}
 use Rattle.std.specs.List.{All, enumerate_from}
 use Rattle.std.specs.List.Sorted.{IsPermutation}
 use Rattle.std.specs.Prelude.{nat_eq, slice_get}
 use Rattle.std.specs.Str.{chars}
 use Rattle.std.proofs.lemmas.Bool.{cond_both, false_from_ne_true, eqb-true}
-use Rattle.std.proofs.Math.Seq.{take-length}
-use Rattle.std.proofs.lemmas.List.{length-append, length-take-le, take-append-drop}
-use Rattle.std.proofs.lemmas.List.Elements.{All-contains, Contains-append_cases}
-use Rattle.std.proofs.lemmas.List.Sorted.{Contains-permutation, IsPermutation-map, IsPermutation-sym}
+use Rattle.std.proofs.lemmas.List.{length-take-le}
+use Rattle.std.proofs.lemmas.List.Elements.{All-contains}
+use Rattle.std.proofs.lemmas.List.Sorted.{All-permutation, IsPermutation-map, IsPermutation-sym}
 use Rattle.std.proofs.lemmas.Option.{slice_get-get_or, slice_get_within}
 use Rattle.desk_book.specs.declared.marks.KeptMark.{KeptMark}
 use Rattle.desk_book.specs.declared.paragraphs.Paragraph.{Paragraph as KeptParagraph}
 use Rattle.desk_model.specs.Damage.{IsDamagedMark, IsNumber, IsSoundMarkRow, IsSpanned}
-use Rattle.desk_parts.specs.FileRows.{spelled_mark}
+use Rattle.desk_parts.specs.FileRows.{HasMarkText, spelled_mark}
 use Rattle.desk_book.specs.Judged.{AreMarksOf, AreOf, HasKept, HaveMarks, IsFirstId, IsWhole, without_marks}
-use Rattle.desk_book.specs.JudgedMarks.{AreInOrder, AreKeptOf, AreSoundUpTo, IsFirstUnsound, IsKeptOf, IsMarkOn, IsNext, IsOnOne, IsSoundAt}
+use Rattle.desk_book.specs.JudgedMarks.{AreKeptOf, IsKeptOf, IsMarkOn, IsOnOne, mark_rule}
+use Rattle.desk_book.specs.OrderedRows.{AreInOrder, AreSoundUpTo, IsFirstUnsound, IsNext, IsSoundAt}
 use Rattle.desk_book.specs.Kept.{mark_kept}
 use Rattle.desk_book.specs.KeptMarks.{indexes_from, indexes_on}
 use Rattle.desk_model.specs.Limits.{most_marks}
 use Rattle.desk_parts.specs.Rows.{Mark as MarkRow, Para}
 use Rattle.desk_model.specs.Shows.{mark_row_of}
-use Rattle.desk_model.proofs.Lists.Items.{Contains-there, drop-there, here-at, push-cases, set-cases, slice_get-append_left}
+use Rattle.desk_model.proofs.Lists.Items.{set-cases, slice_get-there}
 use Rattle.desk_book.proofs.Kept.MarkIndexes.{indexes-push_on, indexes-push_other}
-use Rattle.desk_model.proofs.Lists.Permutations.{IsPermutation-same}
-use Rattle.desk_book.proofs.Judged.OrderedRows.{IsNumber-permutation, before-number, from-place, only-next}
-use Rattle.desk_model.proofs.Lists.RowNumbers.{IsNumber-key, key-number, number-key, numbers, same_number}
-use Rattle.desk_model.proofs.Lists.Stable.{is_le}
-use Rattle.desk_model.proofs.Damage.UndamagedRows.{place-of}
+use Rattle.desk_book.proofs.Judged.OrderedRows.{few-sound, tells as first-told, whole as none-damaged}
+use Rattle.desk_model.proofs.Lists.RowNumbers.{key-number, number-key, same_number}
 
 -- ---- lists
 
@@ -43,58 +40,6 @@ take-more {X} xs i x at = ap (λ (n : ℕ). take n xs) (let next : i + 1 ≡ suc
     step [] i at = absurd (cc)
     step (y ∷ xs) zero at = let same : y ≡ x = cc in ap (λ z. z ∷ []) same
     step (y ∷ xs) (suc i) at = ap (λ rest. y ∷ rest) (step xs i at)
-
--- ---- a row more
-
-module _ (items : List KeptParagraph) (rows : List MarkRow) (marks : List KeptMark) (have : AreKeptOf items rows marks) (row : MarkRow) where
-  pub kept-more : (mark : KeptMark) → IsNext (length marks) row.id → IsMarkOn items row → IsKeptOf row mark → AreKeptOf items (rows ++ row ∷ []) (marks ++ mark ∷ [])
-  kept-more mark next on kept =
-      let count = have.count in
-      let own : IsSoundAt items (length rows) row = record { next = subst (λ k. IsNext k row.id) count next; mark = on } in
-      record {
-        sound = λ i r less at.
-            elim (push-cases rows row i r at) [
-              | inl early ↦ have.sound i r early.0 early.1
-              | inr last ↦ subst (λ k. IsSoundAt items k r) (sym last.0) (subst (IsSoundAt items (length rows)) last.1 own)
-            ];
-        count = length-append marks (mark ∷ []) ∙ (ap (λ n. n + 1) count ∙ sym (length-append rows (row ∷ [])));
-        each = λ i r m at_row at_mark.
-            elim (push-cases rows row i r at_row) [
-              | inl early ↦ elim (push-cases marks mark i m at_mark) [
-                | inl both ↦ have.each i r m early.1 both.1
-                | inr last ↦ absurd (let less = early.0 in let end = last.0 in omega (arith, less, end, count))
-              ]
-              | inr end ↦ elim (push-cases marks mark i m at_mark) [
-                | inl early ↦ absurd (let less = early.0 in let last = end.0 in omega (arith, less, last, count))
-                | inr last ↦ subst (λ x. IsKeptOf x m) end.1 (subst (IsKeptOf row) last.1 kept)
-              ]
-            ];
-      }
-
-  pub first-unsound : (rest all : List MarkRow) (id : ℤ) → rows ++ row ∷ rest ≡ all → row.id ≡ id → ¬ (IsNext (length marks) row.id × IsMarkOn items row) → IsFirstUnsound items all id
-  first-unsound rest all id are told bad =
-      record {
-        index = length rows;
-        row = row;
-        at = ap (λ (xs : List MarkRow). slice_get xs (length rows)) (sym are) ∙ here-at rows rest row;
-        told = told;
-        before = λ i r less at.
-            have.sound i r less (sym (slice_get-append_left rows (row ∷ rest) i less) ∙ (ap (λ (xs : List MarkRow). slice_get xs i) are ∙ at));
-        unsound = λ s. bad (subst (λ k. IsNext k row.id) (sym have.count) s.next, s.mark);
-      }
-
--- there are no more than there may be
-pub few-kept : (items : List KeptParagraph) (sorted : List MarkRow) (marks : List KeptMark) → AreKeptOf items sorted marks → length marks ≤ most_marks
-few-kept items sorted marks have = by sorted refl
-  where
-    by : (xs : List MarkRow) → sorted ≡ xs → length marks ≤ most_marks
-    by [] is = let none = ap length is in let count = have.count in omega (arith, none, count)
-    by (x ∷ xs) is =
-        let some = ap length is in
-        let count = have.count in
-        let room = (have.sound (length sorted - 1) (get_or sorted (length sorted - 1) x) (omega (arith, some))
-        (slice_get-get_or sorted (length sorted - 1) x (omega (arith, some)))).next.0 in
-        omega (arith, room, count, some)
 
 -- ---- rows beside paragraphs
 
@@ -124,11 +69,11 @@ module _ (paras : List Para) (items : List KeptParagraph) (of : AreOf paras item
         stop = subst (λ (text : List ℕ). row.stop ≤ℤ pos (length text)) print on.span.high;
       }
 
-  pub sound-row : (rows : List MarkRow) (row : MarkRow) → IsNumber (λ (other : MarkRow). other.id) most_marks rows row.id → IsMarkOn items row → IsSoundMarkRow paras rows row
+  sound-row : (rows : List MarkRow) (row : MarkRow) → IsNumber (λ (other : MarkRow). other.id) most_marks rows row.id → IsMarkOn items row → IsSoundMarkRow paras rows row
   sound-row rows row number on =
       record { number = number; span = spanned row on; short = on.note.short; note = on.note.unbarred; touched = on.touched; resolved = on.resolved }
 
-  pub mark-on : (rows : List MarkRow) (row : MarkRow) → IsSoundMarkRow paras rows row → IsMarkOn items row
+  mark-on : (rows : List MarkRow) (row : MarkRow) → IsSoundMarkRow paras rows row → IsMarkOn items row
   mark-on rows row s =
       let para = s.span.paragraph in
       let number = key-number id_of paras (length items) of.ids para s.span.there in
@@ -151,120 +96,24 @@ module _ (paras : List Para) (items : List KeptParagraph) (of : AreOf paras item
 
   -- ---- what is reported
 
-  module _ (rows sorted : List MarkRow) (moved : IsPermutation rows sorted) where
-    abbrev key : MarkRow → ℤ
-    key row = row.id
+  module _ (rows sorted : List MarkRow) (moved : IsPermutation rows sorted) (up : AreInOrder (mark_rule items).id sorted) where
+    abbrev number-of : (row : MarkRow) → IsSoundMarkRow paras rows row → IsNumber (mark_rule items).id most_marks rows row.id
+    number-of row s = s.number
 
-    still-sound : (row : MarkRow) → IsSoundMarkRow paras rows row → IsSoundMarkRow paras sorted row
-    still-sound row s = sound-row sorted row (IsNumber-permutation key most_marks rows sorted row.id moved s.number) (mark-on rows row s)
+    abbrev sound-at : (index : ℕ) (row : MarkRow) → slice_get sorted index ≡ Some row → IsNumber (mark_rule items).id most_marks rows row.id
+        → IsSoundAt (mark_rule items) index row → HasMarkText row → IsSoundMarkRow paras rows row
+    sound-at index row at number s text = sound-row rows row number s.sound
 
-    back-sound : (row : MarkRow) → IsSoundMarkRow paras sorted row → IsSoundMarkRow paras rows row
-    back-sound row s =
-        sound-row rows row (IsNumber-permutation key most_marks sorted rows row.id (IsPermutation-sym rows sorted moved) s.number) (mark-on sorted row s)
+    abbrev at-sound : (index : ℕ) (row : MarkRow) → slice_get sorted index ≡ Some row → AreSoundUpTo (mark_rule items) index sorted
+        → IsNext most_marks index row.id → IsSoundMarkRow paras rows row → IsMarkOn items row
+    at-sound index row at before next s = mark-on rows row s
 
-    -- sound rows in order have the numbers from one on
-    in-numbers : (count : ℕ) → count ≤ length sorted → AreSoundUpTo items count sorted → map key (take count sorted) ≡ numbers 1 count
-    in-numbers count within sound = from 1 (take count sorted) count (length-take-le count sorted within) (λ i row at.
-        let less = subst (λ n. i < n) (length-take-le count sorted within) (slice_get_within (take count sorted) i row at) in
-        let there : slice_get sorted i ≡ Some row =
-        ap (λ (xs : List MarkRow). slice_get xs i) (sym (take-append-drop count sorted))
-        ∙ (slice_get-append_left (take count sorted) (drop count sorted) i (slice_get_within (take count sorted) i row at) ∙ at) in
-        let next : i + 1 ≡ 1 + i = omega arith in
-        (sound i row less there).next.1 ∙ ap pos next)
-      where
-        from : (n : ℕ) (xs : List MarkRow) (count : ℕ) → length xs ≡ count → ((i : ℕ) (row : MarkRow) → slice_get xs i ≡ Some row → row.id ≡ pos (n + i)) → map key xs ≡ numbers n count
-        from n [] zero long each = refl
-        from n [] (suc count) long each = absurd (omega arith)
-        from n (x ∷ xs) zero long each = absurd (omega arith)
-        from n (x ∷ xs) (suc count) long each =
-            let own : n + 0 ≡ n = omega arith in
-            let first : x.id ≡ pos n = each 0 x refl ∙ ap pos own in
-            let rest = from (n + 1) xs count (omega arith) (λ i row at.
-            let next : n + suc i ≡ n + 1 + i = omega arith in
-            each (suc i) row at ∙ ap pos next) in
-            λ i. first i ∷ rest i
+    pub tells : (id : ℤ) → IsFirstUnsound (mark_rule items) sorted id → IsFirstId (IsDamagedMark paras rows) id
+    tells id first = first-told (mark_rule items) rows sorted moved up (IsSoundMarkRow paras rows) number-of sound-at at-sound id first
 
-    module _ (up : AreInOrder sorted) (id : ℤ) (first : IsFirstUnsound items sorted id) where
-      abbrev front : List MarkRow
-      front = take first.index sorted
-
-      abbrev back : List MarkRow
-      back = drop (first.index + 1) sorted
-
-      left : (drop first.index sorted ≡ first.row ∷ back) × (first.index < length sorted)
-      left = drop-there sorted first.index first.row first.at
-
-      long : length front ≡ first.index
-      long = let within = left.1 in length-take-le first.index sorted (omega (arith, within))
-
-      parts : sorted ≡ front ++ first.row ∷ back
-      parts = sym (take-append-drop first.index sorted) ∙ ap (λ (xs : List MarkRow). front ++ xs) left.0
-
-      numbered : map key front ≡ numbers 1 (length front)
-      numbered = (let within = left.1 in in-numbers first.index (omega (arith, within)) first.before) ∙ ap (numbers 1) (sym long)
-
-      above : (x : MarkRow) → Contains (first.row ∷ back) x → first.row.id ≤ℤ x.id
-      above x c = from-place key sorted up first.index first.row x left.0 c
-
-      there : Contains rows first.row
-      there = Contains-permutation sorted rows first.row (IsPermutation-sym rows sorted moved) (Contains-there sorted first.index first.row first.at)
-
-      unsound : ¬ IsSoundMarkRow paras rows first.row
-      unsound sound =
-          let s = still-sound first.row sound in
-          let next = only-next key most_marks front back first.row numbered above (subst (λ xs. IsNumber key most_marks xs first.row.id) parts s.number) in
-          first.unsound (record { next = subst (λ n. IsNext n first.row.id) long next; mark = mark-on sorted first.row s })
-
-      -- the rows before it are no more than there may be
-      few : length front ≤ most_marks
-      few = by front refl
-        where
-          by : (xs : List MarkRow) → front ≡ xs → length front ≤ most_marks
-          by [] is = subst (λ xs. length xs ≤ most_marks) (sym is) (omega arith)
-          by (x ∷ xs) is =
-              let last : first.index - 1 < length sorted = (let within = left.1 in omega (arith, within)) in
-              let some : length front ≡ suc (length xs) = ap length is in
-              let row = slice_get-get_or sorted (first.index - 1) x last in
-              let room = (first.before (first.index - 1) (get_or sorted (first.index - 1) x) (omega (arith, some, long)) row).next.0 in
-              omega (arith, room, long)
-
-      pub tells : IsFirstId (IsDamagedMark paras rows) id
-      tells = (
-        (first.row, there, first.told, unsound),
-        λ other damaged. elim (is_le id other) [
-          | inl le ↦ le
-          | inr more ↦
-              let row = damaged.0 in
-              let away : ¬ (first.row.id ≤ℤ row.id) = λ h. more (subst (λ z. z ≤ℤ other) first.told (subst (λ z. first.row.id ≤ℤ z) damaged.2 h)) in
-              let c = subst (λ xs. Contains xs row) parts (Contains-permutation rows sorted row moved damaged.1) in
-              absurd (elim (Contains-append_cases front (first.row ∷ back) row c) [
-                | inr late ↦ away (above row late)
-                | inl early ↦
-                    let number = before-number key most_marks front back first.row numbered above few row early away in
-                    let place = place-of front row early in
-                    let within = slice_get_within front place.0 row place.1 in
-                    let less : place.0 < first.index = omega (arith, within, long) in
-                    let at : slice_get sorted place.0 ≡ Some row =
-                    ap (λ (xs : List MarkRow). slice_get xs place.0) parts ∙ (slice_get-append_left front (first.row ∷ back) place.0 within ∙ place.1) in
-                    damaged.3 (back-sound row (sound-row sorted row (subst (λ xs. IsNumber key most_marks xs row.id) (sym parts) number) (first.before place.0 row less at).mark))
-              ])
-        ],
-      )
-
-    module _ (marks : List KeptMark) (have : AreKeptOf items sorted marks) where
-      -- nothing is damaged
-      pub whole : IsWhole (IsDamagedMark paras rows)
-      whole id damaged =
-          let row = damaged.0 in
-          let c = Contains-permutation rows sorted row moved damaged.1 in
-          let place = place-of sorted row c in
-          let within = slice_get_within sorted place.0 row place.1 in
-          let all : map key sorted ≡ numbers 1 (length sorted) =
-          ap (map key) (sym (take-length sorted)) ∙ in-numbers (length sorted) (omega arith) have.sound in
-          let count = have.count in
-          let few = few-kept items sorted marks have in
-          let number = IsNumber-key key sorted (length sorted) (IsPermutation-same (map key sorted) (numbers 1 (length sorted)) all) most_marks (omega (arith, count, few)) row c in
-          damaged.3 (back-sound row (sound-row sorted row number (have.sound place.0 row within place.1).mark))
+    -- nothing is damaged
+    pub whole : (marks : List KeptMark) → AreKeptOf items sorted marks → IsWhole (IsDamagedMark paras rows)
+    whole marks have = none-damaged (mark_rule items) rows sorted moved up (IsSoundMarkRow paras rows) number-of sound-at at-sound have.sound
 
 -- ---- the marks that the rows are
 
@@ -297,30 +146,34 @@ kept-rows n (r ∷ rs) (m ∷ ms) long each =
 
 pub are-marks : (items : List KeptParagraph) (rows sorted : List MarkRow) (marks : List KeptMark) → IsPermutation rows sorted → AreKeptOf items sorted marks → AreMarksOf rows marks
 are-marks items rows sorted marks moved have =
-    subst (IsPermutation (map spelled_mark rows)) (kept-rows 1 sorted marks have.count (λ i row mark at_row at_mark.
+    subst (IsPermutation (map spelled_mark rows)) (kept-rows 1 sorted marks have.count_is (λ i row mark at_row at_mark.
     let next : i + 1 ≡ 1 + i = omega arith in
-    ((have.sound i row (slice_get_within sorted i row at_row) at_row).next.1 ∙ ap pos next, have.each i row mark at_row at_mark)))
+    ((have.sound i row (slice_get_within sorted i row at_row) at_row).0.next.1 ∙ ap pos next, have.each i row mark at_row at_mark)))
     (IsPermutation-map spelled_mark rows sorted moved)
+
+-- there are no more than there may be
+pub few-kept : (items : List KeptParagraph) (sorted : List MarkRow) (marks : List KeptMark) → AreKeptOf items sorted marks → length marks ≤ most_marks
+few-kept items sorted marks have =
+    let few : length sorted ≤ most_marks = few-sound (mark_rule items) sorted (length sorted) (omega arith) have.sound in
+    subst (λ n. n ≤ most_marks) (sym have.count_is) few
 
 -- each mark is on a paragraph
 pub on-ones : (items : List KeptParagraph) (sorted : List MarkRow) (marks : List KeptMark) → AreKeptOf items sorted marks → All (IsOnOne (length items)) marks
 on-ones items sorted marks have k d less =
-    let count = have.count in
-    let mark = get_or marks k d in
-    let at = slice_get-get_or marks k d less in
-    by sorted refl
-  where
-    by : (xs : List MarkRow) → sorted ≡ xs → IsOnOne (length items) (get_or marks k d)
-    by [] is = absurd (let none = ap length is in let count = have.count in omega (arith, none, count, less))
-    by (x ∷ xs) is =
-        let count = have.count in
-        let there : k < length sorted = omega (arith, count, less) in
-        let row = get_or sorted k x in
-        let at_row = slice_get-get_or sorted k x there in
-        let named = (have.sound k row there at_row).mark.named in
-        let within = slice_get_within items named.index (have.sound k row there at_row).mark.kept named.at in
-        let same = same_number (get_or marks k d).paragraph (named.index + 1) ((have.each k row (get_or marks k d) at_row (slice_get-get_or marks k d less)).paragraph ∙ named.is) in
-        (omega (arith, same), omega (arith, same, within))
+    let count = have.count_is in
+    let there : k < length sorted = omega (arith, count, less) in
+    let row = slice_get-there sorted k there in
+    let its = (have.sound k row.0 there row.1).0.sound in
+    let within = slice_get_within items its.named.index its.kept its.named.at in
+    let same = same_number (get_or marks k d).paragraph (its.named.index + 1)
+    ((have.each k row.0 (get_or marks k d) row.1 (slice_get-get_or marks k d less)).paragraph ∙ its.named.is) in
+    (omega (arith, same), omega (arith, same, within))
+
+-- and each row's text is UTF-8
+pub all-texts : (items : List KeptParagraph) (rows sorted : List MarkRow) (marks : List KeptMark) → IsPermutation rows sorted → AreKeptOf items sorted marks → All HasMarkText rows
+all-texts items rows sorted marks moved have =
+    All-permutation HasMarkText sorted rows (IsPermutation-sym rows sorted moved) (λ k d within.
+    (have.sound k (get_or sorted k d) within (slice_get-get_or sorted k d within)).1)
 
 -- ---- the indexes of a paragraph's marks
 

@@ -1,5 +1,7 @@
--- Rows in the order of their keys: which of them has the next number, and what is so of those before it.
-use Rattle.std.proofs.Common.{◌≡◌, ℕ, suc, ◌+◌, ◌<◌, ◌≤◌, ℤ, pos, ◌+ℤ◌, ◌≤ℤ◌, ◌<ℤ◌, false, List, ◌∷◌, ◌++◌, map, filter, length, drop, get_or, Ordering, Contains, is_lt, int_cmp, refl, sym, ap, subst, ◌∙◌, arith, inl, inr}
+-- Rows in the order of their ids: which of them has the next number, what is so of those before it, and what is told of them.
+use Rattle.std.proofs.Common.{◌≡◌, ℕ, zero, suc, ◌+◌, ◌<◌, ◌≤◌, ℤ, pos, ◌+ℤ◌, ◌≤ℤ◌, ◌<ℤ◌, false, List, [], ◌∷◌, ◌++◌, map, filter, length, take, drop, get_or, Some, Ordering, Contains, is_lt, int_cmp, refl, sym, ap, subst, ◌∙◌, arith, inl, inr}
+use Rattle.std.proofs.Math.Seq.{take-length}
+use Rattle.std.specs.Prelude.{slice_get}
 use Rattle.std.specs.Cmp.{signed_Decides}
 use Rattle.std.specs.List.{range_with_len}
 use Rattle.std.specs.List.Sorted.{IsPermutation, IsSortedByKey}
@@ -8,16 +10,29 @@ use Rattle.std.specs.declared.cmp.Ordering.TheVariants.{Less, Equal, Greater}
 use Rattle.std.proofs.lemmas.Bool.{cases_lt, cond-true}
 use Rattle.std.proofs.lemmas.Cmp.{int_cmp_total, int_ranked}
 use Rattle.std.proofs.lemmas.Int.{ints}
-use Rattle.std.proofs.lemmas.List.{get_or-drop, length-append, length-drop}
+use Rattle.std.proofs.lemmas.List.{get_or-drop, length-append, length-drop, length-take-le, take-append-drop}
 use Rattle.std.proofs.lemmas.List.Elements.{Contains-append_cases, Contains-append_left, filter-append}
-use Rattle.std.proofs.lemmas.List.Sorted.{Contains-permutation, length_permutation, ranks_by, sorted_far}
+use Rattle.std.proofs.lemmas.List.Sorted.{Contains-permutation, IsPermutation-sym, length_permutation, ranks_by, sorted_far}
+use Rattle.std.proofs.lemmas.Option.{slice_get_cases, slice_get_within}
+use Rattle.desk_book.specs.Judged.{IsFirstId, IsWhole}
+use Rattle.desk_book.specs.OrderedRows.{AreInOrder, AreKeptUpTo, AreSoundUpTo, IsFirstUnsound, IsNext, IsSoundAt, RowRule}
 use Rattle.desk_model.specs.Damage.{IsNumber, rows_with}
+use Rattle.desk_model.proofs.Lists.Items.{Contains-there, drop-there, here-at, push-cases, slice_get-append_left}
 use Rattle.desk_model.proofs.Lists.Members.{Contains-here}
 use Rattle.desk_model.proofs.Lists.NumberedRows.{taken_out}
 use Rattle.desk_model.proofs.Lists.Permutations.{IsPermutation-filter, IsPermutation-same}
 use Rattle.desk_model.proofs.Lists.RowNumbers.{IsNumber-key, key-number, key-once, numbers, same_number}
-use Rattle.desk_model.proofs.Lists.Stable.{at_least, le_from}
-use Rattle.desk_model.proofs.Damage.UndamagedRows.{none-with}
+use Rattle.desk_model.proofs.Lists.Stable.{at_least, is_le, le_from}
+use Rattle.desk_model.proofs.Damage.UndamagedRows.{none-with, place-of}
+
+-- a number that doesn't come before another is no smaller
+pub not_more : (a b : ℤ) (order : Ordering) → order ≡ int_cmp b a → is_lt order ≡ false → a ≤ℤ b
+not_more a b order is follows = by order follows (int_ranked b a order is)
+  where
+    by : (order : Ordering) → is_lt order ≡ false → MatchOrdering order (b <ℤ a) (b ≡ a) (a <ℤ b) → a ≤ℤ b
+    by Less follows r = absurd (cc)
+    by Equal follows r = omega (arith, ints)
+    by Greater follows r = omega (arith, ints)
 
 module _ {X : Type 0} (key : X → ℤ) where
   -- ---- rows in another order
@@ -36,14 +51,6 @@ module _ {X : Type 0} (key : X → ℤ) where
       }
 
   -- ---- rows in order
-
-  not_more : (a b : ℤ) (order : Ordering) → order ≡ int_cmp b a → is_lt order ≡ false → a ≤ℤ b
-  not_more a b order is follows = by order follows (int_ranked b a order is)
-    where
-      by : (order : Ordering) → is_lt order ≡ false → MatchOrdering order (b <ℤ a) (b ≡ a) (a <ℤ b) → a ≤ℤ b
-      by Less follows r = absurd (cc)
-      by Equal follows r = omega (arith, ints)
-      by Greater follows r = omega (arith, ints)
 
   -- a row from a place on has no smaller key than the row at that place
   pub from-place : (xs : List X) → IsSortedByKey key int_cmp xs → (i : ℕ) (row x : X) → drop i xs ≡ row ∷ drop (i + 1) xs → Contains (row ∷ drop (i + 1) xs) x → key row ≤ℤ key x
@@ -129,3 +136,185 @@ module _ {X : Type 0} (key : X → ℤ) where
               omega (arith, once, sum, early, late)
               )
         ]
+
+  -- ---- keys that count from a number on
+
+  -- are the numbers from it on
+  counted-from : (n : ℕ) (xs : List X) (count : ℕ) → length xs ≡ count → ((i : ℕ) (x : X) → slice_get xs i ≡ Some x → key x ≡ pos (n + i)) → map key xs ≡ numbers n count
+  counted-from n [] zero long each = refl
+  counted-from n [] (suc count) long each = absurd (omega arith)
+  counted-from n (x ∷ xs) zero long each = absurd (omega arith)
+  counted-from n (x ∷ xs) (suc count) long each =
+      let own : n + 0 ≡ n = omega arith in
+      let first : key x ≡ pos n = each 0 x refl ∙ ap pos own in
+      let rest = counted-from (n + 1) xs count (omega arith) (λ i other at.
+      let next : n + suc i ≡ n + 1 + i = omega arith in
+      each (suc i) other at ∙ ap pos next) in
+      λ i. first i ∷ rest i
+
+-- ---- rows in turn
+
+module _ {X : Type 0} (rule : RowRule X) (rows : List X) where
+  -- the row after those that were taken
+  pub row-at : (taken rest : List X) (row : X) → taken ++ row ∷ rest ≡ rows → slice_get rows (length taken) ≡ Some row
+  row-at taken rest row are = ap (λ xs. slice_get xs (length taken)) (sym are) ∙ here-at taken rest row
+
+  pub first-unsound : (count : ℕ) (row : X) (id : ℤ) → AreSoundUpTo rule count rows → slice_get rows count ≡ Some row → rule.id row ≡ id
+      → ¬ IsSoundAt rule count row → IsFirstUnsound rule rows id
+  first-unsound count row id sound at told unsound =
+      record { index = count; row = row; at = at; told = told; before = sound; unsound = unsound }
+
+  sound-more : (count : ℕ) (row : X) → AreSoundUpTo rule count rows → slice_get rows count ≡ Some row → IsSoundAt rule count row → rule.HasTexts row
+      → AreSoundUpTo rule (count + 1) rows
+  sound-more count row sound here own texts i r less at =
+      elim (cases_lt i count) [
+        | inl early ↦ sound i r early at
+        | inr last ↦
+            let is : count ≡ i = omega (arith, less, last) in
+            let both : Some row ≡ Some r = sym here ∙ (ap (slice_get rows) is ∙ at) in
+            let same : row ≡ r = cc in
+            subst (λ x. IsSoundAt rule i x × rule.HasTexts x) same (subst (λ k. IsSoundAt rule k row) is own, texts)
+      ]
+
+  -- a sound row more, and what is kept of it
+  pub kept-more : {K : Type 0} (IsKeptOf : X → K → Type 0) (count : ℕ) (kept : List K) (row : X) (item : K) → AreKeptUpTo rule IsKeptOf count rows kept
+      → slice_get rows count ≡ Some row → IsSoundAt rule count row → rule.HasTexts row → IsKeptOf row item → AreKeptUpTo rule IsKeptOf (count + 1) rows (kept ++ item ∷ [])
+  kept-more IsKeptOf count kept row item have here own texts of =
+      record {
+        sound = sound-more count row have.sound here own texts;
+        count_is = length-append kept (item ∷ []) ∙ ap (λ n. n + 1) have.count_is;
+        each = λ i r k at_row at_kept.
+            elim (push-cases kept item i k at_kept) [
+              | inl early ↦ have.each i r k at_row early.1
+              | inr last ↦
+                  let is : count ≡ i = sym have.count_is ∙ sym last.0 in
+                  let both : Some row ≡ Some r = sym here ∙ (ap (slice_get rows) is ∙ at_row) in
+                  let same : row ≡ r = cc in
+                  subst (λ x. IsKeptOf x k) same (subst (IsKeptOf row) last.1 of)
+            ];
+      }
+
+  module _ (count : ℕ) (within : count ≤ length rows) (sound : AreSoundUpTo rule count rows) where
+    -- sound rows have the numbers from one on
+    in-numbers : map rule.id (take count rows) ≡ numbers 1 count
+    in-numbers =
+        let long = length-take-le count rows within in
+        counted-from rule.id 1 (take count rows) count long (λ i row at.
+        let less = slice_get_within (take count rows) i row at in
+        let there : slice_get rows i ≡ Some row =
+        ap (λ xs. slice_get xs i) (sym (take-append-drop count rows)) ∙ (slice_get-append_left (take count rows) (drop count rows) i less ∙ at) in
+        let next : i + 1 ≡ 1 + i = omega arith in
+        (sound i row (omega (arith, less, long)) there).0.next.1 ∙ ap pos next)
+
+    -- and are no more than there may be
+    pub few-sound : count ≤ rule.most
+    few-sound = by count refl
+      where
+        by : (n : ℕ) → count ≡ n → count ≤ rule.most
+        by zero is = omega (arith, is)
+        by (suc n) is =
+            elim (slice_get_cases rows n).1 [
+              | inl found ↦
+                  let room = (sound n found.0 (omega (arith, is)) found.2).0.next.0 in
+                  omega (arith, is, room)
+              | inr past ↦ absurd (let end = past.0 in omega (arith, is, end, within))
+            ]
+
+  module _ (sound : AreSoundUpTo rule (length rows) rows) where
+    pub all-numbers : map rule.id rows ≡ numbers 1 (length rows)
+    all-numbers = ap (map rule.id) (sym (take-length rows)) ∙ in-numbers (length rows) (omega arith) sound
+
+    pub number-in : (row : X) → Contains rows row → IsNumber rule.id rule.most rows (rule.id row)
+    number-in row c =
+        IsNumber-key rule.id rows (length rows) (IsPermutation-same (map rule.id rows) (numbers 1 (length rows)) all-numbers)
+        rule.most (few-sound (length rows) (omega arith) sound) row c
+
+-- ---- what is told
+
+-- rows, these in the order of their ids, and when one of them is sound: it has a number, and is sound at its index
+module _ {X : Type 0} (rule : RowRule X) (rows sorted : List X) (moved : IsPermutation rows sorted) (up : AreInOrder rule.id sorted) (IsSoundRow : X → Type 0)
+    (number-of : (row : X) → IsSoundRow row → IsNumber rule.id rule.most rows (rule.id row))
+    (sound-row : (index : ℕ) (row : X) → slice_get sorted index ≡ Some row → IsNumber rule.id rule.most rows (rule.id row)
+    → IsSoundAt rule index row → rule.HasTexts row → IsSoundRow row)
+    (row-sound : (index : ℕ) (row : X) → slice_get sorted index ≡ Some row → AreSoundUpTo rule index sorted → IsNext rule.most index (rule.id row)
+    → IsSoundRow row → rule.IsSound index row) where
+  abbrev IsDamaged : ℤ → Type 0
+  IsDamaged id = (row : X) × Contains rows row × (rule.id row ≡ id) × ¬ IsSoundRow row
+
+  back : IsPermutation sorted rows
+  back = IsPermutation-sym rows sorted moved
+
+  back-number : (row : X) → IsNumber rule.id rule.most sorted (rule.id row) → IsNumber rule.id rule.most rows (rule.id row)
+  back-number row number = IsNumber-permutation rule.id rule.most sorted rows (rule.id row) back number
+
+  -- where each row is sound, nothing is damaged
+  pub whole : AreSoundUpTo rule (length sorted) sorted → IsWhole IsDamaged
+  whole sound id damaged =
+      let row = damaged.0 in
+      let c = Contains-permutation rows sorted row moved damaged.1 in
+      let place = place-of sorted row c in
+      let its = sound place.0 row (slice_get_within sorted place.0 row place.1) place.1 in
+      damaged.3 (sound-row place.0 row place.1 (back-number row (number-in rule sorted sound row c)) its.0 its.1)
+
+  module _ (id : ℤ) (first : IsFirstUnsound rule sorted id) where
+    abbrev front : List X
+    front = take first.index sorted
+
+    abbrev later : List X
+    later = drop (first.index + 1) sorted
+
+    left : (drop first.index sorted ≡ first.row ∷ later) × (first.index < length sorted)
+    left = drop-there sorted first.index first.row first.at
+
+    fits : first.index ≤ length sorted
+    fits = let within = left.1 in omega (arith, within)
+
+    long : length front ≡ first.index
+    long = length-take-le first.index sorted fits
+
+    parts : sorted ≡ front ++ first.row ∷ later
+    parts = sym (take-append-drop first.index sorted) ∙ ap (λ xs. front ++ xs) left.0
+
+    numbered : map rule.id front ≡ numbers 1 (length front)
+    numbered = in-numbers rule sorted first.index fits first.before ∙ ap (numbers 1) (sym long)
+
+    above : (x : X) → Contains (first.row ∷ later) x → rule.id first.row ≤ℤ rule.id x
+    above x c = from-place rule.id sorted up first.index first.row x left.0 c
+
+    few : length front ≤ rule.most
+    few = let most = few-sound rule sorted first.index fits first.before in omega (arith, most, long)
+
+    unsound : ¬ IsSoundRow first.row
+    unsound sound =
+        let number = IsNumber-permutation rule.id rule.most rows sorted (rule.id first.row) moved (number-of first.row sound) in
+        let after = only-next rule.id rule.most front later first.row numbered above (subst (λ xs. IsNumber rule.id rule.most xs (rule.id first.row)) parts number) in
+        let next : IsNext rule.most first.index (rule.id first.row) = subst (λ n. IsNext rule.most n (rule.id first.row)) long after in
+        first.unsound (record { next = next; sound = row-sound first.index first.row first.at first.before next sound })
+
+    -- a row before it, with a smaller id, is sound
+    before-sound : (row : X) → Contains front row → ¬ (rule.id first.row ≤ℤ rule.id row) → IsSoundRow row
+    before-sound row early away =
+        let number = before-number rule.id rule.most front later first.row numbered above few row early away in
+        let place = place-of front row early in
+        let within = slice_get_within front place.0 row place.1 in
+        let at : slice_get sorted place.0 ≡ Some row =
+        ap (λ xs. slice_get xs place.0) parts ∙ (slice_get-append_left front (first.row ∷ later) place.0 within ∙ place.1) in
+        let its = first.before place.0 row (omega (arith, within, long)) at in
+        sound-row place.0 row at (back-number row (subst (λ xs. IsNumber rule.id rule.most xs (rule.id row)) (sym parts) number)) its.0 its.1
+
+    pub tells : IsFirstId IsDamaged id
+    tells = (
+      (first.row, Contains-permutation sorted rows first.row back (Contains-there sorted first.index first.row first.at), first.told, unsound),
+      λ other damaged. elim (is_le id other) [
+        | inl le ↦ le
+        | inr more ↦
+            let row = damaged.0 in
+            let away : ¬ (rule.id first.row ≤ℤ rule.id row) =
+            λ h. more (subst (λ z. z ≤ℤ other) first.told (subst (λ z. rule.id first.row ≤ℤ z) damaged.2 h)) in
+            let c = subst (λ xs. Contains xs row) parts (Contains-permutation rows sorted row moved damaged.1) in
+            absurd (elim (Contains-append_cases front (first.row ∷ later) row c) [
+              | inr late ↦ away (above row late)
+              | inl early ↦ damaged.3 (before-sound row early away)
+            ])
+      ],
+    )

@@ -1,16 +1,17 @@
 -- Rows of paragraphs, read in the order of their ids, beside kept tables.
-use Rattle.std.proofs.Common.{◌≡◌, Option, None, ℕ, zero, suc, ◌+◌, ◌-◌, ◌<◌, ℤ, pos, ◌≤ℤ◌, List, [], ◌∷◌, ◌++◌, map, length, take, drop, set, get_or, Some, Contains, refl, sym, ap, subst, ◌∙◌, arith, inl, inr}
+use Rattle.std.proofs.Common.{◌≡◌, Option, None, ℕ, zero, suc, ◌+◌, ◌-◌, ◌<◌, ◌≤◌, ℤ, pos, ◌≤ℤ◌, List, [], ◌∷◌, ◌++◌, map, length, take, drop, set, Some, Contains, refl, sym, ap, subst, ◌∙◌, arith, inl, inr}
 use Rattle.std.specs.Cmp.Lexicographic.{pointwise, slice_cmp}
 use Rattle.std.specs.List.Sorted.{IsPermutation, IsStrictlySortedBy}
 use Rattle.std.specs.Ordering.{nat_cmp}
 use Rattle.std.specs.Map.{lookup}
 use Rattle.std.specs.Prelude.{◌≢◌, IsUtf8, nat_eq, option_map, slice_get}
 use Rattle.std.specs.Str.{chars}
-use Rattle.std.proofs.lemmas.List.{length-append, length-set, length-take-le, take-append-drop}
+use Rattle.std.proofs.lemmas.Bool.{cases_lt}
+use Rattle.std.proofs.lemmas.List.{length-set, length-take-le, take-append-drop}
 use Rattle.std.proofs.lemmas.List.Elements.{All-contains, Contains-append_cases}
 use Rattle.std.proofs.lemmas.List.Sorted.{Contains-permutation, IsPermutation-sym, length_permutation}
 use Rattle.std.proofs.lemmas.Map.Views.{Contains-from_lookup}
-use Rattle.std.proofs.lemmas.Option.{slice_get-get_or, slice_get_within}
+use Rattle.std.proofs.lemmas.Option.{slice_get_within}
 use Rattle.std.proofs.lemmas.Simd.{map-map}
 use Rattle.louis_table.specs.Meaning.{Meaning}
 use Rattle.louis_table.specs.Table.{Means}
@@ -18,17 +19,18 @@ use Rattle.louis_table.proofs.OneMeaning.{one_meaning}
 use Rattle.louis_translate.specs.Position.{AreDefined}
 use Rattle.desk_book.specs.declared.paragraphs.Paragraph.{Paragraph as KeptParagraph}
 use Rattle.desk_book.specs.declared.tables.BookTable.{BookTable}
-use Rattle.desk_model.specs.Damage.{IsItsTable, IsNumber, IsSoundParaRow, IsWithin}
+use Rattle.desk_model.specs.Damage.{IsDamagedPara, IsItsTable, IsNumber, IsSoundParaRow, IsWithin}
 use Rattle.desk_parts.specs.FileRows.{HasParaTexts, HasTabText, spelled_tab}
-use Rattle.desk_book.specs.Judged.{AreTables}
-use Rattle.desk_book.specs.JudgedParas.{AreInOrder, AreKeptOf, IsFirstUnsound, IsFree, IsKeptOf, IsNext, IsParaOn, IsPlaced, IsSoundAt}
+use Rattle.desk_book.specs.Judged.{AreTables, IsFirstId, IsWhole}
+use Rattle.desk_book.specs.JudgedParas.{AreKeptOf, ArePlacedUpTo, IsFree, IsKeptOf, IsParaAt, IsParaOn, para_rule}
 use Rattle.desk_book.specs.Kept.{KeptTables}
+use Rattle.desk_book.specs.OrderedRows.{AreInOrder, AreSoundUpTo, IsFirstUnsound, IsNext, IsSoundAt, RowRule}
 use Rattle.desk_model.specs.Limits.{most_paragraphs}
 use Rattle.desk_parts.specs.Rows.{Para, Tab}
 use Rattle.desk_model.specs.Shows.{tab_of}
-use Rattle.desk_model.proofs.Lists.Items.{drop-there, here-at, lookup-map, push-cases, set-cases, slice_get-append_left, slice_get-set_other, slice_get-set_same}
+use Rattle.desk_model.proofs.Lists.Items.{Contains-there, drop-there, lookup-map, set-cases, slice_get-append_left, slice_get-set_other, slice_get-set_same, slice_get-there}
 use Rattle.desk_model.proofs.Lists.Members.{Contains-map}
-use Rattle.desk_book.proofs.Judged.OrderedRows.{IsNumber-permutation, from-place}
+use Rattle.desk_book.proofs.Judged.OrderedRows.{from-place, kept-more as one-more, tells as first-told, whole as none-damaged}
 use Rattle.desk_model.proofs.Lists.RowNumbers.{Contains-from_map, pos_le, same_number}
 use Rattle.desk_model.proofs.Damage.SoundRows.{same_bytes}
 use Rattle.desk_model.proofs.Lists.Stable.{at_least, le_from}
@@ -90,140 +92,87 @@ module _ (tabs : List Tab) (tables : KeptTables) (are : AreTables tabs tables) w
 
 -- ---- a row more
 
-module _ (tables : KeptTables) (places : ℕ) (rows : List Para) (items : List KeptParagraph) (order : List ℕ)
-    (have : AreKeptOf tables places rows items order) (row : Para) where
+module _ (tables : KeptTables) (count : ℕ) (rows : List Para) (order : List ℕ) (have : ArePlacedUpTo count rows order) (row : Para) where
   -- the place of the row is free where no row before has it
-  pub free-place : IsWithin 1 places row.place
-      → ((before : ℕ) (other : Para) → before < length rows → slice_get rows before ≡ Some other → other.place ≢ row.place)
-      → (index : ℕ) × IsFree order row.place index
-  free-place within own =
-      let k = at_least 1 row.place within.0 in
+  pub free-place : IsParaAt tables rows count row → (index : ℕ) × IsFree order row.place index
+  free-place s =
+      let k = at_least 1 row.place s.place.0 in
       let low = k.2 in
-      let high = le_from k.0 places (subst (λ z. z ≤ℤ pos places) k.1 within.1) in
+      let high = le_from k.0 (length rows) (subst (λ z. z ≤ℤ pos (length rows)) k.1 s.place.1) in
       let room = have.room in
       let is : row.place ≡ pos (k.0 - 1 + 1) = k.1 ∙ ap pos (let same : k.0 ≡ k.0 - 1 + 1 = omega (arith, low) in same) in
-      by (get_or order (k.0 - 1) 0) (k.0 - 1) is (slice_get-get_or order (k.0 - 1) 0 (omega (arith, low, high, room)))
+      let there = slice_get-there order (k.0 - 1) (omega (arith, low, high, room)) in
+      by there.0 (k.0 - 1) is there.1
     where
       by : (id index : ℕ) → row.place ≡ pos (index + 1) → slice_get order index ≡ Some id → (index : ℕ) × IsFree order row.place index
       by zero index is at = (index, record { is = is; free = at })
       by (suc id) index is at =
           let other = have.taken index id at in
-          absurd (own id other.0 (slice_get_within rows id other.0 other.1) other.1 (other.2 ∙ sym is))
+          absurd (s.own id other.0 other.1 other.2 (other.3 ∙ sym is))
 
-  own-place : (index : ℕ) → IsFree order row.place index → (before : ℕ) (other : Para) → slice_get rows before ≡ Some other → other.place ≢ row.place
-  own-place index free before other at same =
-      let its = have.placed before other at in
+  own-place : (index : ℕ) → IsFree order row.place index → (before : ℕ) (other : Para) → before < count → slice_get rows before ≡ Some other → other.place ≢ row.place
+  own-place index free before other early at same =
+      let its = have.placed before other early at in
       let number : its.index ≡ index = (let one = same_number (its.index + 1) (index + 1) (sym its.is ∙ (same ∙ free.is)) in omega (arith, one)) in
       let both : Some (before + 1) ≡ Some 0 = sym its.at ∙ (ap (slice_get order) number ∙ free.free) in
       let no : before + 1 ≡ 0 = cc in
       omega (arith, no)
 
-  within-places : (index : ℕ) → IsFree order row.place index → IsWithin 1 places row.place
-  within-places index free =
+  para-at : (index : ℕ) → IsFree order row.place index → IsParaOn tables row → IsParaAt tables rows count row
+  para-at index free on =
       let less = slice_get_within order index 0 free.free in
       let room = have.room in
-      subst (IsWithin 1 places) (sym free.is) (pos_le 1 (index + 1) (omega arith), pos_le (index + 1) places (omega (arith, less, room)))
-
-  pub kept-more : (kept : KeptParagraph) (index : ℕ) → IsNext (length items) row.id → IsFree order row.place index → IsParaOn tables row → IsKeptOf row kept
-      → AreKeptOf tables places (rows ++ row ∷ []) (items ++ kept ∷ []) (set order index (length rows + 1))
-  kept-more kept index next free on of =
-      let count = have.count in
       record {
-        sound = λ i r less at.
-            elim (push-cases rows row i r at) [
+        place = subst (IsWithin 1 (length rows)) (sym free.is) (pos_le 1 (index + 1) (omega arith), pos_le (index + 1) (length rows) (omega (arith, less, room)));
+        own = own-place index free;
+        para = on;
+      }
+
+  placed-more : (index : ℕ) → IsFree order row.place index → slice_get rows count ≡ Some row → ArePlacedUpTo (count + 1) rows (set order index (count + 1))
+  placed-more index free here =
+      record {
+        room = length-set order index (count + 1) ∙ have.room;
+        placed = λ i r less at.
+            elim (cases_lt i count) [
               | inl early ↦
-                  let s = have.sound i r early.0 early.1 in
-                  (longer i r early.0 s.0, s.1)
-              | inr last ↦ subst (λ x. IsSoundAt tables places (rows ++ row ∷ []) i x × HasParaTexts x) last.1
-                  (subst (λ k. IsSoundAt tables places (rows ++ row ∷ []) k row) (sym last.0) own, of.texts)
-            ];
-        count = length-append items (kept ∷ []) ∙ (ap (λ n. n + 1) count ∙ sym (length-append rows (row ∷ [])));
-        each = λ i r k at_row at_kept.
-            elim (push-cases rows row i r at_row) [
-              | inl early ↦ elim (push-cases items kept i k at_kept) [
-                | inl both ↦ have.each i r k early.1 both.1
-                | inr last ↦ absurd (let less = early.0 in let end = last.0 in omega (arith, less, end, count))
-              ]
-              | inr end ↦ elim (push-cases items kept i k at_kept) [
-                | inl early ↦ absurd (let less = early.0 in let last = end.0 in omega (arith, less, last, count))
-                | inr last ↦ subst (λ x. IsKeptOf x k) end.1 (subst (IsKeptOf row) last.1 of)
-              ]
-            ];
-        room = length-set order index (length rows + 1) ∙ have.room;
-        placed = λ i r at.
-            elim (push-cases rows row i r at) [
-              | inl early ↦
-                  let its = have.placed i r early.1 in
+                  let its = have.placed i r early at in
                   record {
                     index = its.index;
                     is = its.is;
-                    at = slice_get-set_other order index its.index (length rows + 1)
-                        (λ same. own-place index free i r early.1 (its.is ∙ (ap (λ n. pos (n + 1)) same ∙ sym free.is))) ∙ its.at;
+                    at = slice_get-set_other order index its.index (count + 1)
+                        (λ same. own-place index free i r early at (its.is ∙ (ap (λ n. pos (n + 1)) same ∙ sym free.is))) ∙ its.at;
                   }
-              | inr last ↦ subst (λ x. IsPlaced (set order index (length rows + 1)) (i + 1) x) last.1 (
+              | inr late ↦
+                  let last : count ≡ i = omega (arith, less, late) in
+                  let both : Some row ≡ Some r = sym here ∙ (ap (slice_get rows) last ∙ at) in
+                  let same : row ≡ r = cc in
                   record {
                     index = index;
-                    is = free.is;
-                    at = slice_get-set_same order index (length rows + 1) (slice_get_within order index 0 free.free) ∙ ap (λ n. Some (n + 1)) (sym last.0);
-                  })
+                    is = ap (λ (p : Para). p.place) (sym same) ∙ free.is;
+                    at = slice_get-set_same order index (count + 1) (slice_get_within order index 0 free.free) ∙ ap (λ n. Some (n + 1)) last;
+                  }
             ];
         taken = λ i id at.
-            elim (set-cases order index i (length rows + 1) (suc id) at) [
-              | inl here ↦
-                  let is : id ≡ length rows = (let number = here.1 in omega (arith, number)) in
-                  (row, ap (slice_get (rows ++ row ∷ [])) is ∙ here-at rows [] row, free.is ∙ ap (λ n. pos (n + 1)) (sym here.0))
+            elim (set-cases order index i (count + 1) (suc id) at) [
+              | inl new ↦
+                  let is : id ≡ count = (let number = new.1 in omega (arith, number)) in
+                  (row, omega (arith, is), ap (slice_get rows) is ∙ here, free.is ∙ ap (λ n. pos (n + 1)) (sym new.0))
               | inr other ↦
                   let its = have.taken i id other.1 in
-                  (its.0, slice_get-append_left rows (row ∷ []) id (slice_get_within rows id its.0 its.1) ∙ its.1, its.2)
+                  (its.0, (let early = its.1 in omega (arith, early)), its.2, its.3)
             ];
       }
-    where
-      longer : (i : ℕ) (r : Para) → i < length rows → IsSoundAt tables places rows i r → IsSoundAt tables places (rows ++ row ∷ []) i r
-      longer i r less s =
-          record {
-            next = s.next;
-            place = s.place;
-            own = λ before other early at. s.own before other early (sym (slice_get-append_left rows (row ∷ []) before (omega (arith, early, less))) ∙ at);
-            para = s.para;
-          }
 
-      own : IsSoundAt tables places (rows ++ row ∷ []) (length rows) row
-      own =
-          record {
-            next = subst (λ n. IsNext n row.id) have.count next;
-            place = within-places index free;
-            own = λ before other early at. own-place index free before other (sym (slice_get-append_left rows (row ∷ []) before early) ∙ at);
-            para = on;
-          }
-
-  pub first-unsound : (rest all : List Para) (id : ℤ) → rows ++ row ∷ rest ≡ all → places ≡ length all → row.id ≡ id
-      → ¬ (IsNext (length items) row.id × ((index : ℕ) × IsFree order row.place index) × IsParaOn tables row) → IsFirstUnsound tables all id
-  first-unsound rest all id are many told bad =
-      let front : (i : ℕ) (r : Para) → i < length rows → slice_get rows i ≡ Some r → slice_get all i ≡ Some r =
-      λ i r less at. ap (λ (xs : List Para). slice_get xs i) (sym are) ∙ (slice_get-append_left rows (row ∷ rest) i less ∙ at) in
-      let back : (i : ℕ) (r : Para) → i < length rows → slice_get all i ≡ Some r → slice_get rows i ≡ Some r =
-      λ i r less at. sym (slice_get-append_left rows (row ∷ rest) i less) ∙ (ap (λ (xs : List Para). slice_get xs i) are ∙ at) in
-      record {
-        index = length rows;
-        row = row;
-        at = ap (λ (xs : List Para). slice_get xs (length rows)) (sym are) ∙ here-at rows rest row;
-        told = told;
-        before = λ i r less at.
-            let s = have.sound i r less (back i r less at) in (
-              record {
-                next = s.0.next;
-                place = subst (λ n. IsWithin 1 n r.place) many s.0.place;
-                own = λ before other early at_other. s.0.own before other early (back before other (omega (arith, early, less)) at_other);
-                para = s.0.para;
-              },
-              s.1,
-            );
-        unsound = λ s. bad (
-          subst (λ k. IsNext k row.id) (sym have.count) s.next,
-          free-place (subst (λ n. IsWithin 1 n row.place) (sym many) s.place) (λ before other early at. s.own before other early (front before other early at)),
-          s.para,
-        );
-      }
+-- a sound row more, its paragraph, and its number at its place
+pub kept-more : (tables : KeptTables) (count : ℕ) (rows : List Para) (items : List KeptParagraph) (order : List ℕ) → AreKeptOf tables count rows items order
+    → (row : Para) (kept : KeptParagraph) (index : ℕ) → slice_get rows count ≡ Some row → IsNext most_paragraphs count row.id → IsFree order row.place index
+    → IsParaOn tables row → HasParaTexts row → IsKeptOf row kept → AreKeptOf tables (count + 1) rows (items ++ kept ∷ []) (set order index (count + 1))
+kept-more tables count rows items order have row kept index here next free on texts of =
+    record {
+      kept = one-more (para_rule tables rows) rows IsKeptOf count items row kept have.kept here
+          (record { next = next; sound = para-at tables count rows order have.places row index free on }) texts of;
+      places = placed-more tables count rows order have.places row index free here;
+    }
 
 -- ---- what is reported
 
@@ -231,7 +180,7 @@ module _ (tabs : List Tab) (tables : KeptTables) (are : AreTables tabs tables) w
   abbrev key : Para → ℤ
   key row = row.id
 
-  pub para-on : (rows : List Para) (row : Para) → IsSoundParaRow tabs rows row → IsParaOn tables row
+  para-on : (rows : List Para) (row : Para) → IsSoundParaRow tabs rows row → IsParaOn tables row
   para-on rows row s =
       let its = table-found tabs tables are row s.meaning s.table in
       record {
@@ -264,22 +213,25 @@ module _ (tabs : List Tab) (tables : KeptTables) (are : AreTables tabs tables) w
         struck = on.struck;
       }
 
-  module _ (rows sorted : List Para) (moved : IsPermutation rows sorted) (up : AreInOrder sorted) where
+  module _ (rows sorted : List Para) (moved : IsPermutation rows sorted) (up : AreInOrder key sorted) where
     same-length : length rows ≡ length sorted
     same-length = sym (length_permutation rows sorted moved)
 
-    back-in : (row : Para) → Contains sorted row → Contains rows row
-    back-in row c = Contains-permutation sorted rows row (IsPermutation-sym rows sorted moved) c
+    abbrev rule : RowRule Para
+    rule = para_rule tables sorted
+
+    abbrev number-of : (row : Para) → IsSoundParaRow tabs rows row → IsNumber key most_paragraphs rows row.id
+    number-of row s = s.number
 
     -- a row that is sound at its index, with its number, is sound
-    pub sound-at : (index : ℕ) (row : Para) → slice_get sorted index ≡ Some row → IsUtf8 row.tab → IsNumber key most_paragraphs sorted row.id
-        → IsSoundAt tables (length sorted) sorted index row → IsSoundParaRow tabs rows row
-    sound-at index row at utf8 number s =
+    sound-at : (index : ℕ) (row : Para) → slice_get sorted index ≡ Some row → IsNumber key most_paragraphs rows row.id
+        → IsSoundAt rule index row → HasParaTexts row → IsSoundParaRow tabs rows row
+    sound-at index row at number s texts =
         let split = drop-there sorted index row at in
         let parts : sorted ≡ take index sorted ++ row ∷ drop (index + 1) sorted =
         sym (take-append-drop index sorted) ∙ ap (λ (xs : List Para). take index sorted ++ xs) split.0 in
-        sound-row rows row utf8 (IsNumber-permutation key most_paragraphs sorted rows row.id (IsPermutation-sym rows sorted moved) number)
-        (subst (λ n. IsWithin 1 n row.place) (sym same-length) s.place)
+        sound-row rows row texts.0 number
+        (subst (λ n. IsWithin 1 n row.place) (sym same-length) s.sound.place)
         (λ other c same.
         elim (Contains-append_cases (take index sorted) (row ∷ drop (index + 1) sorted) other
         (subst (λ xs. Contains xs other) parts (Contains-permutation rows sorted other moved c))) [
@@ -290,7 +242,30 @@ module _ (tabs : List Tab) (tables : KeptTables) (are : AreTables tabs tables) w
               let long = length-take-le index sorted (omega (arith, less)) in
               let there : slice_get sorted place.0 ≡ Some other =
               ap (λ (xs : List Para). slice_get xs place.0) parts ∙ (slice_get-append_left (take index sorted) (row ∷ drop (index + 1) sorted) place.0 within ∙ place.1) in
-              absurd (s.own place.0 other (omega (arith, within, long)) there same)
+              absurd (s.sound.own place.0 other (omega (arith, within, long)) there same)
           | inr late ↦ from-place key sorted up index row other split.0 late
         ])
-        s.para
+        s.sound.para
+
+    -- and a sound row is, where those before it are
+    at-sound : (index : ℕ) (row : Para) → slice_get sorted index ≡ Some row → AreSoundUpTo rule index sorted → IsNext most_paragraphs index row.id
+        → IsSoundParaRow tabs rows row → IsParaAt tables sorted index row
+    at-sound index row at before next sound =
+        record {
+          place = subst (λ n. IsWithin 1 n row.place) same-length sound.place;
+          own = λ place other early there same.
+              let c = Contains-permutation sorted rows other (IsPermutation-sym rows sorted moved) (Contains-there sorted place other there) in
+              let its = (before place other early there).0.next.1 in
+              let high : pos (index + 1) ≤ℤ pos (place + 1) =
+              subst (λ z. z ≤ℤ pos (place + 1)) next.1 (subst (λ z. row.id ≤ℤ z) its (sound.own other c same)) in
+              let less = le_from (index + 1) (place + 1) high in
+              omega (arith, less, early);
+          para = para-on rows row sound;
+        }
+
+    pub tells : (id : ℤ) → IsFirstUnsound rule sorted id → IsFirstId (IsDamagedPara tabs rows) id
+    tells id first = first-told rule rows sorted moved up (IsSoundParaRow tabs rows) number-of sound-at at-sound id first
+
+    -- nothing is damaged
+    pub whole : AreSoundUpTo rule (length sorted) sorted → IsWhole (IsDamagedPara tabs rows)
+    whole sound = none-damaged rule rows sorted moved up (IsSoundParaRow tabs rows) number-of sound-at at-sound sound

@@ -18,20 +18,6 @@ use Rattle.desk_model.proofs.Lists.RowNumbers.{key-number, key-once, numbers, sa
 use Rattle.desk_model.proofs.Lists.Stable.{le_from}
 use Rattle.desk_model.proofs.Damage.UndamagedEntries.{seqs-numbers}
 
--- where an element stands
-index-of : {X : Type 0} (xs : List X) (y : X) → Contains xs y → (k : ℕ) × (slice_get xs k ≡ Some y)
-index-of [] y c = absurd (Contains-none y c)
-index-of (x ∷ xs) y c =
-    elim (Contains-cases x y xs c) [
-      | inl same ↦ (0, ap Some same)
-      | inr later ↦ let rest = index-of xs y later in (suc rest.0, rest.1)
-    ]
-
-not_greater : (a b : ℤ) (r : Ordering) → MatchOrdering r (b <ℤ a) (b ≡ a) (a <ℤ b) → is_lt r ≡ false → a ≤ℤ b
-not_greater a b Less ranked other = absurd (cc)
-not_greater a b Equal ranked other = omega (arith, ints, ranked)
-not_greater a b Greater ranked other = omega (arith, ints, ranked)
-
 module _ {X : Type 0} (key : X → ℤ) where
   -- no element has a greater key than one after it
   abbrev pub AreRising : List X → Type 0
@@ -43,7 +29,7 @@ module _ {X : Type 0} (key : X → ℤ) where
       let second : get_or xs j x ≡ y = get_or_from_slice_get xs j y x at_j in
       let far = sorted_far (λ a b. is_lt (int_cmp (key a) (key b))) (ranks_by int_cmp_total key) xs sorted i j x le (slice_get-below xs j y at_j) in
       let apart : is_lt (int_cmp (key y) (key x)) ≡ false = subst (λ (a : X). is_lt (int_cmp (key y) (key a)) ≡ false) first (subst (λ (b : X). is_lt (int_cmp (key b) (key (get_or xs i x))) ≡ false) second far) in
-      not_greater (key x) (key y) (int_cmp (key y) (key x)) (int_ranked (key y) (key x) (int_cmp (key y) (key x)) refl) apart
+      not_more (key x) (key y) (int_cmp (key y) (key x)) refl apart
 
   -- rows that rise and rows with the numbers from one on, of the same elements, stand in one order
   pub one-order : (n : ℕ) (xs ys : List X) → AreRising xs → AreOnce (map key xs) → ((z : X) → Contains xs z → Contains ys z) → ((z : X) → Contains ys z → Contains xs z)
@@ -63,7 +49,7 @@ module _ {X : Type 0} (key : X → ℤ) where
       first = let none : n + 0 ≡ n = omega arith in at 0 y refl ∙ ap pos none
 
       later_key : (z : X) → Contains ys z → (k : ℕ) × (key z ≡ pos k) × (n < k)
-      later_key z c = let there = index-of ys z c in (n + suc there.0, at (suc there.0) z there.1, omega arith)
+      later_key z c = let there = place-of ys z c in (n + suc there.0, at (suc there.0) z there.1, omega arith)
 
       same : x ≡ y
       same = elim (Contains-cases y x ys (to x (Contains-here x xs))) [
@@ -71,7 +57,7 @@ module _ {X : Type 0} (key : X → ℤ) where
         | inr later ↦ elim (Contains-cases x y xs (back y (Contains-here y ys))) [
           | inl is ↦ is
           | inr behind ↦
-              let there = index-of xs y behind in
+              let there = place-of xs y behind in
               let k = later_key x later in
               let le : pos k.0 ≤ℤ pos n = subst (λ z. z ≤ℤ pos n) k.1 (subst (λ z. key x ≤ℤ z) first (rising 0 (suc there.0) x y (omega arith) refl there.1)) in
               absurd (let low = le_from k.0 n le in omega (arith, low, k.2))

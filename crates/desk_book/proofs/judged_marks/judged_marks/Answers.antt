@@ -9,22 +9,23 @@ use Rattle.desk_book.specs.declared.damage.RowsFault.{RowsFault}
 use Rattle.desk_book.specs.declared.damage.RowsFault.TheVariants.{Damaged, NoMemory}
 use Rattle.desk_model.specs.Damage.{IsDamagedMark}
 use Rattle.desk_book.specs.Judged.{AreOf, TellsDamage}
-use Rattle.desk_book.specs.JudgedMarks.{AreInOrder, AreKeptOf, IsOnOne, TellsUnsound}
+use Rattle.desk_book.specs.JudgedMarks.{AreKeptOf, IsOnOne, mark_rule}
+use Rattle.desk_book.specs.OrderedRows.{AreInOrder, TellsUnsound}
 use Rattle.desk_model.specs.Limits.{most_marks}
 use Rattle.desk_parts.specs.Rows.{Mark, Para}
-use Rattle.desk_book.proofs.Judged.MarkRows.{are-marks, few-kept, on-ones, tells, whole}
+use Rattle.desk_book.proofs.Judged.MarkRows.{all-texts, are-marks, few-kept, on-ones, tells, whole}
 use Rattle.desk_book.proofs.judged_marks.judged_marks.Goals as goal
 
-told : (paras : List Para) (items : List KeptParagraph) → AreOf paras items → (rows sorted : List Mark) → IsPermutation rows sorted → AreInOrder sorted
-    → (fault : RowsFault) → TellsUnsound items sorted fault → TellsDamage (IsDamagedMark paras rows) fault
+told : (paras : List Para) (items : List KeptParagraph) → AreOf paras items → (rows sorted : List Mark) → IsPermutation rows sorted → AreInOrder (mark_rule items).id sorted
+    → (fault : RowsFault) → TellsUnsound (mark_rule items) sorted fault → TellsDamage (IsDamagedMark paras rows) fault
 told paras items of rows sorted moved up (Damaged id) first = tells paras items of rows sorted moved up id first
 told paras items of rows sorted moved up NoMemory first = tt
 
 pub returns-in_err-marks-clause-damaged : goal.returns-in_err-marks-clause-damaged
 returns-in_err-marks-clause-damaged c = λ paras of.
     let exit = err_from_is_err_and c.from_residual.result c.from_residual.ensures.1 in
-    let first : TellsUnsound c.args.items.now.items c.sort.new.rows.items c.in_err-marks.field-0.0 =
-    subst (λ items. TellsUnsound items c.sort.new.rows.items c.in_err-marks.field-0.0) c.deref.ensures.value c.in_err-marks.ensures.damaged in
+    let first : TellsUnsound (mark_rule c.args.items.now.items) c.sort.new.rows.items c.in_err-marks.field-0.0 =
+    subst (λ items. TellsUnsound (mark_rule items) c.sort.new.rows.items c.in_err-marks.field-0.0) c.deref.ensures.value c.in_err-marks.ensures.damaged in
     subst (λ r. IfErr r (TellsDamage (IsDamagedMark paras c.args.rows.items))) (sym (exit.1 ∙ ap (λ e. Err e) exit.2))
     (told paras c.args.items.now.items of c.args.rows.items c.sort.new.rows.items c.sort.ensures.same c.sort.ensures.sorted c.in_err-marks.field-0.0 first)
 
@@ -41,8 +42,11 @@ give_indexes-requires-clause-few c =
 
 pub returns-clause-whole : goal.returns-clause-whole
 returns-clause-whole c = λ paras of.
-    whole paras c.args.items.now.items of c.args.rows.items c.sort.new.rows.items c.sort.ensures.same c.in_ok-marks.marks.items
+    whole paras c.args.items.now.items of c.args.rows.items c.sort.new.rows.items c.sort.ensures.same c.sort.ensures.sorted c.in_ok-marks.marks.items
     (subst (λ items. AreKeptOf items c.sort.new.rows.items c.in_ok-marks.marks.items) c.deref.ensures.value c.in_ok-marks.ensures.marks)
+
+pub returns-clause-texts : goal.returns-clause-texts
+returns-clause-texts c = all-texts c.deref.result.now c.args.rows.items c.sort.new.rows.items c.in_ok-marks.marks.items c.sort.ensures.same c.in_ok-marks.ensures.marks
 
 pub returns-clause-marks : goal.returns-clause-marks
 returns-clause-marks c = are-marks c.deref.result.now c.args.rows.items c.sort.new.rows.items c.in_ok-marks.marks.items c.sort.ensures.same c.in_ok-marks.ensures.marks

@@ -1,10 +1,12 @@
 use Rattle.std.proofs.Common.{◌≡◌, ℕ, ℤ, pos, nat_abs, Bool, true, false, List, length, SFits, to_z, of_z, w64, refl, subst, sym, ap, ◌∙◌, inl, inr, rules}
 use Rattle.std.proofs.lemmas.Int.{to_z-of_z}
+use Rattle.std.proofs.lemmas.Str.{IsUtf8-string_bytes}
 use Rattle.std.specs.Prelude.{MatchOption, string_bytes}
 use Rattle.std.specs.Str.{chars}
 use Rattle.desk_book.specs.declared.marks.KeptMark.{KeptMark}
 use Rattle.desk_model.specs.Damage.{IsFlag}
 use Rattle.desk_book.specs.JudgedMarks.{HasId, IsKeptOf, IsMarkOn, IsNoteText, IsSpan}
+use Rattle.desk_parts.specs.FileRows.{HasMarkText}
 use Rattle.desk_parts.specs.Rows.{Mark}
 use Rattle.desk_model.specs.Shows.{flag_number}
 use Rattle.desk_book.proofs.judged_marks.mark_of.Goals as goal
@@ -13,7 +15,7 @@ pub returns-in_err-paragraph : goal.returns-in_err-paragraph
 returns-in_err-paragraph c =
     let fits : SFits w64 c.row.inside.para = search rules in
     let para : to_z w64 (of_z w64 c.row.inside.para) ≡ c.args.row.para = to_z-of_z w64 c.row.inside.para fits ∙ ap (λ (r : Mark). r.para) c.row.view_is in
-    subst (λ r. MatchOption r (¬ IsMarkOn c.args.items.now c.args.row) (λ mark. IsMarkOn c.args.items.now c.args.row × IsKeptOf c.args.row mark)) (sym c.from_residual.ensures)
+    subst (λ r. MatchOption r (¬ IsMarkOn c.args.items.now c.args.row) (λ mark. IsMarkOn c.args.items.now c.args.row × HasMarkText c.args.row × IsKeptOf c.args.row mark)) (sym c.from_residual.ensures)
     (λ (s : IsMarkOn c.args.items.now c.args.row). c.in_err-paragraph.ensures s.kept (subst (λ z. HasId c.args.items.now z s.kept) (sym para) s.named))
 
 is-flag : (flag : Bool) (z : ℤ) → flag_number flag ≡ z → IsFlag z
@@ -58,7 +60,7 @@ returns c =
     let resolved : flag_number mark.resolved ≡ row.resolved = c.in_ok-resolved.ensures ∙ to_z-of_z w64 c.row.inside.resolved fits_resolved in
     let text : IsNoteText (chars row.note) = search rules in
     let own : pos mark.paragraph ≡ row.para = ap (λ z. pos (nat_abs z)) para ∙ subst (λ z. pos (nat_abs z) ≡ z) (sym found.is) refl in
-    subst (λ (r : Mark). IsMarkOn c.args.items.now r × IsKeptOf r mark) c.row.view_is (
+    subst (λ (r : Mark). IsMarkOn c.args.items.now r × HasMarkText r × IsKeptOf r mark) c.row.view_is (
       record {
         kept = kept;
         named = found;
@@ -67,6 +69,7 @@ returns c =
         touched = is-flag mark.touched row.touched touched;
         resolved = is-flag mark.resolved row.resolved resolved;
       },
+      IsUtf8-string_bytes c.row.inside.note,
       record {
         paragraph = own;
         start = given.1 ∙ start;

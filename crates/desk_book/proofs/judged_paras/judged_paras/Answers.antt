@@ -7,18 +7,20 @@ use Rattle.desk_book.specs.declared.damage.RowsFault.TheVariants.{Damaged, NoMem
 use Rattle.desk_book.specs.declared.paragraphs.Paragraph.{Paragraph as KeptParagraph}
 use Rattle.desk_model.specs.Damage.{IsDamagedPara}
 use Rattle.desk_book.specs.Judged.{AreInPlaces, AreOf, AreTables, IsWhole, TellsDamage}
-use Rattle.desk_book.specs.JudgedParas.{AreInOrder, AreKeptOf, TellsUnsound}
+use Rattle.desk_book.specs.JudgedParas.{AreKeptOf, para_rule}
 use Rattle.desk_book.specs.Kept.{KeptTables}
+use Rattle.desk_book.specs.OrderedRows.{AreInOrder, TellsUnsound}
 use Rattle.desk_parts.specs.Rows.{Para, Tab}
 use Rattle.desk_book.proofs.Kept.KeptLookups.{IfErr-weaker, IfOk-weaker}
-use Rattle.desk_book.proofs.Judged.ParaOrder.{are-of, in-places, tells, unmarked, whole}
+use Rattle.desk_book.proofs.Judged.ParaOrder.{are-of, in-places, unmarked}
+use Rattle.desk_book.proofs.Judged.ParaRows.{tells, whole}
 use Rattle.desk_book.proofs.judged_paras.judged_paras.Goals as goal
 
 abbrev Reads : KeptTables → List Para → JudgedParas → Type 0
 Reads tables sorted judged = AreKeptOf tables (length sorted) sorted judged.items.items judged.order.items
 
-told : (tabs : List Tab) (tables : KeptTables) → AreTables tabs tables → (rows sorted : List Para) → IsPermutation rows sorted → AreInOrder sorted
-    → (fault : RowsFault) → TellsUnsound tables sorted fault → TellsDamage (IsDamagedPara tabs rows) fault
+told : (tabs : List Tab) (tables : KeptTables) → AreTables tabs tables → (rows sorted : List Para) → IsPermutation rows sorted → AreInOrder (λ row. row.id) sorted
+    → (fault : RowsFault) → TellsUnsound (para_rule tables sorted) sorted fault → TellsDamage (IsDamagedPara tabs rows) fault
 told tabs tables are rows sorted moved up (Damaged id) first = tells tabs tables are rows sorted moved up id first
 told tabs tables are rows sorted moved up NoMemory first = tt
 
@@ -28,7 +30,7 @@ returns-clause-whole c = λ tabs are.
     let rows = c.args.rows.items in
     let sorted = c.sort.new.rows.items in
     IfOk-weaker c.paragraphs_of.result (Reads tables sorted) (λ judged. IsWhole (IsDamagedPara tabs rows))
-    (λ judged have. whole tables rows sorted c.sort.ensures.same judged.items.items judged.order.items have tabs are c.sort.ensures.sorted) c.paragraphs_of.ensures.kept
+    (λ judged have. whole tabs tables are rows sorted c.sort.ensures.same c.sort.ensures.sorted have.kept.sound) c.paragraphs_of.ensures.kept
 
 pub returns-clause-items : goal.returns-clause-items
 returns-clause-items c = λ tabs are.
@@ -59,5 +61,5 @@ returns-clause-damaged c = λ tabs are.
     let tables = c.args.tables.now in
     let rows = c.args.rows.items in
     let sorted = c.sort.new.rows.items in
-    IfErr-weaker c.paragraphs_of.result (TellsUnsound tables sorted) (TellsDamage (IsDamagedPara tabs rows))
+    IfErr-weaker c.paragraphs_of.result (TellsUnsound (para_rule tables sorted) sorted) (TellsDamage (IsDamagedPara tabs rows))
     (λ fault first. told tabs tables are rows sorted c.sort.ensures.same c.sort.ensures.sorted fault first) c.paragraphs_of.ensures.damaged

@@ -8,5 +8,5 @@ abbrev pub invariant-loop-row : goal.invariant-loop-row
 invariant-loop-row l =
     (goal.iterator-loop-row).can_next l.row-iterator ×
     (goal.iterator-loop-row).is_finite l.row-iterator ×
-    AreKeptOf l.tables (length l.fn.rows.items) l.yielded l.items.items l.order.items ×
+    AreKeptOf l.tables (length l.yielded) l.fn.rows.items l.items.items l.order.items ×
     (l.yielded ++ into_iter_items l.row-iterator ≡ l.fn.rows.items)

@@ -154,7 +154,7 @@ joined-requires-clause-kept c =
     let none = none-damaged c.args.parts within no_tab no_para no_entry no_mark no_cache in
     let are_marks = of-table-rows Mark c.judged_marks.result (Ok c.in_ok-marks.marks) c.in_ok-marks.ensures (λ marks. AreMarksOf rows.marks marks.items) c.judged_marks.ensures.marks in
     let have_marks = of-table-rows Mark c.judged_marks.result (Ok c.in_ok-marks.marks) c.in_ok-marks.ensures (λ marks. HaveMarks marks.items c.judged_marks.new.items.items) c.judged_marks.ensures.indexes in
-    let notes = subst (All HasMarkText) c.deref.ensures.value c.look_at_marks.ensures in
+    let notes = of-table-rows Mark c.judged_marks.result (Ok c.in_ok-marks.marks) c.in_ok-marks.ensures (λ _. All HasMarkText rows.marks) c.judged_marks.ensures.texts in
     made-kept c.args.parts within none c.in-Some.version (c.in-Some.ensures.1 ∙ plain) c.in_ok-tables.tables tables
     c.in_ok-paras.paras.items.items c.give_histories.new.items.items c.judged_marks.new.items.items c.give_cells.new.items.items c.in_ok-paras.paras.order.items of places
     c.in_ok-give_histories.ensures.texts (c.in_ok-give_histories.ensures.histories rows.paras of) c.in_ok-give_histories.ensures.same
@@ -181,7 +181,7 @@ returns-clause-shown c =
     let none = none-damaged c.args.parts within no_tab no_para no_entry no_mark no_cache in
     let are_marks = of-table-rows Mark c.judged_marks.result (Ok c.in_ok-marks.marks) c.in_ok-marks.ensures (λ marks. AreMarksOf rows.marks marks.items) c.judged_marks.ensures.marks in
     let have_marks = of-table-rows Mark c.judged_marks.result (Ok c.in_ok-marks.marks) c.in_ok-marks.ensures (λ marks. HaveMarks marks.items c.judged_marks.new.items.items) c.judged_marks.ensures.indexes in
-    let notes = subst (All HasMarkText) c.deref.ensures.value c.look_at_marks.ensures in
+    let notes = of-table-rows Mark c.judged_marks.result (Ok c.in_ok-marks.marks) c.in_ok-marks.ensures (λ _. All HasMarkText rows.marks) c.judged_marks.ensures.texts in
     let made = made-shown c.args.parts within none c.in-Some.version (c.in-Some.ensures.1 ∙ plain) c.in_ok-tables.tables tables
     c.in_ok-paras.paras.items.items c.give_histories.new.items.items c.judged_marks.new.items.items c.give_cells.new.items.items c.in_ok-paras.paras.order.items of places
     c.in_ok-give_histories.ensures.texts (c.in_ok-give_histories.ensures.histories rows.paras of) c.in_ok-give_histories.ensures.same
