@@ -11,3 +11,4 @@ pub mod Renewing
 pub mod RoomLists
 pub mod Settled
 pub mod ToldEntries
+pub mod UndonePrints

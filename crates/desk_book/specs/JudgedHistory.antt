@@ -9,11 +9,11 @@ use Rattle.desk_book.specs.declared.paragraphs.Paragraph.{Paragraph as KeptParag
 use Rattle.desk_model.specs.Book.{Entry}
 use Rattle.desk_book.specs.Corrected.{replaced_by}
 use Rattle.desk_model.specs.Damage.{IsSoundCorrection, IsSoundEntryRow, IsSoundUndo, entry_of, history_of}
-use Rattle.desk_book.specs.Histories.{HaveTaken, TookFrom, entries_kept, entry_kept}
+use Rattle.desk_book.specs.Histories.{HaveTaken, LeavePrint, TookFrom, entries_kept, entry_kept}
 use Rattle.desk_model.specs.Limits.{most_entries, most_print}
 use Rattle.desk_model.specs.Print.{corrected}
 use Rattle.desk_parts.specs.Rows.{NamedCorr}
-use Rattle.desk_model.specs.Sound.{AreSoundEntries, IsSoundEntry}
+use Rattle.desk_model.specs.Sound.{IsSoundEntry}
 use Rattle.desk_command.specs.Characters.{AreCharacters}
 
 -- ---- one row
@@ -47,12 +47,6 @@ pub record IsNext (original : List ℕ) (before : List Entry) (row : NamedCorr) 
   pub print : next.print.items ≡ corrected original (before ++ entry_of row ∷ [])
 
 -- ---- rows in turn
-
--- the kept entries are sound, each correction has what it took away, and this is the print that they leave
-pub record LeavePrint (original : List ℕ) (entries : List KeptEntry) (print : List ℕ) : Type 0 where
-  pub sound : AreSoundEntries original (entries_kept entries)
-  pub taken : HaveTaken original entries
-  pub print_is : print ≡ corrected original (entries_kept entries)
 
 -- the rows have been read
 pub record IsRead (original : List ℕ) (rows : List NamedCorr) (reading : Reading) : Type 0 where

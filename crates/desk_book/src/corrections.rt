@@ -73,6 +73,25 @@ pub(crate) fn replaced(
     Ok(new)
 }
 
+impl Correction {
+    /// How many characters its text has.
+    fn count(&self) -> usize
+        ensures { result ≡ length self.now.text }
+    {
+        count_of(self.text.as_str())
+    }
+
+    /// The print, where the text stands at its place, with what gave way to it there again.
+    pub(crate) fn undone(&self, alloc: Global, print: &[char]) -> Result<Vec<char>, AllocError>
+        requires { self.now.start + length self.now.text ≤ length print.now }
+        ensures { IfOk result (λ new.
+            new.items ≡ replaced_by self.now.start (length self.now.text) self.now.taken print.now) }
+    {
+        let taken = self.taken.as_slice();
+        replaced(alloc, print, self.start, self.count(), taken)
+    }
+}
+
 /// The correction of so many characters of a print, from a place on.
 fn correction(
     alloc: Global,
@@ -211,13 +230,13 @@ impl Book {
         let Some((number, correction)) = newest(paragraph.history.as_slice()) else {
             return Err(Refusal::NothingToUndo);
         };
-        let count = count_of(correction.text.as_str());
+        let count = correction.count();
         let taken = correction.taken.as_slice();
         let old = paragraph.print.as_slice();
         self.check_entry(paragraph, old.len() - count + taken.len())?;
         let new = NewEntry {
             entry: KeptEntry::Undoes(number),
-            print: replaced(alloc, old, correction.start, count, taken)?,
+            print: correction.undone(alloc, old)?,
             start: correction.start,
             removed: count,
             added: taken.len(),

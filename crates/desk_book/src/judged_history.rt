@@ -1,8 +1,8 @@
 //! The rows of one paragraph's entries, validated and converted into its history.
 ghost use Rattle.desk_model.specs.Damage.{IsSoundCorrection, IsSoundUndo};
-ghost use Rattle.desk_book.specs.Histories.{entries_kept};
+ghost use Rattle.desk_book.specs.Histories.{LeavePrint, entries_kept};
 ghost use Rattle.desk_book.specs.Judged.{without_history};
-ghost use Rattle.desk_book.specs.JudgedHistory.{AreSoundRows, CanBeRead, HasRead, IsCorrecting, IsFit, IsNext, IsRead, IsSoundNext, LeavePrint};
+ghost use Rattle.desk_book.specs.JudgedHistory.{AreSoundRows, CanBeRead, HasRead, IsCorrecting, IsFit, IsNext, IsRead, IsSoundNext};
 ghost use Rattle.desk_parts.specs.Rows.{NamedCorr};
 ghost use Rattle.std.specs.Prelude.{◌≡◌, ◌⊎◌, ℕ, ◌+◌, ◌≤◌, ◌↔◌, pos, ◌+ℤ◌, ◌≤ℤ◌, List, ◌∷◌, ◌++◌, [], IfErr, IfNone, IfOk, IfSome, IsTrue, OnOk, length};
 ghost use Rattle.std.specs.Str.{chars};
@@ -13,7 +13,7 @@ use super::history::{Correction, KeptEntry, newest};
 use super::items::Items;
 use super::limits::{MOST_ENTRIES, MOST_PRINT};
 use super::paragraphs::Paragraph;
-use super::stored::{count_of, first_barred, is_proofreader_name};
+use super::stored::{first_barred, is_proofreader_name};
 use desk_command::Text;
 use desk_parts::{CorrRow, NamedCorrRow};
 use louis_table::Characters;
@@ -98,9 +98,7 @@ fn undo(
     {
         return Ok(None);
     }
-    let count = count_of(correction.text.as_str());
-    let taken = correction.taken.as_slice();
-    let print = replaced(alloc, print, correction.start, count, taken)?;
+    let print = correction.undone(alloc, print)?;
     Ok(Some(Next {
         entry: KeptEntry::Undoes(number),
         print,

@@ -1,13 +1,12 @@
 -- What an entry that is read from its row does to the print that those before it leave.
 use Rattle.std.proofs.Common.{◌↔◌, IsTrue, Bool, Ordering, Less, Equal, Greater, is_eq, ◌≡◌, ℕ, ◌+◌, ◌-◌, ◌≤◌, ℤ, pos, ◌+ℤ◌, ◌≤ℤ◌, nat_abs, true, false, List, [], ◌∷◌, ◌++◌, length, take, drop, Option, Some, None, refl, sym, ap, ap₂, subst, ◌∙◌, arith, inl, inr}
-use Rattle.std.specs.Prelude.{IfSome, nat_eq, not, option_map, slice_get, slice_range}
-use Rattle.std.specs.List.{position, take-map}
+use Rattle.std.specs.Prelude.{IfSome, nat_eq, not, option_map, slice_range}
+use Rattle.std.specs.List.{position}
 use Rattle.std.specs.Option.{is_some}
 use Rattle.std.specs.Ordering.{nat_cmp, ordering_reverse}
 use Rattle.std.specs.Cmp.Lexicographic.{nat_list_cmp_total, pointwise, slice_cmp}
 use Rattle.std.specs.Str.{chars}
 use Rattle.std.proofs.lemmas.Bool.{both_ways, cases_Bool}
-use Rattle.std.proofs.lemmas.Option.{slice_get-map}
 use Rattle.desk_book.specs.declared.history.Correction.{Correction}
 use Rattle.desk_book.specs.declared.history.KeptEntry.{KeptEntry}
 use Rattle.desk_book.specs.declared.history.KeptEntry.TheVariants.{Corrects as KeptCorrects, Undoes as KeptUndoes}
@@ -15,75 +14,37 @@ use Rattle.desk_book.specs.declared.judged_history.Next.{Next}
 use Rattle.desk_model.specs.Book.{Corrects, Entry, Replacement, Undoes}
 use Rattle.desk_book.specs.Corrected.{IsCorrection, replaced_by}
 use Rattle.desk_model.specs.Damage.{IsSoundUndo, entry_of}
-use Rattle.desk_book.specs.Histories.{IsNewestInForce, TookFrom, entries_kept, entry_kept, replacement_kept}
-use Rattle.desk_book.specs.JudgedHistory.{IsCorrecting, IsNext, LeavePrint}
+use Rattle.desk_book.specs.Histories.{IsNewestInForce, LeavePrint, TookFrom, entries_kept, entry_kept}
+use Rattle.desk_book.specs.JudgedHistory.{IsCorrecting, IsNext}
 use Rattle.desk_model.specs.Name.{IsProofreaderName}
-use Rattle.desk_model.specs.Print.{corrected, replaced}
+use Rattle.desk_model.specs.Print.{corrected}
 use Rattle.desk_parts.specs.Rows.{NamedCorr}
 use Rattle.desk_model.specs.Sound.{AreSoundEntries, IsSoundEntry}
 use Rattle.desk_model.specs.Stored.{IsUnbarred, is_barred}
 use Rattle.desk_book.proofs.Planned.EntryPlanned.{TookFrom-correction, entry-correction}
-use Rattle.desk_model.proofs.Books.HistoryLists.{corrected-before, corrected-corrects, corrected-undone}
-use Rattle.desk_book.proofs.Planned.Replacing.{replaced-back}
+use Rattle.desk_book.proofs.Kept.UndonePrints.{undone-print}
+use Rattle.desk_model.proofs.Books.HistoryLists.{corrected-corrects}
 use Rattle.desk_model.proofs.Lists.RowNumbers.{pos_le}
 use Rattle.desk_model.proofs.Rows.RowParts.{entry-corrects, entry-undoes}
-use Rattle.desk_model.proofs.Books.SoundEntries.{length-replaced}
 use Rattle.desk_model.proofs.Lists.Stable.{le_from, natural}
 use Rattle.desk_model.proofs.Lists.TableEntries.{Decides-name, same_name}
 use Rattle.desk_model.proofs.Commands.TextTests.{IsFirstBarred-position, IsUnbarred-position}
 
 -- ---- an undo
 
-module _ (original : List ℕ) (entries : List KeptEntry) (print : List ℕ) (left : LeavePrint original entries print) (number : ℕ) (c : Correction) (force : IsNewestInForce entries number c) where
-  abbrev h : List Entry
-  h = entries_kept entries
-
-  abbrev r : Replacement
-  r = replacement_kept c
-
-  abbrev before : List ℕ
-  before = corrected original (h ++ Undoes number ∷ [])
-
-  now_is : corrected original h ≡ replaced before r
-  now_is = corrected-undone original h number r force.newest_is
-
-  then_is : before ≡ corrected original (take (number - 1) h)
-  then_is = corrected-before original h left.sound number r force.newest_is
-
-  span_before : r.start + r.count ≤ length before
-  span_before =
-      let at : slice_get h (number - 1) ≡ Some (Corrects r c.who) = slice_get-map entry_kept entries (number - 1) ∙ ap (option_map entry_kept) force.at in
-      subst (λ (t : List ℕ). r.start + r.count ≤ length t) (sym then_is) (left.sound (number - 1) (Corrects r c.who) at).0
-
-  taken_is : c.taken ≡ take (length c.taken) (drop c.start before)
-  taken_is =
-      let same : corrected original (entries_kept (take (number - 1) entries)) ≡ before =
-      ap (corrected original) (sym (take-map entry_kept (number - 1) entries)) ∙ sym then_is in
-      subst (λ (t : List ℕ). c.taken ≡ take (length c.taken) (drop c.start t)) same (left.taken (number - 1) (KeptCorrects c) force.at)
-
-  long : length (corrected original h) + length c.taken ≡ length before + length c.text
-  long = ap (λ (t : List ℕ). length t + length c.taken) now_is ∙ length-replaced before r span_before
-
-  -- the text of the newest correction in force is there
-  pub undone-span : c.start + length c.text ≤ length print
-  undone-span = let within = span_before in let same = ap length left.print_is in let sum = long in omega arith
-
-  -- what gave way comes back
-  pub undone-print : replaced_by c.start (length c.text) c.taken print ≡ before
-  undone-print =
-      ap (replaced_by c.start (length c.text) c.taken) (left.print_is ∙ now_is)
-      ∙ replaced-back before c.start (length c.taken) c.text c.taken span_before taken_is refl
-
-  pub IsNext-undo : (row : NamedCorr) (next : Next) → IsSoundUndo h row → row.entry.start ≡ pos number → next.entry ≡ KeptUndoes number → next.print.items ≡ replaced_by c.start (length c.text) c.taken print → IsNext original h row next
-  IsNext-undo row next undo start entry_is print_is =
-      let entry : Undoes number ≡ entry_of row = sym (entry-undoes row undo.kind ∙ ap (λ z. Undoes (nat_abs z)) start) in
-      record {
-        fits = inr undo;
-        sound = subst (IsSoundEntry original h) entry (ap (option_map (λ (correction : ℕ × Replacement). correction.0)) force.newest_is);
-        entry = ap entry_kept entry_is ∙ entry;
-        taken = subst (TookFrom (corrected original h)) (sym entry_is) tt;
-        print = print_is ∙ (undone-print ∙ ap (λ (e : Entry). corrected original (h ++ e ∷ [])) entry);
-      }
+pub IsNext-undo : (original : List ℕ) (entries : List KeptEntry) (print : List ℕ) → LeavePrint original entries print → (number : ℕ) (c : Correction) → IsNewestInForce entries number c
+    → (row : NamedCorr) (next : Next) → IsSoundUndo (entries_kept entries) row → row.entry.start ≡ pos number → next.entry ≡ KeptUndoes number
+    → next.print.items ≡ replaced_by c.start (length c.text) c.taken print → IsNext original (entries_kept entries) row next
+IsNext-undo original entries print left number c force row next undo start entry_is print_is =
+    let h = entries_kept entries in
+    let entry : Undoes number ≡ entry_of row = sym (entry-undoes row undo.kind ∙ ap (λ z. Undoes (nat_abs z)) start) in
+    record {
+      fits = inr undo;
+      sound = subst (IsSoundEntry original h) entry (ap (option_map (λ (correction : ℕ × Replacement). correction.0)) force.newest_is);
+      entry = ap entry_kept entry_is ∙ entry;
+      taken = subst (TookFrom (corrected original h)) (sym entry_is) tt;
+      print = print_is ∙ (undone-print original entries print left number c force ∙ ap (λ (e : Entry). corrected original (h ++ e ∷ [])) entry);
+    }
 
 -- ---- a correction
 

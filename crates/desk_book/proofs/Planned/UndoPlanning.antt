@@ -1,9 +1,7 @@
--- How an undo is checked while no version is expected.
-use Rattle.std.proofs.Common.{◌≡◌, ℕ, ◌+◌, ◌-◌, ◌≤◌, false, List, length, take, drop, Some, None, refl, sym, ap, subst, ◌∙◌, arith, lit≤}
+-- How an undo is judged while no version is expected.
+use Rattle.std.proofs.Common.{◌≡◌, ℕ, ◌+◌, ◌-◌, ◌≤◌, false, List, [], ◌∷◌, ◌++◌, length, Some, None, refl, sym, ap, subst, ◌∙◌, arith, lit≤}
 use Rattle.std.specs.Option.{option_and_then}
-use Rattle.std.specs.Prelude.{option_map, slice_get}
-use Rattle.std.specs.List.{take-map}
-use Rattle.std.proofs.lemmas.Option.{slice_get-map}
+use Rattle.std.specs.Prelude.{option_map}
 use Rattle.louis_table.specs.Meaning.{Meaning}
 use Rattle.louis_translate.specs.Position.{AreDefined}
 use Rattle.desk_book.specs.declared.change.Effect.{Effect}
@@ -11,19 +9,19 @@ use Rattle.desk_book.specs.declared.corrections.NewEntry.{NewEntry}
 use Rattle.desk_command.specs.declared.command.Command.{Command}
 use Rattle.desk_command.specs.declared.command.Command.TheVariants.{Undo}
 use Rattle.desk_book.specs.declared.history.Correction.{Correction}
-use Rattle.desk_book.specs.declared.history.KeptEntry.TheVariants.{Corrects as KeptCorrects, Undoes as KeptUndoes}
+use Rattle.desk_book.specs.declared.history.KeptEntry.TheVariants.{Undoes as KeptUndoes}
 use Rattle.desk_book.specs.declared.paragraphs.Paragraph.{Paragraph as KeptParagraph}
 use Rattle.desk_command.specs.declared.refusal.Refusal.{Refusal}
 use Rattle.desk_command.specs.declared.refusal.Refusal.TheVariants.{NoMemory, NothingToUndo}
-use Rattle.desk_model.specs.Book.{Book, Corrects, Entry, Undoes, Paragraph, Replacement, paragraph_of}
+use Rattle.desk_model.specs.Book.{Book, Undoes, Paragraph, Replacement, paragraph_of}
 use Rattle.desk_book.specs.Changes.{Does}
 use Rattle.desk_book.specs.Corrected.{HaltsEntry, HaltsPrint, IsEntered, IsUnfit, TakesEntry, replaced_by}
-use Rattle.desk_book.specs.Histories.{IsNewestInForce, TookFrom, entries_kept, entry_kept, replacement_kept}
+use Rattle.desk_book.specs.Histories.{IsNewestInForce, LeavePrint, TookFrom, entries_kept, entry_kept, replacement_kept}
 use Rattle.desk_model.specs.Judging.{Passes}
 use Rattle.desk_model.specs.Limits.{most_print}
 use Rattle.desk_model.specs.Marks.{mark_moved_back, mark_moved_by}
 use Rattle.desk_book.specs.Planned.{IsPlanned, IsTurnedDown}
-use Rattle.desk_model.specs.Print.{corrected, newest, print_of, print_undone, replaced, with_entry}
+use Rattle.desk_model.specs.Print.{corrected, newest, print_of, print_undone, with_entry}
 use Rattle.desk_model.specs.Refusals.{HasLongNote, HasLongText}
 use Rattle.desk_book.specs.Shown.{IsShown}
 use Rattle.desk_model.specs.Sound.{AreSoundEntries}
@@ -32,11 +30,9 @@ use Rattle.desk_book.proofs.Planned.EntryPlanned.{ChangesPrint-entered}
 use Rattle.desk_model.proofs.Books.SoundBooks.{short-sound}
 use Rattle.desk_book.proofs.Planned.EntryPlanning.{entered, halted, lacking, undefined, unfit}
 use Rattle.desk_model.proofs.Commands.Turns.{passes_to, past_fit, to_turn}
-use Rattle.desk_model.proofs.Books.HistoryLists.{corrected-before, corrected-undone}
 use Rattle.desk_model.proofs.Commands.Judging.{Passes-nothing_to_undo}
 use Rattle.desk_book.proofs.Planned.Planning.{turned_down}
-use Rattle.desk_book.proofs.Planned.Replacing.{replaced-back}
-use Rattle.desk_model.proofs.Books.SoundEntries.{length-replaced}
+use Rattle.desk_book.proofs.Kept.UndonePrints.{taken-span, text-span, undone-length, undone-print}
 
 module _ (book : Book) (id : ℕ) where
   abbrev command : Command
@@ -78,36 +74,27 @@ module _ (book : Book) (id : ℕ) where
       newest_is : newest p.history ≡ Some (number, r)
       newest_is = ap newest history_is ∙ force.newest_is
 
-      now_is : print_of p ≡ replaced before r
-      now_is = corrected-undone p.original p.history number r newest_is
+      left : LeavePrint kept.original kept.history kept.print
+      left = record { sound = sound_kept; taken = shown.taken; print_is = shown.print ∙ (λ i. corrected (original_is i) (history_is i)) }
 
-      then_is : before ≡ corrected p.original (take (number - 1) p.history)
-      then_is = corrected-before p.original p.history shown.sound.history.entries number r newest_is
+      before_is : corrected kept.original (entries_kept kept.history ++ Undoes number ∷ []) ≡ before
+      before_is = λ i. corrected (sym original_is i) (sym history_is i ++ Undoes number ∷ [])
 
-      span_before : r.start + r.count ≤ length before
-      span_before =
-          let at : slice_get p.history (number - 1) ≡ Some (Corrects r c.who) = ap (λ (t : List Entry). slice_get t (number - 1)) history_is ∙ (slice_get-map entry_kept kept.history (number - 1) ∙ ap (option_map entry_kept) force.at) in
-          subst (λ (t : List ℕ). r.start + r.count ≤ length t) (sym then_is) (shown.sound.history.entries (number - 1) (Corrects r c.who) at).0
+      span_before : c.start + length c.taken ≤ length before
+      span_before = subst (λ (t : List ℕ). c.start + length c.taken ≤ length t) before_is (taken-span kept.original kept.history kept.print left number c force)
 
-      taken_is : c.taken ≡ take (length c.taken) (drop c.start before)
-      taken_is =
-          let same : corrected kept.original (entries_kept (take (number - 1) kept.history)) ≡ before =
-          ap (corrected kept.original) (sym (take-map entry_kept (number - 1) kept.history))
-          ∙ ((λ i. corrected (sym original_is i) (take (number - 1) (sym history_is i))) ∙ sym then_is) in
-          subst (λ (t : List ℕ). c.taken ≡ take (length c.taken) (drop c.start t)) same (shown.taken (number - 1) (KeptCorrects c) force.at)
-
-      long : length (print_of p) + length c.taken ≡ length before + length c.text
-      long = ap (λ (t : List ℕ). length t + length c.taken) now_is ∙ length-replaced before r span_before
+      long : length kept.print + length c.taken ≡ length before + length c.text
+      long = undone-length kept.original kept.history kept.print left number c force ∙ ap (λ (t : List ℕ). length t + length c.text) before_is
 
       -- so many characters the print has after it
       pub counted : (len count taken : ℕ) → len ≡ length kept.print → count ≡ length c.text → taken ≡ length c.taken → (len - count) + taken ≡ length before
-      counted len count taken a b d = let within = span_before in let same = ap length shown.print in let sum = long in omega (arith, a, b, d)
+      counted len count taken a b d = let within = span_before in let sum = long in omega (arith, a, b, d)
 
       pub span_here : c.start + length c.text ≤ length kept.print
-      span_here = let within = span_before in let same = ap length shown.print in let sum = long in omega arith
+      span_here = text-span kept.original kept.history kept.print left number c force
 
-      pub back : replaced_by c.start (length c.text) c.taken (print_of p) ≡ before
-      back = ap (replaced_by c.start (length c.text) c.taken) now_is ∙ replaced-back before c.start (length c.taken) c.text c.taken span_before taken_is refl
+      pub back : replaced_by c.start (length c.text) c.taken kept.print ≡ before
+      back = undone-print kept.original kept.history kept.print left number c force ∙ before_is
 
       undone : print_undone p ≡ Some before
       undone = ap (option_map (λ (correction : ℕ × Replacement). print_of (with_entry (Undoes correction.0) p))) newest_is
@@ -152,7 +139,7 @@ module _ (book : Book) (id : ℕ) where
         planned_here new effect printed is entry_is starts removes adds =
             let shorts : length print ≤ most_print = subst (λ (t : List ℕ). length t ≤ most_print) printed is.short in
             let defined = subst (AreDefined meaning) printed is.defined in
-            let now_short : length (print_of p) ≤ most_print = short-sound book p shown.sound in
+            let now_short : length kept.print ≤ most_print = subst (λ (t : List ℕ). length t ≤ most_print) (sym shown.print) (short-sound book p shown.sound) in
             let then_short : length before ≤ most_print = subst (λ (t : List ℕ). length t ≤ most_print) print_is shorts in
             let span = span_before in
             let sum = long in

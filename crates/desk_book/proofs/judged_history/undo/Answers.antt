@@ -1,22 +1,20 @@
-use Rattle.std.proofs.Common.{◌≡◌, length, pos, refl, sym, ap, ◌∙◌, arith, rules, ℕ, []}
+use Rattle.std.proofs.Common.{◌≡◌, pos, refl, sym, ap, ◌∙◌, rules, ℕ, []}
 use Rattle.std.specs.Prelude.{string_bytes}
 use Rattle.std.proofs.lemmas.Bool.{eqb-true}
 use Rattle.std.proofs.lemmas.List.{nil_from_length}
 use Rattle.std.specs.Prelude.{option_map}
 use Rattle.desk_model.specs.Book.{Replacement}
-use Rattle.desk_book.specs.Corrected.{replaced_by}
 use Rattle.desk_model.specs.Damage.{IsSoundUndo}
 use Rattle.desk_book.specs.Histories.{entries_kept}
 use Rattle.desk_parts.specs.Rows.{Corr, NamedCorr}
-use Rattle.desk_book.proofs.Judged.ReadEntries.{IsNext-undo, undone-span}
+use Rattle.desk_book.proofs.Judged.ReadEntries.{IsNext-undo}
+use Rattle.desk_book.proofs.Kept.UndonePrints.{text-span}
 use Rattle.desk_book.proofs.judged_history.undo.Goals as goal
 
-pub replaced-requires : goal.replaced-requires
-replaced-requires c =
+pub undone-requires : goal.undone-requires
+undone-requires c =
     let left = c.requires.left in
-    let span = undone-span left.0 c.args.history.now c.args.print.now left.1 c.in-Some.number c.in-Some.correction.now c.in-Some.ensures.found in
-    let count : c.count_of-count.result ≡ length c.in-Some.correction.now.text = c.count_of-count.ensures ∙ ap length c.as_str.ensures in
-    omega arith
+    text-span left.0 c.args.history.now c.args.print.now left.1 c.in-Some.number c.in-Some.correction.now c.in-Some.ensures.found
 
 pub returns-clause-sound : goal.returns-clause-sound
 returns-clause-sound c original left =
@@ -36,6 +34,4 @@ returns-clause-sound c original left =
       body = sym (ap (λ (e : Corr). e.body) c.entry.view_is ∙ ap (λ (r : NamedCorr). r.entry.body) c.row.view_is) ∙ no_body;
       who = sym (ap (λ (r : NamedCorr). r.who) c.row.view_is) ∙ no_who;
     } in
-    let count : c.count_of-count.result ≡ length correction.text = c.count_of-count.ensures ∙ ap length c.as_str.ensures in
-    let printed = c.in_ok-print.ensures ∙ (λ i. replaced_by correction.start (count i) (c.as_slice-taken.ensures i) c.args.print.now) in
-    IsNext-undo original c.args.history.now c.args.print.now left c.in-Some.number correction c.in-Some.ensures.found c.args.row.now _ sound start refl printed
+    IsNext-undo original c.args.history.now c.args.print.now left c.in-Some.number correction c.in-Some.ensures.found c.args.row.now _ sound start refl c.in_ok-print.ensures

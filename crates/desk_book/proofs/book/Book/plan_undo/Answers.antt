@@ -1,4 +1,4 @@
-use Rattle.std.proofs.Common.{◌≡◌, ◌+◌, ◌-◌, ◌≤◌, length, sym, ap, subst, ◌∙◌, refl, arith}
+use Rattle.std.proofs.Common.{◌≡◌, ℕ, ◌+◌, ◌≤◌, List, length, sym, ap, subst, ◌∙◌, refl, arith}
 use Rattle.std.proofs.lemmas.Result.{err_from_is_err_and}
 use Rattle.desk_book.specs.Corrected.{HaltsEntry, TakesEntry, replaced_by}
 use Rattle.desk_book.specs.Histories.{IsNewestInForce, entries_kept}
@@ -45,64 +45,65 @@ overflow_sub-old c =
     let at = goal.at.overflow_sub-old c in
     let found = c.in_ok-paragraph.ensures.found in
     let old = ap length c.as_slice-old.ensures in
-    let count = count_is at.After-count_of-count in
-    let span = span_here c.args.self.now c.args.id _ _ found.0 found.1 c.in-Some.number c.in-Some.correction.now (force_is at.In-Some) in
+    let count : c.count-count.result ≡ length c.in-Some.correction.now.text = c.count-count.ensures in
+    let span = span_here c.args.self.now c.args.id _ _ found.0 found.1 c.in-Some.number c.in-Some.correction.now force in
     omega arith
 
-pub replaced-requires : goal.replaced-requires
-replaced-requires c =
-    let at = goal.at.replaced-requires c in
+pub undone-requires : goal.undone-requires
+undone-requires c =
     let found = c.in_ok-paragraph.ensures.found in
-    let old = ap length c.as_slice-old.ensures in
-    let count = count_is at.After-count_of-count in
-    let span = span_here c.args.self.now c.args.id _ _ found.0 found.1 c.in-Some.number c.in-Some.correction.now (force_is at.In-Some) in
-    omega arith
+    let force = subst (λ h. IsNewestInForce h c.in-Some.number c.in-Some.correction.now) c.as_slice.ensures c.in-Some.ensures.found in
+    subst (λ (t : List ℕ). c.in-Some.correction.now.start + length c.in-Some.correction.now.text ≤ length t) (sym c.as_slice-old.ensures)
+    (span_here c.args.self.now c.args.id _ _ found.0 found.1 c.in-Some.number c.in-Some.correction.now force)
 
 pub returns-clause-planned : goal.returns-clause-planned
 returns-clause-planned c =
     let at = goal.at.returns-clause-planned c in
     let found = c.in_ok-paragraph.ensures.found in
-    let force = force_is at.In-Some in
-    let count = count_is at.After-count_of-count in
+    let correction = c.in-Some.correction.now in
+    let force = subst (λ h. IsNewestInForce h c.in-Some.number correction) c.as_slice.ensures c.in-Some.ensures.found in
+    let printed = c.in_ok-undone.ensures ∙ (ap (replaced_by correction.start (length correction.text) correction.taken) c.as_slice-old.ensures ∙ back c.args.self.now c.args.id _ _ found.0 found.1 c.in-Some.number correction force) in
     IfOk-weaker c.entered.result _ _
-    (λ effect is. planned_here c.args.self.now c.args.id _ _ found.0 found.1 c.in-Some.number c.in-Some.correction.now force c.in_ok-replaced.field-0.items (printed_is at.In_ok-replaced force count) _ effect refl is refl refl count (ap length c.as_slice-taken.ensures)) c.entered.ensures.planned
+    (λ effect is. planned_here c.args.self.now c.args.id _ _ found.0 found.1 c.in-Some.number correction force c.in_ok-undone.field-0.items printed _ effect refl is refl refl c.count-count.ensures (ap length c.as_slice-taken.ensures)) c.entered.ensures.planned
 
 pub returns-in_err-check_entry-clause-refused : goal.returns-in_err-check_entry-clause-refused
 returns-in_err-check_entry-clause-refused c =
     let at = goal.at.returns-in_err-check_entry-clause-refused c in
     let p = err_from_is_err_and c.from_residual-in_err-check_entry.result c.from_residual-in_err-check_entry.ensures.1 in
     let found = c.in_ok-paragraph.ensures.found in
-    let force = force_is at.In-Some in
-    let many = many_is at.After-as_slice-old force (count_is at.After-count_of-count) in
-    rw (p.1, p.2) (halted_here c.args.self.now c.args.id _ _ found.0 found.1 c.in-Some.number c.in-Some.correction.now force _ refl _
+    let correction = c.in-Some.correction.now in
+    let force = subst (λ h. IsNewestInForce h c.in-Some.number correction) c.as_slice.ensures c.in-Some.ensures.found in
+    let many = counted c.args.self.now c.args.id _ _ found.0 found.1 c.in-Some.number correction force _ _ _ (ap length c.as_slice-old.ensures) c.count-count.ensures (ap length c.as_slice-taken.ensures) in
+    rw (p.1, p.2) (halted_here c.args.self.now c.args.id _ _ found.0 found.1 c.in-Some.number correction force _ refl _
     (subst (λ n. HaltsEntry c.args.self.now c.in_ok-paragraph.paragraph.now n c.in_err-check_entry.field-0.0) many c.in_err-check_entry.ensures.halted))
 
 pub entered-requires : goal.entered-requires
 entered-requires c =
-    let at = goal.at.entered-requires c in
-    let force = force_is at.In-Some in
-    let count = count_is at.After-count_of-count in
-    let many = many_is at.After-as_slice-old force count in
-    subst (TakesEntry c.args.self.now c.in_ok-paragraph.paragraph.now) (many ∙ sym (ap length (printed_is at.In_ok-replaced force count))) c.in_ok-check_entry.ensures.takes
+    let found = c.in_ok-paragraph.ensures.found in
+    let correction = c.in-Some.correction.now in
+    let force = subst (λ h. IsNewestInForce h c.in-Some.number correction) c.as_slice.ensures c.in-Some.ensures.found in
+    let many = counted c.args.self.now c.args.id _ _ found.0 found.1 c.in-Some.number correction force _ _ _ (ap length c.as_slice-old.ensures) c.count-count.ensures (ap length c.as_slice-taken.ensures) in
+    let printed = c.in_ok-undone.ensures ∙ (ap (replaced_by correction.start (length correction.text) correction.taken) c.as_slice-old.ensures ∙ back c.args.self.now c.args.id _ _ found.0 found.1 c.in-Some.number correction force) in
+    subst (TakesEntry c.args.self.now c.in_ok-paragraph.paragraph.now) (many ∙ sym (ap length printed)) c.in_ok-check_entry.ensures.takes
 
 pub returns-clause-refused : goal.returns-clause-refused
 returns-clause-refused c =
     let at = goal.at.returns-clause-refused c in
     let found = c.in_ok-paragraph.ensures.found in
-    let force = force_is at.In-Some in
-    let count = count_is at.After-count_of-count in
-    let many = many_is at.After-as_slice-old force count in
-    let printed = printed_is at.In_ok-replaced force count in
+    let correction = c.in-Some.correction.now in
+    let force = subst (λ h. IsNewestInForce h c.in-Some.number correction) c.as_slice.ensures c.in-Some.ensures.found in
+    let many = counted c.args.self.now c.args.id _ _ found.0 found.1 c.in-Some.number correction force _ _ _ (ap length c.as_slice-old.ensures) c.count-count.ensures (ap length c.as_slice-taken.ensures) in
+    let printed = c.in_ok-undone.ensures ∙ (ap (replaced_by correction.start (length correction.text) correction.taken) c.as_slice-old.ensures ∙ back c.args.self.now c.args.id _ _ found.0 found.1 c.in-Some.number correction force) in
     let takes = subst (TakesEntry c.args.self.now c.in_ok-paragraph.paragraph.now) (many ∙ sym (ap length printed)) c.in_ok-check_entry.ensures.takes in
     IfErr-weaker c.entered.result _ _
-    (λ told halts. undefined_here c.args.self.now c.args.id _ _ found.0 found.1 c.in-Some.number c.in-Some.correction.now force c.in_ok-replaced.field-0.items printed takes told halts) c.entered.ensures.refused
+    (λ told halts. undefined_here c.args.self.now c.args.id _ _ found.0 found.1 c.in-Some.number correction force c.in_ok-undone.field-0.items printed takes told halts) c.entered.ensures.refused
 
-pub returns-in_err-replaced-clause-refused : goal.returns-in_err-replaced-clause-refused
-returns-in_err-replaced-clause-refused c =
-    let at = goal.at.returns-in_err-replaced-clause-refused c in
-    let p = err_from_is_err_and c.from_residual-in_err-replaced.result c.from_residual-in_err-replaced.ensures.1 in
+pub returns-in_err-undone-clause-refused : goal.returns-in_err-undone-clause-refused
+returns-in_err-undone-clause-refused c =
+    let p = err_from_is_err_and c.from_residual-in_err-undone.result c.from_residual-in_err-undone.ensures.1 in
     let found = c.in_ok-paragraph.ensures.found in
-    let force = force_is at.In-Some in
-    let many = many_is at.After-as_slice-old force (count_is at.After-count_of-count) in
+    let correction = c.in-Some.correction.now in
+    let force = subst (λ h. IsNewestInForce h c.in-Some.number correction) c.as_slice.ensures c.in-Some.ensures.found in
+    let many = counted c.args.self.now c.args.id _ _ found.0 found.1 c.in-Some.number correction force _ _ _ (ap length c.as_slice-old.ensures) c.count-count.ensures (ap length c.as_slice-taken.ensures) in
     let takes = subst (TakesEntry c.args.self.now c.in_ok-paragraph.paragraph.now) many c.in_ok-check_entry.ensures.takes in
     rw p.1 (no_memory_here c.args.self.now c.args.id _ _ found.0 found.1 c.in-Some.number c.in-Some.correction.now force _ refl takes _ p.2)
