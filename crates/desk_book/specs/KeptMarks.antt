@@ -1,9 +1,11 @@
 -- Marks as they are kept.
-use Rattle.std.specs.Prelude.{ℕ, ◌+◌, ◌-◌, ◌≤◌, ◌==◌, nat_le, true, if◌then◌else◌, min, max, zero, suc, List, [], ◌∷◌, map, Option, None, slice_get, slice_set}
+use Rattle.std.specs.Prelude.{ℕ, ◌+◌, ◌≤◌, ◌==◌, true, if◌then◌else◌, zero, suc, List, [], ◌∷◌, map, Option, None, slice_get, slice_set}
 use Rattle.std.specs.Option.{option_map_or}
 use Rattle.std.specs.List.{All}
 use Rattle.desk_book.specs.declared.marks.KeptMark.{KeptMark}
+use Rattle.desk_model.specs.declared.span.Span.{Span}
 use Rattle.desk_model.specs.Limits.{most_print}
+use Rattle.desk_model.specs.Marks.{moved_span}
 
 -- it stands within a print
 abbrev pub IsWithin : KeptMark → Type 0
@@ -12,17 +14,15 @@ IsWithin mark = (mark.start ≤ mark.end) × (mark.end ≤ most_print)
 abbrev pub AreWithin : List KeptMark → Type 0
 AreWithin marks = All IsWithin marks
 
+-- the places that it covers, and whether a correction has touched what it covered
+abbrev pub span_kept : KeptMark → Span
+span_kept mark = record { start = mark.start; end = mark.end; touched = mark.touched }
+
 -- the kept mark after so many characters from a place on gave way to others
 abbrev pub moved_kept : (start removed added : ℕ) → KeptMark → KeptMark
 moved_kept start removed added mark =
-    if nat_le mark.end start then mark
-    else (if nat_le (start + removed) mark.start
-    then record mark { start = mark.start - removed + added; end = mark.end - removed + added }
-    else record mark {
-      start = min mark.start start;
-      end = max mark.end (start + removed) - removed + added;
-      touched = true;
-    })
+    let span = moved_span start removed added (span_kept mark) in
+    record mark { start = span.start; end = span.end; touched = span.touched }
 
 -- the kept mark, moved if it is of the paragraph with this id
 abbrev pub moved_kept_of : (id start removed added : ℕ) → KeptMark → KeptMark

@@ -1,4 +1,3 @@
-pub mod Spans
 pub mod Histories
 pub mod Shown
 pub mod KeptMarks

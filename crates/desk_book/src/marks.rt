@@ -1,13 +1,13 @@
 //! The marks of proofreaders.
-ghost use Rattle.desk_book.specs.KeptMarks.{AreWithin, IsWithin, indexes_on, moved_kept, kept_mark, with_kept_moved, with_kept_resolved};
+ghost use Rattle.desk_book.specs.KeptMarks.{AreWithin, IsWithin, indexes_on, moved_kept, kept_mark, span_kept, with_kept_moved, with_kept_resolved};
 ghost use Rattle.desk_model.specs.Limits.{most_print};
-ghost use Rattle.desk_book.specs.Spans.{moved_span, span_kept};
 ghost use Rattle.desk_book.specs.Room.{Suffices};
 ghost use Rattle.std.specs.Option.{option_copied};
 ghost use Rattle.std.specs.Prelude.{◌≡◌, ◌+◌, ◌-◌, ◌<◌, ◌≤◌, ◌^◌, [], ◌∷◌, ◌++◌, ℕ, IfOk, None, length};
 
 use super::items::{Items, Room};
 use desk_command::Text;
+use desk_model::Span;
 use std::alloc::{AllocError, Global};
 use std::marker::Model;
 
@@ -38,44 +38,6 @@ impl Drop for KeptMark {
             touched: _,
             resolved: _,
         } = self;
-    }
-}
-
-/// The places that a mark covers, and whether a correction has touched them.
-#[derive(Clone, Copy)]
-pub(crate) struct Span {
-    /// The first place of the print that it covers, from 0.
-    pub(crate) start: usize,
-    /// The place after the last that it covers.
-    pub(crate) end: usize,
-    /// Whether a correction has touched what it covers.
-    pub(crate) touched: bool,
-}
-
-impl Span {
-    /// The span after so many characters of the print, from a place on, gave way to others.
-    pub(crate) fn moved(self, start: usize, removed: usize, added: usize) -> Span
-        requires ordered { self.start ≤ self.end }
-        requires print { self.end ≤ most_print }
-        requires within { start + removed ≤ most_print }
-        requires short { added ≤ most_print }
-        ensures { result ≡ moved_span start removed added self }
-    {
-        if self.end <= start {
-            return self;
-        }
-        if start + removed <= self.start {
-            return Span {
-                start: self.start - removed + added,
-                end: self.end - removed + added,
-                touched: self.touched,
-            };
-        }
-        Span {
-            start: self.start.min(start),
-            end: self.end.max(start + removed) - removed + added,
-            touched: true,
-        }
     }
 }
 

@@ -12,12 +12,13 @@ ghost use Rattle.std.specs.Prelude.{◌≡◌, ◌+◌, ◌-◌, ◌<◌, ◌≤
 use super::book::Book;
 use super::change::{Change, Effect, PrintChange};
 use super::history::KeptEntry;
-use super::marks::{KeptMark, Span};
+use super::marks::KeptMark;
 use super::paragraph_marks::ParagraphMarks;
 use super::paragraphs::{Order, Paragraph};
 use super::tables::BoxedTable;
 use cell_core::Cells;
 use desk_command::{Style, Text};
+use desk_model::Span;
 use desk_parts::{CachePut, MarkPut, NamedCorrPut, ParaPut, Put, TabPut};
 use std::marker::Model;
 

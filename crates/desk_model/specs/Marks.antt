@@ -1,20 +1,32 @@
 -- How marks move with the print that they stand on.
 use Rattle.std.specs.Prelude.{ℕ, ◌+◌, ◌-◌, nat_le, true, if◌then◌else◌, length, min, max}
+use Rattle.desk_model.specs.declared.span.Span.{Span}
 use Rattle.desk_model.specs.Book.{Replacement, Mark}
 
--- the mark after so many characters from a place on gave way to others, by the first of these that applies: a mark that
+-- the span after so many characters from a place on gave way to others, by the first of these that applies: a span that
 -- ends at their start or before it stays; one that begins at their end or after it moves with the print; any other then
 -- covers what it covered and all that came, and is touched for good
-abbrev pub mark_moved_by : (start removed added : ℕ) → Mark → Mark
-mark_moved_by start removed added mark =
-    if nat_le mark.end start then mark
-    else (if nat_le (start + removed) mark.start
-    then record mark { start = mark.start - removed + added; end = mark.end - removed + added }
-    else record mark {
-      start = min mark.start start;
-      end = max mark.end (start + removed) - removed + added;
+abbrev pub moved_span : (start removed added : ℕ) → Span → Span
+moved_span start removed added span =
+    if nat_le span.end start then span
+    else (if nat_le (start + removed) span.start
+    then record span { start = span.start - removed + added; end = span.end - removed + added }
+    else record {
+      start = min span.start start;
+      end = max span.end (start + removed) - removed + added;
       touched = true;
     })
+
+-- what a mark covers, and the mark with another span
+abbrev pub span_of : Mark → Span
+span_of mark = record { start = mark.start; end = mark.end; touched = mark.touched }
+
+abbrev pub with_span : Span → Mark → Mark
+with_span span mark = record mark { start = span.start; end = span.end; touched = span.touched }
+
+-- the mark after so many characters from a place on gave way to others
+abbrev pub mark_moved_by : (start removed added : ℕ) → Mark → Mark
+mark_moved_by start removed added mark = with_span (moved_span start removed added (span_of mark)) mark
 
 -- the mark after a replacement
 abbrev pub mark_moved : Replacement → Mark → Mark

@@ -2,8 +2,8 @@
 //! in rows that show none: definitions, and the laws that they have. How a book is kept isn't said here.
 //!
 //! The definitions stand in `specs/`, and `laws` has what holds of them. The types are those of which the definitions
-//! speak: what is shown of a paragraph, of an entry of its history and of a mark, which tables a file lacks, and which
-//! damage is reported.
+//! speak: what is shown of a paragraph, of an entry of its history and of a mark, which places a mark covers, which
+//! tables a file lacks, and which damage is reported.
 //!
 //! ```rust
 //! use desk_model::{Done, HistoryItem};
@@ -20,10 +20,12 @@ pub mod laws;
 mod listed;
 mod mark_item;
 mod new_tables;
+mod span;
 mod told;
 
 pub use fault::PartsFault;
 pub use listed::Listed;
 pub use mark_item::MarkItem;
 pub use new_tables::NewTables;
+pub use span::Span;
 pub use told::{Done, HistoryItem};

@@ -11,7 +11,7 @@ use Rattle.std.proofs.lemmas.List.Elements.{All-cons, All-head, All-nil, All-tai
 use Rattle.desk_book.specs.declared.marks.KeptMark.{KeptMark}
 use Rattle.desk_model.specs.Book.{Book, Mark}
 use Rattle.desk_book.specs.Kept.{mark_kept, marks_kept}
-use Rattle.desk_book.specs.KeptMarks.{kept_mark, AreWithin, IsWithin, moved_kept_of, with_kept_moved, with_kept_resolved}
+use Rattle.desk_book.specs.KeptMarks.{kept_mark, AreWithin, IsWithin, moved_kept, moved_kept_of, with_kept_moved, with_kept_resolved}
 use Rattle.desk_model.specs.Limits.{most_print}
 use Rattle.desk_model.specs.Marks.{mark_moved_by}
 use Rattle.desk_model.specs.Print.{corrected}
@@ -24,21 +24,11 @@ use Rattle.desk_model.proofs.Books.SoundBooks.{IsSoundParagraph-found, paragraph
 -- ---- marks that move
 
 mark-moved : (id start removed added n : ℕ) (m : KeptMark) → mark_kept (n, moved_kept_of id start removed added m) ≡ moved_on id (mark_moved_by start removed added) (mark_kept (n, m))
-mark-moved id start removed added n m = by (m.paragraph == id) (nat_le m.end start) (nat_le (start + removed) m.start)
+mark-moved id start removed added n m = by (m.paragraph == id)
   where
-    by : (b c d : Bool)
-        → mark_kept (
-          n,
-          cond b (cond c m (cond d (record m { start = m.start - removed + added; end = m.end - removed + added })
-              (record m { start = min m.start start; end = max m.end (start + removed) - removed + added; touched = true }))) m,
-        )
-        ≡ cond b (cond c (mark_kept (n, m)) (cond d
-        (let k : Mark = mark_kept (n, m) in record k { start = m.start - removed + added; end = m.end - removed + added })
-        (let k : Mark = mark_kept (n, m) in record k { start = min m.start start; end = max m.end (start + removed) - removed + added; touched = true }))) (mark_kept (n, m))
-    by true true d = refl
-    by true false true = refl
-    by true false false = refl
-    by false c d = refl
+    by : (b : Bool) → mark_kept (n, cond b (moved_kept start removed added m) m) ≡ cond b (mark_moved_by start removed added (mark_kept (n, m))) (mark_kept (n, m))
+    by true = refl
+    by false = refl
 
 pub marks-moved : (id start removed added n : ℕ) (ms : List KeptMark)
     → map mark_kept (enumerate_from n (with_kept_moved id start removed added ms)) ≡ with_marks_moved id (mark_moved_by start removed added) (map mark_kept (enumerate_from n ms))

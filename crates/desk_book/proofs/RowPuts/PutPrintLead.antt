@@ -40,7 +40,7 @@ use Rattle.desk_model.proofs.Books.PrintCharacters.{HasText, print-all}
 use Rattle.desk_book.proofs.RowPuts.PutCells.{ForSome-map, id-small, ids-once}
 use Rattle.desk_book.proofs.RowPuts.PutChanges.{Sets, para_set, rows-changed, same_key, small_id, small_mark}
 use Rattle.desk_book.proofs.RowPuts.PutPlaces.{map-agree}
-use Rattle.desk_book.proofs.RowPuts.PutPrints.{Columns, columns_of, entries-more, entry-spelled, entry-texts, moved-row, set_span, spanned, spanned-at, spanned-spelled, spanned-texts, spans-put}
+use Rattle.desk_book.proofs.RowPuts.PutPrints.{Columns, columns_of, entries-more, entry-spelled, entry-texts, set_span, spanned, spanned-at, spanned-spelled, spanned-texts, spans-put}
 use Rattle.desk_model.proofs.Rows.PutRows.{AreCached-put, All-set_where, IsBraille-same, IsPermutation-set, id_number, number-small, numbers-same, versioned}
 use Rattle.desk_model.proofs.Lists.RowNumbers.{int_eq-pos}
 use Rattle.desk_model.proofs.Books.SoundBooks.{IsSoundParagraph-found, paragraph_of-own, paragraph_of-within, paragraphs-apart}
@@ -159,7 +159,7 @@ module _ (book : Book) (id : ℕ) (change : PrintChange) (sound : IsSound book) 
         ∙ shown (cases_Bool (nat_eq m.paragraph id))
       where
         shown : (nat_eq m.paragraph id ≡ true) ⊎ (nat_eq m.paragraph id ≡ false) → shown_at m (moved_on id move m) ≡ mark_row_of (moved_on id move m)
-        shown (inl t) = let is : moved_on id move m ≡ move m = cond-true (nat_eq m.paragraph id) (move m) m t in ap (shown_at m) is ∙ (moved-row change.start change.removed change.added m ∙ ap mark_row_of (sym is))
+        shown (inl t) = let is : moved_on id move m ≡ move m = cond-true (nat_eq m.paragraph id) (move m) m t in ap (shown_at m) is ∙ ap mark_row_of (sym is)
         shown (inr f) = let is : moved_on id move m ≡ m = cond-false (nat_eq m.paragraph id) (move m) m f in ap (shown_at m) is ∙ ap mark_row_of (sym is)
 
         stays : (m : Mark) → Contains book.marks m → All (λ (k : Mark). int_eq (pos m.id) (row_number k.id) ≡ false) (marks_on id book.marks)

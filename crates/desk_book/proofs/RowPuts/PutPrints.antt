@@ -172,16 +172,3 @@ module _ (start removed added : ℕ) where
             ap (spanned ms) (cond-false (int_eq row.id (row_number m.id)) (set_span (span_columns m) row) row f)
             ∙ spanned-at t ms row rest (λ misses. had (All-cons (λ (k : Mark). int_eq row.id (row_number k.id) ≡ false) m ms f misses))
       ]
-
-  abbrev moved_if : Mark → Bool → Bool → Mark
-  moved_if m c d = cond c m (cond d (record m { start = m.start - removed + added; end = m.end - removed + added })
-      (record m { start = min m.start start; end = max m.end (start + removed) - removed + added; touched = true }))
-
-  -- the row of a mark that moved
-  pub moved-row : (m : Mark) → (let moved : Mark = mark_moved_by start removed added m in set_span (pos moved.start, pos moved.end, flag_number moved.touched) (mark_row_of m)) ≡ mark_row_of (mark_moved_by start removed added m)
-  moved-row m = by (nat_le m.end start) (nat_le (start + removed) m.start)
-    where
-      by : (c d : Bool) → set_span (pos (moved_if m c d).start, pos (moved_if m c d).end, flag_number (moved_if m c d).touched) (mark_row_of m) ≡ mark_row_of (moved_if m c d)
-      by true d = refl
-      by false true = refl
-      by false false = refl

@@ -87,18 +87,9 @@ pub record MovesTo (move : Mark → Mark) (before after : ℕ) : Type 0 where
 
 pub MovesTo-mark_moved_by : (start removed added before after : ℕ) → start + removed ≤ before → before + added ≡ after + removed → MovesTo (mark_moved_by start removed added) before after
 MovesTo-mark_moved_by start removed added before after le same = record {
-  id = λ m. elim (cases_Bool (nat_le m.end start)) [
-    | inl e ↦ rw e refl
-    | inr e ↦ elim (cases_Bool (nat_le (start + removed) m.start)) [ inl f ↦ rw (e, f) refl | inr f ↦ rw (e, f) refl ]
-  ];
-  paragraph = λ m. elim (cases_Bool (nat_le m.end start)) [
-    | inl e ↦ rw e refl
-    | inr e ↦ elim (cases_Bool (nat_le (start + removed) m.start)) [ inl f ↦ rw (e, f) refl | inr f ↦ rw (e, f) refl ]
-  ];
-  note = λ m. elim (cases_Bool (nat_le m.end start)) [
-    | inl e ↦ rw e refl
-    | inr e ↦ elim (cases_Bool (nat_le (start + removed) m.start)) [ inl f ↦ rw (e, f) refl | inr f ↦ rw (e, f) refl ]
-  ];
+  id = λ m. refl;
+  paragraph = λ m. refl;
+  note = λ m. refl;
   within = λ m ordered short. elim (cases_Bool (nat_le m.end start)) [
     | inl e ↦ let low : m.end ≤ start = grind (arith, nat_tests) in rw e (ordered, (let end : m.end ≤ after = omega arith in end))
     | inr e ↦ elim (cases_Bool (nat_le (start + removed) m.start)) [
