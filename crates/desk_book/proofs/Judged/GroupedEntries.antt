@@ -7,12 +7,11 @@ use Rattle.std.proofs.lemmas.Int.{ints}
 use Rattle.std.proofs.lemmas.Bool.{cases_eq, cases_lt, cond-false, cond-true, false_from_ne_true}
 use Rattle.std.proofs.lemmas.List.{length-append, length-map, length-set}
 use Rattle.std.proofs.lemmas.List.Elements.{filter-append}
-use Rattle.std.proofs.lemmas.Option.{slice_get-map}
+use Rattle.std.proofs.lemmas.Option.{slice_get-map, slice_get_within}
 use Rattle.desk_model.specs.Damage.{IsWithin}
 use Rattle.desk_book.specs.JudgedEntries.{AreGrouped, IsFirstStray, IsStray, rows_of}
 use Rattle.desk_parts.specs.Rows.{NamedCorr}
-use Rattle.desk_model.proofs.Lists.Items.{slice_get-append_left, slice_get-push, slice_get-set_other, slice_get-set_same}
-use Rattle.desk_model.proofs.Books.HistoryLists.{slice_get-below}
+use Rattle.desk_model.proofs.Lists.Items.{here-at, slice_get-append_left, slice_get-set_other, slice_get-set_same}
 use Rattle.desk_model.proofs.Lists.Members.{Contains-behind, Contains-cases, Contains-here, Contains-none}
 use Rattle.desk_model.proofs.Lists.RowNumbers.{pos_le, same_number}
 
@@ -26,13 +25,13 @@ pub group-more : (count : ℕ) (groups : List (List NamedCorr)) → AreGrouped c
 group-more count groups is = record {
   many = length-append groups ([] ∷ []) ∙ ap (λ (n : ℕ). n + 1) is.many;
   each = λ index group at.
-      let within = slice_get-below (groups ++ [] ∷ []) index group at in
+      let within = slice_get_within (groups ++ [] ∷ []) index group at in
       let long = length-append groups ([] ∷ []) in
       elim (cases_lt index (length groups)) [
         | inl before ↦ is.each index group (sym (slice_get-append_left groups ([] ∷ []) index before) ∙ at)
         | inr past ↦
             let here : index ≡ length groups = omega (arith, within, long, past) in
-            let both : Some [] ≡ Some group = sym (slice_get-push groups []) ∙ (ap (slice_get (groups ++ [] ∷ [])) (sym here) ∙ at) in
+            let both : Some [] ≡ Some group = sym (here-at groups [] []) ∙ (ap (slice_get (groups ++ [] ∷ [])) (sym here) ∙ at) in
             let same : [] ≡ group = cc in
             sym same
       ];
@@ -77,7 +76,7 @@ grouped-set {V} items count rows holders index old new row is named at more =
     grouped-more count rows (map items holders) (map items (set holders index new)) index (items old) row is named
     (slice_get-map items holders index ∙ ap (option_map items) at)
     (length-map (set holders index new) items ∙ (length-set holders index new ∙ sym (length-map holders items)))
-    (slice_get-map items (set holders index new) index ∙ (ap (option_map items) (slice_get-set_same holders index new (slice_get-below holders index old at)) ∙ ap Some more))
+    (slice_get-map items (set holders index new) index ∙ (ap (option_map items) (slice_get-set_same holders index new (slice_get_within holders index old at)) ∙ ap Some more))
     (λ i other. slice_get-map items (set holders index new) i ∙ (ap (option_map items) (slice_get-set_other holders index i new other) ∙ sym (slice_get-map items holders i)))
 
 -- a row of no paragraph goes into no group
@@ -85,7 +84,7 @@ pub grouped-stray : (count : ℕ) (rows : List NamedCorr) (groups : List (List N
 grouped-stray count rows groups row is nowhere = record {
   many = is.many;
   each = λ i group at.
-      let within = slice_get-below groups i group at in
+      let within = slice_get_within groups i group at in
       let many = is.many in
       is.each i group at
       ∙ sym (other-row rows row (pos (i + 1)) (λ equal. nowhere (subst (IsWithin 1 count) (sym equal) (pos_le 1 (i + 1) (omega arith), pos_le (i + 1) count (omega (arith, within, many))))));

@@ -7,7 +7,7 @@ use Rattle.std.proofs.lemmas.Bool.{cases_lt}
 use Rattle.std.proofs.lemmas.Int.{ints}
 use Rattle.std.proofs.lemmas.List.Elements.{All-cons, All-contains, All-nil}
 use Rattle.std.proofs.lemmas.List.Sorted.{Contains-permutation, IsPermutation-sym}
-use Rattle.std.proofs.lemmas.Option.{slice_get-map}
+use Rattle.std.proofs.lemmas.Option.{slice_get-map, slice_get_within}
 use Rattle.desk_book.specs.declared.paragraphs.Paragraph.{Paragraph as KeptParagraph}
 use Rattle.desk_model.specs.Damage.{HasPara, HasSoundEntries, IsDamagedEntries, IsWithin, history_of}
 use Rattle.desk_book.specs.Judged.{AreOf, HasHistory, HasKept, IsFirstId, IsOf, IsWhole, without_history}
@@ -17,7 +17,6 @@ use Rattle.desk_model.specs.Print.{corrected}
 use Rattle.desk_parts.specs.Rows.{NamedCorr, Para}
 use Rattle.desk_model.proofs.Lists.Members.{Contains-behind, Contains-here, Contains-map}
 use Rattle.desk_model.proofs.Lists.Items.{slice_get-there}
-use Rattle.desk_model.proofs.Books.HistoryLists.{slice_get-below}
 use Rattle.desk_model.proofs.Lists.Numbering.{Contains-range}
 use Rattle.desk_model.proofs.Lists.RowNumbers.{Contains-from_map, key-number, pos_le, same_number}
 use Rattle.desk_model.proofs.Lists.Stable.{at_least, is_le, le_from}
@@ -152,7 +151,7 @@ module _ (paras : List Para) (was : List KeptParagraph) (are : AreOf paras was) 
     -- a paragraph whose rows can't be read comes first, where those before it can and no stray id is below the paragraphs'
     pub unread-first : (index : ℕ) → IsUnread groups was index → ((id : ℤ) → first ≡ Some id → pos 1 ≤ℤ id) → IsFirstId (IsDamagedEntries paras entries) (pos (index + 1))
     unread-first index u above =
-        let within = slice_get-below was index u.kept u.item in
+        let within = slice_get_within was index u.kept u.item in
         let found = row-at index within in
         let a = at-row found.0 found.1 in
         let here : a.index ≡ index = (let equal = same_number (a.index + 1) (index + 1) (sym a.id ∙ found.2) in omega (arith, equal)) in

@@ -21,25 +21,10 @@ use Rattle.desk_book.specs.KeptMarks.{indexes_from, indexes_on}
 use Rattle.desk_model.specs.Limits.{most_marks}
 use Rattle.desk_parts.specs.Rows.{Mark as MarkRow, Para}
 use Rattle.desk_model.specs.Shows.{mark_row_of}
-use Rattle.desk_model.proofs.Lists.Items.{set-cases, slice_get-there}
+use Rattle.desk_model.proofs.Lists.Items.{map-set_same, set-cases, slice_get-there, take-more}
 use Rattle.desk_book.proofs.Kept.MarkIndexes.{indexes-push_on, indexes-push_other}
 use Rattle.desk_book.proofs.Judged.OrderedRows.{few-sound, tells as first-told, whole as none-damaged}
 use Rattle.desk_model.proofs.Lists.RowNumbers.{key-number, number-key, same_number}
-
--- ---- lists
-
-map-set : {X Y : Type 0} (f : X → Y) (xs : List X) (j : ℕ) (was new : X) → slice_get xs j ≡ Some was → f new ≡ f was → map f (set xs j new) ≡ map f xs
-map-set f [] j was new at same = refl
-map-set f (x ∷ xs) zero was new at same = let first : x ≡ was = cc in λ i. (same ∙ ap f (sym first)) i ∷ map f xs
-map-set f (x ∷ xs) (suc j) was new at same = λ i. f x ∷ map-set f xs j was new at same i
-
-take-more : {X : Type 0} (xs : List X) (i : ℕ) (x : X) → slice_get xs i ≡ Some x → take (i + 1) xs ≡ take i xs ++ x ∷ []
-take-more {X} xs i x at = ap (λ (n : ℕ). take n xs) (let next : i + 1 ≡ suc i = omega arith in next) ∙ step xs i at
-  where
-    step : (xs : List X) (i : ℕ) → slice_get xs i ≡ Some x → take (suc i) xs ≡ take i xs ++ x ∷ []
-    step [] i at = absurd (cc)
-    step (y ∷ xs) zero at = let same : y ≡ x = cc in ap (λ z. z ∷ []) same
-    step (y ∷ xs) (suc i) at = ap (λ rest. y ∷ rest) (step xs i at)
 
 -- ---- rows beside paragraphs
 
@@ -220,4 +205,4 @@ module _ (marks : List KeptMark) (i : ℕ) (mark : KeptMark) (items : List KeptP
       ]
 
   pub shared-same : (new : KeptParagraph) → without_marks new ≡ without_marks was → map without_marks (set items (mark.paragraph - 1) new) ≡ map without_marks items
-  shared-same new same = map-set without_marks items (mark.paragraph - 1) was new there same
+  shared-same new same = map-set_same without_marks items (mark.paragraph - 1) was new there same

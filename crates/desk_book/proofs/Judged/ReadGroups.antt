@@ -4,7 +4,7 @@ use Rattle.std.specs.Prelude.{option_map, slice_get}
 use Rattle.std.proofs.lemmas.Bool.{cases_eq}
 use Rattle.std.specs.List.{enumerate_from}
 use Rattle.std.proofs.lemmas.List.{length-map}
-use Rattle.std.proofs.lemmas.Option.{slice_get_read}
+use Rattle.std.proofs.lemmas.Option.{slice_get_read, slice_get_within}
 use Rattle.desk_book.specs.declared.paragraphs.Paragraph.{Paragraph as KeptParagraph}
 use Rattle.desk_book.specs.Judged.{without_history}
 use Rattle.desk_book.specs.JudgedEntries.{HaveRead, IsUnread}
@@ -12,9 +12,8 @@ use Rattle.desk_book.specs.JudgedHistory.{AreSoundRows, CanBeRead, HasRead}
 use Rattle.desk_model.specs.Damage.{history_of}
 use Rattle.desk_model.specs.Print.{corrected}
 use Rattle.desk_parts.specs.Rows.{NamedCorr}
-use Rattle.desk_model.proofs.Lists.Items.{slice_get-set_other, slice_get-set_same}
+use Rattle.desk_model.proofs.Lists.Items.{map-set_same, slice_get-set_other, slice_get-set_same}
 use Rattle.desk_book.proofs.Judged.JudgedEntries.{kept-at}
-use Rattle.desk_model.proofs.Books.HistoryLists.{slice_get-below}
 use Rattle.desk_book.proofs.Kept.ToldEntries.{slice_get-enumerate}
 
 -- so many of the paragraphs have the histories of their groups, and the others are as they were
@@ -26,23 +25,17 @@ pub record HaveReadTo (groups : List (List NamedCorr)) (was now : List KeptParag
 pub read-none : (groups : List (List NamedCorr)) (was : List KeptParagraph) → HaveReadTo groups was was 0
 read-none groups was = record { same = refl; read = λ k rows kept below group at. absurd (omega (arith, below)); rest = λ k past. refl }
 
--- another paragraph that differs in its history alone
-map-set_same : (now : List KeptParagraph) (i : ℕ) (old new : KeptParagraph) → slice_get now i ≡ Some old → without_history new ≡ without_history old → map without_history (set now i new) ≡ map without_history now
-map-set_same [] i old new at same = refl
-map-set_same (kept ∷ now) zero old new at same = let is : kept ≡ old = cc in λ k. (same ∙ ap without_history (sym is)) k ∷ map without_history now
-map-set_same (kept ∷ now) (suc i) old new at same = ap (λ (t : List KeptParagraph). without_history kept ∷ t) (map-set_same now i old new at same)
-
 module _ (groups : List (List NamedCorr)) (was now : List KeptParagraph) (count : ℕ) (is : HaveReadTo groups was now count) where
   pub read-more : (rows : List NamedCorr) (old new : KeptParagraph) → slice_get groups count ≡ Some rows → slice_get now count ≡ Some old → without_history new ≡ without_history old → HasRead rows new
       → HaveReadTo groups was (set now count new) (count + 1)
   read-more rows old new group at same has = record {
-    same = map-set_same now count old new at same ∙ is.same;
+    same = map-set_same without_history now count old new at same ∙ is.same;
     read = λ k others kept below group_k at_k.
         elim (cases_eq k count) [
           | inl here ↦
               let both_rows : Some others ≡ Some rows = sym group_k ∙ (ap (slice_get groups) here ∙ group) in
               let rows_same : others ≡ rows = cc in
-              let both : Some kept ≡ Some new = sym at_k ∙ (ap (slice_get (set now count new)) here ∙ slice_get-set_same now count new (slice_get-below now count old at)) in
+              let both : Some kept ≡ Some new = sym at_k ∙ (ap (slice_get (set now count new)) here ∙ slice_get-set_same now count new (slice_get_within now count old at)) in
               let kept_same : kept ≡ new = cc in
               subst (λ (r : List NamedCorr). HasRead r kept) (sym rows_same) (subst (HasRead rows) (sym kept_same) has)
           | inr other ↦ is.read k others kept (omega (arith, below, other)) group_k (sym (slice_get-set_other now count k new other) ∙ at_k)
@@ -69,7 +62,7 @@ module _ (groups : List (List NamedCorr)) (was now : List KeptParagraph) (count 
   }
 
   pub read-all : length groups ≤ count → HaveRead groups now
-  read-all whole index rows kept group at = is.read index rows kept (let within = slice_get-below groups index rows group in omega (arith, within, whole)) group at
+  read-all whole index rows kept group at = is.read index rows kept (let within = slice_get_within groups index rows group in omega (arith, within, whole)) group at
 
   pub as-long : length now ≡ length was
   as-long = sym (length-map now without_history) ∙ (ap length is.same ∙ length-map was without_history)

@@ -3,6 +3,7 @@ use Rattle.std.proofs.Common.{◌≡◌, ℕ, suc, ◌+◌, ◌<◌, ◌≤◌, 
 use Rattle.std.specs.Prelude.{slice_get}
 use Rattle.std.proofs.lemmas.Bool.{cases_eq}
 use Rattle.std.proofs.lemmas.List.{length-map, length-take-le, map-append}
+use Rattle.std.proofs.lemmas.Option.{slice_get_within}
 use Rattle.desk_book.specs.declared.history.KeptEntry.{KeptEntry}
 use Rattle.desk_book.specs.declared.judged_history.Next.{Next}
 use Rattle.desk_book.specs.declared.judged_history.Reading.{Reading}
@@ -14,9 +15,9 @@ use Rattle.desk_model.specs.Limits.{most_entries, most_print}
 use Rattle.desk_model.specs.Print.{corrected}
 use Rattle.desk_parts.specs.Rows.{NamedCorr}
 use Rattle.desk_model.specs.Sound.{AreSoundEntries}
-use Rattle.desk_model.proofs.Books.HistoryLists.{slice_get-below, take-more}
 use Rattle.desk_book.proofs.Kept.Settled.{HaveTaken-push}
 use Rattle.desk_model.proofs.Books.SoundEntries.{AreSoundEntries-push}
+use Rattle.desk_model.proofs.Lists.Items.{take-more}
 
 history-push : (rows : List NamedCorr) (row : NamedCorr) → history_of (rows ++ row ∷ []) ≡ history_of rows ++ entry_of row ∷ []
 history-push rows row = map-append entry_of rows (row ∷ [])
@@ -66,10 +67,10 @@ module _ (original : List ℕ) (rows : List NamedCorr) (reading : Reading) (is :
 -- a row is sound at its index as it is after the rows before it
 module _ (original : List ℕ) (rows : List NamedCorr) (index : ℕ) (row : NamedCorr) (at : slice_get rows index ≡ Some row) where
   front : take (index + 1) rows ≡ take index rows ++ row ∷ []
-  front = let next : index + 1 ≡ suc index = omega arith in ap (λ (n : ℕ). take n rows) next ∙ take-more rows index row at
+  front = take-more rows index row at
 
   many : length (take index rows) ≡ index
-  many = let within = slice_get-below rows index row at in length-take-le index rows (omega arith)
+  many = let within = slice_get_within rows index row at in length-take-le index rows (omega arith)
 
   pub row-from_next : IsSoundNext original (take index rows) row → IsSoundEntryRow original rows index row
   row-from_next sound = record {
@@ -105,7 +106,7 @@ sound-more original rows count row at sound before index other below there =
     ]
 
 pub sound-all : (original : List ℕ) (rows : List NamedCorr) → AreSoundTo original rows (length rows) → AreSoundRows original rows
-sound-all original rows to index row at = to index row (slice_get-below rows index row at) at
+sound-all original rows to index row at = to index row (slice_get_within rows index row at) at
 
 pub unsound-at : (original : List ℕ) (rows : List NamedCorr) (index : ℕ) (row : NamedCorr) → slice_get rows index ≡ Some row → ¬ IsSoundNext original (take index rows) row → ¬ AreSoundRows original rows
 unsound-at original rows index row at unsound each = unsound (next-from_row original rows index row at (each index row at))

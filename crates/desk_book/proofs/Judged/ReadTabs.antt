@@ -32,7 +32,7 @@ use Rattle.desk_book.specs.Kept.{KeptTables, with_table}
 use Rattle.desk_model.specs.Limits.{most_tables}
 use Rattle.desk_parts.specs.Rows.{StoredTab, Tab}
 use Rattle.desk_model.specs.Shows.{tab_of}
-use Rattle.desk_model.proofs.Lists.Items.{Contains-there}
+use Rattle.desk_model.proofs.Lists.Items.{Contains-there, here-at}
 use Rattle.desk_model.proofs.Lists.Members.{Contains-behind, Contains-cases, Contains-here, Contains-map, Contains-none}
 use Rattle.desk_model.proofs.Lists.Permutations.{IsPermutation-filter, IsPermutation-turn}
 use Rattle.desk_model.proofs.Lists.RowNumbers.{Contains-from_map, pos_le}
@@ -163,10 +163,6 @@ put-moved name table (e ∷ es) none = by (slice_cmp nat_cmp name e.0) refl (put
 
 -- ---- lists
 
-at-end : {X : Type 0} (xs ys : List X) (y : X) → slice_get (xs ++ y ∷ ys) (length xs) ≡ Some y
-at-end [] ys y = refl
-at-end (x ∷ xs) ys y = at-end xs ys y
-
 in-front : {X : Type 0} (xs ys : List X) (i : ℕ) (x : X) → i < length xs → slice_get (xs ++ ys) i ≡ Some x → slice_get xs i ≡ Some x
 in-front [] ys i x less is = absurd (omega (arith, less))
 in-front (y ∷ xs) ys zero x less is = is
@@ -264,7 +260,7 @@ module _ (done rest : List Tab) (row : Tab) (tables : KeptTables) (text : HasTab
       sound : (index : ℕ) (other : Tab) → (index < length done) ⊎ (index ≡ length done) → slice_get sorted index ≡ Some other → IsSoundTabRow sorted index other
       sound index other (inl less) at = read.sound index other less at
       sound index other (inr same) at =
-          let one : row ≡ other = same_Some row other (sym (at-end done rest row) ∙ (ap (slice_get sorted) (sym same) ∙ at)) in
+          let one : row ≡ other = same_Some row other (sym (here-at done rest row) ∙ (ap (slice_get sorted) (sym same) ∙ at)) in
           subst (λ i. IsSoundTabRow sorted i other) (sym same) (subst (IsSoundTabRow sorted (length done)) one (record {
             named = may.named;
             meaning = table.rules;
@@ -302,7 +298,7 @@ tells tabs sorted (Damaged id) moved up (index, row, at, is, bad, before) = (
 pub first-unsound : (done rest : List Tab) (row : Tab) (tables : KeptTables) (fault : RowsFault) → AreRead (done ++ row ∷ rest) done tables
     → TellsUnsoundTab (done ++ row ∷ rest) (length done) row fault → TellsFirstUnsound (done ++ row ∷ rest) fault
 first-unsound done rest row tables NoMemory read told = tt
-first-unsound done rest row tables (Damaged id) read (is, bad) = (length done, row, at-end done rest row, is, bad, read.sound)
+first-unsound done rest row tables (Damaged id) read (is, bad) = (length done, row, here-at done rest row, is, bad, read.sound)
 
 -- stored rows in order
 pub in-order : (rows : List StoredTab) → IsSortedBy (λ x y. less x.row y.row) rows → AreInOrder (rows_of rows)

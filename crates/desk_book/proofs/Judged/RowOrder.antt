@@ -6,12 +6,11 @@ use Rattle.std.specs.Prelude.{slice_get}
 use Rattle.std.proofs.lemmas.Cmp.{int_cmp_total, int_ranked}
 use Rattle.std.proofs.lemmas.Int.{ints}
 use Rattle.std.proofs.lemmas.List.Sorted.{Contains-permutation, IsPermutation-map, IsPermutation-refl, IsPermutation-sym, IsPermutation-trans, length_permutation, ranks_by, sorted_far}
-use Rattle.std.proofs.lemmas.Option.{get_or_from_slice_get}
+use Rattle.std.proofs.lemmas.Option.{get_or_from_slice_get, slice_get_within}
 use Rattle.desk_model.specs.Damage.{history_of, rows_with}
 use Rattle.desk_book.specs.JudgedHistory.{AreSoundRows, CanBeRead}
 use Rattle.desk_model.specs.Print.{corrected}
 use Rattle.desk_parts.specs.Rows.{NamedCorr}
-use Rattle.desk_model.proofs.Books.HistoryLists.{slice_get-below}
 use Rattle.desk_model.proofs.Lists.Members.{Contains-behind, Contains-cases, Contains-here, Contains-map, Contains-none}
 use Rattle.desk_model.proofs.Lists.NumberedRows.{AreOnce, once-keys, once-rest}
 use Rattle.desk_model.proofs.Lists.RowNumbers.{key-number, key-once, numbers, same_number}
@@ -27,7 +26,7 @@ module _ {X : Type 0} (key : X → ℤ) where
   AreRising-sorted xs sorted i j x y le at_i at_j =
       let first : get_or xs i x ≡ x = get_or_from_slice_get xs i x x at_i in
       let second : get_or xs j x ≡ y = get_or_from_slice_get xs j y x at_j in
-      let far = sorted_far (λ a b. is_lt (int_cmp (key a) (key b))) (ranks_by int_cmp_total key) xs sorted i j x le (slice_get-below xs j y at_j) in
+      let far = sorted_far (λ a b. is_lt (int_cmp (key a) (key b))) (ranks_by int_cmp_total key) xs sorted i j x le (slice_get_within xs j y at_j) in
       let apart : is_lt (int_cmp (key y) (key x)) ≡ false = subst (λ (a : X). is_lt (int_cmp (key y) (key a)) ≡ false) first (subst (λ (b : X). is_lt (int_cmp (key b) (key (get_or xs i x))) ≡ false) second far) in
       not_more (key x) (key y) (int_cmp (key y) (key x)) refl apart
 

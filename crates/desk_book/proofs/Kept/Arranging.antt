@@ -13,7 +13,7 @@ use Rattle.std.proofs.lemmas.Map.Views.{list_any-from_Contains}
 use Rattle.std.proofs.lemmas.Option.{none-some, same_Some, slice_get_past, slice_get_within}
 use Rattle.desk_book.specs.Kept.{KeptParagraphs, numbered, arranged, ids, with_kept_change}
 use Rattle.desk_book.specs.declared.paragraphs.Paragraph.{Paragraph as KeptParagraph}
-use Rattle.desk_model.proofs.Lists.Items.{flat_map-agree, map-flat_map, range_with_len-push, slice_get-append_left, slice_get-push, slice_get-set_other, slice_get-set_same, slice_get-there}
+use Rattle.desk_model.proofs.Lists.Items.{flat_map-agree, here-at, map-flat_map, range_with_len-push, slice_get-append_left, slice_get-set_other, slice_get-set_same, slice_get-there}
 
 -- the id is one of 1, 2, .., count
 abbrev pub IsUpTo : ℕ → ℕ → Type 0
@@ -204,7 +204,7 @@ module _ (items : List KeptParagraph) where
         (All-weaker (IsUpTo (length items)) (λ id. numbered items id ≡ numbered (items ++ new ∷ []) id)
         (λ id up. ap (entry_of id) (sym (slice_get-append_left items (new ∷ []) (id - 1) (omega (arith, up.0, up.1)))))
         order (AreUpTo-order (length items) order permutes))))
-        (ap (λ found. entry_of (length items + 1) found ++ []) (ap (slice_get (items ++ new ∷ [])) (add-sub_cancel (length items) 1) ∙ slice_get-push items new)))
+        (ap (λ found. entry_of (length items + 1) found ++ []) (ap (slice_get (items ++ new ∷ [])) (add-sub_cancel (length items) 1) ∙ here-at items [] new)))
 
     pub IsPermutation-pushed : IsPermutation (range_with_len 1 (length items + 1)) (order ++ (length items + 1) ∷ [])
     IsPermutation-pushed =

@@ -2,7 +2,7 @@
 use Rattle.std.proofs.Common.{◌≡◌, ℕ, suc, ◌+◌, ◌-◌, ◌<◌, ◌≤◌, List, [], ◌∷◌, ◌++◌, length, take, Option, Some, None, refl, sym, ap, ◌∙◌, arith}
 use Rattle.std.specs.Prelude.{option_map, slice_get}
 use Rattle.std.proofs.lemmas.List.{length-take-le, take-take}
-use Rattle.std.proofs.lemmas.Option.{slice_get-map}
+use Rattle.std.proofs.lemmas.Option.{slice_get-map, slice_get_within}
 use Rattle.desk_book.specs.declared.history.Correction.{Correction}
 use Rattle.desk_book.specs.declared.history.KeptEntry.{KeptEntry}
 use Rattle.desk_book.specs.declared.history.KeptEntry.TheVariants.{Corrects as KeptCorrects, Undoes as KeptUndoes}
@@ -10,7 +10,8 @@ use Rattle.desk_model.specs.Book.{Replacement, Entry, Undoes}
 use Rattle.desk_book.specs.Histories.{IsNewestInForce, entries_kept, entry_kept, replacement_kept}
 use Rattle.desk_model.specs.Print.{newest, stack}
 use Rattle.desk_model.specs.Sound.{AreSoundEntries}
-use Rattle.desk_model.proofs.Books.HistoryLists.{AreSoundEntries-take, IsLast-parts, newest-parts, newest-push, slice_get-below, stack-before, stack-corrected, stack-undone, take-more}
+use Rattle.desk_model.proofs.Books.HistoryLists.{AreSoundEntries-take, IsLast-parts, newest-parts, newest-push, stack-before, stack-corrected, stack-undone}
+use Rattle.desk_model.proofs.Lists.Items.{take-more}
 
 module _ (entries : List KeptEntry) (original : List ℕ) (sound : AreSoundEntries original (entries_kept entries)) where
   abbrev h : List Entry
@@ -21,13 +22,13 @@ module _ (entries : List KeptEntry) (original : List ℕ) (sound : AreSoundEntri
 
   front-kept : (count : ℕ) (e : KeptEntry) → 0 < count → slice_get entries (count - 1) ≡ Some e → take count h ≡ take (count - 1) h ++ entry_kept e ∷ []
   front-kept count e some at =
-      let next : suc (count - 1) ≡ count = omega arith in
+      let next : count - 1 + 1 ≡ count = omega arith in
       ap (λ (k : ℕ). take k h) (sym next) ∙ take-more h (count - 1) (entry_kept e) (at-kept (count - 1) e at)
 
   pub IsNewestInForce-found : (count : ℕ) (c : Correction) → 0 < count → slice_get entries (count - 1) ≡ Some (KeptCorrects c) → stack (take count h) ≡ stack h → IsNewestInForce entries count c
   IsNewestInForce-found count c some at same =
       let front = take (count - 1) h in
-      let within = slice_get-below h (count - 1) (entry_kept (KeptCorrects c)) (at-kept (count - 1) (KeptCorrects c) at) in
+      let within = slice_get_within h (count - 1) (entry_kept (KeptCorrects c)) (at-kept (count - 1) (KeptCorrects c) at) in
       let long : length front ≡ count - 1 = length-take-le (count - 1) h (omega arith) in
       let number : length front + 1 ≡ count = omega arith in
       let top : stack (take count h) ≡ stack front ++ (length front + 1, replacement_kept c) ∷ [] =
@@ -53,7 +54,7 @@ module _ (entries : List KeptEntry) (original : List ℕ) (sound : AreSoundEntri
           let before = take (count - 1) h in
           let parts = newest-parts before n q e in
           let last = IsLast-parts before 1 before parts.0 n q parts.1 in
-          let within = slice_get-below h (count - 1) (entry_kept (KeptUndoes m)) (at-kept (count - 1) (KeptUndoes m) at) in
+          let within = slice_get_within h (count - 1) (entry_kept (KeptUndoes m)) (at-kept (count - 1) (KeptUndoes m) at) in
           let long : length before ≡ count - 1 = length-take-le (count - 1) h (omega arith) in
           let from = last.from in
           let to = last.to in

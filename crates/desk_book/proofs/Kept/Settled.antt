@@ -16,6 +16,7 @@ use Rattle.std.proofs.lemmas.Cmp.{nat_list_cmp_total}
 use Rattle.std.proofs.lemmas.List.{length-append, length-map, map-append, take-append-le}
 use Rattle.std.proofs.lemmas.List.Elements.{All-nil, All-cons, All-append, All-push, All-weaker, All-contains, All-map, All-contains_itself}
 use Rattle.std.proofs.lemmas.List.Sorted.{Contains-permutation, IsPermutation-sym, IsPermutation-trans, IsPermutation-to_front, length_permutation}
+use Rattle.std.proofs.lemmas.Option.{slice_get_within}
 use Rattle.louis_table.specs.Meaning.{Meaning}
 use Rattle.louis_table.specs.Table.{Means}
 use Rattle.louis_table.proofs.OneMeaning.{one_meaning}
@@ -40,8 +41,7 @@ use Rattle.desk_book.specs.KeptPrints.{HasRoomFor, HasRoomForMark, with_mark, wi
 use Rattle.desk_model.specs.Limits.{most_entries, most_marks, most_paragraphs}
 use Rattle.desk_model.specs.Marks.{mark_moved_by}
 use Rattle.desk_book.specs.Room.{Suffices}
-use Rattle.desk_model.proofs.Lists.Items.{All-from_map, lookup-map, slice_get-append_left, slice_get-push}
-use Rattle.desk_model.proofs.Books.HistoryLists.{slice_get-below}
+use Rattle.desk_model.proofs.Lists.Items.{All-from_map, here-at, lookup-map, slice_get-append_left}
 use Rattle.desk_book.proofs.Kept.MarkIndexes.{count-indexes, few-on, indexes-moved, indexes-none, indexes-push_on, indexes-push_other}
 use Rattle.desk_book.proofs.Kept.MarkSettled.{AreWithin-sound, marks-elsewhere, marks-moved, marks-push}
 use Rattle.desk_model.specs.ParagraphMarks.{marks_on}
@@ -158,7 +158,7 @@ in_order-permutation qs ps apart moved =
 -- what corrections took away, one entry more
 pub HaveTaken-push : (original : List ℕ) (entries : List KeptEntry) (entry : KeptEntry) → HaveTaken original entries → TookFrom (corrected original (entries_kept entries)) entry → HaveTaken original (entries ++ entry ∷ [])
 HaveTaken-push original entries entry taken last i e at =
-    let within = slice_get-below (entries ++ entry ∷ []) i e at in
+    let within = slice_get_within (entries ++ entry ∷ []) i e at in
     let long = length-append entries (entry ∷ []) in
     elim (cases_lt i (length entries)) [
       | inl before ↦
@@ -166,7 +166,7 @@ HaveTaken-push original entries entry taken last i e at =
           (taken i e (sym (slice_get-append_left entries (entry ∷ []) i before) ∙ at))
       | inr past ↦
           let here : i ≡ length entries = omega arith in
-          let both : Some entry ≡ Some e = sym (slice_get-push entries entry) ∙ (ap (slice_get (entries ++ entry ∷ [])) (sym here) ∙ at) in
+          let both : Some entry ≡ Some e = sym (here-at entries [] entry) ∙ (ap (slice_get (entries ++ entry ∷ [])) (sym here) ∙ at) in
           let same : entry ≡ e = cc in
           let whole : take i (entries ++ entry ∷ []) ≡ entries = ap (λ (k : ℕ). take k (entries ++ entry ∷ [])) here ∙ take-append_seam entries (entry ∷ []) in
           subst (λ (t : List KeptEntry). TookFrom (corrected original (entries_kept t)) e) (sym whole) (subst (TookFrom (corrected original (entries_kept entries))) same last)

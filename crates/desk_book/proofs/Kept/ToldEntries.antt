@@ -2,12 +2,11 @@
 use Rattle.std.proofs.Common.{◌≡◌, ℕ, zero, suc, ◌+◌, ◌<◌, List, [], ◌∷◌, length, Some, None, refl, ap, ◌∙◌, arith}
 use Rattle.std.specs.List.{enumerate_from}
 use Rattle.std.specs.Prelude.{option_map, slice_get}
-use Rattle.std.proofs.lemmas.Option.{slice_get-map}
+use Rattle.std.proofs.lemmas.Option.{slice_get-map, slice_get_within}
 use Rattle.desk_book.specs.declared.history.KeptEntry.{KeptEntry}
 use Rattle.desk_model.specs.Book.{Entry}
 use Rattle.desk_book.specs.Histories.{entries_kept, entry_kept}
 use Rattle.desk_book.specs.ItemsLeft.{entries_from}
-use Rattle.desk_model.proofs.Books.HistoryLists.{slice_get-below}
 use Rattle.desk_model.proofs.Lists.Items.{drop-there, drop-past}
 
 pub slice_get-enumerate : {X : Type 0} (n : ℕ) (xs : List X) (i : ℕ) → slice_get (enumerate_from n xs) i ≡ option_map (λ x. (n + i, x)) (slice_get xs i)
@@ -22,7 +21,7 @@ entries-there entries i e at =
     slice_get-enumerate 1 (entries_kept entries) i
     ∙ (ap (option_map (λ (x : Entry). (1 + i, x))) (slice_get-map entry_kept entries i ∙ ap (option_map entry_kept) at)
     ∙ ap (λ (k : ℕ). Some (k, entry_kept e)) (let same : 1 + i ≡ i + 1 = omega arith in same)) in
-    ((drop-there all i (i + 1, entry_kept e) here).0, slice_get-below entries i e at)
+    ((drop-there all i (i + 1, entry_kept e) here).0, slice_get_within entries i e at)
 
 pub entries-past : (entries : List KeptEntry) (i : ℕ) → slice_get entries i ≡ None → entries_from i entries ≡ []
 entries-past entries i at =

@@ -18,6 +18,7 @@ use Rattle.desk_model.specs.Sound.{IsSound}
 use Rattle.desk_model.proofs.Books.ParagraphLists.{Contains-found}
 use Rattle.desk_model.proofs.Commands.Turns.{same_some}
 use Rattle.desk_model.proofs.Books.SoundBooks.{paragraph_of-own, paragraph_of-within}
+use Rattle.desk_model.proofs.Lists.Items.{push-cases}
 
 -- ---- each in the order of the book
 
@@ -87,24 +88,14 @@ Renews-missing book meaning name id cells none p e = absurd (cc)
 abbrev pub RenewsEach : Book → Meaning → List ℕ → List (Option (List ℕ)) → Type 0
 RenewsEach book meaning name cells = (k : ℕ) (item : Option (List ℕ)) → slice_get cells k ≡ Some item → Renews book meaning name (k + 1) item
 
-slice_get-push : {X : Type 0} (xs : List X) (x y : X) (k : ℕ) → slice_get (xs ++ x ∷ []) k ≡ Some y → (slice_get xs k ≡ Some y) ⊎ ((k ≡ length xs) × (x ≡ y))
-slice_get-push [] x y zero e = inr (refl, cc)
-slice_get-push [] x y (suc k) e = absurd (cc)
-slice_get-push (z ∷ xs) x y zero e = inl e
-slice_get-push (z ∷ xs) x y (suc k) e =
-    elim (slice_get-push xs x y k e) [
-      | inl h ↦ inl h
-      | inr h ↦ inr (omega (arith, h.0), h.1)
-    ]
-
 module _ (book : Book) (meaning : Meaning) (name : List ℕ) where
   pub RenewsEach-none : RenewsEach book meaning name []
   RenewsEach-none k item e = absurd (cc)
 
   pub RenewsEach-push : (cells : List (Option (List ℕ))) (new : Option (List ℕ)) (n : ℕ) → n ≡ length cells → RenewsEach book meaning name cells → Renews book meaning name (n + 1) new → RenewsEach book meaning name (cells ++ new ∷ [])
   RenewsEach-push cells new n many each here k item e =
-      elim (slice_get-push cells new item k e) [
-        | inl h ↦ each k item h
+      elim (push-cases cells new k item e) [
+        | inl h ↦ each k item h.1
         | inr h ↦
             let same : n + 1 ≡ k + 1 = omega (arith, h.0) in
             subst (λ (i : ℕ). Renews book meaning name i item) same (subst (Renews book meaning name (n + 1)) h.1 here)

@@ -31,7 +31,6 @@ use Rattle.desk_model.specs.Shows.{AreCached, IsCached, Shows, book_row_of, entr
 use Rattle.desk_model.specs.Sound.{IsSound, IsSoundEntry, IsSoundMark, IsSoundParagraph}
 use Rattle.desk_model.specs.Step.{moved_on, next_with_entry}
 use Rattle.desk_command.specs.Characters.{AreCharacters}
-use Rattle.desk_model.proofs.Lists.Items.{slice_get-push}
 use Rattle.desk_model.proofs.Rows.BookRows.{HasCharacters, encoded-text, entry-text, history-characters, spelled-encoded}
 use Rattle.desk_book.proofs.Kept.MarkSettled.{IsWithin-sound}
 use Rattle.desk_model.proofs.Lists.Members.{Contains-behind, Contains-cases, Contains-here, Contains-map, Contains-none}
@@ -43,6 +42,7 @@ use Rattle.desk_book.proofs.RowPuts.PutPlaces.{map-agree}
 use Rattle.desk_book.proofs.RowPuts.PutPrints.{Columns, columns_of, entries-more, entry-spelled, entry-texts, set_span, spanned, spanned-at, spanned-spelled, spanned-texts, spans-put}
 use Rattle.desk_model.proofs.Rows.PutRows.{AreCached-put, All-set_where, IsBraille-same, IsPermutation-set, id_number, number-small, numbers-same, versioned}
 use Rattle.desk_model.proofs.Lists.RowNumbers.{int_eq-pos}
+use Rattle.desk_model.proofs.Lists.Items.{here-at}
 use Rattle.desk_model.proofs.Books.SoundBooks.{IsSoundParagraph-found, paragraph_of-own, paragraph_of-within, paragraphs-apart}
 
 -- ---- marks with their numbers
@@ -110,7 +110,7 @@ module _ (book : Book) (id : ℕ) (change : PrintChange) (sound : IsSound book) 
     sound-entry : IsSoundEntry p.original p.history entry
     sound-entry =
         subst (λ (before : List Entry). IsSoundEntry p.original before entry) (take-append_seam p.history (entry ∷ []))
-        (sound-more.history.entries (length p.history) entry (slice_get-push p.history entry))
+        (sound-more.history.entries (length p.history) entry (here-at p.history [] entry))
 
     short : length (corrected p.original p.history) ≤ 4000
     short =

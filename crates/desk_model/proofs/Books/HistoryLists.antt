@@ -9,10 +9,11 @@ use Rattle.std.proofs.lemmas.List.Concat.{flat_map-append}
 use Rattle.std.proofs.lemmas.List.Elements.{All-cons, All-head, All-nil, All-tail, filter-append}
 use Rattle.std.proofs.lemmas.List.Folds.{list_any-append}
 use Rattle.std.proofs.lemmas.List.Sums.{fold-append}
+use Rattle.std.proofs.lemmas.Option.{slice_get_within}
 use Rattle.desk_model.specs.Book.{Replacement, Entry, Corrects, Undoes}
 use Rattle.desk_model.specs.Print.{corrected, in_force, newest, replaced, stack, undoes}
 use Rattle.desk_model.specs.Sound.{AreSoundEntries, IsSoundEntry}
-use Rattle.desk_model.proofs.Lists.Items.{flat_map-agree, slice_get-push}
+use Rattle.desk_model.proofs.Lists.Items.{flat_map-agree, here-at}
 
 -- ---- lists
 
@@ -63,17 +64,6 @@ module _ {X : Type 0} where
   pub list_any-none : (p : X → Bool) (xs : List X) → ((i : ℕ) (x : X) → slice_get xs i ≡ Some x → p x ≡ false) → list_any p xs ≡ false
   list_any-none p [] none = refl
   list_any-none p (x ∷ xs) none = rw (none 0 x refl) (list_any-none p xs (λ i y at. none (suc i) y at))
-
-  -- the front of a list, one item longer
-  pub take-more : (xs : List X) (i : ℕ) (x : X) → slice_get xs i ≡ Some x → take (suc i) xs ≡ take i xs ++ x ∷ []
-  take-more [] i x e = absurd (cc)
-  take-more (y ∷ xs) zero x e = let same : y ≡ x = cc in ap (λ (z : X). z ∷ []) same
-  take-more (y ∷ xs) (suc i) x e = ap (λ (t : List X). y ∷ t) (take-more xs i x e)
-
-  pub slice_get-below : (xs : List X) (i : ℕ) (x : X) → slice_get xs i ≡ Some x → i < length xs
-  slice_get-below [] i x e = absurd (cc)
-  slice_get-below (y ∷ xs) zero x e = omega arith
-  slice_get-below (y ∷ xs) (suc i) x e = let rest = slice_get-below xs i x e in omega arith
 
   pub slice_get-take : (xs : List X) (n i : ℕ) (x : X) → slice_get (take n xs) i ≡ Some x → (slice_get xs i ≡ Some x) × (i < n)
   slice_get-take [] zero i x e = absurd (cc)
@@ -255,7 +245,7 @@ module _ (original : List ℕ) where
       above i (Corrects q other) e = refl
       above i (Undoes u) e =
           let before = undone-before h 0 sound i u e in
-          let within = slice_get-below h i (Undoes u) e in
+          let within = slice_get_within h i (Undoes u) e in
           ne_eqb u (length h + 1) (λ same. let le = before.0 in omega arith)
 
   -- the stack before a correction is what is below it on the stack
@@ -289,7 +279,7 @@ module _ (original : List ℕ) where
           its = subst (AreSoundEntries original) front_is (AreSoundEntries-take h (length front) sound)
 
           last : slice_get h (length front) ≡ Some (Undoes u)
-          last = ap (λ (t : List Entry). slice_get t (length front)) is ∙ slice_get-push front (Undoes u)
+          last = ap (λ (t : List Entry). slice_get t (length front)) is ∙ here-at front [] (Undoes u)
 
           names : option_map (λ correction. correction.0) (newest front) ≡ Some u
           names = subst (λ (t : List Entry). option_map (λ correction. correction.0) (newest t) ≡ Some u) front_is (sound (length front) (Undoes u) last)

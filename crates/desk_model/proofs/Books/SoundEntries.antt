@@ -8,6 +8,7 @@ use Rattle.std.proofs.lemmas.Bool.{cases_Bool, cond_both, cases_lt, eqb-true, eq
 use Rattle.std.proofs.lemmas.Bool.Decides.{nat_tests}
 use Rattle.std.proofs.lemmas.List.{length-append, length-map, length-take, length-drop, take-append-le}
 use Rattle.std.proofs.lemmas.List.Elements.{All-map, All-weaker}
+use Rattle.std.proofs.lemmas.Option.{slice_get_within}
 use Rattle.louis_translate.specs.Position.{AreDefined}
 use Rattle.desk_model.specs.Book.{Book, Entry, Mark, Paragraph, Replacement, paragraph_of}
 use Rattle.desk_model.specs.Stored.{IsClean}
@@ -16,8 +17,7 @@ use Rattle.desk_model.specs.Marks.{mark_moved_by}
 use Rattle.desk_model.specs.Print.{corrected, print_of, replaced, with_entry}
 use Rattle.desk_model.specs.Sound.{AreSoundEntries, IsSoundEntry, IsSoundHistory, IsSoundParagraph, IsSoundMark, IsSound}
 use Rattle.desk_model.specs.Step.{moved_on, next_with_entry, next_with_marks, resolved_by, with_change, with_marks_moved, with_resolved}
-use Rattle.desk_model.proofs.Lists.Items.{slice_get-append_left, slice_get-push}
-use Rattle.desk_model.proofs.Books.HistoryLists.{slice_get-below}
+use Rattle.desk_model.proofs.Lists.Items.{here-at, slice_get-append_left}
 use Rattle.desk_model.proofs.Books.ParagraphLists.{ids_of, found, changed, found-changed, found-unchanged, ids-with_change, All-with_change}
 use Rattle.desk_model.proofs.Books.SoundBooks.{paragraph_of-own}
 
@@ -29,7 +29,7 @@ module _ (original : List ℕ) (h : List Entry) (entry : Entry) where
 
   pub AreSoundEntries-push : AreSoundEntries original h → IsSoundEntry original h entry → AreSoundEntries original (h ++ entry ∷ [])
   AreSoundEntries-push sound last i e at =
-      let within = slice_get-below (h ++ entry ∷ []) i e at in
+      let within = slice_get_within (h ++ entry ∷ []) i e at in
       let long = length-append h (entry ∷ []) in
       elim (cases_lt i (length h)) [
         | inl before ↦
@@ -37,7 +37,7 @@ module _ (original : List ℕ) (h : List Entry) (entry : Entry) where
             (sound i e (sym (slice_get-append_left h (entry ∷ []) i before) ∙ at))
         | inr past ↦
             let here : i ≡ length h = omega arith in
-            let both : Some entry ≡ Some e = sym (slice_get-push h entry) ∙ (ap (slice_get (h ++ entry ∷ [])) (sym here) ∙ at) in
+            let both : Some entry ≡ Some e = sym (here-at h [] entry) ∙ (ap (slice_get (h ++ entry ∷ [])) (sym here) ∙ at) in
             let same : entry ≡ e = cc in
             let whole : take i (h ++ entry ∷ []) ≡ h = ap (λ (k : ℕ). take k (h ++ entry ∷ [])) here ∙ take-append_seam h (entry ∷ []) in
             subst (λ (t : List Entry). IsSoundEntry original t e) (sym whole) (subst (IsSoundEntry original h) same last)

@@ -1,6 +1,6 @@
 -- Lists by the places of their items.
 -- two functions that agree at each element give one list
-use Rattle.std.proofs.Common.{◌≡◌, ◌≢◌, ℕ, zero, suc, ◌+◌, ◌<◌, Bool, List, [], ◌∷◌, ◌++◌, map, length, set, slice_get, Option, Some, None, Bor, option_map, All, flat_map, refl, sym, ap, ◌∙◌, subst, inl, inr, arith, map-id, drop, Contains, ◌⊎◌}
+use Rattle.std.proofs.Common.{◌≡◌, ◌≢◌, ℕ, zero, suc, ◌+◌, ◌-◌, ◌<◌, Bool, List, [], ◌∷◌, ◌++◌, map, length, set, slice_get, Option, Some, None, Bor, option_map, All, flat_map, refl, sym, ap, ◌∙◌, subst, inl, inr, arith, map-id, drop, take, Contains, ◌⊎◌}
 use Rattle.std.specs.Map.{lookup}
 use Rattle.std.specs.List.{range_with_len}
 use Rattle.std.specs.Option.{option_copied}
@@ -27,11 +27,6 @@ pub slice_get-append_left : {X : Type 0} (xs ys : List X) (i : ℕ) → i < leng
 slice_get-append_left [] ys i within = absurd (omega arith)
 slice_get-append_left (x ∷ xs) ys zero within = refl
 slice_get-append_left (x ∷ xs) ys (suc i) within = slice_get-append_left xs ys i (omega arith)
-
--- the item after all others
-pub slice_get-push : {X : Type 0} (xs : List X) (y : X) → slice_get (xs ++ y ∷ []) (length xs) ≡ Some y
-slice_get-push [] y = refl
-slice_get-push (x ∷ xs) y = slice_get-push xs y
 
 pub slice_get-set_same : {X : Type 0} (xs : List X) (i : ℕ) (y : X) → i < length xs → slice_get (set xs i y) i ≡ Some y
 slice_get-set_same [] i y within = absurd (omega arith)
@@ -125,3 +120,18 @@ set-cases (y ∷ xs) (suc j) (suc i) new x at =
 pub here-at : {X : Type 0} (xs ys : List X) (x : X) → slice_get (xs ++ x ∷ ys) (length xs) ≡ Some x
 here-at [] ys x = refl
 here-at (z ∷ xs) ys x = here-at xs ys x
+
+-- the front of a list, one item longer
+pub take-more : {X : Type 0} (xs : List X) (i : ℕ) (x : X) → slice_get xs i ≡ Some x → take (i + 1) xs ≡ take i xs ++ x ∷ []
+take-more {X} xs i x at = ap (λ (n : ℕ). take n xs) (let next : i + 1 ≡ suc i = omega arith in next) ∙ step xs i at
+  where
+    step : (xs : List X) (i : ℕ) → slice_get xs i ≡ Some x → take (suc i) xs ≡ take i xs ++ x ∷ []
+    step [] i at = absurd (cc)
+    step (y ∷ xs) zero at = let same : y ≡ x = cc in ap (λ z. z ∷ []) same
+    step (y ∷ xs) (suc i) at = ap (λ rest. y ∷ rest) (step xs i at)
+
+-- another item at one place, of which a function makes the same
+pub map-set_same : {X Y : Type 0} (f : X → Y) (xs : List X) (i : ℕ) (was new : X) → slice_get xs i ≡ Some was → f new ≡ f was → map f (set xs i new) ≡ map f xs
+map-set_same f [] i was new at same = refl
+map-set_same f (x ∷ xs) zero was new at same = let first : x ≡ was = cc in λ k. (same ∙ ap f (sym first)) k ∷ map f xs
+map-set_same f (x ∷ xs) (suc i) was new at same = ap (λ rest. f x ∷ rest) (map-set_same f xs i was new at same)

@@ -6,10 +6,9 @@ use Rattle.std.proofs.lemmas.Iterator.Adapters.{YieldsList-from_vec}
 use Rattle.std.proofs.lemmas.Iterator.Consumers.{YieldsList-end, YieldsList-from_enumerate, YieldsList-turn}
 use Rattle.std.proofs.lemmas.List.{length-map, length_push}
 use Rattle.std.proofs.lemmas.List.FromFn.{length-enumerate_from}
-use Rattle.std.proofs.lemmas.Option.{slice_get-map, slice_get_read}
+use Rattle.std.proofs.lemmas.Option.{slice_get-map, slice_get_read, slice_get_within}
 use Rattle.std.proofs.lemmas.Result.{err_from_is_err_and}
 use Rattle.desk_book.specs.declared.damage.RowsFault.TheVariants.{Damaged}
-use Rattle.desk_model.proofs.Books.HistoryLists.{slice_get-below}
 use Rattle.desk_book.proofs.Judged.ReadGroups.{HaveReadTo, as-long, at-enumerate, read-all, read-more, unread-at}
 use Rattle.desk_book.proofs.judged_entries.read_histories.Goals as goal
 
@@ -25,7 +24,7 @@ loop-index-preserved c =
     let turn = YieldsList-turn road c.loop-index.yielded c.loop-index.index-iterator c.loop-index.yielded_by c.next.result c.next.new.self (c.in-Some.index, c.in-Some.rows) c.in-Some.is c.next.ensures.steps in
     let found = at-enumerate groups n c.in-Some.index c.in-Some.rows turn.0 turn.1 in
     let is = c.loop-index.invariant in
-    let within = slice_get-below groups n c.in-Some.rows found.1 in
+    let within = slice_get_within groups n c.in-Some.rows found.1 in
     let long = as-long lists was now n is in
     let many = length-map groups (λ group. group.items) in
     let bound : c.in-Some.index < length now = (let here = found.0 in let all = c.requires in omega (arith, within, long, all, here)) in
@@ -47,7 +46,7 @@ returns-in_err-read_history-clause-damaged c =
     let turn = YieldsList-turn road c.loop-index.yielded c.loop-index.index-iterator c.loop-index.yielded_by c.next.result c.next.new.self (c.in-Some.index, c.in-Some.rows) c.in-Some.is c.next.ensures.steps in
     let found = at-enumerate groups n c.in-Some.index c.in-Some.rows turn.0 turn.1 in
     let is = c.loop-index.invariant in
-    let within = slice_get-below groups n c.in-Some.rows found.1 in
+    let within = slice_get_within groups n c.in-Some.rows found.1 in
     let long = as-long lists was now n is in
     let bound : c.in-Some.index < length now = (let here = found.0 in let all = c.requires in omega (arith, within, long, all, here)) in
     let at = slice_get_read now (length now) c.in-Some.index c.index_mut.result.now refl bound c.index_mut.ensures.value in

@@ -1,4 +1,4 @@
-use Rattle.std.proofs.Common.{◌≡◌, ℕ, List, ◌+◌, ◌++◌, ◌∷◌, [], length, take, inl, inr, refl, sym, ap, subst, ◌∙◌, arith, rules, suc, w64}
+use Rattle.std.proofs.Common.{◌≡◌, ℕ, List, ◌+◌, ◌++◌, ◌∷◌, [], length, take, inl, inr, refl, sym, ap, subst, ◌∙◌, arith, rules, w64}
 use Rattle.std.specs.Str.{chars}
 use Rattle.std.proofs.lemmas.Int.{to_z-of_z}
 use Rattle.std.proofs.lemmas.Iterator.Adapters.{YieldsList-from_vec}
@@ -10,9 +10,9 @@ use Rattle.std.proofs.lemmas.Str.{chars_from_encodes}
 use Rattle.desk_book.specs.declared.damage.RowsFault.TheVariants.{Damaged}
 use Rattle.desk_book.specs.JudgedHistory.{IsRead, IsSoundNext}
 use Rattle.desk_parts.specs.Rows.{NamedCorr}
-use Rattle.desk_model.proofs.Books.HistoryLists.{take-more}
 use Rattle.desk_book.proofs.Judged.ReadRows.{AreSoundTo, nothing-read, sound-all, sound-more, sound-none, unsound-at}
 use Rattle.desk_book.proofs.judged_history.read_rows.Goals as goal
+use Rattle.desk_model.proofs.Lists.Items.{take-more}
 
 pub read-requires : goal.read-requires
 read-requires c = (chars c.args.original.now, c.loop-row.yielded, c.loop-row.invariant.0)
@@ -31,10 +31,9 @@ loop-row-preserved c =
     let at = slice_get_read rows (length rows) (length c.loop-row.yielded) c.in-Some.row refl turn.0 turn.1 in
     let read = c.in_ok-read.ensures.read original c.loop-row.yielded c.loop-row.invariant.0 in
     let many : length (c.loop-row.yielded ++ c.in-Some.row ∷ []) ≡ length c.loop-row.yielded + 1 = length_push c.loop-row.yielded c.in-Some.row in
-    let next : suc (length c.loop-row.yielded) ≡ length (c.loop-row.yielded ++ c.in-Some.row ∷ []) = omega (arith, many) in
     let so_far = c.loop-row.invariant.1 in (
       read.1,
-      ap (λ (xs : List NamedCorr). xs ++ c.in-Some.row ∷ []) so_far ∙ (sym (take-more rows (length c.loop-row.yielded) c.in-Some.row at) ∙ ap (λ (n : ℕ). take n rows) next),
+      ap (λ (xs : List NamedCorr). xs ++ c.in-Some.row ∷ []) so_far ∙ (sym (take-more rows (length c.loop-row.yielded) c.in-Some.row at) ∙ ap (λ (n : ℕ). take n rows) (sym many)),
       subst (AreSoundTo original rows) (sym many)
           (sound-more original rows (length c.loop-row.yielded) c.in-Some.row at (subst (λ (xs : List NamedCorr). IsSoundNext original xs c.in-Some.row) so_far read.0) c.loop-row.invariant.2),
     )
