@@ -17,23 +17,16 @@ impl Book {
         requires { (next : _) × IsEffect self version (Effect.AddTable name table room) next }
         ensures { (next : _) → IsEffect self version (Effect.AddTable name table room) next → result ≡ next }
     {
-        let Book {
-            version: _,
-            tables,
-            paragraphs,
-            marks,
-        } = self;
         Book {
             version,
-            tables: tables.joined(name, table, room),
-            paragraphs,
-            marks,
+            tables: self.tables.joined(name, table, room),
+            ..self
         }
     }
 
     /// The book at a version, with another text of a table, and other cells of the paragraphs that use it.
     fn with_table_replaced(
-        self,
+        mut self,
         version: u64,
         name: Text,
         table: BoxedTable,
@@ -42,20 +35,9 @@ impl Book {
         requires { (next : _) × IsEffect self version (Effect.ReplaceTable name table cells) next }
         ensures { (next : _) → IsEffect self version (Effect.ReplaceTable name table cells) next → result ≡ next }
     {
-        let Book {
-            version: _,
-            mut tables,
-            mut paragraphs,
-            marks,
-        } = self;
-        tables.replace(name.as_str(), table);
-        paragraphs.renew(cells);
-        Book {
-            version,
-            tables,
-            paragraphs,
-            marks,
-        }
+        self.tables.replace(name.as_str(), table);
+        self.paragraphs.renew(cells);
+        Book { version, ..self }
     }
 
     /// The book at a version, with a new paragraph.
@@ -70,23 +52,16 @@ impl Book {
         requires { (next : _) × IsEffect self version (Effect.AddParagraph paragraph room order_room place) next }
         ensures { (next : _) → IsEffect self version (Effect.AddParagraph paragraph room order_room place) next → result ≡ next }
     {
-        let Book {
-            version: _,
-            tables,
-            paragraphs,
-            marks,
-        } = self;
         Book {
             version,
-            tables,
-            paragraphs: paragraphs.typed(paragraph, room, order_room, place),
-            marks,
+            paragraphs: self.paragraphs.typed(paragraph, room, order_room, place),
+            ..self
         }
     }
 
     /// The book at a version, with a style and flags of a paragraph.
     fn with_flags(
-        self,
+        mut self,
         version: u64,
         id: u64,
         style: Style,
@@ -96,39 +71,17 @@ impl Book {
         requires { (next : _) × IsEffect self version (Effect.SetFlags id style begins_volume struck) next }
         ensures { (next : _) → IsEffect self version (Effect.SetFlags id style begins_volume struck) next → result ≡ next }
     {
-        let Book {
-            version: _,
-            tables,
-            mut paragraphs,
-            marks,
-        } = self;
-        paragraphs.set_flags(id, style, begins_volume, struck);
-        Book {
-            version,
-            tables,
-            paragraphs,
-            marks,
-        }
+        self.paragraphs.set_flags(id, style, begins_volume, struck);
+        Book { version, ..self }
     }
 
     /// The book at a version, with another table of a paragraph, and the cells by it.
-    fn with_table_changed(self, version: u64, id: u64, table: Text, cells: Cells) -> Self
+    fn with_table_changed(mut self, version: u64, id: u64, table: Text, cells: Cells) -> Self
         requires { (next : _) × IsEffect self version (Effect.ChangeTable id table cells) next }
         ensures { (next : _) → IsEffect self version (Effect.ChangeTable id table cells) next → result ≡ next }
     {
-        let Book {
-            version: _,
-            tables,
-            mut paragraphs,
-            marks,
-        } = self;
-        paragraphs.set_table(id, table, cells);
-        Book {
-            version,
-            tables,
-            paragraphs,
-            marks,
-        }
+        self.paragraphs.set_table(id, table, cells);
+        Book { version, ..self }
     }
 
     /// The book at a version, with its paragraphs in another order.
@@ -136,45 +89,28 @@ impl Book {
         requires { (next : _) × IsEffect self version (Effect.Reorder order) next }
         ensures { (next : _) → IsEffect self version (Effect.Reorder order) next → result ≡ next }
     {
-        let Book {
-            version: _,
-            tables,
-            paragraphs,
-            marks,
-        } = self;
         Book {
             version,
-            tables,
-            paragraphs: paragraphs.reordered(order),
-            marks,
+            paragraphs: self.paragraphs.reordered(order),
+            ..self
         }
     }
 
     /// The book at a version, with another print of a paragraph and an entry more in its history, and its marks moved.
-    fn with_print_changed(self, version: u64, id: u64, change: PrintChange) -> Self
+    fn with_print_changed(mut self, version: u64, id: u64, change: PrintChange) -> Self
         requires { (next : _) × IsEffect self version (Effect.ChangePrint id change) next }
         ensures { (next : _) → IsEffect self version (Effect.ChangePrint id change) next → result ≡ next }
     {
-        let Book {
-            version: _,
-            tables,
-            mut paragraphs,
-            mut marks,
-        } = self;
-        let indexes = paragraphs.marks_of(id);
-        marks.give_way(indexes, change.start, change.removed, change.added);
-        paragraphs.change_print(id, change);
-        Book {
-            version,
-            tables,
-            paragraphs,
-            marks,
-        }
+        let indexes = self.paragraphs.marks_of(id);
+        self.marks
+            .give_way(indexes, change.start, change.removed, change.added);
+        self.paragraphs.change_print(id, change);
+        Book { version, ..self }
     }
 
     /// The book at a version, with a new mark.
     fn with_new_mark(
-        self,
+        mut self,
         version: u64,
         mark: KeptMark,
         room: Room<KeptMark>,
@@ -184,40 +120,19 @@ impl Book {
         ensures { (next : _) → IsEffect self version (Effect.AddMark mark room index_room) next
             → result ≡ next }
     {
-        let Book {
-            version: _,
-            tables,
-            mut paragraphs,
-            mut marks,
-        } = self;
-        paragraphs.add_mark(mark.paragraph, index_room, marks.len());
-        marks.push(room, mark);
-        Book {
-            version,
-            tables,
-            paragraphs,
-            marks,
-        }
+        self.paragraphs
+            .add_mark(mark.paragraph, index_room, self.marks.len());
+        self.marks.push(room, mark);
+        Book { version, ..self }
     }
 
     /// The book at a version, with a mark resolved.
-    fn with_mark_resolved(self, version: u64, id: u64) -> Self
+    fn with_mark_resolved(mut self, version: u64, id: u64) -> Self
         requires { (next : _) × IsEffect self version (Effect.ResolveMark id) next }
         ensures { (next : _) → IsEffect self version (Effect.ResolveMark id) next → result ≡ next }
     {
-        let Book {
-            version: _,
-            tables,
-            paragraphs,
-            mut marks,
-        } = self;
-        marks.resolve(id);
-        Book {
-            version,
-            tables,
-            paragraphs,
-            marks,
-        }
+        self.marks.resolve(id);
+        Book { version, ..self }
     }
 
     /// The book with a change that was planned on it. It allocates nothing.
