@@ -1,7 +1,7 @@
 #!/bin/bash
 # Proves the crates of crates.txt side by side, each once those that it stands on are proved, and builds the program. A crate that begins
-# has its part of the processors, or all of them where none is proved beside it. Where a crate isn't proved, the others are stopped, and
-# what `rt` wrote of it is shown.
+# has all processors, or one fewer for each two that are proved beside it: these end sooner or later, and the longest has the processors
+# then. If a crate isn't proved, the others are stopped, and what `rt` wrote of it is shown.
 #   scripts/prove.sh     JOBS (1): how many crates at a time; RT (rt): the toolchain's command
 # Only one `rt` at a time works in the folder of a crate and in those of the crates below it. So each crate is proved in a room of its
 # own under build/: copies of its texts and of those below it, and links to the libraries that were built of these. The folder out/,
@@ -98,8 +98,7 @@ while [ $((${#waiting[@]} + ${#running[@]})) -gt 0 ]; do
             unset "waiting[$i]"
             count=$((count + 1))
             echo "[$count of ${#crates[@]}] $crate" >&2
-            beside=${#running[@]}
-            prove "$crate" $(((jobs + beside) / (beside + 1))) > "$rooms/$crate.log" 2>&1 < /dev/null &
+            prove "$crate" $((jobs - ${#running[@]} / 2)) > "$rooms/$crate.log" 2>&1 < /dev/null &
             running[$!]=$crate
         fi
     done
