@@ -1,4 +1,4 @@
--- Rows of marks, judged beside the paragraphs that are kept.
+-- Rows of marks, checked against the paragraphs that are kept.
 use Rattle.std.specs.Prelude.{◌≡◌, ℕ, ℤ, pos, ◌+◌, ◌<◌, ◌≤◌, ◌≤ℤ◌, List, length, slice_get, Some}
 use Rattle.std.specs.Str.{chars}
 use Rattle.desk_book.specs.declared.marks.KeptMark.{KeptMark}

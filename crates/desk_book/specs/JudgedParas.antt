@@ -1,4 +1,4 @@
--- Rows of paragraphs, judged beside the tables that are kept.
+-- Rows of paragraphs, checked against the tables that are kept.
 use Rattle.std.specs.Prelude.{◌≡◌, ◌≢◌, ℕ, suc, ℤ, pos, ◌+◌, ◌<◌, List, [], length, nat_eq, slice_get, Some}
 use Rattle.std.specs.Cmp.Lexicographic.{pointwise}
 use Rattle.std.specs.Map.{lookup}

@@ -53,7 +53,7 @@ fn look_at_entries(rows: &[NamedCorrRow])
     }
 }
 
-/// The entries of the first format as those of proofreaders without a name.
+/// The entries of format 1 as those of proofreaders without a name.
 fn with_no_names(alloc: Global, rows: Vec<CorrRow>) -> Result<Vec<NamedCorrRow>, AllocError>
     ensures { IfOk result (λ named. named.items ≡ map unnamed rows.items) }
 {

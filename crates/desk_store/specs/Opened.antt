@@ -186,7 +186,7 @@ abbrev pub HoldsEither : Layout → Book → Trees → Type 0
 HoldsEither l = HoldsEitherWith (lacked l) l
 
 -- The rows of the file showed the book, it stands there in a file with the tables of a new one, and a crash leaves it so, also if it left
--- it in either form before.
+-- it in either these tables or without.
 pub record IsOpened (l : Layout) (c : Contents) (book : Book) (old new : State) : Type 0 where
   pub rows : RowsShow (rows_of l c) book
   pub tables : HasNewTables (completed l)

@@ -2,7 +2,7 @@
 use Rattle.std.proofs.Common.{◌≡◌, ℕ, List, Option, Some, None, sym, subst, inl, inr}
 use Rattle.std.specs.Prelude.{IfSome, replicate, slice_set}
 use Rattle.louis_table.specs.Meaning.{Meaning}
-use Rattle.louis_translate.specs.LoneCell.{AreLoneCells, IsLoneCell}
+use Rattle.louis_translate.specs.Piece.{AreLoneCells, IsLoneCell}
 use Rattle.louis_translate.proofs.CodeLists.{get_replicate, get_set}
 
 abbrev nothing : Option ℕ

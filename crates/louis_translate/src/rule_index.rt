@@ -29,7 +29,7 @@ pub struct RuleIndex {
 impl Model for RuleIndex {
     ghost use Rattle.louis_table.specs.Meaning.{Meaning};
     ghost use Rattle.louis_translate.specs.Known.{AreKnown};
-    ghost use Rattle.louis_translate.specs.LoneCell.{AreLoneCells};
+    ghost use Rattle.louis_translate.specs.Piece.{AreLoneCells};
     ghost use Rattle.louis_translate.specs.Search.{IsWhole};
     ghost use Rattle.louis_translate.specs.Start.{AreAll, AreStarts};
 

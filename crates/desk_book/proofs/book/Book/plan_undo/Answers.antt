@@ -2,38 +2,10 @@ use Rattle.std.proofs.Common.{◌≡◌, ℕ, ◌+◌, ◌≤◌, List, length, 
 use Rattle.std.proofs.lemmas.Result.{err_from_is_err_and}
 use Rattle.desk_book.specs.Corrected.{HaltsEntry, TakesEntry, replaced_by}
 use Rattle.desk_book.specs.Histories.{IsNewestInForce, entries_kept}
-use Rattle.desk_model.specs.Book.{Undoes}
-use Rattle.desk_model.specs.Print.{print_of, with_entry}
 use Rattle.desk_model.specs.Sound.{AreSoundEntries}
 use Rattle.desk_book.proofs.Kept.KeptLookups.{IfErr-weaker, IfOk-weaker}
 use Rattle.desk_book.proofs.Planned.UndoPlanning.{back, counted, halted_here, no_memory_here, planned_here, sound_kept, span_here, undefined_here}
 use Rattle.desk_book.proofs.book.Book.plan_undo.Goals as goal
-use Rattle.desk_book.proofs.book.Book.plan_undo.Goals.{After-as_slice-old, After-count_of-count, In_ok-replaced, In-Some}
-
--- ---- what is known of the correction that is taken back, of how much gives way and of the print then
-
-force_is : (c : In-Some) → IsNewestInForce c.in_ok-paragraph.paragraph.now.history c.in-Some.number c.in-Some.correction.now
-force_is c = subst (λ h. IsNewestInForce h c.in-Some.number c.in-Some.correction.now) c.as_slice.ensures c.in-Some.ensures.found
-
-count_is : (c : After-count_of-count) → c.count_of-count.result ≡ length c.in-Some.correction.now.text
-count_is c = c.count_of-count.ensures ∙ ap length c.as_str.ensures
-
--- so many characters the print has then
-many_is : (c : After-as_slice-old) → IsNewestInForce c.in_ok-paragraph.paragraph.now.history c.in-Some.number c.in-Some.correction.now
-    → c.count_of-count.result ≡ length c.in-Some.correction.now.text
-    → (length c.as_slice-old.result.now - c.count_of-count.result) + length c.as_slice-taken.result.now ≡ length (print_of (with_entry (Undoes c.in-Some.number) c.in_ok-paragraph.ensures.found.0.paragraph))
-many_is c force count =
-    counted c.args.self.now c.args.id _ _ c.in_ok-paragraph.ensures.found.0 c.in_ok-paragraph.ensures.found.1 c.in-Some.number c.in-Some.correction.now force _ _ _
-    (ap length c.as_slice-old.ensures) count (ap length c.as_slice-taken.ensures)
-
-printed_is : (c : In_ok-replaced) → IsNewestInForce c.in_ok-paragraph.paragraph.now.history c.in-Some.number c.in-Some.correction.now
-    → c.count_of-count.result ≡ length c.in-Some.correction.now.text
-    → c.in_ok-replaced.field-0.items ≡ print_of (with_entry (Undoes c.in-Some.number) c.in_ok-paragraph.ensures.found.0.paragraph)
-printed_is c force count =
-    let found = c.in_ok-paragraph.ensures.found in
-    let correction = c.in-Some.correction.now in
-    c.in_ok-replaced.ensures ∙ ((λ i. replaced_by correction.start (count i) (c.as_slice-taken.ensures i) ((c.as_slice-old.ensures ∙ found.0.print) i))
-    ∙ back c.args.self.now c.args.id _ _ found.0 found.1 c.in-Some.number correction force)
 
 pub newest-requires : goal.newest-requires
 newest-requires c =
@@ -42,8 +14,8 @@ newest-requires c =
 
 pub overflow_sub-old : goal.overflow_sub-old
 overflow_sub-old c =
-    let at = goal.at.overflow_sub-old c in
     let found = c.in_ok-paragraph.ensures.found in
+    let force = subst (λ h. IsNewestInForce h c.in-Some.number c.in-Some.correction.now) c.as_slice.ensures c.in-Some.ensures.found in
     let old = ap length c.as_slice-old.ensures in
     let count : c.count-count.result ≡ length c.in-Some.correction.now.text = c.count-count.ensures in
     let span = span_here c.args.self.now c.args.id _ _ found.0 found.1 c.in-Some.number c.in-Some.correction.now force in
@@ -58,7 +30,6 @@ undone-requires c =
 
 pub returns-clause-planned : goal.returns-clause-planned
 returns-clause-planned c =
-    let at = goal.at.returns-clause-planned c in
     let found = c.in_ok-paragraph.ensures.found in
     let correction = c.in-Some.correction.now in
     let force = subst (λ h. IsNewestInForce h c.in-Some.number correction) c.as_slice.ensures c.in-Some.ensures.found in
@@ -68,7 +39,6 @@ returns-clause-planned c =
 
 pub returns-in_err-check_entry-clause-refused : goal.returns-in_err-check_entry-clause-refused
 returns-in_err-check_entry-clause-refused c =
-    let at = goal.at.returns-in_err-check_entry-clause-refused c in
     let p = err_from_is_err_and c.from_residual-in_err-check_entry.result c.from_residual-in_err-check_entry.ensures.1 in
     let found = c.in_ok-paragraph.ensures.found in
     let correction = c.in-Some.correction.now in
@@ -88,7 +58,6 @@ entered-requires c =
 
 pub returns-clause-refused : goal.returns-clause-refused
 returns-clause-refused c =
-    let at = goal.at.returns-clause-refused c in
     let found = c.in_ok-paragraph.ensures.found in
     let correction = c.in-Some.correction.now in
     let force = subst (λ h. IsNewestInForce h c.in-Some.number correction) c.as_slice.ensures c.in-Some.ensures.found in
@@ -106,4 +75,4 @@ returns-in_err-undone-clause-refused c =
     let force = subst (λ h. IsNewestInForce h c.in-Some.number correction) c.as_slice.ensures c.in-Some.ensures.found in
     let many = counted c.args.self.now c.args.id _ _ found.0 found.1 c.in-Some.number correction force _ _ _ (ap length c.as_slice-old.ensures) c.count-count.ensures (ap length c.as_slice-taken.ensures) in
     let takes = subst (TakesEntry c.args.self.now c.in_ok-paragraph.paragraph.now) many c.in_ok-check_entry.ensures.takes in
-    rw p.1 (no_memory_here c.args.self.now c.args.id _ _ found.0 found.1 c.in-Some.number c.in-Some.correction.now force _ refl takes _ p.2)
+    rw p.1 (no_memory_here c.args.self.now c.args.id _ _ found.0 found.1 c.in-Some.number correction force _ refl takes _ p.2)
