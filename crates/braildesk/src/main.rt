@@ -3,8 +3,8 @@
 //! What it does with them is `desk`'s.
 #![tactic(auto)]
 
-use desk::{Fault, program, refuse, refuse_words};
-use desk_ends::Buffered;
+use desk::{ProgramFault, program, refuse, refuse_words};
+use desk_ends::BufferedWriter;
 use std::alloc::AllocError;
 use std::env::FillError;
 use std::io::Write;
@@ -24,14 +24,14 @@ const NOT_TEXT: &str = "error: a word is not UTF-8\n";
 const NAME: &str = "braildesk";
 
 /// The words after the program's name.
-fn read_words(rt: &HostRuntime) -> Result<Vec<Vec<u8>>, Fault> {
+fn read_words(rt: &HostRuntime) -> Result<Vec<Vec<u8>>, ProgramFault> {
     let mut buffer = [0u8; MOST_WORD_BYTES];
     let mut words = Vec::new(rt.alloc());
     for i in 1..usize::MAX {
         match rt.arg(i, &mut buffer) {
             Ok(len) => add_copy(rt, &mut words, &buffer[..len])?,
             Err(FillError::NotPresent) => break,
-            Err(FillError::TooLong) => return Err(Fault::NoMemory),
+            Err(FillError::TooLong) => return Err(ProgramFault::NoMemory),
         }
     }
     Ok(words)
@@ -46,12 +46,12 @@ fn add_copy(rt: &HostRuntime, words: &mut Vec<Vec<u8>>, word: &[u8]) -> Result<(
 }
 
 /// Runs the program over the words of the command line and the standard ends.
-fn start<E: Write>(rt: &HostRuntime, errors: &mut E) -> Result<u8, Fault> {
+fn start<E: Write>(rt: &HostRuntime, errors: &mut E) -> Result<u8, ProgramFault> {
     let words = read_words(rt)?;
     let Some(texts) = texts_of(rt, words.as_slice())? else {
         return Ok(refuse_words(errors, NOT_TEXT));
     };
-    let mut output = Buffered::new(rt.alloc(), OUTPUT_BYTES, rt.stdout())?;
+    let mut output = BufferedWriter::new(rt.alloc(), OUTPUT_BYTES, rt.stdout())?;
     let status = program(rt, texts.as_slice(), &mut rt.stdin(), &mut output, errors);
     Ok(status)
 }

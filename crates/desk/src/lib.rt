@@ -22,7 +22,7 @@
 pub mod laws;
 
 pub use desk_program::{
-    DONE, Databases, FAILED, Fault, OTHER_WORDS, REFUSED, Shelf, Stop, program, refuse,
+    DONE, Databases, FAILED, OTHER_WORDS, ProgramFault, REFUSED, Shelf, Stop, program, refuse,
     refuse_words,
 };
 pub use desk_session::{Ended, run, serve};

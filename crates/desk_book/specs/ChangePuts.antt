@@ -17,7 +17,7 @@ use Rattle.desk_parts.specs.Puts.{PutCache, PutEntry, PutMark, PutPara, PutTab, 
 use Rattle.desk_parts.specs.Rows.{Mark as MarkRow, NamedCorr, Para}
 use Rattle.desk_model.specs.Shows.{flag_number, style_number}
 use Rattle.desk_model.specs.Step.{next_id, next_mark}
-use Rattle.desk_model.specs.Lent.{next_entry_number, row_number}
+use Rattle.desk_model.specs.Loans.{next_entry_number, row_number}
 
 -- the entry with this number in the history of the paragraph with this id
 abbrev pub entry_row : (id seq : ℕ) → KeptEntry → NamedCorr

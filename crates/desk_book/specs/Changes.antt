@@ -16,7 +16,7 @@ use Rattle.desk_command.specs.declared.command.Command.TheVariants.{Table, TypeI
 use Rattle.desk_book.specs.declared.paragraphs.Paragraph.{Paragraph as KeptParagraph}
 use Rattle.desk_model.specs.Book.{Book, Paragraph, text_of, paragraph_of}
 use Rattle.desk_book.specs.ChangePuts.{effect_puts}
-use Rattle.desk_model.specs.Lent.{row_number}
+use Rattle.desk_model.specs.Loans.{row_number}
 use Rattle.desk_book.specs.Histories.{HaveTaken, TookFrom, entry_kept}
 use Rattle.desk_book.specs.Kept.{mark_kept, new_cells, paragraph_kept}
 use Rattle.desk_model.specs.Limits.{most_entries, most_marks, most_paragraphs, most_print}
@@ -26,8 +26,8 @@ use Rattle.desk_parts.specs.Puts.{RowPut, SetVersion}
 use Rattle.desk_model.specs.Print.{print_of, with_entry}
 use Rattle.desk_model.specs.Refusals.{IsAccepted}
 use Rattle.desk_book.specs.Room.{Suffices}
-use Rattle.desk_model.specs.Step.{HasCharacters, Makes, next_id, next_mark, next_with_entry, next_with_marks, next_with_paragraphs, number_of, typed, with_change, with_resolved}
-use Rattle.desk_model.specs.Stored.{stored}
+use Rattle.desk_model.specs.Step.{HasCharacters, Makes, new_paragraph, next_id, next_mark, next_with_entry, next_with_marks, next_with_paragraphs, number_of, with_change, with_resolved}
+use Rattle.desk_model.specs.NormalForm.{normal_form}
 
 -- the cells are the braille of the print by this meaning
 abbrev pub AreCellsOf : Meaning → (print cells : List ℕ) → Type 0
@@ -42,8 +42,8 @@ AreRenewed book name meaning cells =
 
 -- a paragraph as it is kept when it was just typed
 pub record IsKeptTyped (book : Book) (table text : List ℕ) (kept : KeptParagraph) : Type 0 where
-  pub kept_is : paragraph_kept (next_id book, kept) ≡ typed (next_id book) table text
-  pub print : kept.print ≡ stored text
+  pub kept_is : paragraph_kept (next_id book, kept) ≡ new_paragraph (next_id book) table text
+  pub print : kept.print ≡ normal_form text
   pub source : List ℕ
   pub meaning : Meaning
   pub found : text_of book table ≡ Some source

@@ -4,7 +4,7 @@ use Rattle.desk_book.specs.declared.history.Correction.{Correction}
 use Rattle.desk_book.specs.declared.history.KeptEntry.{KeptEntry}
 use Rattle.desk_book.specs.declared.history.KeptEntry.TheVariants.{Corrects as KeptCorrects, Undoes as KeptUndoes}
 use Rattle.desk_model.specs.Book.{Replacement, Entry, Corrects, Undoes}
-use Rattle.desk_model.specs.Print.{corrected, newest}
+use Rattle.desk_model.specs.Print.{corrected_print, newest}
 use Rattle.desk_model.specs.Sound.{AreSoundEntries}
 
 -- what a kept correction does: it took as many characters as it has of them
@@ -27,13 +27,13 @@ TookFrom print (KeptUndoes n) = Unit {0}
 -- each correction has the characters that gave way in the print before it
 abbrev pub HaveTaken : List ℕ → List KeptEntry → Type 0
 HaveTaken original entries =
-    (i : ℕ) (entry : KeptEntry) → slice_get entries i ≡ Some entry → TookFrom (corrected original (entries_kept (take i entries))) entry
+    (i : ℕ) (entry : KeptEntry) → slice_get entries i ≡ Some entry → TookFrom (corrected_print original (entries_kept (take i entries))) entry
 
 -- the kept entries are sound, each correction has what it took away, and this is the print that they leave
 pub record LeavePrint (original : List ℕ) (entries : List KeptEntry) (print : List ℕ) : Type 0 where
   pub sound : AreSoundEntries original (entries_kept entries)
   pub taken : HaveTaken original entries
-  pub print_is : print ≡ corrected original (entries_kept entries)
+  pub print_is : print ≡ corrected_print original (entries_kept entries)
 
 -- of the corrections in force this is the newest, with its number
 pub record IsNewestInForce (entries : List KeptEntry) (number : ℕ) (correction : Correction) : Type 0 where

@@ -7,7 +7,7 @@ use Rattle.desk_book.specs.declared.damage.RowsFault.{RowsFault}
 use Rattle.desk_book.specs.declared.damage.RowsFault.TheVariants as rows_fault
 use Rattle.desk_model.specs.Damage.{IsDamagedCache}
 use Rattle.desk_book.specs.Judged.{IsFirstId}
-use Rattle.desk_parts.specs.Rows.{Cached, Para, Tab}
+use Rattle.desk_parts.specs.Rows.{Para, ParaCells, Tab}
 
 -- the smallest id of the damage is reported, of this table, or an allocation failed
 abbrev pub TellsDamageOf : FileTable → (ℤ → Type 0) → PartsFault → Type 0
@@ -15,8 +15,8 @@ TellsDamageOf table damaged (Damaged other id) = (other ≡ table) × IsFirstId 
 TellsDamageOf table damaged NoMemory = ⊤
 
 -- there are rows of braille, and this is a damaged id of them
-abbrev pub IsDamagedBraille : List Tab → List Para → Option (List Cached) → ℤ → Type 0
-IsDamagedBraille tabs paras cache id = (caches : List Cached) × (cache ≡ Some caches) × IsDamagedCache tabs paras caches id
+abbrev pub IsDamagedBraille : List Tab → List Para → Option (List ParaCells) → ℤ → Type 0
+IsDamagedBraille tabs paras cache id = (caches : List ParaCells) × (cache ≡ Some caches) × IsDamagedCache tabs paras caches id
 
 -- the fault of the parts whose rows of this table weren't taken
 abbrev pub fault_in : FileTable → RowsFault → PartsFault

@@ -17,7 +17,7 @@ use Rattle.desk_parts.specs.FileRows.{HasParaTexts, HasTabText, spelled_mark, sp
 use Rattle.desk_book.specs.Histories.{HaveTaken, entries_kept}
 use Rattle.desk_book.specs.Kept.{KeptTables, marks_kept}
 use Rattle.desk_book.specs.KeptMarks.{indexes_on}
-use Rattle.desk_model.specs.Print.{corrected}
+use Rattle.desk_model.specs.Print.{corrected_print}
 use Rattle.desk_parts.specs.Rows.{Mark as MarkRow, NamedCorr, Para, Tab}
 use Rattle.desk_model.specs.Shows.{flag_number, mark_row_of, style_number, tab_of}
 
@@ -99,7 +99,7 @@ pub record HasHistory (entries : List NamedCorr) (items : List KeptParagraph) (r
   pub at : slice_get items (nat_abs row.id - 1) ≡ Some kept
   pub history : entries_kept kept.history ≡ history_of sorted
   pub taken : HaveTaken kept.original kept.history
-  pub print : corrected kept.original (history_of sorted) ≡ kept.print
+  pub print : corrected_print kept.original (history_of sorted) ≡ kept.print
 
 -- ---- marks
 

@@ -7,7 +7,7 @@ use Rattle.desk_book.specs.declared.paragraphs.Paragraph.{Paragraph as KeptParag
 use Rattle.desk_book.specs.declared.tables.BookTable.{BookTable}
 use Rattle.desk_book.specs.Changes.{AreCellsOf}
 use Rattle.desk_book.specs.Kept.{KeptTables}
-use Rattle.desk_parts.specs.Rows.{Cached}
+use Rattle.desk_parts.specs.Rows.{ParaCells}
 
 -- the paragraph's table is there, and defines its print
 pub record IsTranslatable (tables : KeptTables) (kept : KeptParagraph) : Type 0 where
@@ -28,48 +28,48 @@ AreTheirCells tables items cells =
     → (own : List ℕ) × (slice_get cells index ≡ Some (Some own)) × IsItsBraille tables kept own
 
 -- the row at this index, from 0, has the id and the braille of the paragraph there
-pub record IsRightAt (tables : KeptTables) (items : List KeptParagraph) (rows : List Cached) (index : ℕ) : Type 0 where
+pub record IsRightAt (tables : KeptTables) (items : List KeptParagraph) (rows : List ParaCells) (index : ℕ) : Type 0 where
   pub kept : KeptParagraph
   pub at : slice_get items index ≡ Some kept
-  pub row : Cached
+  pub row : ParaCells
   pub row_at : slice_get rows index ≡ Some row
   pub para : row.para ≡ pos (index + 1)
   pub cells : IsItsBraille tables kept row.cells
 
 -- so many rows are right
-abbrev pub AreRight : KeptTables → List KeptParagraph → List Cached → ℕ → Type 0
+abbrev pub AreRight : KeptTables → List KeptParagraph → List ParaCells → ℕ → Type 0
 AreRight tables items rows count = (index : ℕ) → index < count → IsRightAt tables items rows index
 
 -- there is one right row for each paragraph, and there are no others
-pub record AreAllRight (tables : KeptTables) (items : List KeptParagraph) (rows : List Cached) : Type 0 where
+pub record AreAllRight (tables : KeptTables) (items : List KeptParagraph) (rows : List ParaCells) : Type 0 where
   pub right : AreRight tables items rows (length items)
   pub none : slice_get rows (length items) ≡ None
 
 -- the paragraph at the index has this id, and there is no row for it
-pub record IsLacking (items : List KeptParagraph) (rows : List Cached) (index : ℕ) (id : ℤ) : Type 0 where
+pub record IsLacking (items : List KeptParagraph) (rows : List ParaCells) (index : ℕ) (id : ℤ) : Type 0 where
   pub within : index < length items
   pub id_is : id ≡ pos (index + 1)
   pub none : slice_get rows index ≡ None
 
 -- the paragraph at the index has this id, and the row there is of a later one, or hasn't its braille
-pub record IsWrong (tables : KeptTables) (items : List KeptParagraph) (rows : List Cached) (index : ℕ) (id : ℤ) : Type 0 where
+pub record IsWrong (tables : KeptTables) (items : List KeptParagraph) (rows : List ParaCells) (index : ℕ) (id : ℤ) : Type 0 where
   pub kept : KeptParagraph
   pub at : slice_get items index ≡ Some kept
   pub id_is : id ≡ pos (index + 1)
-  pub row : Cached
+  pub row : ParaCells
   pub row_at : slice_get rows index ≡ Some row
   pub no_earlier : pos (index + 1) ≤ℤ row.para
   pub wrong : ¬ ((row.para ≡ pos (index + 1)) × IsItsBraille tables kept row.cells)
 
 -- the row at the index has this id, and is of no paragraph, or the second of one
-pub record IsSurplus (items : List KeptParagraph) (rows : List Cached) (index : ℕ) (id : ℤ) : Type 0 where
-  pub row : Cached
+pub record IsSurplus (items : List KeptParagraph) (rows : List ParaCells) (index : ℕ) (id : ℤ) : Type 0 where
+  pub row : ParaCells
   pub row_at : slice_get rows index ≡ Some row
   pub id_is : id ≡ row.para
   pub past : (row.para <ℤ pos (index + 1)) ⊎ (index ≡ length items)
 
 -- after right rows comes none, a wrong one or one too many, and this is its id
-pub record IsMisfit (tables : KeptTables) (items : List KeptParagraph) (rows : List Cached) (id : ℤ) : Type 0 where
+pub record IsMisfit (tables : KeptTables) (items : List KeptParagraph) (rows : List ParaCells) (id : ℤ) : Type 0 where
   pub index : ℕ
   pub before : AreRight tables items rows index
   pub here : IsLacking items rows index id ⊎ (IsWrong tables items rows index id ⊎ IsSurplus items rows index id)

@@ -7,11 +7,11 @@ use Rattle.desk_book.specs.declared.judged_history.Next.{Next}
 use Rattle.desk_book.specs.declared.judged_history.Reading.{Reading}
 use Rattle.desk_book.specs.declared.paragraphs.Paragraph.{Paragraph as KeptParagraph}
 use Rattle.desk_model.specs.Book.{Entry}
-use Rattle.desk_book.specs.Corrected.{replaced_by}
+use Rattle.desk_book.specs.Corrections.{replaced_by}
 use Rattle.desk_model.specs.Damage.{IsSoundCorrection, IsSoundEntryRow, IsSoundUndo, entry_of, history_of}
 use Rattle.desk_book.specs.Histories.{HaveTaken, LeavePrint, TookFrom, entries_kept, entry_kept}
 use Rattle.desk_model.specs.Limits.{most_entries, most_print}
-use Rattle.desk_model.specs.Print.{corrected}
+use Rattle.desk_model.specs.Print.{corrected_print}
 use Rattle.desk_parts.specs.Rows.{NamedCorr}
 use Rattle.desk_model.specs.Sound.{IsSoundEntry}
 use Rattle.desk_command.specs.Characters.{AreCharacters}
@@ -20,14 +20,14 @@ use Rattle.desk_command.specs.Characters.{AreCharacters}
 
 -- the row fits what the entries before it leave: it corrects the print, or undoes the newest correction in force
 abbrev pub IsFit : List ℕ → List Entry → NamedCorr → Type 0
-IsFit original before row = IsSoundCorrection (corrected original before) row ⊎ IsSoundUndo before row
+IsFit original before row = IsSoundCorrection (corrected_print original before) row ⊎ IsSoundUndo before row
 
 -- the row is sound after these rows
 pub record IsSoundNext (original : List ℕ) (rows : List NamedCorr) (row : NamedCorr) : Type 0 where
   pub number : row.entry.seq ≡ pos (length rows + 1)
   pub room : length rows < most_entries
   pub fits : IsFit original (history_of rows) row
-  pub short : length (corrected original (history_of (rows ++ row ∷ []))) ≤ most_print
+  pub short : length (corrected_print original (history_of (rows ++ row ∷ []))) ≤ most_print
 
 -- the entry is that of the row, which corrects this print, and the next print follows from it
 pub record IsCorrecting (print : List ℕ) (row : NamedCorr) (next : Next) : Type 0 where
@@ -43,8 +43,8 @@ pub record IsNext (original : List ℕ) (before : List Entry) (row : NamedCorr) 
   pub fits : IsFit original before row
   pub sound : IsSoundEntry original before (entry_of row)
   pub entry : entry_kept next.entry ≡ entry_of row
-  pub taken : TookFrom (corrected original before) next.entry
-  pub print : next.print.items ≡ corrected original (before ++ entry_of row ∷ [])
+  pub taken : TookFrom (corrected_print original before) next.entry
+  pub print : next.print.items ≡ corrected_print original (before ++ entry_of row ∷ [])
 
 -- ---- rows in turn
 
@@ -64,7 +64,7 @@ pub record CanBeRead (rows : List NamedCorr) (original print : List ℕ) : Type 
   pub sorted : List NamedCorr
   pub same : IsPermutation rows sorted
   pub each : AreSoundRows original sorted
-  pub print_is : corrected original (history_of sorted) ≡ print
+  pub print_is : corrected_print original (history_of sorted) ≡ print
 
 -- the kept paragraph has the history of these rows
 pub record HasRead (rows : List NamedCorr) (kept : KeptParagraph) : Type 0 where
@@ -73,4 +73,4 @@ pub record HasRead (rows : List NamedCorr) (kept : KeptParagraph) : Type 0 where
   pub each : AreSoundRows kept.original sorted
   pub history : entries_kept kept.history ≡ history_of sorted
   pub taken : HaveTaken kept.original kept.history
-  pub print : corrected kept.original (history_of sorted) ≡ kept.print
+  pub print : corrected_print kept.original (history_of sorted) ≡ kept.print

@@ -9,7 +9,7 @@ use Rattle.desk_model.specs.Limits.{most_marks, most_note}
 use Rattle.desk_parts.specs.FileRows.{HasMarkText}
 use Rattle.desk_parts.specs.Rows.{Mark as MarkRow}
 use Rattle.desk_model.specs.Shows.{flag_number}
-use Rattle.desk_model.specs.Stored.{IsUnbarred}
+use Rattle.desk_model.specs.NormalForm.{IsUnbarred}
 
 -- ---- a row, but for its id
 

@@ -46,12 +46,12 @@ abbrev pub ids : KeptParagraphs → List ℕ
 ids kept = map (λ entry. entry.0) kept
 
 -- the paragraph with an id, from 1, of a list in the order of ids, beside that id
-abbrev pub numbered : List KeptParagraph → ℕ → KeptParagraphs
-numbered items id = option_to_list (option_map (λ kept. (id, kept)) (slice_get items (id - 1)))
+abbrev pub paragraph_with_id : List KeptParagraph → ℕ → KeptParagraphs
+paragraph_with_id items id = option_to_list (option_map (λ kept. (id, kept)) (slice_get items (id - 1)))
 
 -- these paragraphs in the order of their ids here
-abbrev pub arranged : List ℕ → KeptParagraphs → KeptParagraphs
-arranged order kept = flat_map (λ id. option_to_list (option_map (λ paragraph. (id, paragraph)) (lookup (nat_eq id) kept))) order
+abbrev pub in_order_of : List ℕ → KeptParagraphs → KeptParagraphs
+in_order_of order kept = flat_map (λ id. option_to_list (option_map (λ paragraph. (id, paragraph)) (lookup (nat_eq id) kept))) order
 
 -- the order with one id more, put where the command says
 abbrev pub with_id : Anchor → ℕ → List ℕ → List ℕ
@@ -68,8 +68,8 @@ abbrev pub new_cells : List (Option (List ℕ)) → ℕ → Option (List ℕ)
 new_cells cells id = option_and_then (λ found. found) (slice_get cells (id - 1))
 
 -- the paragraph with its new cells, if it has any
-abbrev pub renewed : List (Option (List ℕ)) → ℕ × KeptParagraph → ℕ × KeptParagraph
-renewed cells (id, kept) = (id, option_map_or (λ new. record kept { cells = new }) (new_cells cells id) kept)
+abbrev pub with_new_cells : List (Option (List ℕ)) → ℕ × KeptParagraph → ℕ × KeptParagraph
+with_new_cells cells (id, kept) = (id, option_map_or (λ new. record kept { cells = new }) (new_cells cells id) kept)
 
 -- the kept paragraph with these cells, if there are any
 abbrev pub with_cells : Option (List ℕ) → KeptParagraph → KeptParagraph

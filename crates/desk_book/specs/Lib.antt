@@ -1,12 +1,12 @@
 pub mod Histories
-pub mod Shown
+pub mod Display
 pub mod KeptMarks
 pub mod Kept
 pub mod KeptPrints
 pub mod Changes
-pub mod Planned
-pub mod Corrected
-pub mod Marked
+pub mod Plans
+pub mod Corrections
+pub mod Marking
 pub mod Room
 pub mod ItemsLeft
 pub mod Judged

@@ -1,9 +1,9 @@
 //! Corrections of prints, and what takes them back.
-ghost use Rattle.desk_book.specs.Corrected.{HaltsEntry, HaltsPrint, IsCorrection, IsEntered, IsUnfit, TakesEntry, replaced_by};
+ghost use Rattle.desk_book.specs.Corrections.{HaltsEntry, HaltsPrint, IsCorrection, IsEntered, IsUnfit, TakesEntry, replaced_by};
 ghost use Rattle.desk_model.specs.Limits.{most_entries};
 ghost use Rattle.desk_model.specs.Name.{IsProofreaderName};
-ghost use Rattle.desk_book.specs.Planned.{IsPlanned, IsTurnedDown};
-ghost use Rattle.desk_book.specs.Shown.{IsShown};
+ghost use Rattle.desk_book.specs.Plans.{IsPlanned, IsTurnedDown};
+ghost use Rattle.desk_book.specs.Display.{IsShown};
 ghost use Rattle.std.specs.Prelude.{◌≡◌, ◌+◌, ◌<◌, ◌≤◌, false, IfErr, IfOk, OnOk, length};
 
 use super::book::Book;
@@ -11,9 +11,9 @@ use super::braille::cells_of;
 use super::change::{Effect, PrintChange};
 use super::history::{Correction, KeptEntry, newest};
 use super::limits::{MOST_ENTRIES, MOST_PRINT};
+use super::normal_form::{count_of, is_proofreader_name, normal_form};
 use super::paragraphs::Paragraph;
 use super::plan::{check_length, check_print, check_text, copy, text_of_print};
-use super::stored::{count_of, is_proofreader_name, stored};
 use desk_command::{Command, Limit, Refusal, Text};
 use louis_table::Characters;
 use louis_translate::RuleIndex;
@@ -56,7 +56,7 @@ fn check_entries(paragraph: &Paragraph) -> Result<(), Refusal>
 }
 
 /// The print with a text in place of so many characters from a place on.
-pub(crate) fn replaced(
+pub(crate) fn replace_span(
     alloc: Global,
     print: &[char],
     start: usize,
@@ -88,7 +88,7 @@ impl Correction {
             new.items ≡ replaced_by self.now.start (length self.now.text) self.now.taken print.now) }
     {
         let taken = self.taken.as_slice();
-        replaced(alloc, print, self.start, self.count(), taken)
+        replace_span(alloc, print, self.start, self.count(), taken)
     }
 }
 
@@ -130,12 +130,12 @@ pub(crate) struct NewEntry {
 
 impl Book {
     /// A paragraph that isn't struck, and the rules of its table.
-    pub(crate) fn live(&self, id: u64) -> Result<(&Paragraph, &RuleIndex), Refusal>
+    pub(crate) fn live_paragraph(&self, id: u64) -> Result<(&Paragraph, &RuleIndex), Refusal>
         ensures found { IfOk result (λ shown.
             IsShown self.now id shown.0.now shown.1.now × (shown.0.now.struck ≡ false)) }
         ensures refused { IfErr result (IsUnfit self.now id) }
     {
-        let (paragraph, rules) = self.translated(id)?;
+        let (paragraph, rules) = self.paragraph_and_rules(id)?;
         if paragraph.struck {
             return Err(Refusal::Struck);
         }
@@ -155,7 +155,7 @@ impl Book {
     }
 
     /// What a new entry does, for which there is room, if the table defines its print.
-    fn entered(
+    fn entry_effect(
         &self,
         alloc: Global,
         id: u64,
@@ -205,13 +205,13 @@ impl Book {
     {
         check_proofreader(who)?;
         check_text(text)?;
-        let (paragraph, rules) = self.live(id)?;
+        let (paragraph, rules) = self.live_paragraph(id)?;
         let old = paragraph.print.as_slice();
         check_span(old, start, count)?;
-        let put = stored(alloc, text.as_str())?;
+        let put = normal_form(alloc, text.as_str())?;
         check_length(&put)?;
         self.check_entry(paragraph, old.len() - count + put.len())?;
-        let print = replaced(alloc, old, start, count, &put)?;
+        let print = replace_span(alloc, old, start, count, &put)?;
         let new = NewEntry {
             entry: KeptEntry::Corrects(correction(alloc, old, start, count, &put, who)?),
             print,
@@ -219,14 +219,14 @@ impl Book {
             removed: count,
             added: put.len(),
         };
-        self.entered(alloc, id, paragraph, rules, new)
+        self.entry_effect(alloc, id, paragraph, rules, new)
     }
 
     pub(crate) fn plan_undo(&self, alloc: Global, id: u64) -> Result<Effect, Refusal>
         ensures planned { IfOk result (IsPlanned self.now (Command.Undo id)) }
         ensures refused { IfErr result (IsTurnedDown self.now (Command.Undo id)) }
     {
-        let (paragraph, rules) = self.live(id)?;
+        let (paragraph, rules) = self.live_paragraph(id)?;
         let Some((number, correction)) = newest(paragraph.history.as_slice()) else {
             return Err(Refusal::NothingToUndo);
         };
@@ -241,6 +241,6 @@ impl Book {
             removed: count,
             added: taken.len(),
         };
-        self.entered(alloc, id, paragraph, rules, new)
+        self.entry_effect(alloc, id, paragraph, rules, new)
     }
 }

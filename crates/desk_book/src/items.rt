@@ -130,7 +130,7 @@ impl<T: Drop> Items<T> {
     }
 
     /// The items with one more at a place, before those that stand there and after. It allocates nothing.
-    pub(crate) fn inserted(self, room: Room<T>, place: usize, item: T) -> Self
+    pub(crate) fn with_item_at(self, room: Room<T>, place: usize, item: T) -> Self
         requires few { length self + 1 < 2 ^ 32 }
         requires room { Suffices (length self) room }
         requires place { place ≤ length self }

@@ -46,14 +46,14 @@ fn no_rows(alloc: Global, count: usize) -> Result<Vec<Vec<NamedCorrRow>>, AllocE
 
 /// Rows of entries, by the paragraphs that they belong to.
 #[derive(Drop)]
-struct Grouped {
+struct EntryGroups {
     /// The rows of each paragraph, in the order of the ids.
     groups: Vec<Vec<NamedCorrRow>>,
     /// The smallest id that rows have and no paragraph has.
     stray: Option<i64>,
 }
 
-impl Grouped {
+impl EntryGroups {
     /// Groups rows by so many paragraphs.
     fn of(alloc: Global, count: usize, rows: Vec<NamedCorrRow>) -> Result<Self, AllocError>
         ensures groups { IfOk result (λ grouped. AreGrouped count rows.items (map (λ group. group.items) grouped.groups.items)) }
@@ -68,7 +68,7 @@ impl Grouped {
                 None => stray = Some(smaller(stray, id)),
             }
         }
-        Ok(Grouped { groups, stray })
+        Ok(EntryGroups { groups, stray })
     }
 }
 
@@ -105,7 +105,7 @@ pub(crate) fn judged_entries(
     ensures damaged { (paras : List Para) → AreOf paras items.old.items
         → IfErr result (TellsDamage (IsDamagedEntries paras rows.items)) }
 {
-    let Grouped { groups, stray } = Grouped::of(alloc, items.len(), rows)?;
+    let EntryGroups { groups, stray } = EntryGroups::of(alloc, items.len(), rows)?;
     if let Some(id) = stray {
         if id < 1 {
             return Err(RowsFault::Damaged(id));

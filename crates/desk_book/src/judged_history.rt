@@ -7,13 +7,13 @@ ghost use Rattle.desk_parts.specs.Rows.{NamedCorr};
 ghost use Rattle.std.specs.Prelude.{◌≡◌, ◌⊎◌, ℕ, ◌+◌, ◌≤◌, ◌↔◌, pos, ◌+ℤ◌, ◌≤ℤ◌, List, ◌∷◌, ◌++◌, [], IfErr, IfNone, IfOk, IfSome, IsTrue, OnOk, length};
 ghost use Rattle.std.specs.Str.{chars};
 
-use super::corrections::replaced;
+use super::corrections::replace_span;
 use super::damage::RowsFault;
 use super::history::{Correction, KeptEntry, newest};
 use super::items::Items;
 use super::limits::{MOST_ENTRIES, MOST_PRINT};
+use super::normal_form::{first_barred, is_proofreader_name};
 use super::paragraphs::Paragraph;
-use super::stored::{first_barred, is_proofreader_name};
 use desk_command::Text;
 use desk_parts::{CorrRow, NamedCorrRow};
 use louis_table::Characters;
@@ -61,7 +61,7 @@ fn correction(alloc: Global, print: &[char], row: NamedCorrRow) -> Result<Option
     }
     let text: Vec<char> = entry.body.as_str().chars().collect(alloc)?;
     let taken = Vec::from_slice(alloc, &print[start..start + count])?;
-    let print = replaced(alloc, print, start, count, &text)?;
+    let print = replace_span(alloc, print, start, count, &text)?;
     let correction = Correction {
         start,
         text: Text::from_string(entry.body),

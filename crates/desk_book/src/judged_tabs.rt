@@ -11,7 +11,7 @@ ghost use Rattle.std.specs.Prelude.{◌≡◌, ◌≤◌, [], ◌∷◌, ◌++�
 
 use super::damage::RowsFault;
 use super::limits::MOST_TABLES;
-use super::stored::is_table_name;
+use super::normal_form::is_table_name;
 use super::tables::{BookTable, Tables};
 use desk_parts::{StoredTab, TabRow};
 use louis_table::ReadFault;

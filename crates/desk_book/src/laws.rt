@@ -2,7 +2,7 @@
 ghost use Rattle.desk_model.specs.Book.{Book};
 ghost use Rattle.desk_book.specs.Changes.{Carries, Change, change_puts};
 ghost use Rattle.desk_command.specs.declared.command.Command.{Command};
-ghost use Rattle.desk_model.specs.Lent.{AreLent, LeadTo};
+ghost use Rattle.desk_model.specs.Loans.{AreLent, LeadTo};
 ghost use Rattle.desk_model.specs.Limits.{most_entries, most_marks, most_name, most_note, most_paragraphs, most_print, most_proofreader, most_tables, most_version};
 ghost use Rattle.desk_book.specs.declared.limits.TheConstants.{MOST_ENTRIES, MOST_MARKS, MOST_NAME, MOST_NOTE, MOST_PARAGRAPHS, MOST_PRINT, MOST_PROOFREADER, MOST_TABLES, MOST_VERSION};
 ghost use Rattle.desk_model.specs.Sound.{IsSound};

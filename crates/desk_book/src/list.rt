@@ -1,6 +1,6 @@
 //! The list of a book's paragraphs.
 use super::paragraphs::Paragraphs;
-use desk_model::Listed;
+use desk_model::ListItem;
 use std::marker::Model;
 
 /// The paragraphs of a book in order, struck ones too. It allocates nothing. Contracts see it as those that are left.
@@ -35,21 +35,21 @@ impl<'a> List<'a> {
 }
 
 impl<'a> Iterator for List<'a> {
-    ghost use Rattle.desk_model.specs.Listed.{ListsFirst};
+    ghost use Rattle.desk_model.specs.ListItems.{ListsFirst};
     ghost use Rattle.std.specs.Iterator.{item_count};
 
-    type Item = Listed<'a>;
+    type Item = ListItem<'a>;
 
     ghost next_gives = { ListsFirst };
 
     ghost remaining = { item_count (λ s. s) };
 
-    fn next(&mut self) -> Option<Listed<'a>> {
+    fn next(&mut self) -> Option<ListItem<'a>> {
         let Some((id, paragraph)) = self.paragraphs.at(self.at) else {
             return None;
         };
         self.at += 1;
-        Some(Listed {
+        Some(ListItem {
             id,
             table: paragraph.table.as_str(),
             style: paragraph.style,

@@ -1,7 +1,7 @@
 //! Marks that come and that are dealt with.
 ghost use Rattle.desk_model.specs.Limits.{most_marks, most_note};
-ghost use Rattle.desk_book.specs.Marked.{AreMarkedIn, AreNotMarkedIn, HasCells, IsKeptMarkFor};
-ghost use Rattle.desk_book.specs.Planned.{IsPlanned, IsTurnedDown};
+ghost use Rattle.desk_book.specs.Marking.{AreMarkedIn, AreNotMarkedIn, HasCells, IsKeptMarkFor};
+ghost use Rattle.desk_book.specs.Plans.{IsPlanned, IsTurnedDown};
 ghost use Rattle.desk_model.specs.Book.{mark_of};
 ghost use Rattle.louis_translate.specs.Position.{AreDefined};
 ghost use Rattle.std.specs.Prelude.{◌≡◌, ◌+◌, ◌<◌, ◌≤◌, ◌↔◌, IfErr, IfOk, IsTrue, None, OnOk, length};
@@ -10,8 +10,8 @@ use super::book::Book;
 use super::change::Effect;
 use super::limits::{MOST_MARKS, MOST_NOTE};
 use super::marks::KeptMark;
+use super::normal_form::count_of;
 use super::plan::{check_text, copy};
-use super::stored::count_of;
 use desk_command::{Command, Limit, Refusal, Text};
 use louis_translate::{RuleIndex, choice_of_cell};
 use std::alloc::Global;
@@ -36,7 +36,7 @@ fn are_there(cells: usize, cell: usize, count: usize) -> bool
 
 /// The places of a print that so many cells, from one on, stand for: the first, and that after the last. Its braille has
 /// this many cells.
-fn marked(
+fn span_of_cells(
     rules: &RuleIndex,
     print: &[char],
     cells: usize,
@@ -85,10 +85,10 @@ impl Book {
         ensures refused { IfErr result (IsTurnedDown self.now (Command.Mark id cell count note.now)) }
     {
         check_text(note)?;
-        let (paragraph, rules) = self.live(id)?;
+        let (paragraph, rules) = self.live_paragraph(id)?;
         let print = paragraph.print.as_slice();
         let cells = paragraph.cells.as_slice().len();
-        let (start, end) = marked(rules, print, cells, cell, count)?;
+        let (start, end) = span_of_cells(rules, print, cells, cell, count)?;
         check_note(note)?;
         self.check_marks()?;
         self.check_version()?;

@@ -60,7 +60,7 @@ impl KeptMark {
         requires short { added ≤ most_print }
         ensures { self.new ≡ moved_kept start removed added self.old }
     {
-        let span = self.span().moved(start, removed, added);
+        let span = self.span().after_edit(start, removed, added);
         self.start = span.start;
         self.end = span.end;
         self.touched = span.touched;

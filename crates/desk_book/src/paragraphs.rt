@@ -1,5 +1,5 @@
 //! The paragraphs of a book.
-ghost use Rattle.desk_book.specs.Kept.{arranged, ids, numbered, renewed, renewed_items, with_id, with_id_moved, with_kept_change};
+ghost use Rattle.desk_book.specs.Kept.{ids, in_order_of, paragraph_with_id, renewed_items, with_id, with_id_moved, with_kept_change, with_new_cells};
 ghost use Rattle.desk_book.specs.KeptPrints.{HasRoomFor, HasRoomForMark, with_mark, with_print_changed};
 ghost use Rattle.desk_model.specs.Refusals.{paragraph_before};
 ghost use Rattle.desk_book.specs.Room.{Suffices};
@@ -113,14 +113,14 @@ pub(crate) struct Paragraphs {
 }
 
 impl Model for Paragraphs {
-    ghost use Rattle.desk_book.specs.Kept.{KeptParagraphs, numbered};
+    ghost use Rattle.desk_book.specs.Kept.{KeptParagraphs, paragraph_with_id};
     ghost use Rattle.std.specs.List.{flat_map, range_with_len};
     ghost use Rattle.std.specs.List.Sorted.{IsPermutation};
     ghost use Rattle.std.specs.Prelude.{length};
 
     ghost Value = { KeptParagraphs };
 
-    ghost view = { λ p. flat_map (numbered p.items) p.order };
+    ghost view = { λ p. flat_map (paragraph_with_id p.items) p.order };
 
     ghost invariant = { λ p. IsPermutation (range_with_len 1 (length p.items)) p.order };
 }
@@ -206,7 +206,7 @@ impl Paragraphs {
     /// The paragraphs of a list in the order of their ids, as these ids stand here.
     pub(crate) fn from_vecs(items: Vec<Paragraph>, order: Vec<u64>) -> Result<Self, AllocError>
         requires { IsPermutation (range_with_len 1 (length items.items)) order.items }
-        ensures { IfOk result (λ paragraphs. paragraphs ≡ flat_map (numbered items.items) order.items) }
+        ensures { IfOk result (λ paragraphs. paragraphs ≡ flat_map (paragraph_with_id items.items) order.items) }
     {
         Ok(Paragraphs {
             items: Items::from_vec(items)?,
@@ -317,7 +317,7 @@ impl Paragraphs {
     }
 
     /// These paragraphs and a new one, which stands at a place of the order. It allocates nothing.
-    pub(crate) fn typed(
+    pub(crate) fn with_paragraph(
         self,
         paragraph: Paragraph,
         room: Room<Paragraph>,
@@ -329,19 +329,19 @@ impl Paragraphs {
         requires order_room { Suffices (length self) order_room }
         requires place { place ≤ length self }
         requires order { IsPermutation (range_with_len 1 (length self + 1)) (insert (ids self) place (length self + 1)) }
-        ensures { result ≡ arranged (insert (ids self) place (length self + 1)) (self ++ (length self + 1, paragraph) ∷ []) }
+        ensures { result ≡ in_order_of (insert (ids self) place (length self + 1)) (self ++ (length self + 1, paragraph) ∷ []) }
     {
         let id = self.len() as u64 + 1;
         let Paragraphs { mut items, order } = self;
         items.push(room, paragraph);
-        let order = order.inserted(order_room, place, id);
+        let order = order.with_item_at(order_room, place, id);
         Paragraphs { items, order }
     }
 
     /// These paragraphs in another order. It allocates nothing.
-    pub(crate) fn reordered(self, order: Order) -> Self
+    pub(crate) fn with_order(self, order: Order) -> Self
         requires { IsPermutation (range_with_len 1 (length self)) order }
-        ensures { result ≡ arranged order self }
+        ensures { result ≡ in_order_of order self }
     {
         let Paragraphs {
             items,
@@ -415,7 +415,7 @@ impl Paragraphs {
 
     /// Gives paragraphs new cells: those with id n the item n - 1, if that has any.
     pub(crate) fn renew(&mut self, cells: Vec<Option<Cells>>)
-        ensures { self.new ≡ map (renewed cells.items) self.old }
+        ensures { self.new ≡ map (with_new_cells cells.items) self.old }
     {
         renew(&mut self.items.items, cells);
     }

@@ -1,5 +1,5 @@
 //! What a change puts into the rows of its book's file.
-ghost use Rattle.desk_model.specs.Lent.{AreLent, LeadTo, row_number};
+ghost use Rattle.desk_model.specs.Loans.{AreLent, LeadTo, row_number};
 ghost use Rattle.desk_book.specs.ChangePuts.{cache_put, cells_from, effect_puts, elsewhere_from, entry_row, further_from, kept_mark_row, kept_row, span_put, stays_in, tab_put};
 ghost use Rattle.desk_book.specs.Changes.{Carries, Does, change_puts};
 ghost use Rattle.desk_model.specs.Limits.{most_paragraphs, most_print};
@@ -247,7 +247,7 @@ impl<'a> SpanPuts<'a> {
             end: mark.end,
             touched: mark.touched,
         };
-        let moved = span.moved(self.start, self.removed, self.added);
+        let moved = span.after_edit(self.start, self.removed, self.added);
         Some(Put::Span {
             id: number(mark.id),
             start: number(moved.start as u64),
@@ -447,7 +447,7 @@ fn flags<'a>(id: u64, style: Style, begins_volume: bool, struck: bool) -> Put<'a
 }
 
 /// The table that a paragraph uses.
-fn used<'a>(id: u64, table: &'a Text) -> Put<'a>
+fn table_put<'a>(id: u64, table: &'a Text) -> Put<'a>
     ensures { put_of result ≡ SetTable (row_number id) (encode_utf8_all table.now) }
 {
     Put::Table {
@@ -576,7 +576,7 @@ impl Effect {
             } => Puts::of_row(version, flags(*id, *style, *begins_volume, *struck)),
             Effect::ChangeTable { id, table, cells } => Puts::new(
                 version,
-                Some(used(*id, table)),
+                Some(table_put(*id, table)),
                 None,
                 Some(cache(*id, cells)),
                 Walk::Nothing,

@@ -2,24 +2,24 @@
 ghost use Rattle.desk_model.specs.Book.{paragraph_of};
 ghost use Rattle.desk_model.specs.ParagraphMarks.{marks_on};
 ghost use Rattle.desk_model.specs.Print.{print_of};
-ghost use Rattle.desk_book.specs.Shown.{IsShown};
-ghost use Rattle.desk_model.specs.Translated.{IsBraille, IsOutputPlace, IsPrintPlace, LacksCell, LacksPlace};
+ghost use Rattle.desk_book.specs.Display.{IsShown};
+ghost use Rattle.desk_model.specs.Translation.{IsBraille, IsOutputPlace, IsPrintPlace, LacksCell, LacksPlace};
 ghost use Rattle.louis_table.specs.Meaning.{Meaning};
 ghost use Rattle.std.specs.List.{enumerate_from};
 ghost use Rattle.std.specs.Prelude.{◌≡◌, ◌⊎◌, IfErr, IfOk, None, Some};
 
 use super::book::Book;
+use super::history_items::History;
 use super::list::List;
 use super::paragraph_marks::ParagraphMarks;
 use super::paragraphs::Paragraph;
-use super::told::History;
 use cell_core::Cell;
 use desk_command::Refusal;
 use louis_translate::{RuleIndex, output_place, print_place};
 
 impl Book {
     /// A paragraph as it is kept.
-    fn kept(&self, id: u64) -> Result<&Paragraph, Refusal>
+    fn kept_paragraph(&self, id: u64) -> Result<&Paragraph, Refusal>
         ensures found { IfOk result (λ kept. (meaning : Meaning) × IsShown self.now id kept.now meaning) }
         ensures missing { IfErr result (λ refusal. (refusal ≡ Refusal.NoParagraph) × (paragraph_of self.now id ≡ None)) }
     {
@@ -27,7 +27,7 @@ impl Book {
     }
 
     /// A paragraph as it is kept, and the rules of its table.
-    pub(crate) fn translated(&self, id: u64) -> Result<(&Paragraph, &RuleIndex), Refusal>
+    pub(crate) fn paragraph_and_rules(&self, id: u64) -> Result<(&Paragraph, &RuleIndex), Refusal>
         ensures found { IfOk result (λ shown. IsShown self.now id shown.0.now shown.1.now) }
         ensures missing { IfErr result (λ refusal. (refusal ≡ Refusal.NoParagraph) × (paragraph_of self.now id ≡ None)) }
     {
@@ -50,7 +50,7 @@ impl Book {
             × (print.now ≡ print_of paragraph)) }
         ensures missing { IfErr result (λ refusal. (refusal ≡ Refusal.NoParagraph) × (paragraph_of self.now id ≡ None)) }
     {
-        let paragraph = self.kept(id)?;
+        let paragraph = self.kept_paragraph(id)?;
         Ok(paragraph.print.as_slice())
     }
 
@@ -64,7 +64,7 @@ impl Book {
             × IsBraille self.now paragraph cells.now) }
         ensures missing { IfErr result (λ refusal. (refusal ≡ Refusal.NoParagraph) × (paragraph_of self.now id ≡ None)) }
     {
-        let paragraph = self.kept(id)?;
+        let paragraph = self.kept_paragraph(id)?;
         Ok(paragraph.cells.as_slice())
     }
 
@@ -81,7 +81,7 @@ impl Book {
             ((refusal ≡ Refusal.NoParagraph) × (paragraph_of self.now id ≡ None))
             ⊎ ((refusal ≡ Refusal.BadSpan) × LacksPlace self.now id place)) }
     {
-        let (paragraph, rules) = self.translated(id)?;
+        let (paragraph, rules) = self.paragraph_and_rules(id)?;
         if place >= paragraph.print.as_slice().len() {
             return Err(Refusal::BadSpan);
         }
@@ -103,7 +103,7 @@ impl Book {
             ((refusal ≡ Refusal.NoParagraph) × (paragraph_of self.now id ≡ None))
             ⊎ ((refusal ≡ Refusal.BadSpan) × LacksCell self.now id cell)) }
     {
-        let (paragraph, rules) = self.translated(id)?;
+        let (paragraph, rules) = self.paragraph_and_rules(id)?;
         print_place(rules, paragraph.print.as_slice(), cell).ok_or(Refusal::BadSpan)
     }
 
@@ -117,7 +117,7 @@ impl Book {
             × (history ≡ enumerate_from 1 paragraph.history)) }
         ensures missing { IfErr result (λ refusal. (refusal ≡ Refusal.NoParagraph) × (paragraph_of self.now id ≡ None)) }
     {
-        let paragraph = self.kept(id)?;
+        let paragraph = self.kept_paragraph(id)?;
         Ok(History::new(paragraph.history.as_slice()))
     }
 

@@ -1,11 +1,11 @@
 //! A book from the rows of its file.
 ghost use Rattle.desk_model.specs.Damage.{IsDamagedEntries, IsDamagedPara, IsWithin};
-ghost use Rattle.desk_parts.specs.FileRows.{HasEntryTexts, entries_in, table_of, unnamed};
+ghost use Rattle.desk_parts.specs.FileRows.{HasEntryTexts, entries_in, table_of, without_name};
 ghost use Rattle.desk_book.specs.Joined.{IsDamagedBraille, TellsDamageOf, fault_in};
 ghost use Rattle.desk_book.specs.Judged.{AreOf, AreTables, HasCells, HasHistory, IsWhole, without_cells, without_history};
-ghost use Rattle.desk_book.specs.Kept.{IsKept, book_kept, numbered};
+ghost use Rattle.desk_book.specs.Kept.{IsKept, book_kept, paragraph_with_id};
 ghost use Rattle.desk_model.specs.Limits.{most_version};
-ghost use Rattle.desk_model.specs.Rebuilt.{IsFaultOf};
+ghost use Rattle.desk_model.specs.Rebuilding.{IsFaultOf};
 ghost use Rattle.desk_parts.specs.Parts.{entry_rows, rows_in};
 ghost use Rattle.desk_parts.specs.Rows.{Para, Tab};
 ghost use Rattle.desk_model.specs.Shows.{Shows};
@@ -55,7 +55,7 @@ fn look_at_entries(rows: &[NamedCorrRow])
 
 /// The entries of format 1 as those of proofreaders without a name.
 fn with_no_names(alloc: Global, rows: Vec<CorrRow>) -> Result<Vec<NamedCorrRow>, AllocError>
-    ensures { IfOk result (λ named. named.items ≡ map unnamed rows.items) }
+    ensures { IfOk result (λ named. named.items ≡ map without_name rows.items) }
 {
     let mut named = Vec::with_capacity(alloc, rows.len())?;
     for entry in rows {
@@ -136,7 +136,7 @@ fn give_cells(
 }
 
 /// The book of what was read of its tables: the paragraphs in the order of their ids, and these ids as they stand.
-fn joined(
+fn book_of_parts(
     version: u64,
     tables: Tables,
     items: Vec<Paragraph>,
@@ -144,8 +144,8 @@ fn joined(
     marks: Vec<KeptMark>,
 ) -> Result<Book, AllocError>
     requires order { IsPermutation (range_with_len 1 (length items.items)) order.items }
-    requires kept { IsKept version tables (flat_map (numbered items.items) order.items) marks.items }
-    ensures { IfOk result (λ book. book ≡ book_kept version tables (flat_map (numbered items.items) order.items) marks.items) }
+    requires kept { IsKept version tables (flat_map (paragraph_with_id items.items) order.items) marks.items }
+    ensures { IfOk result (λ book. book ≡ book_kept version tables (flat_map (paragraph_with_id items.items) order.items) marks.items) }
 {
     let paragraphs = Paragraphs::from_vecs(items, order)?;
     let marks = Marks::from_vec(marks)?;
@@ -182,7 +182,7 @@ impl Book {
             judged_marks(alloc, &mut items, parts.marks),
         )?;
         give_cells(alloc, &tables, &mut items, parts.cache)?;
-        let book = joined(version, tables, items, order, marks)?;
+        let book = book_of_parts(version, tables, items, order, marks)?;
         Ok(book)
     }
 }

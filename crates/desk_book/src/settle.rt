@@ -19,7 +19,7 @@ impl Book {
     {
         Book {
             version,
-            tables: self.tables.joined(name, table, room),
+            tables: self.tables.with_table(name, table, room),
             ..self
         }
     }
@@ -54,7 +54,9 @@ impl Book {
     {
         Book {
             version,
-            paragraphs: self.paragraphs.typed(paragraph, room, order_room, place),
+            paragraphs: self
+                .paragraphs
+                .with_paragraph(paragraph, room, order_room, place),
             ..self
         }
     }
@@ -91,7 +93,7 @@ impl Book {
     {
         Book {
             version,
-            paragraphs: self.paragraphs.reordered(order),
+            paragraphs: self.paragraphs.with_order(order),
             ..self
         }
     }

@@ -204,7 +204,7 @@ impl Tables {
     }
 
     /// These tables and a new one. It allocates nothing.
-    pub(crate) fn joined(self, name: Text, table: BoxedTable, room: TablesRoom) -> Self
+    pub(crate) fn with_table(self, name: Text, table: BoxedTable, room: TablesRoom) -> Self
         requires room { length self < room }
         requires new { lookup (pointwise nat_eq name) self ≡ None }
         ensures { result ≡ with_table name table self }

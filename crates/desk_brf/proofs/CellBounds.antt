@@ -17,7 +17,7 @@ use Rattle.louis_translate.proofs.Spans.{span-positive}
 use Rattle.desk_model.specs.Book.{Book, Paragraph}
 use Rattle.desk_model.specs.Print.{print_of}
 use Rattle.desk_model.specs.Sound.{IsSound, IsSoundParagraph}
-use Rattle.desk_model.specs.Translated.{IsBraille}
+use Rattle.desk_model.specs.Translation.{IsBraille}
 use Rattle.desk_model.proofs.Callers.{short-sound}
 
 abbrev FewOfRule : Rule → Type 0

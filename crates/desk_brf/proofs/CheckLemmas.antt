@@ -6,7 +6,7 @@ use Rattle.std.proofs.lemmas.List.Elements.{All-nil, All-push, Contains-append_r
 use Rattle.cell_core.specs.Cell.{HasDot}
 use Rattle.desk_model.specs.Book.{Book, Paragraph, paragraph_of}
 use Rattle.desk_model.specs.Sound.{IsSound}
-use Rattle.desk_model.specs.Translated.{IsBraille}
+use Rattle.desk_model.specs.Translation.{IsBraille}
 use Rattle.desk_model.proofs.Callers.{paragraph_of-own}
 use Rattle.desk_brf.specs.Counting.{in_volume}
 use Rattle.desk_brf.specs.Volume.{HasSixDotCells, IsFirstEightDot, IsSixDot}

@@ -9,7 +9,7 @@ use Rattle.louis_table.proofs.CellLimits.{all_joined}
 use Rattle.desk_model.specs.Book.{Book}
 use Rattle.desk_brf.specs.Embossed.{IsCellByte, IsEmbossedByte, IsTextLine}
 use Rattle.desk_brf.specs.Layout.{Layout, IsLayout}
-use Rattle.desk_brf.specs.Pages.{digit_letter, ended, number_line, number_text, page_text}
+use Rattle.desk_brf.specs.Pages.{digit_letter, number_line, number_text, page_text, with_ending}
 use Rattle.desk_brf.specs.Volume.{IsVolume}
 use Rattle.desk_brf.proofs.EachLine.{all-front, all-after, each_line}
 
@@ -55,17 +55,17 @@ number-bytes width number =
 abbrev pub AreCellBytes : List ℕ → Type 0
 AreCellBytes line = All IsCellByte line
 
-ended-bytes : (line : List ℕ) → AreCellBytes line → All IsEmbossedByte (ended line)
-ended-bytes line all =
+with_ending-bytes : (line : List ℕ) → AreCellBytes line → All IsEmbossedByte (with_ending line)
+with_ending-bytes line all =
     All-append IsEmbossedByte line (13 ∷ 10 ∷ []) (All-weaker IsCellByte IsEmbossedByte (λ b h. inl h) line all)
     (All-cons IsEmbossedByte 13 (10 ∷ []) (inr (inl refl)) (All-cons IsEmbossedByte 10 [] (inr (inr (inl refl))) (All-nil IsEmbossedByte)))
 
 page-bytes : (width number : ℕ) (page : List (List ℕ)) → All AreCellBytes page → All IsEmbossedByte (page_text width number page)
 page-bytes width number page all =
     let lines = page ++ number_line width number ∷ [] in
-    All-append IsEmbossedByte (flat_map ended lines) (12 ∷ [])
-    (all_joined IsEmbossedByte ended lines
-    (All-weaker AreCellBytes (λ line. All IsEmbossedByte (ended line)) ended-bytes lines (All-push AreCellBytes page (number_line width number) all (number-bytes width number))))
+    All-append IsEmbossedByte (flat_map with_ending lines) (12 ∷ [])
+    (all_joined IsEmbossedByte with_ending lines
+    (All-weaker AreCellBytes (λ line. All IsEmbossedByte (with_ending line)) with_ending-bytes lines (All-push AreCellBytes page (number_line width number) all (number-bytes width number))))
     (All-cons IsEmbossedByte 12 [] (inr (inr (inr refl))) (All-nil IsEmbossedByte))
 
 pages-bytes : (width number : ℕ) (pages : List (List (List ℕ))) → All AreCellBytes (flat_map (λ page. page) pages)

@@ -12,15 +12,15 @@ use Rattle.desk_model.specs.Book.{Book, Paragraph}
 use Rattle.desk_command.specs.declared.style.Style.{Style}
 use Rattle.desk_command.specs.declared.style.Style.TheVariants.{Body, Heading}
 use Rattle.desk_brf.specs.Embossed.{IsCellByte, IsTextLine}
-use Rattle.desk_brf.specs.Laying.{led}
+use Rattle.desk_brf.specs.Laying.{with_blanks}
 use Rattle.desk_brf.specs.Layout.{Layout, IsLayout, text_lines}
-use Rattle.desk_brf.specs.Placing.{AreTexts, IsAscii, IsLine, IsPlacing, IsText, first_indent, joined, other_indent}
+use Rattle.desk_brf.specs.Placing.{AreTexts, IsAscii, IsLine, IsPlacing, IsText, cells_of_pieces, first_indent, other_indent}
 use Rattle.desk_brf.specs.Volume.{AreLines, IsVolume, gap_before}
 use Rattle.desk_brf.specs.Volumes.{volume_of}
 use Rattle.desk_brf.specs.Words.{is_blank, words}
 use Rattle.desk_brf.proofs.AsciiLemmas.{ascii-head, ascii-length}
 use Rattle.desk_brf.proofs.ExistLemmas.{AreWords, onto, words_of_parts}
-use Rattle.desk_brf.proofs.LineLemmas.{joined-led}
+use Rattle.desk_brf.proofs.LineLemmas.{cells_of_pieces-led}
 use Rattle.desk_brf.proofs.PutLemmas.{first_indent-small, other_indent-small}
 
 -- what is true of all of two lists is true of each
@@ -63,9 +63,9 @@ line-some : (room : ℕ) (ws pieces left : List (List ℕ)) → IsLine room ws p
 line-some room ws pieces left (IsLine.cut front back others e at more pe le) = let size = ap length pe in omega (arith, size)
 line-some room ws pieces left (IsLine.whole e filled fits full) = filled
 
-line-fits : (room : ℕ) (ws pieces left : List (List ℕ)) → IsLine room ws pieces left → length (joined pieces) ≤ room
+line-fits : (room : ℕ) (ws pieces left : List (List ℕ)) → IsLine room ws pieces left → length (cells_of_pieces pieces) ≤ room
 line-fits room ws pieces left (IsLine.cut front back others e at more pe le) =
-    let size = ap (λ (ps : List (List ℕ)). length (joined ps)) pe in
+    let size = ap (λ (ps : List (List ℕ)). length (cells_of_pieces ps)) pe in
     omega (arith, size, at)
 line-fits room ws pieces left (IsLine.whole e filled fits full) = fits
 
@@ -87,22 +87,22 @@ word-ends word all (front, e) =
     let last : HasDots 0 = All-contains HasDots (front ++ 0 ∷ []) 0 (subst (All HasDots) e all) (Contains-push front 0) in
     absurd cc
 
-led-ends : (cells : List ℕ) (ps : List (List ℕ)) → AreWords HasDots ps → (EndsInBlank cells → ⊥) → EndsInBlank (cells ++ led ps) → ⊥
-led-ends cells [] all never (front, e) = never (front, sym (append-nil cells) ∙ e)
-led-ends cells (p ∷ ps) all never (front, e) =
-    led-ends (cells ++ 0 ∷ p) ps all.1
+with_blanks-ends : (cells : List ℕ) (ps : List (List ℕ)) → AreWords HasDots ps → (EndsInBlank cells → ⊥) → EndsInBlank (cells ++ with_blanks ps) → ⊥
+with_blanks-ends cells [] all never (front, e) = never (front, sym (append-nil cells) ∙ e)
+with_blanks-ends cells (p ∷ ps) all never (front, e) =
+    with_blanks-ends (cells ++ 0 ∷ p) ps all.1
     (λ ends. word-ends p all.0.1 (ends-after (cells ++ 0 ∷ []) p ends.0 all.0.0 (append_assoc cells (0 ∷ []) p ∙ ends.1)))
-    (front, append_assoc cells (0 ∷ p) (led ps) ∙ e)
+    (front, append_assoc cells (0 ∷ p) (with_blanks ps) ∙ e)
 
-joined-ends : (ps : List (List ℕ)) → 0 < length ps → AreWords HasDots ps → EndsInBlank (joined ps) → ⊥
-joined-ends [] some all ends = omega (arith, some)
-joined-ends (p ∷ ps) some all (front, e) = led-ends p ps all.1 (word-ends p all.0.1) (front, sym (joined-led p ps) ∙ e)
+cells_of_pieces-ends : (ps : List (List ℕ)) → 0 < length ps → AreWords HasDots ps → EndsInBlank (cells_of_pieces ps) → ⊥
+cells_of_pieces-ends [] some all ends = omega (arith, some)
+cells_of_pieces-ends (p ∷ ps) some all (front, e) = with_blanks-ends p ps all.1 (word-ends p all.0.1) (front, sym (cells_of_pieces-led p ps) ∙ e)
 
-joined-some : (ps : List (List ℕ)) → 0 < length ps → AreWords HasDots ps → 0 < length (joined ps)
-joined-some [] some all = absurd (omega (arith, some))
-joined-some (p ∷ ps) some all =
-    let e = ap length (joined-led p ps) in
-    let both = length-append p (led ps) in
+cells_of_pieces-some : (ps : List (List ℕ)) → 0 < length ps → AreWords HasDots ps → 0 < length (cells_of_pieces ps)
+cells_of_pieces-some [] some all = absurd (omega (arith, some))
+cells_of_pieces-some (p ∷ ps) some all =
+    let e = ap length (cells_of_pieces-led p ps) in
+    let both = length-append p (with_blanks ps) in
     let cells = all.0.0 in
     omega (arith, e, both, cells)
 
@@ -141,9 +141,9 @@ blank-end (cell ∷ cells) (byte ∷ front) h =
 text-line : (width indent : ℕ) (ws pieces left : List (List ℕ)) (line : List ℕ) → indent < width → AreWords HasDots ws → IsLine (width - indent) ws pieces left
     → IsText indent pieces line → IsTextLine width line
 text-line width indent ws pieces left line narrow all is text =
-    let cells = replicate indent 0 ++ joined pieces in
+    let cells = replicate indent 0 ++ cells_of_pieces pieces in
     let size = ascii-length cells line text in
-    let both = length-append (replicate indent 0) (joined pieces) in
+    let both = length-append (replicate indent 0) (cells_of_pieces pieces) in
     let blanks = length-replicate {A = ℕ} indent 0 in
     let fits = line-fits (width - indent) ws pieces left is in
     let some = line-some (width - indent) ws pieces left is in
@@ -152,7 +152,7 @@ text-line width indent ws pieces left line narrow all is text =
       narrow = omega (arith, size, both, blanks, fits, narrow);
       no_blank_at_end = λ front e.
           let ends = blank-end cells front (subst (IsAscii cells) e text) in
-          joined-ends pieces some mine (ends-after (replicate indent 0) (joined pieces) ends.0 (joined-some pieces some mine) ends.1);
+          cells_of_pieces-ends pieces some mine (ends-after (replicate indent 0) (cells_of_pieces pieces) ends.0 (cells_of_pieces-some pieces some mine) ends.1);
       cells = cell_bytes cells line text;
     }
 

@@ -4,12 +4,12 @@ use Rattle.std.specs.Prelude.{replicate, All, filter}
 use Rattle.std.specs.List.{AllByRecursion, slice_split, onto_first}
 use Rattle.std.proofs.lemmas.Bool.{cases_lt, cases_Bool}
 use Rattle.std.proofs.lemmas.List.Elements.{All-take, All-drop}
-use Rattle.desk_brf.specs.Placing.{IsAscii, IsText, IsLine, IsPlacing, joined}
-use Rattle.desk_brf.specs.Laying.{led, AreLaid}
+use Rattle.desk_brf.specs.Placing.{IsAscii, IsText, IsLine, IsPlacing, cells_of_pieces}
+use Rattle.desk_brf.specs.Laying.{with_blanks, AreLaid}
 use Rattle.desk_brf.specs.Volume.{IsSixDot}
 use Rattle.desk_brf.specs.Words.{is_blank, has_cells, words}
 use Rattle.desk_brf.proofs.AsciiLemmas.{ascii-append, ascii-blanks, ascii-one, ascii-text, text_of}
-use Rattle.desk_brf.proofs.LineLemmas.{joined-led, led-push}
+use Rattle.desk_brf.proofs.LineLemmas.{cells_of_pieces-led, with_blanks-push}
 use Rattle.desk_brf.proofs.PlacingLemmas.{head-same, placing-one}
 
 -- a word, of cells of which P holds
@@ -59,8 +59,8 @@ module _ (P : ℕ → Type 0) where
     pub p : List (List ℕ)
     pub l : List (List ℕ)
     pub parts : ws ≡ p ++ l
-    pub fits : used + length (led p) ≤ room
-    pub full : (next : List ℕ) (others : List (List ℕ)) → l ≡ next ∷ others → room < used + length (led p) + 1 + length next
+    pub fits : used + length (with_blanks p) ≤ room
+    pub full : (next : List ℕ) (others : List (List ℕ)) → l ≡ next ∷ others → room < used + length (with_blanks p) + 1 + length next
     pub put : AreWords P p
     pub left : AreWords P l
     pub fewer : size l ≤ size ws
@@ -81,7 +81,7 @@ module _ (P : ℕ → Type 0) where
         }
         | inr under ↦
             let f = fill room (used + 1 + length w) ws under all.1 in
-            let k = length-append w (led f.p) in
+            let k = length-append w (with_blanks f.p) in
             let fits = f.fits in
             let fewer = f.fewer in
             record {
@@ -120,8 +120,8 @@ module _ (P : ℕ → Type 0) where
             }
         | inr short ↦
             let f = fill room (length w) ws short all.1 in
-            let j = joined-led w f.p in
-            let size_is = ap length j ∙ length-append w (led f.p) in
+            let j = cells_of_pieces-led w f.p in
+            let size_is = ap length j ∙ length-append w (with_blanks f.p) in
             let fits = f.fits in
             let fewer = f.fewer in
             let some_cells = all.0.0 in
@@ -131,8 +131,8 @@ module _ (P : ℕ → Type 0) where
               is = IsLine.whole (ap (λ (xs : List (List ℕ)). w ∷ xs) f.parts) (omega arith) (omega (arith, size_is, fits))
                   (λ next others e.
                   let full = f.full next others e in
-                  let a = ap length (joined-led w (f.p ++ next ∷ [])) ∙ length-append w (led (f.p ++ next ∷ [])) in
-                  let b = ap length (led-push f.p next) ∙ length-append (led f.p) (0 ∷ next) in
+                  let a = ap length (cells_of_pieces-led w (f.p ++ next ∷ [])) ∙ length-append w (with_blanks (f.p ++ next ∷ [])) in
+                  let b = ap length (with_blanks-push f.p next) ∙ length-append (with_blanks f.p) (0 ∷ next) in
                   omega (arith, full, a, b));
               put = (all.0, f.put);
               left = f.left;
@@ -142,25 +142,25 @@ module _ (P : ℕ → Type 0) where
 
 -- ---- its text
 
-led_text : (ps : List (List ℕ)) → AreWords IsSixDot ps → (bytes : List ℕ) × IsAscii (led ps) bytes
+led_text : (ps : List (List ℕ)) → AreWords IsSixDot ps → (bytes : List ℕ) × IsAscii (with_blanks ps) bytes
 led_text [] all = ([], refl)
 led_text (p ∷ ps) all =
     let r = led_text ps all.1 in (
       32 ∷ (text_of p ++ r.0),
-      ascii-append (0 ∷ []) (p ++ led ps) (32 ∷ []) (text_of p ++ r.0) (ascii-one 0 32 refl)
-          (ascii-append p (led ps) (text_of p) r.0 (ascii-text p all.0.1) r.1),
+      ascii-append (0 ∷ []) (p ++ with_blanks ps) (32 ∷ []) (text_of p ++ r.0) (ascii-one 0 32 refl)
+          (ascii-append p (with_blanks ps) (text_of p) r.0 (ascii-text p all.0.1) r.1),
     )
 
-joined_text : (ps : List (List ℕ)) → AreWords IsSixDot ps → (bytes : List ℕ) × IsAscii (joined ps) bytes
+joined_text : (ps : List (List ℕ)) → AreWords IsSixDot ps → (bytes : List ℕ) × IsAscii (cells_of_pieces ps) bytes
 joined_text [] all = ([], refl)
 joined_text (p ∷ ps) all =
     let r = led_text ps all.1 in
-    (text_of p ++ r.0, subst (λ (cells : List ℕ). IsAscii cells (text_of p ++ r.0)) (sym (joined-led p ps)) (ascii-append p (led ps) (text_of p) r.0 (ascii-text p all.0.1) r.1))
+    (text_of p ++ r.0, subst (λ (cells : List ℕ). IsAscii cells (text_of p ++ r.0)) (sym (cells_of_pieces-led p ps)) (ascii-append p (with_blanks ps) (text_of p) r.0 (ascii-text p all.0.1) r.1))
 
 text : (indent : ℕ) (ps : List (List ℕ)) → AreWords IsSixDot ps → (bytes : List ℕ) × IsText indent ps bytes
 text indent ps all =
     let r = joined_text ps all in
-    (replicate indent 32 ++ r.0, ascii-append (replicate indent 0) (joined ps) (replicate indent 32) r.0 (ascii-blanks indent) r.1)
+    (replicate indent 32 ++ r.0, ascii-append (replicate indent 0) (cells_of_pieces ps) (replicate indent 32) r.0 (ascii-blanks indent) r.1)
 
 -- ---- all lines
 

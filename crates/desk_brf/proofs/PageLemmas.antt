@@ -8,13 +8,13 @@ use Rattle.std.proofs.lemmas.List.Concat.{flat_map-append}
 use Rattle.std.proofs.lemmas.List.Elements.{All-nil, All-cons}
 use Rattle.std.proofs.lemmas.Nat.{mod-mul-add, div-mul-add, div-add-mod'}
 use Rattle.desk_model.specs.Book.{Book, Paragraph}
-use Rattle.desk_ends.specs.Sent.{Sent}
-use Rattle.desk_brf.specs.Laying.{FillsPage, PutsPages, PutsParagraphs, page_end, written}
+use Rattle.desk_ends.specs.Sending.{Transmits}
+use Rattle.desk_brf.specs.Laying.{FillsPage, PutsPages, PutsParagraphs, bytes_of_lines, page_end}
 use Rattle.desk_brf.specs.Layout.{Layout, text_lines}
-use Rattle.desk_brf.specs.Pages.{ArePages, ended, number_line, page_text}
+use Rattle.desk_brf.specs.Pages.{ArePages, number_line, page_text, with_ending}
 use Rattle.desk_brf.specs.Volume.{AreLines}
-use Rattle.desk_brf.proofs.ParagraphLemmas.{written-append}
-use Rattle.desk_brf.proofs.SendLemmas.{Sent-then, Sent-stop, Sent-same, Sent-told, missing-few, missing-fill, page_end-full}
+use Rattle.desk_brf.proofs.ParagraphLemmas.{bytes_of_lines-append}
+use Rattle.desk_brf.proofs.SendLemmas.{Transmits-then, Transmits-stop, Transmits-same, Transmits-told, missing-few, missing-fill, page_end-full}
 
 abbrev Line : Type 0
 Line = List ℕ
@@ -48,7 +48,7 @@ cut-count room (suc n) lines = ap suc (cut-count room n (drop room lines))
 module _ (layout : Layout) (room : ℕ) (is : room ≡ text_lines layout) (some : 0 < room) where
   -- what ends a page
   abbrev foot : ℕ → List ℕ
-  foot number = ended (number_line layout.width number) ++ 12 ∷ []
+  foot number = with_ending (number_line layout.width number) ++ 12 ∷ []
 
   within_page : (j i : ℕ) → i + 1 < room → page_end layout (j * room + i + 1) ≡ []
   within_page j i lt =
@@ -63,37 +63,37 @@ module _ (layout : Layout) (room : ℕ) (is : room ≡ text_lines layout) (some 
       let at : ((j + 1) * room + 0) % room ≡ 0 = mod-mul-add (j + 1) room 0 some in
       ap (page_end layout) n
       ∙ (sym (page_end-full layout ((j + 1) * room + 0) room layout.width is refl at)
-      ∙ ap (λ k. ended (number_line layout.width k) ++ 12 ∷ []) (div-mul-add (j + 1) room 0 some))
+      ∙ ap (λ k. with_ending (number_line layout.width k) ++ 12 ∷ []) (div-mul-add (j + 1) room 0 some))
 
   rest_of_page : (j i : ℕ) (line : Line) (lines : List Line) → i + suc (length lines) ≡ room
-      → written layout (j * room + i) (line ∷ lines) ≡ flat_map ended (line ∷ lines) ++ foot (j + 1)
+      → bytes_of_lines layout (j * room + i) (line ∷ lines) ≡ flat_map with_ending (line ∷ lines) ++ foot (j + 1)
   rest_of_page j i line [] e =
-      append-nil (ended line ++ page_end layout (j * room + i + 1))
-      ∙ (ap (λ (t : List ℕ). ended line ++ t) (end_of_page j i (omega (arith, e)))
-      ∙ ap (λ (t : List ℕ). t ++ foot (j + 1)) (sym (append-nil (ended line))))
+      append-nil (with_ending line ++ page_end layout (j * room + i + 1))
+      ∙ (ap (λ (t : List ℕ). with_ending line ++ t) (end_of_page j i (omega (arith, e)))
+      ∙ ap (λ (t : List ℕ). t ++ foot (j + 1)) (sym (append-nil (with_ending line))))
   rest_of_page j i line (next ∷ lines) e =
       let n : j * room + i + 1 ≡ j * room + (i + 1) = omega arith in
-      let text = written layout (j * room + i + 1) (next ∷ lines) in
-      ap (λ (t : List ℕ). (ended line ++ t) ++ text) (within_page j i (omega (arith, e)))
-      ∙ (ap (λ (t : List ℕ). t ++ text) (append-nil (ended line))
-      ∙ (ap (λ k. ended line ++ written layout k (next ∷ lines)) n
-      ∙ (ap (λ (t : List ℕ). ended line ++ t) (rest_of_page j (i + 1) next lines (omega (arith, e)))
-      ∙ sym (append_assoc (ended line) (flat_map ended (next ∷ lines)) (foot (j + 1))))))
+      let text = bytes_of_lines layout (j * room + i + 1) (next ∷ lines) in
+      ap (λ (t : List ℕ). (with_ending line ++ t) ++ text) (within_page j i (omega (arith, e)))
+      ∙ (ap (λ (t : List ℕ). t ++ text) (append-nil (with_ending line))
+      ∙ (ap (λ k. with_ending line ++ bytes_of_lines layout k (next ∷ lines)) n
+      ∙ (ap (λ (t : List ℕ). with_ending line ++ t) (rest_of_page j (i + 1) next lines (omega (arith, e)))
+      ∙ sym (append_assoc (with_ending line) (flat_map with_ending (next ∷ lines)) (foot (j + 1))))))
 
-  page_is : (number : ℕ) (page : List Line) → flat_map ended page ++ foot number ≡ page_text layout.width number page
+  page_is : (number : ℕ) (page : List Line) → flat_map with_ending page ++ foot number ≡ page_text layout.width number page
   page_is number page =
       let last = number_line layout.width number in
-      sym (append_assoc (flat_map ended page) (ended last) (12 ∷ []))
-      ∙ ap (λ (t : List ℕ). t ++ 12 ∷ []) (sym (flat_map-append ended page (last ∷ []) ∙ ap (λ (t : List ℕ). flat_map ended page ++ t) (append-nil (ended last))))
+      sym (append_assoc (flat_map with_ending page) (with_ending last) (12 ∷ []))
+      ∙ ap (λ (t : List ℕ). t ++ 12 ∷ []) (sym (flat_map-append with_ending page (last ∷ []) ∙ ap (λ (t : List ℕ). flat_map with_ending page ++ t) (append-nil (with_ending last))))
 
-  whole_page : (j : ℕ) (page : List Line) → length page ≡ room → written layout (j * room) page ≡ page_text layout.width (j + 1) page
+  whole_page : (j : ℕ) (page : List Line) → length page ≡ room → bytes_of_lines layout (j * room) page ≡ page_text layout.width (j + 1) page
   whole_page j [] e = absurd (omega (arith, e, some))
   whole_page j (line ∷ lines) e =
-      ap (λ k. written layout k (line ∷ lines)) (let n : j * room ≡ j * room + 0 = omega arith in n)
+      ap (λ k. bytes_of_lines layout k (line ∷ lines)) (let n : j * room ≡ j * room + 0 = omega arith in n)
       ∙ (rest_of_page j 0 line lines (omega (arith, e)) ∙ page_is (j + 1) (line ∷ lines))
 
   all_pages : (n j : ℕ) (lines : List Line) → length lines ≡ n * room
-      → written layout (j * room) lines ≡ flat_map (λ e. page_text layout.width e.0 e.1) (enumerate_from (j + 1) (cut room n lines))
+      → bytes_of_lines layout (j * room) lines ≡ flat_map (λ e. page_text layout.width e.0 e.1) (enumerate_from (j + 1) (cut room n lines))
   all_pages zero j [] e = refl
   all_pages zero j (line ∷ lines) e = absurd (omega (arith, e))
   all_pages (suc n) j lines e =
@@ -102,17 +102,17 @@ module _ (layout : Layout) (room : ℕ) (is : room ≡ text_lines layout) (some 
       let product : suc n * room ≡ n * room + room = omega arith in
       let page = take room lines in
       let others = drop room lines in
-      let text = written layout (j * room + length page) others in
+      let text = bytes_of_lines layout (j * room + length page) others in
       let next : j * room + length page ≡ (j + 1) * room = omega (arith, front, e, product) in
-      ap (written layout (j * room)) (sym (take-append-drop room lines))
-      ∙ (written-append layout (j * room) page others
+      ap (bytes_of_lines layout (j * room)) (sym (take-append-drop room lines))
+      ∙ (bytes_of_lines-append layout (j * room) page others
       ∙ (ap (λ (t : List ℕ). t ++ text) (whole_page j page (omega (arith, front, e, product)))
       ∙ ap (λ (t : List ℕ). page_text layout.width (j + 1) page ++ t)
-      (ap (λ k. written layout k others) next ∙ all_pages n (j + 1) others (omega (arith, e, size, product)))))
+      (ap (λ k. bytes_of_lines layout k others) next ∙ all_pages n (j + 1) others (omega (arith, e, size, product)))))
 
   -- lines that are filled up with empty ones are written as pages
   pub are_pages : (lines : List Line) (blank : ℕ) → blank < room → (length lines + blank) % room ≡ 0
-      → ArePages layout lines (written layout 0 (lines ++ replicate blank [])) ((length lines + blank) / room)
+      → ArePages layout lines (bytes_of_lines layout 0 (lines ++ replicate blank [])) ((length lines + blank) / room)
   are_pages lines blank few fills =
       let all = lines ++ replicate blank [] in
       let count = (length lines + blank) / room in
@@ -127,7 +127,7 @@ module _ (layout : Layout) (room : ℕ) (is : room ≡ text_lines layout) (some 
         full = subst (λ (k : ℕ). All (λ page. length page ≡ k) (cut room count all)) is (cut-full room count all size);
         fewest = subst (λ (k : ℕ). blank < k) is few;
         count_is = sym (cut-count room count all);
-        bytes_are = ap (λ k. written layout k all) (let none : 0 ≡ 0 * room = omega arith in none) ∙ all_pages count 0 all size;
+        bytes_are = ap (λ k. bytes_of_lines layout k all) (let none : 0 ≡ 0 * room = omega arith in none) ∙ all_pages count 0 all size;
       }
 
 -- ---- the pages of paragraphs as they are sent
@@ -138,19 +138,19 @@ not_ok (Err e) P f = tt
 
 module _ (F : Type 0) (book : Book) (layout : Layout) (paragraphs : List Paragraph) (room : ℕ) (is : room ≡ text_lines layout) (some : 0 < room) {E : Type 0} (answer : Result ℕ E) where
   filled : (a b : Option (List ℕ)) (lines : List Line) (blank : ℕ) → AreLines book layout 0 paragraphs lines → blank < room → (length lines + blank) % room ≡ 0
-      → Sent F a b (written layout 0 lines ++ written layout (length lines) (replicate blank [])) [] (is_ok answer) → IfOk answer (λ pages. pages ≡ (length lines + blank) / room)
+      → Transmits F a b (bytes_of_lines layout 0 lines ++ bytes_of_lines layout (length lines) (replicate blank [])) [] (is_ok answer) → IfOk answer (λ pages. pages ≡ (length lines + blank) / room)
       → PutsPages F a b book layout paragraphs answer
   filled a b lines blank placed few fills sent count =
       let from : 0 + length lines ≡ length lines = omega arith in
-      let joined : written layout 0 (lines ++ replicate blank []) ≡ written layout 0 lines ++ written layout (length lines) (replicate blank []) =
-      written-append layout 0 lines (replicate blank []) ∙ ap (λ k. written layout 0 lines ++ written layout k (replicate blank [])) from in
+      let joined : bytes_of_lines layout 0 (lines ++ replicate blank []) ≡ bytes_of_lines layout 0 lines ++ bytes_of_lines layout (length lines) (replicate blank []) =
+      bytes_of_lines-append layout 0 lines (replicate blank []) ∙ ap (λ k. bytes_of_lines layout 0 lines ++ bytes_of_lines layout k (replicate blank [])) from in
       record {
         lines = lines;
         placed = placed;
-        bytes = written layout 0 (lines ++ replicate blank []);
+        bytes = bytes_of_lines layout 0 (lines ++ replicate blank []);
         pages = (length lines + blank) / room;
         paged = are_pages layout room is some lines blank few fills;
-        sent = Sent-same F a b _ _ [] (is_ok answer) (sym joined) sent;
+        sent = Transmits-same F a b _ _ [] (is_ok answer) (sym joined) sent;
         count = count;
       }
 
@@ -160,7 +160,7 @@ module _ (F : Type 0) (book : Book) (layout : Layout) (paragraphs : List Paragra
   Pages-stop a b after ok p f f' =
       let blank = (room - length p.lines % room) % room in
       filled a b p.lines blank p.placed (missing-few (length p.lines) room some) (missing-fill (length p.lines) room some)
-      (Sent-stop F a b b (written layout 0 p.lines) (written layout (length p.lines) (replicate blank [])) ok (is_ok answer) p.sent f f')
+      (Transmits-stop F a b b (bytes_of_lines layout 0 p.lines) (bytes_of_lines layout (length p.lines) (replicate blank [])) ok (is_ok answer) p.sent f f')
       (not_ok answer (λ pages. pages ≡ (length p.lines + blank) / room) f')
 
   -- the last page is filled after them, or fails
@@ -169,10 +169,10 @@ module _ (F : Type 0) (book : Book) (layout : Layout) (paragraphs : List Paragra
   Pages-goes a b c lines after ok told p t f same number =
       let size : lines ≡ length p.lines = p.count t in
       let full : (length p.lines + f.blank) % room ≡ 0 = ap (λ k. (length p.lines + f.blank) % k) is ∙ (ap (λ k. (k + f.blank) % text_lines layout) (sym size) ∙ f.full) in
-      let sent : Sent F b c (written layout (length p.lines) (replicate f.blank [])) [] told =
-      Sent-same F b c _ _ [] told (ap (λ k. written layout k (replicate f.blank [])) size) f.sent in
+      let sent : Transmits F b c (bytes_of_lines layout (length p.lines) (replicate f.blank [])) [] told =
+      Transmits-same F b c _ _ [] told (ap (λ k. bytes_of_lines layout k (replicate f.blank [])) size) f.sent in
       filled a c p.lines f.blank p.placed (subst (λ k. f.blank < k) (sym is) f.fewest) full
-      (Sent-told F a c _ [] told (is_ok answer) (sym same) (Sent-then F a b c (written layout 0 p.lines) (written layout (length p.lines) (replicate f.blank [])) ok told p.sent t sent))
+      (Transmits-told F a c _ [] told (is_ok answer) (sym same) (Transmits-then F a b c (bytes_of_lines layout 0 p.lines) (bytes_of_lines layout (length p.lines) (replicate f.blank [])) ok told p.sent t sent))
       (elim (cases_Bool told) [
         | inl whole ↦
             let all : after ≡ length p.lines + f.blank = f.count whole ∙ ap (λ k. k + f.blank) size in

@@ -6,25 +6,25 @@ use Rattle.std.proofs.lemmas.Bool.{both_ways}
 use Rattle.std.proofs.KnownBytes.{Appends-nil}
 use Rattle.desk_command.specs.declared.style.Style.{Style}
 use Rattle.desk_command.specs.declared.style.Style.TheVariants.{Body, Heading}
-use Rattle.desk_ends.specs.Sent.{Sent}
-use Rattle.desk_ends.proofs.Sending.{Sent-whole}
+use Rattle.desk_ends.specs.Sending.{Transmits}
+use Rattle.desk_ends.proofs.Sending.{Transmits-whole}
 use Rattle.desk_brf.specs.Layout.{Layout}
-use Rattle.desk_brf.specs.Laying.{PutsLines, PutsParagraph, page_end, written, AreLaid}
-use Rattle.desk_brf.specs.Pages.{ended}
+use Rattle.desk_brf.specs.Laying.{PutsLines, PutsParagraph, page_end, bytes_of_lines, AreLaid}
+use Rattle.desk_brf.specs.Pages.{with_ending}
 use Rattle.desk_brf.specs.Placing.{first_indent, other_indent}
 use Rattle.desk_brf.specs.Volume.{gap_before}
 use Rattle.desk_brf.specs.Words.{is_blank, has_cells, words, IsAtWord}
 use Rattle.desk_brf.specs.Volume.{IsSixDot}
 use Rattle.desk_brf.proofs.ExistLemmas.{AreWords, placed-some}
-use Rattle.desk_brf.proofs.SendLemmas.{Sent-then, Sent-stop, Sent-same}
+use Rattle.desk_brf.proofs.SendLemmas.{Transmits-then, Transmits-stop, Transmits-same}
 
 -- lines and more lines
-pub written-append : (layout : Layout) (n : ℕ) (xs ys : List (List ℕ)) → written layout n (xs ++ ys) ≡ written layout n xs ++ written layout (n + length xs) ys
-written-append layout n [] ys = ap (λ k. written layout k ys) (let e : n ≡ n + 0 = omega arith in e)
-written-append layout n (x ∷ xs) ys =
-    let here = ended x ++ page_end layout (n + 1) in
-    ap (λ (t : List ℕ). here ++ t) (written-append layout (n + 1) xs ys ∙ ap (λ k. written layout (n + 1) xs ++ written layout k ys) (let e : (n + 1) + length xs ≡ n + suc (length xs) = omega arith in e))
-    ∙ sym (append_assoc here (written layout (n + 1) xs) (written layout (n + suc (length xs)) ys))
+pub bytes_of_lines-append : (layout : Layout) (n : ℕ) (xs ys : List (List ℕ)) → bytes_of_lines layout n (xs ++ ys) ≡ bytes_of_lines layout n xs ++ bytes_of_lines layout (n + length xs) ys
+bytes_of_lines-append layout n [] ys = ap (λ k. bytes_of_lines layout k ys) (let e : n ≡ n + 0 = omega arith in e)
+bytes_of_lines-append layout n (x ∷ xs) ys =
+    let here = with_ending x ++ page_end layout (n + 1) in
+    ap (λ (t : List ℕ). here ++ t) (bytes_of_lines-append layout (n + 1) xs ys ∙ ap (λ k. bytes_of_lines layout (n + 1) xs ++ bytes_of_lines layout k ys) (let e : (n + 1) + length xs ≡ n + suc (length xs) = omega arith in e))
+    ∙ sym (append_assoc here (bytes_of_lines layout (n + 1) xs) (bytes_of_lines layout (n + suc (length xs)) ys))
 
 pub gap-none : (layout : Layout) (n : ℕ) (style : Style) → gap_before layout n style [] ≡ []
 gap-none layout n Body = refl
@@ -49,7 +49,7 @@ paragraph-none F a layout style ws n none =
     record {
       lines = [];
       placed = none;
-      sent = Sent-same F a a [] (written layout n (gap_before layout n style [] ++ [])) [] true (ap (λ (g : List (List ℕ)). written layout n (g ++ [])) (sym e)) (Sent-whole F a a [] true (Appends-nil a) refl);
+      sent = Transmits-same F a a [] (bytes_of_lines layout n (gap_before layout n style [] ++ [])) [] true (ap (λ (g : List (List ℕ)). bytes_of_lines layout n (g ++ [])) (sym e)) (Transmits-whole F a a [] true (Appends-nil a) refl);
       count = λ _. let k = ap (λ (g : List (List ℕ)). length (g ++ [])) e in omega (arith, k);
     }
 
@@ -59,35 +59,35 @@ module _ (F : Type 0) (a b : Option (List ℕ)) (layout : Layout) (style : Style
   gap-is (line ∷ lines) placed = gap-some layout n style line lines
 
   text-is : (own : List (List ℕ)) → AreLaid layout.width (first_indent style) (other_indent style) ws own
-      → written layout n (gap_before layout n style ([] ∷ [])) ++ written layout (n + length (gap_before layout n style ([] ∷ []))) own
-      ≡ written layout n (gap_before layout n style own ++ own)
+      → bytes_of_lines layout n (gap_before layout n style ([] ∷ [])) ++ bytes_of_lines layout (n + length (gap_before layout n style ([] ∷ []))) own
+      ≡ bytes_of_lines layout n (gap_before layout n style own ++ own)
   text-is own placed =
-      sym (written-append layout n (gap_before layout n style ([] ∷ [])) own)
-      ∙ ap (λ (g : List (List ℕ)). written layout n (g ++ own)) (sym (gap-is own placed))
+      sym (bytes_of_lines-append layout n (gap_before layout n style ([] ∷ [])) own)
+      ∙ ap (λ (g : List (List ℕ)). bytes_of_lines layout n (g ++ own)) (sym (gap-is own placed))
 
   -- the gap fails
   pub paragraph-stops : first_indent style < layout.width → other_indent style < layout.width → AreWords IsSixDot ws → (ok told : Bool) (after : ℕ) → ok ≡ false → told ≡ false
-      → Sent F a b (written layout n (gap_before layout n style ([] ∷ []))) [] ok → PutsParagraph F a b layout style ws n after told
+      → Transmits F a b (bytes_of_lines layout n (gap_before layout n style ([] ∷ []))) [] ok → PutsParagraph F a b layout style ws n after told
   paragraph-stops narrow narrow' all ok told after f f' s =
       let own = placed-some layout.width (first_indent style) (other_indent style) ws narrow narrow' all in
       record {
         lines = own.0;
         placed = own.1;
-        sent = Sent-same F a b _ _ [] told (text-is own.0 own.1) (Sent-stop F a b b (written layout n (gap_before layout n style ([] ∷ []))) (written layout (n + length (gap_before layout n style ([] ∷ []))) own.0) ok told s f f');
+        sent = Transmits-same F a b _ _ [] told (text-is own.0 own.1) (Transmits-stop F a b b (bytes_of_lines layout n (gap_before layout n style ([] ∷ []))) (bytes_of_lines layout (n + length (gap_before layout n style ([] ∷ []))) own.0) ok told s f f');
         count = λ whole. absurd (both_ways told f' whole);
       }
 
   -- its lines after the gap
   pub paragraph-goes : (c : Option (List ℕ)) (ok told : Bool) (mid after : ℕ) → ok ≡ true → mid ≡ n + length (gap_before layout n style ([] ∷ []))
-      → Sent F a b (written layout n (gap_before layout n style ([] ∷ []))) [] ok
+      → Transmits F a b (bytes_of_lines layout n (gap_before layout n style ([] ∷ []))) [] ok
       → PutsLines F b c layout (first_indent style) (other_indent style) ws mid after told → PutsParagraph F a c layout style ws n after told
   paragraph-goes c ok told mid after t mid_is s p =
       record {
         lines = p.lines;
         placed = p.placed;
-        sent = Sent-same F a c _ _ [] told (text-is p.lines p.placed)
-            (Sent-then F a b c (written layout n (gap_before layout n style ([] ∷ []))) (written layout (n + length (gap_before layout n style ([] ∷ []))) p.lines) ok told s t
-            (Sent-same F b c _ _ [] told (ap (λ k. written layout k p.lines) mid_is) p.sent));
+        sent = Transmits-same F a c _ _ [] told (text-is p.lines p.placed)
+            (Transmits-then F a b c (bytes_of_lines layout n (gap_before layout n style ([] ∷ []))) (bytes_of_lines layout (n + length (gap_before layout n style ([] ∷ []))) p.lines) ok told s t
+            (Transmits-same F b c _ _ [] told (ap (λ k. bytes_of_lines layout k p.lines) mid_is) p.sent));
         count = λ whole.
             let count = p.count whole in
             let e = ap (λ (g : List (List ℕ)). length (g ++ p.lines)) (gap-is p.lines p.placed) in

@@ -1,19 +1,19 @@
 -- There is one way to place words, and only one.
 use Rattle.std.proofs.Common.{◌≡◌, ℕ, ◌-◌, ◌<◌, ◌≤◌, List, [], ◌∷◌, ◌++◌, length, refl, sym, ap, subst, ◌∙◌, length-append, arith}
 use Rattle.std.specs.Prelude.{replicate}
-use Rattle.desk_brf.specs.Placing.{IsText, IsLine, IsPlacing, ArePlaced, joined}
-use Rattle.desk_brf.specs.Laying.{led, AreLaid}
+use Rattle.desk_brf.specs.Placing.{IsText, IsLine, IsPlacing, ArePlaced, cells_of_pieces}
+use Rattle.desk_brf.specs.Laying.{with_blanks, AreLaid}
 use Rattle.desk_brf.proofs.AsciiLemmas.{ascii-same}
-use Rattle.desk_brf.proofs.LineLemmas.{joined-led}
+use Rattle.desk_brf.proofs.LineLemmas.{cells_of_pieces-led}
 
 pub head-same : (x y : List ℕ) (xs ys : List (List ℕ)) → x ∷ xs ≡ y ∷ ys → (x ≡ y) × (xs ≡ ys)
 head-same x y xs ys e = (let h : x ≡ y = cc in h, let t : xs ≡ ys = cc in t)
 
 -- the first piece is no longer than all
-joined-first : (first : List ℕ) (pieces : List (List ℕ)) → length first ≤ length (joined (first ∷ pieces))
-joined-first first pieces =
-    let e = ap length (joined-led first pieces) in
-    let k = length-append first (led pieces) in
+cells_of_pieces-first : (first : List ℕ) (pieces : List (List ℕ)) → length first ≤ length (cells_of_pieces (first ∷ pieces))
+cells_of_pieces-first first pieces =
+    let e = ap length (cells_of_pieces-led first pieces) in
+    let k = length-append first (with_blanks pieces) in
     omega (arith, e, k)
 
 -- parts of one list of which the first are as long
@@ -45,39 +45,39 @@ fronts (x ∷ p) (y ∷ q) l m e =
     by (Fronts.longer next more f g) h = Fronts.longer next more (ap (λ (z : List ℕ). z ∷ q) (sym h) ∙ ap (λ (zs : List (List ℕ)). x ∷ zs) f) g
     by (Fronts.shorter next more f g) h = Fronts.shorter next more (ap (λ (z : List ℕ). z ∷ p) h ∙ ap (λ (zs : List (List ℕ)). y ∷ zs) f) g
 
-led-more : (p : List (List ℕ)) (next : List ℕ) (more : List (List ℕ)) → length (led (p ++ next ∷ [])) ≤ length (led (p ++ next ∷ more))
-led-more [] next more =
+with_blanks-more : (p : List (List ℕ)) (next : List ℕ) (more : List (List ℕ)) → length (with_blanks (p ++ next ∷ [])) ≤ length (with_blanks (p ++ next ∷ more))
+with_blanks-more [] next more =
     let a = length-append next [] in
-    let b = length-append next (led more) in
+    let b = length-append next (with_blanks more) in
     omega (arith, a, b)
-led-more (x ∷ p) next more =
-    let a = length-append x (led (p ++ next ∷ [])) in
-    let b = length-append x (led (p ++ next ∷ more)) in
-    let r = led-more p next more in
+with_blanks-more (x ∷ p) next more =
+    let a = length-append x (with_blanks (p ++ next ∷ [])) in
+    let b = length-append x (with_blanks (p ++ next ∷ more)) in
+    let r = with_blanks-more p next more in
     omega (arith, a, b, r)
 
-joined-more : (p : List (List ℕ)) (next : List ℕ) (more : List (List ℕ)) → 0 < length p → length (joined (p ++ next ∷ [])) ≤ length (joined (p ++ next ∷ more))
-joined-more [] next more some = absurd (omega (arith, some))
-joined-more (x ∷ p) next more some =
-    let e = ap length (joined-led x (p ++ next ∷ [])) in
-    let f = ap length (joined-led x (p ++ next ∷ more)) in
-    let a = length-append x (led (p ++ next ∷ [])) in
-    let b = length-append x (led (p ++ next ∷ more)) in
-    let r = led-more p next more in
+cells_of_pieces-more : (p : List (List ℕ)) (next : List ℕ) (more : List (List ℕ)) → 0 < length p → length (cells_of_pieces (p ++ next ∷ [])) ≤ length (cells_of_pieces (p ++ next ∷ more))
+cells_of_pieces-more [] next more some = absurd (omega (arith, some))
+cells_of_pieces-more (x ∷ p) next more some =
+    let e = ap length (cells_of_pieces-led x (p ++ next ∷ [])) in
+    let f = ap length (cells_of_pieces-led x (p ++ next ∷ more)) in
+    let a = length-append x (with_blanks (p ++ next ∷ [])) in
+    let b = length-append x (with_blanks (p ++ next ∷ more)) in
+    let r = with_blanks-more p next more in
     omega (arith, e, f, a, b, r)
 
 module _ (room : ℕ) (words p l q m : List (List ℕ)) where
   not_both : (front back : List ℕ) (others : List (List ℕ)) → words ≡ (front ++ back) ∷ others → length front ≡ room → 0 < length back
-      → words ≡ p ++ l → 0 < length p → length (joined p) ≤ room → ⊥
+      → words ≡ p ++ l → 0 < length p → length (cells_of_pieces p) ≤ room → ⊥
   not_both front back others e at some = by p
     where
-      by : (p : List (List ℕ)) → words ≡ p ++ l → 0 < length p → length (joined p) ≤ room → ⊥
+      by : (p : List (List ℕ)) → words ≡ p ++ l → 0 < length p → length (cells_of_pieces p) ≤ room → ⊥
       by [] f none fits = absurd (omega (arith, none))
       by (first ∷ pieces) f _ fits =
           let h = head-same (front ++ back) first others (pieces ++ l) (sym e ∙ f) in
           let size = length-append front back in
           let whole = ap length h.0 in
-          let long = joined-first first pieces in
+          let long = cells_of_pieces-first first pieces in
           omega (arith, size, whole, long, at, some, fits)
 
 -- a line takes the same pieces always
@@ -93,14 +93,14 @@ line-one room words p l q m (IsLine.whole f filled fits full) (IsLine.whole f' f
     by : Fronts p q l m → (p ≡ q) × (l ≡ m)
     by (Fronts.same g h) = (g, h)
     by (Fronts.longer next more g h) =
-        let over = full next (more ++ m) h in let k = joined-more p next more filled in
-        let e = ap (λ (ps : List (List ℕ)). length (joined ps)) g in absurd (omega (arith, over, k, e, fits'))
+        let over = full next (more ++ m) h in let k = cells_of_pieces-more p next more filled in
+        let e = ap (λ (ps : List (List ℕ)). length (cells_of_pieces ps)) g in absurd (omega (arith, over, k, e, fits'))
     by (Fronts.shorter next more g h) =
-        let over = full' next (more ++ l) h in let k = joined-more q next more filled' in
-        let e = ap (λ (ps : List (List ℕ)). length (joined ps)) g in absurd (omega (arith, over, k, e, fits))
+        let over = full' next (more ++ l) h in let k = cells_of_pieces-more q next more filled' in
+        let e = ap (λ (ps : List (List ℕ)). length (cells_of_pieces ps)) g in absurd (omega (arith, over, k, e, fits))
 
 pub text-one : (indent : ℕ) (p q : List (List ℕ)) (x y : List ℕ) → p ≡ q → IsText indent p x → IsText indent q y → x ≡ y
-text-one indent p q x y e h k = ascii-same (replicate indent 0 ++ joined q) x y (subst (λ (ps : List (List ℕ)). IsText indent ps x) e h) k
+text-one indent p q x y e h k = ascii-same (replicate indent 0 ++ cells_of_pieces q) x y (subst (λ (ps : List (List ℕ)). IsText indent ps x) e h) k
 
 -- no line takes from no words
 pub line-none : (room : ℕ) (p l : List (List ℕ)) → IsLine room [] p l → ⊥

@@ -2,12 +2,12 @@
 use Rattle.std.proofs.Common.{◌≡◌, ℕ, ◌+◌, ◌-◌, ◌<◌, ◌≤◌, Bool, true, false, List, [], ◌∷◌, ◌++◌, length, Option, refl, sym, ap, subst, arith}
 use Rattle.std.specs.Prelude.{replicate}
 use Rattle.std.proofs.lemmas.Bool.{both_ways}
-use Rattle.desk_ends.specs.Sent.{Sent}
+use Rattle.desk_ends.specs.Sending.{Transmits}
 use Rattle.desk_ends.proofs.Sending.{Sending, Sending-none, Sending-same, Sending-more, Sending-fails, Sending-done}
 use Rattle.desk_brf.specs.Layout.{Layout}
-use Rattle.desk_brf.specs.Laying.{LaysLine, PutsLines, page_end, written, AreLaid}
-use Rattle.desk_brf.specs.Pages.{ended}
-use Rattle.desk_brf.specs.Placing.{IsText, joined, first_indent, other_indent}
+use Rattle.desk_brf.specs.Laying.{LaysLine, PutsLines, page_end, bytes_of_lines, AreLaid}
+use Rattle.desk_brf.specs.Pages.{with_ending}
+use Rattle.desk_brf.specs.Placing.{IsText, cells_of_pieces, first_indent, other_indent}
 use Rattle.desk_brf.specs.Words.{words}
 use Rattle.desk_command.specs.declared.style.Style.{Style}
 use Rattle.desk_command.specs.declared.style.Style.TheVariants.{Body, Heading}
@@ -22,28 +22,28 @@ pub record Putting (old now : Option (List ℕ)) (layout : Layout) (first other 
   pub placed : AreLaid layout.width first other all_words all
   pub left : List (List ℕ)
   pub placed_left : AreLaid layout.width indent other words left
-  pub sending : Sending old now [] (written layout lines left) (written layout start all)
+  pub sending : Sending old now [] (bytes_of_lines layout lines left) (bytes_of_lines layout start all)
   pub count : lines + length left ≡ start + length all
 
 pub Putting-none : (a : Option (List ℕ)) (layout : Layout) (first other : ℕ) (words : List (List ℕ)) (start : ℕ) → first < layout.width → other < layout.width
     → AreWords IsSixDot words → Putting a a layout first other first words words start start
 Putting-none a layout first other words start narrow narrow' all =
     let p = placed-some layout.width first other words narrow narrow' all in
-    record { all = p.0; placed = p.1; left = p.0; placed_left = p.1; sending = Sending-none a [] (written layout start p.0) (written layout start p.0) refl; count = refl }
+    record { all = p.0; placed = p.1; left = p.0; placed_left = p.1; sending = Sending-none a [] (bytes_of_lines layout start p.0) (bytes_of_lines layout start p.0) refl; count = refl }
 
 module _ (F : Type 0) (a b c : Option (List ℕ)) (layout : Layout) (first other indent : ℕ) (all_words words rest : List (List ℕ)) (start lines : ℕ)
     (was : Putting a b layout first other indent all_words words start lines) (line : List ℕ) (laid : LaysLine (layout.width - indent) words rest (replicate indent 32) line) (ok : Bool)
-    (s : Sent F b c (ended line ++ page_end layout (lines + 1)) [] ok) where
+    (s : Transmits F b c (with_ending line ++ page_end layout (lines + 1)) [] ok) where
   is_text : IsText indent laid.pieces line
   is_text =
       subst (IsText indent laid.pieces) (sym laid.adds)
-      (ascii-append (replicate indent 0) (joined laid.pieces) (replicate indent 32) laid.bytes (ascii-blanks indent) laid.ascii)
+      (ascii-append (replicate indent 0) (cells_of_pieces laid.pieces) (replicate indent 32) laid.bytes (ascii-blanks indent) laid.ascii)
 
   next : (more : List (List ℕ)) × (was.left ≡ line ∷ more) × AreLaid layout.width other other rest more
   next = placed-first layout.width indent other words laid.pieces rest was.left line laid.is_line is_text was.placed_left
 
-  parts : written layout lines was.left ≡ (ended line ++ page_end layout (lines + 1)) ++ written layout (lines + 1) next.0
-  parts = ap (written layout lines) next.1
+  parts : bytes_of_lines layout lines was.left ≡ (with_ending line ++ page_end layout (lines + 1)) ++ bytes_of_lines layout (lines + 1) next.0
+  parts = ap (bytes_of_lines layout lines) next.1
 
   pub Putting-more : ok ≡ true → Putting a c layout first other other all_words rest start (lines + 1)
   Putting-more t =
@@ -54,8 +54,8 @@ module _ (F : Type 0) (a b c : Option (List ℕ)) (layout : Layout) (first other
         placed = was.placed;
         left = next.0;
         placed_left = next.2;
-        sending = Sending-more F a b c [] [] (written layout lines was.left) (written layout start was.all) ok was.sending (ended line ++ page_end layout (lines + 1))
-            (written layout (lines + 1) next.0) parts s t;
+        sending = Sending-more F a b c [] [] (bytes_of_lines layout lines was.left) (bytes_of_lines layout start was.all) ok was.sending (with_ending line ++ page_end layout (lines + 1))
+            (bytes_of_lines layout (lines + 1) next.0) parts s t;
         count = omega (arith, size, count);
       }
 
@@ -64,8 +64,8 @@ module _ (F : Type 0) (a b c : Option (List ℕ)) (layout : Layout) (first other
       record {
         lines = was.all;
         placed = was.placed;
-        sent = Sending-fails F a b c [] [] (written layout lines was.left) (written layout start was.all) ok was.sending (ended line ++ page_end layout (lines + 1))
-            (written layout (lines + 1) next.0) parts s [] told f f';
+        sent = Sending-fails F a b c [] [] (bytes_of_lines layout lines was.left) (bytes_of_lines layout start was.all) ok was.sending (with_ending line ++ page_end layout (lines + 1))
+            (bytes_of_lines layout (lines + 1) next.0) parts s [] told f f';
         count = λ whole. absurd (both_ways told f' whole);
       }
 
@@ -82,7 +82,7 @@ Putting-done F a b layout first other indent all_words words start lines was non
     record {
       lines = was.all;
       placed = was.placed;
-      sent = Sending-done F a b [] (written layout start was.all) true (Sending-same a b [] (written layout lines was.left) [] (written layout start was.all) was.sending (ap (written layout lines) left)) refl;
+      sent = Sending-done F a b [] (bytes_of_lines layout start was.all) true (Sending-same a b [] (bytes_of_lines layout lines was.left) [] (bytes_of_lines layout start was.all) was.sending (ap (bytes_of_lines layout lines) left)) refl;
       count = λ _. omega (arith, size, count);
     }
 

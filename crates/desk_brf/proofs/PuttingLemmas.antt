@@ -12,16 +12,16 @@ use Rattle.louis_translate.specs.Tiling.{Tiles}
 use Rattle.louis_translate.proofs.Tilings.{one_tiling}
 use Rattle.desk_model.specs.Book.{Book, Paragraph}
 use Rattle.desk_model.specs.Print.{print_of}
-use Rattle.desk_model.specs.Translated.{IsBraille}
-use Rattle.desk_ends.specs.Sent.{Sent}
+use Rattle.desk_model.specs.Translation.{IsBraille}
+use Rattle.desk_ends.specs.Sending.{Transmits}
 use Rattle.desk_ends.proofs.Sending.{Sending, Sending-none, Sending-same, Sending-more, Sending-fails, Sending-done}
 use Rattle.desk_brf.specs.Layout.{Layout}
-use Rattle.desk_brf.specs.Laying.{PutsParagraph, PutsParagraphs, written}
+use Rattle.desk_brf.specs.Laying.{PutsParagraph, PutsParagraphs, bytes_of_lines}
 use Rattle.desk_brf.specs.Placing.{ArePlaced, AreTexts, first_indent, other_indent}
 use Rattle.desk_brf.specs.Volume.{AreLines, HasSixDotCells, IsSixDot, gap_before}
 use Rattle.desk_brf.specs.Words.{words}
 use Rattle.desk_brf.proofs.ExistLemmas.{placed-some, words-are}
-use Rattle.desk_brf.proofs.ParagraphLemmas.{written-append}
+use Rattle.desk_brf.proofs.ParagraphLemmas.{bytes_of_lines-append}
 use Rattle.desk_brf.proofs.PlacingLemmas.{placing-one, text-one, laid-placed}
 use Rattle.desk_brf.proofs.PutLemmas.{first_indent-small, other_indent-small}
 
@@ -85,7 +85,7 @@ pub record PuttingParagraphs (old now : Option (List ℕ)) (book : Book) (layout
   pub placed : AreLines book layout 0 paragraphs all
   pub left : List Line
   pub placed_left : AreLines book layout lines left_over left
-  pub sending : Sending old now [] (written layout lines left) (written layout 0 all)
+  pub sending : Sending old now [] (bytes_of_lines layout lines left) (bytes_of_lines layout 0 all)
   pub count : lines + length left ≡ length all
 
 pub Paragraphs-none : (a : Option (List ℕ)) (book : Book) (layout : Layout) (paragraphs : List Paragraph) (lines : ℕ) → lines ≡ 0 → 4 < layout.width
@@ -93,7 +93,7 @@ pub Paragraphs-none : (a : Option (List ℕ)) (book : Book) (layout : Layout) (p
 Paragraphs-none a book layout paragraphs lines none wide all =
     let p = lines-some book layout wide 0 paragraphs all in
     subst (λ k. PuttingParagraphs a a book layout paragraphs paragraphs k) (sym none)
-    (record { all = p.0; placed = p.1; left = p.0; placed_left = p.1; sending = Sending-none a [] (written layout 0 p.0) (written layout 0 p.0) refl; count = omega arith })
+    (record { all = p.0; placed = p.1; left = p.0; placed_left = p.1; sending = Sending-none a [] (bytes_of_lines layout 0 p.0) (bytes_of_lines layout 0 p.0) refl; count = omega arith })
 
 pub Paragraphs-same : (a b : Option (List ℕ)) (book : Book) (layout : Layout) (all left more : List Paragraph) (lines : ℕ) → left ≡ more
     → PuttingParagraphs a b book layout all left lines → PuttingParagraphs a b book layout all more lines
@@ -122,10 +122,10 @@ module _ (F : Type 0) (a b c : Option (List ℕ)) (book : Book) (layout : Layout
             subst (λ (ls : List Line). AreLines book layout (lines + length (gap_before layout lines style ls ++ ls)) paragraphs rest) same others,
           )
 
-  parts : written layout lines was.left ≡ written layout lines own ++ written layout (lines + length own) next.0
-  parts = ap (written layout lines) next.1 ∙ written-append layout lines own next.0
+  parts : bytes_of_lines layout lines was.left ≡ bytes_of_lines layout lines own ++ bytes_of_lines layout (lines + length own) next.0
+  parts = ap (bytes_of_lines layout lines) next.1 ∙ bytes_of_lines-append layout lines own next.0
 
-  sent : Sent F b c (written layout lines own) [] ok
+  sent : Transmits F b c (bytes_of_lines layout lines own) [] ok
   sent = puts.sent
 
   pub Paragraphs-more : ok ≡ true → PuttingParagraphs a c book layout all paragraphs after
@@ -139,8 +139,8 @@ module _ (F : Type 0) (a b c : Option (List ℕ)) (book : Book) (layout : Layout
         placed = was.placed;
         left = next.0;
         placed_left = next.2;
-        sending = Sending-more F a b c [] [] (written layout lines was.left) (written layout 0 was.all) ok was.sending (written layout lines own)
-            (written layout (lines + length own) next.0) parts sent t;
+        sending = Sending-more F a b c [] [] (bytes_of_lines layout lines was.left) (bytes_of_lines layout 0 was.all) ok was.sending (bytes_of_lines layout lines own)
+            (bytes_of_lines layout (lines + length own) next.0) parts sent t;
         count = omega (arith, size, before);
       })
 
@@ -149,8 +149,8 @@ module _ (F : Type 0) (a b c : Option (List ℕ)) (book : Book) (layout : Layout
       record {
         lines = was.all;
         placed = was.placed;
-        sent = Sending-fails F a b c [] [] (written layout lines was.left) (written layout 0 was.all) ok was.sending (written layout lines own)
-            (written layout (lines + length own) next.0) parts sent [] told f f';
+        sent = Sending-fails F a b c [] [] (bytes_of_lines layout lines was.left) (bytes_of_lines layout 0 was.all) ok was.sending (bytes_of_lines layout lines own)
+            (bytes_of_lines layout (lines + length own) next.0) parts sent [] told f f';
         count = λ whole. absurd (both_ways told f' whole);
       }
 
@@ -163,7 +163,7 @@ Paragraphs-done F a b book layout all left_over lines was none =
     record {
       lines = was.all;
       placed = was.placed;
-      sent = Sending-done F a b [] (written layout 0 was.all) true
-          (Sending-same a b [] (written layout lines was.left) [] (written layout 0 was.all) was.sending (ap (written layout lines) left)) refl;
+      sent = Sending-done F a b [] (bytes_of_lines layout 0 was.all) true
+          (Sending-same a b [] (bytes_of_lines layout lines was.left) [] (bytes_of_lines layout 0 was.all) was.sending (ap (bytes_of_lines layout lines) left)) refl;
       count = λ _. omega (arith, size, count);
     }

@@ -7,15 +7,15 @@ use Rattle.std.proofs.lemmas.Bool.{both_ways}
 use Rattle.std.proofs.lemmas.List.{append-nil, length-map, length-replicate}
 use Rattle.std.proofs.lemmas.Fmt.{length-decimal-le}
 use Rattle.std.proofs.lemmas.Nat.{mod-mul-add, div-add-mod', mod_below}
-use Rattle.desk_ends.specs.Sent.{Sent}
-use Rattle.desk_brf.specs.Laying.{FillsPage, page_end, written}
+use Rattle.desk_ends.specs.Sending.{Transmits}
+use Rattle.desk_brf.specs.Laying.{FillsPage, bytes_of_lines, page_end}
 use Rattle.desk_brf.specs.Layout.{Layout, text_lines}
-use Rattle.desk_brf.specs.Pages.{digit_letter, ended, number_text, number_line}
+use Rattle.desk_brf.specs.Pages.{digit_letter, with_ending, number_text, number_line}
 
 -- one text after another
 module _ (F : Type 0) (a b c : Option (List ℕ)) (x y : List ℕ) (first second : Bool) where
-  pub Sent-then : Sent F a b x [] first → first ≡ true → Sent F b c y [] second → Sent F a c (x ++ y) [] second
-  Sent-then s whole t =
+  pub Transmits-then : Transmits F a b x [] first → first ≡ true → Transmits F b c y [] second → Transmits F a c (x ++ y) [] second
+  Transmits-then s whole t =
       let all : s.out ≡ x = sym (append-nil s.out) ∙ (ap (λ (r : List ℕ). s.out ++ r) (sym (s.holds whole)) ∙ s.begins) in
       record {
         out = s.out ++ t.out;
@@ -27,8 +27,8 @@ module _ (F : Type 0) (a b c : Option (List ℕ)) (x y : List ℕ) (first second
       }
 
   -- the first fails
-  pub Sent-stop : Sent F a b x [] first → first ≡ false → second ≡ false → Sent F a b (x ++ y) [] second
-  Sent-stop s failed not_whole =
+  pub Transmits-stop : Transmits F a b x [] first → first ≡ false → second ≡ false → Transmits F a b (x ++ y) [] second
+  Transmits-stop s failed not_whole =
       record {
         out = s.out;
         rest = s.rest ++ y;
@@ -39,12 +39,12 @@ module _ (F : Type 0) (a b c : Option (List ℕ)) (x y : List ℕ) (first second
       }
 
 -- the whole of another text that is the same
-pub Sent-same : (F : Type 0) (a b : Option (List ℕ)) (x y held : List ℕ) (ok : Bool) → x ≡ y → Sent F a b x held ok → Sent F a b y held ok
-Sent-same F a b x y held ok e s = subst (λ (t : List ℕ). Sent F a b t held ok) e s
+pub Transmits-same : (F : Type 0) (a b : Option (List ℕ)) (x y held : List ℕ) (ok : Bool) → x ≡ y → Transmits F a b x held ok → Transmits F a b y held ok
+Transmits-same F a b x y held ok e s = subst (λ (t : List ℕ). Transmits F a b t held ok) e s
 
 -- the end of a page after its last line of text
 pub page_end-full : (layout : Layout) (n t w : ℕ) → t ≡ text_lines layout → w ≡ layout.width → n % t ≡ 0
-    → ended (number_line w (n / t)) ++ 12 ∷ [] ≡ page_end layout n
+    → with_ending (number_line w (n / t)) ++ 12 ∷ [] ≡ page_end layout n
 page_end-full layout n t w e f full =
     let at : n % text_lines layout ≡ 0 = ap (λ k. n % k) (sym e) ∙ full in
     rw (e, f, at)
@@ -90,16 +90,16 @@ number_line-short width number narrow fits =
     omega (arith, digits, text, all, blanks, narrow)
 
 -- the same, said otherwise
-pub Sent-told : (F : Type 0) (a b : Option (List ℕ)) (x held : List ℕ) (ok told : Bool) → ok ≡ told → Sent F a b x held ok → Sent F a b x held told
-Sent-told F a b x held ok told e s = subst (λ (t : Bool). Sent F a b x held t) e s
+pub Transmits-told : (F : Type 0) (a b : Option (List ℕ)) (x held : List ℕ) (ok told : Bool) → ok ≡ told → Transmits F a b x held ok → Transmits F a b x held told
+Transmits-told F a b x held ok told e s = subst (λ (t : Bool). Transmits F a b x held t) e s
 
 -- the first of empty lines
-pub written-blank : (layout : Layout) (n k m : ℕ) → k ≡ m + 1
-    → written layout n (replicate k []) ≡ (ended [] ++ page_end layout (n + 1)) ++ written layout (n + 1) (replicate m [])
-written-blank layout n k m e = ap (λ j. written layout n (replicate j [])) (let h : k ≡ suc m = omega arith in h)
+pub bytes_of_lines-blank : (layout : Layout) (n k m : ℕ) → k ≡ m + 1
+    → bytes_of_lines layout n (replicate k []) ≡ (with_ending [] ++ page_end layout (n + 1)) ++ bytes_of_lines layout (n + 1) (replicate m [])
+bytes_of_lines-blank layout n k m e = ap (λ j. bytes_of_lines layout n (replicate j [])) (let h : k ≡ suc m = omega arith in h)
 
 pub FillsPage-from : (F : Type 0) (a b : Option (List ℕ)) (layout : Layout) (n t after : ℕ) (ok : Bool) → t ≡ text_lines layout → 0 < t
-    → Sent F a b (written layout n (replicate ((t - n % t) % t) [])) [] ok → (ok ≡ true → after ≡ n + (t - n % t) % t) → FillsPage F a b layout n after ok
+    → Transmits F a b (bytes_of_lines layout n (replicate ((t - n % t) % t) [])) [] ok → (ok ≡ true → after ≡ n + (t - n % t) % t) → FillsPage F a b layout n after ok
 FillsPage-from F a b layout n t after ok e some sent count =
     record {
       blank = (t - n % t) % t;

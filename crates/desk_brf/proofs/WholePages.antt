@@ -9,7 +9,7 @@ use Rattle.louis_table.proofs.CellLimits.{all_joined}
 use Rattle.desk_model.specs.Book.{Book}
 use Rattle.desk_brf.specs.Embossed.{ArePageTexts, IsCellByte, IsPageText}
 use Rattle.desk_brf.specs.Layout.{Layout, IsLayout, text_lines}
-use Rattle.desk_brf.specs.Pages.{ended, number_line, page_text}
+use Rattle.desk_brf.specs.Pages.{number_line, page_text, with_ending}
 use Rattle.desk_brf.specs.Volume.{IsVolume}
 use Rattle.desk_brf.proofs.EachByte.{AreCellBytes, number-bytes, pages_lines-bytes}
 use Rattle.desk_brf.proofs.EachLine.{all-front, all-after}
@@ -29,18 +29,18 @@ cells-feeds (byte ∷ line) all =
     let none : ◌≡◌ {A = ℕ} (cond {A = ℕ} (eqb byte 10) 1 0 + line_feeds line) 0 = omega (arith, here, rest) in
     sum_by-cons (λ b. cond (eqb b 10) 1 0) byte line ∙ none
 
-ended-feeds : (line : List ℕ) → AreCellBytes line → line_feeds (ended line) ≡ 1
-ended-feeds line all =
+with_ending-feeds : (line : List ℕ) → AreCellBytes line → line_feeds (with_ending line) ≡ 1
+with_ending-feeds line all =
     sum_by-append (λ byte. cond (eqb byte 10) 1 0) line (13 ∷ 10 ∷ []) ∙ ap (λ n. n + 1) (cells-feeds line all)
 
-lines-feeds : (lines : List (List ℕ)) → All AreCellBytes lines → line_feeds (flat_map ended lines) ≡ length lines
+lines-feeds : (lines : List (List ℕ)) → All AreCellBytes lines → line_feeds (flat_map with_ending lines) ≡ length lines
 lines-feeds [] all = refl
 lines-feeds (line ∷ lines) all =
-    let here = ended-feeds line (All-head AreCellBytes line lines all) in
+    let here = with_ending-feeds line (All-head AreCellBytes line lines all) in
     let rest = lines-feeds lines (All-tail AreCellBytes line lines all) in
-    let both : line_feeds (ended line ++ flat_map ended lines) ≡ line_feeds (ended line) + line_feeds (flat_map ended lines) =
-    sum_by-append (λ byte. cond (eqb byte 10) 1 0) (ended line) (flat_map ended lines) in
-    let n : ◌≡◌ {A = ℕ} (line_feeds (ended line ++ flat_map ended lines)) (suc (length lines)) = omega (arith, both, here, rest) in
+    let both : line_feeds (with_ending line ++ flat_map with_ending lines) ≡ line_feeds (with_ending line) + line_feeds (flat_map with_ending lines) =
+    sum_by-append (λ byte. cond (eqb byte 10) 1 0) (with_ending line) (flat_map with_ending lines) in
+    let n : ◌≡◌ {A = ℕ} (line_feeds (with_ending line ++ flat_map with_ending lines)) (suc (length lines)) = omega (arith, both, here, rest) in
     n
 
 -- ---- no form feed
@@ -48,8 +48,8 @@ lines-feeds (line ∷ lines) all =
 abbrev IsNoFormFeed : ℕ → Type 0
 IsNoFormFeed byte = byte ≢ 12
 
-ended-none : (line : List ℕ) → AreCellBytes line → All IsNoFormFeed (ended line)
-ended-none line all =
+with_ending-none : (line : List ℕ) → AreCellBytes line → All IsNoFormFeed (with_ending line)
+with_ending-none line all =
     All-append IsNoFormFeed line (13 ∷ 10 ∷ []) (All-weaker IsCellByte IsNoFormFeed (λ byte is e. let low = is.0 in omega (arith, low, e)) line all)
     (All-cons IsNoFormFeed 13 (10 ∷ []) (λ e. omega (arith, e)) (All-cons IsNoFormFeed 10 [] (λ e. omega (arith, e)) (All-nil IsNoFormFeed)))
 
@@ -57,7 +57,7 @@ ended-none line all =
 
 module _ (layout : Layout) (some : 1 ≤ layout.lines) where
   page-whole : (number : ℕ) (page : List (List ℕ)) → All AreCellBytes page → length page ≡ text_lines layout
-      → IsPageText layout.lines (flat_map ended (page ++ number_line layout.width number ∷ []))
+      → IsPageText layout.lines (flat_map with_ending (page ++ number_line layout.width number ∷ []))
   page-whole number page all full =
       let last = number_line layout.width number in
       let lines = page ++ last ∷ [] in
@@ -65,7 +65,7 @@ module _ (layout : Layout) (some : 1 ≤ layout.lines) where
       let size = length-append page (last ∷ []) in
       record {
         line_feeds = lines-feeds lines cells ∙ (let n : length lines ≡ layout.lines = omega (arith, size, full, some) in n);
-        no_form_feed = all_joined IsNoFormFeed ended lines (All-weaker AreCellBytes (λ line. All IsNoFormFeed (ended line)) ended-none lines cells);
+        no_form_feed = all_joined IsNoFormFeed with_ending lines (All-weaker AreCellBytes (λ line. All IsNoFormFeed (with_ending line)) with_ending-none lines cells);
       }
 
   pages-whole : (number : ℕ) (pages : List (List (List ℕ))) → All AreCellBytes (flat_map (λ page. page) pages)
@@ -74,7 +74,7 @@ module _ (layout : Layout) (some : 1 ≤ layout.lines) where
   pages-whole number [] all full = record { texts = []; bytes_are = refl; count_is = refl; whole = All-nil (IsPageText layout.lines) }
   pages-whole number (page ∷ pages) all full =
       let others = flat_map (λ (p : List (List ℕ)). p) pages in
-      let text = flat_map ended (page ++ number_line layout.width number ∷ []) in
+      let text = flat_map with_ending (page ++ number_line layout.width number ∷ []) in
       let here = page-whole number page (all-front AreCellBytes page others all) (All-head (λ (p : List (List ℕ)). length p ≡ text_lines layout) page pages full) in
       let rest = pages-whole (number + 1) pages (all-after AreCellBytes page others all) (All-tail (λ (p : List (List ℕ)). length p ≡ text_lines layout) page pages full) in
       record {

@@ -12,7 +12,7 @@ use Rattle.desk_command.specs.declared.style.Style.{Style}
 use Rattle.desk_command.specs.declared.style.Style.TheVariants.{Body, Heading}
 use Rattle.desk_brf.specs.Embossed.{AreBrailles, dots_in}
 use Rattle.desk_brf.specs.Layout.{Layout, text_lines}
-use Rattle.desk_brf.specs.Placing.{AreTexts, IsAscii, IsText, first_indent, joined, other_indent}
+use Rattle.desk_brf.specs.Placing.{AreTexts, IsAscii, IsText, cells_of_pieces, first_indent, other_indent}
 use Rattle.desk_brf.specs.Volume.{AreLines, IsVolume, gap_before}
 use Rattle.desk_brf.specs.Volumes.{volume_of}
 use Rattle.desk_brf.specs.Words.{is_blank}
@@ -41,11 +41,11 @@ kept-blanks : (count : ℕ) (cells : List ℕ) → kept (replicate count 0 ++ ce
 kept-blanks zero cells = refl
 kept-blanks (suc count) cells = kept-blanks count cells
 
-kept-joined : (pieces : List Word) → kept (joined pieces) ≡ kept (all pieces)
+kept-joined : (pieces : List Word) → kept (cells_of_pieces pieces) ≡ kept (all pieces)
 kept-joined [] = refl
 kept-joined (piece ∷ []) = ap kept (sym (append-nil piece))
 kept-joined (piece ∷ next ∷ pieces) =
-    filter-append has_dots piece (0 ∷ joined (next ∷ pieces))
+    filter-append has_dots piece (0 ∷ cells_of_pieces (next ∷ pieces))
     ∙ (ap (λ (cs : List ℕ). kept piece ++ cs) (kept-joined (next ∷ pieces)) ∙ sym (filter-append has_dots piece (all (next ∷ pieces))))
 
 -- ---- lines
@@ -64,7 +64,7 @@ dots_of line = kept (filter_map ascii_cell line)
 
 text-dots : (indent : ℕ) (pieces : List Word) (line : List ℕ) → IsText indent pieces line → dots_of line ≡ kept (all pieces)
 text-dots indent pieces line text =
-    ap kept (ascii-cells (replicate indent 0 ++ joined pieces) line text) ∙ (kept-blanks indent (joined pieces) ∙ kept-joined pieces)
+    ap kept (ascii-cells (replicate indent 0 ++ cells_of_pieces pieces) line text) ∙ (kept-blanks indent (cells_of_pieces pieces) ∙ kept-joined pieces)
 
 texts-dots : (first other : ℕ) (placing : List (List Word)) (lines : List (List ℕ)) → AreTexts first other placing lines
     → dots_in lines ≡ kept (all (flat_map (λ line. line) placing))

@@ -3,7 +3,7 @@ use Rattle.std.specs.Prelude.{◌≡◌, ◌≢◌, ◌⊎◌, ℕ, ◌≤◌, �
 use Rattle.std.specs.List.{count_by, filter_map, flat_map}
 use Rattle.cell_core.specs.Ascii.{ascii_cell}
 use Rattle.desk_model.specs.Book.{Book, Paragraph}
-use Rattle.desk_model.specs.Translated.{IsBraille}
+use Rattle.desk_model.specs.Translation.{IsBraille}
 use Rattle.desk_brf.specs.Words.{is_blank}
 
 -- a byte that stands for a cell

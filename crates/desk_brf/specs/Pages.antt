@@ -17,12 +17,12 @@ abbrev pub number_line : (width number : ℕ) → List ℕ
 number_line width number = replicate (width - length (number_text number)) 32 ++ number_text number
 
 -- a line with its ending, CR LF
-abbrev pub ended : List ℕ → List ℕ
-ended line = line ++ 13 ∷ 10 ∷ []
+abbrev pub with_ending : List ℕ → List ℕ
+with_ending line = line ++ 13 ∷ 10 ∷ []
 
 -- a page: its lines of text, the line of its number, and a form feed
 abbrev pub page_text : (width number : ℕ) → List (List ℕ) → List ℕ
-page_text width number page = flat_map ended (page ++ number_line width number ∷ []) ++ 12 ∷ []
+page_text width number page = flat_map with_ending (page ++ number_line width number ∷ []) ++ 12 ∷ []
 
 -- the bytes are the pages that hold the lines, numbered from 1; the last page is filled with empty lines
 pub record ArePages (layout : Layout) (lines : List (List ℕ)) (bytes : List ℕ) (count : ℕ) : Type 0 where

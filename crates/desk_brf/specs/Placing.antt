@@ -6,8 +6,8 @@ use Rattle.desk_command.specs.declared.style.Style.{Style}
 use Rattle.desk_command.specs.declared.style.Style.TheVariants.{Body, Heading}
 
 -- the cells of pieces on a line: one blank cell, 0, stands between two
-abbrev pub joined : List (List ℕ) → List ℕ
-joined pieces = join_with_byte 0 pieces
+abbrev pub cells_of_pieces : List (List ℕ) → List ℕ
+cells_of_pieces pieces = join_with_byte 0 pieces
 
 -- a line with room for so many cells takes these pieces from the front of the words, and leaves the rest
 pub data IsLine (room : ℕ) (words pieces left : List (List ℕ)) : Type 0 where
@@ -16,9 +16,9 @@ pub data IsLine (room : ℕ) (words pieces left : List (List ℕ)) : Type 0 wher
       → length front ≡ room → 0 < length back
       → pieces ≡ front ∷ [] → left ≡ back ∷ others → IsLine room words pieces left
   -- one whole word or more, as many as fit
-  whole : words ≡ pieces ++ left → 0 < length pieces → length (joined pieces) ≤ room
+  whole : words ≡ pieces ++ left → 0 < length pieces → length (cells_of_pieces pieces) ≤ room
       → ((next : List ℕ) (others : List (List ℕ)) → left ≡ next ∷ others
-      → room < length (joined (pieces ++ next ∷ []))) → IsLine room words pieces left
+      → room < length (cells_of_pieces (pieces ++ next ∷ []))) → IsLine room words pieces left
 
 -- a placing of words: the pieces of each line, where the first line has room for so many cells and each other one for so
 -- many; no words give no line
@@ -33,7 +33,7 @@ IsAscii cells bytes = map ascii_cell bytes ≡ map Some cells
 
 -- the bytes are a line of these pieces, after so many blanks
 abbrev pub IsText : ℕ → List (List ℕ) → List ℕ → Type 0
-IsText indent pieces bytes = IsAscii (replicate indent 0 ++ joined pieces) bytes
+IsText indent pieces bytes = IsAscii (replicate indent 0 ++ cells_of_pieces pieces) bytes
 
 -- the bytes of a placing's lines, of the first after so many blanks and of each other one after so many
 abbrev pub AreTexts : (first other : ℕ) → List (List (List ℕ)) → List (List ℕ) → Type 0

@@ -14,8 +14,8 @@
 
 pub mod laws;
 mod layout;
-mod line;
 mod page;
+mod page_line;
 mod placing;
 mod volume;
 mod volumes;

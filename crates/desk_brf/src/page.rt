@@ -1,13 +1,13 @@
 //! Lines as they are sent, and the ends of their pages.
 ghost use Rattle.desk_brf.specs.Layout.{most_lines, most_width, text_lines};
 ghost use Rattle.desk_brf.specs.Laying.{FillsPage, page_end};
-ghost use Rattle.desk_brf.specs.Pages.{digit_letter, ended, number_line};
-ghost use Rattle.desk_ends.specs.Sent.{Sent};
+ghost use Rattle.desk_brf.specs.Pages.{digit_letter, number_line, with_ending};
+ghost use Rattle.desk_ends.specs.Sending.{Transmits};
 ghost use Rattle.std.specs.Prelude.{◌≡◌, ◌+◌, ◌<◌, ◌≤◌, ◌^◌, [], ◌∷◌, ◌++◌, OnOk, is_ok, length};
 
 use super::layout::Layout;
-use super::line::Line;
-use desk_ends::{Failed, Sink, send};
+use super::page_line::PageLine;
+use desk_ends::{Failure, Sink, send};
 use itoa::Buffer;
 
 /// What ends a page.
@@ -22,7 +22,7 @@ fn letter(digit: u8) -> u8
 }
 
 /// Lays the line of a page's number.
-fn lay_number(line: &mut Line, width: usize, number: u64)
+fn lay_number(line: &mut PageLine, width: usize, number: u64)
     requires empty { line.old ≡ [] }
     requires width { width ≤ most_width }
     ensures { line.new ≡ number_line width number }
@@ -37,9 +37,9 @@ fn lay_number(line: &mut Line, width: usize, number: u64)
 }
 
 /// Sends a line with its ending, and takes its bytes out.
-fn end_line<K: Sink>(sink: &mut K, line: &mut Line) -> Result<(), Failed>
+fn end_line<K: Sink>(sink: &mut K, line: &mut PageLine) -> Result<(), Failure>
     requires { length line.old ≤ most_width }
-    ensures sent { Sent K.can_fail (K.contents sink.old) (K.contents sink.new) (ended line.old) [] (is_ok result) }
+    ensures sent { Transmits K.can_fail (K.contents sink.old) (K.contents sink.new) (with_ending line.old) [] (is_ok result) }
     ensures empty { OnOk result (line.new ≡ []) }
 {
     line.push(b'\r');
@@ -50,10 +50,15 @@ fn end_line<K: Sink>(sink: &mut K, line: &mut Line) -> Result<(), Failed>
 }
 
 /// Sends the last line of a page and its end.
-fn end_page<K: Sink>(sink: &mut K, line: &mut Line, width: usize, number: u64) -> Result<(), Failed>
+fn end_page<K: Sink>(
+    sink: &mut K,
+    line: &mut PageLine,
+    width: usize,
+    number: u64,
+) -> Result<(), Failure>
     requires empty { line.old ≡ [] }
     requires width { width ≤ most_width }
-    ensures sent { Sent K.can_fail (K.contents sink.old) (K.contents sink.new) (ended (number_line width number) ++ 12 ∷ []) [] (is_ok result) }
+    ensures sent { Transmits K.can_fail (K.contents sink.old) (K.contents sink.new) (with_ending (number_line width number) ++ 12 ∷ []) [] (is_ok result) }
     ensures empty { OnOk result (line.new ≡ []) }
 {
     lay_number(line, width, number);
@@ -66,12 +71,12 @@ pub(crate) fn put_line<K: Sink>(
     sink: &mut K,
     layout: &Layout,
     lines: &mut u64,
-    line: &mut Line,
-) -> Result<(), Failed>
+    line: &mut PageLine,
+) -> Result<(), Failure>
     requires room { length line.old ≤ most_width }
     requires count { lines.old + 1 < 2 ^ 64 }
-    ensures sent { Sent K.can_fail (K.contents sink.old) (K.contents sink.new)
-        (ended line.old ++ page_end layout.now (lines.old + 1)) [] (is_ok result) }
+    ensures sent { Transmits K.can_fail (K.contents sink.old) (K.contents sink.new)
+        (with_ending line.old ++ page_end layout.now (lines.old + 1)) [] (is_ok result) }
     ensures count { OnOk result (lines.new ≡ lines.old + 1) }
     ensures empty { OnOk result (line.new ≡ []) }
 {
@@ -89,8 +94,8 @@ pub(crate) fn fill_page<K: Sink>(
     sink: &mut K,
     layout: &Layout,
     lines: &mut u64,
-    line: &mut Line,
-) -> Result<(), Failed>
+    line: &mut PageLine,
+) -> Result<(), Failure>
     requires empty { line.old ≡ [] }
     requires count { lines.old + most_lines < 2 ^ 64 }
     ensures { FillsPage K.can_fail (K.contents sink.old) (K.contents sink.new) layout.now lines.old lines.new (is_ok result) }

@@ -1,19 +1,19 @@
 //! The words of a paragraph on lines.
-ghost use Rattle.desk_brf.specs.Laying.{FillsLine, LaysLine, PutsLines, PutsParagraph, written};
+ghost use Rattle.desk_brf.specs.Laying.{FillsLine, LaysLine, PutsLines, PutsParagraph, bytes_of_lines};
 ghost use Rattle.desk_brf.specs.Layout.{most_width};
 ghost use Rattle.desk_brf.specs.Placing.{first_indent as first_indent_lem, other_indent as other_indent_lem};
 ghost use Rattle.desk_brf.specs.Volume.{IsSixDot, gap_before};
 ghost use Rattle.desk_brf.specs.Words.{IsAtWord, words};
-ghost use Rattle.desk_ends.specs.Sent.{Sent};
+ghost use Rattle.desk_ends.specs.Sending.{Transmits};
 ghost use Rattle.std.specs.Prelude.{◌≡◌, ◌+◌, ◌-◌, ◌<◌, ◌≤◌, ◌^◌, [], ◌∷◌, All, OnOk, is_ok, length};
 
 use super::layout::Layout;
-use super::line::Line;
 use super::page::put_line;
+use super::page_line::PageLine;
 use super::word::{skip_blanks, word_len};
 use cell_core::Cell;
 use desk_command::Style;
-use desk_ends::{Failed, Sink};
+use desk_ends::{Failure, Sink};
 
 /// The blanks before the first line of a paragraph.
 fn first_indent(style: Style) -> usize
@@ -37,7 +37,7 @@ fn other_indent(style: Style) -> usize
 
 /// Adds as many of the words, with which the cells begin, as have room after the `used` cells of a line. Gives the cells
 /// that are left.
-fn add_words<'a>(cells: &'a [Cell], room: usize, used: usize, line: &mut Line) -> &'a [Cell]
+fn add_words<'a>(cells: &'a [Cell], room: usize, used: usize, line: &mut PageLine) -> &'a [Cell]
     requires used { used ≤ room }
     requires room { length line.old + room ≤ most_width + used }
     requires dots { All IsSixDot cells.now }
@@ -63,7 +63,7 @@ fn add_words<'a>(cells: &'a [Cell], room: usize, used: usize, line: &mut Line) -
 }
 
 /// Adds a line of the words with which the cells begin, and gives the cells that are left.
-fn lay_line<'a>(cells: &'a [Cell], room: usize, line: &mut Line) -> &'a [Cell]
+fn lay_line<'a>(cells: &'a [Cell], room: usize, line: &mut PageLine) -> &'a [Cell]
     requires at_word { IsAtWord cells.now }
     requires some { 0 < length cells.now }
     requires positive { 0 < room }
@@ -91,7 +91,7 @@ fn put_words<K: Sink>(
     lines: &mut u64,
     style: Style,
     cells: &[Cell],
-) -> Result<(), Failed>
+) -> Result<(), Failure>
     requires at_word { IsAtWord cells.now }
     requires dots { All IsSixDot cells.now }
     requires count { lines.old + length cells.now + 1 < 2 ^ 64 }
@@ -100,7 +100,7 @@ fn put_words<K: Sink>(
     ensures few { OnOk result (lines.new ≤ lines.old + length cells.now) }
 {
     let width = layout.width();
-    let mut line = Line::new();
+    let mut line = PageLine::new();
     let mut indent = first_indent(style);
     let mut rest = cells;
     while !rest.is_empty() {
@@ -118,15 +118,15 @@ fn put_gap<K: Sink>(
     layout: &Layout,
     lines: &mut u64,
     style: Style,
-) -> Result<(), Failed>
+) -> Result<(), Failure>
     requires count { lines.old + 1 < 2 ^ 64 }
-    ensures sent { Sent K.can_fail (K.contents sink.old) (K.contents sink.new)
-        (written layout.now lines.old (gap_before layout.now lines.old style ([] ∷ []))) [] (is_ok result) }
+    ensures sent { Transmits K.can_fail (K.contents sink.old) (K.contents sink.new)
+        (bytes_of_lines layout.now lines.old (gap_before layout.now lines.old style ([] ∷ []))) [] (is_ok result) }
     ensures count { OnOk result (lines.new ≡ lines.old + length (gap_before layout.now lines.old style ([] ∷ []))) }
 {
     match style {
         Style::Heading if *lines % layout.text_lines() != 0 => {
-            put_line(sink, layout, lines, &mut Line::new())
+            put_line(sink, layout, lines, &mut PageLine::new())
         }
         Style::Heading | Style::Body => Ok(()),
     }
@@ -139,7 +139,7 @@ pub(crate) fn put_paragraph<K: Sink>(
     lines: &mut u64,
     style: Style,
     cells: &[Cell],
-) -> Result<(), Failed>
+) -> Result<(), Failure>
     requires dots { All IsSixDot cells.now }
     requires count { lines.old + length cells.now + 2 < 2 ^ 64 }
     ensures lines { PutsParagraph K.can_fail (K.contents sink.old) (K.contents sink.new) layout.now

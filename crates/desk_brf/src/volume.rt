@@ -8,13 +8,13 @@ ghost use Rattle.desk_brf.specs.Volumes.{volume_of};
 ghost use Rattle.std.specs.Prelude.{◌≡◌, ◌⊎◌, ◌+◌, ◌<◌, ◌^◌, All, IfNone, IfSome, IsTrue, OnOk, is_ok, length, slice_index, take};
 
 use super::layout::Layout;
-use super::line::Line;
 use super::page::fill_page;
+use super::page_line::PageLine;
 use super::placing::put_paragraph;
 use super::volumes::{Volumes, cells_of};
 use cell_core::Cell;
 use desk_book::Book;
-use desk_ends::{Failed, Sink};
+use desk_ends::{Failure, Sink};
 use thiserror::Error;
 
 /// How many cells have none of the dots 7 and 8.
@@ -102,7 +102,7 @@ fn put_paragraphs<K: Sink>(
     layout: &Layout,
     volume: u64,
     lines: &mut u64,
-) -> Result<(), Failed>
+) -> Result<(), Failure>
     requires six_dot { All (HasSixDotCells book.now) (volume_of book.now volume) }
     requires none { lines.old ≡ 0 }
     ensures lines { PutsParagraphs K.can_fail (K.contents sink.old) (K.contents sink.new)
@@ -129,7 +129,7 @@ fn put_volume<K: Sink>(
     book: &Book,
     layout: &Layout,
     volume: u64,
-) -> Result<u64, Failed>
+) -> Result<u64, Failure>
     requires six_dot { All (HasSixDotCells book.now) (volume_of book.now volume) }
     ensures { PutsPages K.can_fail (K.contents sink.old) (K.contents sink.new)
         book.now layout.now (volume_of book.now volume) result }
@@ -137,7 +137,7 @@ fn put_volume<K: Sink>(
     let text_lines = layout.text_lines();
     let mut lines = 0;
     put_paragraphs(sink, book, layout, volume, &mut lines)?;
-    fill_page(sink, layout, &mut lines, &mut Line::new())?;
+    fill_page(sink, layout, &mut lines, &mut PageLine::new())?;
     Ok(lines / text_lines)
 }
 
@@ -160,6 +160,6 @@ pub fn export<K: Sink>(
     check_volume(book, volume)?;
     match put_volume(sink, book, layout, volume) {
         Ok(pages) => Ok(pages),
-        Err(Failed) => Err(ExportFault::Write),
+        Err(Failure) => Err(ExportFault::Write),
     }
 }

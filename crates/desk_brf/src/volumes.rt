@@ -1,11 +1,11 @@
 //! Which paragraphs a volume has, and their cells.
 ghost use Rattle.desk_model.specs.Book.{paragraph_of};
-ghost use Rattle.desk_model.specs.Translated.{IsBraille};
+ghost use Rattle.desk_model.specs.Translation.{IsBraille};
 ghost use Rattle.desk_brf.specs.Counting.{count_after};
 ghost use Rattle.std.specs.Prelude.{◌≡◌, ◌+◌, ◌<◌, ◌^◌, ◌==◌, ◌&&◌, IfSome, IsSome, if◌then◌else◌, not};
 
 use cell_core::Cell;
-use desk_book::{Book, Listed};
+use desk_book::{Book, ListItem};
 
 /// Counts volumes along the paragraphs of a book.
 #[derive(Drop)]
@@ -22,7 +22,7 @@ impl Volumes {
     }
 
     /// Whether the next paragraph of the book stands in the volume with a number.
-    pub(crate) fn next_is_in(&mut self, paragraph: &Listed, volume: u64) -> bool
+    pub(crate) fn next_is_in(&mut self, paragraph: &ListItem, volume: u64) -> bool
         requires { self.old.count + 1 < 2 ^ 64 }
         ensures count { self.new.count ≡ (if paragraph.now.struck then self.old.count
             else count_after self.old.count paragraph.now.begins_volume) }

@@ -8,7 +8,7 @@ use Rattle.std.proofs.lemmas.List.{length-append, length-take, take_all, take_mo
 use Rattle.louis_table.specs.Lines.{lines_of}
 use Rattle.louis_table.proofs.LineLaws.{pieces_of-last, pieces_of-line}
 use Rattle.desk_ends.specs.Limits.{most_line_bytes}
-use Rattle.desk_ends.specs.Lines.{EndsLine, HasNoFeed, IsFed, IsLine, extended, kept, without_ending}
+use Rattle.desk_ends.specs.Lines.{EndsLine, HasNoFeed, IsFed, IsLine, kept_line, with_bytes, without_ending}
 
 -- ---- line feeds
 
@@ -93,32 +93,32 @@ one-line bytes (inr none) some = lone-line bytes none some
 
 -- ---- what is kept of a line
 
-pub kept-none : (bytes : List ℕ) → None ≡ kept bytes → 65538 < length bytes
-kept-none bytes is =
+pub kept_line-none : (bytes : List ℕ) → None ≡ kept_line bytes → 65538 < length bytes
+kept_line-none bytes is =
     elim (cases_lt 65538 (length bytes)) [
       | inl lt ↦ lt
-      | inr le ↦ absurd (let h : kept bytes ≡ Some bytes = cond-true _ _ _ (le-leb _ _ le) in cc)
+      | inr le ↦ absurd (let h : kept_line bytes ≡ Some bytes = cond-true _ _ _ (le-leb _ _ le) in cc)
     ]
 
-pub kept-some : (bytes held : List ℕ) → Some held ≡ kept bytes → held ≡ bytes
-kept-some bytes held is =
+pub kept_line-some : (bytes held : List ℕ) → Some held ≡ kept_line bytes → held ≡ bytes
+kept_line-some bytes held is =
     elim (cases_lt 65538 (length bytes)) [
-      | inl lt ↦ absurd (let h : kept bytes ≡ None = cond-false _ _ _ (lt-leb _ _ lt) in cc)
-      | inr le ↦ let h : kept bytes ≡ Some bytes = cond-true _ _ _ (le-leb _ _ le) in cc
+      | inl lt ↦ absurd (let h : kept_line bytes ≡ None = cond-false _ _ _ (lt-leb _ _ lt) in cc)
+      | inr le ↦ let h : kept_line bytes ≡ Some bytes = cond-true _ _ _ (le-leb _ _ le) in cc
     ]
 
-pub extended-kept : (these those : List ℕ) → extended (kept these) those ≡ kept (these ++ those)
-extended-kept these those =
+pub with_bytes-kept : (these those : List ℕ) → with_bytes (kept_line these) those ≡ kept_line (these ++ those)
+with_bytes-kept these those =
     elim (cases_lt 65538 (length these)) [
       | inl lt ↦
           let n = length-append these those in
           let more : 65538 < length (these ++ those) = omega arith in
-          let keeps : kept these ≡ None = cond-false _ _ _ (lt-leb _ _ lt) in
-          let keeps_more : kept (these ++ those) ≡ None = cond-false _ _ _ (lt-leb _ _ more) in
-          ap (λ (o : Option (List ℕ)). extended o those) keeps ∙ sym keeps_more
+          let keeps : kept_line these ≡ None = cond-false _ _ _ (lt-leb _ _ lt) in
+          let keeps_more : kept_line (these ++ those) ≡ None = cond-false _ _ _ (lt-leb _ _ more) in
+          ap (λ (o : Option (List ℕ)). with_bytes o those) keeps ∙ sym keeps_more
       | inr le ↦
-          let keeps : kept these ≡ Some these = cond-true _ _ _ (le-leb _ _ le) in
-          ap (λ (o : Option (List ℕ)). extended o those) keeps
+          let keeps : kept_line these ≡ Some these = cond-true _ _ _ (le-leb _ _ le) in
+          ap (λ (o : Option (List ℕ)). with_bytes o those) keeps
     ]
 
 strip-few : (byte : ℕ) (xs : List ℕ) → length xs ≤ suc (length (strip_last byte xs))
@@ -129,9 +129,9 @@ strip-few byte xs =
     ]
 
 -- a line that isn't kept is too long
-pub long-line : (bytes : List ℕ) → None ≡ kept bytes → most_line_bytes < length (without_ending bytes)
+pub long-line : (bytes : List ℕ) → None ≡ kept_line bytes → most_line_bytes < length (without_ending bytes)
 long-line bytes is =
-    let many = kept-none bytes is in
+    let many = kept_line-none bytes is in
     let one = strip-few 10 bytes in
     let two = strip-few 13 (strip_last 10 bytes) in
     omega arith

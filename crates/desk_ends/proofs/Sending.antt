@@ -5,7 +5,7 @@ use Rattle.std.specs.Io.KnownBytes.{Appends, Keeps}
 use Rattle.std.proofs.KnownBytes.{Appends-nil, Appends-kept, Appends-trans}
 use Rattle.std.proofs.lemmas.Bool.{both_ways}
 use Rattle.std.proofs.lemmas.List.{append-nil}
-use Rattle.desk_ends.specs.Sent.{Sent}
+use Rattle.desk_ends.specs.Sending.{Transmits}
 
 -- what is said of an Ok, and of an Err
 pub at_ok : {T E : Type 0} (r : Result T E) (P : Type 0) → OnOk r P → is_ok r ≡ true → P
@@ -25,18 +25,18 @@ pub Keeps-Appends : (a b : Option (List ℕ)) → Keeps a b → Appends a b []
 Keeps-Appends a b h = Appends-kept a a b [] (Appends-nil a) h
 
 -- what went out is whole
-pub Sent-whole : (F : Type 0) (a b : Option (List ℕ)) (text : List ℕ) (ok : Bool) → Appends a b text → ok ≡ true → Sent F a b text [] ok
-Sent-whole F a b text ok h t =
+pub Transmits-whole : (F : Type 0) (a b : Option (List ℕ)) (text : List ℕ) (ok : Bool) → Appends a b text → ok ≡ true → Transmits F a b text [] ok
+Transmits-whole F a b text ok h t =
     record { out = text; rest = []; appends = h; begins = append-nil text; holds = λ _. refl; fails = λ f. absurd (both_ways ok f t) }
 
 -- a flush
-pub Sent-flushed : {E : Type 0} (F : Type 0) (a b : Option (List ℕ)) (r : Result (Unit {0}) E) → Keeps a b → OnErr r F → Sent F a b [] [] (is_ok r)
-Sent-flushed F a b r h e =
+pub Transmits-flushed : {E : Type 0} (F : Type 0) (a b : Option (List ℕ)) (r : Result (Unit {0}) E) → Keeps a b → OnErr r F → Transmits F a b [] [] (is_ok r)
+Transmits-flushed F a b r h e =
     record { out = []; rest = []; appends = Keeps-Appends a b h; begins = refl; holds = λ _. refl; fails = at_err r F e }
 
 -- the text and what is held back grow by a piece
-pub Sent-push : (F : Type 0) (a b : Option (List ℕ)) (text held piece : List ℕ) (ok : Bool) → Sent F a b text held ok → Sent F a b (text ++ piece) (held ++ piece) ok
-Sent-push F a b text held piece ok s =
+pub Transmits-push : (F : Type 0) (a b : Option (List ℕ)) (text held piece : List ℕ) (ok : Bool) → Transmits F a b text held ok → Transmits F a b (text ++ piece) (held ++ piece) ok
+Transmits-push F a b text held piece ok s =
     record {
       out = s.out;
       rest = s.rest ++ piece;
@@ -61,7 +61,7 @@ Sending-same a b block rest rest' whole done e =
 
 module _ (F : Type 0) (a b c : Option (List ℕ)) (block held rest whole : List ℕ) (ok : Bool) (done : Sending a b block rest whole) where
   -- the last piece is sent
-  pub Sending-last : Sent F b c (block ++ rest) held ok → Sent F a c whole held ok
+  pub Sending-last : Transmits F b c (block ++ rest) held ok → Transmits F a c whole held ok
   Sending-last s =
       record {
         out = done.out ++ s.out;
@@ -73,10 +73,10 @@ module _ (F : Type 0) (a b c : Option (List ℕ)) (block held rest whole : List 
       }
 
   -- the block is sent, and nothing is to come
-  pub Sending-end : rest ≡ [] → Sent F b c block held ok → Sent F a c whole held ok
-  Sending-end none s = Sending-last (subst (λ (t : List ℕ). Sent F b c t held ok) (sym (append-nil block) ∙ ap (λ (t : List ℕ). block ++ t) (sym none)) s)
+  pub Sending-end : rest ≡ [] → Transmits F b c block held ok → Transmits F a c whole held ok
+  Sending-end none s = Sending-last (subst (λ (t : List ℕ). Transmits F b c t held ok) (sym (append-nil block) ∙ ap (λ (t : List ℕ). block ++ t) (sym none)) s)
 
-  module _ (piece after : List ℕ) (parts : rest ≡ piece ++ after) (s : Sent F b c (block ++ piece) held ok) where
+  module _ (piece after : List ℕ) (parts : rest ≡ piece ++ after) (s : Transmits F b c (block ++ piece) held ok) where
     joined : s.out ++ (s.rest ++ after) ≡ block ++ rest
     joined =
         sym (append_assoc s.out s.rest after)
@@ -95,7 +95,7 @@ module _ (F : Type 0) (a b c : Option (List ℕ)) (block held rest whole : List 
         }
 
     -- a piece fails
-    pub Sending-fails : (keep : List ℕ) (ok' : Bool) → ok ≡ false → ok' ≡ false → Sent F a c whole keep ok'
+    pub Sending-fails : (keep : List ℕ) (ok' : Bool) → ok ≡ false → ok' ≡ false → Transmits F a c whole keep ok'
     Sending-fails keep ok' f f' =
         record {
           out = done.out ++ s.out;
@@ -107,7 +107,7 @@ module _ (F : Type 0) (a b c : Option (List ℕ)) (block held rest whole : List 
         }
 
 -- all pieces are sent
-pub Sending-done : (F : Type 0) (a b : Option (List ℕ)) (block whole : List ℕ) (ok : Bool) → Sending a b block [] whole → ok ≡ true → Sent F a b whole block ok
+pub Sending-done : (F : Type 0) (a b : Option (List ℕ)) (block whole : List ℕ) (ok : Bool) → Sending a b block [] whole → ok ≡ true → Transmits F a b whole block ok
 Sending-done F a b block whole ok done t =
     record {
       out = done.out;

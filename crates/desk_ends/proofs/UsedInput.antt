@@ -2,14 +2,14 @@
 use Rattle.std.proofs.Common.{◌≡◌, ◌≢◌, ℕ, ◌+◌, ◌-◌, ◌<◌, ◌≤◌, length, Bool, true, false, List, [], ◌∷◌, ◌++◌, Option, refl, sym, ap, subst, ◌∙◌, append_assoc, arith}
 use Rattle.std.proofs.KnownBytes.{Consumes-nil, Consumes-trans}
 use Rattle.std.proofs.lemmas.List.{append-nil, length-append}
-use Rattle.desk_ends.specs.Input.{Input, KnowsEnd, Passes, PassesLine, Used, UsesWaiting, most_total, unread}
+use Rattle.desk_ends.specs.Input.{Input, KnowsEnd, Passes, PassesLine, UsesInput, UsesWaiting, most_total, unread}
 
 pub no-parts : (these those : List ℕ) → these ++ those ≡ [] → (these ≡ []) × (those ≡ [])
 no-parts [] those e = (refl, e)
 no-parts (b ∷ these) those e = absurd (cc)
 
-pub Used-none : (a : Option (List ℕ)) (input : Input) → Used a a input input []
-Used-none a input = record {
+pub UsesInput-none : (a : Option (List ℕ)) (input : Input) → UsesInput a a input input []
+UsesInput-none a input = record {
   read = [];
   consumes = Consumes-nil a;
   parts = append-nil input.waiting;
@@ -20,8 +20,8 @@ Used-none a input = record {
 }
 
 -- unused bytes
-pub Used-waiting : (a : Option (List ℕ)) (old new : Input) (bytes : List ℕ) → UsesWaiting old new bytes → Used a a old new bytes
-Used-waiting a old new bytes uses = record {
+pub UsesInput-waiting : (a : Option (List ℕ)) (old new : Input) (bytes : List ℕ) → UsesWaiting old new bytes → UsesInput a a old new bytes
+UsesInput-waiting a old new bytes uses = record {
   read = [];
   consumes = Consumes-nil a;
   parts = append-nil old.waiting ∙ uses.parts;
@@ -31,9 +31,9 @@ Used-waiting a old new bytes uses = record {
   ends = λ knows over. let end = knows (sym uses.over ∙ over) in (end.0, (no-parts bytes new.waiting (sym uses.parts ∙ end.1)).1);
 }
 
-module _ (a b c : Option (List ℕ)) (old mid new : Input) (these those : List ℕ) (first : Used a b old mid these) (later : Used b c mid new those) where
-  pub Used-then : Used a c old new (these ++ those)
-  Used-then = record {
+module _ (a b c : Option (List ℕ)) (old mid new : Input) (these those : List ℕ) (first : UsesInput a b old mid these) (later : UsesInput b c mid new those) where
+  pub UsesInput-then : UsesInput a c old new (these ++ those)
+  UsesInput-then = record {
     read = first.read ++ later.read;
     consumes = Consumes-trans a b c first.read later.read first.consumes later.consumes;
     parts = sym (append_assoc old.waiting first.read later.read)
@@ -50,14 +50,14 @@ module _ (a b c : Option (List ℕ)) (old mid new : Input) (these those : List �
   }
 
 -- nothing more was used
-pub Used-still : (a b c : Option (List ℕ)) (old mid new : Input) (bytes : List ℕ) → Used a b old mid bytes → Used b c mid new [] → Used a c old new bytes
-Used-still a b c old mid new bytes first later = subst (Used a c old new) (append-nil bytes) (Used-then a b c old mid new bytes [] first later)
+pub UsesInput-still : (a b c : Option (List ℕ)) (old mid new : Input) (bytes : List ℕ) → UsesInput a b old mid bytes → UsesInput b c mid new [] → UsesInput a c old new bytes
+UsesInput-still a b c old mid new bytes first later = subst (UsesInput a c old new) (append-nil bytes) (UsesInput-then a b c old mid new bytes [] first later)
 
 -- how many bytes may still be used
 abbrev pub left_to_use : Input → ℕ
 left_to_use input = most_total + length input.waiting - input.total
 
-pub left_to_use-fewer : (a b : Option (List ℕ)) (old new : Input) (bytes : List ℕ) → Used a b old new bytes → old.total ≤ most_total → length bytes ≢ 0
+pub left_to_use-fewer : (a b : Option (List ℕ)) (old new : Input) (bytes : List ℕ) → UsesInput a b old new bytes → old.total ≤ most_total → length bytes ≢ 0
     → left_to_use new < left_to_use old
 left_to_use-fewer a b old new bytes used few some =
     let total = used.total in

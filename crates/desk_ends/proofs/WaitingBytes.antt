@@ -4,7 +4,7 @@ use Rattle.std.specs.Prelude.{EachIndex, slice_index}
 use Rattle.std.proofs.Math.Seq.{take-append-add}
 use Rattle.std.proofs.lemmas.List.{drop-drop, drop-take, length-take, take-append-drop}
 use Rattle.desk_ends.specs.Input.{Passes}
-use Rattle.desk_ends.specs.Lines.{IsFed, extended}
+use Rattle.desk_ends.specs.Lines.{IsFed, with_bytes}
 use Rattle.desk_ends.proofs.OneLine.{no-feed}
 
 -- no byte in these places is a line feed
@@ -35,6 +35,6 @@ line-fed old end within none parts =
 
 -- a line is passed on
 pub passes-line : (old new : List ℕ) (was line : Option (List ℕ)) (end : ℕ) → end < length old → LacksFeed (take end old) → old ≡ take end old ++ 10 ∷ drop (end + 1) old
-    → new ≡ drop (end + 1) old → line ≡ extended was (take (end + 1) old) → Passes true old new was line
+    → new ≡ drop (end + 1) old → line ≡ with_bytes was (take (end + 1) old) → Passes true old new was line
 passes-line old new was line end within none parts left held =
     (take (end + 1) old, sym (take-append-drop (end + 1) old) ∙ ap (λ (t : List ℕ). take (end + 1) old ++ t) (sym left), held, line-fed old end within none parts)

@@ -1,9 +1,9 @@
 -- How an input is read: the bytes that aren't used yet, what was used of it, and its lines.
 use Rattle.std.specs.Prelude.{◌≡◌, ◌⊎◌, ℕ, ◌+◌, ◌≤◌, ◌<◌, Bool, true, false, List, [], ◌++◌, length, Option, Result, Ok, Err}
 use Rattle.std.specs.Io.KnownBytes.{Consumes, IsAtEnd}
-use Rattle.desk_ends.specs.declared.ends.Failed.{Failed}
+use Rattle.desk_ends.specs.declared.ends.Failure.{Failure}
 use Rattle.desk_ends.specs.Limits.{chunk_bytes, most_input}
-use Rattle.desk_ends.specs.Lines.{HasNoFeed, IsFed, extended, kept}
+use Rattle.desk_ends.specs.Lines.{HasNoFeed, IsFed, kept_line, with_bytes}
 
 -- what was read of an input: the bytes that aren't used yet, how many were read in all, and whether the end was reached
 pub record Input : Type 0 where
@@ -27,7 +27,7 @@ KnowsEnd left input = input.is_over ≡ true → IsAtEnd left × (input.waiting 
 
 -- bytes of the input were used. Of a source, here known by the bytes that are left in it, some were read for that; none once
 -- the end was reached.
-pub record Used (left_old left_new : Option (List ℕ)) (old new : Input) (bytes : List ℕ) : Type 0 where
+pub record UsesInput (left_old left_new : Option (List ℕ)) (old new : Input) (bytes : List ℕ) : Type 0 where
   pub read : List ℕ
   pub consumes : Consumes left_old left_new read
   pub parts : old.waiting ++ read ≡ bytes ++ new.waiting
@@ -49,27 +49,27 @@ abbrev pub IsStopped : Type 0 → Input → Type 0
 IsStopped CanFail input = CanFail ⊎ (most_input ≤ input.total)
 
 -- more bytes were read; there are none at the end, and none where a read failed
-abbrev pub FillsInput : Type 0 → (left_old left_new : Option (List ℕ)) → (old new : Input) → Result Bool Failed → Type 0
-FillsInput CanFail left_old left_new old new (Ok true) = Used left_old left_new old new [] × (old.total < new.total) × (old.total < most_input)
-FillsInput CanFail left_old left_new old new (Ok false) = Used left_old left_new old new [] × (new.is_over ≡ true) × (new.waiting ≡ [])
+abbrev pub FillsInput : Type 0 → (left_old left_new : Option (List ℕ)) → (old new : Input) → Result Bool Failure → Type 0
+FillsInput CanFail left_old left_new old new (Ok true) = UsesInput left_old left_new old new [] × (old.total < new.total) × (old.total < most_input)
+FillsInput CanFail left_old left_new old new (Ok false) = UsesInput left_old left_new old new [] × (new.is_over ≡ true) × (new.waiting ≡ [])
 FillsInput CanFail left_old left_new old new (Err failed) =
-    Used left_old left_new old new [] × (new.waiting ≡ []) × (new.is_over ≡ false) × IsStopped CanFail new
+    UsesInput left_old left_new old new [] × (new.waiting ≡ []) × (new.is_over ≡ false) × IsStopped CanFail new
 
 -- ---- a line
 
 -- a line was passed on from the bytes read so far, or all of them, which have no line feed
 abbrev pub Passes : Bool → (old new : List ℕ) → (was line : Option (List ℕ)) → Type 0
-Passes true old new was line = (bytes : List ℕ) × (old ≡ bytes ++ new) × (line ≡ extended was bytes) × IsFed bytes
-Passes false old new was line = (new ≡ []) × (line ≡ extended was old) × HasNoFeed old
+Passes true old new was line = (bytes : List ℕ) × (old ≡ bytes ++ new) × (line ≡ with_bytes was bytes) × IsFed bytes
+Passes false old new was line = (new ≡ []) × (line ≡ with_bytes was old) × HasNoFeed old
 
 -- so of an input
 abbrev pub PassesLine : Bool → (old new : Input) → (was line : Option (List ℕ)) → Type 0
-PassesLine true old new was line = (bytes : List ℕ) × UsesWaiting old new bytes × (line ≡ extended was bytes) × IsFed bytes
+PassesLine true old new was line = (bytes : List ℕ) × UsesWaiting old new bytes × (line ≡ with_bytes was bytes) × IsFed bytes
 PassesLine false old new was line =
-    UsesWaiting old new old.waiting × (new.waiting ≡ []) × (line ≡ extended was old.waiting) × HasNoFeed old.waiting
+    UsesWaiting old new old.waiting × (new.waiting ≡ []) × (line ≡ with_bytes was old.waiting) × HasNoFeed old.waiting
 
 -- how a line ends: with a line feed, at the end of the input, or where a read failed
-abbrev pub LineEnds : Type 0 → Input → List ℕ → Result Bool Failed → Type 0
+abbrev pub LineEnds : Type 0 → Input → List ℕ → Result Bool Failure → Type 0
 LineEnds CanFail new bytes (Ok true) = IsFed bytes
 LineEnds CanFail new bytes (Ok false) = HasNoFeed bytes × (new.is_over ≡ true) × (new.waiting ≡ [])
 LineEnds CanFail new bytes (Err failed) =
@@ -77,8 +77,8 @@ LineEnds CanFail new bytes (Err failed) =
 
 -- a line was read, and is held
 pub record ReadsLine (CanFail : Type 0) (left_old left_new : Option (List ℕ)) (old new : Input) (line : Option (List ℕ))
-    (result : Result Bool Failed) : Type 0 where
+    (result : Result Bool Failure) : Type 0 where
   pub bytes : List ℕ
-  pub used : Used left_old left_new old new bytes
-  pub held : line ≡ kept bytes
+  pub used : UsesInput left_old left_new old new bytes
+  pub held : line ≡ kept_line bytes
   pub ends : LineEnds CanFail new bytes result

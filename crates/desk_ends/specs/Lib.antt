@@ -1,5 +1,5 @@
 pub mod Ends
-pub mod Sent
+pub mod Sending
 pub mod Cells
 pub mod Block
 pub mod Limits

@@ -30,10 +30,10 @@ abbrev pub without_ending : List ℕ → List ℕ
 without_ending line = strip_last 13 (strip_last 10 line)
 
 -- what is kept of a line: nothing if it has more bytes than a line may have and an ending of two
-abbrev pub kept : List ℕ → Option (List ℕ)
-kept line = if nat_le (length line) (most_line_bytes + 2) then Some line else None
+abbrev pub kept_line : List ℕ → Option (List ℕ)
+kept_line line = if nat_le (length line) (most_line_bytes + 2) then Some line else None
 
 -- the line with more bytes
-abbrev pub extended : Option (List ℕ) → List ℕ → Option (List ℕ)
-extended None bytes = None
-extended (Some line) bytes = kept (line ++ bytes)
+abbrev pub with_bytes : Option (List ℕ) → List ℕ → Option (List ℕ)
+with_bytes None bytes = None
+with_bytes (Some line) bytes = kept_line (line ++ bytes)

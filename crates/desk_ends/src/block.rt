@@ -1,6 +1,6 @@
 //! The output buffer.
 ghost use Rattle.cell_core.specs.Cell.{braille_character};
-ghost use Rattle.desk_ends.specs.Block.{AreEncoded, encoded as encoded_lem};
+ghost use Rattle.desk_ends.specs.Block.{AreEncoded, encoding};
 ghost use Rattle.std.specs.Prelude.{IsTrue, [], encode_utf8, length, ◌+◌, ◌++◌, ◌<◌, ◌≡◌, ◌≤◌, ◌↔◌, ◌∷◌};
 
 use cell_core::Cell;
@@ -101,8 +101,8 @@ impl Block {
 
 /// The three bytes of the character of the cell with a mask, the first in the lowest part: 0xE2 and two bytes with six
 /// bits of the character each.
-fn encoded(mask: u8) -> u32
-    ensures { result ≡ encoded_lem mask }
+fn encode(mask: u8) -> u32
+    ensures { result ≡ encoding mask }
 {
     let second = 0xA0 + mask / 64;
     let third = 0x80 + mask % 64;
@@ -115,7 +115,7 @@ fn encode_all() -> [u32; CELLS]
 {
     let mut all = [0; CELLS];
     for mask in 0..CELLS {
-        all[mask] = encoded(mask as u8);
+        all[mask] = encode(mask as u8);
     }
     all
 }

@@ -3,7 +3,7 @@ ghost use Rattle.desk_ends.specs.Input.{Passes};
 ghost use Rattle.std.specs.Io.KnownBytes.{Consumes, IsAtEnd, Keeps};
 ghost use Rattle.std.specs.Prelude.{MatchResult, [], length, ◌≡◌, ◌≤◌};
 
-use super::ends::{Failed, Source};
+use super::ends::{Failure, Source};
 use super::limits::CHUNK_BYTES;
 use super::line::{Line, feed_in};
 use std::marker::Model;
@@ -40,7 +40,7 @@ impl Chunk {
     }
 
     /// Reads bytes in place of those that were there, and says how many: none only at the end of the input.
-    pub(crate) fn fill<S: Source>(&mut self, source: &mut S) -> Result<usize, Failed>
+    pub(crate) fn fill<S: Source>(&mut self, source: &mut S) -> Result<usize, Failure>
         ensures { MatchResult result
             (λ count. (count ≡ length self.new) × (count ≤ CHUNK_BYTES)
             × Consumes (S.remaining source.old) (S.remaining source.new) self.new

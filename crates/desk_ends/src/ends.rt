@@ -14,7 +14,7 @@ use thiserror::Error;
 /// A read, a write or a flush failed.
 #[derive(Debug, Drop, Error)]
 #[error("a read or a write failed")]
-pub struct Failed;
+pub struct Failure;
 
 /// Where bytes come from.
 pub trait Source {
@@ -25,7 +25,7 @@ pub trait Source {
     ghost can_fail: { Type 0 };
 
     /// Reads some bytes into `buf` and says how many: none only at the end.
-    fn pull(&mut self, buf: &mut [u8]) -> Result<usize, Failed>
+    fn pull(&mut self, buf: &mut [u8]) -> Result<usize, Failure>
         ensures bound { ReadsAtMost result buf.new }
         ensures bytes { ReadConsumes (remaining self.old) (remaining self.new) result buf.new }
         ensures fails { OnErr result can_fail };
@@ -43,7 +43,7 @@ pub trait Sink {
     ghost can_fail: { Type 0 };
 
     /// Writes one byte or more from the front of `bytes`, and says how many.
-    fn put(&mut self, bytes: &[u8]) -> Result<usize, Failed>
+    fn put(&mut self, bytes: &[u8]) -> Result<usize, Failure>
         requires { 0 < length bytes.now }
         ensures progress { IfOk result (λ n. 0 < n) }
         ensures bound { WritesAtMost result bytes.now }
@@ -51,7 +51,7 @@ pub trait Sink {
         ensures fails { OnErr result can_fail };
 
     /// Passes on what is held back.
-    fn flush(&mut self) -> Result<(), Failed>
+    fn flush(&mut self) -> Result<(), Failure>
         ensures bytes { Keeps (contents self.old) (contents self.new) }
         ensures all { OnOk result (IsFlushed (contents self.new) (flushed self.new)) }
         ensures fails { OnErr result can_fail };
@@ -65,8 +65,8 @@ impl<R: Read> Source for R {
 
     ghost can_fail = { ⊤ };
 
-    fn pull(&mut self, buf: &mut [u8]) -> Result<usize, Failed> {
-        self.read(buf).map_err(|_| Failed)
+    fn pull(&mut self, buf: &mut [u8]) -> Result<usize, Failure> {
+        self.read(buf).map_err(|_| Failure)
     }
 }
 
@@ -81,15 +81,15 @@ impl<W: Write> Sink for W {
 
     ghost can_fail = { ⊤ };
 
-    fn put(&mut self, bytes: &[u8]) -> Result<usize, Failed> {
+    fn put(&mut self, bytes: &[u8]) -> Result<usize, Failure> {
         match self.write(bytes) {
-            Ok(0) | Err(_) => Err(Failed),
+            Ok(0) | Err(_) => Err(Failure),
             Ok(count) => Ok(count),
         }
     }
 
-    fn flush(&mut self) -> Result<(), Failed> {
-        Write::flush(self).map_err(|_| Failed)
+    fn flush(&mut self) -> Result<(), Failure> {
+        Write::flush(self).map_err(|_| Failure)
     }
 }
 
@@ -104,7 +104,7 @@ impl<'a> Source for Memory<'a> {
 
     ghost can_fail = { ⊥ };
 
-    fn pull(&mut self, buf: &mut [u8]) -> Result<usize, Failed> {
-        self.0.read(buf).map_err(|_| Failed)
+    fn pull(&mut self, buf: &mut [u8]) -> Result<usize, Failure> {
+        self.0.read(buf).map_err(|_| Failure)
     }
 }

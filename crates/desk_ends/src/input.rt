@@ -3,7 +3,7 @@ ghost use Rattle.desk_ends.specs.Input.{FillsInput, PassesLine, ReadsLine, unrea
 ghost use Rattle.std.specs.Prelude.{[], ◌≡◌};
 
 use super::chunk::Chunk;
-use super::ends::{Failed, Source};
+use super::ends::{Failure, Source};
 use super::limits::MOST_INPUT;
 use super::line::Line;
 use std::marker::Model;
@@ -39,7 +39,7 @@ impl Input {
 
     /// Reads more bytes, once all were used. Whether there are any: none are there only at the end of the input. After
     /// `MOST_INPUT` bytes the next read counts as failed.
-    pub fn fill<S: Source>(&mut self, source: &mut S) -> Result<bool, Failed>
+    pub fn fill<S: Source>(&mut self, source: &mut S) -> Result<bool, Failure>
         requires { self.old.waiting ≡ [] }
         ensures { FillsInput S.can_fail (S.remaining source.old) (S.remaining source.new) self.old self.new result }
     {
@@ -47,7 +47,7 @@ impl Input {
             return Ok(false);
         }
         if self.total >= MOST_INPUT {
-            return Err(Failed);
+            return Err(Failure);
         }
         let count = self.chunk.fill(source)?;
         self.total += count as u64;
@@ -65,7 +65,7 @@ impl Input {
 
     /// Reads a line with its line feed, in place of the line that was there. Whether it has a line feed: it lacks one only
     /// at the end of the input, where it may be empty.
-    pub fn read_line<S: Source>(&mut self, source: &mut S, line: &mut Line) -> Result<bool, Failed>
+    pub fn read_line<S: Source>(&mut self, source: &mut S, line: &mut Line) -> Result<bool, Failure>
         ensures { ReadsLine S.can_fail (S.remaining source.old) (S.remaining source.new)
             self.old self.new line.new result }
     {

@@ -13,7 +13,7 @@
 #![tactic(auto)]
 
 mod block;
-mod buffered;
+mod buffered_writer;
 mod cells;
 mod chunk;
 mod ends;
@@ -24,9 +24,9 @@ mod line;
 mod texts;
 
 pub use block::Block;
-pub use buffered::Buffered;
+pub use buffered_writer::BufferedWriter;
 pub use cells::{put_cell, put_cells, send_block};
-pub use ends::{Failed, Memory, Sink, Source};
+pub use ends::{Failure, Memory, Sink, Source};
 pub use input::Input;
 pub use limits::{CHUNK_BYTES, MOST_INPUT, MOST_LINE_BYTES};
 pub use line::{Line, split_line, without_ending};

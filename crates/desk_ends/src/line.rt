@@ -1,5 +1,5 @@
 //! The line that is being read.
-ghost use Rattle.desk_ends.specs.Lines.{extended, without_ending};
+ghost use Rattle.desk_ends.specs.Lines.{with_bytes, without_ending};
 ghost use Rattle.std.specs.Io.BufRead.{strip_last};
 ghost use Rattle.std.specs.List.{after_first, before_first};
 ghost use Rattle.std.specs.Option.{option_copied};
@@ -46,7 +46,7 @@ impl Line {
 
     /// Adds bytes.
     pub(crate) fn extend(&mut self, bytes: &[u8])
-        ensures { self.new ≡ extended self.old bytes.now }
+        ensures { self.new ≡ with_bytes self.old bytes.now }
     {
         if bytes.len() <= ROOM - self.len {
             let end = self.len + bytes.len();

@@ -1,12 +1,12 @@
 //! Sends texts to a sink; allocates nothing, and tries nothing twice.
-ghost use Rattle.desk_ends.specs.Sent.{Sends};
+ghost use Rattle.desk_ends.specs.Sending.{Sends};
 ghost use Rattle.std.specs.List.{flat_map};
 ghost use Rattle.std.specs.Prelude.{is_ok};
 
-use super::ends::{Failed, Sink};
+use super::ends::{Failure, Sink};
 
 /// Writes the whole text, or a beginning of it. A write that takes no byte has failed.
-pub fn send<K: Sink>(sink: &mut K, text: &[u8]) -> Result<(), Failed>
+pub fn send<K: Sink>(sink: &mut K, text: &[u8]) -> Result<(), Failure>
     ensures { Sends K.Sink sink.old sink.new text.now (is_ok result) }
 {
     let mut rest = text;
@@ -18,7 +18,7 @@ pub fn send<K: Sink>(sink: &mut K, text: &[u8]) -> Result<(), Failed>
 }
 
 /// Writes the texts one after another, or a beginning of them.
-pub fn send_parts<K: Sink>(sink: &mut K, parts: &[&[u8]]) -> Result<(), Failed>
+pub fn send_parts<K: Sink>(sink: &mut K, parts: &[&[u8]]) -> Result<(), Failure>
     ensures { Sends K.Sink sink.old sink.new
         (flat_map (λ part. part.now) parts.now) (is_ok result) }
 {

@@ -5,7 +5,7 @@ use Rattle.std.specs.Str.{bytes_eq}
 use Rattle.desk_line.specs.declared.directive.Directive.{Directive}
 use Rattle.desk_line.specs.declared.directive.Directive.TheVariants.{Table, Supply, TypeIn, Correct, Undo, Mark, Resolve, Strike, Restore, Style, Volume, Retable, Move}
 use Rattle.desk_line.specs.declared.directive.SpanText.{SpanText}
-use Rattle.desk_line.specs.Fields.{joined, IsNumber}
+use Rattle.desk_line.specs.Fields.{line_of_fields, IsNumber}
 use Rattle.desk_line.specs.Head.{IsSpanText, SaysDirective, table, supply, type_in, correct, correct_by, undo, mark, resolve, strike, restore, style, volume, retable, move}
 use Rattle.desk_line.specs.Reading.{only_one, name_in, number_in, count_in, anchor_in, style_in, flag_in, paragraph_in, table_in, supply_in, type_in as read_type_in, span_text, span_text_in, correct_in, correct_by_in, mark_in, style_directive_in, volume_in, retable_in, move_in, numbered_directive, directive_by, directive_in}
 use Rattle.desk_line.proofs.HeadLines.{some-is}
@@ -35,9 +35,9 @@ unfolding read_type_in
 type-says [] directive e = absurd cc
 type-says (after ∷ []) directive e = absurd cc
 type-says (after ∷ name ∷ text) directive e =
-    let m = made-of-both (λ anchor n. TypeIn anchor n (joined text)) (anchor_in after) (name_in name) directive e in
+    let m = made-of-both (λ anchor n. TypeIn anchor n (line_of_fields text)) (anchor_in after) (name_in name) directive e in
     let named = name-read name m.1 m.3 in
-    type_in after name text m.0 (anchor-read after m.0 m.2) named.0 refl (sym m.4 ∙ ap (λ (n : List ℕ). TypeIn m.0 n (joined text)) (sym named.1))
+    type_in after name text m.0 (anchor-read after m.0 m.2) named.0 refl (sym m.4 ∙ ap (λ (n : List ℕ). TypeIn m.0 n (line_of_fields text)) (sym named.1))
 
 style-says : (fields : List (List ℕ)) (directive : Directive) → style_directive_in fields ≡ Some directive → SaysDirective (codes "style" ∷ fields) directive
 unfolding style_directive_in
@@ -83,7 +83,7 @@ span-text-read (number ∷ first ∷ size ∷ rest) span e =
       text = refl;
     })
 
-span-text-is : (span : SpanText) (rest : List (List ℕ)) → span.text ≡ joined rest → span_text span.paragraph span.start span.count rest ≡ span
+span-text-is : (span : SpanText) (rest : List (List ℕ)) → span.text ≡ line_of_fields rest → span_text span.paragraph span.start span.count rest ≡ span
 span-text-is span rest e =
     ap (λ (t : List ℕ). (let s : SpanText = record { paragraph = span.paragraph; start = span.start; count = span.count; text = t } in s)) (sym e)
 

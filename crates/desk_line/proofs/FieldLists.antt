@@ -4,7 +4,7 @@ use Rattle.std.specs.Prelude.{Option, Some, None, is_some, unwrap_or}
 use Rattle.std.specs.List.{position_or_len, before_first, after_first, onto_first}
 use Rattle.std.proofs.lemmas.List.Splits.{slice_split_none, slice_split_first, join_with_byte-slice_split}
 use Rattle.std.proofs.lemmas.List.Sums.{fails_before_first}
-use Rattle.desk_line.specs.Fields.{fields_of, fields_in_rest, joined}
+use Rattle.desk_line.specs.Fields.{fields_of, fields_in_rest, line_of_fields}
 
 -- a line with a blank
 pub fields-at-blank : (line field rest : List ℕ) → position_or_len (λ b. eqb b 32) line < length line
@@ -40,6 +40,6 @@ none-left (Some line) fields true e b = absurd cc
 none-left (Some line) fields false e b = (λ f. absurd cc, λ f. absurd (has-field line.now (e ∙ f)))
 
 -- the fields that are left, joined
-pub rest-joined : (rest : Option (Bor (List ℕ))) (other : Bor (List ℕ)) → other.now ≡ [] → (unwrap_or rest other).now ≡ joined (fields_in_rest rest)
+pub rest-joined : (rest : Option (Bor (List ℕ))) (other : Bor (List ℕ)) → other.now ≡ [] → (unwrap_or rest other).now ≡ line_of_fields (fields_in_rest rest)
 rest-joined None other e = e
 rest-joined (Some line) other e = sym (join_with_byte-slice_split 32 line.now)

@@ -9,7 +9,7 @@ use Rattle.std.proofs.lemmas.List.Elements.{All-append, All-cons, All-from_get_o
 use Rattle.std.proofs.lemmas.List.{append-nil}
 use Rattle.std.proofs.lemmas.Str.{inside_one}
 use Rattle.louis_table.proofs.LineLaws.{IsOneLine}
-use Rattle.desk_line.specs.Fields.{joined}
+use Rattle.desk_line.specs.Fields.{line_of_fields}
 use Rattle.desk_line.specs.Reply.{shown_text}
 
 pub other-byte : (b byte : ℕ) → b ≢ byte → eqb b byte ≡ false
@@ -82,9 +82,9 @@ module _ (byte : ℕ) where
   -- ---- fields
 
   module _ (no_blank : 32 ≢ byte) where
-    pub Lacks-joined : (fields : List (List ℕ)) → AllByRecursion (Lacks byte) fields → Lacks byte (joined fields)
+    pub Lacks-joined : (fields : List (List ℕ)) → AllByRecursion (Lacks byte) fields → Lacks byte (line_of_fields fields)
     Lacks-joined [] h = All-nil Other
     Lacks-joined (f ∷ []) h = h.0
     Lacks-joined (f ∷ g ∷ fields) h =
-        All-append Other f (32 ∷ joined (g ∷ fields)) h.0
-        (All-cons Other 32 (joined (g ∷ fields)) (other-byte 32 byte no_blank) (Lacks-joined (g ∷ fields) h.1))
+        All-append Other f (32 ∷ line_of_fields (g ∷ fields)) h.0
+        (All-cons Other 32 (line_of_fields (g ∷ fields)) (other-byte 32 byte no_blank) (Lacks-joined (g ∷ fields) h.1))

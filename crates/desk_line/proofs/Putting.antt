@@ -9,9 +9,9 @@ use Rattle.std.specs.List.{flat_map}
 use Rattle.std.specs.Prelude.{decimal, map}
 use Rattle.std.specs.Str.{encode_utf8_all}
 use Rattle.cell_core.specs.Cell.{braille_character}
-use Rattle.desk_line.specs.Fields.{joined}
+use Rattle.desk_line.specs.Fields.{line_of_fields}
 use Rattle.desk_ends.specs.Cells.{text_of}
-use Rattle.desk_ends.specs.Sent.{Sent}
+use Rattle.desk_ends.specs.Sending.{Transmits}
 use Rattle.desk_line.specs.Reply.{shown_text}
 use Rattle.desk_line.specs.declared.waiting.Waiting.{Waiting}
 use Rattle.desk_line.specs.Waiting.{IsSent, going, broken, Adds}
@@ -37,7 +37,7 @@ IsSent-broken F before now was waiting text b s (broken out rest appends begins 
 
 -- the output buffer is sent
 pub IsSent-passed : (F : Type 0) (before now new : Option (List ℕ)) (was waiting : Waiting) (text : List ℕ) (ok : Bool) → was.is_broken ≡ false
-    → Sent F now new was.block [] ok → waiting.block ≡ [] → waiting.is_broken ≡ not ok → IsSent F before now was text → IsSent F before new waiting text
+    → Transmits F now new was.block [] ok → waiting.block ≡ [] → waiting.is_broken ≡ not ok → IsSent F before now was text → IsSent F before new waiting text
 IsSent-passed F before now new was waiting text true b s empty e (going out appends begins g) =
     going (out ++ s.out) (Appends-trans before now new out s.out appends s.appends)
     (ap (λ (t : List ℕ). (out ++ s.out) ++ t) empty
@@ -50,7 +50,7 @@ IsSent-passed F before now new was waiting text ok b s empty e (broken out rest 
 
 -- all is sent, or sending was broken off
 pub IsSent-end : (F : Type 0) (before now : Option (List ℕ)) (waiting : Waiting) (text : List ℕ) (ok : Bool) → waiting.block ≡ [] → waiting.is_broken ≡ not ok
-    → IsSent F before now waiting text → Sent F before now text [] ok
+    → IsSent F before now waiting text → Transmits F before now text [] ok
 IsSent-end F before now waiting text true empty e (going out appends begins g) =
     record { out = out; rest = []; appends = appends; begins = ap (λ (t : List ℕ). out ++ t) (sym empty) ∙ begins; holds = λ _. refl; fails = λ f. absurd cc }
 IsSent-end F before now waiting text false empty e (going out appends begins g) = absurd (both_ways waiting.is_broken g e)
@@ -103,9 +103,9 @@ encode-two c wide short =
 abbrev pub spaced : List ℕ → List ℕ
 spaced numbers = flat_map (λ n. 32 ∷ decimal n) numbers
 
-pub joined-spaced : (word : List ℕ) (numbers : List ℕ) → word ++ spaced numbers ≡ joined (word ∷ map decimal numbers)
-joined-spaced word [] = append-nil word
-joined-spaced word (n ∷ numbers) = ap (λ (t : List ℕ). word ++ 32 ∷ t) (joined-spaced (decimal n) numbers)
+pub line_of_fields-spaced : (word : List ℕ) (numbers : List ℕ) → word ++ spaced numbers ≡ line_of_fields (word ∷ map decimal numbers)
+line_of_fields-spaced word [] = append-nil word
+line_of_fields-spaced word (n ∷ numbers) = ap (λ (t : List ℕ). word ++ 32 ∷ t) (line_of_fields-spaced (decimal n) numbers)
 
 pub spaced-append : (xs ys : List ℕ) → spaced (xs ++ ys) ≡ spaced xs ++ spaced ys
 spaced-append [] ys = refl
@@ -124,9 +124,9 @@ spaced-next word xs i lt =
 abbrev pub apart : List (Bor (List ℕ)) → List ℕ
 apart fields = flat_map (λ (field : Bor (List ℕ)). 32 ∷ field.now) fields
 
-pub joined-apart : (word : List ℕ) (fields : List (Bor (List ℕ))) → word ++ apart fields ≡ joined (word ∷ map (λ (field : Bor (List ℕ)). field.now) fields)
-joined-apart word [] = append-nil word
-joined-apart word (f ∷ fields) = ap (λ (t : List ℕ). word ++ 32 ∷ t) (joined-apart f.now fields)
+pub line_of_fields-apart : (word : List ℕ) (fields : List (Bor (List ℕ))) → word ++ apart fields ≡ line_of_fields (word ∷ map (λ (field : Bor (List ℕ)). field.now) fields)
+line_of_fields-apart word [] = append-nil word
+line_of_fields-apart word (f ∷ fields) = ap (λ (t : List ℕ). word ++ 32 ∷ t) (line_of_fields-apart f.now fields)
 
 pub apart-append : (xs ys : List (Bor (List ℕ))) → apart (xs ++ ys) ≡ apart xs ++ apart ys
 apart-append [] ys = refl

@@ -14,20 +14,20 @@ use Rattle.desk_model.specs.Name.{is_name_character, is_proofreader_character}
 use Rattle.desk_model.specs.Print.{print_of}
 use Rattle.desk_command.specs.Numbers.{code_of}
 use Rattle.desk_model.specs.Sound.{IsSound, IsSoundEntry, IsSoundMark, IsSoundParagraph}
-use Rattle.desk_model.specs.Stored.{IsUnbarred, is_barred}
+use Rattle.desk_model.specs.NormalForm.{IsUnbarred, is_barred}
 use Rattle.desk_model.proofs.Callers.{IsSoundParagraph-found, IsSoundTable-found, unbarred-print}
 use Rattle.desk_ends.specs.Cells.{text_of}
 use Rattle.desk_line.specs.declared.request.Query.{Query}
-use Rattle.desk_line.specs.Fields.{joined}
-use Rattle.desk_line.specs.Reply.{BeginsWith, EndsAfterBars, RepliesToQuery, ShowsLines, print, braille, history, marks, where_is, whence, list, version, shown, refused, details, entry_line, life_word, listed, mark_line, shown_line, shown_text, state_word, style_word, touch_word, volume_word, word_and}
+use Rattle.desk_line.specs.Fields.{line_of_fields}
+use Rattle.desk_line.specs.Reply.{BeginsWith, EndsAfterBars, RepliesToQuery, ShowsLines, print, braille, history, marks, where_is, whence, list, version, shown, refused, details, entry_line, life_word, list_line, mark_line, shown_line, shown_text, state_word, style_word, touch_word, volume_word, word_and}
 use Rattle.desk_line.proofs.LackedBytes.{Lacks, Lacks-decimal, Lacks-joined, Lacks-shown, lacks, one-line, other-byte}
 
 -- a line without a line feed
 abbrev Lone : List ℕ → Type 0
 Lone line = Lacks 10 line
 
-joined-lone : (fields : List (List ℕ)) → AllByRecursion Lone fields → Lone (joined fields)
-joined-lone = Lacks-joined 10 (λ e. omega arith)
+line_of_fields-lone : (fields : List (List ℕ)) → AllByRecursion Lone fields → Lone (line_of_fields fields)
+line_of_fields-lone = Lacks-joined 10 (λ e. omega arith)
 
 number-lone : (n : ℕ) → Lone (decimal n)
 number-lone = Lacks-decimal 10 (lit< tt)
@@ -63,10 +63,10 @@ braille-lone cells =
 entry-lone : (original : List ℕ) (before : List Entry) (entry : Entry) → IsSoundEntry original before entry
     → (n : ℕ) → Lone (entry_line (n, entry))
 entry-lone original before (Corrects r []) sound n =
-    joined-lone (decimal n ∷ codes "correct" ∷ decimal r.start ∷ decimal r.count ∷ shown_text r.text ∷ [])
+    line_of_fields-lone (decimal n ∷ codes "correct" ∷ decimal r.start ∷ decimal r.count ∷ shown_text r.text ∷ [])
     (number-lone n, (lacks 10 (codes "correct") refl, (number-lone r.start, (number-lone r.count, (unbarred-lone r.text sound.1.unbarred, tt)))))
 entry-lone original before (Corrects r (c ∷ who)) sound n =
-    joined-lone (decimal n ∷ codes "correct-by" ∷ shown_text (c ∷ who) ∷ decimal r.start ∷ decimal r.count ∷ shown_text r.text ∷ []) (
+    line_of_fields-lone (decimal n ∷ codes "correct-by" ∷ shown_text (c ∷ who) ∷ decimal r.start ∷ decimal r.count ∷ shown_text r.text ∷ []) (
       number-lone n,
       (
         lacks 10 (codes "correct-by") refl,
@@ -77,7 +77,7 @@ entry-lone original before (Corrects r (c ∷ who)) sound n =
       ),
     )
 entry-lone original before (Undoes undone) sound n =
-    joined-lone (decimal n ∷ codes "undo" ∷ decimal undone ∷ []) (number-lone n, (lacks 10 (codes "undo") refl, (number-lone undone, tt)))
+    line_of_fields-lone (decimal n ∷ codes "undo" ∷ decimal undone ∷ []) (number-lone n, (lacks 10 (codes "undo") refl, (number-lone undone, tt)))
 
 -- an entry's line, whatever number it has
 abbrev HasLoneLine : Entry → Type 0
@@ -114,7 +114,7 @@ touch-lone false = lacks 10 (codes "kept") refl
 module _ (book : Book) (sound : IsSound book) where
   mark-lone : (mark : Mark) → IsSoundMark book mark → Lone (mark_line mark)
   mark-lone mark s =
-      joined-lone (decimal mark.id ∷ decimal mark.start ∷ decimal mark.end ∷ state_word mark.resolved ∷ touch_word mark.touched ∷ shown_text mark.note ∷ []) (
+      line_of_fields-lone (decimal mark.id ∷ decimal mark.start ∷ decimal mark.end ∷ state_word mark.resolved ∷ touch_word mark.touched ∷ shown_text mark.note ∷ []) (
         number-lone mark.id,
         (
           number-lone mark.start,
@@ -125,9 +125,9 @@ module _ (book : Book) (sound : IsSound book) where
         ),
       )
 
-  listed-lone : (p : Paragraph) → IsSoundParagraph book p → Lone (listed p)
-  listed-lone p s =
-      joined-lone (decimal p.id ∷ shown_text p.table ∷ style_word p.style ∷ volume_word p.begins_volume ∷ life_word p.struck ∷ decimal (length (print_of p)) ∷ []) (
+  list_line-lone : (p : Paragraph) → IsSoundParagraph book p → Lone (list_line p)
+  list_line-lone p s =
+      line_of_fields-lone (decimal p.id ∷ shown_text p.table ∷ style_word p.style ∷ volume_word p.begins_volume ∷ life_word p.struck ∷ decimal (length (print_of p)) ∷ []) (
         number-lone p.id,
         (
           text-lone p.table (All-weaker (λ c. is_name_character c ≡ true) (λ c. eqb c 10 ≡ false) name-other p.table (IsSoundTable-found book sound p.table s.text s.found).named.characters),
@@ -157,17 +157,17 @@ module _ (book : Book) (sound : IsSound book) where
   shown-lone query lines (whence id cell place p q found o is) = subst (All Lone) (sym is) (one (decimal place) (number-lone place))
   shown-lone query lines (list q is) =
       subst (All Lone) (sym is)
-      (All-map Lone listed book.paragraphs (All-weaker (IsSoundParagraph book) (λ p. Lone (listed p)) listed-lone book.paragraphs sound.paragraphs))
+      (All-map Lone list_line book.paragraphs (All-weaker (IsSoundParagraph book) (λ p. Lone (list_line p)) list_line-lone book.paragraphs sound.paragraphs))
   shown-lone query lines (version q is) = subst (All Lone) (sym is) (All-nil Lone)
 
 -- ---- the lines of a reply
 
 -- a line after a bar and a blank
 abbrev after_bar : List ℕ → List ℕ
-after_bar line = joined (codes "|" ∷ line ∷ [])
+after_bar line = line_of_fields (codes "|" ∷ line ∷ [])
 
 bar-lone : (line : List ℕ) → Lone line → Lone (after_bar line)
-bar-lone line h = joined-lone (codes "|" ∷ line ∷ []) (lacks 10 (codes "|") refl, (h, tt))
+bar-lone line h = line_of_fields-lone (codes "|" ∷ line ∷ []) (lacks 10 (codes "|") refl, (h, tt))
 
 pieces-shown : (lines : List (List ℕ)) (rest : List ℕ) → All Lone lines
     → pieces_of (flat_map shown_line lines ++ rest) ≡ map after_bar lines ++ pieces_of rest
@@ -188,15 +188,15 @@ numbers-lone [] = tt
 numbers-lone (n ∷ numbers) = (number-lone n, numbers-lone numbers)
 
 -- a word and numbers after it are one line
-pieces-word : (word : List ℕ) (numbers : List ℕ) → Lone word → pieces_of (word_and word numbers) ≡ joined (word ∷ map decimal numbers) ∷ []
+pieces-word : (word : List ℕ) (numbers : List ℕ) → Lone word → pieces_of (word_and word numbers) ≡ line_of_fields (word ∷ map decimal numbers) ∷ []
 pieces-word word numbers h =
-    let line = joined (word ∷ map decimal numbers) in
-    pieces_of-line line [] (one-line line (joined-lone (word ∷ map decimal numbers) (h, numbers-lone numbers)))
+    let line = line_of_fields (word ∷ map decimal numbers) in
+    pieces_of-line line [] (one-line line (line_of_fields-lone (word ∷ map decimal numbers) (h, numbers-lone numbers)))
 
 pub after-bars : (book : Book) (query : Query) (text : List ℕ) → IsSound book → RepliesToQuery book query text → EndsAfterBars text
 after-bars book query text sound (shown lines shows is) = record {
   others = map after_bar lines;
-  last = joined (codes "end" ∷ decimal book.version ∷ []);
+  last = line_of_fields (codes "end" ∷ decimal book.version ∷ []);
   lines = ap pieces_of is
       ∙ (pieces-shown lines (word_and (codes "end") (book.version ∷ [])) (shown-lone book sound query lines shows)
       ∙ ap (λ (ls : List (List ℕ)). map after_bar lines ++ ls) (pieces-word (codes "end") (book.version ∷ []) (lacks 10 (codes "end") refl)));
@@ -205,8 +205,8 @@ after-bars book query text sound (shown lines shows is) = record {
 }
 after-bars book query text sound (refused refusal refuses is) = record {
   others = [];
-  last = joined (codes "no" ∷ decimal (code_of refusal) ∷ map decimal (details refusal));
+  last = line_of_fields (codes "no" ∷ decimal (code_of refusal) ∷ map decimal (details refusal));
   lines = ap pieces_of is ∙ pieces-word (codes "no") (code_of refusal ∷ details refusal) (lacks 10 (codes "no") refl);
   bars = All-nil (BeginsWith (codes "| "));
-  word = inr (joined (decimal (code_of refusal) ∷ map decimal (details refusal)), refl);
+  word = inr (line_of_fields (decimal (code_of refusal) ∷ map decimal (details refusal)), refl);
 }

@@ -6,19 +6,19 @@ use Rattle.std.specs.Str.{chars}
 use Rattle.std.proofs.lemmas.Bool.{both_ways, eqb-true}
 use Rattle.std.proofs.lemmas.List.{append-nil}
 use Rattle.std.proofs.lemmas.Str.{chars-nil}
-use Rattle.desk_line.specs.Fields.{joined}
+use Rattle.desk_line.specs.Fields.{line_of_fields}
 use Rattle.desk_command.specs.declared.refusal.Refusal.{Refusal}
 use Rattle.desk_command.specs.declared.refusal.Refusal.TheVariants as refusals
-use Rattle.desk_model.specs.declared.told.Done.TheVariants.{Corrected, TookBack}
+use Rattle.desk_model.specs.declared.history_item.Done.TheVariants.{Corrected, TookBack}
 use Rattle.desk_command.specs.Numbers.{code_of}
 use Rattle.desk_model.specs.Book.{Book, Entry, Corrects, Undoes, Mark, Paragraph, Replacement, paragraph_of}
 use Rattle.desk_model.specs.Print.{print_of}
-use Rattle.desk_model.specs.Told.{TellsOf}
-use Rattle.desk_model.specs.Translated.{LacksCell, LacksPlace}
+use Rattle.desk_model.specs.HistoryItems.{TellsOf}
+use Rattle.desk_model.specs.Translation.{LacksCell, LacksPlace}
 use Rattle.desk_line.specs.declared.request.Query.{Query}
 use Rattle.desk_line.specs.declared.request.Query.TheVariants as queries
 use Rattle.desk_line.specs.declared.waiting.Waiting.{Waiting}
-use Rattle.desk_line.specs.Reply.{AddsQueryReply, AddsShown, Refuses, no_paragraph, no_place, no_cell, paragraph_asked, ShowsLines, correction_line, details, entry_line, life_word, line_of, listed, mark_line, state_word, style_word, touch_word, volume_word, refusal_line, refused, shown, shown_line, shown_text, word_and}
+use Rattle.desk_line.specs.Reply.{AddsQueryReply, AddsShown, Refuses, no_paragraph, no_place, no_cell, paragraph_asked, ShowsLines, correction_line, details, entry_line, life_word, line_of, list_line, mark_line, state_word, style_word, touch_word, volume_word, refusal_line, refused, shown, shown_line, shown_text, word_and}
 use Rattle.desk_line.specs.Waiting.{Adds}
 use Rattle.desk_line.proofs.Putting.{Adds-same, Adds-then}
 
@@ -79,10 +79,10 @@ pub mark-fields : (told : Mark) (id start end state touch note : List ℕ) → i
     → line_of (codes "|" ∷ id ∷ start ∷ end ∷ state ∷ touch ∷ note ∷ []) ≡ shown_line (mark_line told)
 mark-fields told id start end state touch note a b c d e f = rw (a, b, c, d, e, f) refl
 
-pub listed-fields : (told : Paragraph) (id table style volume life size : List ℕ) → id ≡ decimal told.id → table ≡ shown_text told.table
+pub list_line-fields : (told : Paragraph) (id table style volume life size : List ℕ) → id ≡ decimal told.id → table ≡ shown_text told.table
     → style ≡ style_word told.style → volume ≡ volume_word told.begins_volume → life ≡ life_word told.struck → size ≡ decimal (length (print_of told))
-    → line_of (codes "|" ∷ id ∷ table ∷ style ∷ volume ∷ life ∷ size ∷ []) ≡ shown_line (listed told)
-listed-fields told id table style volume life size a b c d e f = rw (a, b, c, d, e, f) refl
+    → line_of (codes "|" ∷ id ∷ table ∷ style ∷ volume ∷ life ∷ size ∷ []) ≡ shown_line (list_line told)
+list_line-fields told id table style volume life size a b c d e f = rw (a, b, c, d, e, f) refl
 
 -- an entry with its parts as bytes: a correction by nobody, one by a proofreader, and an undo
 pub unnamed-fields : (entry : Entry) (number start count : ℕ) (text who : Bor (List ℕ)) → TellsOf entry (Corrected start count text who) → who.now ≡ []
@@ -95,7 +95,7 @@ unnamed-fields (Undoes m) number start count text who tells none n first size bo
 
 correction-named : (number : ℕ) (r : Replacement) (name : List ℕ) → name ≢ []
     → correction_line number r name
-    ≡ joined (decimal number ∷ codes "correct-by" ∷ shown_text name ∷ decimal r.start ∷ decimal r.count ∷ shown_text r.text ∷ [])
+    ≡ line_of_fields (decimal number ∷ codes "correct-by" ∷ shown_text name ∷ decimal r.start ∷ decimal r.count ∷ shown_text r.text ∷ [])
 correction-named number r [] some = absurd (some refl)
 correction-named number r (c ∷ name) some = refl
 

@@ -22,8 +22,8 @@ use Rattle.desk_line.specs.Fields.{IsNumber, end, fields_of}
 use Rattle.desk_line.specs.Head.{Says, SaysDirective, asks, correct, correct_by, does, expected, nothing, strike, supply, table, type_in, version}
 use Rattle.desk_line.specs.Lines.{CanBeHead}
 use Rattle.desk_line.specs.Reading.{head_in, head_of, query_in, directive_in, number_in, count_in, table_in, type_in as read_type_in, anchor_in}
-use Rattle.desk_line.specs.Answered.{Replies, asked, no_request}
-use Rattle.desk_line.specs.Reply.{IsReply, entry_line, listed, mark_line, no_paragraph, refusal_line, refused as refused_query, shown, shown_line, shown_text, version as shows_version}
+use Rattle.desk_line.specs.Answers.{Replies, asked, no_request}
+use Rattle.desk_line.specs.Reply.{IsReply, entry_line, list_line, mark_line, no_paragraph, refusal_line, refused as refused_query, shown, shown_line, shown_text, version as shows_version}
 use Rattle.desk_line.specs.Request.{IsWhole, Reads, Requests, Takes, WholeRequests, last, said, unsaid, whole}
 use Rattle.desk_line.proofs.HeadLines.{head-of-long, head-of-text}
 use Rattle.desk_line.proofs.HeadLaws.{head-found}
@@ -313,10 +313,10 @@ unfolding digits
 nothing-to-undo = refl
 
 -- the list of a book with the paragraph 1, `The cat`, that uses the table `en`
-listed-paragraph : shown_line (listed (record { id = 1; table = codes "en"; original = codes "The cat"; history = []; style = Body; begins_volume = false; struck = false }))
+list_line-paragraph : shown_line (list_line (record { id = 1; table = codes "en"; original = codes "The cat"; history = []; style = Body; begins_volume = false; struck = false }))
     ≡ codes "| 1 en body - live 7\n"
 unfolding digits encode_utf8
-listed-paragraph = refl
+list_line-paragraph = refl
 
 -- entries of a history: a correction that puts nothing in the place of nine characters, the same by Ann, and an undo
 erased-line : shown_line (entry_line (3, Corrects (record { start = 0; count = 9; text = [] }) [])) ≡ codes "| 3 correct 0 9 \n"

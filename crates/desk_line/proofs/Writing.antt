@@ -32,12 +32,12 @@ use Rattle.desk_line.specs.declared.request.Query.{Query}
 use Rattle.desk_line.specs.declared.request.Query.TheVariants as queries
 use Rattle.desk_line.specs.declared.request.Request.{Request}
 use Rattle.desk_line.specs.declared.request.Request.TheVariants as requests
-use Rattle.desk_line.specs.Fields.{IsAnchor, IsFlag, IsNumber, IsStyle, after, body, end, fields_of, front, heading, joined, off, on}
+use Rattle.desk_line.specs.Fields.{IsAnchor, IsFlag, IsNumber, IsStyle, after, body, end, fields_of, front, heading, line_of_fields, off, on}
 use Rattle.desk_line.specs.Head.{Expects, IsSpanText, Says, SaysDirective, SaysQuery, asks, braille, correct, correct_by, does, expected, history, list, mark, marks, move, nothing, print, restore, resolve, retable, strike, style, table, type_in, undo, version, volume, whence, where_is}
 use Rattle.desk_line.specs.Lines.{IsShort, after_first_line}
 use Rattle.desk_line.specs.Reply.{shown_text}
 use Rattle.desk_line.specs.Request.{Reads, command_of, block_lines, directive_block_lines, request_of}
-use Rattle.desk_line.specs.Written.{CanBeWritten, FitsCommand, FitsQuery, IsOneLineText, IsSmall, IsSmallAnchor, IsSmallIfAny, IsWord, anchor_field, block_of, command_fields, expecting_line, flag_field, head_text, query_fields, style_field, written}
+use Rattle.desk_line.specs.RequestText.{CanBeWritten, FitsCommand, FitsQuery, IsOneLineText, IsSmall, IsSmallAnchor, IsSmallIfAny, IsWord, anchor_field, block_of, command_fields, expecting_line, flag_field, head_text, query_fields, request_text, style_field}
 use Rattle.desk_line.proofs.LackedBytes.{Lacks, Lacks-decimal, Lacks-joined, Lacks-shown, one-line, other-byte}
 
 -- ---- fields
@@ -129,19 +129,19 @@ name-some name h e = h.some (sym (name-spelled name h) ∙ (ap chars e ∙ chars
 
 -- ---- lines of fields
 
-line-plain : (fields : List (List ℕ)) → AllByRecursion IsPlain fields → IsPlain (joined fields)
+line-plain : (fields : List (List ℕ)) → AllByRecursion IsPlain fields → IsPlain (line_of_fields fields)
 line-plain fields h = record { utf8 = all-utf8 fields h; lone = Lacks-joined 10 (λ e. omega arith) fields (all-lone fields h) }
   where
     all-lone : (fs : List (List ℕ)) → AllByRecursion IsPlain fs → AllByRecursion (Lacks 10) fs
     all-lone [] p = tt
     all-lone (f ∷ fs) p = (p.0.lone, all-lone fs p.1)
 
-    all-utf8 : (fs : List (List ℕ)) → AllByRecursion IsPlain fs → IsUtf8 (joined fs)
+    all-utf8 : (fs : List (List ℕ)) → AllByRecursion IsPlain fs → IsUtf8 (line_of_fields fs)
     all-utf8 [] p = IsUtf8-nil
     all-utf8 (f ∷ []) p = p.0.utf8
     all-utf8 (f ∷ g ∷ fs) p =
-        IsUtf8-append f (32 ∷ joined (g ∷ fs)) p.0.utf8
-        (IsUtf8-append (32 ∷ []) (joined (g ∷ fs)) (IsUtf8-from_ascii (32 ∷ []) blank-ascii) (all-utf8 (g ∷ fs) p.1))
+        IsUtf8-append f (32 ∷ line_of_fields (g ∷ fs)) p.0.utf8
+        (IsUtf8-append (32 ∷ []) (line_of_fields (g ∷ fs)) (IsUtf8-from_ascii (32 ∷ []) blank-ascii) (all-utf8 (g ∷ fs) p.1))
       where
         blank-ascii : IsAscii (32 ∷ [])
         blank-ascii zero = lit< tt
@@ -149,28 +149,28 @@ line-plain fields h = record { utf8 = all-utf8 fields h; lone = Lacks-joined 10 
 
 -- the fields of a line are those that are joined, and those of its last
 fields-joined : (fields : List (List ℕ)) (last : List ℕ) → AllByRecursion (Lacks 32) fields
-    → fields_of (joined (fields ++ last ∷ [])) ≡ fields ++ fields_of last
+    → fields_of (line_of_fields (fields ++ last ∷ [])) ≡ fields ++ fields_of last
 fields-joined [] last h = refl
 fields-joined (f ∷ []) last h = slice_split_at (λ b. eqb b 32) f 32 last h.0 refl
 fields-joined (f ∷ g ∷ fields) last h =
-    slice_split_at (λ b. eqb b 32) f 32 (joined (g ∷ (fields ++ last ∷ []))) h.0 refl
+    slice_split_at (λ b. eqb b 32) f 32 (line_of_fields (g ∷ (fields ++ last ∷ []))) h.0 refl
     ∙ ap (λ (fs : List (List ℕ)). f ∷ fs) (fields-joined (g ∷ fields) last h.1)
 
 fields-closed : (fields : List (List ℕ)) (last : List ℕ) → AllByRecursion (Lacks 32) fields → Lacks 32 last
-    → fields_of (joined (fields ++ last ∷ [])) ≡ fields ++ last ∷ []
+    → fields_of (line_of_fields (fields ++ last ∷ [])) ≡ fields ++ last ∷ []
 fields-closed fields last h l =
     fields-joined fields last h ∙ ap (λ (fs : List (List ℕ)). fields ++ fs) (slice_split_none (λ b. eqb b 32) last l)
 
-text-joined : (text : List ℕ) → joined (fields_of text) ≡ text
+text-joined : (text : List ℕ) → line_of_fields (fields_of text) ≡ text
 text-joined text = join_with_byte-slice_split 32 text
 
 -- ---- commands
 
 -- a command's head line and block say it
 record IsSaid (command : Command) : Type 0 where
-  plain : IsPlain (joined (command_fields command))
+  plain : IsPlain (line_of_fields (command_fields command))
   directive : Directive
-  says : SaysDirective (fields_of (joined (command_fields command))) directive
+  says : SaysDirective (fields_of (line_of_fields (command_fields command))) directive
   counts : length (lines_of (block_of command)) ≡ directive_block_lines directive
   is : command_of directive (block_of command) ≡ command
 
@@ -179,16 +179,16 @@ module _ (word : List ℕ) (visible : list_all is_visible word ≡ true) where
   w = word-closed word visible
 
   -- a word and one field, and a word and two
-  one-plain : (f : List ℕ) → IsPlain f → IsPlain (joined (word ∷ f ∷ []))
+  one-plain : (f : List ℕ) → IsPlain f → IsPlain (line_of_fields (word ∷ f ∷ []))
   one-plain f p = line-plain (word ∷ f ∷ []) (w.plain, (p, tt))
 
-  one-fields : (f : List ℕ) → IsClosed f → fields_of (joined (word ∷ f ∷ [])) ≡ word ∷ f ∷ []
+  one-fields : (f : List ℕ) → IsClosed f → fields_of (line_of_fields (word ∷ f ∷ [])) ≡ word ∷ f ∷ []
   one-fields f c = fields-closed (word ∷ []) f (w.whole, tt) c.whole
 
-  two-plain : (f g : List ℕ) → IsPlain f → IsPlain g → IsPlain (joined (word ∷ f ∷ g ∷ []))
+  two-plain : (f g : List ℕ) → IsPlain f → IsPlain g → IsPlain (line_of_fields (word ∷ f ∷ g ∷ []))
   two-plain f g p q = line-plain (word ∷ f ∷ g ∷ []) (w.plain, (p, (q, tt)))
 
-  two-fields : (f g : List ℕ) → IsClosed f → IsClosed g → fields_of (joined (word ∷ f ∷ g ∷ [])) ≡ word ∷ f ∷ g ∷ []
+  two-fields : (f g : List ℕ) → IsClosed f → IsClosed g → fields_of (line_of_fields (word ∷ f ∷ g ∷ [])) ≡ word ∷ f ∷ g ∷ []
   two-fields f g c d = fields-closed (word ∷ f ∷ []) g (w.whole, (c.whole, tt)) d.whole
 
 anchor-closed : (anchor : Anchor) → IsSmallAnchor anchor → IsClosed (anchor_field anchor)
@@ -222,7 +222,7 @@ abbrev span_fields : (id start count : ℕ) → List ℕ → List (List ℕ)
 span_fields id start count text = decimal id ∷ decimal start ∷ decimal count ∷ fields_of (shown_text text)
 
 abbrev span_of : (id start count : ℕ) → List ℕ → SpanText
-span_of id start count text = record { paragraph = id; start = start; count = count; text = joined (fields_of (shown_text text)) }
+span_of id start count text = record { paragraph = id; start = start; count = count; text = line_of_fields (fields_of (shown_text text)) }
 
 module _ (id start count : ℕ) (text : List ℕ) (i : IsSmall id) (s : IsSmall start) (n : IsSmall count) (t : IsOneLineText text) where
   span-written : IsSpanText (span_fields id start count text) (span_of id start count text)
@@ -238,19 +238,19 @@ module _ (id start count : ℕ) (text : List ℕ) (i : IsSmall id) (s : IsSmall 
     text = refl;
   }
 
-  span-spelled : chars (joined (fields_of (shown_text text))) ≡ text
+  span-spelled : chars (line_of_fields (fields_of (shown_text text))) ≡ text
   span-spelled = ap chars (text-joined (shown_text text)) ∙ text-spelled text t.characters
 
   module _ (word : List ℕ) (visible : list_all is_visible word ≡ true) where
     abbrev v : IsClosed word
     v = word-closed word visible
 
-    span-plain : IsPlain (joined (word ∷ decimal id ∷ decimal start ∷ decimal count ∷ shown_text text ∷ []))
+    span-plain : IsPlain (line_of_fields (word ∷ decimal id ∷ decimal start ∷ decimal count ∷ shown_text text ∷ []))
     span-plain =
         line-plain (word ∷ decimal id ∷ decimal start ∷ decimal count ∷ shown_text text ∷ [])
         (v.plain, ((number-closed id i).plain, ((number-closed start s).plain, ((number-closed count n).plain, (text-plain text t, tt)))))
 
-    span-line : fields_of (joined (word ∷ decimal id ∷ decimal start ∷ decimal count ∷ shown_text text ∷ [])) ≡ word ∷ span_fields id start count text
+    span-line : fields_of (line_of_fields (word ∷ decimal id ∷ decimal start ∷ decimal count ∷ shown_text text ∷ [])) ≡ word ∷ span_fields id start count text
     span-line =
         fields-joined (word ∷ decimal id ∷ decimal start ∷ decimal count ∷ []) (shown_text text)
         (v.whole, ((number-closed id i).whole, ((number-closed start s).whole, ((number-closed count n).whole, tt))))
@@ -304,12 +304,12 @@ command-said (commands.Table name text) (n, t) = record {
 command-said (commands.TypeIn place name text) (a, n, t) = record {
   plain = line-plain (codes "type" ∷ anchor_field place ∷ shown_text name ∷ shown_text text ∷ [])
       ((word-closed (codes "type") refl).plain, ((anchor-closed place a).plain, ((name-closed name n).plain, (text-plain text t, tt))));
-  directive = directives.TypeIn place (shown_text name) (joined (fields_of (shown_text text)));
+  directive = directives.TypeIn place (shown_text name) (line_of_fields (fields_of (shown_text text)));
   says = type_in (anchor_field place) (shown_text name) (fields_of (shown_text text)) place (anchor-written place a) (name-some name n)
       (fields-joined (codes "type" ∷ anchor_field place ∷ shown_text name ∷ []) (shown_text text)
       ((word-closed (codes "type") refl).whole, ((anchor-closed place a).whole, ((name-closed name n).whole, tt)))) refl;
   counts = refl;
-  is = ap (λ (x : List ℕ). commands.TypeIn place x (chars (joined (fields_of (shown_text text))))) (name-spelled name n)
+  is = ap (λ (x : List ℕ). commands.TypeIn place x (chars (line_of_fields (fields_of (shown_text text))))) (name-spelled name n)
       ∙ ap (commands.TypeIn place name) (ap chars (text-joined (shown_text text)) ∙ text-spelled text t.characters);
 }
 command-said (commands.Correct id start count text []) (i, s, n, t, w) = corrected-said id start count text i s n t
@@ -380,8 +380,8 @@ command-said (commands.Move id place) (h, a) = record {
 
 -- a query's head line asks it
 record IsAsked (query : Query) : Type 0 where
-  plain : IsPlain (joined (query_fields query))
-  says : SaysQuery (fields_of (joined (query_fields query))) query
+  plain : IsPlain (line_of_fields (query_fields query))
+  says : SaysQuery (fields_of (line_of_fields (query_fields query))) query
 
 query-asked : (query : Query) → FitsQuery query → IsAsked query
 query-asked (queries.Print id) h = record {
@@ -500,17 +500,17 @@ block-short (commands.Volume id begins) h = tt
 block-short (commands.Retable id name) h = tt
 block-short (commands.Move id place) h = tt
 
-pub written-reads : (request : Request) → CanBeWritten request → Reads (written request) request
-written-reads (requests.Do command expect) can =
+pub request_text-reads : (request : Request) → CanBeWritten request → Reads (request_text request) request
+request_text-reads (requests.Do command expect) can =
     let s = command-said command can.fits.0 in
     let line = head_text (requests.Do command expect) in
-    let plain = expecting-plain expect (joined (command_fields command)) can.fits.1 s.plain in
-    subst (Reads (written (requests.Do command expect))) (ap (λ (c : Command). requests.Do c expect) s.is)
+    let plain = expecting-plain expect (line_of_fields (command_fields command)) can.fits.1 s.plain in
+    subst (Reads (request_text (requests.Do command expect))) (ap (λ (c : Command). requests.Do c expect) s.is)
     (reads-line line (block_of command) plain.lone (heads.Do s.directive expect) plain.utf8 can.short
-    (does expect (fields_of (joined (command_fields command))) s.directive (record { short = can.short; utf8 = plain.utf8 })
-    (line-expects expect (joined (command_fields command)) can.fits.1) s.says refl)
+    (does expect (fields_of (line_of_fields (command_fields command))) s.directive (record { short = can.short; utf8 = plain.utf8 })
+    (line-expects expect (line_of_fields (command_fields command)) can.fits.1) s.says refl)
     s.counts (block-short command can.fits.0))
-written-reads (requests.Ask query) can =
+request_text-reads (requests.Ask query) can =
     let a = query-asked query can.fits in
-    reads-line (joined (query_fields query)) [] a.plain.lone (heads.Ask query) a.plain.utf8 can.short
+    reads-line (line_of_fields (query_fields query)) [] a.plain.lone (heads.Ask query) a.plain.utf8 can.short
     (asks query (record { short = can.short; utf8 = a.plain.utf8 }) a.says refl) refl tt

@@ -16,8 +16,8 @@ abbrev pub fields_of : List ℕ → List (List ℕ)
 fields_of line = slice_split (λ b. b == 32) line
 
 -- the fields with one blank between them: the line that they came from
-abbrev pub joined : List (List ℕ) → List ℕ
-joined = join_with_byte 32
+abbrev pub line_of_fields : List (List ℕ) → List ℕ
+line_of_fields = join_with_byte 32
 
 -- the fields of a rest of a line, if there is one
 abbrev pub fields_in_rest : Option (Bor (List ℕ)) → List (List ℕ)

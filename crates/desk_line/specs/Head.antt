@@ -10,7 +10,7 @@ use Rattle.desk_line.specs.declared.directive.Directive.TheVariants.{Table, Supp
 use Rattle.desk_line.specs.declared.directive.SpanText.{SpanText}
 use Rattle.desk_line.specs.declared.request.Query.{Query}
 use Rattle.desk_line.specs.declared.request.Query.TheVariants as queries
-use Rattle.desk_line.specs.Fields.{fields_of, joined, IsName, IsNumber, IsAnchor, IsStyle, IsFlag}
+use Rattle.desk_line.specs.Fields.{fields_of, line_of_fields, IsName, IsNumber, IsAnchor, IsStyle, IsFlag}
 use Rattle.desk_line.specs.Lines.{CanBeHead}
 
 -- the fields name a paragraph, the first of its places and how many places, and the rest of the line is a text, with its
@@ -24,7 +24,7 @@ pub record IsSpanText (fields : List (List ℕ)) (span : SpanText) : Type 0 wher
   pub paragraph : IsNumber number span.paragraph
   pub start : IsNumber first span.start
   pub count : IsNumber size span.count
-  pub text : span.text ≡ joined rest
+  pub text : span.text ≡ line_of_fields rest
 
 -- the fields give this command; for a table, its text is still to come in this many lines. A typed text is the rest of
 -- the line, with its blanks; before an empty one the blank may be missing
@@ -34,7 +34,7 @@ pub data SaysDirective (fields : List (List ℕ)) (directive : Directive) : Type
   supply : (name : List ℕ) → IsName name
       → fields ≡ codes "supply" ∷ name ∷ [] → directive ≡ Supply name → SaysDirective fields directive
   type_in : (after name : List ℕ) (text : List (List ℕ)) (anchor : Anchor) → IsAnchor after anchor → IsName name
-      → fields ≡ codes "type" ∷ after ∷ name ∷ text → directive ≡ TypeIn anchor name (joined text) → SaysDirective fields directive
+      → fields ≡ codes "type" ∷ after ∷ name ∷ text → directive ≡ TypeIn anchor name (line_of_fields text) → SaysDirective fields directive
   correct : (others : List (List ℕ)) (span : SpanText) → IsSpanText others span
       → fields ≡ codes "correct" ∷ others → directive ≡ Correct span [] → SaysDirective fields directive
   correct_by : (who : List ℕ) (others : List (List ℕ)) (span : SpanText) → IsName who → IsSpanText others span

@@ -4,7 +4,7 @@ pub mod Fields
 pub mod Head
 pub mod Request
 pub mod Reply
-pub mod Answered
-pub mod Written
+pub mod Answers
+pub mod RequestText
 pub mod Reading
 pub mod Waiting

@@ -19,7 +19,7 @@ use Rattle.desk_line.specs.declared.directive.Directive.TheVariants.{Table, Supp
 use Rattle.desk_line.specs.declared.directive.SpanText.{SpanText}
 use Rattle.desk_line.specs.declared.request.Query.{Query}
 use Rattle.desk_line.specs.declared.request.Query.TheVariants as queries
-use Rattle.desk_line.specs.Fields.{fields_of, joined}
+use Rattle.desk_line.specs.Fields.{fields_of, line_of_fields}
 use Rattle.louis_table.specs.Lines.{lines_of}
 use Rattle.desk_command.specs.declared.command.Command.{Command}
 use Rattle.desk_line.specs.declared.fault.Fault.{Fault}
@@ -119,10 +119,10 @@ supply_in fields = option_map Supply (option_and_then name_in (only_one fields))
 unfoldable pub type_in : List (List ℕ) → Option Directive
 type_in fields =
     option_and_then (λ first. option_and_then (λ second.
-    of_both (λ anchor name. TypeIn anchor name (joined second.1)) (anchor_in first.0) (name_in second.0)) (first_and_others first.1)) (first_and_others fields)
+    of_both (λ anchor name. TypeIn anchor name (line_of_fields second.1)) (anchor_in first.0) (name_in second.0)) (first_and_others first.1)) (first_and_others fields)
 
 abbrev pub span_text : (id start count : ℕ) → List (List ℕ) → SpanText
-span_text id start count rest = record { paragraph = id; start = start; count = count; text = joined rest }
+span_text id start count rest = record { paragraph = id; start = start; count = count; text = line_of_fields rest }
 
 unfoldable pub span_text_in : List (List ℕ) → Option SpanText
 span_text_in fields =

@@ -4,7 +4,7 @@ use Rattle.std.specs.List.{All, flat_map, enumerate_from}
 use Rattle.std.specs.Str.{encode_utf8_all}
 use Rattle.louis_table.specs.Lines.{pieces_of}
 use Rattle.desk_ends.specs.Cells.{text_of}
-use Rattle.desk_ends.specs.Sent.{Sent}
+use Rattle.desk_ends.specs.Sending.{Transmits}
 use Rattle.desk_command.specs.declared.refusal.Refusal.{Refusal}
 use Rattle.desk_command.specs.declared.refusal.Refusal.TheVariants as refusals
 use Rattle.desk_command.specs.declared.style.Style.{Style}
@@ -13,21 +13,21 @@ use Rattle.desk_model.specs.Book.{Book, Paragraph, Entry, Corrects, Undoes, Mark
 use Rattle.desk_model.specs.ParagraphMarks.{marks_on}
 use Rattle.desk_model.specs.Print.{print_of}
 use Rattle.desk_command.specs.Numbers.{code_of, limit_number}
-use Rattle.desk_model.specs.Translated.{IsBraille, IsOutputPlace, IsPrintPlace, LacksPlace, LacksCell}
+use Rattle.desk_model.specs.Translation.{IsBraille, IsOutputPlace, IsPrintPlace, LacksPlace, LacksCell}
 use Rattle.desk_line.specs.declared.answer.Answer.{Answer}
 use Rattle.desk_line.specs.declared.answer.Answer.TheVariants.{Done, Refused, Asked, Syntax, NoMemory, Lost}
 use Rattle.desk_line.specs.declared.request.Query.{Query}
 use Rattle.desk_line.specs.declared.request.Query.TheVariants.{Print, Braille, History, Marks, WhereIs, Whence, Version}
 use Rattle.desk_line.specs.declared.request.Query.TheVariants as queries
 use Rattle.desk_line.specs.declared.waiting.Waiting.{Waiting}
-use Rattle.desk_line.specs.Fields.{joined}
+use Rattle.desk_line.specs.Fields.{line_of_fields}
 use Rattle.desk_line.specs.Waiting.{Adds}
 
 -- ---- lines
 
 -- a line: its fields with one blank between them, and a line feed
 abbrev pub line_of : List (List ℕ) → List ℕ
-line_of fields = joined fields ++ 10 ∷ []
+line_of fields = line_of_fields fields ++ 10 ∷ []
 
 -- a word, and numbers after it
 abbrev pub word_and : List ℕ → List ℕ → List ℕ
@@ -78,21 +78,21 @@ life_word true = codes "struck"
 life_word false = codes "live"
 
 -- a paragraph in the list of a book
-abbrev pub listed : Paragraph → List ℕ
-listed paragraph = joined (decimal paragraph.id ∷ shown_text paragraph.table ∷ style_word paragraph.style
+abbrev pub list_line : Paragraph → List ℕ
+list_line paragraph = line_of_fields (decimal paragraph.id ∷ shown_text paragraph.table ∷ style_word paragraph.style
     ∷ volume_word paragraph.begins_volume ∷ life_word paragraph.struck ∷ decimal (length (print_of paragraph)) ∷ [])
 
 -- a correction, with the name of its proofreader if somebody is named
 abbrev pub correction_line : ℕ → Replacement → List ℕ → List ℕ
 correction_line number r [] =
-    joined (decimal number ∷ codes "correct" ∷ decimal r.start ∷ decimal r.count ∷ shown_text r.text ∷ [])
+    line_of_fields (decimal number ∷ codes "correct" ∷ decimal r.start ∷ decimal r.count ∷ shown_text r.text ∷ [])
 correction_line number r (c ∷ who) =
-    joined (decimal number ∷ codes "correct-by" ∷ shown_text (c ∷ who) ∷ decimal r.start ∷ decimal r.count ∷ shown_text r.text ∷ [])
+    line_of_fields (decimal number ∷ codes "correct-by" ∷ shown_text (c ∷ who) ∷ decimal r.start ∷ decimal r.count ∷ shown_text r.text ∷ [])
 
 -- an entry of a history, with its number
 abbrev pub entry_line : ℕ × Entry → List ℕ
 entry_line (number, Corrects r who) = correction_line number r who
-entry_line (number, Undoes undone) = joined (decimal number ∷ codes "undo" ∷ decimal undone ∷ [])
+entry_line (number, Undoes undone) = line_of_fields (decimal number ∷ codes "undo" ∷ decimal undone ∷ [])
 
 abbrev pub state_word : Bool → List ℕ
 state_word true = codes "resolved"
@@ -104,7 +104,7 @@ touch_word false = codes "kept"
 
 -- a mark of a paragraph
 abbrev pub mark_line : Mark → List ℕ
-mark_line mark = joined (decimal mark.id ∷ decimal mark.start ∷ decimal mark.end ∷ state_word mark.resolved
+mark_line mark = line_of_fields (decimal mark.id ∷ decimal mark.start ∷ decimal mark.end ∷ state_word mark.resolved
     ∷ touch_word mark.touched ∷ shown_text mark.note ∷ [])
 
 -- the lines that the book shows for the query
@@ -121,7 +121,7 @@ pub data ShowsLines (book : Book) (query : Query) (lines : List (List ℕ)) : Ty
       → IsOutputPlace book paragraph place cell → lines ≡ decimal cell ∷ [] → ShowsLines book query lines
   whence : (id cell place : ℕ) (paragraph : Paragraph) → query ≡ Whence id cell → paragraph_of book id ≡ Some paragraph
       → IsPrintPlace book paragraph cell place → lines ≡ decimal place ∷ [] → ShowsLines book query lines
-  list : query ≡ queries.List → lines ≡ map listed book.paragraphs → ShowsLines book query lines
+  list : query ≡ queries.List → lines ≡ map list_line book.paragraphs → ShowsLines book query lines
   version : query ≡ Version → lines ≡ [] → ShowsLines book query lines
 
 -- the paragraph that a query names, if it names one
@@ -200,4 +200,4 @@ AddsReply CanFail now new was waiting book answer =
 pub record IsReplied (CanFail : Type 0) (old new : Option (List ℕ)) (book : Book) (answer : Answer) (whole : Bool) : Type 0 where
   pub text : List ℕ
   pub is : IsReply book answer text
-  pub sent : Sent CanFail old new text [] whole
+  pub sent : Transmits CanFail old new text [] whole

@@ -1,5 +1,5 @@
 //! The fields of a head line.
-ghost use Rattle.desk_line.specs.Fields.{fields_in_rest, fields_of, joined};
+ghost use Rattle.desk_line.specs.Fields.{fields_in_rest, fields_of, line_of_fields};
 ghost use Rattle.desk_line.specs.Reading.{first_and_others, only_one, only_two};
 ghost use Rattle.std.specs.Prelude.{◌≡◌, [], IsTrue, ◌↔◌, ◌∷◌};
 ghost use Rattle.std.specs.Str.{bytes_eq};
@@ -111,7 +111,7 @@ impl<'a> Fields<'a> {
 
     /// The line from here on, with its blanks.
     pub(crate) fn text(self) -> Field<'a>
-        ensures { result ≡ joined self.entry }
+        ensures { result ≡ line_of_fields self.entry }
     {
         Field {
             text: self.rest.unwrap_or(""),

@@ -6,7 +6,7 @@ ghost use Rattle.desk_line.specs.Limits.{most_digits, most_number};
 ghost use Rattle.desk_line.specs.declared.limits.TheConstants.{MOST_DIGITS, MOST_NUMBER};
 ghost use Rattle.desk_line.specs.declared.request.Query.{Query};
 ghost use Rattle.desk_line.specs.Request.{Reads, Requests, WholeRequests};
-ghost use Rattle.desk_line.specs.Written.{CanBeWritten, written};
+ghost use Rattle.desk_line.specs.RequestText.{CanBeWritten, request_text};
 ghost use Rattle.desk_line.specs.declared.request.Request.{Request};
 ghost use Rattle.std.specs.Prelude.{◌≡◌, ◌++◌, ℕ, List};
 
@@ -18,7 +18,7 @@ pub fn one_request()
 /// Each request within the bounds of the language has a text that reads as it: its numbers are at most 2^53, its names have a
 /// character and no blank or line feed, its texts no line feed, and its lines are few and short enough.
 pub fn requests_are_written()
-    ensures { (request : Request) → CanBeWritten request → Reads (written request) request }
+    ensures { (request : Request) → CanBeWritten request → Reads (request_text request) request }
 {}
 
 /// An input is cut into requests in exactly one way.

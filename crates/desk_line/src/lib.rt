@@ -25,12 +25,12 @@ mod head;
 pub mod laws;
 mod limits;
 mod operand;
-mod put;
 mod query;
 mod read;
 mod reply;
 mod request;
 mod shown;
+mod text_output;
 mod waiting;
 
 pub use answer::Answer;

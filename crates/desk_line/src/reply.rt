@@ -5,9 +5,9 @@ ghost use Rattle.std.specs.Prelude.{IfErr, OnOk, [], codes, is_ok, option_to_lis
 
 use super::answer::Answer;
 use super::fault::Broken;
-use super::put::{finish, nothing_waiting, put_line};
 use super::request::Query;
 use super::shown::{put_braille, put_history, put_list, put_marks, put_place, put_print};
+use super::text_output::{finish, nothing_waiting, put_line};
 use super::waiting::Waiting;
 use desk_book::Book;
 use desk_command::Refusal;

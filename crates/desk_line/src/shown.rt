@@ -1,18 +1,18 @@
 //! Puts the lines that queries show.
 ghost use Rattle.desk_model.specs.Book.{Entry, Mark as BookMark, Paragraph as BookParagraph};
-ghost use Rattle.desk_model.specs.Listed.{IsListed};
+ghost use Rattle.desk_model.specs.ListItems.{IsListed};
 ghost use Rattle.desk_model.specs.ParagraphMarks.{TellsOf as TellsOfMark};
-ghost use Rattle.desk_model.specs.Told.{TellsOf};
+ghost use Rattle.desk_model.specs.HistoryItems.{TellsOf};
 ghost use Rattle.desk_ends.specs.Cells.{text_of};
-ghost use Rattle.desk_line.specs.Reply.{entry_line, listed, mark_line, shown_line, shown_text};
+ghost use Rattle.desk_line.specs.Reply.{entry_line, list_line, mark_line, shown_line, shown_text};
 ghost use Rattle.desk_line.specs.Waiting.{Adds};
 ghost use Rattle.std.specs.List.{flat_map};
 ghost use Rattle.std.specs.Prelude.{decimal, map, ◌≡◌};
 
-use super::put::{put_bytes, put_cells, put_characters, put_fields};
+use super::text_output::{put_bytes, put_cells, put_characters, put_fields};
 use super::waiting::Waiting;
 use cell_core::Cell;
-use desk_book::{Done, History, HistoryItem, List, Listed, MarkItem, ParagraphMarks};
+use desk_book::{Done, History, HistoryItem, List, ListItem, MarkItem, ParagraphMarks};
 use desk_command::Style;
 use desk_ends::Sink;
 use itoa::Buffer;
@@ -126,7 +126,7 @@ fn put_mark<K: Sink>(sink: &mut K, waiting: &mut Waiting, mark: &MarkItem<'_>)
 /// Puts the paragraphs of a book.
 pub(crate) fn put_list<K: Sink>(sink: &mut K, waiting: &mut Waiting, list: List<'_>)
     ensures { Adds K.can_fail (K.contents sink.old) (K.contents sink.new)
-        waiting.old waiting.new (flat_map shown_line (map listed list.entry)) }
+        waiting.old waiting.new (flat_map shown_line (map list_line list.entry)) }
 {
     for paragraph in list {
         put_listed(sink, waiting, &paragraph);
@@ -134,10 +134,10 @@ pub(crate) fn put_list<K: Sink>(sink: &mut K, waiting: &mut Waiting, list: List<
 }
 
 /// Puts a paragraph of the list.
-fn put_listed<K: Sink>(sink: &mut K, waiting: &mut Waiting, paragraph: &Listed<'_>)
+fn put_listed<K: Sink>(sink: &mut K, waiting: &mut Waiting, paragraph: &ListItem<'_>)
     ensures { (told : BookParagraph) → IsListed told paragraph.now
         → Adds K.can_fail (K.contents sink.old) (K.contents sink.new)
-        waiting.old waiting.new (shown_line (listed told)) }
+        waiting.old waiting.new (shown_line (list_line told)) }
 {
     let mut id = Buffer::new();
     let mut length = Buffer::new();

@@ -20,9 +20,9 @@ use Rattle.desk_model.specs.Book.{Entry, Corrects, Undoes}
 use Rattle.desk_parts.specs.FileRows.{FileRows, entries_in, format_of, table_of}
 use Rattle.desk_model.specs.Limits.{most_entries, most_marks, most_note, most_paragraphs, most_print, most_tables, most_version}
 use Rattle.desk_model.specs.Name.{IsProofreaderName, IsTableName}
-use Rattle.desk_model.specs.Print.{corrected, newest}
-use Rattle.desk_parts.specs.Rows.{Tab as TabRow, Para as ParaRow, NamedCorr as EntryRow, Mark as MarkRow, Cached as CacheRow}
-use Rattle.desk_model.specs.Stored.{IsUnbarred}
+use Rattle.desk_model.specs.Print.{corrected_print, newest}
+use Rattle.desk_parts.specs.Rows.{Tab as TabRow, Para as ParaRow, NamedCorr as EntryRow, Mark as MarkRow, ParaCells}
+use Rattle.desk_model.specs.NormalForm.{IsUnbarred}
 
 -- ---- numbers
 
@@ -144,16 +144,16 @@ pub record IsSoundUndo (before : List Entry) (row : EntryRow) : Type 0 where
 pub record IsSoundEntryRow (original : List ℕ) (sorted : List EntryRow) (index : ℕ) (row : EntryRow) : Type 0 where
   pub number : row.entry.seq ≡ pos (index + 1)
   pub room : index < most_entries
-  pub fits : IsSoundCorrection (corrected original (history_of (take index sorted))) row
+  pub fits : IsSoundCorrection (corrected_print original (history_of (take index sorted))) row
       ⊎ IsSoundUndo (history_of (take index sorted)) row
-  pub short : length (corrected original (history_of (take (index + 1) sorted))) ≤ most_print
+  pub short : length (corrected_print original (history_of (take (index + 1) sorted))) ≤ most_print
 
 -- the rows of the paragraph's entries are sound, in order of their numbers, and the print after all of them is its own
 pub record HasSoundEntries (entries : List EntryRow) (para : ParaRow) : Type 0 where
   pub sorted : List EntryRow
   pub its_own : IsPermutation (filter (λ row. int_eq row.entry.para para.id) entries) sorted
   pub each : (index : ℕ) (row : EntryRow) → slice_get sorted index ≡ Some row → IsSoundEntryRow (chars para.original) sorted index row
-  pub print : corrected (chars para.original) (history_of sorted) ≡ chars para.print
+  pub print : corrected_print (chars para.original) (history_of sorted) ≡ chars para.print
 
 -- the paragraph with this id hasn't sound entries, or there are entries of this id and no such paragraph
 abbrev pub IsDamagedEntries : List ParaRow → List EntryRow → ℤ → Type 0
@@ -186,7 +186,7 @@ IsDamagedMark paras marks id = (row : MarkRow) × Contains marks row × (row.id 
 -- ---- cache
 
 -- no other row is of this paragraph, which is there, and the cells are the translation of its print
-pub record IsSoundCacheRow (tabs : List TabRow) (paras : List ParaRow) (caches : List CacheRow) (row : CacheRow) : Type 0 where
+pub record IsSoundCacheRow (tabs : List TabRow) (paras : List ParaRow) (caches : List ParaCells) (row : ParaCells) : Type 0 where
   pub once : rows_with (λ other. other.para) row.para caches ≡ 1
   pub paragraph : ParaRow
   pub there : Contains paras paragraph
@@ -198,9 +198,9 @@ pub record IsSoundCacheRow (tabs : List TabRow) (paras : List ParaRow) (caches :
   pub cells : row.cells ≡ braille meaning (chars paragraph.print) choices
 
 -- a row of this id isn't sound, or the paragraph with this id has none
-abbrev pub IsDamagedCache : List TabRow → List ParaRow → List CacheRow → ℤ → Type 0
+abbrev pub IsDamagedCache : List TabRow → List ParaRow → List ParaCells → ℤ → Type 0
 IsDamagedCache tabs paras caches id =
-    ((row : CacheRow) × Contains caches row × (row.para ≡ id) × ¬ IsSoundCacheRow tabs paras caches row)
+    ((row : ParaCells) × Contains caches row × (row.para ≡ id) × ¬ IsSoundCacheRow tabs paras caches row)
     ⊎ (HasPara paras id × (rows_with (λ row. row.para) id caches ≡ 0))
 
 -- ---- what is reported
@@ -213,7 +213,7 @@ IsDamaged rows Para id = IsDamagedPara rows.tabs rows.paras id
 IsDamaged rows Corr id = (table_of rows.entries ≡ Corr) × IsDamagedEntries rows.paras (entries_in rows.entries) id
 IsDamaged rows NamedCorr id = (table_of rows.entries ≡ NamedCorr) × IsDamagedEntries rows.paras (entries_in rows.entries) id
 IsDamaged rows Mark id = IsDamagedMark rows.paras rows.marks id
-IsDamaged rows Cache id = (caches : List CacheRow) × (rows.caches ≡ Some caches) × IsDamagedCache rows.tabs rows.paras caches id
+IsDamaged rows Cache id = (caches : List ParaCells) × (rows.caches ≡ Some caches) × IsDamagedCache rows.tabs rows.paras caches id
 
 -- the turn in which a table is checked: `corr2` in that of `corr`
 abbrev pub table_turn : FileTable → ℕ

@@ -8,7 +8,7 @@ use Rattle.desk_parts.specs.declared.rows.BookRow.{BookRow}
 use Rattle.desk_model.specs.Book.{Book}
 use Rattle.desk_parts.specs.FileRows.{FileRows, HasEntryTexts, Named, entries_in, spelled_entry}
 use Rattle.desk_parts.specs.Puts.{PutBook, PutCache, PutEntry, RowPuts}
-use Rattle.desk_parts.specs.Rows.{Cached, NamedCorr}
+use Rattle.desk_parts.specs.Rows.{ParaCells, NamedCorr}
 use Rattle.desk_model.specs.Shows.{AreCached, book_row_of, entry_rows_of}
 
 -- a row of version 0 in the second format, and nothing else
@@ -23,7 +23,7 @@ new_rows = record {
 }
 
 -- with these rows of braille
-abbrev pub with_caches : List Cached → FileRows → FileRows
+abbrev pub with_caches : List ParaCells → FileRows → FileRows
 with_caches caches rows = record rows { caches = Some caches }
 
 -- in the second format, each entry with a name, empty if it had none
@@ -48,7 +48,7 @@ AreEntriesOf book entries =
 
 -- what brings rows of this version to the second format, once they have its tables: the row of `book`, each entry, and the
 -- braille of each paragraph
-abbrev pub second_format_puts : ℕ → FileRows → List Cached → RowPuts
+abbrev pub second_format_puts : ℕ → FileRows → List ParaCells → RowPuts
 second_format_puts version rows caches =
     PutBook (book_row_of 2 version) ∷ (map PutEntry (entries_in rows.entries) ++ map PutCache caches)
 
@@ -68,7 +68,7 @@ entry_puts book entries = PutBook (book_row_of 2 book.version) ∷ map PutEntry 
 -- each of its paragraphs.
 abbrev pub Fills : NewTables → Book → RowPuts → Type 0
 Fills EntriesAndBraille book puts =
-    (entries : List NamedCorr) × (caches : List Cached) × AreEntriesOf book entries × AreCached book caches
+    (entries : List NamedCorr) × (caches : List ParaCells) × AreEntriesOf book entries × AreCached book caches
     × (puts ≡ entry_puts book entries ++ map PutCache caches)
 Fills Entries book puts = (entries : List NamedCorr) × AreEntriesOf book entries × (puts ≡ entry_puts book entries)
-Fills Braille book puts = (caches : List Cached) × AreCached book caches × (puts ≡ map PutCache caches)
+Fills Braille book puts = (caches : List ParaCells) × AreCached book caches × (puts ≡ map PutCache caches)

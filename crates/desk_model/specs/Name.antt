@@ -2,7 +2,7 @@
 use Rattle.std.specs.Prelude.{◌≡◌, ℕ, ◌<◌, ◌≤◌, Bool, true, not, ◌||◌, ◌&&◌, ◌==◌, nat_le, List, length}
 use Rattle.std.specs.List.{All}
 use Rattle.desk_model.specs.Limits.{most_name, most_proofreader}
-use Rattle.desk_model.specs.Stored.{is_barred}
+use Rattle.desk_model.specs.NormalForm.{is_barred}
 
 -- a to z, 0 to 9, the low line or the hyphen
 abbrev pub is_name_character : ℕ → Bool

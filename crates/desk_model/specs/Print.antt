@@ -4,8 +4,8 @@ use Rattle.std.specs.List.{flat_map, fold, enumerate_from, last_or, list_any}
 use Rattle.desk_model.specs.Book.{Replacement, Entry, Corrects, Undoes, Paragraph}
 
 -- the print with the text in place of the characters that it replaces
-abbrev pub replaced : List ℕ → Replacement → List ℕ
-replaced print r = take r.start print ++ r.text ++ drop (r.start + r.count) print
+abbrev pub with_replacement : List ℕ → Replacement → List ℕ
+with_replacement print r = take r.start print ++ r.text ++ drop (r.start + r.count) print
 
 -- the entry is an undo of the correction with number n
 abbrev pub undoes : ℕ → Entry → Bool
@@ -26,12 +26,12 @@ abbrev pub newest : List Entry → Option (ℕ × Replacement)
 newest history = last_or None (stack history)
 
 -- the text with the corrections in force applied in order
-abbrev pub corrected : List ℕ → List Entry → List ℕ
-corrected original history = fold replaced original (map (λ correction. correction.1) (stack history))
+abbrev pub corrected_print : List ℕ → List Entry → List ℕ
+corrected_print original history = fold with_replacement original (map (λ correction. correction.1) (stack history))
 
 -- the print that a paragraph has now
 abbrev pub print_of : Paragraph → List ℕ
-print_of paragraph = corrected paragraph.original paragraph.history
+print_of paragraph = corrected_print paragraph.original paragraph.history
 
 -- the paragraph with one entry more in its history
 abbrev pub with_entry : Entry → Paragraph → Paragraph

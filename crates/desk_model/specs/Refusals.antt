@@ -16,12 +16,12 @@ use Rattle.desk_command.specs.declared.refusal.Refusal.{Refusal}
 use Rattle.desk_command.specs.declared.refusal.Refusal.TheVariants.{Moved, BadName, BadReader, BadText, NoParagraph, NoTable, NoMark, Struck, NotStruck, Resolved, BadSpan, NothingToUndo, TooLong, Full, BadTable, Undefined, Untranslatable, NoMemory}
 use Rattle.desk_command.specs.Numbers.{limit_number}
 use Rattle.desk_model.specs.Book.{Book, Paragraph, Mark as BookMark, text_of, paragraph_of, mark_of}
-use Rattle.desk_model.specs.Print.{newest, print_of, print_undone, replaced}
+use Rattle.desk_model.specs.Print.{newest, print_of, print_undone, with_replacement}
 use Rattle.desk_model.specs.Limits.{most_entries, most_marks, most_note, most_version, most_tables, most_paragraphs, most_print}
 use Rattle.desk_model.specs.Name.{IsProofreaderName, IsTableName}
 use Rattle.desk_model.specs.Step.{replacement_by}
-use Rattle.desk_model.specs.Stored.{IsFirstBarred, stored}
-use Rattle.desk_model.specs.Translated.{LacksCells}
+use Rattle.desk_model.specs.NormalForm.{IsFirstBarred, normal_form}
+use Rattle.desk_model.specs.Translation.{LacksCells}
 
 -- ---- what a command names
 
@@ -89,7 +89,7 @@ abbrev pub named_by : Command → Named
 named_by (Table name text) = record nothing_named { table_given = Some (name, text) }
 named_by (TypeIn anchor table text) = record nothing_named {
   text_given = Some text;
-  text_stored = Some (stored text);
+  text_stored = Some (normal_form text);
   adds_paragraph = true;
   paragraphs_named = paragraph_before anchor;
   table_named = Some table;
@@ -97,7 +97,7 @@ named_by (TypeIn anchor table text) = record nothing_named {
 named_by (Correct id start count text who) = record nothing_named {
   text_given = Some text;
   proofreader_given = Some who;
-  text_stored = Some (stored text);
+  text_stored = Some (normal_form text);
   history_grown = Some id;
   paragraphs_named = id ∷ [];
   live_paragraph = Some id;
@@ -262,8 +262,8 @@ HasNothingToUndo book command = MatchOption (named_by command).paragraph_undone 
 -- the print that a paragraph would have by the command, if that changes one
 abbrev pub new_print : Book → Command → Option (List ℕ)
 new_print book (Table name text) = None
-new_print book (TypeIn anchor table text) = Some (stored text)
-new_print book (Correct id start count text who) = option_map (λ paragraph. replaced (print_of paragraph) (replacement_by start count text)) (paragraph_of book id)
+new_print book (TypeIn anchor table text) = Some (normal_form text)
+new_print book (Correct id start count text who) = option_map (λ paragraph. with_replacement (print_of paragraph) (replacement_by start count text)) (paragraph_of book id)
 new_print book (Undo id) = option_and_then print_undone (paragraph_of book id)
 new_print book (Mark id cell count note) = None
 new_print book (Resolve id) = None
@@ -341,9 +341,9 @@ pub record IsBadTable (command : Command) (fault : TableFault) : Type 0 where
 -- the print that a paragraph would have, and the name of the table that it would use, if the command changes one
 abbrev pub print_to_translate : Book → Command → Option (List ℕ × List ℕ)
 print_to_translate book (Table name text) = None
-print_to_translate book (TypeIn anchor table text) = Some (stored text, table)
+print_to_translate book (TypeIn anchor table text) = Some (normal_form text, table)
 print_to_translate book (Correct id start count text who) =
-    option_map (λ paragraph. (replaced (print_of paragraph) (replacement_by start count text), paragraph.table)) (paragraph_of book id)
+    option_map (λ paragraph. (with_replacement (print_of paragraph) (replacement_by start count text), paragraph.table)) (paragraph_of book id)
 print_to_translate book (Undo id) =
     option_and_then (λ paragraph. option_map (λ print. (print, paragraph.table)) (print_undone paragraph)) (paragraph_of book id)
 print_to_translate book (Mark id cell count note) = None

@@ -2,7 +2,7 @@
 use Rattle.std.specs.Prelude.{◌≡◌, List, Option, Some, None, ⊤}
 use Rattle.std.specs.List.Sorted.{IsPermutation}
 use Rattle.desk_parts.specs.FileRows.{EntryRows, FileRows, Named, Unnamed}
-use Rattle.desk_parts.specs.Rows.{Cached}
+use Rattle.desk_parts.specs.Rows.{ParaCells}
 
 -- the same entries of the same table
 abbrev pub AreSameEntries : EntryRows → EntryRows → Type 0
@@ -12,7 +12,7 @@ AreSameEntries (Named a) (Unnamed b) = ⊥
 AreSameEntries (Named a) (Named b) = IsPermutation a b
 
 -- the same cells, or none
-abbrev pub AreSameCaches : Option (List Cached) → Option (List Cached) → Type 0
+abbrev pub AreSameCaches : Option (List ParaCells) → Option (List ParaCells) → Type 0
 AreSameCaches None None = ⊤
 AreSameCaches None (Some b) = ⊥
 AreSameCaches (Some a) None = ⊥

@@ -9,9 +9,9 @@ use Rattle.desk_command.specs.declared.style.Style.TheVariants.{Body, Heading}
 use Rattle.desk_model.specs.Book.{Entry, Corrects, Undoes, Paragraph, Mark, Book}
 use Rattle.desk_parts.specs.FileRows.{FileRows, AreTexts, entries_in, format_of, spelled_tab, spelled_para, spelled_entry, spelled_mark}
 use Rattle.desk_model.specs.Print.{print_of}
-use Rattle.desk_parts.specs.Rows.{Tab, Para, NamedCorr, Mark as MarkRow, Cached}
+use Rattle.desk_parts.specs.Rows.{Tab, Para, NamedCorr, Mark as MarkRow, ParaCells}
 use Rattle.desk_model.specs.Sound.{IsSound}
-use Rattle.desk_model.specs.Translated.{IsBraille}
+use Rattle.desk_model.specs.Translation.{IsBraille}
 
 -- ---- the row of each part of a book, with its texts as characters
 
@@ -74,14 +74,14 @@ mark_row_of mark = record {
 }
 
 -- the row has the masks of the braille of a paragraph of the book
-pub record IsCached (book : Book) (row : Cached) : Type 0 where
+pub record IsCached (book : Book) (row : ParaCells) : Type 0 where
   pub paragraph : Paragraph
   pub there : Contains book.paragraphs paragraph
   pub named : row.para ≡ pos paragraph.id
   pub cells : IsBraille book paragraph row.cells
 
 -- each paragraph of the book has one row, with the masks of its braille, and there are no others
-pub record AreCached (book : Book) (rows : List Cached) : Type 0 where
+pub record AreCached (book : Book) (rows : List ParaCells) : Type 0 where
   pub one_each : IsPermutation (map (λ row. row.para) rows) (map (λ paragraph. pos paragraph.id) book.paragraphs)
   pub cells : All (IsCached book) rows
 

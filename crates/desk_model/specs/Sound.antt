@@ -8,9 +8,9 @@ use Rattle.louis_table.specs.Meaning.{Meaning}
 use Rattle.louis_table.specs.Table.{Means}
 use Rattle.louis_translate.specs.Position.{AreDefined}
 use Rattle.desk_model.specs.Book.{Entry, Corrects, Undoes, Paragraph, Mark, Book, text_of, paragraph_of}
-use Rattle.desk_model.specs.Print.{corrected, newest, print_of}
+use Rattle.desk_model.specs.Print.{corrected_print, newest, print_of}
 use Rattle.desk_model.specs.Limits.{most_entries, most_marks, most_note, most_paragraphs, most_print, most_tables, most_version}
-use Rattle.desk_model.specs.Stored.{IsClean}
+use Rattle.desk_model.specs.NormalForm.{IsClean}
 use Rattle.desk_command.specs.Characters.{AreCharacters}
 use Rattle.desk_model.specs.Name.{IsProofreaderName, IsTableName}
 
@@ -20,7 +20,7 @@ use Rattle.desk_model.specs.Name.{IsProofreaderName, IsTableName}
 -- name is one, and an undo names the newest correction then in force
 abbrev pub IsSoundEntry : List ℕ → List Entry → Entry → Type 0
 IsSoundEntry original before (Corrects r who) =
-    (r.start + r.count ≤ length (corrected original before)) × IsClean r.text × IsProofreaderName who × AreCharacters who
+    (r.start + r.count ≤ length (corrected_print original before)) × IsClean r.text × IsProofreaderName who × AreCharacters who
 IsSoundEntry original before (Undoes n) = option_map (λ correction. correction.0) (newest before) ≡ Some n
 
 -- each entry is sound after those before it
@@ -31,7 +31,7 @@ AreSoundEntries original history =
 pub record IsSoundHistory (original : List ℕ) (history : List Entry) : Type 0 where
   pub few : length history ≤ most_entries
   pub entries : AreSoundEntries original history
-  pub short : (i : ℕ) → i ≤ length history → length (corrected original (take i history)) ≤ most_print
+  pub short : (i : ℕ) → i ≤ length history → length (corrected_print original (take i history)) ≤ most_print
 
 -- ---- the parts of a book
 

@@ -13,9 +13,9 @@ use Rattle.desk_command.specs.declared.style.Style.TheVariants.{Body}
 use Rattle.desk_model.specs.Book.{Replacement, Entry, Corrects, Undoes, Book, Paragraph, Mark as BookMark, paragraph_of}
 use Rattle.desk_model.specs.Marks.{mark_moved, mark_moved_back}
 use Rattle.desk_model.specs.Print.{newest, with_entry}
-use Rattle.desk_model.specs.Stored.{stored}
+use Rattle.desk_model.specs.NormalForm.{normal_form}
 use Rattle.desk_command.specs.Characters.{AreCharacters}
-use Rattle.desk_model.specs.Translated.{AreMarked}
+use Rattle.desk_model.specs.Translation.{AreMarked}
 
 -- the paragraphs with this one more, put where the command says
 abbrev pub with_paragraph : Anchor → Paragraph → List Paragraph → List Paragraph
@@ -33,11 +33,11 @@ abbrev pub with_change : ℕ → (Paragraph → Paragraph) → List Paragraph �
 with_change id change paragraphs = map (λ paragraph. if paragraph.id == id then change paragraph else paragraph) paragraphs
 
 -- a paragraph that was just typed
-abbrev pub typed : ℕ → List ℕ → List ℕ → Paragraph
-typed id table text = record {
+abbrev pub new_paragraph : ℕ → List ℕ → List ℕ → Paragraph
+new_paragraph id table text = record {
   id = id;
   table = table;
-  original = stored text;
+  original = normal_form text;
   history = [];
   style = Body;
   begins_volume = false;
@@ -74,7 +74,7 @@ next_with_marks book marks = record book { version = book.version + 1; marks = m
 
 -- so many characters from a place on become the text as it is stored
 abbrev pub replacement_by : (start count : ℕ) → List ℕ → Replacement
-replacement_by start count text = record { start = start; count = count; text = stored text }
+replacement_by start count text = record { start = start; count = count; text = normal_form text }
 
 -- the mark, moved if it is on the paragraph with this id
 abbrev pub moved_on : ℕ → (BookMark → BookMark) → BookMark → BookMark
@@ -128,7 +128,7 @@ with_resolved id marks = map (resolved_by id) marks
 abbrev pub Makes : Book → Command → Book → Type 0
 Makes book (Table name text) next = next ≡ next_with_tables book (put (slice_cmp nat_cmp) name text book.tables)
 Makes book (TypeIn anchor table text) next =
-    next ≡ next_with_paragraphs book (with_paragraph anchor (typed (next_id book) table text) book.paragraphs)
+    next ≡ next_with_paragraphs book (with_paragraph anchor (new_paragraph (next_id book) table text) book.paragraphs)
 Makes book (Correct id start count text who) next =
     let r = replacement_by start count text in next ≡ next_with_entry book id (Corrects r who) (mark_moved r)
 Makes book (Undo id) next =
@@ -163,8 +163,8 @@ number_of book (Move id anchor) = None
 -- each text that the command puts into the book is of characters
 abbrev pub HasCharacters : Command → Type 0
 HasCharacters (Table name text) = Unit {0}
-HasCharacters (TypeIn anchor table text) = AreCharacters (stored text)
-HasCharacters (Correct id start count text who) = AreCharacters (stored text) × AreCharacters who
+HasCharacters (TypeIn anchor table text) = AreCharacters (normal_form text)
+HasCharacters (Correct id start count text who) = AreCharacters (normal_form text) × AreCharacters who
 HasCharacters (Undo id) = Unit {0}
 HasCharacters (Mark id cell count note) = AreCharacters note
 HasCharacters (Resolve id) = Unit {0}

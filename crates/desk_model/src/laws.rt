@@ -10,8 +10,8 @@ ghost use Rattle.desk_model.specs.FilledRows.{AreEntriesOf, Fills, in_second_for
 ghost use Rattle.desk_model.specs.Outcome.{HasOneOutcome};
 ghost use Rattle.desk_parts.specs.Puts.{HasTheirTables, PutBook, PutCache, PutEntry, RowPuts, with_puts};
 ghost use Rattle.desk_model.specs.Refusals.{IsAccepted};
-ghost use Rattle.desk_model.specs.Restored.{RestoresPrint};
-ghost use Rattle.desk_parts.specs.Rows.{Cached, NamedCorr};
+ghost use Rattle.desk_model.specs.Restoration.{RestoresPrint};
+ghost use Rattle.desk_parts.specs.Rows.{ParaCells, NamedCorr};
 ghost use Rattle.desk_model.specs.SameRows.{AreSameRows};
 ghost use Rattle.desk_model.specs.Shows.{AreCached, IsUnnamed, Shows, book_row_of};
 ghost use Rattle.desk_model.specs.Sound.{IsSound};
@@ -75,15 +75,15 @@ pub fn new_rows_show_the_empty_book()
 /// paragraphs, all at once or by what is put, one after the other, into tables that are empty.
 pub fn filled_rows_show_their_book()
     ensures format { (rows : FileRows) (book : Book) → Shows rows book → Shows (in_second_format rows) book }
-    ensures braille { (rows : FileRows) (book : Book) (caches : List Cached) → Shows rows book
+    ensures braille { (rows : FileRows) (book : Book) (caches : List ParaCells) → Shows rows book
         → AreCached book caches → Shows (with_caches caches rows) book }
-    ensures caches { (rows : FileRows) (book : Book) (caches : List Cached) → Shows rows book
+    ensures caches { (rows : FileRows) (book : Book) (caches : List ParaCells) → Shows rows book
         → AreCached book caches → Shows (with_puts (map PutCache caches) (with_caches [] rows)) book }
     ensures names { (rows : FileRows) (book : Book) (entries : List NamedCorr) → Shows rows book
         → AreEntriesOf book entries
         → Shows (with_puts (PutBook (book_row_of 2 book.version) ∷ map PutEntry entries)
         (with_new_entries rows)) book }
-    ensures all { (rows : FileRows) (book : Book) (caches : List Cached) → Shows rows book
+    ensures all { (rows : FileRows) (book : Book) (caches : List ParaCells) → Shows rows book
         → AreCached book caches
         → Shows (with_puts (second_format_puts book.version rows caches) (with_new_tables rows)) book }
 {}

@@ -16,16 +16,16 @@
 #![tactic(auto)]
 
 mod fault;
+mod history_item;
 pub mod laws;
-mod listed;
+mod list_item;
 mod mark_item;
 mod new_tables;
 mod span;
-mod told;
 
 pub use fault::PartsFault;
-pub use listed::Listed;
+pub use history_item::{Done, HistoryItem};
+pub use list_item::ListItem;
 pub use mark_item::MarkItem;
 pub use new_tables::NewTables;
 pub use span::Span;
-pub use told::{Done, HistoryItem};

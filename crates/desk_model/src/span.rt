@@ -16,7 +16,7 @@ pub struct Span {
 
 impl Span {
     /// The span after so many characters of the print, from a place on, gave way to others.
-    pub fn moved(self, start: usize, removed: usize, added: usize) -> Span
+    pub fn after_edit(self, start: usize, removed: usize, added: usize) -> Span
         requires ordered { self.start ≤ self.end }
         requires print { self.end ≤ most_print }
         requires within { start + removed ≤ most_print }

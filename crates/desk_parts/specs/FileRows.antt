@@ -5,7 +5,7 @@ use Rattle.std.specs.Str.{chars}
 use Rattle.desk_parts.specs.declared.file_table.FileTable.{FileTable}
 use Rattle.desk_parts.specs.declared.file_table.FileTable.TheVariants.{Corr as CorrTable, NamedCorr as NamedCorrTable}
 use Rattle.desk_parts.specs.declared.rows.BookRow.{BookRow}
-use Rattle.desk_parts.specs.Rows.{Tab, Para, Corr, NamedCorr, Mark, Cached}
+use Rattle.desk_parts.specs.Rows.{Tab, Para, Corr, NamedCorr, Mark, ParaCells}
 
 -- The entries of all histories: of the table `corr`, as the first format keeps them, or of `corr2`, as the second does.
 pub data EntryRows : Type 0 where
@@ -20,7 +20,7 @@ pub record FileRows : Type 0 where
   pub paras : List Para
   pub entries : EntryRows
   pub marks : List Mark
-  pub caches : Option (List Cached)
+  pub caches : Option (List ParaCells)
 
 -- the format of a file that keeps entries so
 abbrev pub format_of : EntryRows → ℕ
@@ -33,11 +33,11 @@ table_of (Unnamed corrs) = CorrTable
 table_of (Named corrs) = NamedCorrTable
 
 -- an entry of the first format is that of a proofreader without a name
-abbrev pub unnamed : Corr → NamedCorr
-unnamed entry = record { entry = entry; who = [] }
+abbrev pub without_name : Corr → NamedCorr
+without_name entry = record { entry = entry; who = [] }
 
 abbrev pub entries_in : EntryRows → List NamedCorr
-entries_in (Unnamed corrs) = map unnamed corrs
+entries_in (Unnamed corrs) = map without_name corrs
 entries_in (Named corrs) = corrs
 
 -- ---- texts

@@ -12,7 +12,7 @@ use Rattle.desk_parts.specs.declared.put.Put.{Put}
 use Rattle.desk_parts.specs.declared.put.TabPut.{TabPut}
 use Rattle.desk_parts.specs.declared.put.Put.TheVariants as lent
 use Rattle.desk_parts.specs.FileRows.{EntryRows, FileRows, Named, Unnamed, table_of}
-use Rattle.desk_parts.specs.Rows.{Tab, Para, NamedCorr, Mark, Cached}
+use Rattle.desk_parts.specs.Rows.{Tab, Para, NamedCorr, Mark, ParaCells}
 
 -- A row that is added, or replaces the one with its key, or columns that are set in the row with a key. A text is its
 -- bytes.
@@ -21,7 +21,7 @@ pub data RowPut : Type 0 where
   PutTab : Tab → RowPut
   PutPara : Para → RowPut
   PutMark : Mark → RowPut
-  PutCache : Cached → RowPut
+  PutCache : ParaCells → RowPut
   PutEntry : NamedCorr → RowPut
   SetPlace : (id place : ℤ) → RowPut
   SetFlags : (id style volume struck : ℤ) → RowPut
@@ -61,7 +61,7 @@ lent_mark row = record {
   resolved = row.resolved;
 }
 
-abbrev pub lent_cells : CachePut → Cached
+abbrev pub lent_cells : CachePut → ParaCells
 lent_cells row = record { para = row.para; cells = row.cells.now }
 
 abbrev pub lent_entry : NamedCorrPut → NamedCorr
@@ -104,19 +104,19 @@ LendsFirst puts item left = MatchOption item ((puts ≡ []) × (left ≡ [])) (�
 -- ---- the rows once something is put
 
 -- the rows with this one in place of those with its key
-abbrev pub put_in : {X : Type 0} → (X → Bool) → X → List X → List X
-put_in has_key x xs = x ∷ filter (λ y. not (has_key y)) xs
+abbrev pub put_by_key : {X : Type 0} → (X → Bool) → X → List X → List X
+put_by_key has_key x xs = x ∷ filter (λ y. not (has_key y)) xs
 
 -- the rows, with this done to those that have the key
-abbrev pub set_where : {X : Type 0} → (X → Bool) → (X → X) → List X → List X
-set_where has_key set xs = map (λ x. if has_key x then set x else x) xs
+abbrev pub set_by_key : {X : Type 0} → (X → Bool) → (X → X) → List X → List X
+set_by_key has_key set xs = map (λ x. if has_key x then set x else x) xs
 
 -- with this done to the paragraph with this id, to the mark with this id
 abbrev pub with_para_set : ℤ → (Para → Para) → FileRows → FileRows
-with_para_set id set rows = record rows { paras = set_where (λ p. int_eq p.id id) set rows.paras }
+with_para_set id set rows = record rows { paras = set_by_key (λ p. int_eq p.id id) set rows.paras }
 
 abbrev pub with_mark_set : ℤ → (Mark → Mark) → FileRows → FileRows
-with_mark_set id set rows = record rows { marks = set_where (λ m. int_eq m.id id) set rows.marks }
+with_mark_set id set rows = record rows { marks = set_by_key (λ m. int_eq m.id id) set rows.marks }
 
 -- a further entry, if the table has names
 abbrev pub with_entry_row : NamedCorr → EntryRows → EntryRows
@@ -124,13 +124,13 @@ with_entry_row row (Unnamed corrs) = Unnamed corrs
 with_entry_row row (Named corrs) = Named (row ∷ corrs)
 
 abbrev pub with_put : RowPut → FileRows → FileRows
-with_put (PutBook row) rows = record rows { books = put_in (λ b. int_eq b.id row.id) row rows.books }
-with_put (PutTab row) rows = record rows { tabs = put_in (λ t. bytes_eq t.name row.name) row rows.tabs }
-with_put (PutPara row) rows = record rows { paras = put_in (λ p. int_eq p.id row.id) row rows.paras }
-with_put (PutMark row) rows = record rows { marks = put_in (λ m. int_eq m.id row.id) row rows.marks }
+with_put (PutBook row) rows = record rows { books = put_by_key (λ b. int_eq b.id row.id) row rows.books }
+with_put (PutTab row) rows = record rows { tabs = put_by_key (λ t. bytes_eq t.name row.name) row rows.tabs }
+with_put (PutPara row) rows = record rows { paras = put_by_key (λ p. int_eq p.id row.id) row rows.paras }
+with_put (PutMark row) rows = record rows { marks = put_by_key (λ m. int_eq m.id row.id) row rows.marks }
 with_put (PutCache row) rows =
     record rows {
-      caches = option_map (λ caches. put_in (λ c. int_eq c.para row.para) row caches) rows.caches;
+      caches = option_map (λ caches. put_by_key (λ c. int_eq c.para row.para) row caches) rows.caches;
     }
 with_put (PutEntry row) rows = record rows { entries = with_entry_row row rows.entries }
 with_put (SetPlace id place) rows = with_para_set id (λ p. record p { place = place }) rows
@@ -143,7 +143,7 @@ with_put (SetSpan id start stop touched) rows =
 with_put (SetResolved id resolved) rows = with_mark_set id (λ m. record m { resolved = resolved }) rows
 with_put (SetVersion version) rows =
     record rows {
-      books = set_where (λ b. int_eq b.id (pos 1)) (λ b. record b { version = version }) rows.books;
+      books = set_by_key (λ b. int_eq b.id (pos 1)) (λ b. record b { version = version }) rows.books;
     }
 
 -- the rows once these are put in turn

@@ -43,6 +43,6 @@ pub record Mark : Type 0 where
   pub resolved : ℤ
 
 -- the braille of a paragraph, one mask a cell
-pub record Cached : Type 0 where
+pub record ParaCells : Type 0 where
   pub para : ℤ
   pub cells : List ℕ

@@ -3,7 +3,7 @@
 //! A row holds what stands in its table, whether it makes sense or not: a file may hold any integers, negative ones too.
 
 ghost use Rattle.std.specs.Prelude.{string_bytes};
-ghost use Rattle.desk_parts.specs.Rows.{Tab, StoredTab as StoredTabRow, Para, Corr, NamedCorr, Mark, Cached};
+ghost use Rattle.desk_parts.specs.Rows.{Tab, StoredTab as StoredTabRow, Para, Corr, NamedCorr, Mark, ParaCells};
 
 use std::marker::Model;
 
@@ -170,7 +170,7 @@ pub struct CacheRow {
 }
 
 impl Model for CacheRow {
-    ghost Value = { Cached };
+    ghost Value = { ParaCells };
 
     ghost view = { λ r. record { para = r.para; cells = r.cells.items } };
 }

@@ -13,19 +13,19 @@ use Rattle.desk_store.specs.Opened.{IsRefusedWith}
 use Rattle.desk_store.specs.declared.fault.OpenFault.{OpenFault}
 use Rattle.desk_words.specs.declared.action.Action.{Action}
 use Rattle.desk_words.specs.declared.action.Action.TheVariants.{New, Session, Export, Translate, Check}
-use Rattle.desk_program.specs.Books.{Checks, Closed, Exports, ExportsFrom, FindsNone, Holds, Makes, Outcome, Place, after_session, stop_of}
+use Rattle.desk_program.specs.Books.{Checks, Exports, ExportsFrom, FindsNone, Holds, IsClosed, Makes, Outcome, Place, after_session, stop_of}
 use Rattle.desk_program.specs.Fault.{FaultAt}
 use Rattle.desk_program.specs.Program.{CarriesOut, Files, Translates, place_of}
-use Rattle.desk_program.specs.Shelf.{Shelved}
-use Rattle.desk_program.specs.declared.fault.Fault.{Fault}
-use Rattle.desk_program.specs.declared.fault.Fault.TheVariants as faults
+use Rattle.desk_program.specs.Shelf.{FileState}
+use Rattle.desk_program.specs.declared.fault.ProgramFault.{ProgramFault}
+use Rattle.desk_program.specs.declared.fault.ProgramFault.TheVariants as faults
 use Rattle.desk_program.specs.declared.stop.Stop.{Stop}
 use Rattle.desk_program.specs.declared.stop.Stop.TheVariants.{Refused, Ends}
 
 -- ---- no book was found
 
 module _ {D : Type 0} (at : Place D) (make : Bool) where
-  pub none-unconnected : {T : Type 0} (result : Result T Stop) (P : T → Type 0) (fault : Fault) → at.Refuses make fault
+  pub none-unconnected : {T : Type 0} (result : Result T Stop) (P : T → Type 0) (fault : ProgramFault) → at.Refuses make fault
       → IsErrAnd result (λ stop. stop ≡ Refused fault) → MatchResult result P (FindsNone at make)
   none-unconnected (Ok it) P fault of is = absurd is
   none-unconnected (Err stop) P fault of is = FindsNone.unconnected fault of is
@@ -60,7 +60,7 @@ module _ {D K : Type 0} (at : Place D) (sink : Sink K) (old : K) (stop : Stop) w
 -- a connection that was handed back, whose database was closed
 pub closed-as : {D : Type 0} (at : Place D) (held last : Held D) (left : D) → held ≡ last → at.Closes left
     → IsRolledBack (at.store.view held.store) (at.store.view left)
-    → IsQuiet at.store.view at.store.faults at.store.recovers at.store.is_shielded held.store left → Closed at last
+    → IsQuiet at.store.view at.store.faults at.store.recovers at.store.is_shielded held.store left → IsClosed at last
 closed-as {D} at held last left same closes undone quiet = (
   left,
   closes,
@@ -69,8 +69,8 @@ closed-as {D} at held last left same closes undone quiet = (
 )
 
 -- a table that is refused
-pub Translates-refused : {S K : Type 0} (CanFail : Type 0) (shelf : List ℕ → Shelved) (source : Source S) (old_source : S)
-    (sink : Sink K) (old : K) (path : List ℕ) (outcome : Outcome) (fault : Fault) → FaultAt CanFail shelf path fault
+pub Translates-refused : {S K : Type 0} (CanFail : Type 0) (shelf : List ℕ → FileState) (source : Source S) (old_source : S)
+    (sink : Sink K) (old : K) (path : List ℕ) (outcome : Outcome) (fault : ProgramFault) → FaultAt CanFail shelf path fault
     → IsErrAnd outcome (λ stop. stop ≡ Refused fault)
     → Translates CanFail shelf source old_source old_source sink old old path outcome
 Translates-refused CanFail shelf source old_source sink old path (Ok unit) fault at is = absurd is
@@ -83,7 +83,7 @@ after_session-ends how is = elim is [ inl input ↦ rw input refl | inr output �
 -- ---- what a refusal leaves
 
 module _ {K : Type 0} (sink : Sink K) (old new : K) where
-  Exports-refused : (book : Book) (layout : Layout) (number : ℕ) (fault : Fault)
+  Exports-refused : (book : Book) (layout : Layout) (number : ℕ) (fault : ProgramFault)
       → Exports sink old new book layout number (Err (Refused fault)) → new ≡ old
   Exports-refused book layout number (faults.Table fault) exports = absurd exports
   Exports-refused book layout number faults.NoMemory exports = absurd exports
@@ -96,7 +96,7 @@ module _ {K : Type 0} (sink : Sink K) (old new : K) where
   Exports-refused book layout number faults.File exports = absurd exports
   Exports-refused book layout number (faults.Taken version) exports = absurd exports
 
-  module _ {D : Type 0} (at : Place D) (fault : Fault) where
+  module _ {D : Type 0} (at : Place D) (fault : ProgramFault) where
     Makes-refused : Makes at sink old new (Err (Refused fault)) → new ≡ old
     Makes-refused (Makes.none stop none same is) = same
     Makes-refused (Makes.taken book finds some same is) = same
@@ -127,7 +127,7 @@ module _ {K : Type 0} (sink : Sink K) (old new : K) where
 
 -- an action that is refused reads and writes nothing
 pub CarriesOut-refused : {D S K : Type 0} (files : Files D) (source : Source S) (old_source new_source : S)
-    (sink : Sink K) (old new : K) (action : Action) (fault : Fault)
+    (sink : Sink K) (old new : K) (action : Action) (fault : ProgramFault)
     → CarriesOut files source old_source new_source sink old new action (Err (Refused fault))
     → (new_source ≡ old_source) × (new ≡ old)
 CarriesOut-refused files source old_source new_source sink old new (New path) fault carried =

@@ -14,18 +14,18 @@ use Rattle.desk_brf.specs.declared.volume.ExportFault.{ExportFault}
 use Rattle.desk_brf.specs.declared.volume.ExportFault.TheVariants as export
 use Rattle.desk_ends.specs.declared.ends.Sink.{Ghosts as Sink}
 use Rattle.desk_ends.specs.declared.ends.Source.{Ghosts as Source}
-use Rattle.desk_ends.specs.Sent.{HasFlushed, Sends}
-use Rattle.desk_session.specs.Served.{Served, ends_of}
+use Rattle.desk_ends.specs.Sending.{HasFlushed, Sends}
+use Rattle.desk_session.specs.Service.{Serves, ends_of}
 use Rattle.desk_session.specs.declared.session.Ended.{Ended}
 use Rattle.desk_session.specs.declared.session.Ended.TheVariants.{Done, Input, Output, Lost as LostChange}
-use Rattle.desk_store.specs.Opened.{IsRefusedWith, MayBring, Opens}
+use Rattle.desk_store.specs.Opened.{IsRefusedWith, MayBring, OpensBook}
 use Rattle.desk_store.specs.declared.fault.OpenFault.{OpenFault}
 use Rattle.desk_store.specs.declared.fault.OpenFault.TheVariants as opening
 use Rattle.desk_program.specs.Fault.{IsOfDatabase}
-use Rattle.desk_program.specs.Shelf.{Shelved}
+use Rattle.desk_program.specs.Shelf.{FileState}
 use Rattle.desk_program.specs.declared.shelf.Shelf.{Ghosts as Shelf}
-use Rattle.desk_program.specs.declared.fault.Fault.{Fault}
-use Rattle.desk_program.specs.declared.fault.Fault.TheVariants as faults
+use Rattle.desk_program.specs.declared.fault.ProgramFault.{ProgramFault}
+use Rattle.desk_program.specs.declared.fault.ProgramFault.TheVariants as faults
 use Rattle.desk_program.specs.declared.stop.Stop.{Stop}
 use Rattle.desk_program.specs.declared.stop.Stop.TheVariants.{Refused, Lost, Ends}
 
@@ -64,10 +64,10 @@ pub record Place (D : Type 0) : Type 1 where
   pub store : Database D
   pub Connects : Bool → Held D → Type 0
   pub Closes : D → Type 0
-  pub Refuses : Bool → Fault → Type 0
+  pub Refuses : Bool → ProgramFault → Type 0
 
 -- by these connections and what was closed, by whether a file that is there may not open, and by what stands at the path
-abbrev pub place : {D : Type 0} → Database D → (Bool → Held D → Type 0) → (D → Type 0) → Type 0 → Shelved → Place D
+abbrev pub place : {D : Type 0} → Database D → (Bool → Held D → Type 0) → (D → Type 0) → Type 0 → FileState → Place D
 place store Connects Closes CanFail shelved =
     record { store = store; Connects = Connects; Closes = Closes; Refuses = IsOfDatabase CanFail shelved }
 
@@ -81,22 +81,22 @@ place_at shelf store Connects Closes desk path =
 pub record Opening {D : Type 0} (at : Place D) (make : Bool) (last : Held D) (book : Book) : Type 0 where
   pub first : Held D
   pub connected : at.Connects make first
-  pub opens : HasCleanDisk (state at.store last) → Opens at.store make first (state at.store last) (Ok book)
+  pub opens : HasCleanDisk (state at.store last) → OpensBook at.store make first (state at.store last) (Ok book)
   pub crash : Survives (state at.store first) (state at.store last) (MayBring make (state at.store first))
 
 -- The database of this connection was closed, without what wasn't committed, and whatever a crash leaves of it then it could have left before.
-abbrev pub Closed : {D : Type 0} → Place D → Held D → Type 0
-Closed {D} at last =
+abbrev pub IsClosed : {D : Type 0} → Place D → Held D → Type 0
+IsClosed {D} at last =
     (left : D) × at.Closes left × IsRolledBack (at.store.view last.store) (at.store.view left)
     × ((db : Trees) → at.store.recovers left db → (state at.store last).may_leave db)
 
 -- this book was found, or made, and its database was closed as it was then
 abbrev pub Finds : {D : Type 0} → Place D → Bool → Book → Type 0
-Finds {D} at make book = (last : Held D) × Opening at make last book × Closed at last
+Finds {D} at make book = (last : Held D) × Opening at make last book × IsClosed at last
 
 -- no book was found: no connection was made, or no book was opened on it
 pub data FindsNone {D : Type 0} (at : Place D) (make : Bool) (stop : Stop) : Type 0 where
-  unconnected : (fault : Fault) → at.Refuses make fault → stop ≡ Refused fault → FindsNone at make stop
+  unconnected : (fault : ProgramFault) → at.Refuses make fault → stop ≡ Refused fault → FindsNone at make stop
   unopened : (first last : Held D) (fault : OpenFault) → at.Connects make first
       → IsRefusedWith at.store make first (state at.store last) fault → stop ≡ stop_of fault
       → FindsNone at make stop
@@ -141,9 +141,9 @@ pub data Holds {D S K : Type 0} (at : Place D) (source : Source S) (old_source n
       → outcome ≡ Err stop → Holds at source old_source new_source sink old new outcome
   held : (book last : Book) (opened left : Held D) (ended : Ended)
       → Opening at false opened book
-      → Served book last ended (ends_of source old_source new_source sink old new
+      → Serves book last ended (ends_of source old_source new_source sink old new
       (state at.store opened) (state at.store left))
-      → Closed at left
+      → IsClosed at left
       → outcome ≡ after_session ended → Holds at source old_source new_source sink old new outcome
 
 -- A volume of a book goes out, as it is exported, and is passed on. It is refused with nothing written, or the sink failed and

@@ -11,14 +11,14 @@ use Rattle.louis_table.specs.declared.en.TheConstants.{EN}
 use Rattle.louis_table.specs.Table.{Bad}
 use Rattle.louis_table.specs.declared.fault.ReadFault.{ReadFault}
 use Rattle.louis_table.specs.declared.fault.ReadFault.TheVariants as reading
-use Rattle.desk_program.specs.declared.fault.Fault.{Fault}
-use Rattle.desk_program.specs.declared.fault.Fault.TheVariants as faults
-use Rattle.desk_program.specs.Shelf.{Shelved, unknown, missing, holds, IsRead, MayConnect, most_file_bytes}
+use Rattle.desk_program.specs.declared.fault.ProgramFault.{ProgramFault}
+use Rattle.desk_program.specs.declared.fault.ProgramFault.TheVariants as faults
+use Rattle.desk_program.specs.Shelf.{FileState, unknown, missing, holds, IsRead, MayConnect, most_file_bytes}
 
 -- ---- the fault of a text
 
 -- a text is refused as a table by its own line and cause, or by a failed allocation
-abbrev pub IsFaultOf : List ℕ → Fault → Type 0
+abbrev pub IsFaultOf : List ℕ → ProgramFault → Type 0
 IsFaultOf text (faults.Table fault) = Bad text fault.line fault.cause
 IsFaultOf text faults.NoMemory = Unit {0}
 IsFaultOf text faults.NotABook = ⊥
@@ -31,7 +31,7 @@ IsFaultOf text faults.File = ⊥
 IsFaultOf text (faults.Taken version) = ⊥
 
 -- how the fault of a text is reported
-abbrev pub read_as : ReadFault → Fault
+abbrev pub read_as : ReadFault → ProgramFault
 read_as (reading.Table fault) = faults.Table fault
 read_as reading.NoMemory = faults.NoMemory
 
@@ -39,7 +39,7 @@ read_as reading.NoMemory = faults.NoMemory
 
 -- a file can't be opened or read, or is too large, or an allocation for it failed; one that is missing
 -- isn't a failed allocation
-abbrev pub IsOfFile : Type 0 → Shelved → Fault → Type 0
+abbrev pub IsOfFile : Type 0 → FileState → ProgramFault → Type 0
 IsOfFile CanFail shelved (faults.Table fault) = ⊥
 IsOfFile CanFail unknown faults.NoMemory = Unit {0}
 IsOfFile CanFail missing faults.NoMemory = ⊥
@@ -56,7 +56,7 @@ IsOfFile CanFail (holds bytes) faults.File = CanFail ⊎ (most_file_bytes < leng
 IsOfFile CanFail shelved (faults.Taken version) = ⊥
 
 -- an error of the system is a failed allocation if that is its kind, and else the file's
-abbrev pub IsIoFault : ErrorKind → Fault → Type 0
+abbrev pub IsIoFault : ErrorKind → ProgramFault → Type 0
 IsIoFault kind fault =
     ((kind ≡ io.OutOfMemory) × (fault ≡ faults.NoMemory))
     ⊎ ((kind ≢ io.OutOfMemory) × (fault ≡ faults.File))
@@ -65,7 +65,7 @@ IsIoFault kind fault =
 
 -- no connection is made: the file isn't there and none is to be made, it can't be opened or isn't a database, or an allocation
 -- failed, which is never reported of one that isn't there
-abbrev pub IsOfDatabase : Type 0 → Shelved → Bool → Fault → Type 0
+abbrev pub IsOfDatabase : Type 0 → FileState → Bool → ProgramFault → Type 0
 IsOfDatabase CanFail shelved make (faults.Table fault) = ⊥
 IsOfDatabase CanFail shelved make faults.NoMemory = MayConnect make shelved
 IsOfDatabase CanFail shelved make faults.NotABook = ⊥
@@ -78,7 +78,7 @@ IsOfDatabase CanFail shelved make faults.File = CanFail ⊎ (¬ MayConnect make 
 IsOfDatabase CanFail shelved make (faults.Taken version) = ⊥
 
 -- an error of the database is a failed allocation if it says so, and else the file's
-abbrev pub IsDatabaseFault : DatabaseError → Fault → Type 0
+abbrev pub IsDatabaseFault : DatabaseError → ProgramFault → Type 0
 IsDatabaseFault error fault =
     ((error ≡ SqliteFailure OutOfMemory) × (fault ≡ faults.NoMemory))
     ⊎ ((error ≢ SqliteFailure OutOfMemory) × (fault ≡ faults.File))
@@ -86,12 +86,12 @@ IsDatabaseFault error fault =
 -- ---- the table that a word names
 
 -- the text of the table: the supplied one's, or all of the file at this path
-pub data TextAt (shelf : List ℕ → Shelved) (path text : List ℕ) : Type 0 where
+pub data TextAt (shelf : List ℕ → FileState) (path text : List ℕ) : Type 0 where
   supplied : path ≡ codes "@en" → text ≡ EN.now → TextAt shelf path text
   in_file : path ≢ codes "@en" → IsRead (shelf path) text → TextAt shelf path text
 
 -- the fault of the table that the word names
-pub data FaultAt (CanFail : Type 0) (shelf : List ℕ → Shelved) (path : List ℕ) (fault : Fault)
+pub data FaultAt (CanFail : Type 0) (shelf : List ℕ → FileState) (path : List ℕ) (fault : ProgramFault)
     : Type 0 where
   of_text : (text : List ℕ) → TextAt shelf path text → IsFaultOf text fault
       → FaultAt CanFail shelf path fault
@@ -105,7 +105,7 @@ abbrev pub with_detail : List ℕ → List ℕ → List ℕ
 with_detail text detail = text ++ 32 ∷ detail
 
 -- the number and the details of the fault
-abbrev pub fault_text : Fault → List ℕ
+abbrev pub fault_text : ProgramFault → List ℕ
 fault_text (faults.Table fault) = with_detail (with_detail (codes "no 8") (decimal fault.line)) (decimal fault.cause)
 fault_text faults.NoMemory = codes "no 90"
 fault_text faults.NotABook = codes "no 92"
@@ -120,5 +120,5 @@ fault_text faults.File = codes "no 98"
 fault_text (faults.Taken version) = with_detail (codes "no 99") (decimal version)
 
 -- the line that is shown
-abbrev pub fault_line : Fault → List ℕ
+abbrev pub fault_line : ProgramFault → List ℕ
 fault_line fault = codes "braildesk: " ++ fault_text fault ++ 10 ∷ []

@@ -6,20 +6,20 @@ use Rattle.sqlite.specs.Held.{Held}
 use Rattle.desk_brf.specs.Layout.{IsLayout}
 use Rattle.desk_ends.specs.declared.ends.Sink.{Ghosts as Sink}
 use Rattle.desk_ends.specs.declared.ends.Source.{Ghosts as Source}
-use Rattle.desk_ends.specs.Sent.{Sends}
+use Rattle.desk_ends.specs.Sending.{Sends}
 use Rattle.desk_words.specs.Commands.{whole}
 use Rattle.desk_words.specs.Reading.{AskForHelp, NamesWithinLimits}
 use Rattle.desk_words.specs.declared.action.Action.{Action}
 use Rattle.desk_words.specs.declared.action.Action.TheVariants.{New, Session, Export, Translate, Check}
 use Rattle.louis_table.specs.Meaning.{Meaning}
 use Rattle.louis_table.specs.Table.{Means}
-use Rattle.desk_program.specs.declared.fault.Fault.TheVariants as faults
+use Rattle.desk_program.specs.declared.fault.ProgramFault.TheVariants as faults
 use Rattle.desk_program.specs.declared.stop.Stop.{Stop}
 use Rattle.desk_program.specs.declared.stop.Stop.TheVariants.{Refused, Lost, Ends}
 use Rattle.desk_program.specs.Books.{Checks, ExportsFrom, Holds, Makes, Outcome, Place, Says, place}
 use Rattle.desk_program.specs.Fault.{TextAt, FaultAt}
 use Rattle.desk_translate.specs.Run.{AnswersAll, RanShort}
-use Rattle.desk_program.specs.Shelf.{Shelved}
+use Rattle.desk_program.specs.Shelf.{FileState}
 use Rattle.desk_program.specs.declared.shelf.Shelf.{Ghosts as Shelf}
 
 -- ---- the words
@@ -43,11 +43,11 @@ IsFailure Ends = ⊤
 -- ---- translating
 
 -- the table that the word names has this meaning
-abbrev pub TableAt : (List ℕ → Shelved) → List ℕ → Meaning → Type 0
+abbrev pub TableAt : (List ℕ → FileState) → List ℕ → Meaning → Type 0
 TableAt shelf path meaning = (text : List ℕ) × TextAt shelf path text × Means text meaning
 
 -- each line is answered by the table that the word names, which may be refused
-abbrev pub Translates : {S K : Type 0} → Type 0 → (List ℕ → Shelved) → Source S → S → S → Sink K → K → K
+abbrev pub Translates : {S K : Type 0} → Type 0 → (List ℕ → FileState) → Source S → S → S → Sink K → K → K
     → List ℕ → Outcome → Type 0
 Translates CanFail shelf source old_source new_source sink old new path (Ok unit) =
     (meaning : Meaning) × TableAt shelf path meaning
@@ -64,7 +64,7 @@ Translates CanFail shelf source old_source new_source sink old new path (Err End
 -- What stands at a path, whether a file that is there may not open and whether one may not be read, the connections to the
 -- database at a path, which may be made if it isn't there, and which database was closed.
 pub record Files (D : Type 0) : Type 1 where
-  pub at : List ℕ → Shelved
+  pub at : List ℕ → FileState
   pub OpenFails : Type 0
   pub ReadFails : Type 0
   pub store : Database D

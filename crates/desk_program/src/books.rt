@@ -2,7 +2,7 @@
 ghost use Rattle.desk_program.specs.Books.{Checks, Exports, ExportsFrom, Finds, FindsNone, Holds, Makes, Opening, Says, place_at, version_line};
 ghost use Rattle.std.specs.Prelude.{MatchResult};
 
-use super::fault::Fault;
+use super::fault::ProgramFault;
 use super::shelf::Databases;
 use super::stop::Stop;
 use desk_book::Book;
@@ -58,7 +58,7 @@ pub fn make_book<F: Databases + AllocGlobal, K: Sink>(
 {
     let version = read_book(rt, path, true)?.version();
     if version != 0 {
-        return Err(Stop::Refused(Fault::Taken { version }));
+        return Err(Stop::Refused(ProgramFault::Taken { version }));
     }
     tell_version(sink, version)
 }

@@ -8,7 +8,7 @@ use thiserror::Error;
 
 /// A fault for which the program refuses what is asked. It is shown by its number and details, as `no 8 LINE CAUSE`.
 #[derive(Debug, Drop, Error)]
-pub enum Fault {
+pub enum ProgramFault {
     /// The table text is bad.
     #[error("no 8 {} {}", .0.line, .0.cause)]
     Table(TableFault),
@@ -54,7 +54,7 @@ pub enum Fault {
     },
 }
 
-impl From<IoError> for Fault {
+impl From<IoError> for ProgramFault {
     ghost use Rattle.std.specs.IoError.{error_kind};
     ghost use Rattle.desk_program.specs.Fault.{IsIoFault};
 
@@ -62,24 +62,24 @@ impl From<IoError> for Fault {
 
     fn from(error: IoError) -> Self {
         match error.kind() {
-            ErrorKind::OutOfMemory => Fault::NoMemory,
-            _ => Fault::File,
+            ErrorKind::OutOfMemory => ProgramFault::NoMemory,
+            _ => ProgramFault::File,
         }
     }
 }
 
-impl From<AllocError> for Fault {
-    ghost use Rattle.desk_program.specs.declared.fault.Fault.TheVariants.{NoMemory};
+impl From<AllocError> for ProgramFault {
+    ghost use Rattle.desk_program.specs.declared.fault.ProgramFault.TheVariants.{NoMemory};
     ghost use Rattle.std.specs.Prelude.{◌≡◌};
 
     ghost from_gives = { λ _ fault. fault ≡ NoMemory };
 
     fn from(_error: AllocError) -> Self {
-        Fault::NoMemory
+        ProgramFault::NoMemory
     }
 }
 
-impl From<ReadFault> for Fault {
+impl From<ReadFault> for ProgramFault {
     ghost use Rattle.desk_program.specs.Fault.{read_as};
     ghost use Rattle.std.specs.Prelude.{◌≡◌};
 
@@ -87,21 +87,21 @@ impl From<ReadFault> for Fault {
 
     fn from(fault: ReadFault) -> Self {
         match fault {
-            ReadFault::Table(fault) => Fault::Table(fault),
-            ReadFault::NoMemory => Fault::NoMemory,
+            ReadFault::Table(fault) => ProgramFault::Table(fault),
+            ReadFault::NoMemory => ProgramFault::NoMemory,
         }
     }
 }
 
-impl From<DatabaseError> for Fault {
+impl From<DatabaseError> for ProgramFault {
     ghost use Rattle.desk_program.specs.Fault.{IsDatabaseFault};
 
     ghost from_gives = { λ error fault. IsDatabaseFault error fault };
 
     fn from(error: DatabaseError) -> Self {
         match error {
-            DatabaseError::SqliteFailure(ErrorCode::OutOfMemory) => Fault::NoMemory,
-            _ => Fault::File,
+            DatabaseError::SqliteFailure(ErrorCode::OutOfMemory) => ProgramFault::NoMemory,
+            _ => ProgramFault::File,
         }
     }
 }

@@ -21,7 +21,7 @@ mod status;
 mod stop;
 mod table_file;
 
-pub use fault::Fault;
+pub use fault::ProgramFault;
 pub use shelf::{Databases, Shelf};
 pub use status::{DONE, FAILED, OTHER_WORDS, REFUSED, program, refuse, refuse_words};
 pub use stop::Stop;

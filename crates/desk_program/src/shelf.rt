@@ -3,11 +3,11 @@
 //! std's `Files` doesn't say which bytes stand at a path. `Shelf` does, so that a contract can say that
 //! a table is that of the very file which is named, and a fault too. `Databases` does so for the book in a database.
 ghost use Rattle.desk_program.specs.Fault.{IsOfDatabase, IsOfFile};
-ghost use Rattle.desk_program.specs.Shelf.{MayConnect, Opens, Shelved};
+ghost use Rattle.desk_program.specs.Shelf.{FileState, MayConnect, OpensFile};
 ghost use Rattle.sqlite.specs.Held.{Held};
 ghost use Rattle.std.specs.Prelude.{Bool, IfErr, IfOk, List, MatchResult, None, false, ◌≡◌, ℕ};
 
-use super::fault::Fault;
+use super::fault::ProgramFault;
 use desk_ends::Source;
 use sqlite::{Alter, Connection, File as DatabaseFile, FileStore};
 use std::fs::{self, File as SystemFile};
@@ -19,15 +19,15 @@ pub trait Shelf {
     type File: Source + Drop;
 
     // What stands at a path.
-    ghost at: { Self → List ℕ → Shelved };
+    ghost at: { Self → List ℕ → FileState };
 
     // Whether a file that is there may not open.
     ghost can_fail: { Type 0 };
 
     /// Opens the file at this path.
-    fn open(&self, path: &str) -> Result<Self::File, Fault>
+    fn open(&self, path: &str) -> Result<Self::File, ProgramFault>
         ensures { MatchResult result
-            (λ file. Opens (at self.now path.now) (Self.File.remaining file))
+            (λ file. OpensFile (at self.now path.now) (Self.File.remaining file))
             (IsOfFile can_fail (at self.now path.now)) };
 }
 
@@ -42,7 +42,7 @@ impl<F: Files> Shelf for F {
 
     ghost can_fail = { ⊤ };
 
-    fn open(&self, path: &str) -> Result<F::File, Fault> {
+    fn open(&self, path: &str) -> Result<F::File, ProgramFault> {
         Ok(SystemFile::open(self, path)?)
     }
 }
@@ -59,7 +59,7 @@ pub trait Databases: Shelf {
     ghost closes: { Self → Self.Database → Type 0 };
 
     /// Connects to the database at this path. Where no file is there, one is made if `make` is true.
-    fn connect(&self, path: &str, make: bool) -> Result<Connection<Self::Database>, Fault>
+    fn connect(&self, path: &str, make: bool) -> Result<Connection<Self::Database>, ProgramFault>
         ensures there { IfOk result (λ _. MayConnect make (Self.Shelf.at self.now path.now)) }
         ensures named { IfOk result (connects self.now path.now make) }
         ensures idle { IfOk result (λ connection. connection.in_transaction ≡ false) }
@@ -87,9 +87,9 @@ impl Databases for HostRuntime {
         &self,
         path: &str,
         make: bool,
-    ) -> Result<Connection<FileStore<DatabaseFile>>, Fault> {
+    ) -> Result<Connection<FileStore<DatabaseFile>>, ProgramFault> {
         if !make && !fs::exists(self, path)? {
-            return Err(Fault::File);
+            return Err(ProgramFault::File);
         }
         Ok(Connection::open(self, path)?)
     }

@@ -2,20 +2,20 @@
 ghost use Rattle.desk_program.specs.Books.{Says};
 ghost use Rattle.desk_program.specs.Fault.{fault_line};
 ghost use Rattle.desk_program.specs.Program.{CarriesOut, Does, IsFailure, Tells, Translates, files_of, texts_of};
-ghost use Rattle.desk_program.specs.declared.fault.Fault.TheVariants.{NoMemory};
+ghost use Rattle.desk_program.specs.declared.fault.ProgramFault.TheVariants.{NoMemory};
 ghost use Rattle.desk_program.specs.declared.stop.Stop.TheVariants.{Refused};
-ghost use Rattle.desk_ends.specs.Sent.{Sends};
+ghost use Rattle.desk_ends.specs.Sending.{Sends};
 ghost use Rattle.desk_words.specs.Commands.{whole};
 ghost use Rattle.desk_words.specs.Reading.{AreRefused};
 ghost use Rattle.std.specs.Prelude.{Err, List, Ok, [], codes, is_ok, ◌++◌, ◌∷◌, ◌≡◌, ◌≢◌, ◌≤◌, ◌⊎◌, ℕ};
 
 use super::books::{check_book, export_from, hold_session, make_book};
-use super::fault::Fault;
+use super::fault::ProgramFault;
 use super::shelf::{Databases, Shelf};
 use super::stop::Stop;
 use super::table_file::read_table;
 use desk_brf::Layout;
-use desk_ends::{Failed, Sink, Source, send, send_parts};
+use desk_ends::{Failure, Sink, Source, send, send_parts};
 use desk_translate::{Ended, translate_lines};
 use desk_words::{Action, Reading, read_words};
 use itoa::{Buffer, Integer};
@@ -61,7 +61,7 @@ pub fn program<'a, F: Databases + AllocGlobal, S: Source, K: Sink, E: Sink>(
     ensures silent { (result ≡ DONE) ⊎ (result ≡ FAILED) → errors.new ≡ errors.old }
 
     // It is refused, or an allocation for the words failed: one line reports the fault.
-    ensures refused { result ≡ REFUSED → (fault : Fault) × ((fault ≡ NoMemory) ⊎ Does
+    ensures refused { result ≡ REFUSED → (fault : ProgramFault) × ((fault ≡ NoMemory) ⊎ Does
         (files_of F.Shelf F.File.Source F.Database.Store F.connects F.closes rt.now)
         S.Source source.old source.new K.Sink sink.old sink.new (texts_of words.now) (Err (Refused fault)))
         × Tells E.Sink errors.old errors.new (fault_line fault) }
@@ -72,7 +72,7 @@ pub fn program<'a, F: Databases + AllocGlobal, S: Source, K: Sink, E: Sink>(
         Reading::Asked(action) => end(errors, carry_out(rt, action, source, sink)),
         Reading::Help(text) => end(errors, show(sink, text.as_str())),
         Reading::Refused(text) => refuse_words(errors, text.as_str()),
-        Reading::NoMemory => refuse(errors, &Fault::NoMemory),
+        Reading::NoMemory => refuse(errors, &ProgramFault::NoMemory),
     }
 }
 
@@ -132,7 +132,7 @@ fn end<E: Sink>(errors: &mut E, outcome: Result<(), Stop>) -> u8
     ensures done { result ≡ DONE → outcome ≡ Ok tt }
     ensures failed { result ≡ FAILED → (stop : Stop) × IsFailure stop × (outcome ≡ Err stop) }
     ensures silent { (result ≡ DONE) ⊎ (result ≡ FAILED) → errors.new ≡ errors.old }
-    ensures refused { result ≡ REFUSED → (fault : Fault) × (outcome ≡ Err (Refused fault))
+    ensures refused { result ≡ REFUSED → (fault : ProgramFault) × (outcome ≡ Err (Refused fault))
         × Tells E.Sink errors.old errors.new (fault_line fault) }
 {
     match outcome {
@@ -152,7 +152,7 @@ pub fn refuse_words<E: Sink>(errors: &mut E, text: &str) -> u8
 }
 
 /// Reports why something is refused. A failure to report it changes nothing.
-pub fn refuse<E: Sink>(errors: &mut E, fault: &Fault) -> u8
+pub fn refuse<E: Sink>(errors: &mut E, fault: &ProgramFault) -> u8
     ensures status { result ≡ REFUSED }
     ensures told { Tells E.Sink errors.old errors.new (fault_line fault.now) }
 {
@@ -161,25 +161,25 @@ pub fn refuse<E: Sink>(errors: &mut E, fault: &Fault) -> u8
 }
 
 /// Sends the line of a fault.
-fn tell<E: Sink>(errors: &mut E, fault: &Fault) -> Result<(), Failed>
+fn tell<E: Sink>(errors: &mut E, fault: &ProgramFault) -> Result<(), Failure>
     ensures { Sends E.Sink errors.old errors.new (fault_line fault.now) (is_ok result) }
 {
     match fault {
-        Fault::Table(fault) => tell_two(errors, b"8", fault.line, fault.cause),
-        Fault::NoMemory => send(errors, b"braildesk: no 90\n"),
-        Fault::NotABook => send(errors, b"braildesk: no 92\n"),
-        Fault::Damaged { table, id } => tell_two(errors, b"93", table.number(), *id),
-        Fault::NewerFormat => send(errors, b"braildesk: no 94\n"),
-        Fault::NotSixDots { paragraph, cell } => tell_two(errors, b"95", *paragraph, *cell),
-        Fault::NoVolume => send(errors, b"braildesk: no 96\n"),
-        Fault::BadLayout => send(errors, b"braildesk: no 97\n"),
-        Fault::File => send(errors, b"braildesk: no 98\n"),
-        Fault::Taken { version } => tell_one(errors, b"99", *version),
+        ProgramFault::Table(fault) => tell_two(errors, b"8", fault.line, fault.cause),
+        ProgramFault::NoMemory => send(errors, b"braildesk: no 90\n"),
+        ProgramFault::NotABook => send(errors, b"braildesk: no 92\n"),
+        ProgramFault::Damaged { table, id } => tell_two(errors, b"93", table.number(), *id),
+        ProgramFault::NewerFormat => send(errors, b"braildesk: no 94\n"),
+        ProgramFault::NotSixDots { paragraph, cell } => tell_two(errors, b"95", *paragraph, *cell),
+        ProgramFault::NoVolume => send(errors, b"braildesk: no 96\n"),
+        ProgramFault::BadLayout => send(errors, b"braildesk: no 97\n"),
+        ProgramFault::File => send(errors, b"braildesk: no 98\n"),
+        ProgramFault::Taken { version } => tell_one(errors, b"99", *version),
     }
 }
 
 /// Sends the line of a fault with one detail.
-fn tell_one<E: Sink, I: Integer>(errors: &mut E, code: &[u8], detail: I) -> Result<(), Failed>
+fn tell_one<E: Sink, I: Integer>(errors: &mut E, code: &[u8], detail: I) -> Result<(), Failure>
     ensures { Sends E.Sink errors.old errors.new
         (codes "braildesk: no " ++ code.now ++ 32 ∷ I.text detail ++ 10 ∷ []) (is_ok result) }
 {
@@ -194,7 +194,7 @@ fn tell_two<E: Sink, I: Integer, J: Integer>(
     code: &[u8],
     first: I,
     second: J,
-) -> Result<(), Failed>
+) -> Result<(), Failure>
     ensures { Sends E.Sink errors.old errors.new
         (codes "braildesk: no " ++ code.now ++ 32 ∷ I.text first ++ 32 ∷ J.text second ++ 10 ∷ [])
         (is_ok result) }

@@ -1,27 +1,27 @@
 //! Why an action isn't carried out to its end.
-use super::fault::Fault;
+use super::fault::ProgramFault;
 use desk_brf::{BadLayout, ExportFault};
-use desk_ends::Failed;
+use desk_ends::Failure;
 use desk_store::OpenFault;
 
 /// Why an action isn't carried out to its end.
 #[derive(Debug, Drop)]
 pub enum Stop {
     /// It is refused, for this fault.
-    Refused(Fault),
+    Refused(ProgramFault),
     /// The file of the book failed.
     Lost,
     /// Standard input or standard output failed.
     Ends,
 }
 
-impl From<Fault> for Stop {
+impl From<ProgramFault> for Stop {
     ghost use Rattle.desk_program.specs.declared.stop.Stop.TheVariants.{Refused};
     ghost use Rattle.std.specs.Prelude.{◌≡◌};
 
     ghost from_gives = { λ fault stop. stop ≡ Refused fault };
 
-    fn from(fault: Fault) -> Self {
+    fn from(fault: ProgramFault) -> Self {
         Stop::Refused(fault)
     }
 }
@@ -34,24 +34,24 @@ impl From<OpenFault> for Stop {
 
     fn from(fault: OpenFault) -> Self {
         match fault {
-            OpenFault::NotABook => Stop::Refused(Fault::NotABook),
-            OpenFault::Damaged { table, id } => Stop::Refused(Fault::Damaged { table, id }),
-            OpenFault::NewerFormat => Stop::Refused(Fault::NewerFormat),
+            OpenFault::NotABook => Stop::Refused(ProgramFault::NotABook),
+            OpenFault::Damaged { table, id } => Stop::Refused(ProgramFault::Damaged { table, id }),
+            OpenFault::NewerFormat => Stop::Refused(ProgramFault::NewerFormat),
             OpenFault::Lost => Stop::Lost,
-            OpenFault::NoMemory => Stop::Refused(Fault::NoMemory),
+            OpenFault::NoMemory => Stop::Refused(ProgramFault::NoMemory),
         }
     }
 }
 
 impl From<BadLayout> for Stop {
-    ghost use Rattle.desk_program.specs.declared.fault.Fault.TheVariants as faults;
+    ghost use Rattle.desk_program.specs.declared.fault.ProgramFault.TheVariants as faults;
     ghost use Rattle.desk_program.specs.declared.stop.Stop.TheVariants.{Refused};
     ghost use Rattle.std.specs.Prelude.{◌≡◌};
 
     ghost from_gives = { λ _ stop. stop ≡ Refused faults.BadLayout };
 
     fn from(_fault: BadLayout) -> Self {
-        Stop::Refused(Fault::BadLayout)
+        Stop::Refused(ProgramFault::BadLayout)
     }
 }
 
@@ -63,22 +63,22 @@ impl From<ExportFault> for Stop {
 
     fn from(fault: ExportFault) -> Self {
         match fault {
-            ExportFault::NoVolume => Stop::Refused(Fault::NoVolume),
+            ExportFault::NoVolume => Stop::Refused(ProgramFault::NoVolume),
             ExportFault::NotSixDots { paragraph, cell } => {
-                Stop::Refused(Fault::NotSixDots { paragraph, cell })
+                Stop::Refused(ProgramFault::NotSixDots { paragraph, cell })
             }
             ExportFault::Write => Stop::Ends,
         }
     }
 }
 
-impl From<Failed> for Stop {
+impl From<Failure> for Stop {
     ghost use Rattle.desk_program.specs.declared.stop.Stop.TheVariants.{Ends};
     ghost use Rattle.std.specs.Prelude.{◌≡◌};
 
     ghost from_gives = { λ _ stop. stop ≡ Ends };
 
-    fn from(_failed: Failed) -> Self {
+    fn from(_failed: Failure) -> Self {
         Stop::Ends
     }
 }

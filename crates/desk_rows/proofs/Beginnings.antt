@@ -6,10 +6,10 @@ use Rattle.sqlite.specs.Values.{IsInt}
 use Rattle.sql_tables.specs.Kinds.{HasKinds, IsOfKind}
 use Rattle.sqlite_schema.specs.declared.schema.Kind.{Kind}
 use Rattle.sqlite_schema.specs.declared.schema.Kind.TheVariants.{Any, Integer}
-use Rattle.desk_rows.specs.Asked.{Begins, BeginWith}
+use Rattle.desk_rows.specs.TableQuery.{Begins, BeginWith}
 use Rattle.desk_rows.specs.Fault.{IsValueFault}
-use Rattle.desk_rows.specs.declared.fault.Fault.{Fault}
-use Rattle.desk_rows.specs.declared.fault.Fault.TheVariants.{NoMemory, Lost, Refused}
+use Rattle.desk_rows.specs.declared.fault.DatabaseFault.{DatabaseFault}
+use Rattle.desk_rows.specs.declared.fault.DatabaseFault.TheVariants.{NoMemory, Lost, Refused}
 
 -- of rows, if there are any, the first begins so
 abbrev pub MayBegin : List Kind → List Row → Type 0
@@ -40,7 +40,7 @@ pub int_there : (kinds : List Kind) (row : Row) (i : ℕ) → i < length kinds �
 int_there kinds row i lt is all = subst (λ (k : Kind). IsOfKind k (column row i)) is (kind_there kinds row i lt all)
 
 -- a value that is of its kind is reported as a failed allocation, if it isn't read
-pub value_told : (IsSo : Type 0) (fault : Fault) → IsValueFault IsSo fault → IsSo → fault ≡ NoMemory
+pub value_told : (IsSo : Type 0) (fault : DatabaseFault) → IsValueFault IsSo fault → IsSo → fault ≡ NoMemory
 value_told IsSo NoMemory told so = refl
 value_told IsSo Lost told so = absurd told
 value_told IsSo Refused told so = absurd (told so)

@@ -32,7 +32,7 @@ use Rattle.sqlite_catalog.specs.Listing.{IsSound}
 use Rattle.desk_parts.specs.Rows.{Tab}
 use Rattle.sql_tables.specs.Rows.{HaveRowids, Lists, put_in}
 use Rattle.sql_tables.specs.Tables.{IsDeclared}
-use Rattle.desk_rows.specs.Described.{tabs as tab_which, described}
+use Rattle.desk_rows.specs.Descriptions.{tabs as tab_which, description_of}
 use Rattle.sql_tables.proofs.Declaring.{low_tree, classes_are, uncovered}
 use Rattle.sql_tables.proofs.Meaning.{IsText, parse_of, rows_in, clause_in, upsert_is, one_upsert}
 use Rattle.desk_rows.proofs.Named.{tab, tab_row, tab_columns, is_its_index, key_index, in_the_way, clashes, row_of, name_of, named, lists_put, unnamed_rows, named_rows}
@@ -46,7 +46,7 @@ use Rattle.desk_rows.proofs.TabNames.{names_once}
 use Rattle.sql_tables.proofs.Writing.{IsPut, Ends, task, finds, puts, updates_one}
 
 abbrev text : List ℕ
-text = (described tab_which).put
+text = (description_of tab_which).put
 
 abbrev rows : Rows
 rows = rows_in (parse_of text).statement

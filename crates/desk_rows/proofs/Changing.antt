@@ -12,23 +12,23 @@ use Rattle.sqlite.specs.State.{State, ExecutesInside}
 use Rattle.sqlite.proofs.InsideLemmas.{inside_keeps}
 use Rattle.desk_parts.specs.declared.rows.BookRow.{BookRow}
 use Rattle.desk_parts.specs.Puts.{PutBook, RowPut}
-use Rattle.sql_tables.specs.Rows.{HaveRowids, Lists, picked}
+use Rattle.sql_tables.specs.Rows.{HaveRowids, Lists, columns_at}
 use Rattle.sql_tables.proofs.Declaring.{has_table}
 use Rattle.sql_tables.proofs.PutLists.{apart, differ}
 use Rattle.sql_tables.proofs.Running.{Wrote}
 use Rattle.sql_tables.proofs.Writing.{Spares}
-use Rattle.desk_rows.specs.Described.{Which, books, tabs, paras, corrs, marks, caches, named_corrs, described, table_of}
+use Rattle.desk_rows.specs.Descriptions.{Which, books, tabs, paras, corrs, marks, caches, named_corrs, description_of, table_of}
 use Rattle.desk_rows.specs.Layout.{Layout, AreDeclared, IsOther}
 use Rattle.desk_rows.specs.Contents.{Contents, Holds, with_rows}
 use Rattle.desk_rows.specs.Puts.{HasThem, IsPut, PutsAll, PutsRow, RunsTo, change_of, put_into, puts_into, row_put, statement, table_put}
-use Rattle.desk_rows.specs.Turns.{Failed, Ran}
-use Rattle.desk_rows.specs.Rows.{RowOf, written, set_at}
+use Rattle.desk_rows.specs.Turns.{FailsWith, Ran}
+use Rattle.desk_rows.specs.Rows.{RowOf, columns_of, set_at}
 use Rattle.desk_rows.specs.States.{IsUnder}
 use Rattle.desk_rows.proofs.PutTables.{does}
 
 -- ---- each table
 
-pub same : (v w : Which) → (v ≡ w) ⊎ (bytes_eq (described v).name (described w).name ≡ false)
+pub same : (v w : Which) → (v ≡ w) ⊎ (bytes_eq (description_of v).name (description_of w).name ≡ false)
 same books books = inl refl
 same tabs tabs = inl refl
 same paras paras = inl refl
@@ -47,7 +47,7 @@ set_own marks f rows = refl
 set_own caches f rows = refl
 set_own named_corrs f rows = refl
 
-pub set_other : (w v : Which) (f : List (RowOf w) → List (RowOf w)) (rows : (v : Which) → List (RowOf v)) → bytes_eq (described v).name (described w).name ≡ false → set_at w f rows v ≡ rows v
+pub set_other : (w v : Which) (f : List (RowOf w) → List (RowOf w)) (rows : (v : Which) → List (RowOf v)) → bytes_eq (description_of v).name (description_of w).name ≡ false → set_at w f rows v ≡ rows v
 set_other books books f rows other = absurd (true≢false other)
 set_other tabs tabs f rows other = absurd (true≢false other)
 set_other paras paras f rows other = absurd (true≢false other)
@@ -68,18 +68,18 @@ others_stay l w there c old new (t ∷ ts) had spared = (λ other. spared.0 (oth
 
 module _ (l : Layout) (c : Contents) (d : AreDeclared l) (old new : Trees) (h : Holds l c old) where
   -- the rows of one table change, and others stay
-  pub holds : (w : Which) (f : List (RowOf w) → List (RowOf w)) → l.has w ≡ true → Spares l.schema (l.tree w) old new → Lists (written w) (picked (described w).own) (f (c.rows w)) (new (l.tree w)) → ((described w).is_changed ≡ true → HaveRowids (new (l.tree w)))
+  pub holds : (w : Which) (f : List (RowOf w) → List (RowOf w)) → l.has w ≡ true → Spares l.schema (l.tree w) old new → Lists (columns_of w) (columns_at (description_of w).own) (f (c.rows w)) (new (l.tree w)) → ((description_of w).is_changed ≡ true → HaveRowids (new (l.tree w)))
       → Holds l (with_rows w f c) new
   holds w f there spares lists ids =
-      let stays = λ (v : Which) (is : l.has v ≡ true) (other : bytes_eq (described v).name (described w).name ≡ false).
+      let stays = λ (v : Which) (is : l.has v ≡ true) (other : bytes_eq (description_of v).name (description_of w).name ≡ false).
       all_has _ l.schema.tables (table_of v (l.tree v)) spares.tables (has_table l.schema (table_of v (l.tree v)) (d v is))
-      (apart l.schema (table_of v (l.tree v)) (table_of w (l.tree w)) (d v is) (d w there) (differ (described v).name (described w).name other)) in record {
+      (apart l.schema (table_of v (l.tree v)) (table_of w (l.tree w)) (d v is) (d w there) (differ (description_of v).name (description_of w).name other)) in record {
         tables = λ v has. elim (same v w) [
-          | inl is ↦ subst (λ (v : Which). Lists (written v) (picked (described v).own) (set_at w f c.rows v) (new (l.tree v))) (sym is) (rw (set_own w f c.rows) lists)
+          | inl is ↦ subst (λ (v : Which). Lists (columns_of v) (columns_at (description_of v).own) (set_at w f c.rows v) (new (l.tree v))) (sym is) (rw (set_own w f c.rows) lists)
           | inr other ↦ rw (set_other w v f c.rows other, stays v has other) (h.tables v has)
         ];
         ids = λ v has. elim (same v w) [
-          | inl is ↦ subst (λ (v : Which). (described v).is_changed ≡ true → HaveRowids (new (l.tree v))) (sym is) ids
+          | inl is ↦ subst (λ (v : Which). (description_of v).is_changed ≡ true → HaveRowids (new (l.tree v))) (sym is) ids
           | inr other ↦ rw (stays v has other) (h.ids v has)
         ];
         others = others_stay l w there c old new l.schema.tables h.others spares.tables;
@@ -126,7 +126,7 @@ module _ (x : BookRow) (old new : State) where
   puts_row (Err e) it = tt
 
   -- it allocates nothing of its own
-  pub row_told : (r : Result (Unit {0}) Error) → IsPut r (PutBook x) old new → old.in_transaction ≡ true → IfErr r (Failed (row_put books x) old new)
+  pub row_told : (r : Result (Unit {0}) Error) → IsPut r (PutBook x) old new → old.in_transaction ≡ true → IfErr r (FailsWith (row_put books x) old new)
   row_told (Ok v) it was = tt
   row_told (Err e) it was = elim (it.told was) [ inl failed ↦ failed | inr none ↦ absurd none.0 ]
 

@@ -8,13 +8,13 @@ use Rattle.desk_parts.specs.Puts.{RowPut}
 use Rattle.desk_rows.specs.Contents.{Contents}
 use Rattle.desk_rows.specs.Layout.{Layout}
 use Rattle.desk_rows.specs.Puts.{IsFileWith, PutsAll, Writes, puts_into}
-use Rattle.desk_rows.specs.States.{IsFile, IsUnder, Shows}
+use Rattle.desk_rows.specs.States.{IsFile, IsUnder, ShowsContents}
 
 -- a transaction begins at what is there
-pub begins : {S : Type 0} (g : Ghosts S) (old : Held S) (l : Layout) (c : Contents) → Shows l c (state g old) → IsUnder (state g old).committed l c (state g (record old { in_transaction = true }))
+pub begins : {S : Type 0} (g : Ghosts S) (old : Held S) (l : Layout) (c : Contents) → ShowsContents l c (state g old) → IsUnder (state g old).committed l c (state g (record old { in_transaction = true }))
 begins g old l c was = record { shows = record { schema = was.schema; is = was.is }; inside = refl; over = refl }
 
-pub shows_on : (old new : State) (l : Layout) (c : Contents) → new.now ≡ old.now → Shows l c old → Shows l c new
+pub shows_on : (old new : State) (l : Layout) (c : Contents) → new.now ≡ old.now → ShowsContents l c old → ShowsContents l c new
 shows_on old new l c same was = record { schema = ap (λ (d : Database). d.schema) same ∙ was.schema; is = subst (λ (d : Database). IsFile l c d.trees) (sym same) was.is }
 
 -- what was put within a transaction is there once it is committed

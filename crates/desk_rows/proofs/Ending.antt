@@ -12,7 +12,7 @@ use Rattle.sqlite.proofs.StateLemmas.{survives_then, survives_weaker}
 use Rattle.sql_tables.specs.States.{IsCommitted, IsSettled, IsUndone}
 use Rattle.desk_rows.specs.Ending.{Ends}
 use Rattle.desk_rows.specs.Failing.{FailsToPut, Putting, at_commit, at_put}
-use Rattle.desk_rows.specs.Turns.{begun}
+use Rattle.desk_rows.specs.Turns.{with_transaction}
 
 -- what is rolled back is undone
 rolled_back : (old new : State) → IsRolledBack old new → IsUndone old new
@@ -50,7 +50,7 @@ shows_what_ran ran (Err e) old new ends held f = tt
 
 module _ {S : Type 0} (g : Ghosts S) where
   -- a crash leaves nothing new but what ran
-  pub leaves_what_ran : {V : Type 0} (ran : Result V Error) (old last : Held S) (new : State) (P : Trees → Type 0) → Survives (state g (begun old)) (state g last) (λ _. ⊥)
+  pub leaves_what_ran : {V : Type 0} (ran : Result V Error) (old last : Held S) (new : State) (P : Trees → Type 0) → Survives (state g (with_transaction old)) (state g last) (λ _. ⊥)
       → Survives (state g last) new (λ db. IsOk ran × (db ≡ (state g last).now.trees)) → (HasCleanDisk (state g last) → OnOk ran (P (state g last).now.trees))
       → Survives (state g old) new P
   leaves_what_ran ran old last new P inside ended held =

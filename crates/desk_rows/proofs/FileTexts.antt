@@ -4,21 +4,21 @@ use Rattle.std.specs.List.{AllByRecursion}
 use Rattle.sqlite_value.specs.Order.{Row}
 use Rattle.sqlite_trees.specs.Tree.{Trees}
 use Rattle.sql_tables.specs.Kinds.{HaveIntegerRowids, IsUtf8Text}
-use Rattle.sql_tables.specs.Rows.{picked}
+use Rattle.sql_tables.specs.Rows.{columns_at}
 use Rattle.sql_tables.proofs.RowKinds.{IsKept, all_both, kept}
 use Rattle.sql_tables.proofs.RowTexts.{behind, each_of, in_rows}
-use Rattle.desk_rows.specs.Asked.{AreReadable}
+use Rattle.desk_rows.specs.TableQuery.{AreReadable}
 use Rattle.desk_rows.specs.Contents.{Contents}
-use Rattle.desk_rows.specs.Described.{Which, books, tabs, paras, corrs, marks, caches, named_corrs, described, shows_rowid, table_of}
+use Rattle.desk_rows.specs.Descriptions.{Which, books, tabs, paras, corrs, marks, caches, named_corrs, description_of, shows_rowid, table_of}
 use Rattle.desk_rows.specs.Layout.{Layout}
-use Rattle.desk_rows.specs.Rows.{RowOf, written}
+use Rattle.desk_rows.specs.Rows.{RowOf, columns_of}
 use Rattle.desk_rows.specs.States.{IsFile}
 use Rattle.desk_rows.specs.Whole.{AreUtf8, IsUtf8Row}
 
 -- ---- each table
 
 -- the texts among a row's columns
-columns_utf8 : (w : Which) (x : RowOf w) → IsUtf8Row w x → AllByRecursion IsUtf8Text (written w x)
+columns_utf8 : (w : Which) (x : RowOf w) → IsUtf8Row w x → AllByRecursion IsUtf8Text (columns_of w x)
 columns_utf8 books b is = (tt, (tt, (tt, tt)))
 columns_utf8 tabs t is = (is, (tt, tt))
 columns_utf8 paras p is = (tt, (tt, (is.0, (is.1, (is.2, (tt, (tt, (tt, tt))))))))
@@ -28,7 +28,7 @@ columns_utf8 caches k is = (tt, (tt, tt))
 columns_utf8 named_corrs e is = (tt, (tt, (tt, (tt, (tt, (is.0, (is.1, tt)))))))
 
 -- those are all the texts of a row as its tree keeps it
-row_utf8 : (w : Which) (tree : _) (row : Row) → IsKept (table_of w tree) row → AllByRecursion IsUtf8Text (picked (described w).own row) → AllByRecursion IsUtf8Text (drop 1 row)
+row_utf8 : (w : Which) (tree : _) (row : Row) → IsKept (table_of w tree) row → AllByRecursion IsUtf8Text (columns_at (description_of w).own row) → AllByRecursion IsUtf8Text (drop 1 row)
 row_utf8 books tree row is t = behind (table_of books tree) row is ((λ no. absurd (true≢false no)), ((λ no. t.1.0), ((λ no. t.1.1.0), tt)))
 row_utf8 tabs tree row is t = behind (table_of tabs tree) row is ((λ no. t.0), ((λ no. t.1.0), tt))
 row_utf8 paras tree row is t =
@@ -46,7 +46,7 @@ row_utf8 caches tree row is t = behind (table_of caches tree) row is ((λ no. ab
 row_utf8 named_corrs tree row is t = behind (table_of named_corrs tree) row is ((λ no. t.0), ((λ no. t.1.0), ((λ no. t.1.1.0), ((λ no. t.1.1.1.0), ((λ no. t.1.1.1.1.0), ((λ no. t.1.1.1.1.1.0), ((λ no. t.1.1.1.1.1.1.0), tt)))))))
 
 -- a query that shows the rowid is of a table whose rows may be changed
-is_changed : (w : Which) → shows_rowid w ≡ true → (described w).is_changed ≡ true
+is_changed : (w : Which) → shows_rowid w ≡ true → (description_of w).is_changed ≡ true
 is_changed books is = refl
 is_changed tabs is = refl
 is_changed paras is = refl
@@ -64,7 +64,7 @@ module _ (l : Layout) (c : Contents) (db : Trees) (is : IsFile l c db) where
   -- those of one table, if its texts are UTF-8
   pub readable_table : (w : Which) → l.has w ≡ true → AllByRecursion (IsUtf8Row w) (c.rows w) → AreReadable w (db (l.tree w))
   readable_table w there utf8 =
-      let texts = in_rows (written w) (picked (described w).own) (IsUtf8Row w) (columns_utf8 w) (c.rows w) (db (l.tree w)) utf8 (is.holds.tables w there) in
+      let texts = in_rows (columns_of w) (columns_at (description_of w).own) (IsUtf8Row w) (columns_utf8 w) (c.rows w) (db (l.tree w)) utf8 (is.holds.tables w there) in
       let all = each_of _ _ (db (l.tree w)) (λ row both. row_utf8 w (l.tree w) row both.0 both.1) (all_both _ _ (db (l.tree w)) (kept l.schema (table_of w (l.tree w)) (is.declared w there) db is.sound) texts) in
       record { ids = rowids w there; texts = λ has. all }
 

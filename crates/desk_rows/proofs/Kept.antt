@@ -12,10 +12,10 @@ use Rattle.sqlite_catalog.specs.Listing.{IsIndexRow, IsTableRow}
 use Rattle.sqlite_catalog.proofs.LayoutLemmas.{zipped_left}
 use Rattle.desk_rows.specs.Contents.{Contents}
 use Rattle.desk_rows.specs.Layout.{Layout}
-use Rattle.desk_rows.specs.Making.{IsNew, new_tables, made}
+use Rattle.desk_rows.specs.Making.{IsNew, new_tables, new_layout}
 use Rattle.sql_tables.specs.Making.{KeepsAside}
 use Rattle.desk_rows.specs.States.{IsFile}
-use Rattle.desk_rows.specs.Described.{table_of}
+use Rattle.desk_rows.specs.Descriptions.{table_of}
 use Rattle.desk_rows.proofs.MadeTables.{foreign_after}
 use Rattle.sql_tables.proofs.Declaring.{has_table}
 
@@ -30,15 +30,15 @@ module _ (l : Layout) (c : Contents) (db : Trees) (is : IsFile l c db) where
       (λ t has same. let low = (zipped_left IsTableRow _ l.schema.tables t is.sound.lists.listed.tables has).2.described.low in absurd (omega (arith, low, high, same)))
       (all_from _ l.schema.indexes (λ i has same. let low = (zipped_left (IsIndexRow l.schema.tables) _ l.schema.indexes i is.sound.lists.listed.indexes has).2.described.low in absurd (omega (arith, low, high, same))))
 
-pub made_keeps : (s : Schema) (rows db : Trees) → IsNew s rows (λ c. IsFile (made s) c db) → KeepsAside s rows db
+pub made_keeps : (s : Schema) (rows db : Trees) → IsNew s rows (λ c. IsFile (new_layout s) c db) → KeepsAside s rows db
 made_keeps s rows db new =
     let is = new.4 in
     let kept = new.3 in
-    let list : db catalog_tree ≡ new.0 catalog_tree = past_all (made s) _ db is catalog_tree (omega arith) in
+    let list : db catalog_tree ≡ new.0 catalog_tree = past_all (new_layout s) _ db is catalog_tree (omega arith) in
     record {
       rows = λ tree foreign.
           let stays = foreign_after new_tables s rows tree foreign in
-          aside (made s) _ db is tree (λ t has. all_has _ (made s).schema.tables t stays.no_table has) stays.no_index ∙ kept.rows tree foreign;
+          aside (new_layout s) _ db is tree (λ t has. all_has _ (new_layout s).schema.tables t stays.no_table has) stays.no_index ∙ kept.rows tree foreign;
       texts = subst (KeepsForeign (rows catalog_tree)) (sym list) kept.texts;
-      version = past_all (made s) _ db is version_tree (omega arith) ∙ kept.version;
+      version = past_all (new_layout s) _ db is version_tree (omega arith) ∙ kept.version;
     }

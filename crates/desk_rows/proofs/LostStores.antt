@@ -13,12 +13,12 @@ use Rattle.desk_parts.specs.declared.put.Put.{Put}
 use Rattle.desk_parts.specs.Puts.{RowPut, put_of}
 use Rattle.sql_tables.proofs.Failures.{IsCaused, answered, fails_so}
 use Rattle.sql_tables.proofs.Refusals.{not_of_store}
-use Rattle.desk_rows.specs.Described.{Which, books}
+use Rattle.desk_rows.specs.Descriptions.{Which, books}
 use Rattle.desk_rows.specs.Failing.{FailsToPut, Putting, after_tables, at_commit, at_put, of_first_row, of_items}
 use Rattle.desk_rows.specs.Fault.{CountsLoss}
 use Rattle.desk_rows.specs.Making.{creation, first_row}
 use Rattle.desk_rows.specs.Puts.{NotPut, row_put, statement}
-use Rattle.desk_rows.specs.Turns.{Failed, RunInTurn, Statement, Stops}
+use Rattle.desk_rows.specs.Turns.{FailsWith, RunInTurn, Statement, Stops}
 
 -- ---- one error
 
@@ -41,7 +41,7 @@ caused old new e why is_open told = go why.0 why.1 why.2
     go Broken same h = absurd (true≢false (sym is_open ∙ h))
     go Unstorable same h = inr same
 
-failed : (it : Statement) (old new : State) (e : Error) → Failed it old new e → CountsLoss old new e
+failed : (it : Statement) (old new : State) (e : Error) → FailsWith it old new e → CountsLoss old new e
 failed it old new e why is_open told = elim (answered it.text it.params old new e why) [
   | inl plain ↦ absurd (not_of_store e told.0 plain told.2)
   | inr cause ↦ caused old new e cause is_open told
@@ -118,6 +118,6 @@ module _ {S : Type 0} (g : Ghosts S) where
 
   pub tables_lost : (ws : List Which) (putting : Putting S) → StopsLost putting → StopsLost (after_tables g ws putting)
   tables_lost ws putting stops old new e (inl stopped) =
-      stops_lost (map creation stopped.done) (Failed (creation stopped.next)) old new e (λ a b. failed (creation stopped.next) a b e) stopped.stops
+      stops_lost (map creation stopped.done) (FailsWith (creation stopped.next)) old new e (λ a b. failed (creation stopped.next) a b e) stopped.stops
   tables_lost ws putting stops old new e (inr it) =
       later_loss (state g old) (state g it.0) new e _ it.1 (goes (state g it.0) new _ it.3) (stops it.0 new e it.4)

@@ -24,10 +24,10 @@ use Rattle.sql_tables.proofs.Counting.{declared_first, foreign_first, free_first
 use Rattle.sql_tables.proofs.Creating.{declares, declared_stays, sound_is_low}
 use Rattle.sql_tables.proofs.Declaring.{has_table}
 use Rattle.sql_tables.proofs.Makes.{none_below}
-use Rattle.desk_rows.specs.Described.{Which, books, tabs, paras, corrs, marks, caches, named_corrs, described, table_of}
-use Rattle.desk_rows.specs.Making.{AreAbsent, CountsNone, IsNew, Differ, MakesTables, after, first_row, is_among, new_tables, made, no_contents, tree_in}
+use Rattle.desk_rows.specs.Descriptions.{Which, books, tabs, paras, corrs, marks, caches, named_corrs, description_of, table_of}
+use Rattle.desk_rows.specs.Making.{AreAbsent, CountsNone, IsNew, Differ, MakesTables, after, first_row, is_among, new_tables, new_layout, no_contents, tree_in}
 use Rattle.desk_rows.specs.Puts.{PutsRow}
-use Rattle.desk_rows.specs.States.{IsUnder, Shows}
+use Rattle.desk_rows.specs.States.{IsUnder, ShowsContents}
 
 pub is_below : (m n : ℕ) → m < n → nat_lt m n ≡ true
 is_below m n low = grind (arith, nat_tests)
@@ -36,7 +36,7 @@ other_tree : (m n : ℕ) → m ≢ n → (m == n) ≡ false
 other_tree m n other = grind (arith, nat_tests)
 
 abbrev name : Which → List ℕ
-name w = (described w).name
+name w = (description_of w).name
 
 abbrev made_in : Which → ℕ → Table
 made_in w tree = record (table_of w 0) { tree = tree }
@@ -229,7 +229,7 @@ differ : Differ new_tables
 differ = ((refl, (refl, (refl, (refl, (refl, tt))))), ((refl, (refl, (refl, (refl, tt)))), ((refl, (refl, (refl, tt))), ((refl, (refl, tt)), ((refl, tt), (tt, tt))))))
 
 module _ (s : Schema) (none : AreAbsent s) (low : IndexesLow s) where
-  each_made : (w : Which) → is_among new_tables w ≡ true → IsDeclared (made s).schema (table_of w ((made s).tree w)) × (next_tree s ≤ (made s).tree w)
+  each_made : (w : Which) → is_among new_tables w ≡ true → IsDeclared (new_layout s).schema (table_of w ((new_layout s).tree w)) × (next_tree s ≤ (new_layout s).tree w)
   each_made w is = declared_after new_tables s differ low none w (listed w is)
 
   module _ (committed : Database) (rows : Trees) (now : State) (m : IsMaking committed s rows (after new_tables s) now) where
@@ -252,9 +252,9 @@ module _ (s : Schema) (none : AreAbsent s) (low : IndexesLow s) where
         let rest = tabs ∷ paras ∷ marks ∷ caches ∷ named_corrs ∷ [] in
         all_has _ (after new_tables s).tables (counter at) m.kept (has_after rest (first_created s (table_of books 0)) (counter at) (has_counter s (table_of books 0) lacks)) ∙ rw (none_below at (next_tree s) (omega (arith, above)))
 
-    pub finished : IsUnder committed (made s) (no_contents now.now.trees) now × KeepsRows s.tables rows now.now.trees × CountsNone s now.now.trees × KeepsAside s rows now.now.trees
+    pub finished : IsUnder committed (new_layout s) (no_contents now.now.trees) now × KeepsRows s.tables rows now.now.trees × CountsNone s now.now.trees × KeepsAside s rows now.now.trees
     finished =
-        let none_in = λ (w : Which) (is : is_among new_tables w ≡ true). empty (table_of w ((made s).tree w)) (each_made w is).0 (each_made w is).1 in (
+        let none_in = λ (w : Which) (is : is_among new_tables w ≡ true). empty (table_of w ((new_layout s).tree w)) (each_made w is).0 (each_made w is).1 in (
           record {
             shows = record {
               schema = m.schema;
@@ -298,7 +298,7 @@ begins_making g old sound = record {
 module _ {S : Type 0} (g : Ghosts S) (old mid last : Held S) where
   -- what making tables within a transaction, and putting the row of a new book, did to what was there
   pub whole : MakesTables new_tables (state g (record old { in_transaction = true })) (state g mid) → IsTrue (state g old).is_open → PutsRow books first_row (state g mid) (state g last)
-      → AreAbsent old.schema × (IsLive (state g old) → IsNew old.schema (state g old).now.trees (λ c. Shows (made old.schema) c (state g last)))
+      → AreAbsent old.schema × (IsLive (state g old) → IsNew old.schema (state g old).now.trees (λ c. ShowsContents (new_layout old.schema) c (state g last)))
   whole makes is_open puts = (
     makes.taken.0,
     λ live.
@@ -309,5 +309,5 @@ module _ {S : Type 0} (g : Ghosts S) (old mid last : Held S) where
         let making = makes.made committed old.schema rows old.schema differ (begins_making g old sound) makes.taken.0 in
         let done = finished old.schema makes.taken.0 low committed rows (state g mid) making in
         let others = (state g mid).now.trees in
-        (others, done.1, done.2, done.3, (puts committed (made old.schema) (no_contents others) refl done.0).shows),
+        (others, done.1, done.2, done.3, (puts committed (new_layout old.schema) (no_contents others) refl done.0).shows),
   )

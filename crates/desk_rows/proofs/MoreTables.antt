@@ -21,7 +21,7 @@ use Rattle.sql_tables.proofs.Creating.{sound_is_low}
 use Rattle.sql_tables.proofs.Declaring.{has_table}
 use Rattle.sql_tables.proofs.Makes.{none_below}
 use Rattle.desk_rows.specs.Contents.{Contents}
-use Rattle.desk_rows.specs.Described.{Which, described, table_of}
+use Rattle.desk_rows.specs.Descriptions.{Which, description_of, table_of}
 use Rattle.desk_rows.specs.Layout.{Layout}
 use Rattle.desk_rows.specs.Making.{AreFreeIn, Differ, IsFileWithTables, MakesTables, WritesWithTables, after, is_among, tree_in, with_none, with_tables}
 use Rattle.desk_rows.specs.Puts.{PutsAll, puts_into}
@@ -38,7 +38,7 @@ among_has (w ∷ ws) v is = elim (same w v) [
   | inr other ↦ inr (among_has ws v (ap (λ b. b || is_among ws v) (sym other) ∙ is))
 ]
 
-unmapped : (s : Schema) (ws : List Which) → AllByRecursion (λ n. is_used s n ≡ false) (map (λ w. (described w).name) ws) → AreFreeIn s ws
+unmapped : (s : Schema) (ws : List Which) → AllByRecursion (λ n. is_used s n ≡ false) (map (λ w. (description_of w).name) ws) → AreFreeIn s ws
 unmapped s [] free = tt
 unmapped s (w ∷ ws) free = (free.0, unmapped s ws free.1)
 

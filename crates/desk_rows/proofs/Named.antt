@@ -31,9 +31,9 @@ use Rattle.sql_tables.specs.Tables.{IsDeclared}
 use Rattle.sql_tables.proofs.Declaring.{has_kept}
 use Rattle.sql_tables.proofs.RowLists.{only_row, has_own, lone, replaced, shows_one}
 use Rattle.sqlite_schema.specs.declared.schema.Table.{Table}
-use Rattle.sql_tables.specs.Rows.{picked}
-use Rattle.desk_rows.specs.Described.{tabs as tab_which, described, table_of}
-use Rattle.desk_rows.specs.Rows.{written}
+use Rattle.sql_tables.specs.Rows.{columns_at}
+use Rattle.desk_rows.specs.Descriptions.{tabs as tab_which, description_of, table_of}
+use Rattle.desk_rows.specs.Rows.{columns_of}
 
 -- ---- the table, and a row of it as its columns and as its tree keeps it
 
@@ -41,10 +41,10 @@ abbrev pub tab : ℕ → Table
 tab = table_of tab_which
 
 abbrev pub tab_row : Tab → Row
-tab_row = written tab_which
+tab_row = columns_of tab_which
 
 abbrev pub tab_columns : Row → Row
-tab_columns = picked (described tab_which).own
+tab_columns = columns_at (description_of tab_which).own
 
 -- SQL takes two texts as equal if they are the same
 pub same_text : (a b : List ℕ) → is_eq (value_cmp (Text a) (Text b)) ≡ bytes_eq a b

@@ -3,8 +3,8 @@ use Rattle.std.proofs.Common.{◌≡◌, List, refl, IsPermutation}
 use Rattle.sqlite_value.specs.Order.{Row, column, bytes}
 use Rattle.sql_tables.specs.Rows.{Lists}
 use Rattle.sql_tables.proofs.SameLists.{integer, one_list as same_list}
-use Rattle.desk_rows.specs.Described.{Which, books, tabs, paras, corrs, marks, caches, named_corrs}
-use Rattle.desk_rows.specs.Rows.{RowOf, written}
+use Rattle.desk_rows.specs.Descriptions.{Which, books, tabs, paras, corrs, marks, caches, named_corrs}
+use Rattle.desk_rows.specs.Rows.{RowOf, columns_of}
 
 -- a row as it was, from its columns
 abbrev back : (w : Which) → Row → RowOf w
@@ -36,7 +36,7 @@ back named_corrs r = record {
   who = bytes (column r 6);
 }
 
-undone : (w : Which) (x : RowOf w) → back w (written w x) ≡ x
+undone : (w : Which) (x : RowOf w) → back w (columns_of w x) ≡ x
 undone books x = refl
 undone tabs x = refl
 undone paras x = refl
@@ -45,5 +45,5 @@ undone marks x = refl
 undone caches x = refl
 undone named_corrs x = refl
 
-pub one_list : (w : Which) (columns : Row → Row) (xs ys : List (RowOf w)) (rows : List Row) → Lists (written w) columns xs rows → Lists (written w) columns ys rows → IsPermutation xs ys
-one_list w = same_list (written w) (back w) (undone w)
+pub one_list : (w : Which) (columns : Row → Row) (xs ys : List (RowOf w)) (rows : List Row) → Lists (columns_of w) columns xs rows → Lists (columns_of w) columns ys rows → IsPermutation xs ys
+one_list w = same_list (columns_of w) (back w) (undone w)

@@ -12,7 +12,7 @@ use Rattle.sql_tables.proofs.OneTable.{is_typed}
 use Rattle.sql_tables.proofs.Columns.{IsKey}
 use Rattle.sql_tables.proofs.Selecting.{query_of, core_of, shown_by, sorts_of}
 use Rattle.sql_tables.proofs.WholeTables.{IsRead}
-use Rattle.desk_rows.specs.Described.{Which, books, tabs, paras, corrs, marks, caches, named_corrs, described, table_of}
+use Rattle.desk_rows.specs.Descriptions.{Which, books, tabs, paras, corrs, marks, caches, named_corrs, description_of, table_of}
 use Rattle.sql_tables.proofs.ReadTest as test
 use Rattle.sql_tables.proofs.ReadTest.{is_plain_read, outs_of, terms_of}
 
@@ -23,14 +23,14 @@ place_in (p ∷ ps) (suc k) = place_in ps k
 
 -- where the tree's rows have a column of what the query shows
 abbrev pub stored_at : Which → ℕ → ℕ
-stored_at w = place_in (described w).shown
+stored_at w = place_in (description_of w).shown
 
 -- The text of a table reads it whole.
 pub record ReadsWhole (w : Which) : Type 0 where
-  pub plain : (tree : ℕ) → is_plain_read (described w).read (table_of w tree) ≡ true
-  pub shows : (tree : ℕ) → map (λ (o : Output). o.term) (outs_of (described w).read (table_of w tree)) ≡ map (col 1) (described w).shown
-  pub heads : (tree : ℕ) → map (λ (o : Output). o.name) (outs_of (described w).read (table_of w tree)) ≡ map (λ (o : Output). o.name) (outs_of (described w).read (table_of w 0))
-  pub sorts : (tree : ℕ) → terms_of (described w).read (table_of w tree) ≡ map (λ k. col 1 (stored_at w k)) (described w).sorted
+  pub plain : (tree : ℕ) → is_plain_read (description_of w).read (table_of w tree) ≡ true
+  pub shows : (tree : ℕ) → map (λ (o : Output). o.term) (outs_of (description_of w).read (table_of w tree)) ≡ map (col 1) (description_of w).shown
+  pub heads : (tree : ℕ) → map (λ (o : Output). o.name) (outs_of (description_of w).read (table_of w tree)) ≡ map (λ (o : Output). o.name) (outs_of (description_of w).read (table_of w 0))
+  pub sorts : (tree : ℕ) → terms_of (description_of w).read (table_of w tree) ≡ map (λ k. col 1 (stored_at w k)) (description_of w).sorted
 
 -- ---- each table
 
@@ -48,10 +48,10 @@ reads_whole named_corrs = record { plain = λ tree. refl; shows = λ tree. refl;
 
 module _ (w : Which) where
   abbrev text : List ℕ
-  text = (described w).read
+  text = (description_of w).read
 
   pub passes : (tree : ℕ) → AllByRecursion (λ b. b ≡ true) (test.text_tests text) × AllByRecursion (λ b. b ≡ true) (test.query_tests (query_of text)) × AllByRecursion (λ b. b ≡ true) (test.core_tests (core_of text))
-      × AllByRecursion (λ b. b ≡ true) (test.source_tests (described w).name (test.source_in text)) × AllByRecursion (λ b. b ≡ true) (test.column_tests text (table_of w tree))
+      × AllByRecursion (λ b. b ≡ true) (test.source_tests (description_of w).name (test.source_in text)) × AllByRecursion (λ b. b ≡ true) (test.column_tests text (table_of w tree))
   passes tree =
       let a = and_parts _ _ ((reads_whole w).plain tree) in
       let b = and_parts _ _ a.1 in
@@ -60,11 +60,11 @@ module _ (w : Which) where
         test.each (test.text_tests text) a.0,
         test.each (test.query_tests (query_of text)) b.0,
         test.each (test.core_tests (core_of text)) c.0,
-        test.each (test.source_tests (described w).name (test.source_in text)) d.0,
+        test.each (test.source_tests (description_of w).name (test.source_in text)) d.0,
         test.each (test.column_tests text (table_of w tree)) d.1,
       )
 
-  unfoldable pub is_read : IsRead (described w).name (described w).columns (described w).key (described w).primary (described w).uniques (described w).orders text
+  unfoldable pub is_read : IsRead (description_of w).name (description_of w).columns (description_of w).key (description_of w).primary (description_of w).uniques (description_of w).orders text
   is_read =
       let it = reads_whole w in
       let t = (passes 0).0 in
@@ -72,8 +72,8 @@ module _ (w : Which) where
       let c = (passes 0).2 in
       let s = (passes 0).3 in record {
         names = map (λ (o : Output). o.name) (outs_of text (table_of w 0));
-        project = map (col 1) (described w).shown;
-        terms = map (λ k. col 1 (stored_at w k)) (described w).sorted;
+        project = map (col 1) (description_of w).shown;
+        terms = map (λ k. col 1 (stored_at w k)) (description_of w).sorted;
         outs = λ tree. outs_of text (table_of w tree);
         is_text = record { parsed = test.ok_is _ t.0; statement = test.select_is _ t.1.0; timeless = test.nil_is _ t.1.1.0 };
         is_plain = λ schema at tree named there. record {
@@ -95,13 +95,13 @@ module _ (w : Which) where
         };
         columns_are = λ schema at tree there low. test.all_shown schema at (table_of w tree) there low (shown_by text) (passes tree).4.0;
         keys_are = λ schema at tree there low.
-            subst (AllZip (IsKey schema at (table_of w tree) there (described w).name (outs_of text (table_of w tree))) (sorts_of text)) (it.sorts tree)
+            subst (AllZip (IsKey schema at (table_of w tree) there (description_of w).name (outs_of text (table_of w tree))) (sorts_of text)) (it.sorts tree)
             (test.all_keys schema at (table_of w tree) there low (outs_of text (table_of w tree)) (sorts_of text) (passes tree).4.1.0);
         few = test.below _ _ (passes 0).4.1.1.0;
         projects = it.shows;
         names_are = it.heads;
         typed = λ tree.
-            subst (λ terms. is_typed (table_of w tree) (record { tests = []; project = map (col 1) (described w).shown; order = map (λ t. (t, ascending Binary)) terms }) [] ≡ true) (it.sorts tree)
+            subst (λ terms. is_typed (table_of w tree) (record { tests = []; project = map (col 1) (description_of w).shown; order = map (λ t. (t, ascending Binary)) terms }) [] ≡ true) (it.sorts tree)
             (subst (λ project. is_typed (table_of w tree) (record { tests = []; project = project; order = map (λ t. (t, ascending Binary)) (terms_of text (table_of w tree)) }) [] ≡ true) (it.shows tree) (passes tree).4.1.1.1.0);
         whole = test.at_most _ _ t.1.1.1.1.0;
         unnamed = test.nil_is _ t.1.1.1.0;

@@ -18,8 +18,8 @@ use Rattle.sqlite.specs.State.{State, Executes}
 use Rattle.sqlite_tied.specs.Compute.{everything}
 use Rattle.desk_parts.specs.declared.rows.BookRow.{BookRow}
 use Rattle.desk_parts.specs.Puts.{RowPut, PutBook, PutTab, PutPara, PutMark, PutCache, PutEntry, SetPlace, SetFlags, SetTable, SetPrint, SetSpan, SetResolved, SetVersion}
-use Rattle.desk_parts.specs.Rows.{Mark, Para, NamedCorr, Cached}
-use Rattle.sql_tables.specs.Rows.{HaveRowids, Lists, picked}
+use Rattle.desk_parts.specs.Rows.{Mark, Para, NamedCorr, ParaCells}
+use Rattle.sql_tables.specs.Rows.{HaveRowids, Lists, columns_at}
 use Rattle.sql_tables.specs.Tables.{IsDeclared, needed}
 use Rattle.sql_tables.proofs.ByRowid.{PutsByRowid, numbered_puts}
 use Rattle.sql_tables.proofs.Casts.{cast_int, cast_null}
@@ -28,38 +28,38 @@ use Rattle.sql_tables.proofs.Running.{Wrote, insert_ran}
 use Rattle.sql_tables.proofs.SetByRowid.{SetsByRowid, sets_by_rowid}
 use Rattle.sql_tables.proofs.Updating.{left_of, right_of, sets_in, test_in}
 use Rattle.sql_tables.proofs.Writing.{IsAdded, IsPut, Spares}
-use Rattle.desk_rows.specs.Described.{Which, books, tabs, paras, corrs, marks, caches, named_corrs, described, table_of}
-use Rattle.desk_rows.specs.Rows.{RowOf, put_to, written}
-use Rattle.desk_rows.specs.Puts.{at_version, change_of, flagged, moved, placed, printed, retabled, set_book, set_mark, set_para, settled, statement, table_put}
+use Rattle.desk_rows.specs.Descriptions.{Which, books, tabs, paras, corrs, marks, caches, named_corrs, description_of, table_of}
+use Rattle.desk_rows.specs.Rows.{RowOf, columns_of, put_to}
+use Rattle.desk_rows.specs.Puts.{at_version, change_of, set_book, set_mark, set_para, statement, table_put, with_flags, with_place, with_print, with_resolution, with_span, with_table}
 use Rattle.desk_rows.specs.declared.texts.TheConstants.{SET_FLAGS, SET_PLACE, SET_PRINT, SET_RESOLVED, SET_SPAN, SET_TABLE, SET_VERSION}
 use Rattle.desk_rows.proofs.ByName.{tab_puts}
 
 -- The table has these rows then, and others have theirs.
 pub record Did (w : Which) (schema : Schema) (tree : ℕ) (xs : List (RowOf w)) (old new : State) : Type 0 where
   pub wrote : Wrote old new
-  pub lists : Lists (written w) (picked (described w).own) xs (new.now.trees tree)
-  pub ids : (described w).is_changed ≡ true → HaveRowids (new.now.trees tree)
+  pub lists : Lists (columns_of w) (columns_at (description_of w).own) xs (new.now.trees tree)
+  pub ids : (description_of w).is_changed ≡ true → HaveRowids (new.now.trees tree)
   pub spares : Spares schema tree old.now.trees new.now.trees
 
 -- The text, with these parameters, changes the rows of the table so, whatever else the schema has.
 abbrev pub Does : (w : Which) → (List (RowOf w) → List (RowOf w)) → List ℕ → Row → Type 1
 Does w f text params =
-    (schema : Schema) (tree : ℕ) (d : IsDeclared schema (table_of w tree)) (old new : State) (count : ℕ) (xs : List (RowOf w)) → old.now.schema ≡ schema → IsSound schema old.now.trees → ((described w).is_changed ≡ true → HaveRowids (old.now.trees tree))
-    → Lists (written w) (picked (described w).own) xs (old.now.trees tree) → Executes text params old new (Ok count) → Did w schema tree (f xs) old new
+    (schema : Schema) (tree : ℕ) (d : IsDeclared schema (table_of w tree)) (old new : State) (count : ℕ) (xs : List (RowOf w)) → old.now.schema ≡ schema → IsSound schema old.now.trees → ((description_of w).is_changed ≡ true → HaveRowids (old.now.trees tree))
+    → Lists (columns_of w) (columns_at (description_of w).own) xs (old.now.trees tree) → Executes text params old new (Ok count) → Did w schema tree (f xs) old new
 
 -- of a row that is put, and of columns that are set
 put_did : (w : Which) (schema : Schema) (tree : ℕ) (xs : List (RowOf w)) (old new : State)
-    → Wrote old new × ((id : ℤ) × (row : Row) × IsPut schema (table_of w tree) row id old.now.trees new.now.trees × Lists (written w) (picked (described w).own) xs (new.now.trees tree) × HaveRowids (new.now.trees tree)) → Did w schema tree xs old new
+    → Wrote old new × ((id : ℤ) × (row : Row) × IsPut schema (table_of w tree) row id old.now.trees new.now.trees × Lists (columns_of w) (columns_at (description_of w).own) xs (new.now.trees tree) × HaveRowids (new.now.trees tree)) → Did w schema tree xs old new
 put_did w schema tree xs old new it = record { wrote = it.0; lists = it.1.3; ids = λ changed. it.1.4; spares = it.1.2.others }
 
 set_did : (w : Which) (schema : Schema) (tree : ℕ) (xs : List (RowOf w)) (old new : State)
-    → Wrote old new × (Lists (written w) (picked (described w).own) xs (new.now.trees tree) × HaveRowids (new.now.trees tree) × Spares schema tree old.now.trees new.now.trees) → Did w schema tree xs old new
+    → Wrote old new × (Lists (columns_of w) (columns_at (description_of w).own) xs (new.now.trees tree) × HaveRowids (new.now.trees tree) × Spares schema tree old.now.trees new.now.trees) → Did w schema tree xs old new
 set_did w schema tree xs old new it = record { wrote = it.0; lists = it.1.0; ids = λ changed. it.1.1; spares = it.1.2 }
 
 -- ---- rows that are put by their rowids
 
 abbrev ByRowid : (w : Which) → (RowOf w → ℤ) → Type 0
-ByRowid w key = PutsByRowid (described w).name (described w).columns (described w).own (described w).put (written w) key
+ByRowid w key = PutsByRowid (description_of w).name (description_of w).columns (description_of w).own (description_of w).put (columns_of w) key
 
 book_puts : ByRowid books (λ b. b.id)
 unfolding everything
@@ -139,36 +139,36 @@ cache_puts = record {
 
 -- ---- an entry that is added
 
-entry_text : IsText (described named_corrs).put (Insert conflict.Abort (codes "corr2") [] (rows_in (parse_of (described named_corrs).put).statement) [] [])
+entry_text : IsText (description_of named_corrs).put (Insert conflict.Abort (codes "corr2") [] (rows_in (parse_of (description_of named_corrs).put).statement) [] [])
 unfolding everything
 entry_text = record { parsed = refl; statement = refl; timeless = refl }
 
 abbrev entry_terms : List Term
 entry_terms = lit Null ∷ col 0 0 ∷ col 0 1 ∷ col 0 2 ∷ col 0 3 ∷ col 0 4 ∷ col 0 5 ∷ col 0 6 ∷ []
 
-entry_source : (schema : Schema) (tree base : ℕ) → new_rows schema (table_of named_corrs tree) base [] (rows_in (parse_of (described named_corrs).put).statement) ≡ Ok (Values entry_terms 8)
+entry_source : (schema : Schema) (tree base : ℕ) → new_rows schema (table_of named_corrs tree) base [] (rows_in (parse_of (description_of named_corrs).put).statement) ≡ Ok (Values entry_terms 8)
 unfolding everything
 entry_source schema tree base = refl
 
-entry_chosen : (e : NamedCorr) (tree : ℕ) (there : List Row) → with_rowid Chosen there (cast_row (table_of named_corrs tree) (Null ∷ written named_corrs e)) ≡ Int (next_rowid there) ∷ written named_corrs e
+entry_chosen : (e : NamedCorr) (tree : ℕ) (there : List Row) → with_rowid Chosen there (cast_row (table_of named_corrs tree) (Null ∷ columns_of named_corrs e)) ≡ Int (next_rowid there) ∷ columns_of named_corrs e
 entry_chosen e tree there = rw (cast_null, cast_int e.entry.para, cast_int e.entry.seq, cast_int e.entry.kind, cast_int e.entry.start, cast_int e.entry.len)
 
-entry_puts : (e : NamedCorr) → Does named_corrs (put_to named_corrs e) (described named_corrs).put (written named_corrs e)
+entry_puts : (e : NamedCorr) → Does named_corrs (put_to named_corrs e) (description_of named_corrs).put (columns_of named_corrs e)
 entry_puts e schema tree d old new count xs has sound ids lists h =
-    let own = picked (described named_corrs).own in
-    let row = Int (next_rowid (old.now.trees tree)) ∷ written named_corrs e in
-    let means = insert_is schema d.at (table_of named_corrs tree) d.named d.there refl (described named_corrs).put (rows_in (parse_of (described named_corrs).put).statement) (Values entry_terms 8) entry_text (entry_source schema tree) in
-    let ran = insert_ran schema d.at (table_of named_corrs tree) d.there (described named_corrs).put (written named_corrs e) old new count has entry_terms 8 means (Null ∷ written named_corrs e) row refl refl (entry_chosen e tree (old.now.trees tree)) h in
+    let own = columns_at (description_of named_corrs).own in
+    let row = Int (next_rowid (old.now.trees tree)) ∷ columns_of named_corrs e in
+    let means = insert_is schema d.at (table_of named_corrs tree) d.named d.there refl (description_of named_corrs).put (rows_in (parse_of (description_of named_corrs).put).statement) (Values entry_terms 8) entry_text (entry_source schema tree) in
+    let ran = insert_ran schema d.at (table_of named_corrs tree) d.there (description_of named_corrs).put (columns_of named_corrs e) old new count has entry_terms 8 means (Null ∷ columns_of named_corrs e) row refl refl (entry_chosen e tree (old.now.trees tree)) h in
     let added : IsAdded schema (table_of named_corrs tree) row old.now.trees new.now.trees = ran.1 in
-    let first : IsPermutation (written named_corrs e ∷ map (written named_corrs) xs) (map own (row ∷ old.now.trees tree)) = IsPermutation-cons (written named_corrs e) _ _ lists in
+    let first : IsPermutation (columns_of named_corrs e ∷ map (columns_of named_corrs) xs) (map own (row ∷ old.now.trees tree)) = IsPermutation-cons (columns_of named_corrs e) _ _ lists in
     record { wrote = ran.0; lists = IsPermutation-trans _ _ _ first (IsPermutation-sym _ _ (IsPermutation-map own _ _ added.rows)); ids = λ changed. absurd (cc); spares = added.others }
 
 -- ---- columns that are set
 
 abbrev SetsById : (w : Which) → List ℕ → (RowOf w → ℤ) → Row → ℤ → (RowOf w → RowOf w) → Type 0
-SetsById w text key params id set = SetsByRowid (described w).name (described w).columns (described w).own text (written w) key params id set
+SetsById w text key params id set = SetsByRowid (description_of w).name (description_of w).columns (description_of w).own text (columns_of w) key params id set
 
-place_sets : (id place : ℤ) → SetsById paras SET_PLACE.now (λ p. p.id) (Int id ∷ Int place ∷ []) id (placed place)
+place_sets : (id place : ℤ) → SetsById paras SET_PLACE.now (λ p. p.id) (Int id ∷ Int place ∷ []) id (with_place place)
 unfolding everything
 place_sets id place = record {
   update = record {
@@ -200,7 +200,7 @@ place_sets id place = record {
   suits = λ x. refl;
 }
 
-flags_sets : (id style volume struck : ℤ) → SetsById paras SET_FLAGS.now (λ p. p.id) (Int id ∷ Int style ∷ Int volume ∷ Int struck ∷ []) id (flagged style volume struck)
+flags_sets : (id style volume struck : ℤ) → SetsById paras SET_FLAGS.now (λ p. p.id) (Int id ∷ Int style ∷ Int volume ∷ Int struck ∷ []) id (with_flags style volume struck)
 unfolding everything
 flags_sets id style volume struck = record {
   update = record {
@@ -232,7 +232,7 @@ flags_sets id style volume struck = record {
   suits = λ x. refl;
 }
 
-table_sets : (id : ℤ) (tab : List ℕ) → SetsById paras SET_TABLE.now (λ p. p.id) (Int id ∷ Text tab ∷ []) id (retabled tab)
+table_sets : (id : ℤ) (tab : List ℕ) → SetsById paras SET_TABLE.now (λ p. p.id) (Int id ∷ Text tab ∷ []) id (with_table tab)
 unfolding everything
 table_sets id tab = record {
   update = record {
@@ -264,7 +264,7 @@ table_sets id tab = record {
   suits = λ x. refl;
 }
 
-print_sets : (id : ℤ) (print : List ℕ) → SetsById paras SET_PRINT.now (λ p. p.id) (Int id ∷ Text print ∷ []) id (printed print)
+print_sets : (id : ℤ) (print : List ℕ) → SetsById paras SET_PRINT.now (λ p. p.id) (Int id ∷ Text print ∷ []) id (with_print print)
 unfolding everything
 print_sets id print = record {
   update = record {
@@ -296,7 +296,7 @@ print_sets id print = record {
   suits = λ x. refl;
 }
 
-span_sets : (id start stop touched : ℤ) → SetsById marks SET_SPAN.now (λ m. m.id) (Int id ∷ Int start ∷ Int stop ∷ Int touched ∷ []) id (moved start stop touched)
+span_sets : (id start stop touched : ℤ) → SetsById marks SET_SPAN.now (λ m. m.id) (Int id ∷ Int start ∷ Int stop ∷ Int touched ∷ []) id (with_span start stop touched)
 unfolding everything
 span_sets id start stop touched = record {
   update = record {
@@ -328,7 +328,7 @@ span_sets id start stop touched = record {
   suits = λ x. refl;
 }
 
-resolved_sets : (id resolved : ℤ) → SetsById marks SET_RESOLVED.now (λ m. m.id) (Int id ∷ Int resolved ∷ []) id (settled resolved)
+resolved_sets : (id resolved : ℤ) → SetsById marks SET_RESOLVED.now (λ m. m.id) (Int id ∷ Int resolved ∷ []) id (with_resolution resolved)
 unfolding everything
 resolved_sets id resolved = record {
   update = record {
@@ -394,57 +394,57 @@ version_sets id version = record {
 
 -- ---- each statement
 
-puts : (w : Which) (x : RowOf w) → (described w).is_written ≡ true → Does w (put_to w x) (described w).put (written w x)
+puts : (w : Which) (x : RowOf w) → (description_of w).is_written ≡ true → Does w (put_to w x) (description_of w).put (columns_of w x)
 puts books x is = λ schema tree d old new count xs has sound ids lists h.
     put_did books schema tree _ old new
-    (numbered_puts (described books).name (described books).columns (described books).own (described books).put (written books) (λ (b : BookRow). b.id) book_puts schema tree d old new count x xs has sound (ids refl) lists h)
+    (numbered_puts (description_of books).name (description_of books).columns (description_of books).own (description_of books).put (columns_of books) (λ (b : BookRow). b.id) book_puts schema tree d old new count x xs has sound (ids refl) lists h)
 puts paras x is = λ schema tree d old new count xs has sound ids lists h.
     put_did paras schema tree _ old new
-    (numbered_puts (described paras).name (described paras).columns (described paras).own (described paras).put (written paras) (λ (p : Para). p.id) para_puts schema tree d old new count x xs has sound (ids refl) lists h)
+    (numbered_puts (description_of paras).name (description_of paras).columns (description_of paras).own (description_of paras).put (columns_of paras) (λ (p : Para). p.id) para_puts schema tree d old new count x xs has sound (ids refl) lists h)
 puts marks x is = λ schema tree d old new count xs has sound ids lists h.
     put_did marks schema tree _ old new
-    (numbered_puts (described marks).name (described marks).columns (described marks).own (described marks).put (written marks) (λ (m : Mark). m.id) mark_puts schema tree d old new count x xs has sound (ids refl) lists h)
+    (numbered_puts (description_of marks).name (description_of marks).columns (description_of marks).own (description_of marks).put (columns_of marks) (λ (m : Mark). m.id) mark_puts schema tree d old new count x xs has sound (ids refl) lists h)
 puts caches x is = λ schema tree d old new count xs has sound ids lists h.
     put_did caches schema tree _ old new
-    (numbered_puts (described caches).name (described caches).columns (described caches).own (described caches).put (written caches) (λ (k : Cached). k.para) cache_puts schema tree d old new count x xs has sound (ids refl) lists h)
+    (numbered_puts (description_of caches).name (description_of caches).columns (description_of caches).own (description_of caches).put (columns_of caches) (λ (k : ParaCells). k.para) cache_puts schema tree d old new count x xs has sound (ids refl) lists h)
 puts tabs x is = λ schema tree d old new count xs has sound ids lists h. put_did tabs schema tree _ old new (tab_puts schema tree d old new count x xs has sound (ids refl) lists h)
 puts corrs x is = absurd (cc)
 puts named_corrs x is = entry_puts x
 
-sets_place : (id place : ℤ) → Does paras (set_para id (placed place)) SET_PLACE.now (Int id ∷ Int place ∷ [])
+sets_place : (id place : ℤ) → Does paras (set_para id (with_place place)) SET_PLACE.now (Int id ∷ Int place ∷ [])
 sets_place id place schema tree d old new count xs has sound ids lists h =
     set_did paras schema tree _ old new
-    (sets_by_rowid (described paras).name (described paras).columns (described paras).own SET_PLACE.now (written paras) (λ (p : Para). p.id) (Int id ∷ Int place ∷ []) id (placed place) (place_sets id place) schema tree d old new count xs has sound (ids refl) lists h)
+    (sets_by_rowid (description_of paras).name (description_of paras).columns (description_of paras).own SET_PLACE.now (columns_of paras) (λ (p : Para). p.id) (Int id ∷ Int place ∷ []) id (with_place place) (place_sets id place) schema tree d old new count xs has sound (ids refl) lists h)
 
-sets_flags : (id style volume struck : ℤ) → Does paras (set_para id (flagged style volume struck)) SET_FLAGS.now (Int id ∷ Int style ∷ Int volume ∷ Int struck ∷ [])
+sets_flags : (id style volume struck : ℤ) → Does paras (set_para id (with_flags style volume struck)) SET_FLAGS.now (Int id ∷ Int style ∷ Int volume ∷ Int struck ∷ [])
 sets_flags id style volume struck schema tree d old new count xs has sound ids lists h =
     set_did paras schema tree _ old new
-    (sets_by_rowid (described paras).name (described paras).columns (described paras).own SET_FLAGS.now (written paras) (λ (p : Para). p.id) (Int id ∷ Int style ∷ Int volume ∷ Int struck ∷ []) id (flagged style volume struck) (flags_sets id style volume struck) schema tree d old new count xs has sound (ids refl) lists h)
+    (sets_by_rowid (description_of paras).name (description_of paras).columns (description_of paras).own SET_FLAGS.now (columns_of paras) (λ (p : Para). p.id) (Int id ∷ Int style ∷ Int volume ∷ Int struck ∷ []) id (with_flags style volume struck) (flags_sets id style volume struck) schema tree d old new count xs has sound (ids refl) lists h)
 
-sets_table : (id : ℤ) (tab : List ℕ) → Does paras (set_para id (retabled tab)) SET_TABLE.now (Int id ∷ Text tab ∷ [])
+sets_table : (id : ℤ) (tab : List ℕ) → Does paras (set_para id (with_table tab)) SET_TABLE.now (Int id ∷ Text tab ∷ [])
 sets_table id tab schema tree d old new count xs has sound ids lists h =
     set_did paras schema tree _ old new
-    (sets_by_rowid (described paras).name (described paras).columns (described paras).own SET_TABLE.now (written paras) (λ (p : Para). p.id) (Int id ∷ Text tab ∷ []) id (retabled tab) (table_sets id tab) schema tree d old new count xs has sound (ids refl) lists h)
+    (sets_by_rowid (description_of paras).name (description_of paras).columns (description_of paras).own SET_TABLE.now (columns_of paras) (λ (p : Para). p.id) (Int id ∷ Text tab ∷ []) id (with_table tab) (table_sets id tab) schema tree d old new count xs has sound (ids refl) lists h)
 
-sets_print : (id : ℤ) (print : List ℕ) → Does paras (set_para id (printed print)) SET_PRINT.now (Int id ∷ Text print ∷ [])
+sets_print : (id : ℤ) (print : List ℕ) → Does paras (set_para id (with_print print)) SET_PRINT.now (Int id ∷ Text print ∷ [])
 sets_print id print schema tree d old new count xs has sound ids lists h =
     set_did paras schema tree _ old new
-    (sets_by_rowid (described paras).name (described paras).columns (described paras).own SET_PRINT.now (written paras) (λ (p : Para). p.id) (Int id ∷ Text print ∷ []) id (printed print) (print_sets id print) schema tree d old new count xs has sound (ids refl) lists h)
+    (sets_by_rowid (description_of paras).name (description_of paras).columns (description_of paras).own SET_PRINT.now (columns_of paras) (λ (p : Para). p.id) (Int id ∷ Text print ∷ []) id (with_print print) (print_sets id print) schema tree d old new count xs has sound (ids refl) lists h)
 
-sets_span : (id start stop touched : ℤ) → Does marks (set_mark id (moved start stop touched)) SET_SPAN.now (Int id ∷ Int start ∷ Int stop ∷ Int touched ∷ [])
+sets_span : (id start stop touched : ℤ) → Does marks (set_mark id (with_span start stop touched)) SET_SPAN.now (Int id ∷ Int start ∷ Int stop ∷ Int touched ∷ [])
 sets_span id start stop touched schema tree d old new count xs has sound ids lists h =
     set_did marks schema tree _ old new
-    (sets_by_rowid (described marks).name (described marks).columns (described marks).own SET_SPAN.now (written marks) (λ (m : Mark). m.id) (Int id ∷ Int start ∷ Int stop ∷ Int touched ∷ []) id (moved start stop touched) (span_sets id start stop touched) schema tree d old new count xs has sound (ids refl) lists h)
+    (sets_by_rowid (description_of marks).name (description_of marks).columns (description_of marks).own SET_SPAN.now (columns_of marks) (λ (m : Mark). m.id) (Int id ∷ Int start ∷ Int stop ∷ Int touched ∷ []) id (with_span start stop touched) (span_sets id start stop touched) schema tree d old new count xs has sound (ids refl) lists h)
 
-sets_resolved : (id resolved : ℤ) → Does marks (set_mark id (settled resolved)) SET_RESOLVED.now (Int id ∷ Int resolved ∷ [])
+sets_resolved : (id resolved : ℤ) → Does marks (set_mark id (with_resolution resolved)) SET_RESOLVED.now (Int id ∷ Int resolved ∷ [])
 sets_resolved id resolved schema tree d old new count xs has sound ids lists h =
     set_did marks schema tree _ old new
-    (sets_by_rowid (described marks).name (described marks).columns (described marks).own SET_RESOLVED.now (written marks) (λ (m : Mark). m.id) (Int id ∷ Int resolved ∷ []) id (settled resolved) (resolved_sets id resolved) schema tree d old new count xs has sound (ids refl) lists h)
+    (sets_by_rowid (description_of marks).name (description_of marks).columns (description_of marks).own SET_RESOLVED.now (columns_of marks) (λ (m : Mark). m.id) (Int id ∷ Int resolved ∷ []) id (with_resolution resolved) (resolved_sets id resolved) schema tree d old new count xs has sound (ids refl) lists h)
 
 sets_version : (version : ℤ) → Does books (set_book (at_version version)) SET_VERSION.now (Int (pos 1) ∷ Int version ∷ [])
 sets_version version schema tree d old new count xs has sound ids lists h =
     set_did books schema tree _ old new
-    (sets_by_rowid (described books).name (described books).columns (described books).own SET_VERSION.now (written books) (λ (b : BookRow). b.id) (Int (pos 1) ∷ Int version ∷ []) (pos 1) (at_version version) (version_sets (pos 1) version) schema tree d old new count xs has sound (ids refl) lists h)
+    (sets_by_rowid (description_of books).name (description_of books).columns (description_of books).own SET_VERSION.now (columns_of books) (λ (b : BookRow). b.id) (Int (pos 1) ∷ Int version ∷ []) (pos 1) (at_version version) (version_sets (pos 1) version) schema tree d old new count xs has sound (ids refl) lists h)
 
 -- what is put does to its table what it says, by its statement
 pub does : (it : RowPut) → Does (table_put it) (change_of it) (statement it).text (statement it).params

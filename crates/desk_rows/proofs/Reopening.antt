@@ -12,8 +12,8 @@ use Rattle.sqlite.specs.declared.error.ErrorCode.TheVariants.{NotADatabase}
 use Rattle.sqlite.specs.State.{store_error}
 use Rattle.sqlite.specs.Steps.{FailsToOpen}
 use Rattle.desk_rows.specs.Fault.{FailsToReopen, IsToldAs}
-use Rattle.desk_rows.specs.declared.fault.Fault.{Fault}
-use Rattle.desk_rows.specs.declared.fault.Fault.TheVariants.{NoMemory, Lost, Refused}
+use Rattle.desk_rows.specs.declared.fault.DatabaseFault.{DatabaseFault}
+use Rattle.desk_rows.specs.declared.fault.DatabaseFault.TheVariants.{NoMemory, Lost, Refused}
 
 no_database : (cause : StoreError) → ¬ (◌≡◌ {A = Error} (SqliteFailure NotADatabase) (store_error cause))
 no_database OutOfMemory is = absurd (cc)
@@ -35,7 +35,7 @@ module _ (a mid b : ℕ) (up : a ≤ mid) (db : Trees) (e : Error) where
   counted : MoreFaults mid b → MoreFaults a b
   counted more = omega (arith, up, more)
 
-  pub fails_again : (f : Fault) → (schema : Schema) × IsSound schema db → FailsToOpen db (MoreFaults mid b) e → IsToldAs e f → FailsToReopen a b f
+  pub fails_again : (f : DatabaseFault) → (schema : Schema) × IsSound schema db → FailsToOpen db (MoreFaults mid b) e → IsToldAs e f → FailsToReopen a b f
   fails_again NoMemory is fails told = tt
   fails_again Lost is (inl none) told = absurd (no_database told.0 (sym none.0 ∙ told.2))
   fails_again Lost is (inr (OutOfMemory, same, excuse)) told = absurd (told.1 (only_memory told.0 (sym same ∙ told.2)))

@@ -5,8 +5,8 @@ use Rattle.std.specs.Ordering.{int_eq}
 use Rattle.desk_parts.specs.Puts.{RowPut, PutBook, PutTab, PutPara, PutMark, PutCache, PutEntry, SetPlace, SetFlags, SetTable, SetPrint, SetSpan, SetResolved, SetVersion}
 use Rattle.sql_tables.specs.Rows.{set_where}
 use Rattle.desk_rows.specs.Contents.{Contents, with_row, with_rows}
-use Rattle.desk_rows.specs.Described.{Which, books, tabs, paras, corrs, marks, caches, named_corrs}
-use Rattle.desk_rows.specs.Puts.{at_version, flagged, moved, placed, printed, put_into, puts_into, retabled, settled}
+use Rattle.desk_rows.specs.Descriptions.{Which, books, tabs, paras, corrs, marks, caches, named_corrs}
+use Rattle.desk_rows.specs.Puts.{at_version, put_into, puts_into, with_flags, with_place, with_print, with_resolution, with_span, with_table}
 use Rattle.desk_rows.specs.Rows.{RowOf, put_to, set_at}
 use Rattle.desk_rows.specs.Whole.{AreUtf8, IsUtf8Put, IsUtf8Row}
 use Rattle.desk_rows.proofs.Changing.{same, set_other, set_own}
@@ -60,12 +60,12 @@ one_put (PutPara row) c is all = row_put paras row c is all
 one_put (PutMark row) c is all = row_put marks row c is all
 one_put (PutCache row) c is all = row_put caches row c is all
 one_put (PutEntry row) c is all = row_put named_corrs row c is all
-one_put (SetPlace id place) c is all = columns_set paras (λ p. int_eq p.id id) (placed place) c (λ p was. was) all
-one_put (SetFlags id style volume struck) c is all = columns_set paras (λ p. int_eq p.id id) (flagged style volume struck) c (λ p was. was) all
-one_put (SetTable id tab) c is all = columns_set paras (λ p. int_eq p.id id) (retabled tab) c (λ p was. (is, was.1, was.2)) all
-one_put (SetPrint id print) c is all = columns_set paras (λ p. int_eq p.id id) (printed print) c (λ p was. (was.0, was.1, is)) all
-one_put (SetSpan id start stop touched) c is all = columns_set marks (λ m. int_eq m.id id) (moved start stop touched) c (λ m was. was) all
-one_put (SetResolved id resolved) c is all = columns_set marks (λ m. int_eq m.id id) (settled resolved) c (λ m was. was) all
+one_put (SetPlace id place) c is all = columns_set paras (λ p. int_eq p.id id) (with_place place) c (λ p was. was) all
+one_put (SetFlags id style volume struck) c is all = columns_set paras (λ p. int_eq p.id id) (with_flags style volume struck) c (λ p was. was) all
+one_put (SetTable id tab) c is all = columns_set paras (λ p. int_eq p.id id) (with_table tab) c (λ p was. (is, was.1, was.2)) all
+one_put (SetPrint id print) c is all = columns_set paras (λ p. int_eq p.id id) (with_print print) c (λ p was. (was.0, was.1, is)) all
+one_put (SetSpan id start stop touched) c is all = columns_set marks (λ m. int_eq m.id id) (with_span start stop touched) c (λ m was. was) all
+one_put (SetResolved id resolved) c is all = columns_set marks (λ m. int_eq m.id id) (with_resolution resolved) c (λ m was. was) all
 one_put (SetVersion version) c is all = columns_set books (λ b. int_eq b.id (pos 1)) (at_version version) c (λ b was. was) all
 
 pub texts_stay : (puts : List RowPut) (c : Contents) → AllByRecursion IsUtf8Put puts → AreUtf8 c → AreUtf8 (puts_into puts c)

@@ -9,13 +9,13 @@ use Rattle.sqlite_value.specs.Order.{Row}
 use Rattle.sqlite_trees.specs.Tree.{Trees}
 use Rattle.sqlite_catalog.specs.Listing.{IsSound}
 use Rattle.desk_parts.specs.Rows.{StoredTab}
-use Rattle.sql_tables.specs.Rows.{HaveRowids, Lists, picked}
+use Rattle.sql_tables.specs.Rows.{HaveRowids, Lists, columns_at}
 use Rattle.sql_tables.proofs.Apart.{apart, as_many, have_rowids}
 use Rattle.sql_tables.proofs.SameLists.{other_order}
 use Rattle.desk_rows.specs.Contents.{Contents, Holds}
-use Rattle.desk_rows.specs.Described.{Which, books, tabs, paras, corrs, marks, caches, named_corrs, described}
+use Rattle.desk_rows.specs.Descriptions.{Which, books, tabs, paras, corrs, marks, caches, named_corrs, description_of}
 use Rattle.desk_rows.specs.Layout.{Layout, AreDeclared, IsOther}
-use Rattle.desk_rows.specs.Rows.{ShownOf, own, shown, written}
+use Rattle.desk_rows.specs.Rows.{ShownOf, columns_of, own, shown_columns}
 use Rattle.desk_rows.specs.States.{IsFile}
 use Rattle.desk_rows.specs.Whole.{HaveSameRows, Rows, AreRows, AreApart, DifferIn, HaveOwnRowids, contents_of}
 use Rattle.desk_rows.proofs.Answering.{maps_own, maps_shown, own_of}
@@ -33,14 +33,14 @@ chained l a b c (t ∷ tables) p q = ((λ other. p.0 other ∙ q.0 other), chain
 
 same_rows : (l : Layout) (c d : Contents) (db : Trees) → Holds l c db → Holds l d db → HaveSameRows l c d
 same_rows l c d db p q = record {
-  tables = λ w is. one_list w (picked (described w).own) _ _ _ (p.tables w is) (q.tables w is);
+  tables = λ w is. one_list w (columns_at (description_of w).own) _ _ _ (p.tables w is) (q.tables w is);
   others = joined l db c.others d.others l.schema.tables p.others q.others;
   aside = λ tree other none. sym (p.aside tree other none) ∙ q.aside tree other none;
 }
 
 holds_too : (l : Layout) (c d : Contents) (db : Trees) → Holds l c db → HaveSameRows l c d → Holds l d db
 holds_too l c d db p same = record {
-  tables = λ w is. other_order (written w) (picked (described w).own) _ _ _ (same.tables w is) (p.tables w is);
+  tables = λ w is. other_order (columns_of w) (columns_at (description_of w).own) _ _ _ (same.tables w is) (p.tables w is);
   ids = p.ids;
   others = chained l db c.others d.others l.schema.tables p.others same.others;
   aside = λ tree other none. p.aside tree other none ∙ same.aside tree other none;
@@ -55,16 +55,16 @@ one_contents l c d db is = (
 -- ---- what was read
 
 -- the rows that the query shows, without the rowid if it isn't the row's own
-pub own_listed : (w : Which) (xs : List (ShownOf w)) (rows : List Row) → Lists (shown w) (picked (described w).shown) xs rows → Lists (written w) (picked (described w).own) (map (own w) xs) rows
+pub own_listed : (w : Which) (xs : List (ShownOf w)) (rows : List Row) → Lists (shown_columns w) (columns_at (description_of w).shown) xs rows → Lists (columns_of w) (columns_at (description_of w).own) (map (own w) xs) rows
 own_listed w xs rows lists = subst₂ IsPermutation (maps_shown w (λ x. x) xs) (maps_own w rows) (IsPermutation-map (own_of w) _ _ lists)
 
-ids_of : (w : Which) (xs : List (ShownOf w)) (rows : List Row) → Lists (shown w) (picked (described w).shown) xs rows → DifferIn w xs → (described w).is_changed ≡ true → HaveRowids rows
-ids_of books xs rows lists apart changed = have_rowids (shown books) (picked (described books).shown) (λ b. b.id) (λ b. refl) (λ r. refl) xs rows lists apart
-ids_of tabs xs rows lists apart changed = have_rowids (shown tabs) (picked (described tabs).shown) (λ t. t.rowid) (λ t. refl) (λ r. refl) xs rows lists apart
-ids_of paras xs rows lists apart changed = have_rowids (shown paras) (picked (described paras).shown) (λ p. p.id) (λ p. refl) (λ r. refl) xs rows lists apart
+ids_of : (w : Which) (xs : List (ShownOf w)) (rows : List Row) → Lists (shown_columns w) (columns_at (description_of w).shown) xs rows → DifferIn w xs → (description_of w).is_changed ≡ true → HaveRowids rows
+ids_of books xs rows lists apart changed = have_rowids (shown_columns books) (columns_at (description_of books).shown) (λ b. b.id) (λ b. refl) (λ r. refl) xs rows lists apart
+ids_of tabs xs rows lists apart changed = have_rowids (shown_columns tabs) (columns_at (description_of tabs).shown) (λ t. t.rowid) (λ t. refl) (λ r. refl) xs rows lists apart
+ids_of paras xs rows lists apart changed = have_rowids (shown_columns paras) (columns_at (description_of paras).shown) (λ p. p.id) (λ p. refl) (λ r. refl) xs rows lists apart
 ids_of corrs xs rows lists apart changed = absurd (cc)
-ids_of marks xs rows lists apart changed = have_rowids (shown marks) (picked (described marks).shown) (λ m. m.id) (λ m. refl) (λ r. refl) xs rows lists apart
-ids_of caches xs rows lists apart changed = have_rowids (shown caches) (picked (described caches).shown) (λ k. k.para) (λ k. refl) (λ r. refl) xs rows lists apart
+ids_of marks xs rows lists apart changed = have_rowids (shown_columns marks) (columns_at (description_of marks).shown) (λ m. m.id) (λ m. refl) (λ r. refl) xs rows lists apart
+ids_of caches xs rows lists apart changed = have_rowids (shown_columns caches) (columns_at (description_of caches).shown) (λ k. k.para) (λ k. refl) (λ r. refl) xs rows lists apart
 ids_of named_corrs xs rows lists apart changed = absurd (cc)
 
 all_same : (l : Layout) (db : Trees) (tables : List Table) → AllByRecursion (λ t. IsOther l t.tree → db t.tree ≡ db t.tree) tables
@@ -84,7 +84,7 @@ is_file l rows db declared sound are apart = record {
 }
 
 -- the rowids of the braille tables of a file differ
-pub tabs_apart : (l : Layout) (c : Contents) (db : Trees) → IsFile l c db → l.has tabs ≡ true → (xs : List StoredTab) → Lists (shown tabs) (picked (described tabs).shown) xs (db (l.tree tabs)) → HaveOwnRowids xs
+pub tabs_apart : (l : Layout) (c : Contents) (db : Trees) → IsFile l c db → l.has tabs ≡ true → (xs : List StoredTab) → Lists (shown_columns tabs) (columns_at (description_of tabs).shown) xs (db (l.tree tabs)) → HaveOwnRowids xs
 tabs_apart l c db is there xs lists =
     apart int_eq Decides-int_eq (λ (t : StoredTab). t.rowid) xs (λ id.
-    subst (λ n. n ≤ 1) (as_many (shown tabs) (picked (described tabs).shown) (λ (t : StoredTab). t.rowid) (λ t. refl) (λ r. refl) id xs _ lists) ((is.holds.ids tabs there refl).once id))
+    subst (λ n. n ≤ 1) (as_many (shown_columns tabs) (columns_at (description_of tabs).shown) (λ (t : StoredTab). t.rowid) (λ t. refl) (λ r. refl) id xs _ lists) ((is.holds.ids tabs there refl).once id))

@@ -7,14 +7,14 @@ use Rattle.sqlite.specs.Held.{Held, state}
 use Rattle.sqlite.specs.State.{State, Survives}
 use Rattle.sql_tables.specs.States.{IsCommitted, IsSettled, IsUndone, ShowsAsBefore}
 use Rattle.desk_parts.specs.declared.put.Put.{Put}
-use Rattle.desk_rows.specs.Described.{Which}
+use Rattle.desk_rows.specs.Descriptions.{Which}
 use Rattle.desk_rows.specs.Failing.{FailsToPut, Putting, after_tables, of_first_row, of_items}
 use Rattle.desk_rows.specs.Fault.{CountsLoss, IsToldAs}
-use Rattle.desk_rows.specs.Making.{AreAbsent, IsFileWithTables, IsMade, IsNew, WritesWithTables, creation, made, making, new_tables}
+use Rattle.desk_rows.specs.Making.{AreAbsent, IsFileWithTables, IsMade, IsNew, WritesWithTables, creation, making, new_layout, new_tables}
 use Rattle.desk_rows.specs.Puts.{IsFileWith, OfItems, Writes, statement}
-use Rattle.desk_rows.specs.States.{Shows}
-use Rattle.desk_rows.specs.Turns.{AreRun, IsLeftBy, begun}
-use Rattle.desk_rows.specs.declared.fault.Fault.TheVariants.{Refused}
+use Rattle.desk_rows.specs.States.{ShowsContents}
+use Rattle.desk_rows.specs.Turns.{AreRun, IsLeftBy, with_transaction}
+use Rattle.desk_rows.specs.declared.fault.DatabaseFault.TheVariants.{Refused}
 
 -- ---- the work
 
@@ -52,7 +52,7 @@ making_file g = record {
   putting = after_tables g new_tables (of_first_row g);
   Shown = λ old new. AreAbsent (state g old).now.schema
       × IsNew (state g old).now.schema (state g old).now.trees
-      (λ c. Shows (made (state g old).now.schema) c new)
+      (λ c. ShowsContents (new_layout (state g old).now.schema) c new)
       × AreRun g making old new;
   Left = λ old db. IsMade (state g old) db × IsLeftBy g making old db;
 }
@@ -69,7 +69,7 @@ pub record IsDone {S : Type 0} (work : Work S) (old : Held S) (new : State) : Ty
 -- it showed before. After a refusal a crash leaves nothing new.
 pub record IsGivenUp {S : Type 0} (g : Ghosts S) (work : Work S) (old : Held S) (new : State) (e : Error)
     : Type 0 where
-  pub fails : FailsToPut g work.putting (begun old) new e
+  pub fails : FailsToPut g work.putting (with_transaction old) new e
   pub lost : CountsLoss (state g old) new e
   pub undone : IsUndone (state g old) new
   pub as_before : ShowsAsBefore (state g old) new

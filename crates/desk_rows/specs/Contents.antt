@@ -3,10 +3,10 @@ use Rattle.std.specs.Prelude.{◌≡◌, ℕ, true, List}
 use Rattle.std.specs.List.{AllByRecursion}
 use Rattle.sqlite_trees.specs.Tree.{Trees}
 use Rattle.sqlite_rules.specs.Edit.{IsNoIndex}
-use Rattle.sql_tables.specs.Rows.{HaveRowids, Lists, picked}
-use Rattle.desk_rows.specs.Described.{Which, described}
+use Rattle.sql_tables.specs.Rows.{HaveRowids, Lists, columns_at}
+use Rattle.desk_rows.specs.Descriptions.{Which, description_of}
 use Rattle.desk_rows.specs.Layout.{Layout, IsOther}
-use Rattle.desk_rows.specs.Rows.{RowOf, put_to, set_at, written}
+use Rattle.desk_rows.specs.Rows.{RowOf, columns_of, put_to, set_at}
 
 -- the rows of the tables, each list in any order, and those of the other trees
 pub record Contents : Type 0 where
@@ -16,9 +16,9 @@ pub record Contents : Type 0 where
 -- the tables hold just this
 pub record Holds (l : Layout) (c : Contents) (db : Trees) : Type 0 where
   pub tables : (w : Which) → l.has w ≡ true
-      → Lists (written w) (picked (described w).own) (c.rows w) (db (l.tree w))
+      → Lists (columns_of w) (columns_at (description_of w).own) (c.rows w) (db (l.tree w))
   -- the rows that may be changed are distinguished, those of `tab` by their hidden rowids too
-  pub ids : (w : Which) → l.has w ≡ true → (described w).is_changed ≡ true → HaveRowids (db (l.tree w))
+  pub ids : (w : Which) → l.has w ≡ true → (description_of w).is_changed ≡ true → HaveRowids (db (l.tree w))
   pub others : AllByRecursion (λ t. IsOther l t.tree → db t.tree ≡ c.others t.tree) l.schema.tables
   -- and each tree that is no index, among them those that the database keeps as they are, the list of its schema and its user version
   pub aside : (tree : ℕ) → IsOther l tree → IsNoIndex l.schema tree → db tree ≡ c.others tree

@@ -5,10 +5,10 @@ use Rattle.sqlite_trees.specs.declared.store.Store.{Ghosts}
 use Rattle.sqlite.specs.declared.error.Error.{Error}
 use Rattle.sqlite.specs.Held.{Held, state}
 use Rattle.sqlite.specs.State.{State, Fails, Survives}
-use Rattle.desk_rows.specs.Described.{Which, books}
+use Rattle.desk_rows.specs.Descriptions.{Which, books}
 use Rattle.desk_rows.specs.Making.{AreMade, MakesTables, creation, first_row}
 use Rattle.desk_rows.specs.Puts.{ArePut, OfItems, OfItemsBefore, PutsRow, StopsAt, row_put}
-use Rattle.desk_rows.specs.Turns.{Failed, Ran, Stops}
+use Rattle.desk_rows.specs.Turns.{FailsWith, Ran, Stops}
 use Rattle.desk_parts.specs.declared.put.Put.{Put}
 
 -- Of these tables those so far were made, and this is what the database answered to the statement that makes the next.
@@ -18,7 +18,7 @@ pub record StopsMaking {S : Type 0} (g : Ghosts S) (ws : List Which) (old : Held
   pub next : Which
   pub later : List Which
   pub all : ws ≡ done ++ next ∷ later
-  pub stops : Stops g (map creation done) (Failed (creation next)) old new e
+  pub stops : Stops g (map creation done) (FailsWith (creation next)) old new e
   pub made : MakesTables done (state g old) (state g stops.before)
 
 -- How rows are put within a transaction: what stops it, and what it does if nothing does.
@@ -36,7 +36,7 @@ of_items g gives it = record {
 -- the row of a new book
 abbrev pub of_first_row : {S : Type 0} → Ghosts S → Putting S
 of_first_row g = record {
-  stops = λ old new e. Failed (row_put books first_row) (state g old) new e;
+  stops = λ old new e. FailsWith (row_put books first_row) (state g old) new e;
   puts = λ old new. PutsRow books first_row (state g old) (state g new)
       × Ran (row_put books first_row) (state g old) (state g new);
 }

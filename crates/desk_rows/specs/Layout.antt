@@ -2,7 +2,7 @@
 use Rattle.std.specs.Prelude.{◌≡◌, ◌≢◌, ℕ, Bool, true}
 use Rattle.sqlite_schema.specs.declared.schema.Schema.{Schema}
 use Rattle.sql_tables.specs.Tables.{IsDeclared}
-use Rattle.desk_rows.specs.Described.{Which, table_of}
+use Rattle.desk_rows.specs.Descriptions.{Which, table_of}
 
 -- A schema, some tables that a file has, and a tree for each. What else there is, under whatever name, is beside them: a table of ours too,
 -- unless the layout is exact.

@@ -1,4 +1,4 @@
-pub mod Described
+pub mod Descriptions
 pub mod Tables
 pub mod Rows
 pub mod Layout
@@ -8,7 +8,7 @@ pub mod Turns
 pub mod Ending
 pub mod Puts
 pub mod Fault
-pub mod Asked
+pub mod TableQuery
 pub mod Making
 pub mod Failing
 pub mod Commits

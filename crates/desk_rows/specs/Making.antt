@@ -13,10 +13,10 @@ use Rattle.desk_parts.specs.declared.rows.BookRow.{BookRow}
 use Rattle.desk_parts.specs.Puts.{RowPut}
 use Rattle.sql_tables.specs.Making.{AreFree, FreesNone, IsMaking, KeepsAside, first_created}
 use Rattle.desk_rows.specs.Contents.{Contents, with_row}
-use Rattle.desk_rows.specs.Described.{Which, books, tabs, paras, marks, caches, named_corrs, described, table_of}
+use Rattle.desk_rows.specs.Descriptions.{Which, books, tabs, paras, marks, caches, named_corrs, description_of, table_of}
 use Rattle.desk_rows.specs.Layout.{Layout}
 use Rattle.desk_rows.specs.Puts.{HasThem, puts_into, row_put}
-use Rattle.desk_rows.specs.States.{IsFile, Shows}
+use Rattle.desk_rows.specs.States.{IsFile, ShowsContents}
 use Rattle.desk_rows.specs.Turns.{RunInTurn, Statement}
 
 -- the tables of a new file, in the order in which they are made
@@ -25,7 +25,7 @@ new_tables = books ∷ tabs ∷ paras ∷ marks ∷ caches ∷ named_corrs ∷ [
 
 -- No table, index or view has the name of one of these in either case of its letters, nor has what the database keeps as it is.
 abbrev pub AreFreeIn : Schema → List Which → Type 0
-AreFreeIn s = AllByRecursion (λ w. is_used s (described w).name ≡ false)
+AreFreeIn s = AllByRecursion (λ w. is_used s (description_of w).name ≡ false)
 
 abbrev pub AreAbsent : Schema → Type 0
 AreAbsent s = AreFreeIn s new_tables
@@ -40,16 +40,16 @@ after (w ∷ ws) s = after ws (first_created s (table_of w 0))
 abbrev pub tree_in : List Which → Schema → Which → ℕ
 tree_in [] s w = 0
 tree_in (v ∷ vs) s w =
-    if bytes_eq (described v).name (described w).name
+    if bytes_eq (description_of v).name (description_of w).name
     then next_tree s
     else tree_in vs (first_created s (table_of v 0)) w
 
 -- whether a table is one of these
 abbrev pub is_among : List Which → Which → Bool
-is_among ws w = list_any (λ v. bytes_eq (described v).name (described w).name) ws
+is_among ws w = list_any (λ v. bytes_eq (description_of v).name (description_of w).name) ws
 
-abbrev pub made : Schema → Layout
-made s = record { schema = after new_tables s; has = is_among new_tables; tree = tree_in new_tables s }
+abbrev pub new_layout : Schema → Layout
+new_layout s = record { schema = after new_tables s; has = is_among new_tables; tree = tree_in new_tables s }
 
 -- no rows in the tables, beside those of the other trees
 abbrev pub no_contents : Trees → Contents
@@ -77,18 +77,18 @@ IsNew s rows P =
 -- each differs from those after it
 abbrev pub Differ : List Which → Type 0
 Differ [] = ⊤
-Differ (w ∷ ws) = AllByRecursion (λ v. bytes_eq (described w).name (described v).name ≡ false) ws × Differ ws
+Differ (w ∷ ws) = AllByRecursion (λ v. bytes_eq (description_of w).name (description_of v).name ≡ false) ws × Differ ws
 
 -- Statements within a transaction made these tables, whose names were free.
 pub record MakesTables (ws : List Which) (old new : State) : Type 0 where
-  pub taken : AreFree (map (λ w. (described w).name) ws) old × FreesNone old new
+  pub taken : AreFree (map (λ w. (description_of w).name) ws) old × FreesNone old new
   pub made : (committed : Database) (first : Schema) (rows : Trees) (before : Schema)
       → Differ ws → IsMaking committed first rows before old → AreFreeIn before ws
       → IsMaking committed first rows (after ws before) new
 
 -- the statement that makes a table
 abbrev pub creation : Which → Statement
-creation w = record { text = (described w).create; params = [] }
+creation w = record { text = (description_of w).create; params = [] }
 
 -- All of these were made so by their statements.
 abbrev pub AreMade : {S : Type 0} → Ghosts S → List Which → Held S → Held S → Type 0
@@ -100,7 +100,7 @@ making = map creation new_tables ++ row_put books first_row ∷ []
 
 -- What making adds to what a crash may leave: only if the names were free, and then the file with the tables.
 abbrev pub IsMade : State → Trees → Type 0
-IsMade s db = AreAbsent s.now.schema × IsNew s.now.schema s.now.trees (λ c. IsFile (made s.now.schema) c db)
+IsMade s db = AreAbsent s.now.schema × IsNew s.now.schema s.now.trees (λ c. IsFile (new_layout s.now.schema) c db)
 
 -- ---- tables that are made in a file
 
@@ -128,11 +128,11 @@ IsGrown ws puts l c rows P =
 -- The tables were made in whatever file the connection showed, and the rows put, which have their tables then.
 abbrev pub WritesWithTables : List Which → List RowPut → State → State → Type 0
 WritesWithTables ws puts old new =
-    (l : Layout) (c : Contents) → Differ ws → HasThem (with_tables ws l) puts → Shows l c old
-    → IsGrown ws puts l c old.now.trees (λ after d. Shows after d new)
+    (l : Layout) (c : Contents) → Differ ws → HasThem (with_tables ws l) puts → ShowsContents l c old
+    → IsGrown ws puts l c old.now.trees (λ after d. ShowsContents after d new)
 
 -- The trees are such a file.
 abbrev pub IsFileWithTables : List Which → List RowPut → State → Trees → Type 0
 IsFileWithTables ws puts s db =
-    (l : Layout) (c : Contents) → Differ ws → HasThem (with_tables ws l) puts → Shows l c s
+    (l : Layout) (c : Contents) → Differ ws → HasThem (with_tables ws l) puts → ShowsContents l c s
     → IsGrown ws puts l c s.now.trees (λ after d. IsFile after d db)

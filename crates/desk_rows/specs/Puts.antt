@@ -18,11 +18,11 @@ use Rattle.desk_parts.specs.Puts.{RowPut, PutBook, PutTab, PutPara, PutMark, Put
 use Rattle.desk_parts.specs.Rows.{Mark, Para}
 use Rattle.sql_tables.specs.Rows.{set_where}
 use Rattle.desk_rows.specs.Contents.{Contents, with_row, with_rows}
-use Rattle.desk_rows.specs.Described.{Which, books, tabs, paras, marks, caches, named_corrs, described}
+use Rattle.desk_rows.specs.Descriptions.{Which, books, tabs, paras, marks, caches, named_corrs, description_of}
 use Rattle.desk_rows.specs.Layout.{Layout}
-use Rattle.desk_rows.specs.Rows.{RowOf, put_to, written}
-use Rattle.desk_rows.specs.States.{IsFile, IsUnder, Shows}
-use Rattle.desk_rows.specs.Turns.{Failed, Ran, RunInTurn, Statement, Stops}
+use Rattle.desk_rows.specs.Rows.{RowOf, columns_of, put_to}
+use Rattle.desk_rows.specs.States.{IsFile, IsUnder, ShowsContents}
+use Rattle.desk_rows.specs.Turns.{FailsWith, Ran, RunInTurn, Statement, Stops}
 use Rattle.desk_rows.specs.declared.texts.TheConstants.{SET_FLAGS, SET_PLACE, SET_PRINT, SET_RESOLVED, SET_SPAN, SET_TABLE, SET_VERSION}
 
 -- with this done to the paragraph with this id, to the mark with this id, to the row of `book` with id 1
@@ -35,23 +35,23 @@ set_mark id = set_where (λ (m : Mark). int_eq m.id id)
 abbrev pub set_book : (BookRow → BookRow) → List BookRow → List BookRow
 set_book = set_where (λ (b : BookRow). int_eq b.id (pos 1))
 
-abbrev pub placed : ℤ → Para → Para
-placed place p = record p { place = place }
+abbrev pub with_place : ℤ → Para → Para
+with_place place p = record p { place = place }
 
-abbrev pub flagged : (style volume struck : ℤ) → Para → Para
-flagged style volume struck p = record p { style = style; volume = volume; struck = struck }
+abbrev pub with_flags : (style volume struck : ℤ) → Para → Para
+with_flags style volume struck p = record p { style = style; volume = volume; struck = struck }
 
-abbrev pub retabled : List ℕ → Para → Para
-retabled tab p = record p { tab = tab }
+abbrev pub with_table : List ℕ → Para → Para
+with_table tab p = record p { tab = tab }
 
-abbrev pub printed : List ℕ → Para → Para
-printed print p = record p { print = print }
+abbrev pub with_print : List ℕ → Para → Para
+with_print print p = record p { print = print }
 
-abbrev pub moved : (start stop touched : ℤ) → Mark → Mark
-moved start stop touched m = record m { start = start; stop = stop; touched = touched }
+abbrev pub with_span : (start stop touched : ℤ) → Mark → Mark
+with_span start stop touched m = record m { start = start; stop = stop; touched = touched }
 
-abbrev pub settled : ℤ → Mark → Mark
-settled resolved m = record m { resolved = resolved }
+abbrev pub with_resolution : ℤ → Mark → Mark
+with_resolution resolved m = record m { resolved = resolved }
 
 abbrev pub at_version : ℤ → BookRow → BookRow
 at_version version b = record b { version = version }
@@ -80,12 +80,12 @@ change_of (PutPara row) = put_to paras row
 change_of (PutMark row) = put_to marks row
 change_of (PutCache row) = put_to caches row
 change_of (PutEntry row) = put_to named_corrs row
-change_of (SetPlace id place) = set_para id (placed place)
-change_of (SetFlags id style volume struck) = set_para id (flagged style volume struck)
-change_of (SetTable id tab) = set_para id (retabled tab)
-change_of (SetPrint id print) = set_para id (printed print)
-change_of (SetSpan id start stop touched) = set_mark id (moved start stop touched)
-change_of (SetResolved id resolved) = set_mark id (settled resolved)
+change_of (SetPlace id place) = set_para id (with_place place)
+change_of (SetFlags id style volume struck) = set_para id (with_flags style volume struck)
+change_of (SetTable id tab) = set_para id (with_table tab)
+change_of (SetPrint id print) = set_para id (with_print print)
+change_of (SetSpan id start stop touched) = set_mark id (with_span start stop touched)
+change_of (SetResolved id resolved) = set_mark id (with_resolution resolved)
 change_of (SetVersion version) = set_book (at_version version)
 
 -- the contents with this put, and with these in turn
@@ -102,18 +102,18 @@ HasThem l = AllByRecursion (λ it. l.has (table_put it) ≡ true)
 -- The trees are a file with these put, of whatever file the connection showed that has their tables.
 abbrev pub IsFileWith : List RowPut → State → Trees → Type 0
 IsFileWith puts s db =
-    (l : Layout) (c : Contents) → HasThem l puts → Shows l c s → IsFile l (puts_into puts c) db
+    (l : Layout) (c : Contents) → HasThem l puts → ShowsContents l c s → IsFile l (puts_into puts c) db
 
 -- All of these were put into whatever file the connection showed that has their tables.
 abbrev pub Writes : List RowPut → State → State → Type 0
 Writes puts old new =
-    (l : Layout) (c : Contents) → HasThem l puts → Shows l c old → Shows l (puts_into puts c) new
+    (l : Layout) (c : Contents) → HasThem l puts → ShowsContents l c old → ShowsContents l (puts_into puts c) new
 
 -- ---- the statement of a put
 
 -- a row of a table
 abbrev pub row_put : (w : Which) → RowOf w → Statement
-row_put w x = record { text = (described w).put; params = written w x }
+row_put w x = record { text = (description_of w).put; params = columns_of w x }
 
 abbrev pub statement : RowPut → Statement
 statement (PutBook row) = row_put books row
@@ -175,7 +175,7 @@ pub record Rests (old new : State) : Type 0 where
 -- Why something isn't put: the database answered the error to its statement, or an allocation for it failed, and nothing was done.
 abbrev pub NotPut : RowPut → State → State → Error → Type 0
 NotPut it old new e =
-    Failed (statement it) old new e ⊎ (TakesMemory it × (e ≡ store_error OutOfMemory) × Rests old new)
+    FailsWith (statement it) old new e ⊎ (TakesMemory it × (e ≡ store_error OutOfMemory) × Rests old new)
 
 -- Something is put into the contents, over the same commit, if its table is there, and the transaction goes on; or it isn't put.
 pub record IsPut {V : Type 0} (result : Result V Error) (it : RowPut) (old new : State) : Type 0 where

@@ -6,9 +6,9 @@ use Rattle.std.specs.declared.cmp.Ordering.{Ordering}
 use Rattle.sqlite_value.specs.declared.value.Value.TheVariants.{Int, Text, Blob}
 use Rattle.sqlite_value.specs.Order.{Row}
 use Rattle.desk_parts.specs.declared.rows.BookRow.{BookRow}
-use Rattle.desk_parts.specs.Rows.{Tab, StoredTab, Para, Corr, NamedCorr, Mark, Cached}
+use Rattle.desk_parts.specs.Rows.{Tab, StoredTab, Para, Corr, NamedCorr, Mark, ParaCells}
 use Rattle.sql_tables.specs.Rows.{put_in}
-use Rattle.desk_rows.specs.Described.{Which, books, tabs, paras, corrs, marks, caches, named_corrs}
+use Rattle.desk_rows.specs.Descriptions.{Which, books, tabs, paras, corrs, marks, caches, named_corrs}
 
 -- a row of a table
 abbrev pub RowOf : Which → Type 0
@@ -17,7 +17,7 @@ RowOf tabs = Tab
 RowOf paras = Para
 RowOf corrs = Corr
 RowOf marks = Mark
-RowOf caches = Cached
+RowOf caches = ParaCells
 RowOf named_corrs = NamedCorr
 
 -- a row as the query shows it: that of `tab` has its hidden rowid
@@ -27,34 +27,34 @@ ShownOf tabs = StoredTab
 ShownOf paras = Para
 ShownOf corrs = Corr
 ShownOf marks = Mark
-ShownOf caches = Cached
+ShownOf caches = ParaCells
 ShownOf named_corrs = NamedCorr
 
 -- the columns of a row
-abbrev pub written : (w : Which) → RowOf w → Row
-written books b = Int b.id ∷ Int b.format ∷ Int b.version ∷ []
-written tabs t = Text t.name ∷ Blob t.body ∷ []
-written paras p =
+abbrev pub columns_of : (w : Which) → RowOf w → Row
+columns_of books b = Int b.id ∷ Int b.format ∷ Int b.version ∷ []
+columns_of tabs t = Text t.name ∷ Blob t.body ∷ []
+columns_of paras p =
     Int p.id ∷ Int p.place ∷ Text p.tab ∷ Text p.original ∷ Text p.print
     ∷ Int p.style ∷ Int p.volume ∷ Int p.struck ∷ []
-written corrs e = Int e.para ∷ Int e.seq ∷ Int e.kind ∷ Int e.start ∷ Int e.len ∷ Text e.body ∷ []
-written marks m =
+columns_of corrs e = Int e.para ∷ Int e.seq ∷ Int e.kind ∷ Int e.start ∷ Int e.len ∷ Text e.body ∷ []
+columns_of marks m =
     Int m.id ∷ Int m.para ∷ Int m.start ∷ Int m.stop ∷ Text m.note
     ∷ Int m.touched ∷ Int m.resolved ∷ []
-written caches k = Int k.para ∷ Blob k.cells ∷ []
-written named_corrs e =
+columns_of caches k = Int k.para ∷ Blob k.cells ∷ []
+columns_of named_corrs e =
     Int e.entry.para ∷ Int e.entry.seq ∷ Int e.entry.kind ∷ Int e.entry.start ∷ Int e.entry.len
     ∷ Text e.entry.body ∷ Text e.who ∷ []
 
 -- the columns of a row that the query shows
-abbrev pub shown : (w : Which) → ShownOf w → Row
-shown books b = written books b
-shown tabs s = Int s.rowid ∷ written tabs s.row
-shown paras p = written paras p
-shown corrs e = written corrs e
-shown marks m = written marks m
-shown caches k = written caches k
-shown named_corrs e = written named_corrs e
+abbrev pub shown_columns : (w : Which) → ShownOf w → Row
+shown_columns books b = columns_of books b
+shown_columns tabs s = Int s.rowid ∷ columns_of tabs s.row
+shown_columns paras p = columns_of paras p
+shown_columns corrs e = columns_of corrs e
+shown_columns marks m = columns_of marks m
+shown_columns caches k = columns_of caches k
+shown_columns named_corrs e = columns_of named_corrs e
 
 -- the row of the table that it shows
 abbrev pub own : (w : Which) → ShownOf w → RowOf w

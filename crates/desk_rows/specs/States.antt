@@ -14,12 +14,12 @@ pub record IsFile (l : Layout) (c : Contents) (db : Trees) : Type 0 where
   pub holds : Holds l c db
 
 -- the connection shows such a database
-pub record Shows (l : Layout) (c : Contents) (s : State) : Type 0 where
+pub record ShowsContents (l : Layout) (c : Contents) (s : State) : Type 0 where
   pub schema : s.now.schema ≡ l.schema
   pub is : IsFile l c s.now.trees
 
 -- it shows it within a transaction, over this last commit
 pub record IsUnder (committed : Database) (l : Layout) (c : Contents) (s : State) : Type 0 where
-  pub shows : Shows l c s
+  pub shows : ShowsContents l c s
   pub inside : s.in_transaction ≡ true
   pub over : s.committed ≡ committed

@@ -4,7 +4,7 @@ use Rattle.std.specs.List.{AllByRecursion, list_any}
 use Rattle.sqlite_schema.specs.Names.{same_name, table_named}
 use Rattle.sqlite_schema.specs.declared.schema.Schema.{Schema}
 use Rattle.sqlite_schema.specs.declared.schema.View.{View as Stored}
-use Rattle.desk_rows.specs.Described.{Which, books, tabs, paras, corrs, marks, caches, named_corrs, described}
+use Rattle.desk_rows.specs.Descriptions.{Which, books, tabs, paras, corrs, marks, caches, named_corrs, description_of}
 use Rattle.desk_parts.specs.declared.file_table.FileTable.{FileTable}
 use Rattle.desk_parts.specs.declared.file_table.FileTable.TheVariants.{Book, Tab, Para, Corr, Mark, Cache, NamedCorr}
 
@@ -25,9 +25,9 @@ is_table_or_view v = unwrap_or (option_map (λ owner. not v.binds && same_name o
 -- a table or a view has its name, in whichever case of the letters
 abbrev pub is_there : Schema → Which → Bool
 is_there s w =
-    let name = (described w).name in
+    let name = (description_of w).name in
     is_some (table_named s name) || list_any (λ v. same_name v.name name && is_table_or_view v) s.views
 
 -- none of these is `corr`
 abbrev pub AreWritten : List FileTable → Type 0
-AreWritten = AllByRecursion (λ t. (described (which t)).is_written ≡ true)
+AreWritten = AllByRecursion (λ t. (description_of (which t)).is_written ≡ true)

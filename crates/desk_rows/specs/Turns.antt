@@ -15,8 +15,8 @@ pub record Statement : Type 0 where
 abbrev pub Ran : Statement → State → State → Type 0
 Ran it old new = (count : ℕ) × ExecutesInside 0 it.text it.params old new (Ok count)
 
-abbrev pub Failed : Statement → State → State → Error → Type 0
-Failed it old new e = ExecutesInside 0 it.text it.params old new (Err e)
+abbrev pub FailsWith : Statement → State → State → Error → Type 0
+FailsWith it old new e = ExecutesInside 0 it.text it.params old new (Err e)
 
 -- These ran in turn. Each left the limit on steps as it was, and a crash leaves nothing new.
 abbrev pub RunInTurn : {S : Type 0} → Ghosts S → List Statement → Held S → Held S → Type 0
@@ -33,13 +33,13 @@ pub record Stops {S : Type 0} (g : Ghosts S) (done : List Statement) (Fails : St
   pub left : Survives (state g before) new (λ _. ⊥)
 
 -- a connection on which a transaction begins
-abbrev pub begun : {S : Type 0} → Held S → Held S
-begun old = record old { in_transaction = true }
+abbrev pub with_transaction : {S : Type 0} → Held S → Held S
+with_transaction old = record old { in_transaction = true }
 
 -- These ran in turn in a transaction of their own, and this is what a connection shows by them, or what a crash leaves.
 abbrev pub AreRun : {S : Type 0} → Ghosts S → List Statement → Held S → State → Type 0
-AreRun {S} g its old new = (last : Held S) × RunInTurn g its (begun old) last × (new.now ≡ (state g last).now)
+AreRun {S} g its old new = (last : Held S) × RunInTurn g its (with_transaction old) last × (new.now ≡ (state g last).now)
 
 abbrev pub IsLeftBy : {S : Type 0} → Ghosts S → List Statement → Held S → Trees → Type 0
 IsLeftBy {S} g its old db =
-    (last : Held S) × RunInTurn g its (begun old) last × (db ≡ (state g last).now.trees)
+    (last : Held S) × RunInTurn g its (with_transaction old) last × (db ≡ (state g last).now.trees)

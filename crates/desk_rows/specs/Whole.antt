@@ -4,13 +4,13 @@ use Rattle.std.specs.List.{AllByRecursion, IsDistinct}
 use Rattle.std.specs.Ordering.{int_eq}
 use Rattle.sqlite_trees.specs.Tree.{Trees}
 use Rattle.sqlite_rules.specs.Edit.{IsNoIndex}
-use Rattle.sql_tables.specs.Rows.{Lists, picked}
+use Rattle.sql_tables.specs.Rows.{Lists, columns_at}
 use Rattle.desk_parts.specs.Puts.{RowPut, PutBook, PutTab, PutPara, PutMark, PutCache, PutEntry, SetPlace, SetFlags, SetTable, SetPrint, SetSpan, SetResolved, SetVersion}
 use Rattle.desk_parts.specs.Rows.{StoredTab}
 use Rattle.desk_rows.specs.Contents.{Contents}
-use Rattle.desk_rows.specs.Described.{Which, books, tabs, paras, corrs, marks, caches, named_corrs, described}
+use Rattle.desk_rows.specs.Descriptions.{Which, books, tabs, paras, corrs, marks, caches, named_corrs, description_of}
 use Rattle.desk_rows.specs.Layout.{Layout, IsOther}
-use Rattle.desk_rows.specs.Rows.{RowOf, ShownOf, own, shown}
+use Rattle.desk_rows.specs.Rows.{RowOf, ShownOf, own, shown_columns}
 
 -- the same rows in each of the tables, in any order, and in each other tree
 pub record HaveSameRows (l : Layout) (c d : Contents) : Type 0 where
@@ -25,7 +25,7 @@ Rows = (w : Which) → List (ShownOf w)
 -- these are the rows of the tables, in any order
 abbrev pub AreRows : Layout → Rows → Trees → Type 0
 AreRows l rows db =
-    (w : Which) → l.has w ≡ true → Lists (shown w) (picked (described w).shown) (rows w) (db (l.tree w))
+    (w : Which) → l.has w ≡ true → Lists (shown_columns w) (columns_at (description_of w).shown) (rows w) (db (l.tree w))
 
 -- no two have the same number
 abbrev pub DifferBy : {X : Type 0} → (X → ℤ) → List X → Type 0

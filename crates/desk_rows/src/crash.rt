@@ -10,10 +10,10 @@ ghost use Rattle.desk_rows.specs.Fault.{FailsToReopen};
 ghost use Rattle.desk_rows.specs.Layout.{Layout};
 ghost use Rattle.std.specs.Iterator.{IsFinite};
 ghost use Rattle.desk_rows.specs.Puts.{HasThem, OfItems, Writes, puts_into};
-ghost use Rattle.desk_rows.specs.States.{IsFile, Shows};
+ghost use Rattle.desk_rows.specs.States.{IsFile, ShowsContents};
 ghost use Rattle.sql_tables.specs.States.{Leaves};
 
-use crate::fault::Fault;
+use crate::fault::DatabaseFault;
 use crate::open::open_file;
 use crate::transaction::write;
 use desk_parts::Put;
@@ -26,7 +26,7 @@ use std::alloc::Global;
 pub fn reopen<S: Alter + Reopen + Drop>(
     alloc: Global,
     conn: Connection<S>,
-) -> Result<Connection<S>, (Fault, S)>
+) -> Result<Connection<S>, (DatabaseFault, S)>
     ensures opens { IfOk result (λ after. HasCleanDisk (state S.Store after)
         → Opens (state S.Store after) × IsLive (state S.Store after)) }
     ensures unlimited { IfOk result (λ after. (state S.Store after).step_limit ≡ None) }
@@ -35,7 +35,7 @@ pub fn reopen<S: Alter + Reopen + Drop>(
         → (state S.Store conn).may_leave (state S.Store after).now.trees) }
     ensures shows { IfOk result (λ after. HasCleanDisk (state S.Store after)
         → (l : Layout) (c : Contents)
-        → IsFile l c (state S.Store after).now.trees → Shows l c (state S.Store after)) }
+        → IsFile l c (state S.Store after).now.trees → ShowsContents l c (state S.Store after)) }
     ensures idle { IfOk result (λ after. after.in_transaction ≡ false) }
     ensures clean { IfOk result (λ after. HasCleanDisk (state S.Store after)
         → HasCleanDisk (state S.Store conn)) }
@@ -49,8 +49,8 @@ pub fn reopen<S: Alter + Reopen + Drop>(
     let mut store = conn.into_store();
     match store.crash_and_reopen() {
         Ok(()) => open_file(alloc, store),
-        Err(StoreError::OutOfMemory) => Err((Fault::NoMemory, store)),
-        Err(_) => Err((Fault::Lost, store)),
+        Err(StoreError::OutOfMemory) => Err((DatabaseFault::NoMemory, store)),
+        Err(_) => Err((DatabaseFault::Lost, store)),
     }
 }
 
@@ -61,7 +61,7 @@ pub fn reopen_after_write<'a, S: Alter + Reopen + Drop, I: Iterator<Item = Put<'
     alloc: Global,
     mut conn: Connection<S>,
     puts: I,
-) -> Result<(Result<(), Error>, Connection<S>), (Fault, S)>
+) -> Result<(Result<(), Error>, Connection<S>), (DatabaseFault, S)>
     requires idle { conn.in_transaction ≡ false }
     requires can { I.can_next puts }
     requires ends { IsFinite (I.remaining puts) }
@@ -72,10 +72,10 @@ pub fn reopen_after_write<'a, S: Alter + Reopen + Drop, I: Iterator<Item = Put<'
     ensures clean { IfOk result (λ it. HasCleanDisk (state S.Store it.1)
         → HasCleanDisk (state S.Store conn)) }
     ensures crash { IfOk result (λ it. HasCleanDisk (state S.Store it.1)
-        → (l : Layout) (c : Contents) → Shows l c (state S.Store conn)
+        → (l : Layout) (c : Contents) → ShowsContents l c (state S.Store conn)
         → Leaves (IsFile l c) (state S.Store conn)
-        → Shows l c (state S.Store it.1) ⊎ OfItems I.next_gives puts (λ xs. HasThem l xs
-        → Shows l (puts_into xs c) (state S.Store it.1))) }
+        → ShowsContents l c (state S.Store it.1) ⊎ OfItems I.next_gives puts (λ xs. HasThem l xs
+        → ShowsContents l (puts_into xs c) (state S.Store it.1))) }
     ensures told { IfErr result (λ e. IsClean (S.Store.view e.1)
         → FailsToReopen (state S.Store conn).faults (S.Store.faults e.1) e.0) }
     ensures kept { IfOk result (λ it. HasCleanDisk (state S.Store it.1)

@@ -8,7 +8,7 @@ use thiserror::Error;
 
 /// Why a file can't be opened, or its rows can't be read.
 #[derive(Clone, Copy, Debug, Error, PartialEq, Eq)]
-pub enum Fault {
+pub enum DatabaseFault {
     /// An allocation failed.
     #[error("no memory")]
     NoMemory,
@@ -21,32 +21,32 @@ pub enum Fault {
     Refused,
 }
 
-impl Fault {
+impl DatabaseFault {
     /// How an error of the database is reported.
-    pub fn of(error: Failure) -> Fault
+    pub fn of(error: Failure) -> DatabaseFault
         ensures { IsToldAs error result }
     {
         match error {
-            Failure::SqliteFailure(ErrorCode::OutOfMemory) => Fault::NoMemory,
+            Failure::SqliteFailure(ErrorCode::OutOfMemory) => DatabaseFault::NoMemory,
             Failure::SqliteFailure(
                 ErrorCode::SystemIoFailure
                 | ErrorCode::DatabaseCorrupt
                 | ErrorCode::DiskFull
                 | ErrorCode::Closed
                 | ErrorCode::TooBig,
-            ) => Fault::Lost,
-            _ => Fault::Refused,
+            ) => DatabaseFault::Lost,
+            _ => DatabaseFault::Refused,
         }
     }
 }
 
-impl From<AllocError> for Fault {
-    ghost use Rattle.desk_rows.specs.declared.fault.Fault.TheVariants.{NoMemory};
+impl From<AllocError> for DatabaseFault {
+    ghost use Rattle.desk_rows.specs.declared.fault.DatabaseFault.TheVariants.{NoMemory};
     ghost use Rattle.std.specs.Prelude.{◌≡◌};
 
     ghost from_gives = { λ _ fault. fault ≡ NoMemory };
 
     fn from(_error: AllocError) -> Self {
-        Fault::NoMemory
+        DatabaseFault::NoMemory
     }
 }

@@ -1,17 +1,17 @@
 //! Laws of files, and of the connections that show them.
 
-ghost use Rattle.desk_rows.specs.Asked.{AreReadable};
+ghost use Rattle.desk_rows.specs.TableQuery.{AreReadable};
 ghost use Rattle.desk_rows.specs.Contents.{Contents};
 ghost use Rattle.desk_parts.specs.Puts.{LendsFirst, RowPut};
 ghost use Rattle.desk_parts.specs.Rows.{StoredTab};
-ghost use Rattle.desk_rows.specs.Described.{Which, described, shows_rowid, tabs};
+ghost use Rattle.desk_rows.specs.Descriptions.{Which, description_of, shows_rowid, tabs};
 ghost use Rattle.sql_tables.specs.Kinds.{HaveIntegerRowids};
 ghost use Rattle.desk_rows.specs.Layout.{AreDeclared, Layout};
-ghost use Rattle.desk_rows.specs.Making.{Differ, IsNew, MakesTables, made, with_none, with_tables};
+ghost use Rattle.desk_rows.specs.Making.{Differ, IsNew, MakesTables, new_layout, with_none, with_tables};
 ghost use Rattle.sql_tables.specs.Making.{KeepsAside};
-ghost use Rattle.desk_rows.specs.States.{IsFile, IsUnder, Shows};
-ghost use Rattle.desk_rows.specs.Rows.{shown};
-ghost use Rattle.sql_tables.specs.Rows.{Lists, picked};
+ghost use Rattle.desk_rows.specs.States.{IsFile, IsUnder, ShowsContents};
+ghost use Rattle.desk_rows.specs.Rows.{shown_columns};
+ghost use Rattle.sql_tables.specs.Rows.{Lists, columns_at};
 ghost use Rattle.desk_rows.specs.Whole.{AreApart, AreRows, AreUtf8, HaveOwnRowids, HaveSameRows, IsUtf8Put, Rows, contents_of};
 ghost use Rattle.sqlite.specs.Effect.{Database};
 ghost use Rattle.sqlite.specs.Held.{state};
@@ -36,7 +36,7 @@ pub fn one_schema()
 /// A connection that is open over the trees of a file shows that file, however it was opened.
 pub fn one_file<S: Alter>(conn: &Connection<S>)
     ensures { IsTrue (state S.Store conn.now).is_open → (l : Layout) (c : Contents)
-        → IsFile l c (state S.Store conn.now).now.trees → Shows l c (state S.Store conn.now) }
+        → IsFile l c (state S.Store conn.now).now.trees → ShowsContents l c (state S.Store conn.now) }
 {
     let _ = conn.schema();
 }
@@ -48,7 +48,7 @@ pub fn found_again<S: Alter, T: Alter>(last: &Connection<S>, next: &Connection<T
         → Opens (state T.Store next.now)
         → (state S.Store last.now).may_leave (state T.Store next.now).now.trees }
     ensures shows { Opens (state T.Store next.now) → (l : Layout) (c : Contents)
-        → IsFile l c (state T.Store next.now).committed.trees → Shows l c (state T.Store next.now) }
+        → IsFile l c (state T.Store next.now).committed.trees → ShowsContents l c (state T.Store next.now) }
 {
     let _ = next.schema();
 }
@@ -74,13 +74,13 @@ pub fn texts_as_written()
         → l.has w ≡ true → shows_rowid w ≡ true → HaveIntegerRowids (db (l.tree w)) }
     ensures apart { (l : Layout) (c : Contents) (db : Trees) → IsFile l c db → l.has tabs ≡ true
         → (xs : List StoredTab)
-        → Lists (shown tabs) (picked (described tabs).shown) xs (db (l.tree tabs))
+        → Lists (shown_columns tabs) (columns_at (description_of tabs).shown) xs (db (l.tree tabs))
         → HaveOwnRowids xs }
 {}
 
 /// A file in which the tables were made keeps what the database keeps aside.
 pub fn made_keeps()
-    ensures { (s : Schema) (rows db : Trees) → IsNew s rows (λ c. IsFile (made s) c db)
+    ensures { (s : Schema) (rows db : Trees) → IsNew s rows (λ c. IsFile (new_layout s) c db)
         → KeepsAside s rows db }
 {}
 
@@ -112,6 +112,6 @@ pub fn texts_stay()
 pub fn tables_there()
     ensures has { (l : Layout) (c : Contents) (db : Trees) → IsFile l c db → (w : Which)
         → l.has w ≡ true → is_there l.schema w ≡ true }
-    ensures free { (s : Schema) (w : Which) → is_used s (described w).name ≡ false
+    ensures free { (s : Schema) (w : Which) → is_used s (description_of w).name ≡ false
         → is_there s w ≡ false }
 {}

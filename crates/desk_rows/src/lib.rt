@@ -1,6 +1,6 @@
 //! The rows of a book's file, an SQLite database: its tables made, rows put and read, and what a crash leaves of them.
 //!
-//! Each table is described once (`specs/Described.antt`), and so is the layout of a file that has these tables beside others. Each
+//! Each table is described once (`specs/Descriptions.antt`), and so is the layout of a file that has these tables beside others. Each
 //! statement is proved over any such file, whatever else stands in it. `desk_model` says which rows show a book, and `desk_store` opens
 //! a book's file and keeps changes in it.
 #![tactic(auto)]
@@ -10,7 +10,7 @@ mod fault;
 pub mod laws;
 mod make;
 mod open;
-mod put;
+mod put_statements;
 mod read;
 mod row;
 mod table;
@@ -18,7 +18,7 @@ mod texts;
 mod transaction;
 
 pub use crash::{reopen, reopen_after_write};
-pub use fault::Fault;
+pub use fault::DatabaseFault;
 pub use make::make_tables;
 pub use open::open_file;
 pub use read::{read_rows, read_tabs};

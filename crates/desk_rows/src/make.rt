@@ -5,13 +5,13 @@ ghost use Rattle.sqlite.specs.Held.{state};
 ghost use Rattle.sqlite.specs.State.{HasCleanDisk, KeepsCommit, Survives};
 ghost use Rattle.sql_tables.specs.States.{seen};
 ghost use Rattle.desk_rows.specs.Commits.{Commits, making_file};
-ghost use Rattle.desk_rows.specs.Described.{described};
+ghost use Rattle.desk_rows.specs.Descriptions.{description_of};
 ghost use Rattle.desk_rows.specs.Failing.{StopsMaking, after_tables, of_first_row};
 ghost use Rattle.desk_rows.specs.Making.{AreMade, MakesTables, creation, new_tables};
 ghost use Rattle.desk_rows.specs.Tables.{AreWritten, which};
-ghost use Rattle.desk_rows.specs.Turns.{Failed, Ran};
+ghost use Rattle.desk_rows.specs.Turns.{FailsWith, Ran};
 
-use crate::put::{put_book, run};
+use crate::put_statements::{put_book, run};
 use crate::table::create_text;
 use crate::transaction::{begin, end};
 use desk_parts::{BookRow, FileTable};
@@ -29,7 +29,7 @@ const NEW_TABLES: [FileTable; 6] = [
 
 /// Makes a table, and with it the counter of rowids if a table counts them and it is missing. The error is the database's.
 fn create<S: Alter>(tx: &mut Transaction<'_, S>, table: FileTable) -> Result<(), Error>
-    requires { (described (which table)).is_written ≡ true }
+    requires { (description_of (which table)).is_written ≡ true }
     ensures same_reference { tx.new.conn.ghost_name ≡ tx.old.conn.ghost_name }
     ensures makes { HasCleanDisk (seen S.Store tx.new)
         → OnOk result (MakesTables (which table ∷ []) (seen S.Store tx.old) (seen S.Store tx.new)) }
@@ -38,7 +38,7 @@ fn create<S: Alter>(tx: &mut Transaction<'_, S>, table: FileTable) -> Result<(),
     ensures inside { HasCleanDisk (seen S.Store tx.new)
         → OnOk result ((seen S.Store tx.new).in_transaction ≡ true) }
     ensures told { HasCleanDisk (seen S.Store tx.new) → (seen S.Store tx.old).in_transaction ≡ true
-        → IfErr result (Failed (creation (which table)) (seen S.Store tx.old)
+        → IfErr result (FailsWith (creation (which table)) (seen S.Store tx.old)
         (seen S.Store tx.new)) }
     ensures kept { HasCleanDisk (seen S.Store tx.new)
         → KeepsCommit (seen S.Store tx.old) (seen S.Store tx.new) }

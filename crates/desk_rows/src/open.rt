@@ -10,19 +10,22 @@ ghost use Rattle.sqlite_disk.specs.Disk.{MoreFaults};
 ghost use Rattle.desk_rows.specs.Fault.{IsToldAs};
 ghost use Rattle.desk_rows.specs.Contents.{Contents};
 ghost use Rattle.desk_rows.specs.Layout.{Layout};
-ghost use Rattle.desk_rows.specs.States.{IsFile, Shows};
+ghost use Rattle.desk_rows.specs.States.{IsFile, ShowsContents};
 ghost use Rattle.sql_tables.specs.States.{Leaves};
 
-use crate::fault::Fault;
+use crate::fault::DatabaseFault;
 use sqlite::{Alter, Connection};
 use std::alloc::Global;
 
 /// Opens the database of a store, whose schema is read from it. The store comes back with an error.
-pub fn open_file<S: Alter + Drop>(alloc: Global, store: S) -> Result<Connection<S>, (Fault, S)>
+pub fn open_file<S: Alter + Drop>(
+    alloc: Global,
+    store: S,
+) -> Result<Connection<S>, (DatabaseFault, S)>
     requires { IsClean (S.Store.view store) → IsFresh (S.Store.view store) }
     ensures shows { IfOk result (λ conn. HasCleanDisk (state S.Store conn)
         → (l : Layout) (c : Contents) → IsFile l c (S.Store.view store).trees
-        → Shows l c (state S.Store conn)) }
+        → ShowsContents l c (state S.Store conn)) }
     ensures idle { IfOk result (λ conn. conn.in_transaction ≡ false) }
     ensures opens { IfOk result (λ conn. HasCleanDisk (state S.Store conn)
         → Opens (state S.Store conn) × IsLive (state S.Store conn)) }
@@ -41,10 +44,10 @@ pub fn open_file<S: Alter + Drop>(alloc: Global, store: S) -> Result<Connection<
         × FailsToOpen (S.Store.view store).trees (MoreFaults (S.Store.faults store)
         (S.Store.faults e.1)) error × IsToldAs error e.0) }
     // What is a file of any layout is never refused.
-    ensures refused { IfErr result (λ e. IsClean (S.Store.view e.1) → e.0 ≡ Fault.Refused
+    ensures refused { IfErr result (λ e. IsClean (S.Store.view e.1) → e.0 ≡ DatabaseFault.Refused
         → (l : Layout) (c : Contents) → ¬ IsFile l c (S.Store.view store).trees) }
     // It is lost only if the store counts more failures, unless its count is at its limit.
-    ensures lost { IfErr result (λ e. IsClean (S.Store.view e.1) → e.0 ≡ Fault.Lost
+    ensures lost { IfErr result (λ e. IsClean (S.Store.view e.1) → e.0 ≡ DatabaseFault.Lost
         → S.Store.faults e.1 < 2 ^ 64 - 1 → S.Store.faults store < S.Store.faults e.1) }
     // After an error it leaves nothing new.
     ensures quiet { IfErr result
@@ -52,6 +55,6 @@ pub fn open_file<S: Alter + Drop>(alloc: Global, store: S) -> Result<Connection<
 {
     match Connection::over(alloc, store) {
         Ok(conn) => Ok(conn),
-        Err((error, store)) => Err((Fault::of(error), store)),
+        Err((error, store)) => Err((DatabaseFault::of(error), store)),
     }
 }

@@ -13,13 +13,13 @@ ghost use Rattle.sqlite.specs.declared.error.Error.{Error as Failure};
 ghost use Rattle.sqlite.specs.Held.{state};
 ghost use Rattle.sqlite.specs.State.{HasCleanDisk, CommitsShowing, FailsToQuery, Shown, Survives};
 ghost use Rattle.sql_tables.specs.Kinds.{HasKinds};
-ghost use Rattle.desk_rows.specs.Asked.{AnswersRows, AnyRows, BeginWith, asked, given};
-ghost use Rattle.desk_rows.specs.Described.{tabs};
+ghost use Rattle.desk_rows.specs.TableQuery.{AnswersRows, AnyRows, BeginWith, given, query_of};
+ghost use Rattle.desk_rows.specs.Descriptions.{tabs};
 ghost use Rattle.desk_rows.specs.Fault.{IsToldAs};
-ghost use Rattle.desk_rows.specs.Rows.{own, shown};
+ghost use Rattle.desk_rows.specs.Rows.{own, shown_columns};
 ghost use Rattle.desk_rows.specs.Whole.{HaveOwnRowids, IsUtf8Row};
 
-use crate::fault::Fault;
+use crate::fault::DatabaseFault;
 use crate::row::TableRow;
 use desk_parts::StoredTab;
 use sqlite::{Alter, Connection, Row};
@@ -27,7 +27,7 @@ use std::alloc::{AllocError, Global};
 use std::collections::BTreeSet;
 
 /// The rows that a query shows.
-fn ask<S: Alter>(conn: &mut Connection<S>, sql: &str) -> Result<Vec<Row>, Fault>
+fn ask<S: Alter>(conn: &mut Connection<S>, sql: &str) -> Result<Vec<Row>, DatabaseFault>
     ensures shown { HasCleanDisk (state S.Store conn.new)
         → IfOk result (λ rows. Shown sql.now [] (state S.Store conn.old)
         (state S.Store conn.new) rows.items) }
@@ -41,20 +41,20 @@ fn ask<S: Alter>(conn: &mut Connection<S>, sql: &str) -> Result<Vec<Row>, Fault>
 {
     match conn.query_all(sql, &[]) {
         Ok(rows) => Ok(rows),
-        Err(error) => Err(Fault::of(error)),
+        Err(error) => Err(DatabaseFault::of(error)),
     }
 }
 
 /// Each of the rows, in turn.
 #[tactic(auto, using(crate::proofs::Beginnings::begin_more, crate::proofs::Beginnings::begin_with))]
-fn all_of<T: TableRow>(alloc: Global, rows: &[Row]) -> Result<Vec<T>, Fault>
-    ensures reads { IfOk result (λ xs. map (given T.which) rows.now ≡ map (λ x. shown T.which
+fn all_of<T: TableRow>(alloc: Global, rows: &[Row]) -> Result<Vec<T>, DatabaseFault>
+    ensures reads { IfOk result (λ xs. map (given T.which) rows.now ≡ map (λ x. shown_columns T.which
         (T.view x)) xs.items) }
-    ensures kinds { AllByRecursion (HasKinds (asked T.which).kinds) rows.now
-        → IfErr result (λ fault. fault ≡ Fault.NoMemory) }
-    ensures not_lost { IfErr result (λ fault. fault ≢ Fault.Lost) }
-    ensures no_memory { IfErr result (λ fault. fault ≡ Fault.NoMemory
-        → BeginWith (asked T.which).kinds rows.now) }
+    ensures kinds { AllByRecursion (HasKinds (query_of T.which).kinds) rows.now
+        → IfErr result (λ fault. fault ≡ DatabaseFault.NoMemory) }
+    ensures not_lost { IfErr result (λ fault. fault ≢ DatabaseFault.Lost) }
+    ensures no_memory { IfErr result (λ fault. fault ≡ DatabaseFault.NoMemory
+        → BeginWith (query_of T.which).kinds rows.now) }
     ensures utf8 { IfOk result (λ xs. AllByRecursion (λ x. IsUtf8Row T.which (own T.which
         (T.view x))) xs.items) }
 {
@@ -62,7 +62,7 @@ fn all_of<T: TableRow>(alloc: Global, rows: &[Row]) -> Result<Vec<T>, Fault>
     for row in rows {
         let one = T::from_row(alloc, row)?;
         if all.push(one).is_err() {
-            return Err(Fault::NoMemory);
+            return Err(DatabaseFault::NoMemory);
         }
     }
     Ok(all)
@@ -73,7 +73,7 @@ fn all_of<T: TableRow>(alloc: Global, rows: &[Row]) -> Result<Vec<T>, Fault>
 pub fn read_rows<T: TableRow, S: Alter>(
     alloc: Global,
     conn: &mut Connection<S>,
-) -> Result<Vec<T>, Fault>
+) -> Result<Vec<T>, DatabaseFault>
     ensures answers { HasCleanDisk (state S.Store conn.new)
         → AnswersRows result (λ xs. xs.items) T.which T.view AnyRows (state S.Store conn.old)
         (state S.Store conn.new) }
@@ -104,21 +104,24 @@ fn have_own_rowids(alloc: Global, tabs: &[StoredTab]) -> Result<bool, AllocError
 fn told_apart(
     tabs: Vec<StoredTab>,
     apart: Result<bool, AllocError>,
-) -> Result<Vec<StoredTab>, Fault>
+) -> Result<Vec<StoredTab>, DatabaseFault>
     ensures apart { apart ≡ Ok true → result ≡ Ok tabs }
-    ensures together { apart ≡ Ok false → result ≡ Err Fault.Refused }
-    ensures no_memory { OnErr apart (result ≡ Err Fault.NoMemory) }
+    ensures together { apart ≡ Ok false → result ≡ Err DatabaseFault.Refused }
+    ensures no_memory { OnErr apart (result ≡ Err DatabaseFault.NoMemory) }
 {
     match apart {
         Ok(true) => Ok(tabs),
-        Ok(false) => Err(Fault::Refused),
-        Err(_) => Err(Fault::NoMemory),
+        Ok(false) => Err(DatabaseFault::Refused),
+        Err(_) => Err(DatabaseFault::NoMemory),
     }
 }
 
 /// The braille tables, in order of the bytes of their names, which is that of the names' code points. If two have one rowid, as only a
 /// view shows them, they are refused.
-pub fn read_tabs<S: Alter>(alloc: Global, conn: &mut Connection<S>) -> Result<Vec<StoredTab>, Fault>
+pub fn read_tabs<S: Alter>(
+    alloc: Global,
+    conn: &mut Connection<S>,
+) -> Result<Vec<StoredTab>, DatabaseFault>
     ensures answers { HasCleanDisk (state S.Store conn.new)
         → AnswersRows result (λ xs. xs.items) tabs (λ x. x) HaveOwnRowids (state S.Store conn.old)
         (state S.Store conn.new) }

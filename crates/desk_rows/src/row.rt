@@ -6,13 +6,13 @@ ghost use Rattle.sqlite_value.specs.declared.value.Value.TheVariants.{Blob, Int,
 ghost use Rattle.sqlite_schema.specs.declared.schema.Kind.{Kind};
 ghost use Rattle.sqlite.specs.Values.{IsInt};
 ghost use Rattle.sql_tables.specs.Kinds.{HasKinds, IsOfKind};
-ghost use Rattle.desk_rows.specs.Asked.{Begins, asked, given};
+ghost use Rattle.desk_rows.specs.TableQuery.{Begins, given, query_of};
 ghost use Rattle.desk_rows.specs.Fault.{IsValueFault};
-ghost use Rattle.desk_rows.specs.Described.{Which, books, caches, corrs, described, marks, named_corrs, paras, tabs};
-ghost use Rattle.desk_rows.specs.Rows.{ShownOf, own, shown};
+ghost use Rattle.desk_rows.specs.Descriptions.{Which, books, caches, corrs, description_of, marks, named_corrs, paras, tabs};
+ghost use Rattle.desk_rows.specs.Rows.{ShownOf, own, shown_columns};
 ghost use Rattle.desk_rows.specs.Whole.{IsUtf8Row};
 
-use crate::fault::Fault;
+use crate::fault::DatabaseFault;
 use crate::texts::{
     READ_BOOKS, READ_CACHES, READ_CORRS, READ_MARKS, READ_NAMED_CORRS, READ_PARAS, READ_TABS,
 };
@@ -22,39 +22,39 @@ use sqlite::types::ValueRef;
 use std::alloc::Global;
 
 /// The integer in a column.
-fn integer(row: &Row, at: usize) -> Result<i64, Fault>
+fn integer(row: &Row, at: usize) -> Result<i64, DatabaseFault>
     ensures reads { IfOk result (λ number. column row.now at ≡ Int number) }
-    ensures kind { IfErr result (λ fault. (fault ≡ Fault.Refused) × ¬ IsInt (column row.now at)) }
+    ensures kind { IfErr result (λ fault. (fault ≡ DatabaseFault.Refused) × ¬ IsInt (column row.now at)) }
 {
     match row.get_ref(at) {
         Ok(ValueRef::Int(number)) => Ok(number),
-        _ => Err(Fault::Refused),
+        _ => Err(DatabaseFault::Refused),
     }
 }
 
 /// The text in a column, whose bytes have to be UTF-8. Memory is asked for only once they are.
-fn text(alloc: Global, row: &Row, at: usize) -> Result<String, Fault>
+fn text(alloc: Global, row: &Row, at: usize) -> Result<String, DatabaseFault>
     ensures reads { IfOk result (λ text. column row.now at ≡ Text (string_bytes text)) }
     ensures kind { IfOk result (λ _. IsOfKind Kind.Text (column row.now at)) }
     ensures told { IfErr result (IsValueFault (IsOfKind Kind.Text (column row.now at))) }
 {
     let Ok(ValueRef::Text(bytes)) = row.get_ref(at) else {
-        return Err(Fault::Refused);
+        return Err(DatabaseFault::Refused);
     };
     let Ok(text) = str::from_utf8(bytes) else {
-        return Err(Fault::Refused);
+        return Err(DatabaseFault::Refused);
     };
     Ok(String::from_str(alloc, text)?)
 }
 
 /// The bytes in a column. Memory is asked for only once they are bytes.
-fn bytes(alloc: Global, row: &Row, at: usize) -> Result<Vec<u8>, Fault>
+fn bytes(alloc: Global, row: &Row, at: usize) -> Result<Vec<u8>, DatabaseFault>
     ensures reads { IfOk result (λ bytes. column row.now at ≡ Blob bytes.items) }
     ensures kind { IfOk result (λ _. IsOfKind Kind.Blob (column row.now at)) }
     ensures told { IfErr result (IsValueFault (IsOfKind Kind.Blob (column row.now at))) }
 {
     let Ok(ValueRef::Blob(bytes)) = row.get_ref(at) else {
-        return Err(Fault::Refused);
+        return Err(DatabaseFault::Refused);
     };
     Ok(Vec::from_slice(alloc, bytes)?)
 }
@@ -68,18 +68,18 @@ pub trait TableRow: Drop {
 
     /// The query.
     fn query() -> &'static str
-        ensures { result.now ≡ (described which).read };
+        ensures { result.now ≡ (description_of which).read };
 
     /// A row from what the query shows.
-    fn from_row(alloc: Global, row: &Row) -> Result<Self, Fault>
-        ensures reads { IfOk result (λ x. given which row.now ≡ shown which (view x)) }
-        ensures kinds { HasKinds (asked which).kinds row.now
-            → IfErr result (λ fault. fault ≡ Fault.NoMemory) }
-        ensures not_lost { IfErr result (λ fault. fault ≢ Fault.Lost) }
+    fn from_row(alloc: Global, row: &Row) -> Result<Self, DatabaseFault>
+        ensures reads { IfOk result (λ x. given which row.now ≡ shown_columns which (view x)) }
+        ensures kinds { HasKinds (query_of which).kinds row.now
+            → IfErr result (λ fault. fault ≡ DatabaseFault.NoMemory) }
+        ensures not_lost { IfErr result (λ fault. fault ≢ DatabaseFault.Lost) }
         // Memory is asked for only at the first text or bytes, once all before are of their kinds.
-        ensures begins { IfOk result (λ _. Begins 0 (asked which).kinds row.now) }
-        ensures no_memory { IfErr result (λ fault. fault ≡ Fault.NoMemory
-            → Begins 0 (asked which).kinds row.now) }
+        ensures begins { IfOk result (λ _. Begins 0 (query_of which).kinds row.now) }
+        ensures no_memory { IfErr result (λ fault. fault ≡ DatabaseFault.NoMemory
+            → Begins 0 (query_of which).kinds row.now) }
         ensures utf8 { IfOk result (λ x. IsUtf8Row which (own which (view x))) };
 }
 
@@ -92,7 +92,7 @@ impl TableRow for BookRow {
         READ_BOOKS
     }
 
-    fn from_row(_: Global, row: &Row) -> Result<BookRow, Fault> {
+    fn from_row(_: Global, row: &Row) -> Result<BookRow, DatabaseFault> {
         Ok(BookRow {
             id: integer(row, 0)?,
             format: integer(row, 1)?,
@@ -110,7 +110,7 @@ impl TableRow for StoredTab {
         READ_TABS
     }
 
-    fn from_row(alloc: Global, row: &Row) -> Result<StoredTab, Fault> {
+    fn from_row(alloc: Global, row: &Row) -> Result<StoredTab, DatabaseFault> {
         Ok(StoredTab {
             rowid: integer(row, 0)?,
             row: TabRow {
@@ -130,7 +130,7 @@ impl TableRow for ParaRow {
         READ_PARAS
     }
 
-    fn from_row(alloc: Global, row: &Row) -> Result<ParaRow, Fault> {
+    fn from_row(alloc: Global, row: &Row) -> Result<ParaRow, DatabaseFault> {
         Ok(ParaRow {
             id: integer(row, 0)?,
             place: integer(row, 1)?,
@@ -153,7 +153,7 @@ impl TableRow for CorrRow {
         READ_CORRS
     }
 
-    fn from_row(alloc: Global, row: &Row) -> Result<CorrRow, Fault> {
+    fn from_row(alloc: Global, row: &Row) -> Result<CorrRow, DatabaseFault> {
         Ok(CorrRow {
             para: integer(row, 0)?,
             seq: integer(row, 1)?,
@@ -174,7 +174,7 @@ impl TableRow for MarkRow {
         READ_MARKS
     }
 
-    fn from_row(alloc: Global, row: &Row) -> Result<MarkRow, Fault> {
+    fn from_row(alloc: Global, row: &Row) -> Result<MarkRow, DatabaseFault> {
         Ok(MarkRow {
             id: integer(row, 0)?,
             para: integer(row, 1)?,
@@ -196,7 +196,7 @@ impl TableRow for CacheRow {
         READ_CACHES
     }
 
-    fn from_row(alloc: Global, row: &Row) -> Result<CacheRow, Fault> {
+    fn from_row(alloc: Global, row: &Row) -> Result<CacheRow, DatabaseFault> {
         Ok(CacheRow {
             para: integer(row, 0)?,
             cells: bytes(alloc, row, 1)?,
@@ -213,7 +213,7 @@ impl TableRow for NamedCorrRow {
         READ_NAMED_CORRS
     }
 
-    fn from_row(alloc: Global, row: &Row) -> Result<NamedCorrRow, Fault> {
+    fn from_row(alloc: Global, row: &Row) -> Result<NamedCorrRow, DatabaseFault> {
         Ok(NamedCorrRow {
             entry: CorrRow {
                 para: integer(row, 0)?,

@@ -4,7 +4,7 @@ ghost use Rattle.std.specs.Prelude.{◌≡◌, ◌&&◌, true};
 ghost use Rattle.std.specs.List.{list_any};
 ghost use Rattle.sqlite_schema.specs.Names.{same_name};
 ghost use Rattle.sqlite.specs.Held.{state};
-ghost use Rattle.desk_rows.specs.Described.{described};
+ghost use Rattle.desk_rows.specs.Descriptions.{description_of};
 ghost use Rattle.desk_rows.specs.Tables.{is_table_or_view, is_there, which};
 
 use crate::texts::{
@@ -17,7 +17,7 @@ use sqlite_schema::schema::View;
 
 /// The name of a table, in lower case.
 pub fn table_name(table: FileTable) -> &'static str
-    ensures { result.now ≡ (described (which table)).name }
+    ensures { result.now ≡ (description_of (which table)).name }
 {
     match table {
         FileTable::Book => "book",
@@ -32,7 +32,7 @@ pub fn table_name(table: FileTable) -> &'static str
 
 /// The statement that makes a table; empty for `corr`, which nothing makes.
 pub(crate) fn create_text(table: FileTable) -> &'static str
-    ensures { result.now ≡ (described (which table)).create }
+    ensures { result.now ≡ (description_of (which table)).create }
 {
     match table {
         FileTable::Book => CREATE_BOOK,

@@ -11,7 +11,7 @@ ghost use Rattle.desk_rows.specs.Tables.{AreWritten, which};
 ghost use Rattle.sql_tables.specs.States.{seen};
 
 use crate::make::create_all;
-use crate::put::put_all;
+use crate::put_statements::put_all;
 use desk_parts::{FileTable, Put};
 use sqlite::{Alter, Connection, Error, Transaction};
 use std::alloc::Global;

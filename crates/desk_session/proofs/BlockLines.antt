@@ -2,9 +2,9 @@
 use Rattle.std.proofs.Common.{◌≡◌, ◌≢◌, ℕ, List, [], ◌∷◌, ◌++◌, length, None, sym, ap, subst, ◌∙◌, inl, inr, arith}
 use Rattle.std.specs.List.{AllByRecursion}
 use Rattle.louis_table.specs.Lines.{lines_of}
-use Rattle.desk_ends.specs.Lines.{IsLine, kept, without_ending}
+use Rattle.desk_ends.specs.Lines.{IsLine, kept_line, without_ending}
 use Rattle.desk_ends.proofs.ManyLines.{lines-then}
-use Rattle.desk_ends.proofs.OneLine.{kept-none, long-line, one-line}
+use Rattle.desk_ends.proofs.OneLine.{kept_line-none, long-line, one-line}
 use Rattle.desk_line.specs.Lines.{IsShort}
 use Rattle.desk_session.specs.Reading.{AreFed}
 
@@ -26,10 +26,10 @@ pub long-before : (bytes more : List ℕ) → AreFed bytes → ¬ AllByRecursion
 long-before bytes more fed long all = long (short-lines bytes more fed all).0
 
 -- a line that isn't kept is too long
-pub not-short : (bytes : List ℕ) → None ≡ kept bytes → ¬ IsShort (without_ending bytes)
+pub not-short : (bytes : List ℕ) → None ≡ kept_line bytes → ¬ IsShort (without_ending bytes)
 not-short bytes is short = let many = long-line bytes is in absurd (omega arith)
 
-pub long-after : (bytes more : List ℕ) → AreFed bytes → IsLine more → None ≡ kept more → ¬ AllByRecursion IsShort (lines_of (bytes ++ more))
+pub long-after : (bytes more : List ℕ) → AreFed bytes → IsLine more → None ≡ kept_line more → ¬ AllByRecursion IsShort (lines_of (bytes ++ more))
 long-after bytes more fed line is all =
-    let some : more ≢ [] = λ none. let many = kept-none more is in let n = ap length none in omega arith in
+    let some : more ≢ [] = λ none. let many = kept_line-none more is in let n = ap length none in omega arith in
     not-short more is (subst (AllByRecursion IsShort) (one-line more line some) (short-lines bytes more fed all).1).0

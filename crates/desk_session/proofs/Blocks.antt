@@ -2,12 +2,12 @@
 use Rattle.std.proofs.Common.{◌≡◌, ◌≢◌, ℕ, ◌+◌, ◌-◌, ◌<◌, true, false, List, [], ◌++◌, Option, Result, Ok, Err, refl, ap, inl, inr, arith}
 use Rattle.std.specs.Prelude.{Vec}
 use Rattle.std.specs.declared.alloc.Global.{Global}
-use Rattle.desk_ends.specs.declared.ends.Failed.{Failed}
-use Rattle.desk_ends.specs.Input.{Input, ReadsLine, Used}
-use Rattle.desk_ends.specs.Lines.{IsLine, feeds, kept}
+use Rattle.desk_ends.specs.declared.ends.Failure.{Failure}
+use Rattle.desk_ends.specs.Input.{Input, ReadsLine, UsesInput}
+use Rattle.desk_ends.specs.Lines.{IsLine, feeds, kept_line}
 use Rattle.desk_ends.proofs.LineFeeds.{fed-feeds, feeds-append, feeds-some, no-feeds}
 use Rattle.desk_ends.proofs.OneLine.{ends-append, fed-ends}
-use Rattle.desk_ends.proofs.UsedInput.{Used-none, Used-then, no-parts}
+use Rattle.desk_ends.proofs.UsedInput.{UsesInput-none, UsesInput-then, no-parts}
 use Rattle.desk_line.specs.declared.fault.Fault.{Fault}
 use Rattle.desk_line.specs.declared.fault.Fault.TheVariants.{Syntax, NoMemory}
 use Rattle.desk_session.specs.Reading.{AreFed, BlockEnds, HoldsText, ReadsBlock}
@@ -25,18 +25,18 @@ fault-stays NoMemory bytes more fed some = λ none. some (no-parts bytes more no
 -- so many lines of a block are left
 pub record IsFilling (a b : Option (List ℕ)) (old now : Input) (text : Result (Vec ℕ Global) Fault) (left count : ℕ) : Type 0 where
   pub block : List ℕ
-  pub used : Used a b old now block
+  pub used : UsesInput a b old now block
   pub holds : HoldsText text block
   pub lines : feeds block + left ≡ count
   pub fed : AreFed block
 
 pub IsFilling-none : (a : Option (List ℕ)) (input : Input) (text : Vec ℕ Global) (count : ℕ) → text.items ≡ [] → IsFilling a a input input (Ok text) count count
 IsFilling-none a input text count empty =
-    record { block = []; used = Used-none a input; holds = empty; lines = omega arith; fed = inl refl }
+    record { block = []; used = UsesInput-none a input; holds = empty; lines = omega arith; fed = inl refl }
 
 -- what add_line promises
 abbrev pub Adds : (text held : Result (Vec ℕ Global) Fault) → Option (List ℕ) → Type 0
-Adds text held line = (bytes more : List ℕ) → AreFed bytes → IsLine more → HoldsText text bytes → line ≡ kept more → HoldsText held (bytes ++ more)
+Adds text held line = (bytes more : List ℕ) → AreFed bytes → IsLine more → HoldsText text bytes → line ≡ kept_line more → HoldsText held (bytes ++ more)
 
 module _ (a b c : Option (List ℕ)) (old mid new : Input) (text held : Result (Vec ℕ Global) Fault) (left count : ℕ) (line : Option (List ℕ))
     (part : IsFilling a b old mid text left count) (some : 0 < left) (F : Type 0) where
@@ -47,7 +47,7 @@ module _ (a b c : Option (List ℕ)) (old mid new : Input) (text held : Result (
       let so_far = part.lines in
       record {
         block = part.block ++ read.bytes;
-        used = Used-then a b c old mid new part.block read.bytes part.used read.used;
+        used = UsesInput-then a b c old mid new part.block read.bytes part.used read.used;
         holds = adds part.block read.bytes part.fed (inl read.ends) part.holds read.held;
         lines = omega arith;
         fed = inr (ends-append part.block read.bytes (fed-ends read.bytes read.ends));
@@ -61,11 +61,11 @@ module _ (a b c : Option (List ℕ)) (old mid new : Input) (text held : Result (
       let fewer : feeds (part.block ++ read.bytes) < count = omega arith in
       record {
         block = part.block ++ read.bytes;
-        used = Used-then a b c old mid new part.block read.bytes part.used read.used;
+        used = UsesInput-then a b c old mid new part.block read.bytes part.used read.used;
         ends = (adds part.block read.bytes part.fed (inr read.ends.0) part.holds read.held, inr (fewer, read.ends.1, read.ends.2));
       }
 
-  pub ReadsBlock-failed : (failed : Failed) → ReadsLine F b c mid new line (Err failed) → ReadsBlock F a c old new count (Err failed)
+  pub ReadsBlock-failed : (failed : Failure) → ReadsLine F b c mid new line (Err failed) → ReadsBlock F a c old new count (Err failed)
   ReadsBlock-failed failed read =
       let none = no-feeds read.bytes read.ends.0 in
       let all = feeds-append part.block read.bytes in
@@ -73,7 +73,7 @@ module _ (a b c : Option (List ℕ)) (old mid new : Input) (text held : Result (
       let fewer : feeds (part.block ++ read.bytes) < count = omega arith in
       record {
         block = part.block ++ read.bytes;
-        used = Used-then a b c old mid new part.block read.bytes part.used read.used;
+        used = UsesInput-then a b c old mid new part.block read.bytes part.used read.used;
         ends = (fewer, read.ends.1, read.ends.2, read.ends.3);
       }
 

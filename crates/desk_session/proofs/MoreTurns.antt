@@ -6,20 +6,20 @@ use Rattle.desk_model.specs.After.{After}
 use Rattle.desk_model.specs.Book.{Book}
 use Rattle.desk_line.specs.declared.answer.Answer.{Answer}
 use Rattle.desk_line.specs.declared.answer.Answer.TheVariants as answers
-use Rattle.desk_line.specs.Answered.{IsAnswered, accepted, asked, lost, no_request, refused, unplanned, unread}
-use Rattle.desk_session.specs.Served.{AllTaken, requests_of}
-use Rattle.desk_session.specs.Session.{EndsLost, Given, Gives, IsHeld, IsSession, MayGoOn, Turn, TurnsFrom, commands_of}
+use Rattle.desk_line.specs.Answers.{IsAnswered, accepted, asked, lost, no_request, refused, unplanned, unread}
+use Rattle.desk_session.specs.Service.{AllTaken, requests_of}
+use Rattle.desk_session.specs.Session.{EndsLost, GivenCommand, Gives, IsHeld, IsSession, MayGoOn, Turn, TurnsFrom, commands_of}
 use Rattle.desk_session.proofs.Sessions.{IsSession-held}
 
 -- ---- what a turn gives
 
-gives-by : (turn : Turn) (answer : Answer) (given : List Given) → turn.answer ≡ answer → Gives turn answer given → Gives turn turn.answer given
+gives-by : (turn : Turn) (answer : Answer) (given : List GivenCommand) → turn.answer ≡ answer → Gives turn answer given → Gives turn turn.answer given
 gives-by turn answer given is gives = subst (λ (a : Answer). Gives turn a given) (sym is) gives
 
 -- each answer gives something or nothing
-pub gives-some : (turn : Turn) (book next : Book) → IsAnswered turn.request book next turn.answer → (given : List Given) × Gives turn turn.answer given
+pub gives-some : (turn : Turn) (book next : Book) → IsAnswered turn.request book next turn.answer → (given : List GivenCommand) × Gives turn turn.answer given
 gives-some turn book next (accepted command expect reads is makes answer) =
-    let given : List Given = record { command = command; acknowledged = turn.taken } ∷ [] in
+    let given : List GivenCommand = record { command = command; acknowledged = turn.taken } ∷ [] in
     (given, gives-by turn _ given answer (command, (expect, reads), refl))
 gives-some turn book next (refused command expect refusal reads is same answer) = ([], gives-by turn _ [] answer refl)
 gives-some turn book next (asked query reads same answer) = ([], gives-by turn _ [] answer refl)
@@ -27,7 +27,7 @@ gives-some turn book next (no_request tells same answer) = ([], gives-by turn _ 
 gives-some turn book next (unread asks same answer) = ([], gives-by turn _ [] answer refl)
 gives-some turn book next (unplanned command expect reads lacks same answer) = ([], gives-by turn _ [] answer refl)
 gives-some turn book next (lost command expect made reads is makes same answer) =
-    let given : List Given = record { command = command; acknowledged = false } ∷ [] in
+    let given : List GivenCommand = record { command = command; acknowledged = false } ∷ [] in
     (given, gives-by turn _ given answer (command, (expect, reads), refl))
 
 -- a book stays where its command is lost
@@ -96,12 +96,12 @@ module _ (turn : Turn) where
     )
 
 -- the book is the one after all that was given
-pub after-given : (turns : List Turn) (book last : Book) (given : List Given) → IsSession book turns given last → ¬ EndsLost turns → After book (commands_of given) last
+pub after-given : (turns : List Turn) (book last : Book) (given : List GivenCommand) → IsSession book turns given last → ¬ EndsLost turns → After book (commands_of given) last
 after-given turns book last given session held = by (IsSession-held turns book given last session)
   where
     same : (h : IsHeld book turns given last) → h.lost ≡ [] → After book (commands_of given) last
     same h empty =
-        subst (λ (all : List Given). After book (commands_of all) last) (sym (h.front ∙ (ap (λ (l : List Given). h.held ++ l) empty ∙ append-nil h.held))) h.after
+        subst (λ (all : List GivenCommand). After book (commands_of all) last) (sym (h.front ∙ (ap (λ (l : List GivenCommand). h.held ++ l) empty ∙ append-nil h.held))) h.after
 
     by : IsHeld book turns given last → After book (commands_of given) last
     by h = elim h.which [ inl none ↦ same h none.1 | inr ends ↦ absurd (held ends.0) ]

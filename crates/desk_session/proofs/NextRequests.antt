@@ -6,14 +6,14 @@ use Rattle.std.specs.List.{AllByRecursion}
 use Rattle.std.proofs.lemmas.Bool.{cases_lt}
 use Rattle.std.proofs.lemmas.List.{append-nil}
 use Rattle.louis_table.specs.Lines.{lines_of}
-use Rattle.desk_ends.specs.declared.ends.Failed.{Failed}
-use Rattle.desk_ends.specs.Input.{Input, LineEnds, ReadsLine, Used}
+use Rattle.desk_ends.specs.declared.ends.Failure.{Failure}
+use Rattle.desk_ends.specs.Input.{Input, LineEnds, ReadsLine, UsesInput}
 use Rattle.desk_ends.specs.Limits.{most_line_bytes}
-use Rattle.desk_ends.specs.Lines.{EndsLine, HasNoFeed, IsFed, IsLine, feeds, kept, without_ending}
+use Rattle.desk_ends.specs.Lines.{EndsLine, HasNoFeed, IsFed, IsLine, feeds, kept_line, without_ending}
 use Rattle.desk_ends.proofs.FirstLine.{after-fed, after-none}
 use Rattle.desk_ends.proofs.LineFeeds.{fed-feeds, feeds-append, lines-fed, lines-few, no-feeds}
-use Rattle.desk_ends.proofs.OneLine.{ends-append, ends-some, fed-ends, fed-first, kept-none, kept-some, lone-line, one-line}
-use Rattle.desk_ends.proofs.UsedInput.{Used-then, no-parts}
+use Rattle.desk_ends.proofs.OneLine.{ends-append, ends-some, fed-ends, fed-first, kept_line-none, kept_line-some, lone-line, one-line}
+use Rattle.desk_ends.proofs.UsedInput.{UsesInput-then, no-parts}
 use Rattle.desk_line.specs.declared.fault.Fault.{Fault}
 use Rattle.desk_line.specs.declared.fault.Fault.TheVariants.{Syntax, NoMemory}
 use Rattle.desk_line.specs.declared.head.Head.{Head}
@@ -153,7 +153,7 @@ module _ (head block : List ℕ) (some : head ≢ []) where
 -- ---- what was read
 
 module _ (F : Type 0) (a b : Option (List ℕ)) (old mid : Input) where
-  pub ReadsRequest-failed : (line : Option (List ℕ)) (failed : Failed) → ReadsLine F a b old mid line (Err failed) → ReadsRequest F a b old mid (Err failed)
+  pub ReadsRequest-failed : (line : Option (List ℕ)) (failed : Failure) → ReadsLine F a b old mid line (Err failed) → ReadsRequest F a b old mid (Err failed)
   ReadsRequest-failed line failed read =
       record { bytes = read.bytes; used = read.used; found = (none-line read.bytes read.ends.0, read.ends.1, read.ends.2, read.ends.3) }
 
@@ -169,9 +169,9 @@ module _ (F : Type 0) (a b : Option (List ℕ)) (old mid : Input) where
   -- a line with no room
   pub ReadsRequest-long : (line : Option (List ℕ)) (whole : Bool) → ReadsLine F a b old mid line (Ok whole) → None ≡ line → ReadsRequest F a b old mid (Ok (Some (Err Syntax)))
   ReadsRequest-long line whole read none =
-      let keeps : None ≡ kept read.bytes = none ∙ read.held in
+      let keeps : None ≡ kept_line read.bytes = none ∙ read.held in
       let long = not-short read.bytes keeps in
-      let some : read.bytes ≢ [] = λ empty. let many = kept-none read.bytes keeps in let n = ap length empty in omega arith in
+      let some : read.bytes ≢ [] = λ empty. let many = kept_line-none read.bytes keeps in let n = ap length empty in omega arith in
       let lines = one-line read.bytes (line-of whole read.bytes read.ends) some in
       record {
         bytes = read.bytes;
@@ -184,13 +184,13 @@ module _ (F : Type 0) (a b : Option (List ℕ)) (old mid : Input) where
 
   module _ (line : Option (List ℕ)) (head : List ℕ) (is : Some head ≡ line) (whole : Bool) (read : ReadsLine F a b old mid line (Ok whole)) where
     bytes-are : head ≡ read.bytes
-    bytes-are = kept-some read.bytes head (is ∙ read.held)
+    bytes-are = kept_line-some read.bytes head (is ∙ read.held)
 
     head-line : LineEnds F mid head (Ok whole)
     head-line = subst (λ (t : List ℕ). LineEnds F mid t (Ok whole)) (sym bytes-are) read.ends
 
-    head-used : Used a b old mid head
-    head-used = subst (Used a b old mid) (sym bytes-are) read.used
+    head-used : UsesInput a b old mid head
+    head-used = subst (UsesInput a b old mid) (sym bytes-are) read.used
 
     end-of : (whole : Bool) → head ≡ [] → LineEnds F mid head (Ok whole) → (mid.is_over ≡ true) × (mid.waiting ≡ [])
     end-of true none fed_ = absurd (ends-some head (fed-ends head fed_) none)
@@ -221,7 +221,7 @@ module _ (F : Type 0) (a b : Option (List ℕ)) (old mid : Input) where
         abbrev Ends : (block : List ℕ) → Type 0
         Ends block = IsFed head ⊎ (HasNoFeed head × (block ≡ []) × (new.is_over ≡ true) × (new.waiting ≡ []))
 
-        ends-by : (whole : Bool) → LineEnds F mid head (Ok whole) → (block : List ℕ) → Used b c mid new block → Ends block
+        ends-by : (whole : Bool) → LineEnds F mid head (Ok whole) → (block : List ℕ) → UsesInput b c mid new block → Ends block
         ends-by true fed_ block used = inl fed_
         ends-by false (none, over, empty) block used =
             let still = used.over over in
@@ -257,7 +257,7 @@ module _ (F : Type 0) (a b : Option (List ℕ)) (old mid : Input) where
             let has = subst (HasHead (head ++ block.block) h) (sym block.ends.0) (has-head block.block ends) in
             record {
               bytes = head ++ block.block;
-              used = Used-then a b c old mid new head block.block head-used block.used;
+              used = UsesInput-then a b c old mid new head block.block head-used block.used;
               found = (next-block block.block ends block.ends.1, found-of (head ++ block.block) found (finish (head ++ block.block) has));
             }
 
@@ -266,17 +266,17 @@ module _ (F : Type 0) (a b : Option (List ℕ)) (old mid : Input) where
             let ends = ends-by whole head-line block.block block.used in
             record {
               bytes = head ++ block.block;
-              used = Used-then a b c old mid new head block.block head-used block.used;
+              used = UsesInput-then a b c old mid new head block.block head-used block.used;
               found = (
                 next-block block.block ends block.ends.1,
                 block-fault head block.block some count takes fault (may-be block.block ends) block.ends.0 (block-some F new count block.block (Err fault) block.ends),
               );
             }
 
-        pub ReadsRequest-cut : (failed : Failed) → ReadsBlock F b c mid new count (Err failed) → ReadsRequest F a c old new (Err failed)
+        pub ReadsRequest-cut : (failed : Failure) → ReadsBlock F b c mid new count (Err failed) → ReadsRequest F a c old new (Err failed)
         ReadsRequest-cut failed block = record {
           bytes = head ++ block.block;
-          used = Used-then a b c old mid new head block.block head-used block.used;
+          used = UsesInput-then a b c old mid new head block.block head-used block.used;
           found = (cut-by (ends-by whole head-line block.block block.used), block.ends.1, block.ends.2, block.ends.3);
         }
           where

@@ -10,13 +10,13 @@ use Rattle.desk_command.specs.declared.command.Command.{Command}
 use Rattle.desk_model.specs.After.{After}
 use Rattle.desk_model.specs.Book.{Book}
 use Rattle.desk_model.proofs.Callers.{After-append}
-use Rattle.desk_ends.specs.declared.ends.Failed.{Failed}
+use Rattle.desk_ends.specs.declared.ends.Failure.{Failure}
 use Rattle.desk_ends.specs.declared.ends.Sink.{Ghosts as Sink}
 use Rattle.desk_ends.specs.declared.ends.Source.{Ghosts as Source}
 use Rattle.desk_ends.specs.Ends.{IsFlushed}
-use Rattle.desk_ends.specs.Input.{Input, Used, unread}
+use Rattle.desk_ends.specs.Input.{Input, UsesInput, unread}
 use Rattle.desk_ends.specs.Limits.{most_input}
-use Rattle.desk_ends.proofs.UsedInput.{Used-none, Used-then, left_to_use, left_to_use-fewer, no-parts, unread-knows}
+use Rattle.desk_ends.proofs.UsedInput.{UsesInput-none, UsesInput-then, left_to_use, left_to_use-fewer, no-parts, unread-knows}
 use Rattle.desk_line.specs.declared.answer.Answer.{Answer}
 use Rattle.desk_line.specs.declared.answer.Answer.TheVariants as answers
 use Rattle.desk_line.specs.declared.fault.Fault.{Fault}
@@ -30,8 +30,8 @@ use Rattle.desk_session.specs.declared.session.Ended.{Ended}
 use Rattle.desk_session.specs.declared.session.Ended.TheVariants as ended
 use Rattle.desk_session.specs.Reading.{ReadsRequest}
 use Rattle.desk_session.specs.Requests.{FirstRequests}
-use Rattle.desk_session.specs.Served.{AllTaken, GoesOut, HoldsGiven, IsLeft, IsWritten, MayLack, MayServe, Served, SessionEnds, ends_of, requests_of}
-use Rattle.desk_session.specs.Session.{EndsLost, Given, Gives, IsCommand, IsSession, MayGoOn, Turn, commands_of}
+use Rattle.desk_session.specs.Service.{AllTaken, GoesOut, HoldsGiven, IsLeft, IsWritten, MayLack, MayServe, Serves, SessionEnds, ends_of, requests_of}
+use Rattle.desk_session.specs.Session.{EndsLost, GivenCommand, Gives, IsCommand, IsSession, MayGoOn, Turn, commands_of}
 use Rattle.desk_session.specs.Turns.{LeavesLost, LeftBy, SendsReply, TakesTurn}
 use Rattle.desk_session.proofs.MoreTurns.{TurnsFrom-more, after-given, ends-held, ends-lost, gives-some, goes-held, goes-more, requests-more, taken-more}
 use Rattle.desk_session.proofs.RequestCuts.{CutInto, CutInto-all, CutInto-first, CutInto-more, CutInto-whole, next-some}
@@ -39,7 +39,7 @@ use Rattle.desk_session.proofs.RequestCuts.{CutInto, CutInto-all, CutInto-first,
 -- ---- the file
 
 -- after a session in which no command was lost
-held-left : (l : Layout) (start last : Book) (e : Ended) (turns : List Turn) (given : List Given) (s : State) → IsSession start turns given last → ¬ EndsLost turns
+held-left : (l : Layout) (start last : Book) (e : Ended) (turns : List Turn) (given : List GivenCommand) (s : State) → IsSession start turns given last → ¬ EndsLost turns
     → MayLack e [] → IsKept l last s → IsLeft l start last e given s
 held-left l start last e turns given s session held lacks kept = record {
   shows = λ ends. kept.shows;
@@ -57,17 +57,17 @@ held-left l start last e turns given s session held lacks kept = record {
 same-command : (bytes : List ℕ) (this that : Command) → IsCommand bytes this → IsCommand bytes that → this ≡ that
 same-command bytes this that (expect, is) (other, too) = let h = one-request bytes (Do this expect) (Do that other) is too in cc
 
-commands-more : (given gives : List Given) → commands_of (given ++ gives) ≡ commands_of given ++ commands_of gives
-commands-more given gives = map-append (λ (one : Given). one.command) given gives
+commands-more : (given gives : List GivenCommand) → commands_of (given ++ gives) ≡ commands_of given ++ commands_of gives
+commands-more given gives = map-append (λ (one : GivenCommand). one.command) given gives
 
-module _ (l : Layout) (start book : Book) (given gives : List Given) (bytes : List ℕ) (s : State)
+module _ (l : Layout) (start book : Book) (given gives : List GivenCommand) (bytes : List ℕ) (s : State)
     (after : After start (commands_of given) book) (lost : LeavesLost l bytes book s) (command : Command) (asked : IsCommand bytes command)
     (is : gives ≡ record { command = command; acknowledged = false } ∷ []) where
   after-made : After start (commands_of (given ++ gives)) lost.made
   after-made =
       let all : commands_of (given ++ gives) ≡ commands_of given ++ lost.command ∷ [] =
       commands-more given gives
-      ∙ (ap (λ (more : List Given). commands_of given ++ commands_of more) is
+      ∙ (ap (λ (more : List GivenCommand). commands_of given ++ commands_of more) is
       ∙ ap (λ (c : Command). commands_of given ++ c ∷ []) (same-command bytes command lost.command asked lost.asked)) in
       subst (λ (commands : List Command). After start commands lost.made) (sym all)
       ((After-append start lost.made (commands_of given) (lost.command ∷ [])).1 (book, after, (lost.accepted, (lost.made, lost.makes, refl))))
@@ -110,8 +110,8 @@ pub record IsServing (start book : Book) (over : SessionEnds) (input : Input) : 
   pub bytes : List ℕ
   pub output : List ℕ
   pub turns : List Turn
-  pub given : List Given
-  pub used : Used over.unread over.left unread input bytes
+  pub given : List GivenCommand
+  pub used : UsesInput over.unread over.left unread input bytes
   pub cut : CutInto (input.is_over ≡ true) bytes (requests_of turns)
   pub session : IsSession start turns given book
   pub written : IsWritten start turns output book
@@ -127,7 +127,7 @@ IsServing-none book source r sink w s = record {
   output = [];
   turns = [];
   given = [];
-  used = Used-none (source.remaining r) unread;
+  used = UsesInput-none (source.remaining r) unread;
   cut = refl;
   session = (refl, refl);
   written = (refl, refl);
@@ -149,9 +149,9 @@ module _ (start book : Book) (over : SessionEnds) (c : Option (List ℕ)) (input
       held-left l start book e so_far.turns so_far.given over.new so_far.session (goes-held so_far.turns so_far.goes) lacks (so_far.kept clean l may)
 
   -- the input is at its end
-  pub Served-done : ReadsRequest over.ReadsFail over.left c input new line (Ok None) → Served start book ended.Done having_read
-  Served-done read =
-      let used = Used-then over.unread over.left c unread input new so_far.bytes read.bytes so_far.used read.used in
+  pub Serves-done : ReadsRequest over.ReadsFail over.left c input new line (Ok None) → Serves start book ended.Done having_read
+  Serves-done read =
+      let used = UsesInput-then over.unread over.left c unread input new so_far.bytes read.bytes so_far.used read.used in
       let knows = used.ends (unread-knows over.unread) read.found.1 in
       let all : used.read ≡ so_far.bytes =
       used.parts
@@ -174,9 +174,9 @@ module _ (start book : Book) (over : SessionEnds) (c : Option (List ℕ)) (input
       }
 
   -- a read failed
-  pub Served-input : (failed : Failed) → ReadsRequest over.ReadsFail over.left c input new line (Err failed) → Served start book ended.Input having_read
-  Served-input failed read =
-      let used = Used-then over.unread over.left c unread input new so_far.bytes read.bytes so_far.used read.used in
+  pub Serves-input : (failed : Failure) → ReadsRequest over.ReadsFail over.left c input new line (Err failed) → Serves start book ended.Input having_read
+  Serves-input failed read =
+      let used = UsesInput-then over.unread over.left c unread input new so_far.bytes read.bytes so_far.used read.used in
       let going : ¬ (input.is_over ≡ true) = λ at_end. let h = sym (read.used.over at_end).1 ∙ read.found.2 in cc h in
       let all : used.read ≡ so_far.bytes ++ read.bytes =
       used.parts
@@ -214,11 +214,11 @@ module _ (start book : Book) (over : SessionEnds) (c : Option (List ℕ)) (input
     abbrev turns : List Turn
     turns = so_far.turns ++ turn ∷ []
 
-    gave : (given : List Given) × Gives turn answer given
+    gave : (given : List GivenCommand) × Gives turn answer given
     gave = gives-some turn book next took.answered
 
-    used : Used over.unread c unread new (so_far.bytes ++ read.bytes)
-    used = Used-then over.unread over.left c unread input new so_far.bytes read.bytes so_far.used read.used
+    used : UsesInput over.unread c unread new (so_far.bytes ++ read.bytes)
+    used = UsesInput-then over.unread over.left c unread input new so_far.bytes read.bytes so_far.used read.used
 
     going : ¬ (input.is_over ≡ true)
     going at_end =
@@ -240,7 +240,7 @@ module _ (start book : Book) (over : SessionEnds) (c : Option (List ℕ)) (input
 
     session : IsSession start turns (so_far.given ++ gave.0) next
     session =
-        TurnsFrom-more turn book next took.answered (λ (one : Turn) (later : Book) (given : List Given). Gives one one.answer given) gave.0 gave.1
+        TurnsFrom-more turn book next took.answered (λ (one : Turn) (later : Book) (given : List GivenCommand). Gives one one.answer given) gave.0 gave.1
         so_far.turns start so_far.given so_far.goes so_far.session
 
     written : IsWritten start turns (so_far.output ++ sends.piece) next
@@ -278,8 +278,8 @@ module _ (start book : Book) (over : SessionEnds) (c : Option (List ℕ)) (input
     }
 
     -- a write failed
-    pub Served-output : answer ≢ answers.Lost → ok ≡ false → Served start next ended.Output after
-    Served-output held broken = record {
+    pub Serves-output : answer ≢ answers.Lost → ok ≡ false → Serves start next ended.Output after
+    Serves-output held broken = record {
       read = used.read;
       output = so_far.output ++ sends.piece;
       turns = turns;
@@ -307,8 +307,8 @@ module _ (start book : Book) (over : SessionEnds) (c : Option (List ℕ)) (input
     all-told false is = inr (sends.fails is)
 
     -- a command was lost
-    pub Served-lost : answer ≡ answers.Lost → Served start next ended.Lost after
-    Served-lost is = record {
+    pub Serves-lost : answer ≡ answers.Lost → Serves start next ended.Lost after
+    Serves-lost is = record {
       read = used.read;
       output = so_far.output ++ sends.piece;
       turns = turns;

@@ -12,10 +12,10 @@ use Rattle.desk_model.proofs.Callers.{holds-expected}
 use Rattle.desk_line.specs.declared.answer.Answer.{Answer}
 use Rattle.desk_line.specs.declared.answer.Answer.TheVariants as answers
 use Rattle.desk_line.specs.declared.request.Request.TheVariants.{Do}
-use Rattle.desk_line.specs.Answered.{IsAnswered, accepted, refused, asked, no_request, unread, unplanned, lost}
+use Rattle.desk_line.specs.Answers.{IsAnswered, accepted, refused, asked, no_request, unread, unplanned, lost}
 use Rattle.desk_line.specs.Request.{Reads}
 use Rattle.desk_line.proofs.RequestLaws.{one-request}
-use Rattle.desk_session.specs.Session.{AllButOne, EndsLost, Given, Gives, IsCommand, IsGivenBy, IsHeld, IsSession, MayGoOn, Turn, commands_of, done as given_done, lost as given_lost}
+use Rattle.desk_session.specs.Session.{AllButOne, EndsLost, GivenCommand, Gives, IsCommand, IsGivenBy, IsHeld, IsSession, MayGoOn, Turn, commands_of, done as given_done, lost as given_lost}
 
 -- ---- lists
 
@@ -51,8 +51,8 @@ one-command : (request : List ℕ) (this that : Command) (expect : Option ℕ) �
 one-command request this that expect reads (other, is) = cc (one-request request (Do this expect) (Do that other) reads is)
 
 -- a session begins with this turn: its command is done, or lost at the end of the session, or the turn gives nothing
-pub data Turned (turn : Turn) (turns : List Turn) (book : Book) (given : List Given) (last : Book) : Type 0 where
-  done : (number : Option ℕ) (command : Command) (next : Book) (others : List Given) → turn.answer ≡ answers.Done number
+pub data Turned (turn : Turn) (turns : List Turn) (book : Book) (given : List GivenCommand) (last : Book) : Type 0 where
+  done : (number : Option ℕ) (command : Command) (next : Book) (others : List GivenCommand) → turn.answer ≡ answers.Done number
       → IsCommand turn.request command → IsAccepted book None command → Makes book command next → (turns ≡ []) ⊎ MayGoOn turn
       → given ≡ record { command = command; acknowledged = turn.taken } ∷ others → IsSession next turns others last
       → Turned turn turns book given last
@@ -63,14 +63,14 @@ pub data Turned (turn : Turn) (turns : List Turn) (book : Book) (given : List Gi
       → Turned turn turns book given last
 
 -- a command that was given is the first of all
-given-first : (first others given : List Given) (this that : Command) (acknowledged : Bool) → given ≡ first ++ others
+given-first : (first others given : List GivenCommand) (this that : Command) (acknowledged : Bool) → given ≡ first ++ others
     → first ≡ record { command = this; acknowledged = acknowledged } ∷ [] → this ≡ that
     → given ≡ record { command = that; acknowledged = acknowledged } ∷ others
 given-first first others given this that acknowledged whole is same =
-    whole ∙ ap (λ (front : List Given). front ++ others) is
+    whole ∙ ap (λ (front : List GivenCommand). front ++ others) is
     ∙ ap (λ (command : Command). record { command = command; acknowledged = acknowledged } ∷ others) same
 
-module _ (turn : Turn) (turns : List Turn) (book next last : Book) (first others given : List Given) (on : (turns ≡ []) ⊎ MayGoOn turn)
+module _ (turn : Turn) (turns : List Turn) (book next last : Book) (first others given : List GivenCommand) (on : (turns ≡ []) ⊎ MayGoOn turn)
     (gives : Gives turn turn.answer first) (whole : given ≡ first ++ others) (session : IsSession next turns others last) where
   -- what is answered so gives what such an answer gives
   gives_by : (answer : Answer) → turn.answer ≡ answer → Gives turn answer first
@@ -79,8 +79,8 @@ module _ (turn : Turn) (turns : List Turn) (book next last : Book) (first others
   Turned-quiet : next ≡ book → first ≡ [] → turn.answer ≢ answers.Lost → ((number : Option ℕ) → turn.answer ≢ answers.Done number)
       → Turned turn turns book given last
   Turned-quiet same none not_lost not_done =
-      let is : given ≡ others = whole ∙ ap (λ (front : List Given). front ++ others) none in
-      quiet not_lost not_done (subst (λ (b : Book). IsSession b turns given last) same (subst (λ (all : List Given). IsSession next turns all last) (sym is) session))
+      let is : given ≡ others = whole ∙ ap (λ (front : List GivenCommand). front ++ others) none in
+      quiet not_lost not_done (subst (λ (b : Book). IsSession b turns given last) same (subst (λ (all : List GivenCommand). IsSession next turns all last) (sym is) session))
 
   Turned-lost : (command : Command) (expect : Option ℕ) (made : Book) → Reads turn.request (Do command expect) → IsAccepted book expect command
       → Makes book command made → next ≡ book → turn.answer ≡ answers.Lost → (turns ≡ []) ⊎ MayGoOn turn → Turned turn turns book given last
@@ -90,7 +90,7 @@ module _ (turn : Turn) (turns : List Turn) (book next last : Book) (first others
       let end = subst (λ (all : List Turn). IsSession next all others last) ended session in
       let one = given-first first others given given_one.0 command false whole given_one.2 (one-command turn.request command given_one.0 expect reads given_one.1) in
       gone command made answer (expect, reads) (accepted-unexpected book expect command is) makes ended
-      (one ∙ ap (λ (all : List Given). record { command = command; acknowledged = false } ∷ all) end.0) (end.1 ∙ same)
+      (one ∙ ap (λ (all : List GivenCommand). record { command = command; acknowledged = false } ∷ all) end.0) (end.1 ∙ same)
 
   pub turned_by : IsAnswered turn.request book next turn.answer → Turned turn turns book given last
   turned_by (accepted command expect reads is makes answer) =
@@ -110,34 +110,34 @@ module _ (turn : Turn) (turns : List Turn) (book next last : Book) (first others
   turned_by (unplanned command expect reads lacks same answer) =
       Turned-quiet same (gives_by _ answer) (λ is_lost. cc (sym answer ∙ is_lost)) (λ number is_done. cc (sym answer ∙ is_done))
 
-turned : (turn : Turn) (turns : List Turn) (book : Book) (given : List Given) (last : Book) → IsSession book (turn ∷ turns) given last
+turned : (turn : Turn) (turns : List Turn) (book : Book) (given : List GivenCommand) (last : Book) → IsSession book (turn ∷ turns) given last
     → Turned turn turns book given last
 turned turn turns book given last (next, answered, on, (first, others, gives, whole, session)) =
     turned_by turn turns book next last first others given on gives whole session answered
 
 -- ---- the book that is held
 
-abbrev IsWhich : List Turn → List Given → Type 0
+abbrev IsWhich : List Turn → List GivenCommand → Type 0
 IsWhich turns missing = ((¬ EndsLost turns) × (missing ≡ [])) ⊎ (EndsLost turns × (length missing ≡ 1))
 
 -- a turn that isn't lost changes nothing in whether the last one is
-IsWhich-more : (turn : Turn) (turns : List Turn) (missing : List Given) → turn.answer ≢ answers.Lost → IsWhich turns missing
+IsWhich-more : (turn : Turn) (turns : List Turn) (missing : List GivenCommand) → turn.answer ≢ answers.Lost → IsWhich turns missing
     → IsWhich (turn ∷ turns) missing
 IsWhich-more turn [] missing not_lost (inl none) = inl (not_lost, none.1)
 IsWhich-more turn [] missing not_lost (inr none) = absurd none.0
 IsWhich-more turn (next ∷ turns) missing not_lost which = which
 
-IsHeld-done : (turn : Turn) (turns : List Turn) (book next last : Book) (one : Given) (others given : List Given) → IsAccepted book None one.command
+IsHeld-done : (turn : Turn) (turns : List Turn) (book next last : Book) (one : GivenCommand) (others given : List GivenCommand) → IsAccepted book None one.command
     → Makes book one.command next → turn.answer ≢ answers.Lost → given ≡ one ∷ others → IsHeld next turns others last → IsHeld book (turn ∷ turns) given last
 IsHeld-done turn turns book next last one others given permitted makes not_lost is held = record {
   held = one ∷ held.held;
   lost = held.lost;
-  front = is ∙ ap (λ (all : List Given). one ∷ all) held.front;
+  front = is ∙ ap (λ (all : List GivenCommand). one ∷ all) held.front;
   which = IsWhich-more turn turns held.lost not_lost held.which;
   after = (permitted, (next, makes, held.after));
 }
 
-IsHeld-quiet : (turn : Turn) (turns : List Turn) (book last : Book) (given : List Given) → turn.answer ≢ answers.Lost → IsHeld book turns given last
+IsHeld-quiet : (turn : Turn) (turns : List Turn) (book last : Book) (given : List GivenCommand) → turn.answer ≢ answers.Lost → IsHeld book turns given last
     → IsHeld book (turn ∷ turns) given last
 IsHeld-quiet turn turns book last given not_lost held = record {
   held = held.held;
@@ -147,15 +147,15 @@ IsHeld-quiet turn turns book last given not_lost held = record {
   after = held.after;
 }
 
-IsHeld-lost : (turn : Turn) (turns : List Turn) (book last : Book) (one : Given) (given : List Given) → turn.answer ≡ answers.Lost → turns ≡ []
+IsHeld-lost : (turn : Turn) (turns : List Turn) (book last : Book) (one : GivenCommand) (given : List GivenCommand) → turn.answer ≡ answers.Lost → turns ≡ []
     → given ≡ one ∷ [] → last ≡ book → IsHeld book (turn ∷ turns) given last
 IsHeld-lost turn turns book last one given is_lost ended is same =
     subst (λ (all : List Turn). IsHeld book (turn ∷ all) given last) (sym ended)
     (record { held = []; lost = one ∷ []; front = is; which = inr (is_lost, refl); after = same })
 
 module _ (turn : Turn) (turns : List Turn) (last : Book)
-    (later : (book : Book) (given : List Given) → IsSession book turns given last → IsHeld book turns given last) where
-  held_by : (book : Book) (given : List Given) → Turned turn turns book given last → IsHeld book (turn ∷ turns) given last
+    (later : (book : Book) (given : List GivenCommand) → IsSession book turns given last → IsHeld book turns given last) where
+  held_by : (book : Book) (given : List GivenCommand) → Turned turn turns book given last → IsHeld book (turn ∷ turns) given last
   held_by book given (done number command next others answer requested permitted makes on is rest) =
       IsHeld-done turn turns book next last (record { command = command; acknowledged = turn.taken }) others given permitted makes
       (λ is_lost. cc (sym answer ∙ is_lost)) is (later next others rest)
@@ -163,105 +163,105 @@ module _ (turn : Turn) (turns : List Turn) (last : Book)
       IsHeld-lost turn turns book last (record { command = command; acknowledged = false }) given answer ended is same
   held_by book given (quiet not_lost not_done rest) = IsHeld-quiet turn turns book last given not_lost (later book given rest)
 
-pub IsSession-held : (turns : List Turn) (book : Book) (given : List Given) (last : Book) → IsSession book turns given last → IsHeld book turns given last
+pub IsSession-held : (turns : List Turn) (book : Book) (given : List GivenCommand) (last : Book) → IsSession book turns given last → IsHeld book turns given last
 IsSession-held [] book given last (none, same) = record { held = []; lost = []; front = none; which = inl ((λ impossible. impossible), refl); after = same }
 IsSession-held (turn ∷ turns) book given last session =
     held_by turn turns last (λ b g s. IsSession-held turns b g last s) book given (turned turn turns book given last session)
 
 -- ---- what is given
 
-abbrev IsAcknowledged : Given → Type 0
+abbrev IsAcknowledged : GivenCommand → Type 0
 IsAcknowledged one = one.acknowledged ≡ true
 
-AllButOne-none : (given : List Given) → given ≡ [] → AllButOne given
+AllButOne-none : (given : List GivenCommand) → given ≡ [] → AllButOne given
 AllButOne-none given none = record { sure = []; more = []; front = none; all = All-nil IsAcknowledged; one = omega arith }
 
-AllButOne-alone : (one : Given) (given : List Given) → given ≡ one ∷ [] → AllButOne given
+AllButOne-alone : (one : GivenCommand) (given : List GivenCommand) → given ≡ one ∷ [] → AllButOne given
 AllButOne-alone one given is = record { sure = []; more = one ∷ []; front = is; all = All-nil IsAcknowledged; one = omega arith }
 
-AllButOne-more : (one : Given) (others given : List Given) → one.acknowledged ≡ true → given ≡ one ∷ others → AllButOne others → AllButOne given
+AllButOne-more : (one : GivenCommand) (others given : List GivenCommand) → one.acknowledged ≡ true → given ≡ one ∷ others → AllButOne others → AllButOne given
 AllButOne-more one others given acknowledged is rest = record {
   sure = one ∷ rest.sure;
   more = rest.more;
-  front = is ∙ ap (λ (all : List Given). one ∷ all) rest.front;
+  front = is ∙ ap (λ (all : List GivenCommand). one ∷ all) rest.front;
   all = All-cons IsAcknowledged one rest.sure acknowledged rest.all;
   one = rest.one;
 }
 
 module _ (turn : Turn) (turns : List Turn) (last : Book)
-    (later : (book : Book) (given : List Given) → IsSession book turns given last → AllButOne given) where
-  all_by_done : (command : Command) (next : Book) (others given : List Given) → (turns ≡ []) ⊎ MayGoOn turn
+    (later : (book : Book) (given : List GivenCommand) → IsSession book turns given last → AllButOne given) where
+  all_by_done : (command : Command) (next : Book) (others given : List GivenCommand) → (turns ≡ []) ⊎ MayGoOn turn
       → given ≡ record { command = command; acknowledged = turn.taken } ∷ others → IsSession next turns others last → AllButOne given
   all_by_done command next others given (inl ended) is rest =
       let end = subst (λ (all : List Turn). IsSession next all others last) ended rest in
       AllButOne-alone (record { command = command; acknowledged = turn.taken }) given
-      (is ∙ ap (λ (all : List Given). record { command = command; acknowledged = turn.taken } ∷ all) end.0)
+      (is ∙ ap (λ (all : List GivenCommand). record { command = command; acknowledged = turn.taken } ∷ all) end.0)
   all_by_done command next others given (inr goes_on) is rest =
       AllButOne-more (record { command = command; acknowledged = turn.taken }) others given goes_on.taken is (later next others rest)
 
-  all_by : (book : Book) (given : List Given) → Turned turn turns book given last → AllButOne given
+  all_by : (book : Book) (given : List GivenCommand) → Turned turn turns book given last → AllButOne given
   all_by book given (done number command next others answer requested permitted makes on is rest) = all_by_done command next others given on is rest
   all_by book given (gone command made answer requested permitted makes ended is same) =
       AllButOne-alone (record { command = command; acknowledged = false }) given is
   all_by book given (quiet not_lost not_done rest) = later book given rest
 
-pub IsSession-all_but_one : (turns : List Turn) (book : Book) (given : List Given) (last : Book) → IsSession book turns given last → AllButOne given
+pub IsSession-all_but_one : (turns : List Turn) (book : Book) (given : List GivenCommand) (last : Book) → IsSession book turns given last → AllButOne given
 IsSession-all_but_one [] book given last (none, same) = AllButOne-none given none
 IsSession-all_but_one (turn ∷ turns) book given last session =
     all_by turn turns last (λ b g s. IsSession-all_but_one turns b g last s) book given (turned turn turns book given last session)
 
-abbrev IsGivenIn : List Turn → Given → Type 0
+abbrev IsGivenIn : List Turn → GivenCommand → Type 0
 IsGivenIn turns one = (turn : Turn) × Contains turns turn × IsGivenBy turn one
 
-IsGivenIn-later : (turn : Turn) (turns : List Turn) (one : Given) → IsGivenIn turns one → IsGivenIn (turn ∷ turns) one
+IsGivenIn-later : (turn : Turn) (turns : List Turn) (one : GivenCommand) → IsGivenIn turns one → IsGivenIn (turn ∷ turns) one
 IsGivenIn-later turn turns one (other, there, gave) = (other, Contains-later turn turns other there, gave)
 
-module _ (turn : Turn) (turns : List Turn) (last : Book) (one : Given)
-    (later : (book : Book) (given : List Given) → IsSession book turns given last → Contains given one → IsGivenIn turns one) where
-  given_here : (first : Given) → IsGivenBy turn first → first ≡ one → IsGivenIn (turn ∷ turns) one
-  given_here first gave same = (turn, Contains-first turn turns, subst (λ (other : Given). IsGivenBy turn other) same gave)
+module _ (turn : Turn) (turns : List Turn) (last : Book) (one : GivenCommand)
+    (later : (book : Book) (given : List GivenCommand) → IsSession book turns given last → Contains given one → IsGivenIn turns one) where
+  given_here : (first : GivenCommand) → IsGivenBy turn first → first ≡ one → IsGivenIn (turn ∷ turns) one
+  given_here first gave same = (turn, Contains-first turn turns, subst (λ (other : GivenCommand). IsGivenBy turn other) same gave)
 
-  given_either : (first : Given) (others : List Given) (next : Book) → IsGivenBy turn first → IsSession next turns others last
+  given_either : (first : GivenCommand) (others : List GivenCommand) (next : Book) → IsGivenBy turn first → IsSession next turns others last
       → (first ≡ one) ⊎ Contains others one → IsGivenIn (turn ∷ turns) one
   given_either first others next gave rest (inl same) = given_here first gave same
   given_either first others next gave rest (inr found) = IsGivenIn-later turn turns one (later next others rest found)
 
-  given_alone : (first : Given) → IsGivenBy turn first → (first ≡ one) ⊎ Contains [] one → IsGivenIn (turn ∷ turns) one
+  given_alone : (first : GivenCommand) → IsGivenBy turn first → (first ≡ one) ⊎ Contains [] one → IsGivenIn (turn ∷ turns) one
   given_alone first gave (inl same) = given_here first gave same
   given_alone first gave (inr none) = Contains-none one none
 
-  given_in : (book : Book) (given : List Given) → Contains given one → Turned turn turns book given last → IsGivenIn (turn ∷ turns) one
+  given_in : (book : Book) (given : List GivenCommand) → Contains given one → Turned turn turns book given last → IsGivenIn (turn ∷ turns) one
   given_in book given there (done number command next others answer requested permitted makes on is rest) =
-      let first : Given = record { command = command; acknowledged = turn.taken } in
+      let first : GivenCommand = record { command = command; acknowledged = turn.taken } in
       given_either first others next (given_done number answer requested refl) rest
-      (Contains-either first others one (subst (λ (all : List Given). Contains all one) is there))
+      (Contains-either first others one (subst (λ (all : List GivenCommand). Contains all one) is there))
   given_in book given there (gone command made answer requested permitted makes ended is same) =
-      let first : Given = record { command = command; acknowledged = false } in
-      given_alone first (given_lost answer requested refl) (Contains-either first [] one (subst (λ (all : List Given). Contains all one) is there))
+      let first : GivenCommand = record { command = command; acknowledged = false } in
+      given_alone first (given_lost answer requested refl) (Contains-either first [] one (subst (λ (all : List GivenCommand). Contains all one) is there))
   given_in book given there (quiet not_lost not_done rest) = IsGivenIn-later turn turns one (later book given rest there)
 
-pub IsSession-given : (turns : List Turn) (book : Book) (given : List Given) (last : Book) (one : Given) → IsSession book turns given last
+pub IsSession-given : (turns : List Turn) (book : Book) (given : List GivenCommand) (last : Book) (one : GivenCommand) → IsSession book turns given last
     → Contains given one → IsGivenIn turns one
-IsSession-given [] book given last one (none, same) there = Contains-none one (subst (λ (all : List Given). Contains all one) none there)
+IsSession-given [] book given last one (none, same) there = Contains-none one (subst (λ (all : List GivenCommand). Contains all one) none there)
 IsSession-given (turn ∷ turns) book given last one session there =
     given_in turn turns last one (λ b g s found. IsSession-given turns b g last one s found) book given there (turned turn turns book given last session)
 
-abbrev GivesOne : List Given → Turn → Type 0
-GivesOne given turn = (one : Given) × Contains given one × IsGivenBy turn one
+abbrev GivesOne : List GivenCommand → Turn → Type 0
+GivesOne given turn = (one : GivenCommand) × Contains given one × IsGivenBy turn one
 
 module _ (first : Turn) (turns : List Turn) (last : Book) (turn : Turn) (number : Option ℕ) (is_done : turn.answer ≡ answers.Done number)
-    (later : (book : Book) (given : List Given) → IsSession book turns given last → Contains turns turn → GivesOne given turn) where
-  done_by : (book : Book) (given : List Given) → Turned first turns book given last → (first ≡ turn) ⊎ Contains turns turn → GivesOne given turn
+    (later : (book : Book) (given : List GivenCommand) → IsSession book turns given last → Contains turns turn → GivesOne given turn) where
+  done_by : (book : Book) (given : List GivenCommand) → Turned first turns book given last → (first ≡ turn) ⊎ Contains turns turn → GivesOne given turn
   done_by book given (done count command next others answer requested permitted makes on is rest) (inl same) =
-      let one : Given = record { command = command; acknowledged = first.taken } in (
+      let one : GivenCommand = record { command = command; acknowledged = first.taken } in (
         one,
-        subst (λ (all : List Given). Contains all one) (sym is) (Contains-first one others),
+        subst (λ (all : List GivenCommand). Contains all one) (sym is) (Contains-first one others),
         subst (λ (other : Turn). IsGivenBy other one) same (given_done count answer requested refl),
       )
   done_by book given (done count command next others answer requested permitted makes on is rest) (inr found) =
-      let one : Given = record { command = command; acknowledged = first.taken } in
+      let one : GivenCommand = record { command = command; acknowledged = first.taken } in
       let more = later next others rest found in
-      (more.0, subst (λ (all : List Given). Contains all more.0) (sym is) (Contains-later one others more.0 more.1), more.2)
+      (more.0, subst (λ (all : List GivenCommand). Contains all more.0) (sym is) (Contains-later one others more.0 more.1), more.2)
   done_by book given (gone command made answer requested permitted makes ended is same) (inl here) =
       let conflict : answers.Lost ≡ answers.Done number = sym answer ∙ ap (λ (other : Turn). other.answer) here ∙ is_done in cc conflict
   done_by book given (gone command made answer requested permitted makes ended is same) (inr found) =
@@ -269,7 +269,7 @@ module _ (first : Turn) (turns : List Turn) (last : Book) (turn : Turn) (number 
   done_by book given (quiet not_lost not_done rest) (inl same) = absurd (not_done number (ap (λ (other : Turn). other.answer) same ∙ is_done))
   done_by book given (quiet not_lost not_done rest) (inr found) = later book given rest found
 
-pub IsSession-done : (turns : List Turn) (book : Book) (given : List Given) (last : Book) (turn : Turn) (number : Option ℕ)
+pub IsSession-done : (turns : List Turn) (book : Book) (given : List GivenCommand) (last : Book) (turn : Turn) (number : Option ℕ)
     → IsSession book turns given last → Contains turns turn → turn.answer ≡ answers.Done number → GivesOne given turn
 IsSession-done [] book given last turn number session there is_done = Contains-none turn there
 IsSession-done (first ∷ turns) book given last turn number session there is_done =
@@ -279,33 +279,33 @@ IsSession-done (first ∷ turns) book given last turn number session there is_do
 -- ---- what is kept
 
 -- a book after these commands
-abbrev LeadsOn : Book → List Given → Type 0
+abbrev LeadsOn : Book → List GivenCommand → Type 0
 LeadsOn book kept = (next : Book) × After book (commands_of kept) next
 
-module _ (turn : Turn) (turns : List Turn) (last : Book) (one : Given) (kept missing : List Given) where
-  leads_alone : (book : Book) (command : Command) (made : Book) (all after : List Given) → IsAccepted book None command → Makes book command made
+module _ (turn : Turn) (turns : List Turn) (last : Book) (one : GivenCommand) (kept missing : List GivenCommand) where
+  leads_alone : (book : Book) (command : Command) (made : Book) (all after : List GivenCommand) → IsAccepted book None command → Makes book command made
       → command ≡ one.command → [] ≡ all ++ after → LeadsOn book (one ∷ all)
   leads_alone book command made [] after permitted makes same none =
       (made, subst (λ (c : Command). After book (c ∷ []) made) same (permitted, (made, makes, refl)))
   leads_alone book command made (other ∷ all) after permitted makes same none = cc none
 
-  leads_by : (book : Book) (given : List Given) → given ≡ one ∷ (kept ++ missing) → Turned turn turns book given last
-      → ((next : Book) (others : List Given) → IsSession next turns others last → others ≡ kept ++ missing → LeadsOn next kept)
+  leads_by : (book : Book) (given : List GivenCommand) → given ≡ one ∷ (kept ++ missing) → Turned turn turns book given last
+      → ((next : Book) (others : List GivenCommand) → IsSession next turns others last → others ≡ kept ++ missing → LeadsOn next kept)
       → (IsSession book turns given last → LeadsOn book (one ∷ kept)) → LeadsOn book (one ∷ kept)
   leads_by book given whole (done number command next others answer requested permitted makes on is rest) later same_later =
       let same : record { command = command; acknowledged = turn.taken } ∷ others ≡ one ∷ (kept ++ missing) = sym is ∙ whole in
       let more : others ≡ kept ++ missing = cc same in
       let first : record { command = command; acknowledged = turn.taken } ≡ one = cc same in
       let found = later next others rest more in
-      (found.0, subst (λ (other : Given). After book (other.command ∷ commands_of kept) found.0) first (permitted, (next, makes, found.1)))
+      (found.0, subst (λ (other : GivenCommand). After book (other.command ∷ commands_of kept) found.0) first (permitted, (next, makes, found.1)))
   leads_by book given whole (gone command made answer requested permitted makes ended is end) later same_later =
       let same : record { command = command; acknowledged = false } ∷ [] ≡ one ∷ (kept ++ missing) = sym is ∙ whole in
       let more : [] ≡ kept ++ missing = cc same in
       let first : record { command = command; acknowledged = false } ≡ one = cc same in
-      leads_alone book command made kept missing permitted makes (ap (λ (other : Given). other.command) first) more
+      leads_alone book command made kept missing permitted makes (ap (λ (other : GivenCommand). other.command) first) more
   leads_by book given whole (quiet not_lost not_done rest) later same_later = same_later rest
 
-pub IsSession-kept : (turns : List Turn) (book : Book) (given : List Given) (last : Book) (kept missing : List Given) → IsSession book turns given last
+pub IsSession-kept : (turns : List Turn) (book : Book) (given : List GivenCommand) (last : Book) (kept missing : List GivenCommand) → IsSession book turns given last
     → given ≡ kept ++ missing → LeadsOn book kept
 IsSession-kept turns book given last [] missing session whole = (book, refl)
 IsSession-kept [] book given last (one ∷ kept) missing (none, same) whole = cc (sym none ∙ whole)

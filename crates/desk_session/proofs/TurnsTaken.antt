@@ -21,7 +21,7 @@ use Rattle.desk_line.specs.declared.fault.Fault.{Fault}
 use Rattle.desk_line.specs.declared.fault.Fault.TheVariants as faults
 use Rattle.desk_line.specs.declared.request.Query.{Query}
 use Rattle.desk_line.specs.declared.request.Request.TheVariants.{Ask, Do}
-use Rattle.desk_line.specs.Answered.{IsAnswered, accepted, asked, lost, no_request, refused, unplanned, unread}
+use Rattle.desk_line.specs.Answers.{IsAnswered, accepted, asked, lost, no_request, refused, unplanned, unread}
 use Rattle.desk_line.specs.Reply.{IsReplied}
 use Rattle.desk_line.specs.Request.{Reads}
 use Rattle.desk_store.specs.Books.{HasNewTables, IsKept, LeavesBook, LeavesEither, MayKeep}

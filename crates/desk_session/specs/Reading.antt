@@ -3,8 +3,8 @@ use Rattle.std.specs.Prelude.{◌≡◌, ◌≢◌, ◌⊎◌, ℕ, ◌<◌, tru
 use Rattle.std.specs.declared.alloc.Global.{Global}
 use Rattle.std.specs.List.{AllByRecursion}
 use Rattle.louis_table.specs.Lines.{lines_of}
-use Rattle.desk_ends.specs.declared.ends.Failed.{Failed}
-use Rattle.desk_ends.specs.Input.{Input, IsStopped, Used}
+use Rattle.desk_ends.specs.declared.ends.Failure.{Failure}
+use Rattle.desk_ends.specs.Input.{Input, IsStopped, UsesInput}
 use Rattle.desk_ends.specs.Lines.{EndsLine, feeds}
 use Rattle.desk_line.specs.declared.fault.Fault.{Fault}
 use Rattle.desk_line.specs.declared.fault.Fault.TheVariants.{Syntax, NoMemory}
@@ -36,7 +36,7 @@ HoldsBlock text held block =
 
 -- how a block ends: after so many lines, with fewer at the end of the input, or with fewer where a read failed
 abbrev pub BlockEnds : Type 0 → Input → ℕ → Result (Vec ℕ Global) Fault → List ℕ
-    → Result (Result (Vec ℕ Global) Fault) Failed → Type 0
+    → Result (Result (Vec ℕ Global) Fault) Failure → Type 0
 BlockEnds CanFail new count text block (Ok held) = HoldsBlock text held block
     × (AreLines count block ⊎ ((feeds block < count) × (new.is_over ≡ true) × (new.waiting ≡ [])))
 BlockEnds CanFail new count text block (Err failed) =
@@ -44,9 +44,9 @@ BlockEnds CanFail new count text block (Err failed) =
 
 -- so many lines were read, or those that are left
 pub record ReadsBlock (CanFail : Type 0) (left_old left_new : Option (List ℕ)) (old new : Input) (count : ℕ)
-    (result : Result (Result (Vec ℕ Global) Fault) Failed) : Type 0 where
+    (result : Result (Result (Vec ℕ Global) Fault) Failure) : Type 0 where
   pub block : List ℕ
-  pub used : Used left_old left_new old new block
+  pub used : UsesInput left_old left_new old new block
   pub ends : BlockEnds CanFail new count block result
 
 -- ---- a request
@@ -56,22 +56,22 @@ abbrev pub BeginsWithNone : List ℕ → Type 0
 BeginsWithNone bytes = (request later : List ℕ) → bytes ≡ request ++ later → ¬ IsWhole request
 
 -- the bytes of a request were found: in the line that is held, in a text, or not, for this fault
-abbrev pub IsFound : Option (List ℕ) → List ℕ → Found → Type 0
-IsFound line bytes found.Head = line ≡ Some bytes
-IsFound line bytes (found.Whole text) = text.items ≡ bytes
-IsFound line bytes (found.Fault fault) = IsFaultOf bytes fault
+abbrev pub HoldsRequest : Option (List ℕ) → List ℕ → Found → Type 0
+HoldsRequest line bytes found.Head = line ≡ Some bytes
+HoldsRequest line bytes (found.Whole text) = text.items ≡ bytes
+HoldsRequest line bytes (found.Fault fault) = IsFaultOf bytes fault
 
 -- what the bytes are that were used: none at the end of the input, or the next request, or a beginning of it where a read failed
-abbrev pub Finds : Type 0 → Input → Option (List ℕ) → List ℕ → Result (Option Found) Failed → Type 0
+abbrev pub Finds : Type 0 → Input → Option (List ℕ) → List ℕ → Result (Option Found) Failure → Type 0
 Finds CanFail new line bytes (Ok None) = (bytes ≡ []) × (new.is_over ≡ true) × (new.waiting ≡ [])
 Finds CanFail new line bytes (Ok (Some found)) =
-    IsNext (new.is_over ≡ true) new.waiting bytes × IsFound line bytes found
+    IsNext (new.is_over ≡ true) new.waiting bytes × HoldsRequest line bytes found
 Finds CanFail new line bytes (Err failed) =
     BeginsWithNone bytes × (new.waiting ≡ []) × (new.is_over ≡ false) × IsStopped CanFail new
 
 -- the next request was read
 pub record ReadsRequest (CanFail : Type 0) (left_old left_new : Option (List ℕ)) (old new : Input)
-    (line : Option (List ℕ)) (result : Result (Option Found) Failed) : Type 0 where
+    (line : Option (List ℕ)) (result : Result (Option Found) Failure) : Type 0 where
   pub bytes : List ℕ
-  pub used : Used left_old left_new old new bytes
+  pub used : UsesInput left_old left_new old new bytes
   pub found : Finds CanFail new bytes result

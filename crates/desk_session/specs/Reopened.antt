@@ -4,13 +4,13 @@ use Rattle.sqlite.specs.State.{State}
 use Rattle.desk_model.specs.After.{After}
 use Rattle.desk_model.specs.Book.{Book}
 use Rattle.desk_rows.specs.Layout.{Layout}
-use Rattle.desk_session.specs.Served.{MayServe}
-use Rattle.desk_session.specs.Session.{Given, HoldsAcknowledged, Turn, commands_of}
+use Rattle.desk_session.specs.Service.{MayServe}
+use Rattle.desk_session.specs.Session.{GivenCommand, HoldsAcknowledged, Turn, commands_of}
 
 -- the book after the first of the given commands, with all that were acknowledged and at most one more
-abbrev pub IsKeptBook : Book → List Turn → List Given → Book → Type 0
+abbrev pub IsKeptBook : Book → List Turn → List GivenCommand → Book → Type 0
 IsKeptBook book turns given found =
-    (kept : List Given) × HoldsAcknowledged (record { turns = turns; given = given; kept = kept })
+    (kept : List GivenCommand) × HoldsAcknowledged (record { turns = turns; given = given; kept = kept })
     × After book (commands_of kept) found
 
 -- a session may begin with the book on this connection

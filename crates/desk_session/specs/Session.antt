@@ -7,7 +7,7 @@ use Rattle.desk_model.specs.Book.{Book}
 use Rattle.desk_line.specs.declared.answer.Answer.{Answer}
 use Rattle.desk_line.specs.declared.answer.Answer.TheVariants.{Done, Refused, Asked, Syntax, NoMemory, Lost}
 use Rattle.desk_line.specs.declared.request.Request.TheVariants.{Do}
-use Rattle.desk_line.specs.Answered.{IsAnswered}
+use Rattle.desk_line.specs.Answers.{IsAnswered}
 use Rattle.desk_line.specs.Request.{Reads}
 
 -- a request that was read, what was answered to it, and whether the writer has taken the whole reply
@@ -17,7 +17,7 @@ pub record Turn : Type 0 where
   pub taken : Bool
 
 -- a command that a session gave to its book, and whether it was acknowledged
-pub record Given : Type 0 where
+pub record GivenCommand : Type 0 where
   pub command : Command
   pub acknowledged : Bool
 
@@ -28,7 +28,7 @@ IsCommand request command = (expect : Option ℕ) × Reads request (Do command e
 -- What a request gives by its answer: an accepted command is acknowledged once its whole `ok` line is taken; one that the
 -- store lost is given too, but never acknowledged. Refused commands, those for which an allocation failed, queries and what isn't a
 -- request give nothing.
-abbrev pub Gives : Turn → Answer → List Given → Type 0
+abbrev pub Gives : Turn → Answer → List GivenCommand → Type 0
 Gives turn (Done number) given =
     (command : Command) × IsCommand turn.request command
     × (given ≡ record { command = command; acknowledged = turn.taken } ∷ [])
@@ -57,11 +57,11 @@ TurnsFrom {X} Adds book (turn ∷ turns) made last =
     × TurnsFrom Adds next turns others last)
 
 -- These commands were given by the turns. The book at the end is without a command that was lost.
-abbrev pub IsSession : Book → List Turn → List Given → Book → Type 0
+abbrev pub IsSession : Book → List Turn → List GivenCommand → Book → Type 0
 IsSession = TurnsFrom (λ turn next given. Gives turn turn.answer given)
 
 -- the commands of what was given
-abbrev pub commands_of : List Given → List Command
+abbrev pub commands_of : List GivenCommand → List Command
 commands_of given = map (λ one. one.command) given
 
 -- the last turn is one whose command the store failed to keep
@@ -71,47 +71,47 @@ EndsLost (turn ∷ []) = turn.answer ≡ Lost
 EndsLost (turn ∷ next ∷ turns) = EndsLost (next ∷ turns)
 
 -- The book held at the end of a session has all that was given, but where the last command was lost: without that one.
-pub record IsHeld (book : Book) (turns : List Turn) (given : List Given) (last : Book) : Type 0 where
-  pub held : List Given
-  pub lost : List Given
+pub record IsHeld (book : Book) (turns : List Turn) (given : List GivenCommand) (last : Book) : Type 0 where
+  pub held : List GivenCommand
+  pub lost : List GivenCommand
   pub front : given ≡ held ++ lost
   pub which : ((¬ EndsLost turns) × (lost ≡ [])) ⊎ (EndsLost turns × (length lost ≡ 1))
   pub after : After book (commands_of held) last
 
 -- all of these were acknowledged, except the last one at most
-pub record AllButOne (given : List Given) : Type 0 where
-  pub sure : List Given
-  pub more : List Given
+pub record AllButOne (given : List GivenCommand) : Type 0 where
+  pub sure : List GivenCommand
+  pub more : List GivenCommand
   pub front : given ≡ sure ++ more
   pub all : All (λ one. one.acknowledged ≡ true) sure
   pub one : length more ≤ 1
 
 -- a session, the commands that it gave, and the first of these, which its file kept
-pub record Lived : Type 0 where
+pub record SessionRecord : Type 0 where
   pub turns : List Turn
-  pub given : List Given
-  pub kept : List Given
+  pub given : List GivenCommand
+  pub kept : List GivenCommand
 
 -- what was kept is a front of what was given that holds all that was acknowledged
-pub record HoldsAcknowledged (lived : Lived) : Type 0 where
-  pub lost : List Given
+pub record HoldsAcknowledged (lived : SessionRecord) : Type 0 where
+  pub lost : List GivenCommand
   pub front : lived.given ≡ lived.kept ++ lost
   pub unacknowledged : All (λ one. one.acknowledged ≡ false) lost
 
 -- Sessions one after another, the first of which begins with this book. After each the book is found that its kept commands
 -- make of the one it began with, and the one after it begins with that. The last book is found after all of them.
-abbrev pub IsLife : Book → List Lived → Book → Type 0
+abbrev pub IsLife : Book → List SessionRecord → Book → Type 0
 IsLife book [] found = found ≡ book
 IsLife book (lived ∷ later) found =
     ((last : Book) × IsSession book lived.turns lived.given last) × HoldsAcknowledged lived
     × ((next : Book) × After book (commands_of lived.kept) next × IsLife next later found)
 
 -- the commands that all these sessions kept, in order
-abbrev pub kept_commands : List Lived → List Command
+abbrev pub kept_commands : List SessionRecord → List Command
 kept_commands sessions = flat_map (λ lived. commands_of lived.kept) sessions
 
 -- the turn gave this: it was done, and its reply was taken or not, or the store failed to keep it
-pub data IsGivenBy (turn : Turn) (one : Given) : Type 0 where
+pub data IsGivenBy (turn : Turn) (one : GivenCommand) : Type 0 where
   done : (number : Option ℕ) → turn.answer ≡ Done number → IsCommand turn.request one.command
       → one.acknowledged ≡ turn.taken → IsGivenBy turn one
   lost : turn.answer ≡ Lost → IsCommand turn.request one.command → one.acknowledged ≡ false

@@ -12,11 +12,11 @@ use Rattle.desk_line.specs.declared.answer.Answer.{Answer}
 use Rattle.desk_line.specs.declared.answer.Answer.TheVariants.{Done, Refused, Asked, Syntax, NoMemory, Lost}
 use Rattle.desk_line.specs.declared.fault.Fault.{Fault}
 use Rattle.desk_line.specs.declared.fault.Fault.TheVariants as faults
-use Rattle.desk_line.specs.Answered.{IsAnswered}
+use Rattle.desk_line.specs.Answers.{IsAnswered}
 use Rattle.desk_line.specs.Reply.{IsReply}
 use Rattle.desk_store.specs.Books.{HasNewTables, IsKept, LeavesEither}
 use Rattle.desk_rows.specs.Layout.{Layout}
-use Rattle.desk_session.specs.Served.{IsPart}
+use Rattle.desk_session.specs.Service.{IsPart}
 use Rattle.desk_session.specs.Session.{IsCommand}
 
 -- what is answered to bytes that were not read as a request

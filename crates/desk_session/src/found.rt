@@ -2,11 +2,11 @@
 ghost use Rattle.desk_model.specs.Book.{Book};
 ghost use Rattle.desk_rows.specs.Layout.{Layout};
 ghost use Rattle.desk_session.specs.Reopened.{IsKeptBook, MayBegin};
-ghost use Rattle.desk_session.specs.Served.{EndsAs, IsLeft, MayServe};
-ghost use Rattle.desk_session.specs.Session.{Given, IsSession, Turn};
+ghost use Rattle.desk_session.specs.Service.{EndsAs, IsLeft, MayServe};
+ghost use Rattle.desk_session.specs.Session.{GivenCommand, IsSession, Turn};
 ghost use Rattle.desk_session.specs.declared.session.Ended.{Ended};
 ghost use Rattle.desk_store.specs.Books.{HasNewTables, shown_by};
-ghost use Rattle.desk_store.specs.Opened.{FindsBook, HoldsEither, Opens as OpensSo, Stands, StopsOpening, completed};
+ghost use Rattle.desk_store.specs.Opened.{FindsBook, HoldsEither, OpensBook, Stands, StopsOpening, with_missing_tables};
 ghost use Rattle.desk_store.specs.Reopened.{IsKeptThere};
 ghost use Rattle.desk_store.specs.declared.fault.OpenFault.{OpenFault};
 ghost use Rattle.sql_tables.specs.States.{IsSettled, Leaves};
@@ -25,19 +25,19 @@ pub fn opened_after_a_session<S: Alter, T: Alter>(
     next: &Connection<T>,
     opened: &Connection<T>,
 )
-    ensures found { (l : Layout) (book held : Book) (ended : Ended) (turns : List Turn) (given : List Given)
+    ensures found { (l : Layout) (book held : Book) (ended : Ended) (turns : List Turn) (given : List GivenCommand)
         → HasNewTables l → IsSession book turns given held → EndsAs ended turns
         → IsLeft l book held ended given (shown_by S.Store last.now)
         → (shown_by S.Store last.now).may_leave (state T.Store next.now).committed.trees
         → Opens (state T.Store next.now) → (make : Bool) (result : Result Book OpenFault)
-        → OpensSo T.Store make next.now (state T.Store opened.now) result
+        → OpensBook T.Store make next.now (state T.Store opened.now) result
         → FindsBook (IsKeptBook book turns given) result }
-    ensures begins { (l : Layout) (book held : Book) (ended : Ended) (given : List Given)
+    ensures begins { (l : Layout) (book held : Book) (ended : Ended) (given : List GivenCommand)
         → HasNewTables l → IsLeft l book held ended given (shown_by S.Store last.now)
         → (shown_by S.Store last.now).may_leave (state T.Store next.now).committed.trees
         → Opens (state T.Store next.now) → IsSettled (state T.Store next.now)
         → (make : Bool) (found : Book)
-        → OpensSo T.Store make next.now (state T.Store opened.now) (Ok found)
+        → OpensBook T.Store make next.now (state T.Store opened.now) (Ok found)
         → MayBegin found (state T.Store opened.now) }
 {
     let _ = next.schema();
@@ -47,9 +47,9 @@ pub fn opened_after_a_session<S: Alter, T: Alter>(
 /// complete it; and with each book that is kept in a file with the tables of a new one.
 pub fn begins_after_a_failed_opening<S: Alter>(old: &Connection<S>, new: &Connection<S>)
     ensures opened { (make : Bool) (book : Book)
-        → OpensSo S.Store make old.now (state S.Store new.now) (Ok book) → (l : Layout)
+        → OpensBook S.Store make old.now (state S.Store new.now) (Ok book) → (l : Layout)
         → Stands l book (state S.Store old.now) → Leaves (HoldsEither l book) (state S.Store old.now)
-        → MayServe (completed l) book (state S.Store new.now) }
+        → MayServe (with_missing_tables l) book (state S.Store new.now) }
     ensures kept { (book : Book) → IsKeptThere book (state S.Store new.now)
         → MayBegin book (state S.Store new.now) }
 {}
@@ -66,6 +66,6 @@ pub fn begins_where_opening_stopped_first<S: Alter>(
         → (state S.Store first.now).now ≡ (state S.Store first.now).committed
         → IsTrue (state S.Store old.now).is_open → (l : Layout)
         → Stands l book (state S.Store first.now) → Leaves (HoldsEither l book) (state S.Store old.now)
-        → OpensSo S.Store make old.now (state S.Store new.now) (Ok book)
-        → MayServe (completed l) book (state S.Store new.now) }
+        → OpensBook S.Store make old.now (state S.Store new.now) (Ok book)
+        → MayServe (with_missing_tables l) book (state S.Store new.now) }
 {}

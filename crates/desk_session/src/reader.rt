@@ -1,10 +1,10 @@
 //! The requests of an input.
 ghost use Rattle.desk_ends.specs.Input.{unread};
-ghost use Rattle.desk_ends.specs.Lines.{IsLine, kept};
+ghost use Rattle.desk_ends.specs.Lines.{IsLine, kept_line};
 ghost use Rattle.desk_session.specs.Reading.{AreFed, HoldsText, ReadsBlock, ReadsRequest};
 ghost use Rattle.std.specs.Prelude.{Err, IfErr, List, None, OnOk, ◌++◌, ◌≡◌, ℕ};
 
-use desk_ends::{Failed, Input, Line, Source, without_ending};
+use desk_ends::{Failure, Input, Line, Source, without_ending};
 use desk_line::{Fault, Request, begin_request};
 use std::alloc::Global;
 
@@ -22,7 +22,7 @@ pub(crate) struct Reader {
 /// Bytes with a line after them. With a line that is too long they aren't of a request, and no more of them is kept.
 fn add_line(text: Result<Vec<u8>, Fault>, line: &Line) -> Result<Vec<u8>, Fault>
     ensures holds { (bytes more : List ℕ) → AreFed bytes → IsLine more
-        → HoldsText text bytes → line.now ≡ kept more → HoldsText result (bytes ++ more) }
+        → HoldsText text bytes → line.now ≡ kept_line more → HoldsText result (bytes ++ more) }
     // What is known of the block by then stays so, and a line that is too long is a fault of syntax.
     ensures still { IfErr text (λ fault. result ≡ Err fault) }
     ensures too_long { line.now ≡ None → OnOk text (result ≡ Err Fault.Syntax) }
@@ -50,7 +50,7 @@ fn read_block<S: Source>(
     input: &mut Input,
     line: &mut Line,
     count: u64,
-) -> Result<Result<Vec<u8>, Fault>, Failed>
+) -> Result<Result<Vec<u8>, Fault>, Failure>
     ensures { ReadsBlock S.can_fail (S.remaining source.old) (S.remaining source.new)
         input.old input.new count result }
 {
@@ -85,7 +85,7 @@ impl Reader {
         &mut self,
         alloc: Global,
         source: &mut S,
-    ) -> Result<Option<Result<Request, Fault>>, Failed>
+    ) -> Result<Option<Result<Request, Fault>>, Failure>
         ensures { ReadsRequest S.can_fail (S.remaining source.old) (S.remaining source.new)
             self.old.input self.new.input result }
     {

@@ -1,5 +1,5 @@
 //! A session over two ends.
-ghost use Rattle.desk_session.specs.Served.{Served, ends_of};
+ghost use Rattle.desk_session.specs.Service.{Serves, ends_of};
 ghost use Rattle.desk_model.specs.Book.{Book};
 ghost use Rattle.desk_store.specs.Books.{Store as Shown, shown_by};
 ghost use Rattle.std.specs.Prelude.{true, ◌≡◌};
@@ -39,7 +39,7 @@ pub fn serve<R: Source, W: Sink, S: Alter>(
     store: &mut Store<S>,
     book: Book,
 ) -> (Ended, Book)
-    ensures served { Served book result.1 result.0 (ends_of R.Source source.old source.new
+    ensures served { Serves book result.1 result.0 (ends_of R.Source source.old source.new
         W.Sink sink.old sink.new (shown_by S.Store store.old) (shown_by S.Store store.new)) }
     // Only a store on which a change was lost ends it so.
     ensures lost { result.0 ≡ Ended.Lost → store.new.lost ≡ true }
@@ -75,7 +75,7 @@ pub fn run<R: Source, W: Sink, S: Alter + Drop>(
 ) -> Ended
     // What became of the book and of the file is known of `serve`; here it is a book and a state that fit.
     ensures { (last : Book) × (left : Shown S)
-        × Served book last result (ends_of R.Source source.old source.new
+        × Serves book last result (ends_of R.Source source.old source.new
         W.Sink sink.old sink.new (shown_by S.Store store) (shown_by S.Store left)) }
 {
     let mut store = store;

@@ -7,7 +7,7 @@ ghost use Rattle.std.specs.Prelude.{IsTrue, List, MatchResult, is_ok, true, â—Œâ
 
 use desk_book::Book;
 use desk_command::Command;
-use desk_ends::{Failed, Sink};
+use desk_ends::{Failure, Sink};
 use desk_line::{Answer, Fault, Request, write_reply};
 use desk_store::Store;
 use sqlite::Alter;
@@ -68,12 +68,12 @@ fn carry_out<S: Alter>(
 }
 
 /// Replies to a request, and flushes the reply.
-pub(crate) fn reply<K: Sink>(sink: &mut K, book: &Book, answer: &Answer) -> Result<(), Failed>
+pub(crate) fn reply<K: Sink>(sink: &mut K, book: &Book, answer: &Answer) -> Result<(), Failure>
     ensures { SendsReply K.can_fail (K.contents sink.old) (K.contents sink.new) (K.flushed sink.new)
         book.now answer.now (is_ok result) }
 {
     if write_reply(sink, book, answer).is_err() {
-        return Err(Failed);
+        return Err(Failure);
     }
     sink.flush()
 }

@@ -13,20 +13,20 @@ use Rattle.sqlite.specs.declared.error.Error.{Error}
 use Rattle.sql_tables.specs.States.{HasAnswer}
 use Rattle.sql_tables.proofs.Quiet.{never_returns, reads}
 use Rattle.desk_parts.specs.FileRows.{EntryRows, Named, Unnamed}
-use Rattle.desk_parts.specs.Rows.{Cached}
-use Rattle.desk_rows.specs.Asked.{AnswersRows, Gives, asked}
+use Rattle.desk_parts.specs.Rows.{ParaCells}
+use Rattle.desk_rows.specs.TableQuery.{AnswersRows, Gives, query_of}
 use Rattle.desk_rows.specs.Contents.{Contents}
-use Rattle.desk_rows.specs.Described.{Which, books, tabs, paras, corrs, marks, caches, named_corrs}
+use Rattle.desk_rows.specs.Descriptions.{Which, books, tabs, paras, corrs, marks, caches, named_corrs}
 use Rattle.desk_store.specs.Formats.{Format, IsOfFormat, Presence, named, needed, presence, unnamed}
 use Rattle.desk_store.specs.Found.{AreCellsIn, AreEntriesIn, AreRowsIn, AreToldApart, CanAllAnswer, CanAnswer, IsReadAs}
 use Rattle.desk_rows.specs.Layout.{Layout}
 use Rattle.desk_store.specs.Opening.{AreEntriesReadable, CanAllBeRead, ShowsReadable, Stays}
-use Rattle.desk_rows.specs.Rows.{RowOf, ShownOf, own, shown}
-use Rattle.desk_rows.specs.States.{Shows}
+use Rattle.desk_rows.specs.Rows.{RowOf, ShownOf, own, shown_columns}
+use Rattle.desk_rows.specs.States.{ShowsContents}
 use Rattle.desk_rows.specs.Tables.{is_there}
 use Rattle.desk_rows.specs.Whole.{IsUtf8Row}
-use Rattle.desk_rows.specs.declared.fault.Fault.{Fault}
-use Rattle.desk_rows.specs.declared.fault.Fault.TheVariants.{Refused}
+use Rattle.desk_rows.specs.declared.fault.DatabaseFault.{DatabaseFault}
+use Rattle.desk_rows.specs.declared.fault.DatabaseFault.TheVariants.{Refused}
 use Rattle.desk_store.proofs.Opened.{shows_still}
 use Rattle.desk_rows.proofs.WholeReads.{reads_only}
 
@@ -61,14 +61,14 @@ module _ (text : List ℕ) (is_read : reads (first text) ≡ true) (s a : State)
 -- ---- a table
 
 module _ (s a : State) (same : Stays s a) where
-  pub gives_before : (w : Which) (b : State) (rows : List (ShownOf w)) → Gives (asked w) (shown w) a b rows → Gives (asked w) (shown w) s s rows
-  gives_before w b rows h = (h.0, shown_before (asked w).text (reads_only w) s a same b h.0 h.1, h.2)
+  pub gives_before : (w : Which) (b : State) (rows : List (ShownOf w)) → Gives (query_of w) (shown_columns w) a b rows → Gives (query_of w) (shown_columns w) s s rows
+  gives_before w b rows h = (h.0, shown_before (query_of w).text (reads_only w) s a same b h.0 h.1, h.2)
 
   pub entries_before : (entries : EntryRows) → AreEntriesIn a entries → AreEntriesIn s entries
   entries_before (Unnamed rows) are = (gives_before corrs a rows are.0, are.1)
   entries_before (Named rows) are = (gives_before named_corrs a rows are.0, are.1)
 
-  pub cells_before : (cells : Option (List Cached)) → AreCellsIn a cells → AreCellsIn s cells
+  pub cells_before : (cells : Option (List ParaCells)) → AreCellsIn a cells → AreCellsIn s cells
   cells_before None none = subst (λ (d : Database). is_there d.schema caches ≡ false) same.now none
   cells_before (Some rows) are =
       (subst (λ (d : Database). is_there d.schema caches ≡ true) same.now are.0, (gives_before caches a rows are.1.0, are.1.1))
@@ -78,8 +78,8 @@ module _ (s a : State) (same : Stays s a) where
 
   can_still : (w : Which) → CanAnswer s w → CanAnswer a w
   can_still w can = record {
-    has = answer_still (asked w).text (reads_only w) s a same can.has;
-    kinds = λ rows seen. can.kinds rows (shown_before (asked w).text (reads_only w) s a same a rows seen);
+    has = answer_still (query_of w).text (reads_only w) s a same can.has;
+    kinds = λ rows seen. can.kinds rows (shown_before (query_of w).text (reads_only w) s a same a rows seen);
     apart = λ rows gives. can.apart rows (gives_before w a rows gives);
   }
 
@@ -92,14 +92,14 @@ module _ {V : Type 0} (w : Which) (items : V → List (ShownOf w)) (Apart : List
   rows_before v apart answers = (gives_before s old same w new (items v) answers.gives, apart answers.apart)
 
   -- it isn't refused if the statement has an answer that can be read
-  pub never_refused_any : (fault : Fault) → ((xs : List (ShownOf w)) → AreToldApart w xs → Apart xs) → AnswersRows (Err fault) items w (λ x. x) Apart old new
+  pub never_refused_any : (fault : DatabaseFault) → ((xs : List (ShownOf w)) → AreToldApart w xs → Apart xs) → AnswersRows (Err fault) items w (λ x. x) Apart old new
       → old.step_limit ≡ None → CanAnswer s w → fault ≢ Refused
   never_refused_any fault apart answers unlimited can =
-      answers.answered (answer_still (asked w).text (reads_only w) s old same can.has) unlimited
-      (λ rows seen. can.kinds rows (shown_before (asked w).text (reads_only w) s old same new rows seen))
+      answers.answered (answer_still (query_of w).text (reads_only w) s old same can.has) unlimited
+      (λ rows seen. can.kinds rows (shown_before (query_of w).text (reads_only w) s old same new rows seen))
       (λ xs gives. apart xs (can.apart xs (gives_before s old same w new xs gives)))
 
-  pub never_refused_needed : (f : Format) (fault : Fault) → presence f w ≡ needed → ((xs : List (ShownOf w)) → AreToldApart w xs → Apart xs)
+  pub never_refused_needed : (f : Format) (fault : DatabaseFault) → presence f w ≡ needed → ((xs : List (ShownOf w)) → AreToldApart w xs → Apart xs)
       → AnswersRows (Err fault) items w (λ x. x) Apart old new → old.step_limit ≡ None → fault ≡ Refused → ¬ CanAllAnswer f s
   never_refused_needed f fault has_to apart answers unlimited is can =
       never_refused_any fault apart answers unlimited (can w (subst (λ (p : Presence). IsReadAs p (is_there s.now.schema w)) (sym has_to) tt)) is
@@ -108,7 +108,7 @@ module _ {V : Type 0} (w : Which) (items : V → List (ShownOf w)) (Apart : List
 
 -- the rows of a table are readable if those are that were read of it
 pub texts_of : {V : Type 0} (w : Which) (items : V → List (ShownOf w)) (Apart : List (ShownOf w) → Type 0) (old new : State) (v : V) → AnswersRows (Ok v) items w (λ x. x) Apart old new
-    → (l : Layout) (c : Contents) → l.has w ≡ true → Shows l c old → AllByRecursion (IsUtf8Row w) (c.rows w)
+    → (l : Layout) (c : Contents) → l.has w ≡ true → ShowsContents l c old → AllByRecursion (IsUtf8Row w) (c.rows w)
 texts_of w items Apart old new v answers l c there shows =
     all-permutation (IsUtf8Row w) (map (own w) (items v)) (c.rows w) (IsPermutation-sym _ _ (answers.shows l c there shows)) (all-map (IsUtf8Row w) (own w) (items v) answers.utf8)
 

@@ -4,7 +4,7 @@ use Rattle.sqlite_trees.specs.Tree.{Trees}
 use Rattle.sqlite.specs.State.{HasCleanDisk, State, Survives}
 use Rattle.sql_tables.specs.States.{IsSettled}
 use Rattle.desk_model.specs.Book.{Book}
-use Rattle.desk_model.specs.Lent.{LeadTo}
+use Rattle.desk_model.specs.Loans.{LeadTo}
 use Rattle.desk_book.specs.Changes.{Change}
 use Rattle.desk_parts.specs.declared.file_table.FileTable.TheVariants.{NamedCorr}
 use Rattle.desk_parts.specs.Puts.{RowPut, PutBook, PutTab, PutPara, PutMark, PutCache, PutEntry, SetPlace, SetFlags, SetTable, SetPrint, SetSpan, SetResolved, SetVersion}

@@ -9,7 +9,7 @@ use Rattle.std.proofs.lemmas.List.Sorted.{IsPermutation-map, IsPermutation-sym}
 use Rattle.std.proofs.lemmas.Map.Keys.{IsDistinct-IsPermutation}
 use Rattle.desk_model.specs.Book.{Book, Mark, Paragraph}
 use Rattle.desk_parts.specs.FileRows.{FileRows, spelled_mark, spelled_para}
-use Rattle.desk_parts.specs.Rows.{Cached, Mark as MarkRow, Para}
+use Rattle.desk_parts.specs.Rows.{Mark as MarkRow, Para, ParaCells}
 use Rattle.desk_model.specs.Shows.{Shows, mark_row_of, para_of, paras_of}
 use Rattle.desk_model.proofs.Callers.{IsDistinct-numbers, IsDistinct-range}
 use Rattle.desk_store.specs.BookFile.{HaveOwnNumbers}
@@ -77,6 +77,6 @@ differ_by_numbers rows book shows =
           (subst (IsDistinct nat_eq) (sym sound.numbers) (IsDistinct-range 1 _));
       caches = λ caches there.
           let cached = shows.caches caches there in
-          moved (map (λ (p : Paragraph). p.id) book.paragraphs) (map (λ (c : Cached). c.para) caches) ids
-          (subst (λ ks. IsPermutation ks (map (λ (c : Cached). c.para) caches)) (cache_numbers book.paragraphs) (IsPermutation-sym _ _ cached.one_each));
+          moved (map (λ (p : Paragraph). p.id) book.paragraphs) (map (λ (c : ParaCells). c.para) caches) ids
+          (subst (λ ks. IsPermutation ks (map (λ (c : ParaCells). c.para) caches)) (cache_numbers book.paragraphs) (IsPermutation-sym _ _ cached.one_each));
     }

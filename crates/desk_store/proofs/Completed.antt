@@ -5,33 +5,33 @@ use Rattle.sqlite_trees.specs.Tree.{Trees}
 use Rattle.sqlite.specs.State.{State}
 use Rattle.desk_model.specs.Book.{empty_book}
 use Rattle.desk_parts.specs.FileRows.{EntryRows, FileRows, Named, Unnamed}
-use Rattle.desk_parts.specs.Rows.{Cached}
+use Rattle.desk_parts.specs.Rows.{ParaCells}
 use Rattle.desk_model.specs.SameRows.{AreSameRows, AreSameCaches, AreSameEntries}
 use Rattle.desk_model.proofs.Callers.{new-shown}
 use Rattle.desk_store.specs.BookFile.{rows_of}
 use Rattle.desk_store.specs.Books.{HasNewTables, HoldsBook, ShowsBook}
 use Rattle.desk_rows.specs.Contents.{Contents}
-use Rattle.desk_rows.specs.Described.{books, tabs, paras, marks, caches, named_corrs}
+use Rattle.desk_rows.specs.Descriptions.{books, tabs, paras, marks, caches, named_corrs}
 use Rattle.desk_store.specs.Formats.{Format, IsOfFormat, unnamed, named}
 use Rattle.desk_rows.specs.Layout.{Layout}
-use Rattle.desk_rows.specs.Making.{IsMade, IsNew, first_contents, is_among, made}
-use Rattle.desk_store.specs.Opened.{completed, have_names, lacked, lacked_by, lacking, which_lacked}
-use Rattle.desk_rows.specs.States.{Shows}
+use Rattle.desk_rows.specs.Making.{IsMade, IsNew, first_contents, is_among, new_layout}
+use Rattle.desk_store.specs.Opened.{have_names, lacked_by, lacking, missing_tables, which_lacked, with_missing_tables}
+use Rattle.desk_rows.specs.States.{ShowsContents}
 
 -- ---- a new file
 
-pub new_tables_there : (s : Schema) → HasNewTables (made s)
+pub new_tables_there : (s : Schema) → HasNewTables (new_layout s)
 new_tables_there s = (refl, (refl, (refl, (refl, (refl, (refl, tt))))))
 
-pub new_shows : (old new : State) → IsNew old.now.schema old.now.trees (λ c. Shows (made old.now.schema) c new) → ShowsBook (made old.now.schema) empty_book new
+pub new_shows : (old new : State) → IsNew old.now.schema old.now.trees (λ c. ShowsContents (new_layout old.now.schema) c new) → ShowsBook (new_layout old.now.schema) empty_book new
 new_shows old new is = (first_contents is.0, is.4, new-shown)
 
-pub made_holds : (s : State) (db : Trees) → IsMade s db → HoldsBook (made s.now.schema) empty_book db
+pub made_holds : (s : State) (db : Trees) → IsMade s db → HoldsBook (new_layout s.now.schema) empty_book db
 made_holds s db is = (first_contents is.1.0, is.1.4, new-shown)
 
 -- ---- a file with all tables of a new one
 
-stays_there : (made has : Bool) → has ≡ true → (if made then true else has) ≡ true
+stays_there : (is_made has : Bool) → has ≡ true → (if is_made then true else has) ≡ true
 stays_there true has is = refl
 stays_there false has is = is
 
@@ -47,27 +47,27 @@ gains_names false true = refl
 gains_names true false = refl
 gains_names true true = refl
 
-has_all : (l : Layout) → l.has books ≡ true → l.has tabs ≡ true → l.has paras ≡ true → l.has marks ≡ true → HasNewTables (completed l)
+has_all : (l : Layout) → l.has books ≡ true → l.has tabs ≡ true → l.has paras ≡ true → l.has marks ≡ true → HasNewTables (with_missing_tables l)
 has_all l book tab para mark = (
-  stays_there (is_among (lacked l) books) (l.has books) book,
+  stays_there (is_among (missing_tables l) books) (l.has books) book,
   (
-    stays_there (is_among (lacked l) tabs) (l.has tabs) tab,
+    stays_there (is_among (missing_tables l) tabs) (l.has tabs) tab,
     (
-      stays_there (is_among (lacked l) paras) (l.has paras) para,
+      stays_there (is_among (missing_tables l) paras) (l.has paras) para,
       (
-        stays_there (is_among (lacked l) marks) (l.has marks) mark,
+        stays_there (is_among (missing_tables l) marks) (l.has marks) mark,
         (gains_caches (l.has named_corrs) (l.has caches), (gains_names (l.has named_corrs) (l.has caches), tt)),
       ),
     ),
   ),
 )
 
-pub completed_tables : (f : Format) (l : Layout) → IsOfFormat f l → HasNewTables (completed l)
+pub completed_tables : (f : Format) (l : Layout) → IsOfFormat f l → HasNewTables (with_missing_tables l)
 completed_tables unnamed l of = has_all l (of books).1 (of tabs).1 (of paras).1 (of marks).1
 completed_tables named l of = has_all l (of books).1 (of tabs).1 (of paras).1 (of marks).1
 
 -- it lacks nothing
-pub whole : (l : Layout) → lacking (l.has named_corrs) (l.has caches) ≡ None → completed l ≡ l
+pub whole : (l : Layout) → lacking (l.has named_corrs) (l.has caches) ≡ None → with_missing_tables l ≡ l
 whole l none = rw none refl
 
 -- ---- what the rows say of it
@@ -84,7 +84,7 @@ lacked_rows l c = by_tables (l.has named_corrs) (l.has caches) refl refl
 pub lacked_same : (a b : FileRows) → AreSameRows a b → lacked_by a ≡ lacked_by b
 lacked_same a b same = by_rows a.entries b.entries a.caches b.caches same.entries same.caches
   where
-    by_rows : (x y : EntryRows) (p q : Option (List Cached)) → AreSameEntries x y → AreSameCaches p q → lacking (have_names x) (is_some p) ≡ lacking (have_names y) (is_some q)
+    by_rows : (x y : EntryRows) (p q : Option (List ParaCells)) → AreSameEntries x y → AreSameCaches p q → lacking (have_names x) (is_some p) ≡ lacking (have_names y) (is_some q)
     by_rows (Unnamed x) (Unnamed y) None None e k = refl
     by_rows (Unnamed x) (Unnamed y) None (Some q) e k = absurd k
     by_rows (Unnamed x) (Unnamed y) (Some p) None e k = absurd k

@@ -5,13 +5,13 @@ use Rattle.std.proofs.lemmas.Int.{ints}
 use Rattle.std.proofs.lemmas.List.Elements.{All-from_recursion}
 use Rattle.desk_model.specs.Damage.{HasItsTables, IsDamagedBook}
 use Rattle.desk_model.proofs.Callers.{book-undamaged as sound-book, one_damage, shown-undamaged as shown, undamaged as sound}
-use Rattle.desk_parts.specs.FileRows.{AreTexts, HasEntryTexts, Named, Unnamed, entries_in, unnamed as without_name}
+use Rattle.desk_parts.specs.FileRows.{AreTexts, HasEntryTexts, Named, Unnamed, entries_in, without_name}
 use Rattle.desk_parts.specs.Rows.{Corr}
 use Rattle.desk_parts.specs.declared.file_table.FileTable.{FileTable}
 use Rattle.desk_parts.specs.declared.file_table.FileTable.TheVariants as file
 use Rattle.desk_parts.specs.declared.rows.BookRow.{BookRow}
 use Rattle.desk_rows.specs.Contents.{Contents}
-use Rattle.desk_rows.specs.Described.{Which, books, corrs, marks, named_corrs, paras, tabs}
+use Rattle.desk_rows.specs.Descriptions.{Which, books, corrs, marks, named_corrs, paras, tabs}
 use Rattle.desk_rows.specs.Layout.{Layout}
 use Rattle.desk_rows.specs.Whole.{IsUtf8Row}
 use Rattle.desk_store.specs.BookFile.{rows_of}

@@ -1,10 +1,10 @@
 -- Which format a layout is of once tables are made.
 use Rattle.std.proofs.Common.{◌≡◌, Bool, true, false, if◌then◌else◌, ◌||◌, List, [], ◌∷◌, refl, sym, ◌∙◌, true≢false}
 use Rattle.sqlite_schema.specs.declared.schema.Schema.{Schema}
-use Rattle.desk_rows.specs.Described.{Which, books, tabs, paras, corrs, marks, caches, named_corrs}
+use Rattle.desk_rows.specs.Descriptions.{Which, books, tabs, paras, corrs, marks, caches, named_corrs}
 use Rattle.desk_store.specs.Formats.{Format, IsOfFormat, named, unnamed}
 use Rattle.desk_rows.specs.Layout.{Layout}
-use Rattle.desk_rows.specs.Making.{after, is_among, made, new_tables, with_tables}
+use Rattle.desk_rows.specs.Making.{after, is_among, new_layout, new_tables, with_tables}
 use Rattle.desk_rows.specs.Tables.{is_there}
 use Rattle.desk_store.proofs.Exact.{there_after}
 
@@ -26,7 +26,7 @@ makes false has is = absurd (true≢false (sym is))
 
 -- ---- each table
 
-pub new_format : (s : Schema) → IsOfFormat named (made s)
+pub new_format : (s : Schema) → IsOfFormat named (new_layout s)
 new_format s books = (sym (there_after new_tables s books), refl)
 new_format s tabs = (sym (there_after new_tables s tabs), refl)
 new_format s paras = (sym (there_after new_tables s paras), refl)

@@ -9,20 +9,20 @@ use Rattle.desk_model.specs.Book.{Book}
 use Rattle.desk_parts.specs.FileRows.{FileRows}
 use Rattle.desk_model.specs.FilledRows.{Fills, entry_puts, with_empty}
 use Rattle.desk_parts.specs.Puts.{RowPut, PutBook, PutTab, PutPara, PutMark, PutCache, PutEntry, SetPlace, SetFlags, SetTable, SetPrint, SetSpan, SetResolved, SetVersion, with_puts}
-use Rattle.desk_parts.specs.Rows.{Cached, NamedCorr}
+use Rattle.desk_parts.specs.Rows.{ParaCells, NamedCorr}
 use Rattle.desk_model.specs.Shows.{Shows as RowsShow}
 use Rattle.desk_model.specs.declared.new_tables.NewTables.{NewTables}
 use Rattle.desk_model.specs.declared.new_tables.NewTables.TheVariants.{Braille, Entries, EntriesAndBraille}
 use Rattle.desk_model.proofs.Callers.{filled-shown}
 use Rattle.desk_store.specs.BookFile.{rows_of}
 use Rattle.desk_rows.specs.Contents.{Contents}
-use Rattle.desk_rows.specs.Described.{Which, books, caches, corrs, named_corrs, described}
+use Rattle.desk_rows.specs.Descriptions.{Which, books, caches, corrs, named_corrs, description_of}
 use Rattle.desk_store.specs.Formats.{Format, IsOfFormat, unnamed, named}
 use Rattle.desk_rows.specs.Layout.{Layout}
 use Rattle.desk_rows.specs.Making.{Differ, IsFileWithTables, IsGrown, WritesWithTables, with_none, with_tables}
 use Rattle.desk_store.specs.Opened.{HasGained, HoldsWith, Keeps, Stands, which_new}
 use Rattle.desk_rows.specs.Puts.{HasThem, put_into, puts_into}
-use Rattle.desk_rows.specs.States.{IsFile, Shows}
+use Rattle.desk_rows.specs.States.{IsFile, ShowsContents}
 use Rattle.desk_rows.specs.Tables.{AreWritten, which}
 use Rattle.desk_parts.specs.declared.file_table.FileTable.{FileTable}
 use Rattle.desk_store.proofs.BookPuts.{all_put}
@@ -39,7 +39,7 @@ module _ (l : Layout) where
   entries_there there [] = tt
   entries_there there (e ∷ es) = (there, entries_there there es)
 
-  cells_there : l.has caches ≡ true → (cells : List Cached) → HasThem l (map PutCache cells)
+  cells_there : l.has caches ≡ true → (cells : List ParaCells) → HasThem l (map PutCache cells)
   cells_there there [] = tt
   cells_there there (k ∷ ks) = (there, cells_there there ks)
 
@@ -67,7 +67,7 @@ new_there Braille f l of book puts fills =
 -- ---- none of the new tables is `corr`
 
 abbrev AreNotCorr : List Which → Type 0
-AreNotCorr ws = AllByRecursion (λ w. (described w).is_written ≡ true) ws
+AreNotCorr ws = AllByRecursion (λ w. (description_of w).is_written ≡ true) ws
 
 new_written : (t : NewTables) → AreNotCorr (which_new t)
 new_written EntriesAndBraille = (refl, (refl, tt))
@@ -141,10 +141,10 @@ module _ (t : NewTables) (l : Layout) (book : Book) (puts : List RowPut) (fills 
 
 module _ (t : NewTables) (book : Book) (puts : List RowPut) (fills : Fills t book puts) (ts : List FileTable) (are : map which ts ≡ which_new t) (old : State) where
   pub shows_gained : (new : State) → WritesWithTables (map which ts) puts old new
-      → (l : Layout) (stands : Stands l book old) → HasGained (which_new t) l stands.1.0 book old.now.trees (λ after d. Shows after d new)
+      → (l : Layout) (stands : Stands l book old) → HasGained (which_new t) l stands.1.0 book old.now.trees (λ after d. ShowsContents after d new)
   shows_gained new writes l stands =
       let writes_new = subst (λ (ws : List Which). WritesWithTables ws puts old new) are writes in
-      gained t l book puts fills old stands (λ after d. Shows after d new)
+      gained t l book puts fills old stands (λ after d. ShowsContents after d new)
       (writes_new l stands.1.0 (new_differ t) (new_there t stands.0.0 l stands.0.1 book puts fills) stands.1.1)
 
   pub holds_gained : (db : Trees) → IsFileWithTables (map which ts) puts old db → HoldsWith (which_new t) book old db

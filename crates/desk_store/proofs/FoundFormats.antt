@@ -4,12 +4,12 @@ use Rattle.sqlite_schema.specs.declared.schema.Schema.{Schema}
 use Rattle.sqlite.specs.State.{State}
 use Rattle.desk_parts.specs.FileRows.{FileRows}
 use Rattle.desk_rows.specs.Contents.{Contents}
-use Rattle.desk_rows.specs.Described.{books, tabs, paras, corrs, marks, caches, named_corrs}
+use Rattle.desk_rows.specs.Descriptions.{books, tabs, paras, corrs, marks, caches, named_corrs}
 use Rattle.desk_store.specs.Formats.{Format, HasThoseRead, IsExact, IsOfFormat, named, unnamed}
 use Rattle.desk_store.specs.Found.{AreFileRows, format_kept}
 use Rattle.desk_rows.specs.Layout.{Layout}
 use Rattle.desk_store.specs.Opening.{has_tables}
-use Rattle.desk_rows.specs.States.{Shows}
+use Rattle.desk_rows.specs.States.{ShowsContents}
 use Rattle.desk_rows.specs.Tables.{is_there}
 
 all_unnamed : (a b c d e : Bool) → ((a && b && c) && (d && not e)) ≡ true → (a ≡ true) × (b ≡ true) × (c ≡ true) × (d ≡ true) × (e ≡ false)
@@ -61,7 +61,7 @@ module _ (l : Layout) (exact : IsExact l) (book : is_there l.schema books ≡ tr
   exact_of named = exact_named
 
 -- rows were found, so the tables of their format are there
-pub of_format : (s : State) (rows : FileRows) (l : Layout) (c : Contents) → AreFileRows s rows → HasThoseRead l → Shows l c s → (format : Format) × IsOfFormat format l
+pub of_format : (s : State) (rows : FileRows) (l : Layout) (c : Contents) → AreFileRows s rows → HasThoseRead l → ShowsContents l c s → (format : Format) × IsOfFormat format l
 of_format s rows l c are (inr of) shows = of
 of_format s rows l c are (inl exact) shows =
     let format = format_kept rows.entries in (

@@ -11,12 +11,12 @@ use Rattle.desk_model.specs.Shows.{Shows as RowsShow}
 use Rattle.desk_store.specs.BookFile.{rows_of}
 use Rattle.desk_store.specs.Books.{HoldsBook, LeavesBook}
 use Rattle.desk_rows.specs.Contents.{Contents}
-use Rattle.desk_rows.specs.Described.{Which}
+use Rattle.desk_rows.specs.Descriptions.{Which}
 use Rattle.desk_rows.specs.Layout.{IsOther, Layout}
 use Rattle.desk_rows.specs.Making.{with_tables}
 use Rattle.desk_model.specs.declared.new_tables.NewTables.{NewTables}
 use Rattle.desk_store.specs.Opened.{HasGained, HoldsEitherWith, Keeps, which_lacked}
-use Rattle.desk_rows.specs.States.{Shows}
+use Rattle.desk_rows.specs.States.{ShowsContents}
 
 own_rows : (tables : List Table) (rows : Trees) → KeepsRows tables rows rows
 own_rows [] rows = tt
@@ -27,7 +27,7 @@ module _ (l : Layout) (c : Contents) (book : Book) (s : State) where
   abbrev as_it_stands : Contents
   as_it_stands = record { rows = c.rows; others = s.now.trees }
 
-  stays_shown : Shows l c s → Shows l as_it_stands s
+  stays_shown : ShowsContents l c s → ShowsContents l as_it_stands s
   stays_shown shows = record {
     schema = shows.schema;
     is = record {
@@ -53,10 +53,10 @@ module _ (l : Layout) (c : Contents) (book : Book) (s : State) where
     aside = record { rows = λ tree is. refl; texts = λ row has foreign. has; version = refl };
   }
 
-  pub gains_none : Shows l c s → RowsShow (rows_of l c) book → HasGained [] l c book s.now.trees (λ after d. Shows after d s)
+  pub gains_none : ShowsContents l c s → RowsShow (rows_of l c) book → HasGained [] l c book s.now.trees (λ after d. ShowsContents after d s)
   gains_none shows rows = (as_it_stands, (stays_shown shows, keeps_all), rows)
 
-  pub leaves_gained : (ws : List Which) (rows : Trees) → HasGained ws l c book rows (λ after d. Shows after d s) → IsSettled s → LeavesBook (with_tables ws l) book s
+  pub leaves_gained : (ws : List Which) (rows : Trees) → HasGained ws l c book rows (λ after d. ShowsContents after d s) → IsSettled s → LeavesBook (with_tables ws l) book s
   leaves_gained ws rows gained settled db left = subst (HoldsBook (with_tables ws l) book) (sym (settled db left)) (gained.0, gained.1.0.is, gained.2)
 
 -- one that lacks no table has exactly one form

@@ -18,19 +18,19 @@ use Rattle.desk_parts.specs.declared.file_table.FileTable.TheVariants as file
 use Rattle.desk_parts.specs.declared.parts.Parts.{Parts}
 use Rattle.desk_parts.specs.declared.rows.BookRow.{BookRow}
 use Rattle.desk_model.proofs.Callers.{undamaged as sound}
-use Rattle.desk_rows.specs.Asked.{AnswersRows, AnyRows, asked}
+use Rattle.desk_rows.specs.TableQuery.{AnswersRows, AnyRows, query_of}
 use Rattle.desk_store.specs.BookFile.{rows_of}
 use Rattle.desk_rows.specs.Contents.{Contents}
-use Rattle.desk_rows.specs.Described.{books, tabs, paras, corrs, marks, named_corrs}
+use Rattle.desk_rows.specs.Descriptions.{books, tabs, paras, corrs, marks, named_corrs}
 use Rattle.desk_store.specs.Formats.{Format, HasThoseRead, IsOfFormat, IsPresent, Presence, foreign, named, needed, optional, presence, unnamed, unread}
 use Rattle.desk_store.specs.Found.{AreFileRows, AreOtherRows, AreRowsIn, CanAllAnswer, CanAnswer, RowsShowIn, format_kept}
 use Rattle.desk_rows.specs.Layout.{Layout}
 use Rattle.desk_store.specs.Opened.{IsReadOf, LacksTables, TellsOfTables}
 use Rattle.desk_store.specs.Opening.{AreRead, CanAllBeRead, CanBeRead, IsBookRow, IsNewer, IsRefusal, ShowsReadable, Stays, TellsOfRow, format_in, has_tables, opened_as}
-use Rattle.desk_rows.specs.States.{Shows}
+use Rattle.desk_rows.specs.States.{ShowsContents}
 use Rattle.desk_rows.specs.Tables.{is_there}
-use Rattle.desk_rows.specs.declared.fault.Fault.{Fault}
-use Rattle.desk_rows.specs.declared.fault.Fault.TheVariants as reading
+use Rattle.desk_rows.specs.declared.fault.DatabaseFault.{DatabaseFault}
+use Rattle.desk_rows.specs.declared.fault.DatabaseFault.TheVariants as reading
 use Rattle.desk_store.specs.declared.fault.OpenFault.{OpenFault}
 use Rattle.desk_store.specs.declared.fault.OpenFault.TheVariants.{NotABook, Damaged, NewerFormat, Lost, NoMemory}
 use Rattle.desk_store.proofs.AnyFile.{cells_before, entries_before, gives_before, shown_before}
@@ -154,12 +154,12 @@ books_there l (inr other) = books_as_there other.0 l other.1
 
 -- ---- what is reported
 
-pub refusal_is : (fault : Fault) → IsRefusal (opened_as fault) → fault ≡ reading.Refused
+pub refusal_is : (fault : DatabaseFault) → IsRefusal (opened_as fault) → fault ≡ reading.Refused
 refusal_is reading.NoMemory is = absurd is
 refusal_is reading.Lost is = absurd is
 refusal_is reading.Refused is = refl
 
-pub read_told : (l : Layout) (c : Contents) (fault : Fault) → (fault ≡ reading.Refused → LacksTables l c) → TellsOfTables l c (opened_as fault)
+pub read_told : (l : Layout) (c : Contents) (fault : DatabaseFault) → (fault ≡ reading.Refused → LacksTables l c) → TellsOfTables l c (opened_as fault)
 read_told l c reading.NoMemory lacks = tt
 read_told l c reading.Lost lacks = tt
 read_told l c reading.Refused lacks = lacks refl
@@ -186,11 +186,11 @@ can_books : (f : Format) (s : State) → CanAllAnswer f s → CanAnswer s books
 can_books unnamed s all = all books tt
 can_books named s all = all books tt
 
-pub books_answered : {V : Type 0} (items : V → List BookRow) (f : Format) (fault : Fault) (old new : State) → AnswersRows (Err fault) items books (λ x. x) AnyRows old new → old.step_limit ≡ None
+pub books_answered : {V : Type 0} (items : V → List BookRow) (f : Format) (fault : DatabaseFault) (old new : State) → AnswersRows (Err fault) items books (λ x. x) AnyRows old new → old.step_limit ≡ None
     → CanAllAnswer f old → fault ≢ reading.Refused
 books_answered items f fault old new answers unlimited all =
     let can = can_books f old all in
-    answers.answered can.has unlimited (λ rows seen. can.kinds rows (shown_before (asked books).text (reads_only books) old old (same_state old) new rows seen)) (λ xs gives. tt)
+    answers.answered can.has unlimited (λ rows seen. can.kinds rows (shown_before (query_of books).text (reads_only books) old old (same_state old) new rows seen)) (λ xs gives. tt)
 
 -- ---- a row that was checked
 
@@ -199,7 +199,7 @@ pub record IsJudged (old new : State) (rows : List BookRow) (row : BookRow) : Ty
   pub there : is_there old.now.schema books ≡ true
   pub so_far : Stays old new
   pub are : AreRowsIn old books rows
-  pub shows : (l : Layout) (c : Contents) → l.has books ≡ true → Shows l c old → IsPermutation (c.rows books) rows
+  pub shows : (l : Layout) (c : Contents) → l.has books ≡ true → ShowsContents l c old → IsPermutation (c.rows books) rows
   pub is : IsBookRow rows row
 
 pub judged : {V : Type 0} (items : V → List BookRow) (v : V) (old new : State) (seen : List BookRow) (row : BookRow) → is_there old.now.schema books ≡ true → AnswersRows (Ok v) items books (λ x. x) AnyRows old new
@@ -213,7 +213,7 @@ judged items v old new seen row there answers value is = record {
 }
 
 -- a layout has `book` if it is there
-pub has_books : (l : Layout) (c : Contents) (s : State) → HasThoseRead l → Shows l c s → is_there s.now.schema books ≡ true → l.has books ≡ true
+pub has_books : (l : Layout) (c : Contents) (s : State) → HasThoseRead l → ShowsContents l c s → is_there s.now.schema books ≡ true → l.has books ≡ true
 has_books l c s those was there = books_there l those ∙ ap (λ (schema : Schema). is_there schema books) (sym was.schema) ∙ there
 
 module _ {old new : State} {rows : List BookRow} {row : BookRow} (it : IsJudged old new rows row) where
@@ -223,26 +223,26 @@ module _ {old new : State} {rows : List BookRow} {row : BookRow} (it : IsJudged 
       ap (λ (g : Format). has_tables g old.now.schema) (sym of) ∙ ap (λ (d : Database). has_tables f d.schema) (sym it.so_far.now) ∙ sym told ∙ found
 
   -- the row is the file's
-  row_of_file : (l : Layout) (c : Contents) → HasThoseRead l → Shows l c old → (l.has books ≡ true) × IsBookRow (c.rows books) row
+  row_of_file : (l : Layout) (c : Contents) → HasThoseRead l → ShowsContents l c old → (l.has books ≡ true) × IsBookRow (c.rows books) row
   row_of_file l c those was =
       let has = has_books l c old those was it.there in
       (has, book_row_in (c.rows books) rows row (it.shows l c has was) it.is)
 
   -- a table of its format isn't there
-  pub lacks_tables : (l : Layout) (c : Contents) → HasThoseRead l → Shows l c old → has_tables (format_in row.format) old.now.schema ≡ false → LacksTables l c
+  pub lacks_tables : (l : Layout) (c : Contents) → HasThoseRead l → ShowsContents l c old → has_tables (format_in row.format) old.now.schema ≡ false → LacksTables l c
   lacks_tables l c those was none =
       let f = format_in row.format in
       let here = row_of_file l c those was in
       inr (row, here.0, here.1, λ can. true≢false (sym (tables_of f l (of_read f l c those can)) ∙ ap (λ (schema : Schema). has_tables f schema) (sym was.schema) ∙ none))
 
   -- or one can't be read
-  pub lacks_readable : (l : Layout) (c : Contents) → HasThoseRead l → Shows l c old → old.step_limit ≡ None → ¬ ShowsReadable (format_in row.format) old → LacksTables l c
+  pub lacks_readable : (l : Layout) (c : Contents) → HasThoseRead l → ShowsContents l c old → old.step_limit ≡ None → ¬ ShowsReadable (format_in row.format) old → LacksTables l c
   lacks_readable l c those was limit none =
       let here = row_of_file l c those was in
       inr (row, here.0, here.1, λ can. none (l, c, of_read (format_in row.format) l c those can, was, can, limit))
 
   -- a file of either format is of the row's if its tables are there
-  pub of_the_row : (g : Format) (l : Layout) (c : Contents) → Shows l c old → has_tables (format_in row.format) old.now.schema ≡ true → IsOfFormat g l → IsOfFormat (format_in row.format) l
+  pub of_the_row : (g : Format) (l : Layout) (c : Contents) → ShowsContents l c old → has_tables (format_in row.format) old.now.schema ≡ true → IsOfFormat g l → IsOfFormat (format_in row.format) l
   of_the_row g l c was all of =
       let f = format_in row.format in
       subst (λ (h : Format). IsOfFormat h l) (one_format f g l (ap (λ (schema : Schema). has_tables f schema) (sym was.schema) ∙ all) of) of
@@ -256,7 +256,7 @@ module _ {old new : State} {rows : List BookRow} {row : BookRow} (it : IsJudged 
       others = others_before old new it.so_far (rows_in parts) others;
     }
 
-    pub read_whole : (l : Layout) (c : Contents) → Shows l c old → IsOfFormat (format_in row.format) l → CanAllBeRead (format_in row.format) l c → AreRead (rows_of l c) parts → IsReadOf l c (rows_in parts)
+    pub read_whole : (l : Layout) (c : Contents) → ShowsContents l c old → IsOfFormat (format_in row.format) l → CanAllBeRead (format_in row.format) l c → AreRead (rows_of l c) parts → IsReadOf l c (rows_in parts)
     read_whole l c was of can are =
         let here = row_of_file l c (inr (format_in row.format, of)) was in
         record {

@@ -6,20 +6,20 @@ use Rattle.sqlite_trees.specs.declared.store.Store.{Ghosts}
 use Rattle.sqlite.specs.Effect.{Database}
 use Rattle.sqlite.specs.Held.{Held, state}
 use Rattle.sqlite.specs.State.{IsUnchanged, State}
-use Rattle.sql_tables.specs.Rows.{Lists, picked}
-use Rattle.desk_rows.specs.Asked.{AnswersRows, AnyRows}
+use Rattle.sql_tables.specs.Rows.{Lists, columns_at}
+use Rattle.desk_rows.specs.TableQuery.{AnswersRows, AnyRows}
 use Rattle.desk_rows.specs.Contents.{Contents}
-use Rattle.desk_rows.specs.Described.{Which, tabs, paras, marks, caches, described}
+use Rattle.desk_rows.specs.Descriptions.{Which, tabs, paras, marks, caches, description_of}
 use Rattle.desk_rows.specs.Layout.{Layout}
 use Rattle.desk_store.specs.Formats.{Format, unnamed, named, Presence, needed, optional, presence, IsOfFormat, IsPresent}
 use Rattle.desk_store.specs.Opened.{StopsReading}
 use Rattle.desk_store.specs.Opening.{CanBeRead, ShowsReadable, Stays}
 use Rattle.desk_rows.specs.Tables.{is_there}
-use Rattle.desk_rows.specs.Rows.{ShownOf, own, shown}
-use Rattle.desk_rows.specs.States.{IsFile, Shows}
+use Rattle.desk_rows.specs.Rows.{ShownOf, own, shown_columns}
+use Rattle.desk_rows.specs.States.{IsFile, ShowsContents}
 use Rattle.desk_rows.specs.Whole.{HaveOwnRowids, IsUtf8Row}
-use Rattle.desk_rows.specs.declared.fault.Fault.{Fault}
-use Rattle.desk_rows.specs.declared.fault.Fault.TheVariants.{Refused}
+use Rattle.desk_rows.specs.declared.fault.DatabaseFault.{DatabaseFault}
+use Rattle.desk_rows.specs.declared.fault.DatabaseFault.TheVariants.{Refused}
 use Rattle.desk_rows.proofs.FileTexts.{readable_table}
 use Rattle.desk_rows.proofs.WholeFile.{tabs_apart}
 
@@ -35,7 +35,7 @@ pub stays_then : (a b c : State) → Stays a b → Stays b c → Stays a c
 stays_then a b c p q = record { now = q.now ∙ p.now; committed = q.committed ∙ p.committed; is_open = q.is_open ∙ p.is_open }
 
 -- what stops a read stops it too of a connection that was as this one
-pub stops_after : {S : Type 0} (g : Ghosts S) (old mid : Held S) (new : State) (why : Fault) → Stays (state g old) (state g mid) → StopsReading g mid new why → StopsReading g old new why
+pub stops_after : {S : Type 0} (g : Ghosts S) (old mid : Held S) (new : State) (why : DatabaseFault) → Stays (state g old) (state g mid) → StopsReading g mid new why → StopsReading g old new why
 stops_after g old mid new why stays stops = record {
   table = stops.table;
   before = stops.before;
@@ -43,7 +43,7 @@ stops_after g old mid new why stays stops = record {
   fails = stops.fails;
 }
 
-pub shows_still : (old new : State) → Stays old new → (l : Layout) (c : Contents) → Shows l c old → Shows l c new
+pub shows_still : (old new : State) → Stays old new → (l : Layout) (c : Contents) → ShowsContents l c old → ShowsContents l c new
 shows_still old new same l c was = record {
   schema = ap (λ (d : Database). d.schema) same.now ∙ was.schema;
   is = subst (λ (d : Database). IsFile l c d.trees) (sym same.now) was.is;
@@ -53,24 +53,24 @@ shows_still old new same l c was = record {
 
 -- in whatever file the connection shows, the rows of the table are so apart
 abbrev pub AreApartIn : {X : Type 0} (w : Which) (written : X → Row) → (List X → Type 0) → State → Type 0
-AreApartIn {X} w written Apart s = (l : Layout) (c : Contents) → l.has w ≡ true → Shows l c s → (xs : List X) → Lists written (picked (described w).shown) xs (s.now.trees (l.tree w)) → Apart xs
+AreApartIn {X} w written Apart s = (l : Layout) (c : Contents) → l.has w ≡ true → ShowsContents l c s → (xs : List X) → Lists written (columns_at (description_of w).shown) xs (s.now.trees (l.tree w)) → Apart xs
 
 pub any_apart : {X : Type 0} (w : Which) (written : X → Row) (s : State) → AreApartIn w written AnyRows s
 any_apart w written s l c there shows xs lists = tt
 
-pub own_rowids : (s : State) → AreApartIn tabs (shown tabs) HaveOwnRowids s
+pub own_rowids : (s : State) → AreApartIn tabs (shown_columns tabs) HaveOwnRowids s
 own_rowids s l c there shows xs lists = tabs_apart l c s.now.trees shows.is there xs lists
 
 module _ {V X : Type 0} (items : V → List X) (w : Which) (view : X → ShownOf w) (Apart : List X → Type 0) (old new : State) where
   -- it isn't refused in a file that has the table with texts in UTF-8
-  pub never_refused_in : (fault : Fault) → AnswersRows (Err fault) items w view Apart old new → AreApartIn w (λ x. shown w (view x)) Apart old
-      → fault ≡ Refused → (l : Layout) (c : Contents) → Shows l c old → l.has w ≡ true → AllByRecursion (IsUtf8Row w) (c.rows w) → old.step_limit ≢ None
+  pub never_refused_in : (fault : DatabaseFault) → AnswersRows (Err fault) items w view Apart old new → AreApartIn w (λ x. shown_columns w (view x)) Apart old
+      → fault ≡ Refused → (l : Layout) (c : Contents) → ShowsContents l c old → l.has w ≡ true → AllByRecursion (IsUtf8Row w) (c.rows w) → old.step_limit ≢ None
   never_refused_in fault answers apart is l c shows there utf8 free =
       answers.cause (l.tree w)
       (record { declared = rw shows.schema (shows.is.declared w there); sound = rw shows.schema shows.is.sound })
       free (readable_table l c old.now.trees shows.is w there utf8) (apart l c there shows) is
 
-  pub stays_refused : (fault : Fault) → AnswersRows (Err fault) items w view Apart old new → fault ≡ Refused → Stays old new
+  pub stays_refused : (fault : DatabaseFault) → AnswersRows (Err fault) items w view Apart old new → fault ≡ Refused → Stays old new
   stays_refused fault answers is = as_it_was old new (answers.refused is)
 
   pub stays_read : (v : V) → AnswersRows (Ok v) items w view Apart old new → Stays old new
@@ -81,7 +81,7 @@ module _ {V X : Type 0} (items : V → List X) (w : Which) (view : X → ShownOf
 module _ {V X : Type 0} (items : V → List X) (w : Which) (view : X → ShownOf w) (Apart : List X → Type 0)
     (before old new : State) (so_far : Stays before old) (limit : old.step_limit ≡ before.step_limit) where
   -- in a file of this format that can be read
-  pub never_refused_of : (f : Format) (fault : Fault) → presence f w ≡ needed → AnswersRows (Err fault) items w view Apart old new → AreApartIn w (λ x. shown w (view x)) Apart old
+  pub never_refused_of : (f : Format) (fault : DatabaseFault) → presence f w ≡ needed → AnswersRows (Err fault) items w view Apart old new → AreApartIn w (λ x. shown_columns w (view x)) Apart old
       → fault ≡ Refused → Stays before new × ¬ ShowsReadable f before
   never_refused_of f fault has_to answers apart is = (
     stays_then before old new so_far (stays_refused items w view Apart old new fault answers is),
@@ -90,7 +90,7 @@ module _ {V X : Type 0} (items : V → List X) (w : Which) (view : X → ShownOf
         never_refused_in items w view Apart old new fault answers apart is r.0 r.1 (shows_still before old so_far r.0 r.1 r.3) can.0 can.1 (limit ∙ r.5),
   )
 
-  pub never_refused_optional : (f : Format) (fault : Fault) → presence f w ≡ optional → AnswersRows (Err fault) items w view Apart old new → AreApartIn w (λ x. shown w (view x)) Apart old
+  pub never_refused_optional : (f : Format) (fault : DatabaseFault) → presence f w ≡ optional → AnswersRows (Err fault) items w view Apart old new → AreApartIn w (λ x. shown_columns w (view x)) Apart old
       → ((l : Layout) → IsOfFormat f l → l.schema ≡ before.now.schema → l.has w ≡ true) → fault ≡ Refused → Stays before new × ¬ ShowsReadable f before
   never_refused_optional f fault may answers apart has is = (
     stays_then before old new so_far (stays_refused items w view Apart old new fault answers is),
@@ -101,7 +101,7 @@ module _ {V X : Type 0} (items : V → List X) (w : Which) (view : X → ShownOf
   )
 
   -- and what it gave are the table's rows
-  pub read_of : (v : V) → AnswersRows (Ok v) items w view Apart old new → (l : Layout) (c : Contents) → l.has w ≡ true → Shows l c before → IsPermutation (c.rows w) (map (λ x. own w (view x)) (items v))
+  pub read_of : (v : V) → AnswersRows (Ok v) items w view Apart old new → (l : Layout) (c : Contents) → l.has w ≡ true → ShowsContents l c before → IsPermutation (c.rows w) (map (λ x. own w (view x)) (items v))
   read_of v answers l c there was = answers.shows l c there (shows_still before old so_far l c was)
 
 pub map_same : {X : Type 0} (xs : List X) → map (λ x. x) xs ≡ xs

@@ -12,7 +12,7 @@ use Rattle.sqlite.proofs.StateLemmas.{survives_then}
 use Rattle.sql_tables.specs.States.{IsSettled, Leaves, ShowsAsBefore}
 use Rattle.desk_model.specs.Book.{Book, empty_book}
 use Rattle.desk_parts.specs.FileRows.{FileRows}
-use Rattle.desk_model.specs.Rebuilt.{IsFaultOf}
+use Rattle.desk_model.specs.Rebuilding.{IsFaultOf}
 use Rattle.desk_model.specs.Shows.{Shows as RowsShow}
 use Rattle.desk_model.specs.declared.new_tables.NewTables.{NewTables}
 use Rattle.desk_model.specs.declared.fault.PartsFault.{PartsFault}
@@ -21,18 +21,18 @@ use Rattle.desk_model.proofs.Callers.{first-damage, one_book, shown-same as show
 use Rattle.desk_store.specs.BookFile.{rows_of}
 use Rattle.desk_store.specs.Books.{HoldsBook, LeavesBook, ShowsBook}
 use Rattle.desk_rows.specs.Contents.{Contents}
-use Rattle.desk_rows.specs.Described.{Which, books, caches}
+use Rattle.desk_rows.specs.Descriptions.{Which, books, caches}
 use Rattle.desk_rows.specs.Failing.{FailsToChange, of_first_row}
 use Rattle.desk_store.specs.Formats.{Format, HasThoseRead, IsOfEither, IsOfFormat}
 use Rattle.desk_store.specs.Found.{AreFileRows, HasNone, RowsShowIn}
 use Rattle.desk_rows.specs.Layout.{Layout}
-use Rattle.desk_rows.specs.Making.{IsMade, IsNew, made, new_tables, with_tables}
-use Rattle.desk_store.specs.Opened.{HasGained, HoldsEither, HoldsEitherWith, HoldsEmpty, HoldsNone, HoldsWith, IsMadeNew, IsReadOf, MayBring, Opens, Stands, TellsOf, TellsOfNone, TellsOfTables, lacked, lacked_by, which_lacked}
+use Rattle.desk_rows.specs.Making.{IsMade, IsNew, new_layout, new_tables, with_tables}
+use Rattle.desk_store.specs.Opened.{HasGained, HoldsEither, HoldsEitherWith, HoldsEmpty, HoldsNone, HoldsWith, IsMadeNew, IsReadOf, MayBring, OpensBook, Stands, TellsOf, TellsOfNone, TellsOfTables, lacked_by, missing_tables, which_lacked}
 use Rattle.desk_store.specs.Opening.{IsOpenedAs, IsRefusal, Stays, rebuilt_as}
-use Rattle.desk_rows.specs.States.{IsFile, Shows}
+use Rattle.desk_rows.specs.States.{IsFile, ShowsContents}
 use Rattle.desk_rows.specs.Tables.{is_there}
-use Rattle.desk_rows.specs.Turns.{begun}
-use Rattle.desk_rows.specs.declared.fault.Fault.TheVariants as fault
+use Rattle.desk_rows.specs.Turns.{with_transaction}
+use Rattle.desk_rows.specs.declared.fault.DatabaseFault.TheVariants as fault
 use Rattle.desk_store.specs.declared.fault.OpenFault.{OpenFault}
 use Rattle.desk_store.specs.declared.fault.OpenFault.TheVariants.{NotABook, Damaged, NewerFormat, Lost, NoMemory}
 use Rattle.desk_store.proofs.Completed.{completed_tables, lacked_rows, lacked_same, made_holds, new_shows, new_tables_there}
@@ -54,7 +54,7 @@ pub leaves_none : (make : Bool) (old new : State) → Survives old new (MayBring
     → Leaves HoldsNone old → Leaves (λ db. HoldsNone db ⊎ HoldsEmpty db) new
 leaves_none make old new survives clean none leaves db left = elim (survives.crash clean db left) [
   | inl before ↦ inl (leaves db before)
-  | inr brought ↦ inr (made old.now.schema, new_tables_there old.now.schema, made_holds old db (brought.new none).1)
+  | inr brought ↦ inr (new_layout old.now.schema, new_tables_there old.now.schema, made_holds old db (brought.new none).1)
 ]
 
 -- ---- where a table of a book is there
@@ -85,7 +85,7 @@ module _ {S : Type 0} (g : Ghosts S) (make : Bool) (old : Held S) (there : ¬ Ha
   s = state g old
 
   pub refuses : (new : State) (fault : OpenFault) → ((book : Book) → RowsShowIn s book → ¬ IsRefusal fault)
-      → ((l : Layout) (c : Contents) → HasThoseRead l → Shows l c s → TellsOf l c fault) → (IsRefusal fault → ShowsAsBefore s new) → Opens g make old new (Err fault)
+      → ((l : Layout) (c : Contents) → HasThoseRead l → ShowsContents l c s → TellsOf l c fault) → (IsRefusal fault → ShowsAsBefore s new) → OpensBook g make old new (Err fault)
   refuses new fault unrefused told before = record {
     answers = record { found = tt; shown = λ book shows. (tt, unrefused book shows) };
     reports = record { declared = λ l c some. told l c; bare = λ none. absurd (there none) };
@@ -94,8 +94,8 @@ module _ {S : Type 0} (g : Ghosts S) (make : Bool) (old : Held S) (there : ¬ Ha
 
   -- ---- once the rows are read
 
-  module _ (rows : FileRows) (found : AreFileRows s rows) (read : (format : Format) (l : Layout) (c : Contents) → IsOfFormat format l → Shows l c s → IsReadOf l c rows) where
-    damage_told : (fault : PartsFault) → IsFaultOf rows fault → (l : Layout) (c : Contents) → HasThoseRead l → Shows l c s → TellsOf l c (rebuilt_as fault)
+  module _ (rows : FileRows) (found : AreFileRows s rows) (read : (format : Format) (l : Layout) (c : Contents) → IsOfFormat format l → ShowsContents l c s → IsReadOf l c rows) where
+    damage_told : (fault : PartsFault) → IsFaultOf rows fault → (l : Layout) (c : Contents) → HasThoseRead l → ShowsContents l c s → TellsOf l c (rebuilt_as fault)
     damage_told (rebuilt.Damaged table id) first l c those shows =
         let of = of_format s rows l c found those shows in
         let it = read of.0 l c of.1 shows in
@@ -106,20 +106,20 @@ module _ {S : Type 0} (g : Ghosts S) (make : Bool) (old : Held S) (there : ¬ Ha
     damage_shows_none (rebuilt.Damaged table id) first book shows refusal = sound rows book (shows.each rows found) table id first.damaged
     damage_shows_none rebuilt.NoMemory first book shows refusal = refusal
 
-    pub refuses_damaged : (new : State) (fault : PartsFault) → IsFaultOf rows fault → Stays s new → Opens g make old new (Err (rebuilt_as fault))
+    pub refuses_damaged : (new : State) (fault : PartsFault) → IsFaultOf rows fault → Stays s new → OpensBook g make old new (Err (rebuilt_as fault))
     refuses_damaged new fault first stays = refuses new (rebuilt_as fault) (damage_shows_none fault first) (damage_told fault first) (λ refusal is_open. stays.now)
 
     -- ---- once they show a book
 
     module _ (book : Book) (shows_it : RowsShow rows book) (mid : State) (stays : Stays s mid) where
-      stood : (l : Layout) (c : Contents) → IsOfEither l → Shows l c s → RowsShow (rows_of l c) book
+      stood : (l : Layout) (c : Contents) → IsOfEither l → ShowsContents l c s → RowsShow (rows_of l c) book
       stood l c of shows = shown rows (rows_of l c) (turned (rows_of l c) rows (read of.0 l c of.1 shows).same) book shows_it
 
       -- what stands there is this book
       one_stood : (l : Layout) (other : Book) → Stands l other s → other ≡ book
       one_stood l other (of, (c, shows, others)) = one_book rows other book (shown (rows_of l c) rows (read of.0 l c of.1 shows).same other others) shows_it
 
-      lacks : (l : Layout) (c : Contents) → IsOfEither l → Shows l c s → which_lacked (lacked_by rows) ≡ lacked l
+      lacks : (l : Layout) (c : Contents) → IsOfEither l → ShowsContents l c s → which_lacked (lacked_by rows) ≡ missing_tables l
       lacks l c of shows = ap which_lacked (sym (lacked_same (rows_of l c) rows (read of.0 l c of.1 shows).same) ∙ lacked_rows l c)
 
       pub brings : (db : Trees) → HoldsWith (which_lacked (lacked_by rows)) book mid db → MayBring make s db
@@ -133,9 +133,9 @@ module _ {S : Type 0} (g : Ghosts S) (make : Bool) (old : Held S) (there : ¬ Ha
             gained_same _ _ l c book other mid.now s.now (λ after d. IsFile after d db) (lacks l c st.0 st.1.1) (sym one) stays.now (holds l here);
       }
 
-      pub opens : (new : State) → ((l : Layout) (stands : Stands l book mid) → HasGained (which_lacked (lacked_by rows)) l stands.1.0 book mid.now.trees (λ after d. Shows after d new))
+      pub opens : (new : State) → ((l : Layout) (stands : Stands l book mid) → HasGained (which_lacked (lacked_by rows)) l stands.1.0 book mid.now.trees (λ after d. ShowsContents after d new))
           → ((l : Layout) → Stands l book mid → Leaves (HoldsEitherWith (which_lacked (lacked_by rows)) l book) mid → LeavesBook (with_tables (which_lacked (lacked_by rows)) l) book new)
-          → ((db : Trees) → mid.may_leave db → s.may_leave db) → IsTrue new.is_open → Opens g make old new (Ok book)
+          → ((db : Trees) → mid.may_leave db → s.may_leave db) → IsTrue new.is_open → OpensBook g make old new (Ok book)
       opens new filled leaves left is_open = record {
         answers = record { found = inl (rows, found, shows_it); shown = λ other shows. (one_book rows book other shows_it (shows.each rows found), tt) };
         reports = tt;
@@ -148,7 +148,7 @@ module _ {S : Type 0} (g : Ghosts S) (make : Bool) (old : Held S) (there : ¬ Ha
               record {
                 rows = it;
                 tables = completed_tables of.0 l of.1;
-                shows = gained_same _ _ l c book book mid.now s.now (λ after d. Shows after d new) same refl stays.now (filled l still);
+                shows = gained_same _ _ l c book book mid.now s.now (λ after d. ShowsContents after d new) same refl stays.now (filled l still);
                 leaves = λ was.
                     let here : Leaves (HoldsEither l book) mid = λ db here. was db (left db here) in
                     let either = subst (λ (ws : List Which). Leaves (HoldsEitherWith ws l book) mid) (sym same) here in
@@ -162,7 +162,7 @@ module _ {S : Type 0} (g : Ghosts S) (make : Bool) (old : Held S) (there : ¬ Ha
   -- if the tables that it lacks are made, a crash leaves nothing new but all of it
   pub fills : (rows : FileRows) (book : Book) (mid new : State) (some : Option NewTables) → some ≡ lacked_by rows → RowsShow rows book
       → (HasCleanDisk mid → AreFileRows s rows)
-      → (HasCleanDisk mid → (format : Format) (l : Layout) (c : Contents) → IsOfFormat format l → Shows l c s → IsReadOf l c rows)
+      → (HasCleanDisk mid → (format : Format) (l : Layout) (c : Contents) → IsOfFormat format l → ShowsContents l c s → IsReadOf l c rows)
       → (HasCleanDisk mid → Stays s mid) → Survives s mid (λ _. ⊥) → Survives mid new (HoldsWith (which_lacked some) book mid) → Survives s new (MayBring make s)
   fills rows book mid new some is shows_it found read stays reads writes =
       survives_then s mid new _ _ _ (λ clean db none. absurd none)
@@ -184,13 +184,13 @@ module _ {S : Type 0} (g : Ghosts S) (make : Bool) (old : Held S) (none : HasNon
   no_books : is_there bare.now.schema books ≡ true → ⊥
   no_books there = true≢false (sym there ∙ first_none (is_there bare.now.schema books) _ none)
 
-  no_file : (l : Layout) (c : Contents) → IsOfEither l → Shows l c bare → ⊥
+  no_file : (l : Layout) (c : Contents) → IsOfEither l → ShowsContents l c bare → ⊥
   no_file l c of shows = no_books (subst (λ (x : Schema). is_there x books ≡ true) (sym shows.schema) (books_there of.0 l of.1))
 
-  no_exact : (l : Layout) (c : Contents) → (¬ HasNone l.schema) → Shows l c bare → ⊥
+  no_exact : (l : Layout) (c : Contents) → (¬ HasNone l.schema) → ShowsContents l c bare → ⊥
   no_exact l c some shows = some (subst HasNone shows.schema none)
 
-  pub refuses_new : (new : State) (fault : OpenFault) → TellsOfNone make g old new fault → (IsRefusal fault → ShowsAsBefore bare new) → Opens g make old new (Err fault)
+  pub refuses_new : (new : State) (fault : OpenFault) → TellsOfNone make g old new fault → (IsRefusal fault → ShowsAsBefore bare new) → OpensBook g make old new (Err fault)
   refuses_new new fault told before = record {
     answers = record { found = tt; shown = λ book shows. absurd (no_books shows.are.book) };
     reports = record { declared = λ l c some those shows. absurd (no_exact l c some shows); bare = λ still. told };
@@ -204,8 +204,8 @@ module _ {S : Type 0} (g : Ghosts S) (make : Bool) (old : Held S) (none : HasNon
     old = λ l book st. absurd (no_file l st.1.0 st.0 st.1.1);
   }
 
-  pub makes : (new : State) (book : Book) → make ≡ true → book ≡ empty_book → IsNew bare.now.schema bare.now.trees (λ c. Shows (made bare.now.schema) c new) → IsSettled new
-      → IsTrue new.is_open → Opens g make old new (Ok book)
+  pub makes : (new : State) (book : Book) → make ≡ true → book ≡ empty_book → IsNew bare.now.schema bare.now.trees (λ c. ShowsContents (new_layout bare.now.schema) c new) → IsSettled new
+      → IsTrue new.is_open → OpensBook g make old new (Ok book)
   makes new book wanted empty beside settled is_open =
       let shows = new_shows bare new beside in
       let it : IsMadeNew make book bare new = record {
@@ -214,9 +214,9 @@ module _ {S : Type 0} (g : Ghosts S) (make : Bool) (old : Held S) (none : HasNon
         empty = empty;
         beside = beside;
         tables = new_tables_there bare.now.schema;
-        shows = subst (λ (b : Book). ShowsBook (made bare.now.schema) b new) (sym empty) shows;
-        leaves = subst (λ (b : Book). LeavesBook (made bare.now.schema) b new) (sym empty)
-            (λ db left. subst (HoldsBook (made bare.now.schema) empty_book) (sym (settled db left)) (shows.0, shows.1.is, shows.2));
+        shows = subst (λ (b : Book). ShowsBook (new_layout bare.now.schema) b new) (sym empty) shows;
+        leaves = subst (λ (b : Book). LeavesBook (new_layout bare.now.schema) b new) (sym empty)
+            (λ db left. subst (HoldsBook (new_layout bare.now.schema) empty_book) (sym (settled db left)) (shows.0, shows.1.is, shows.2));
       } in
       record {
         answers = record { found = inr it; shown = λ other shows. absurd (no_books shows.are.book) };
@@ -227,7 +227,7 @@ module _ {S : Type 0} (g : Ghosts S) (make : Bool) (old : Held S) (none : HasNon
   -- ---- what is reported if making the tables failed
 
   abbrev Failed : State → OpenFault → Type 0
-  Failed new told = (e : Error) × FailsToChange g new_tables (of_first_row g) (begun old) new e × IsOpenedAs e told
+  Failed new told = (e : Error) × FailsToChange g new_tables (of_first_row g) (with_transaction old) new e × IsOpenedAs e told
 
   tells_failed : (new : State) (told : OpenFault) → make ≡ true → Failed new told → TellsOfNone make g old new told
   tells_failed new told wanted (e, fails, (fault.NoMemory, cause, is)) = subst (TellsOfNone make g old new) (sym is) wanted

@@ -14,14 +14,14 @@ use Rattle.desk_model.specs.Book.{Book, empty_book}
 use Rattle.desk_model.proofs.Callers.{Contains-behind, Contains-here}
 use Rattle.desk_store.specs.Books.{HasNewTables, HoldsBook, LeavesBook}
 use Rattle.desk_rows.specs.Contents.{Contents}
-use Rattle.desk_rows.specs.Described.{Which, books, tabs, paras, corrs, marks, caches, named_corrs}
+use Rattle.desk_rows.specs.Descriptions.{Which, books, tabs, paras, corrs, marks, caches, named_corrs}
 use Rattle.desk_rows.specs.Layout.{Layout}
 use Rattle.desk_rows.specs.States.{IsFile}
 use Rattle.desk_rows.specs.Tables.{is_there}
 use Rattle.desk_rows.proofs.Schemas.{shows_committed}
 use Rattle.desk_store.specs.Formats.{Format, IsOfFormat, named}
 use Rattle.desk_store.specs.Found.{HasNone}
-use Rattle.desk_store.specs.Opened.{FindsBook, HoldsEither, HoldsEmpty, HoldsNone, Opens, Stands, completed}
+use Rattle.desk_store.specs.Opened.{FindsBook, HoldsEither, HoldsEmpty, HoldsNone, OpensBook, Stands, with_missing_tables}
 use Rattle.desk_store.specs.Opening.{IsRefusal}
 use Rattle.desk_store.specs.Reopened.{HoldsOneOf, HoldsStanding, IsKeptThere}
 use Rattle.desk_store.specs.declared.fault.OpenFault.{OpenFault}
@@ -51,7 +51,7 @@ holds_new l book db tables holds = (l, (named, second_format l holds.0 db tables
 
 pub holds_either : (format : Format) (l : Layout) (book : Book) (db : Trees) → IsOfFormat format l → HoldsEither l book db → HoldsStanding book db
 holds_either format l book db of (inl old) = (l, (format, of), old)
-holds_either format l book db of (inr new) = holds_new (completed l) book db (completed_tables format l of) new
+holds_either format l book db of (inr new) = holds_new (with_missing_tables l) book db (completed_tables format l of) new
 
 pub holds_empty : (db : Trees) → HoldsEmpty db → HoldsStanding empty_book db
 holds_empty db (l, tables, holds) = holds_new l empty_book db tables holds
@@ -73,24 +73,24 @@ module _ {S : Type 0} (g : Ghosts S) (make : Bool) (next : Held S) (after : Stat
   stands_there book (l, of, (c, is, shows)) = (l, (of, (c, shows_committed s anew live l c is, shows)))
 
   -- what stands there is found
-  pub finds : (book : Book) → HoldsStanding book s.committed.trees → (result : Result Book OpenFault) → Opens g make next after result
+  pub finds : (book : Book) → HoldsStanding book s.committed.trees → (result : Result Book OpenFault) → OpensBook g make next after result
       → FindsBook (λ found. found ≡ book) result
   finds book holds result opens = let there = stands_there book holds in found_there g make next after result opens there.0 book there.1
 
-  pub finds_such : (P : Book → Type 0) (book : Book) → P book → HoldsStanding book s.committed.trees → (result : Result Book OpenFault) → Opens g make next after result
+  pub finds_such : (P : Book → Type 0) (book : Book) → P book → HoldsStanding book s.committed.trees → (result : Result Book OpenFault) → OpensBook g make next after result
       → FindsBook P result
   finds_such P book p holds (Ok found) opens = (subst P (sym (finds book holds (Ok found) opens).0) p, tt)
   finds_such P book p holds (Err fault) opens = (tt, (finds book holds (Err fault) opens).1)
 
   -- and is then kept, if a crash left just what the connection showed
-  pub keeps : (book found : Book) → HoldsStanding book s.committed.trees → IsSettled s → Opens g make next after (Ok found) → IsKeptThere found after
+  pub keeps : (book found : Book) → HoldsStanding book s.committed.trees → IsSettled s → OpensBook g make next after (Ok found) → IsKeptThere found after
   keeps book found holds settled opens =
       let there = stands_there book holds in
       let l = there.0 in
       let stands = there.1.1 in
       let opened = opens.stands.opened l stands.0 there.1.0 stands.1 in
       let was : LeavesBook l found s = λ db left. subst (HoldsBook l found) (sym (settled db left)) (stands.0, stands.1.is, opened.rows) in
-      (completed l, opened.tables, record { shows = (opened.shows.0, opened.shows.1.0, opened.shows.2); leaves = opened.leaves (λ db left. inl (was db left)) })
+      (with_missing_tables l, opened.tables, record { shows = (opened.shows.0, opened.shows.1.0, opened.shows.2); leaves = opened.leaves (λ db left. inl (was db left)) })
 
   -- ---- where no book was left, or the empty one
 
@@ -102,14 +102,14 @@ module _ {S : Type 0} (g : Ghosts S) (make : Bool) (next : Held S) (after : Stat
   abbrev FindsNone : Result Book OpenFault → Type 0
   FindsNone result = IfOk result (λ found. found ≡ empty_book) × IfErr result (λ fault. IsRefusal fault → (fault ≡ NotABook) × HasNone s.now.schema)
 
-  finds_none : HasNone s.now.schema → (result : Result Book OpenFault) → Opens g make next after result → FindsNone result
+  finds_none : HasNone s.now.schema → (result : Result Book OpenFault) → OpensBook g make next after result → FindsNone result
   finds_none none (Ok found) opens = ((opens.stands.made none).empty, tt)
   finds_none none (Err fault) opens = (tt, λ refusal. (only_no_book g make next none after fault (opens.reports.bare none) refusal, none))
 
-  finds_empty : HoldsStanding empty_book s.committed.trees → (result : Result Book OpenFault) → Opens g make next after result → FindsNone result
+  finds_empty : HoldsStanding empty_book s.committed.trees → (result : Result Book OpenFault) → OpensBook g make next after result → FindsNone result
   finds_empty holds (Ok found) opens = ((finds empty_book holds (Ok found) opens).0, tt)
   finds_empty holds (Err fault) opens = (tt, λ refusal. absurd ((finds empty_book holds (Err fault) opens).1 refusal))
 
-  pub finds_no_other : HoldsNone s.committed.trees ⊎ HoldsEmpty s.committed.trees → (result : Result Book OpenFault) → Opens g make next after result → FindsNone result
+  pub finds_no_other : HoldsNone s.committed.trees ⊎ HoldsEmpty s.committed.trees → (result : Result Book OpenFault) → OpensBook g make next after result → FindsNone result
   finds_no_other (inl none) = finds_none (none_there none)
   finds_no_other (inr empty) = finds_empty (holds_empty s.committed.trees empty)

@@ -11,7 +11,7 @@ use Rattle.sqlite_trees.specs.View.{is_int}
 use Rattle.sqlite_trees.proofs.ListLemmas.{all-map, all-permutation, all_from_map}
 use Rattle.sqlite.specs.State.{Shown, State}
 use Rattle.sqlite.specs.Values.{IsInt}
-use Rattle.sql_tables.specs.Rows.{Lists, picked}
+use Rattle.sql_tables.specs.Rows.{Lists, columns_at}
 use Rattle.sql_tables.specs.States.{HasTable}
 use Rattle.sql_tables.proofs.RowKinds.{integer_of}
 use Rattle.desk_model.specs.Book.{Book}
@@ -19,13 +19,13 @@ use Rattle.desk_model.specs.SameRows.{AreSameCaches, AreSameEntries, AreSameRows
 use Rattle.desk_model.specs.Shows.{Shows as RowsShow, book_row_of}
 use Rattle.desk_model.proofs.Callers.{shown-same as shown_too}
 use Rattle.desk_parts.specs.FileRows.{EntryRows, FileRows, Named, Unnamed, format_of}
-use Rattle.desk_parts.specs.Rows.{Cached, StoredTab}
-use Rattle.desk_rows.specs.Asked.{Gives, asked, given}
+use Rattle.desk_parts.specs.Rows.{ParaCells, StoredTab}
+use Rattle.desk_rows.specs.TableQuery.{Gives, given, query_of}
 use Rattle.desk_rows.specs.Contents.{Contents}
-use Rattle.desk_rows.specs.Described.{Which, books, tabs, paras, corrs, marks, caches, named_corrs, described, shows_rowid, table_of}
+use Rattle.desk_rows.specs.Descriptions.{Which, books, tabs, paras, corrs, marks, caches, named_corrs, description_of, shows_rowid, table_of}
 use Rattle.desk_rows.specs.Layout.{Layout}
-use Rattle.desk_rows.specs.Rows.{RowOf, ShownOf, own, shown, written}
-use Rattle.desk_rows.specs.States.{Shows}
+use Rattle.desk_rows.specs.Rows.{RowOf, ShownOf, columns_of, own, shown_columns}
+use Rattle.desk_rows.specs.States.{ShowsContents}
 use Rattle.desk_rows.specs.Tables.{is_there}
 use Rattle.desk_rows.specs.Whole.{IsUtf8Row}
 use Rattle.desk_rows.proofs.Answering.{has_table}
@@ -48,8 +48,8 @@ use Rattle.desk_store.proofs.StandingBooks.{can_be_read}
 -- ---- each table
 
 -- a row of the tree, whose columns are a row of the table, is shown as one
-shown_row : (w : Which) (r : Row) → (shows_rowid w ≡ true → IsInt (rowid r)) → (y : RowOf w) × (picked (described w).own r ≡ written w y)
-    → (x : ShownOf w) × (given w (picked (described w).shown r) ≡ shown w x)
+shown_row : (w : Which) (r : Row) → (shows_rowid w ≡ true → IsInt (rowid r)) → (y : RowOf w) × (columns_at (description_of w).own r ≡ columns_of w y)
+    → (x : ShownOf w) × (given w (columns_at (description_of w).shown r) ≡ shown_columns w x)
 shown_row books r id (y, is) = (y, is)
 shown_row tabs r id (y, is) = let n = id refl in (record { rowid = n.0; row = y }, ap₂ (λ (v : Value) (vs : Row). v ∷ vs) n.1 is)
 shown_row paras r id (y, is) = (y, is)
@@ -71,19 +71,19 @@ collected columns f (r ∷ rows) all =
     let more = collected columns f rows all.1 in
     (all.0.0 ∷ more.0, ap₂ (λ (v : Row) (vs : List Row). v ∷ vs) all.0.1 more.1)
 
-columns_are : (ps : List ℕ) (r : Row) → eval_all (map (col 1) ps) ([] ∷ r ∷ []) ≡ picked ps r
+columns_are : (ps : List ℕ) (r : Row) → eval_all (map (col 1) ps) ([] ∷ r ∷ []) ≡ columns_at ps r
 columns_are [] r = refl
 columns_are (p ∷ ps) r = ap (λ (vs : Row). column r p ∷ vs) (columns_are ps r)
 
 all_shown_rows : (w : Which) (rows : List Row) → (shows_rowid w ≡ true → AllByRecursion (λ r. IsTrue (is_int (rowid r))) rows)
-    → AllByRecursion (λ r. (y : RowOf w) × (picked (described w).own r ≡ written w y)) rows
-    → AllByRecursion (λ r. (x : ShownOf w) × (given w (picked (described w).shown r) ≡ shown w x)) rows
+    → AllByRecursion (λ r. (y : RowOf w) × (columns_at (description_of w).own r ≡ columns_of w y)) rows
+    → AllByRecursion (λ r. (x : ShownOf w) × (given w (columns_at (description_of w).shown r) ≡ shown_columns w x)) rows
 all_shown_rows w [] ids owns = tt
 all_shown_rows w (r ∷ rows) ids owns = (shown_row w r (λ is. integer_of (rowid r) (ids is).0) owns.0, all_shown_rows w rows (λ is. (ids is).1) owns.1)
 
 -- ---- a table of a file
 
-module _ (l : Layout) (c : Contents) (s : State) (is_open : IsTrue s.is_open) (shows : Shows l c s) where
+module _ (l : Layout) (c : Contents) (s : State) (is_open : IsTrue s.is_open) (shows : ShowsContents l c s) where
   module _ (w : Which) (there : l.has w ≡ true) where
     abbrev tree : List Row
     tree = s.now.trees (l.tree w)
@@ -91,36 +91,36 @@ module _ (l : Layout) (c : Contents) (s : State) (is_open : IsTrue s.is_open) (s
     has : HasTable (table_of w (l.tree w)) s
     has = has_table w l c s there shows
 
-    owns : AllByRecursion (λ r. (y : RowOf w) × (picked (described w).own r ≡ written w y)) tree
+    owns : AllByRecursion (λ r. (y : RowOf w) × (columns_at (description_of w).own r ≡ columns_of w y)) tree
     owns =
-        all_from_map (λ v. (y : RowOf w) × (v ≡ written w y)) (picked (described w).own) tree
-        (all-permutation (λ v. (y : RowOf w) × (v ≡ written w y)) _ _ (shows.is.holds.tables w there) (all_written (written w) (c.rows w)))
+        all_from_map (λ v. (y : RowOf w) × (v ≡ columns_of w y)) (columns_at (description_of w).own) tree
+        (all-permutation (λ v. (y : RowOf w) × (v ≡ columns_of w y)) _ _ (shows.is.holds.tables w there) (all_written (columns_of w) (c.rows w)))
 
-    answer : (rows : List Row) × Shown (described w).read [] s s rows × IsPermutation (map (picked (described w).shown) tree) rows
+    answer : (rows : List Row) × Shown (description_of w).read [] s s rows × IsPermutation (map (columns_at (description_of w).shown) tree) rows
     unfolding is_read
     answer =
-        answered (described w).name (described w).columns (described w).key (described w).primary (described w).uniques (described w).orders (described w).read (is_read w)
-        s.now.schema (l.tree w) has.declared s refl has.sound (picked (described w).shown) (columns_are (described w).shown) is_open
+        answered (description_of w).name (description_of w).columns (description_of w).key (description_of w).primary (description_of w).uniques (description_of w).orders (description_of w).read (is_read w)
+        s.now.schema (l.tree w) has.declared s refl has.sound (columns_at (description_of w).shown) (columns_are (description_of w).shown) is_open
 
     -- there are rows that its statement gives
-    gives : (xs : List (ShownOf w)) × Gives (asked w) (shown w) s s xs
+    gives : (xs : List (ShownOf w)) × Gives (query_of w) (shown_columns w) s s xs
     gives =
         let all = all_shown_rows w tree (rowids l c s.now.trees shows.is w there) owns in
-        let shown_all = all-permutation (λ v. (x : ShownOf w) × (given w v ≡ shown w x)) _ _ answer.2
-        (all-map (λ v. (x : ShownOf w) × (given w v ≡ shown w x)) (picked (described w).shown) tree all) in
-        let xs = collected (given w) (shown w) answer.0 shown_all in
+        let shown_all = all-permutation (λ v. (x : ShownOf w) × (given w v ≡ shown_columns w x)) _ _ answer.2
+        (all-map (λ v. (x : ShownOf w) × (given w v ≡ shown_columns w x)) (columns_at (description_of w).shown) tree all) in
+        let xs = collected (given w) (shown_columns w) answer.0 shown_all in
         (xs.0, (answer.0, answer.1, xs.1))
 
-    listed : (xs : List (ShownOf w)) → Gives (asked w) (shown w) s s xs → Lists (shown w) (picked (described w).shown) xs tree
+    listed : (xs : List (ShownOf w)) → Gives (query_of w) (shown_columns w) s s xs → Lists (shown_columns w) (columns_at (description_of w).shown) xs tree
     listed xs (rows, seen, is) =
-        (table_read w s.now.schema (l.tree w) has.declared s s refl has.sound (shown w) (λ a b. rows_cmp w (shown w a) (shown w b)) (λ a b. refl) rows xs seen is).0
+        (table_read w s.now.schema (l.tree w) has.declared s s refl has.sound (shown_columns w) (λ a b. rows_cmp w (shown_columns w a) (shown_columns w b)) (λ a b. refl) rows xs seen is).0
 
     -- what it gives are the table's rows
-    same_rows : (xs : List (ShownOf w)) → Gives (asked w) (shown w) s s xs → IsPermutation (c.rows w) (map (own w) xs)
+    same_rows : (xs : List (ShownOf w)) → Gives (query_of w) (shown_columns w) s s xs → IsPermutation (c.rows w) (map (own w) xs)
     same_rows xs gives_xs =
-        one_list w (picked (described w).own) (c.rows w) (map (own w) xs) tree (shows.is.holds.tables w there) (own_listed w xs tree (listed xs gives_xs))
+        one_list w (columns_at (description_of w).own) (c.rows w) (map (own w) xs) tree (shows.is.holds.tables w there) (own_listed w xs tree (listed xs gives_xs))
 
-  apart : (w : Which) → l.has w ≡ true → (xs : List (ShownOf w)) → Gives (asked w) (shown w) s s xs → AreToldApart w xs
+  apart : (w : Which) → l.has w ≡ true → (xs : List (ShownOf w)) → Gives (query_of w) (shown_columns w) s s xs → AreToldApart w xs
   apart books there xs gives_xs = tt
   apart tabs there xs gives_xs = tabs_apart l c s.now.trees shows.is there xs (listed tabs there xs gives_xs)
   apart paras there xs gives_xs = tt
@@ -132,7 +132,7 @@ module _ (l : Layout) (c : Contents) (s : State) (is_open : IsTrue s.is_open) (s
   can : (w : Which) → l.has w ≡ true → AllByRecursion (IsUtf8Row w) (c.rows w) → CanAnswer s w
   can w there utf8 = record {
     has =
-        can_answer (described w).name (described w).columns (described w).key (described w).primary (described w).uniques (described w).orders (described w).read (is_read w)
+        can_answer (description_of w).name (description_of w).columns (description_of w).key (description_of w).primary (description_of w).uniques (description_of w).orders (description_of w).read (is_read w)
         s.now.schema (l.tree w) (has w there).declared s refl (has w there).sound;
     kinds = λ rows seen.
         table_kinds w s.now.schema (l.tree w) (has w there).declared s s refl (has w there).sound rows seen (readable_table l c s.now.trees shows.is w there utf8);
@@ -169,7 +169,7 @@ module _ (l : Layout) (c : Contents) (s : State) (is_open : IsTrue s.is_open) (s
   caches_there : (f : Format) → IsOfFormat f l → l.has caches ≡ is_there s.now.schema caches
   caches_there f of = has_caches f l of ∙ ap (λ (x : Schema). is_there x caches) (sym shows.schema)
 
-  cells_in_file : (f : Format) → IsOfFormat f l → (has : Bool) → l.has caches ≡ has → (cells : Option (List Cached)) × AreCellsIn s cells
+  cells_in_file : (f : Format) → IsOfFormat f l → (has : Bool) → l.has caches ≡ has → (cells : Option (List ParaCells)) × AreCellsIn s cells
   cells_in_file f of true is = let got = rows_in caches is in (Some got.0, (sym (caches_there f of) ∙ is, got.1))
   cells_in_file f of false is = (None, sym (caches_there f of) ∙ is)
 
@@ -203,7 +203,7 @@ module _ (l : Layout) (c : Contents) (s : State) (is_open : IsTrue s.is_open) (s
   same_entries named of (Unnamed rows) is are = absurd (cc)
   same_entries named of (Named rows) is are = rw (of named_corrs).1 (as_listed _ _ (same_rows named_corrs (of named_corrs).1 rows are.0))
 
-  same_cells : (f : Format) → IsOfFormat f l → (cells : Option (List Cached)) → AreCellsIn s cells → AreSameCaches (rows_of l c).caches cells
+  same_cells : (f : Format) → IsOfFormat f l → (cells : Option (List ParaCells)) → AreCellsIn s cells → AreSameCaches (rows_of l c).caches cells
   same_cells f of None none = let lacks : l.has caches ≡ false = caches_there f of ∙ none in rw lacks tt
   same_cells f of (Some rows) are =
       let there : l.has caches ≡ true = caches_there f of ∙ are.0 in

@@ -8,7 +8,7 @@ use Rattle.sqlite_trees.specs.declared.store.Store.{Ghosts}
 use Rattle.sqlite.specs.Held.{Held, state}
 use Rattle.sqlite.specs.State.{State}
 use Rattle.desk_model.specs.Book.{Book}
-use Rattle.desk_parts.specs.FileRows.{HasEntryTexts, Named, Unnamed, entries_in, format_of, unnamed as without_name}
+use Rattle.desk_parts.specs.FileRows.{HasEntryTexts, Named, Unnamed, entries_in, format_of, without_name}
 use Rattle.desk_parts.specs.Rows.{Corr}
 use Rattle.desk_model.specs.Shows.{Shows as RowsShow, book_row_of}
 use Rattle.desk_parts.specs.declared.file_table.FileTable.TheVariants.{Book as BookTable}
@@ -16,11 +16,11 @@ use Rattle.desk_parts.specs.declared.rows.BookRow.{BookRow}
 use Rattle.desk_model.proofs.Callers.{one_book, undamaged as sound}
 use Rattle.desk_store.specs.BookFile.{rows_of}
 use Rattle.desk_rows.specs.Contents.{Contents}
-use Rattle.desk_rows.specs.Described.{books, corrs, named_corrs}
+use Rattle.desk_rows.specs.Descriptions.{books, corrs, named_corrs}
 use Rattle.desk_store.specs.Formats.{Format, IsOfFormat, unnamed, named}
 use Rattle.desk_rows.specs.Layout.{Layout}
 use Rattle.desk_store.specs.Found.{HasNone}
-use Rattle.desk_store.specs.Opened.{FindsBook, Opens, Stands, TellsOf}
+use Rattle.desk_store.specs.Opened.{FindsBook, OpensBook, Stands, TellsOf}
 use Rattle.desk_rows.specs.Tables.{is_there}
 use Rattle.desk_store.specs.Opening.{AreEntriesReadable, CanAllBeRead, IsRefusal, format_in}
 use Rattle.desk_rows.specs.Whole.{IsUtf8Row}
@@ -112,7 +112,7 @@ not_bare named l of none =
     absurd (true≢false (rw there at none))
 
 module _ {S : Type 0} (g : Ghosts S) (make : Bool) (old : Held S) (new : State) where
-  pub found_there : (result : Result Book OpenFault) → Opens g make old new result → (l : Layout) (book : Book) → Stands l book (state g old)
+  pub found_there : (result : Result Book OpenFault) → OpensBook g make old new result → (l : Layout) (book : Book) → Stands l book (state g old)
       → FindsBook (λ found. found ≡ book) result
   found_there (Ok found) opens l book (of, (c, shows, rows)) =
       (one_book (rows_of l c) found book (opens.stands.opened l c of shows).rows rows, tt)

@@ -8,32 +8,32 @@ use Rattle.sqlite.specs.State.{FailsToQuery, FailsToShow, IsNotRun, State}
 use Rattle.sqlite.specs.declared.error.Error.{Error}
 use Rattle.sql_tables.specs.States.{ShowsAsBefore}
 use Rattle.sql_tables.proofs.Quiet.{never_returns, shown_quietly}
-use Rattle.desk_rows.specs.Asked.{FailsAs, asked, failed, no_memory, together, unreadable}
-use Rattle.desk_rows.specs.Described.{Which, described}
-use Rattle.desk_rows.specs.declared.fault.Fault.{Fault}
+use Rattle.desk_rows.specs.TableQuery.{FailsAs, failed, no_memory, query_of, together, unreadable}
+use Rattle.desk_rows.specs.Descriptions.{Which, description_of}
+use Rattle.desk_rows.specs.declared.fault.DatabaseFault.{DatabaseFault}
 use Rattle.desk_rows.proofs.WholeReads.{reads_only}
 use Rattle.desk_store.specs.Opened.{StopsOpening, filling, reading, rebuilding}
 use Rattle.desk_store.specs.declared.fault.OpenFault.{OpenFault}
 
 -- a read that fails undoes at most what wasn't committed
-query_as_before : (w : Which) (old new : State) (e : Error) → old.now ≡ old.committed → FailsToQuery (described w).read [] old new e
+query_as_before : (w : Which) (old new : State) (e : Error) → old.now ≡ old.committed → FailsToQuery (description_of w).read [] old new e
     → ShowsAsBefore old new
 unfolding FailsToQuery IsNotRun
 query_as_before w old new e same (inl (inl h)) opened = h.1.0.now_is
 query_as_before w old new e same (inl (inr h)) opened = (h.3.undone opened).0 ∙ sym same
 query_as_before w old new e same (inr h) opened =
-    let text = (described w).read in
+    let text = (description_of w).read in
     let none = never_returns text (reads_only w) old.now.schema h.0 h.1.is in
     let full = timed [] h.0.formats h.1.now in
     let shown : FailsToShow old new text h.0 full e None = subst (FailsToShow old new text h.0 full e) none h.2 in
     shown.3.0.now_is
 
-read_as_before : {X : Type 0} (w : Which) (written : X → Row) (Apart : List X → Type 0) (old new : State) (why : Fault) → old.now ≡ old.committed
-    → FailsAs (asked w) written Apart old new why → ShowsAsBefore old new
+read_as_before : {X : Type 0} (w : Which) (written : X → Row) (Apart : List X → Type 0) (old new : State) (why : DatabaseFault) → old.now ≡ old.committed
+    → FailsAs (query_of w) written Apart old new why → ShowsAsBefore old new
 read_as_before w written Apart old new why same (failed e fails told) opened = query_as_before w old new e same fails opened
-read_as_before w written Apart old new why same (unreadable rows seen not is) opened = (shown_quietly (described w).read (reads_only w) [] old new rows seen).0.now_is
-read_as_before w written Apart old new why same (together xs gives not is) opened = (shown_quietly (described w).read (reads_only w) [] old new gives.0 gives.1).0.now_is
-read_as_before w written Apart old new why same (no_memory rows seen begins is) opened = (shown_quietly (described w).read (reads_only w) [] old new rows seen).0.now_is
+read_as_before w written Apart old new why same (unreadable rows seen not is) opened = (shown_quietly (description_of w).read (reads_only w) [] old new rows seen).0.now_is
+read_as_before w written Apart old new why same (together xs gives not is) opened = (shown_quietly (description_of w).read (reads_only w) [] old new gives.0 gives.1).0.now_is
+read_as_before w written Apart old new why same (no_memory rows seen begins is) opened = (shown_quietly (description_of w).read (reads_only w) [] old new rows seen).0.now_is
 
 module _ {S : Type 0} (g : Ghosts S) (old : Held S) (new : State) (told : OpenFault) (same : (state g old).now ≡ (state g old).committed) where
   pub still_shown : StopsOpening g old new told → ShowsAsBefore (state g old) new

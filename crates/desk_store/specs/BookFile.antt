@@ -3,7 +3,7 @@ use Rattle.std.specs.Prelude.{if◌then◌else◌, Some, None}
 use Rattle.std.specs.Option.{ForSome}
 use Rattle.desk_parts.specs.FileRows.{FileRows, Named, Unnamed}
 use Rattle.desk_rows.specs.Contents.{Contents}
-use Rattle.desk_rows.specs.Described.{books, tabs, paras, corrs, marks, caches, named_corrs}
+use Rattle.desk_rows.specs.Descriptions.{books, tabs, paras, corrs, marks, caches, named_corrs}
 use Rattle.desk_rows.specs.Layout.{Layout}
 use Rattle.desk_rows.specs.Whole.{DifferBy}
 

@@ -20,8 +20,8 @@ use Rattle.desk_rows.specs.Fault.{CountsLoss}
 use Rattle.desk_rows.specs.Layout.{Layout}
 use Rattle.desk_rows.specs.Making.{new_tables}
 use Rattle.desk_rows.specs.Puts.{statement}
-use Rattle.desk_rows.specs.States.{IsFile, Shows}
-use Rattle.desk_rows.specs.Turns.{Statement, begun}
+use Rattle.desk_rows.specs.States.{IsFile, ShowsContents}
+use Rattle.desk_rows.specs.Turns.{Statement, with_transaction}
 
 -- ---- the book of a file
 
@@ -31,7 +31,7 @@ WithBook l book P = (c : Contents) × P c × RowsShow (rows_of l c) book
 
 -- the connection shows such a file
 abbrev pub ShowsBook : Layout → Book → State → Type 0
-ShowsBook l book s = WithBook l book (λ c. Shows l c s)
+ShowsBook l book s = WithBook l book (λ c. ShowsContents l c s)
 
 -- the trees are such a file
 abbrev pub HoldsBook : Layout → Book → Trees → Type 0
@@ -78,7 +78,7 @@ statements_of book change = map statement (change_puts book change)
 -- was too big.
 pub record FailsToKeep {S : Type 0} (g : Ghosts S) (book : Book) (change : Change) (old : Held S)
     (new : State) (e : Error) : Type 0 where
-  pub fails : FailsToPut g (of_items g LendsFirst (change_puts book change)) (begun old) new e
+  pub fails : FailsToPut g (of_items g LendsFirst (change_puts book change)) (with_transaction old) new e
   pub counts : CountsLoss (state g old) new e
 
 -- ---- a store

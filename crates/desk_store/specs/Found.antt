@@ -8,13 +8,13 @@ use Rattle.sql_tables.specs.Kinds.{HasKinds}
 use Rattle.sql_tables.specs.States.{HasAnswer}
 use Rattle.desk_model.specs.Book.{Book}
 use Rattle.desk_parts.specs.FileRows.{EntryRows, FileRows, Named, Unnamed}
-use Rattle.desk_parts.specs.Rows.{Cached, StoredTab}
+use Rattle.desk_parts.specs.Rows.{ParaCells, StoredTab}
 use Rattle.desk_model.specs.Shows.{Shows as RowsShow}
-use Rattle.desk_rows.specs.Asked.{Gives, asked}
-use Rattle.desk_rows.specs.Described.{Which, books, tabs, paras, corrs, marks, caches, named_corrs}
+use Rattle.desk_rows.specs.TableQuery.{Gives, query_of}
+use Rattle.desk_rows.specs.Descriptions.{Which, books, tabs, paras, corrs, marks, caches, named_corrs}
 use Rattle.desk_store.specs.Formats.{Format, Presence, needed, optional, foreign, unread, unnamed, named, presence}
 use Rattle.desk_store.specs.Opening.{has_tables}
-use Rattle.desk_rows.specs.Rows.{ShownOf, shown}
+use Rattle.desk_rows.specs.Rows.{ShownOf, shown_columns}
 use Rattle.desk_rows.specs.Tables.{is_there}
 use Rattle.desk_rows.specs.Whole.{HaveOwnRowids}
 
@@ -42,7 +42,7 @@ AreToldApart named_corrs rows = ⊤
 
 -- in this state the statement that reads the table gives these rows
 abbrev pub AreRowsIn : State → (w : Which) → List (ShownOf w) → Type 0
-AreRowsIn s w rows = Gives (asked w) (shown w) s s rows × AreToldApart w rows
+AreRowsIn s w rows = Gives (query_of w) (shown_columns w) s s rows × AreToldApart w rows
 
 -- the format that keeps entries so
 abbrev pub format_kept : EntryRows → Format
@@ -54,7 +54,7 @@ AreEntriesIn s (Unnamed rows) = AreRowsIn s corrs rows
 AreEntriesIn s (Named rows) = AreRowsIn s named_corrs rows
 
 -- the cells, if their table is there
-abbrev pub AreCellsIn : State → Option (List Cached) → Type 0
+abbrev pub AreCellsIn : State → Option (List ParaCells) → Type 0
 AreCellsIn s None = is_there s.now.schema caches ≡ false
 AreCellsIn s (Some rows) = (is_there s.now.schema caches ≡ true) × AreRowsIn s caches rows
 
@@ -83,10 +83,10 @@ ShowsIn s book = (rows : FileRows) × AreFileRows s rows × RowsShow rows book
 
 -- The statement that reads the table has an answer, and whatever it answers can be read.
 pub record CanAnswer (s : State) (w : Which) : Type 0 where
-  pub has : HasAnswer (asked w).text s
-  pub kinds : (rows : List Row) → Shown (asked w).text [] s s rows
-      → AllByRecursion (HasKinds (asked w).kinds) rows
-  pub apart : (rows : List (ShownOf w)) → Gives (asked w) (shown w) s s rows → AreToldApart w rows
+  pub has : HasAnswer (query_of w).text s
+  pub kinds : (rows : List Row) → Shown (query_of w).text [] s s rows
+      → AllByRecursion (HasKinds (query_of w).kinds) rows
+  pub apart : (rows : List (ShownOf w)) → Gives (query_of w) (shown_columns w) s s rows → AreToldApart w rows
 
 -- whether a table is read, of which something is there by its name
 abbrev pub IsReadAs : Presence → (there : Bool) → Type 0

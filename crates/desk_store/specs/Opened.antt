@@ -25,21 +25,21 @@ use Rattle.desk_parts.specs.declared.rows.BookRow.{BookRow}
 use Rattle.desk_store.specs.BookFile.{rows_of}
 use Rattle.desk_store.specs.Books.{HasNewTables, HoldsBook, LeavesBook, ShowsBook, WithBook}
 use Rattle.desk_rows.specs.Contents.{Contents}
-use Rattle.desk_rows.specs.Described.{Which, books, caches, corrs, named_corrs}
-use Rattle.desk_rows.specs.Asked.{FailsAs, asked}
+use Rattle.desk_rows.specs.Descriptions.{Which, books, caches, corrs, named_corrs}
+use Rattle.desk_rows.specs.TableQuery.{FailsAs, query_of}
 use Rattle.desk_rows.specs.Failing.{FailsToChange, of_first_row, of_items}
 use Rattle.desk_rows.specs.Fault.{IsToldAs}
 use Rattle.desk_store.specs.Formats.{HasThoseRead, IsOfEither, IsOfFormat}
 use Rattle.desk_store.specs.Found.{AreFileRows, AreToldApart, HasNone, RowsShowIn, ShowsIn}
 use Rattle.desk_rows.specs.Layout.{Layout}
-use Rattle.desk_rows.specs.Making.{IsMade, IsNew, made, new_tables, with_tables}
+use Rattle.desk_rows.specs.Making.{IsMade, IsNew, new_layout, new_tables, with_tables}
 use Rattle.desk_store.specs.Opening.{CanAllBeRead, IsBookRow, IsNewer, IsRefusal, Stays, format_in, opened_as}
-use Rattle.desk_rows.specs.Rows.{shown}
-use Rattle.desk_rows.specs.States.{IsFile, Shows}
+use Rattle.desk_rows.specs.Rows.{shown_columns}
+use Rattle.desk_rows.specs.States.{IsFile, ShowsContents}
 use Rattle.desk_rows.specs.Tables.{is_there}
-use Rattle.desk_rows.specs.Turns.{begun}
-use Rattle.desk_rows.specs.declared.fault.Fault.{Fault}
-use Rattle.desk_rows.specs.declared.fault.Fault.TheVariants as fault
+use Rattle.desk_rows.specs.Turns.{with_transaction}
+use Rattle.desk_rows.specs.declared.fault.DatabaseFault.{DatabaseFault}
+use Rattle.desk_rows.specs.declared.fault.DatabaseFault.TheVariants as fault
 use Rattle.desk_store.specs.declared.fault.OpenFault.{OpenFault}
 use Rattle.desk_store.specs.declared.fault.OpenFault.TheVariants.{NotABook, Damaged, NewerFormat, Lost, NoMemory}
 
@@ -81,9 +81,9 @@ TellsOf l c NoMemory = ⊤
 -- ---- what is reported of any file without the tables of a book
 
 -- a statement that makes the tables of a new file, or the commit, failed with an error that is reported so
-abbrev pub FailsToMake : {S : Type 0} → Ghosts S → Held S → State → Fault → Type 0
+abbrev pub FailsToMake : {S : Type 0} → Ghosts S → Held S → State → DatabaseFault → Type 0
 FailsToMake g old new fault =
-    (e : Error) × FailsToChange g new_tables (of_first_row g) (begun old) new e × IsToldAs e fault
+    (e : Error) × FailsToChange g new_tables (of_first_row g) (with_transaction old) new e × IsToldAs e fault
 
 -- It holds no book: none is to be made, `cache` is there, or the database refuses to make the tables.
 abbrev pub TellsOfNone : {S : Type 0} → (make : Bool) → Ghosts S → Held S → State → OpenFault → Type 0
@@ -131,11 +131,11 @@ abbrev pub which_lacked : Option NewTables → List Which
 which_lacked tables = unwrap_or (option_map which_new tables) []
 
 -- the tables of a new file that it lacks, and the layout with them
-abbrev pub lacked : Layout → List Which
-lacked l = which_lacked (lacking (l.has named_corrs) (l.has caches))
+abbrev pub missing_tables : Layout → List Which
+missing_tables l = which_lacked (lacking (l.has named_corrs) (l.has caches))
 
-abbrev pub completed : Layout → Layout
-completed l = with_tables (lacked l) l
+abbrev pub with_missing_tables : Layout → Layout
+with_missing_tables l = with_tables (missing_tables l) l
 
 -- ---- what stands in a file, and what it is after opening
 
@@ -175,7 +175,7 @@ pub record MayBring (make : Bool) (s : State) (db : Trees) : Type 0 where
   pub only : HasNone s.now.schema ⊎ ((book : Book) × ShowsIn s book)
   pub new : HasNone s.now.schema → (make ≡ true) × IsMade s db
   pub old : (l : Layout) (book : Book) (stands : Stands l book s)
-      → HasGained (lacked l) l stands.1.0 book s.now.trees (λ after d. IsFile after d db)
+      → HasGained (missing_tables l) l stands.1.0 book s.now.trees (λ after d. IsFile after d db)
 
 -- the book in the file as it was, or with these tables
 abbrev pub HoldsEitherWith : List Which → Layout → Book → Trees → Type 0
@@ -183,43 +183,43 @@ HoldsEitherWith ws l book db = HoldsBook l book db ⊎ HoldsBook (with_tables ws
 
 -- the book in the file as it was, or with the tables that it lacked
 abbrev pub HoldsEither : Layout → Book → Trees → Type 0
-HoldsEither l = HoldsEitherWith (lacked l) l
+HoldsEither l = HoldsEitherWith (missing_tables l) l
 
 -- The rows of the file showed the book, it stands there in a file with the tables of a new one, and a crash leaves it so, also if it left
 -- it in either these tables or without.
 pub record IsOpened (l : Layout) (c : Contents) (book : Book) (old new : State) : Type 0 where
   pub rows : RowsShow (rows_of l c) book
-  pub tables : HasNewTables (completed l)
-  pub shows : HasGained (lacked l) l c book old.now.trees (λ after d. Shows after d new)
-  pub leaves : Leaves (HoldsEither l book) old → LeavesBook (completed l) book new
+  pub tables : HasNewTables (with_missing_tables l)
+  pub shows : HasGained (missing_tables l) l c book old.now.trees (λ after d. ShowsContents after d new)
+  pub leaves : Leaves (HoldsEither l book) old → LeavesBook (with_missing_tables l) book new
 
 -- a new book, the empty one, was made since none of the tables was there, and a crash leaves it
 pub record IsMadeNew (make : Bool) (book : Book) (old new : State) : Type 0 where
   pub bare : HasNone old.now.schema
   pub wanted : make ≡ true
   pub empty : book ≡ empty_book
-  pub beside : IsNew old.now.schema old.now.trees (λ c. Shows (made old.now.schema) c new)
-  pub tables : HasNewTables (made old.now.schema)
-  pub shows : ShowsBook (made old.now.schema) book new
-  pub leaves : LeavesBook (made old.now.schema) book new
+  pub beside : IsNew old.now.schema old.now.trees (λ c. ShowsContents (new_layout old.now.schema) c new)
+  pub tables : HasNewTables (new_layout old.now.schema)
+  pub shows : ShowsBook (new_layout old.now.schema) book new
+  pub leaves : LeavesBook (new_layout old.now.schema) book new
 
 -- ---- why it isn't opened, where it isn't refused
 
 -- The statement that reads a table failed so, or there was no memory for the rows that it showed. The connection was as at first.
-pub record StopsReading {S : Type 0} (g : Ghosts S) (old : Held S) (new : State) (why : Fault) : Type 0 where
+pub record StopsReading {S : Type 0} (g : Ghosts S) (old : Held S) (new : State) (why : DatabaseFault) : Type 0 where
   pub table : Which
   pub before : Held S
   pub stays : Stays (state g old) (state g before)
-  pub fails : FailsAs (asked table) (shown table) (AreToldApart table) (state g before) new why
+  pub fails : FailsAs (query_of table) (shown_columns table) (AreToldApart table) (state g before) new why
 
 -- how an error is reported that stops the filling of a file which shows a book, so that it isn't refused
-abbrev pub filled_as : Fault → OpenFault
+abbrev pub filled_as : DatabaseFault → OpenFault
 filled_as fault.NoMemory = NoMemory
 filled_as fault.Lost = Lost
 filled_as fault.Refused = Lost
 
 abbrev pub IsFilledAs : Error → OpenFault → Type 0
-IsFilledAs e told = (why : Fault) × IsToldAs e why × (told ≡ filled_as why)
+IsFilledAs e told = (why : DatabaseFault) × IsToldAs e why × (told ≡ filled_as why)
 
 -- A statement that makes these tables or puts what the book has for them failed with an error that is reported so, or the commit did. If the
 -- connection is open still, it shows what it showed before.
@@ -228,14 +228,14 @@ pub record StopsFilling {S : Type 0} (g : Ghosts S) (tables : NewTables) (book :
   pub puts : List RowPut
   pub fill : Fills tables book puts
   pub error : Error
-  pub fails : FailsToChange g (which_new tables) (of_items g LendsFirst puts) (begun old) new error
+  pub fails : FailsToChange g (which_new tables) (of_items g LendsFirst puts) (with_transaction old) new error
   pub is_told : IsFilledAs error told
   pub as_before : ShowsAsBefore (state g old) new
 
 -- A table isn't read; or all of them are, and there is no memory for the book; or they show a book, and what the file lacks isn't filled.
 pub data StopsOpening {S : Type 0} (g : Ghosts S) (old : Held S) (new : State) (told : OpenFault)
     : Type 0 where
-  reading : (why : Fault) → StopsReading g old new why → told ≡ opened_as why → StopsOpening g old new told
+  reading : (why : DatabaseFault) → StopsReading g old new why → told ≡ opened_as why → StopsOpening g old new told
   rebuilding : (rows : FileRows) → AreFileRows (state g old) rows → Stays (state g old) new → told ≡ NoMemory
       → StopsOpening g old new told
   filling : (rows : FileRows) (book : Book) (tables : NewTables) (before : Held S)
@@ -258,19 +258,19 @@ pub record AnswersBook (make : Bool) (old new : State) (result : Result Book Ope
 pub record Reports {S : Type 0} (g : Ghosts S) (make : Bool) (old : Held S) (new : State) (fault : OpenFault)
     : Type 0 where
   pub declared : (l : Layout) (c : Contents) → (¬ HasNone l.schema) → HasThoseRead l
-      → Shows l c (state g old) → TellsOf l c fault
+      → ShowsContents l c (state g old) → TellsOf l c fault
   pub bare : HasNone (state g old).now.schema → TellsOfNone make g old new fault
 
 -- What then stands in the file: a book, the one that stood there or a new one; or, if it is refused, what was there.
 pub record LeavesStanding (make : Bool) (old new : State) (result : Result Book OpenFault) : Type 0 where
   pub is_open : OnOk result (IsTrue new.is_open)
-  pub opened : (l : Layout) (c : Contents) → IsOfEither l → Shows l c old
+  pub opened : (l : Layout) (c : Contents) → IsOfEither l → ShowsContents l c old
       → IfOk result (λ book. IsOpened l c book old new)
   pub made : HasNone old.now.schema → IfOk result (λ book. IsMadeNew make book old new)
   pub refused : IfErr result (λ fault. IsRefusal fault → ShowsAsBefore old new)
 
 -- What opening answers and reports, and what then stands in the file.
-pub record Opens {S : Type 0} (g : Ghosts S) (make : Bool) (old : Held S) (new : State)
+pub record OpensBook {S : Type 0} (g : Ghosts S) (make : Bool) (old : Held S) (new : State)
     (result : Result Book OpenFault) : Type 0 where
   pub answers : AnswersBook make (state g old) new result
   pub reports : IfErr result (Reports g make old new)
@@ -280,7 +280,7 @@ pub record Opens {S : Type 0} (g : Ghosts S) (make : Bool) (old : Held S) (new :
 -- was there, and the file isn't refused, it has a cause.
 pub record IsRefusedWith {S : Type 0} (g : Ghosts S) (make : Bool) (old : Held S) (new : State)
     (fault : OpenFault) : Type 0 where
-  pub opens : HasCleanDisk new → Opens g make old new (Err fault)
+  pub opens : HasCleanDisk new → OpensBook g make old new (Err fault)
   pub crash : Survives (state g old) new (MayBring make (state g old))
   pub refused : HasCleanDisk new → IsRefusal fault → Survives (state g old) new (λ _. ⊥)
   pub stopped : HasCleanDisk new → (¬ HasNone (state g old).now.schema) → (¬ IsRefusal fault)

@@ -16,31 +16,31 @@ use Rattle.desk_model.specs.declared.fault.PartsFault.TheVariants as rebuilt
 use Rattle.desk_parts.specs.declared.rows.BookRow.{BookRow}
 use Rattle.desk_store.specs.BookFile.{rows_of}
 use Rattle.desk_rows.specs.Contents.{Contents}
-use Rattle.desk_rows.specs.Described.{Which, tabs, paras, corrs, marks, named_corrs}
+use Rattle.desk_rows.specs.Descriptions.{Which, tabs, paras, corrs, marks, named_corrs}
 use Rattle.desk_rows.specs.Fault.{IsToldAs}
 use Rattle.desk_store.specs.Formats.{Format, Presence, needed, optional, foreign, unread, unnamed, named, presence, IsOfFormat}
 use Rattle.desk_rows.specs.Layout.{Layout}
-use Rattle.desk_rows.specs.States.{Shows}
+use Rattle.desk_rows.specs.States.{ShowsContents}
 use Rattle.desk_rows.specs.Tables.{is_there}
 use Rattle.desk_rows.specs.Whole.{IsUtf8Row}
 use Rattle.desk_store.specs.declared.book_file.FileFormat.{FileFormat}
 use Rattle.desk_store.specs.declared.book_file.FileFormat.TheVariants as read
-use Rattle.desk_rows.specs.declared.fault.Fault.{Fault}
-use Rattle.desk_rows.specs.declared.fault.Fault.TheVariants as fault
+use Rattle.desk_rows.specs.declared.fault.DatabaseFault.{DatabaseFault}
+use Rattle.desk_rows.specs.declared.fault.DatabaseFault.TheVariants as fault
 use Rattle.desk_store.specs.declared.fault.OpenFault.{OpenFault}
 use Rattle.desk_store.specs.declared.fault.OpenFault.TheVariants.{NotABook, Damaged, NewerFormat, Lost, NoMemory}
 
 -- ---- what is reported
 
 -- how the fault of a read is reported
-abbrev pub opened_as : Fault → OpenFault
+abbrev pub opened_as : DatabaseFault → OpenFault
 opened_as fault.NoMemory = NoMemory
 opened_as fault.Lost = Lost
 opened_as fault.Refused = NotABook
 
 -- how an error of the database is reported
 abbrev pub IsOpenedAs : Error → OpenFault → Type 0
-IsOpenedAs e told = (fault : Fault) × IsToldAs e fault × (told ≡ opened_as fault)
+IsOpenedAs e told = (fault : DatabaseFault) × IsToldAs e fault × (told ≡ opened_as fault)
 
 -- how it is reported that the rows show no book
 abbrev pub rebuilt_as : PartsFault → OpenFault
@@ -122,10 +122,10 @@ pub record Stays (old new : State) : Type 0 where
 
 -- Whatever file of this format the connection shows, this holds of its rows.
 abbrev pub OfFile : Format → State → (FileRows → Type 0) → Type 0
-OfFile format s P = (l : Layout) (c : Contents) → IsOfFormat format l → Shows l c s → P (rows_of l c)
+OfFile format s P = (l : Layout) (c : Contents) → IsOfFormat format l → ShowsContents l c s → P (rows_of l c)
 
 -- The connection shows a file of this format that can be read, and has no limit on steps.
 abbrev pub ShowsReadable : Format → State → Type 0
 ShowsReadable format s =
-    (l : Layout) × (c : Contents) × IsOfFormat format l × Shows l c s
+    (l : Layout) × (c : Contents) × IsOfFormat format l × ShowsContents l c s
     × CanAllBeRead format l c × (s.step_limit ≡ None)

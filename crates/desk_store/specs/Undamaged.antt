@@ -6,7 +6,7 @@ use Rattle.desk_model.specs.Shows.{Shows as RowsShow}
 use Rattle.desk_parts.specs.declared.file_table.FileTable.{FileTable}
 use Rattle.desk_parts.specs.declared.rows.BookRow.{BookRow}
 use Rattle.desk_rows.specs.Contents.{Contents}
-use Rattle.desk_rows.specs.Described.{books}
+use Rattle.desk_rows.specs.Descriptions.{books}
 use Rattle.desk_rows.specs.Layout.{Layout}
 use Rattle.desk_store.specs.BookFile.{rows_of}
 use Rattle.desk_store.specs.Formats.{IsOfEither}

@@ -16,13 +16,13 @@ ghost use Rattle.desk_store.specs.Found.{AreCellsIn, AreEntriesIn, AreFileRows, 
 ghost use Rattle.desk_rows.specs.Layout.{Layout};
 ghost use Rattle.desk_store.specs.Opened.{IsReadOf, StopsOpening, StopsReading, TellsOfTables};
 ghost use Rattle.desk_store.specs.Opening.{AreEntriesReadable, AreRead, CanAllBeRead, IsBookRow, IsRefusal, OfFile, ShowsReadable, Stays, TellsOfRow, format_in, format_read, has_tables};
-ghost use Rattle.desk_rows.specs.States.{Shows};
+ghost use Rattle.desk_rows.specs.States.{ShowsContents};
 ghost use Rattle.desk_rows.specs.Tables.{is_there, which};
 
 use crate::fault::OpenFault;
 use desk_book::MOST_VERSION;
 use desk_parts::{BookRow, CacheRow, EntryRows, FileTable, Parts};
-use desk_rows::{Fault, has_table, read_rows, read_tabs};
+use desk_rows::{DatabaseFault, has_table, read_rows, read_tabs};
 use sqlite::{Alter, Connection};
 use std::alloc::Global;
 
@@ -106,7 +106,7 @@ fn read_entries<S: Alter>(
     alloc: Global,
     conn: &mut Connection<S>,
     format: FileFormat,
-) -> Result<EntryRows, Fault>
+) -> Result<EntryRows, DatabaseFault>
     ensures gives { HasCleanDisk (state S.Store conn.new) → IfOk result (λ entries.
         OfFile (format_read format) (state S.Store conn.old) (λ rows.
         AreSameEntries rows.entries (entry_rows entries))) }
@@ -114,15 +114,15 @@ fn read_entries<S: Alter>(
         AreEntriesIn (state S.Store conn.old) (entry_rows entries)) }
     ensures kept { IfOk result (λ entries. format_kept (entry_rows entries) ≡ format_read format) }
     ensures readable { HasCleanDisk (state S.Store conn.new) → (l : Layout) (c : Contents)
-        → IsOfFormat (format_read format) l → Shows l c (state S.Store conn.old)
+        → IsOfFormat (format_read format) l → ShowsContents l c (state S.Store conn.old)
         → OnOk result (AreEntriesReadable (format_read format) l c) }
     ensures unchanged { HasCleanDisk (state S.Store conn.new)
         → OnOk result (Stays (state S.Store conn.old) (state S.Store conn.new)) }
-    ensures refused { HasCleanDisk (state S.Store conn.new) → IfErr result (λ fault. fault ≡ Fault.Refused
+    ensures refused { HasCleanDisk (state S.Store conn.new) → IfErr result (λ fault. fault ≡ DatabaseFault.Refused
         → Stays (state S.Store conn.old) (state S.Store conn.new)
         × ¬ ShowsReadable (format_read format) (state S.Store conn.old)) }
     ensures answered { HasCleanDisk (state S.Store conn.new)
-        → (state S.Store conn.old).step_limit ≡ None → IfErr result (λ fault. fault ≡ Fault.Refused
+        → (state S.Store conn.old).step_limit ≡ None → IfErr result (λ fault. fault ≡ DatabaseFault.Refused
         → ¬ CanAllAnswer (format_read format) (state S.Store conn.old)) }
     ensures stops { HasCleanDisk (state S.Store conn.new)
         → IfErr result (StopsReading S.Store conn.old (state S.Store conn.new)) }
@@ -146,7 +146,7 @@ fn read_cells<S: Alter>(
     alloc: Global,
     conn: &mut Connection<S>,
     format: FileFormat,
-) -> Result<Option<Vec<CacheRow>>, Fault>
+) -> Result<Option<Vec<CacheRow>>, DatabaseFault>
     ensures gives { HasCleanDisk (state S.Store conn.new) → IfOk result (λ cells.
         OfFile (format_read format) (state S.Store conn.old) (λ rows.
         AreSameCaches rows.caches (option_map (λ rows. rows.items) cells))) }
@@ -154,11 +154,11 @@ fn read_cells<S: Alter>(
         AreCellsIn (state S.Store conn.old) (option_map (λ rows. rows.items) cells)) }
     ensures unchanged { HasCleanDisk (state S.Store conn.new)
         → OnOk result (Stays (state S.Store conn.old) (state S.Store conn.new)) }
-    ensures refused { HasCleanDisk (state S.Store conn.new) → IfErr result (λ fault. fault ≡ Fault.Refused
+    ensures refused { HasCleanDisk (state S.Store conn.new) → IfErr result (λ fault. fault ≡ DatabaseFault.Refused
         → Stays (state S.Store conn.old) (state S.Store conn.new)
         × ¬ ShowsReadable (format_read format) (state S.Store conn.old)) }
     ensures answered { HasCleanDisk (state S.Store conn.new)
-        → (state S.Store conn.old).step_limit ≡ None → IfErr result (λ fault. fault ≡ Fault.Refused
+        → (state S.Store conn.old).step_limit ≡ None → IfErr result (λ fault. fault ≡ DatabaseFault.Refused
         → ¬ CanAllAnswer (format_read format) (state S.Store conn.old)) }
     ensures stops { HasCleanDisk (state S.Store conn.new)
         → IfErr result (StopsReading S.Store conn.old (state S.Store conn.new)) }
@@ -178,7 +178,7 @@ fn read_rest<S: Alter>(
     conn: &mut Connection<S>,
     format: FileFormat,
     version: i64,
-) -> Result<Parts, Fault>
+) -> Result<Parts, DatabaseFault>
     ensures gives { HasCleanDisk (state S.Store conn.new) → IfOk result (λ parts.
         OfFile (format_read format) (state S.Store conn.old) (λ rows. AreRead rows parts)) }
     // In any file they are what the statements give.
@@ -187,15 +187,15 @@ fn read_rest<S: Alter>(
     ensures kept { IfOk result (λ parts. (parts.version ≡ version)
         × (format_kept (rows_in parts).entries ≡ format_read format)) }
     ensures readable { HasCleanDisk (state S.Store conn.new) → (l : Layout) (c : Contents)
-        → IsOfFormat (format_read format) l → Shows l c (state S.Store conn.old)
+        → IsOfFormat (format_read format) l → ShowsContents l c (state S.Store conn.old)
         → OnOk result (CanAllBeRead (format_read format) l c) }
     ensures unchanged { HasCleanDisk (state S.Store conn.new)
         → OnOk result (Stays (state S.Store conn.old) (state S.Store conn.new)) }
-    ensures refused { HasCleanDisk (state S.Store conn.new) → IfErr result (λ fault. fault ≡ Fault.Refused
+    ensures refused { HasCleanDisk (state S.Store conn.new) → IfErr result (λ fault. fault ≡ DatabaseFault.Refused
         → Stays (state S.Store conn.old) (state S.Store conn.new)
         × ¬ ShowsReadable (format_read format) (state S.Store conn.old)) }
     ensures answered { HasCleanDisk (state S.Store conn.new)
-        → (state S.Store conn.old).step_limit ≡ None → IfErr result (λ fault. fault ≡ Fault.Refused
+        → (state S.Store conn.old).step_limit ≡ None → IfErr result (λ fault. fault ≡ DatabaseFault.Refused
         → ¬ CanAllAnswer (format_read format) (state S.Store conn.old)) }
     ensures stops { HasCleanDisk (state S.Store conn.new)
         → IfErr result (StopsReading S.Store conn.old (state S.Store conn.new)) }
@@ -235,9 +235,9 @@ pub(crate) fn read_parts<S: Alter>(
         → RowsShowIn (state S.Store conn.old) book → IfErr result (λ fault. ¬ IsRefusal fault) }
     // If the tables that are there are declared as those of a new file, this is reported, and the rows are as they stand.
     ensures told { HasCleanDisk (state S.Store conn.new) → (l : Layout) (c : Contents)
-        → HasThoseRead l → Shows l c (state S.Store conn.old) → IfErr result (TellsOfTables l c) }
+        → HasThoseRead l → ShowsContents l c (state S.Store conn.old) → IfErr result (TellsOfTables l c) }
     ensures read { HasCleanDisk (state S.Store conn.new) → (format : Format) (l : Layout)
-        (c : Contents) → IsOfFormat format l → Shows l c (state S.Store conn.old)
+        (c : Contents) → IsOfFormat format l → ShowsContents l c (state S.Store conn.old)
         → IfOk result (λ parts. IsReadOf l c (rows_in parts)) }
     ensures is_open { HasCleanDisk (state S.Store conn.new)
         → OnOk result (IsTrue (state S.Store conn.new).is_open) }

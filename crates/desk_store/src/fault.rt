@@ -2,7 +2,7 @@
 
 use desk_book::PartsFault;
 use desk_parts::FileTable;
-use desk_rows::Fault;
+use desk_rows::DatabaseFault;
 use thiserror::Error;
 
 /// Why no book is opened from a file.
@@ -31,17 +31,17 @@ pub enum OpenFault {
     NoMemory,
 }
 
-impl From<Fault> for OpenFault {
+impl From<DatabaseFault> for OpenFault {
     ghost use Rattle.desk_store.specs.Opening.{opened_as};
     ghost use Rattle.std.specs.Prelude.{◌≡◌};
 
     ghost from_gives = { λ fault told. told ≡ opened_as fault };
 
-    fn from(fault: Fault) -> Self {
+    fn from(fault: DatabaseFault) -> Self {
         match fault {
-            Fault::NoMemory => OpenFault::NoMemory,
-            Fault::Lost => OpenFault::Lost,
-            Fault::Refused => OpenFault::NotABook,
+            DatabaseFault::NoMemory => OpenFault::NoMemory,
+            DatabaseFault::Lost => OpenFault::Lost,
+            DatabaseFault::Refused => OpenFault::NotABook,
         }
     }
 }

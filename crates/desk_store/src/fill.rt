@@ -5,7 +5,7 @@ ghost use Rattle.desk_parts.specs.Parts.{rows_in};
 ghost use Rattle.desk_rows.specs.Layout.{Layout};
 ghost use Rattle.desk_store.specs.Opened.{HasGained, HoldsWith, IsFilledAs, Stands, StopsFilling, lacked_by, which_new};
 ghost use Rattle.desk_store.specs.Opening.{IsRefusal};
-ghost use Rattle.desk_rows.specs.States.{Shows};
+ghost use Rattle.desk_rows.specs.States.{ShowsContents};
 ghost use Rattle.desk_rows.specs.Tables.{which};
 ghost use Rattle.sql_tables.specs.States.{IsCommitted, IsSettled};
 ghost use Rattle.sqlite.specs.Held.{state};
@@ -14,7 +14,7 @@ ghost use Rattle.sqlite.specs.State.{HasCleanDisk, Survives};
 use crate::fault::OpenFault;
 use desk_book::{Book, NewTables};
 use desk_parts::{EntryRows, FileTable, Parts};
-use desk_rows::{Fault, write_with_tables};
+use desk_rows::{DatabaseFault, write_with_tables};
 use sqlite::{Alter, Connection, Error};
 use std::alloc::Global;
 
@@ -36,9 +36,9 @@ fn stopped_by(error: Error) -> OpenFault
     ensures told { IsFilledAs error result }
     ensures not_refused { ¬ IsRefusal result }
 {
-    match Fault::of(error) {
-        Fault::NoMemory => OpenFault::NoMemory,
-        Fault::Lost | Fault::Refused => OpenFault::Lost,
+    match DatabaseFault::of(error) {
+        DatabaseFault::NoMemory => OpenFault::NoMemory,
+        DatabaseFault::Lost | DatabaseFault::Refused => OpenFault::Lost,
     }
 }
 
@@ -70,7 +70,7 @@ pub(crate) fn fill<S: Alter>(
     ensures filled { HasCleanDisk (state S.Store conn.new) → (l : Layout)
         (stands : Stands l book.now (state S.Store conn.old))
         → OnOk result (HasGained (which_new tables) l stands.1.0 book.now
-        (state S.Store conn.old).now.trees (λ after d. Shows after d (state S.Store conn.new))) }
+        (state S.Store conn.old).now.trees (λ after d. ShowsContents after d (state S.Store conn.new))) }
     ensures open { HasCleanDisk (state S.Store conn.new)
         → OnOk result (IsCommitted (state S.Store conn.new)) }
     ensures settled { HasCleanDisk (state S.Store conn.new)

@@ -6,7 +6,7 @@ ghost use Rattle.desk_rows.specs.Layout.{Layout};
 ghost use Rattle.desk_store.specs.Books.{HasNewTables, LeavesBook, LeavesEither};
 ghost use Rattle.desk_store.specs.Formats.{Format, HasThoseRead, IsOfFormat};
 ghost use Rattle.desk_store.specs.Found.{HasNone, RowsShowIn};
-ghost use Rattle.desk_store.specs.Opened.{FindsBook, HoldsEither, HoldsEmpty, HoldsNone, Opens as OpensSo, Stands, StopsOpening, TellsOf};
+ghost use Rattle.desk_store.specs.Opened.{FindsBook, HoldsEither, HoldsEmpty, HoldsNone, OpensBook, Stands, StopsOpening, TellsOf};
 ghost use Rattle.desk_store.specs.Opening.{IsRefusal};
 ghost use Rattle.desk_store.specs.Reopened.{IsKeptThere, LeavesOneOf};
 ghost use Rattle.desk_store.specs.Undamaged.{HasBook, IsUndamaged};
@@ -32,19 +32,19 @@ pub fn found_after_a_crash<S: Alter, T: Alter>(
         → LeavesOneOf books (state S.Store last.now)
         → (state S.Store last.now).may_leave (state T.Store next.now).committed.trees
         → Opens (state T.Store next.now)
-        → OpensSo T.Store make next.now (state T.Store opened.now) result
+        → OpensBook T.Store make next.now (state T.Store opened.now) result
         → FindsBook (Contains books) result }
     ensures kept { (books : List Book) (make : Bool) (book : Book)
         → LeavesOneOf books (state S.Store last.now)
         → (state S.Store last.now).may_leave (state T.Store next.now).committed.trees
         → Opens (state T.Store next.now) → IsSettled (state T.Store next.now)
-        → OpensSo T.Store make next.now (state T.Store opened.now) (Ok book)
+        → OpensBook T.Store make next.now (state T.Store opened.now) (Ok book)
         → IsKeptThere book (state T.Store opened.now) }
     ensures none { (make : Bool) (result : Result Book OpenFault)
         → Leaves (λ db. HoldsNone db ⊎ HoldsEmpty db) (state S.Store last.now)
         → (state S.Store last.now).may_leave (state T.Store next.now).committed.trees
         → Opens (state T.Store next.now)
-        → OpensSo T.Store make next.now (state T.Store opened.now) result
+        → OpensBook T.Store make next.now (state T.Store opened.now) result
         → IfOk result (λ found. found ≡ empty_book) × IfErr result (λ fault. IsRefusal fault
         → (fault ≡ OpenFault.NotABook) × HasNone (state T.Store next.now).now.schema) }
 {

@@ -7,11 +7,11 @@ ghost use Rattle.desk_model.specs.Book.{Book};
 ghost use Rattle.desk_parts.specs.FileRows.{FileRows};
 ghost use Rattle.desk_model.specs.Shows.{Shows as RowsShow};
 ghost use Rattle.desk_parts.specs.Puts.{RowPut, with_puts};
-ghost use Rattle.desk_rows.specs.Described.{Which, caches, named_corrs};
+ghost use Rattle.desk_rows.specs.Descriptions.{Which, caches, named_corrs};
 ghost use Rattle.desk_rows.specs.Layout.{Layout};
 ghost use Rattle.desk_store.specs.Formats.{Format, IsExact, IsOfFormat, named, unnamed};
-ghost use Rattle.desk_rows.specs.Making.{after, is_among, made, with_tables};
-ghost use Rattle.desk_store.specs.Opened.{FindsBook, HoldsEither, IsMadeNew, IsOpened, Opens as OpensSo, Stands, completed};
+ghost use Rattle.desk_rows.specs.Making.{after, is_among, new_layout, with_tables};
+ghost use Rattle.desk_store.specs.Opened.{FindsBook, HoldsEither, IsMadeNew, IsOpened, OpensBook, Stands, with_missing_tables};
 ghost use Rattle.desk_store.specs.declared.fault.OpenFault.{OpenFault};
 ghost use Rattle.sql_tables.specs.States.{Leaves};
 ghost use Rattle.sqlite.specs.Held.{state};
@@ -67,19 +67,19 @@ pub fn opened_then_kept<S: Alter>(before: &Connection<S>, after: &Store<S>, chan
     ensures opened { (l : Layout) (c : Contents) (book next : Book)
         → IsOpened l c book (state S.Store before.now) (shown_by S.Store after.now)
         → LeadsTo book change.now next
-        → MayKeep (completed l) book change.now next (shown_by S.Store after.now) }
+        → MayKeep (with_missing_tables l) book change.now next (shown_by S.Store after.now) }
     ensures left { (l : Layout) (c : Contents) (book : Book)
         → IsOpened l c book (state S.Store before.now) (shown_by S.Store after.now)
         → Leaves (HoldsEither l book) (state S.Store before.now)
-        → IsKept (completed l) book (shown_by S.Store after.now) }
+        → IsKept (with_missing_tables l) book (shown_by S.Store after.now) }
     ensures made { (make : Bool) (book next : Book)
         → IsMadeNew make book (state S.Store before.now) (shown_by S.Store after.now)
         → LeadsTo book change.now next
-        → MayKeep (made (state S.Store before.now).now.schema) book change.now next
+        → MayKeep (new_layout (state S.Store before.now).now.schema) book change.now next
         (shown_by S.Store after.now) }
     ensures made_left { (make : Bool) (book : Book)
         → IsMadeNew make book (state S.Store before.now) (shown_by S.Store after.now)
-        → IsKept (made (state S.Store before.now).now.schema) book (shown_by S.Store after.now) }
+        → IsKept (new_layout (state S.Store before.now).now.schema) book (shown_by S.Store after.now) }
 {}
 
 /// Making tables adds just these to the tables that are there, and an exact layout stays exact.
@@ -92,7 +92,7 @@ pub fn tables_made()
 /// A new file is of format 2. One of format 1 in which tables are made, `corr2` among them, is of format 2 then, and one of either format in
 /// which `cache` is made stays of it.
 pub fn formats()
-    ensures new { (s : Schema) → IsOfFormat named (made s) }
+    ensures new { (s : Schema) → IsOfFormat named (new_layout s) }
     ensures names { (l : Layout) (ws : List Which) → IsOfFormat unnamed l
         → is_among ws named_corrs ≡ true → IsOfFormat named (with_tables ws l) }
     ensures cells { (format : Format) (l : Layout) → IsOfFormat format l
@@ -102,7 +102,7 @@ pub fn formats()
 /// If a book stands in a file that is opened, that one is found, or no refusal is reported.
 pub fn found_where_it_stands<S: Alter>(old: &Connection<S>, new: &Connection<S>)
     ensures { (make : Bool) (result : Result Book OpenFault)
-        → OpensSo S.Store make old.now (state S.Store new.now) result → (l : Layout) (book : Book)
+        → OpensBook S.Store make old.now (state S.Store new.now) result → (l : Layout) (book : Book)
         → Stands l book (state S.Store old.now)
         → FindsBook (λ found. found ≡ book) result }
 {}

@@ -5,17 +5,17 @@ ghost use Rattle.sqlite.specs.Held.{state};
 ghost use Rattle.sqlite.specs.declared.error.Error.{Error as Failure};
 ghost use Rattle.sqlite.specs.State.{HasCleanDisk, Survives};
 ghost use Rattle.sql_tables.specs.States.{IsCommitted, IsSettled, ShowsAsBefore};
-ghost use Rattle.desk_rows.specs.Described.{caches};
+ghost use Rattle.desk_rows.specs.Descriptions.{caches};
 ghost use Rattle.desk_rows.specs.Failing.{FailsToChange, of_first_row};
-ghost use Rattle.desk_rows.specs.Making.{IsMade, IsNew, made, new_tables};
+ghost use Rattle.desk_rows.specs.Making.{IsMade, IsNew, new_layout, new_tables};
 ghost use Rattle.desk_store.specs.Opening.{IsOpenedAs};
-ghost use Rattle.desk_rows.specs.States.{Shows};
+ghost use Rattle.desk_rows.specs.States.{ShowsContents};
 ghost use Rattle.desk_rows.specs.Tables.{is_there};
-ghost use Rattle.desk_rows.specs.Turns.{begun};
+ghost use Rattle.desk_rows.specs.Turns.{with_transaction};
 
 use crate::fault::OpenFault;
 use desk_parts::FileTable;
-use desk_rows::{Fault, has_table, make_tables};
+use desk_rows::{DatabaseFault, has_table, make_tables};
 use sqlite::{Alter, Connection};
 
 /// Makes the file of a new book, in one transaction, in a file that has none of a book's tables except perhaps `cache`: if
@@ -30,7 +30,7 @@ pub(crate) fn make_book<S: Alter>(conn: &mut Connection<S>) -> Result<(), OpenFa
     ensures idle { conn.new.in_transaction ≡ false }
     ensures made { HasCleanDisk (state S.Store conn.new)
         → OnOk result (IsNew (state S.Store conn.old).now.schema (state S.Store conn.old).now.trees
-        (λ c. Shows (made (state S.Store conn.old).now.schema) c (state S.Store conn.new))) }
+        (λ c. ShowsContents (new_layout (state S.Store conn.old).now.schema) c (state S.Store conn.new))) }
     ensures open { HasCleanDisk (state S.Store conn.new)
         → OnOk result (IsCommitted (state S.Store conn.new)) }
     // Of a crash at any exit: nothing new is left but all of it, and that only if no name was taken.
@@ -48,7 +48,7 @@ pub(crate) fn make_book<S: Alter>(conn: &mut Connection<S>) -> Result<(), OpenFa
     ensures told { HasCleanDisk (state S.Store conn.new)
         → is_there (state S.Store conn.old).now.schema caches ≡ false
         → IfErr result (λ told. (e : Failure)
-        × FailsToChange S.Store new_tables (of_first_row S.Store) (begun conn.old)
+        × FailsToChange S.Store new_tables (of_first_row S.Store) (with_transaction conn.old)
         (state S.Store conn.new) e × IsOpenedAs e told) }
     // If `cache` is there, nothing is done.
     ensures beside { is_there (state S.Store conn.old).now.schema caches ≡ true
@@ -59,6 +59,6 @@ pub(crate) fn make_book<S: Alter>(conn: &mut Connection<S>) -> Result<(), OpenFa
     }
     match make_tables(conn) {
         Ok(()) => Ok(()),
-        Err(error) => Err(OpenFault::from(Fault::of(error))),
+        Err(error) => Err(OpenFault::from(DatabaseFault::of(error))),
     }
 }

@@ -7,9 +7,9 @@ ghost use Rattle.desk_store.specs.Books.{LeavesBook, shown_by};
 ghost use Rattle.desk_store.specs.Found.{HasNone};
 ghost use Rattle.desk_rows.specs.Layout.{Layout};
 ghost use Rattle.desk_rows.specs.Making.{with_tables};
-ghost use Rattle.desk_store.specs.Opened.{HasGained, HoldsEither, HoldsEitherWith, HoldsEmpty, HoldsNone, HoldsWith, IsRefusedWith, MayBring, Opens, Stands, StopsFilling, StopsOpening, which_lacked};
+ghost use Rattle.desk_store.specs.Opened.{HasGained, HoldsEither, HoldsEitherWith, HoldsEmpty, HoldsNone, HoldsWith, IsRefusedWith, MayBring, OpensBook, Stands, StopsFilling, StopsOpening, which_lacked};
 ghost use Rattle.desk_store.specs.Opening.{IsRefusal};
-ghost use Rattle.desk_rows.specs.States.{Shows};
+ghost use Rattle.desk_rows.specs.States.{ShowsContents};
 ghost use Rattle.sql_tables.specs.States.{Leaves};
 ghost use Rattle.sqlite.specs.Held.{Held, state};
 ghost use Rattle.sqlite.specs.State.{HasCleanDisk, Survives};
@@ -46,7 +46,7 @@ fn complete<S: Alter>(
     ensures filled { HasCleanDisk (state S.Store conn.new) → (l : Layout)
         (stands : Stands l book.now (state S.Store conn.old))
         → OnOk result (HasGained (which_lacked lacked) l stands.1.0 book.now
-        (state S.Store conn.old).now.trees (λ after d. Shows after d (state S.Store conn.new))) }
+        (state S.Store conn.old).now.trees (λ after d. ShowsContents after d (state S.Store conn.new))) }
     ensures open { HasCleanDisk (state S.Store conn.new) → IsTrue (state S.Store conn.old).is_open
         → OnOk result (IsTrue (state S.Store conn.new).is_open) }
     ensures leaves { HasCleanDisk (state S.Store conn.new) → (l : Layout)
@@ -74,7 +74,7 @@ fn open_book<S: Alter>(alloc: Global, conn: &mut Connection<S>) -> Result<Book, 
     requires there { ¬ HasNone (state S.Store conn.old).now.schema }
     ensures idle { conn.new.in_transaction ≡ false }
     ensures opens { HasCleanDisk (state S.Store conn.new) → (make : Bool)
-        → Opens S.Store make conn.old (state S.Store conn.new) result }
+        → OpensBook S.Store make conn.old (state S.Store conn.new) result }
     ensures crash { (make : Bool) → Survives (state S.Store conn.old) (state S.Store conn.new)
         (MayBring make (state S.Store conn.old)) }
     ensures refused { HasCleanDisk (state S.Store conn.new) → IfErr result (λ fault. IsRefusal fault
@@ -95,7 +95,7 @@ fn open_new<S: Alter>(alloc: Global, conn: &mut Connection<S>) -> Result<Book, O
     requires bare { HasNone (state S.Store conn.old).now.schema }
     ensures idle { conn.new.in_transaction ≡ false }
     ensures opens { HasCleanDisk (state S.Store conn.new)
-        → Opens S.Store true conn.old (state S.Store conn.new) result }
+        → OpensBook S.Store true conn.old (state S.Store conn.new) result }
     ensures crash { Survives (state S.Store conn.old) (state S.Store conn.new)
         (MayBring true (state S.Store conn.old)) }
     ensures refused { HasCleanDisk (state S.Store conn.new) → IfErr result (λ fault. IsRefusal fault
@@ -128,7 +128,7 @@ impl<S: Alter> Store<S> {
         requires unlimited { connection.old.step_limit ≡ None }
         ensures idle { connection.new.in_transaction ≡ false }
         ensures opens { HasCleanDisk (state S.Store connection.new)
-            → Opens S.Store make connection.old (state S.Store connection.new) result }
+            → OpensBook S.Store make connection.old (state S.Store connection.new) result }
         // Of a crash at any exit: nothing new is left but the book in a file with the tables of a new one.
         ensures crash { Survives (state S.Store connection.old) (state S.Store connection.new)
             (MayBring make (state S.Store connection.old)) }
@@ -174,7 +174,7 @@ impl<S: Alter + Drop> Store<S> {
         requires idle { connection.in_transaction ≡ false }
         requires unlimited { connection.step_limit ≡ None }
         ensures opens { IfOk result (λ it. HasCleanDisk (shown_by S.Store it.0)
-            → Opens S.Store make connection (shown_by S.Store it.0) (Ok it.1)) }
+            → OpensBook S.Store make connection (shown_by S.Store it.0) (Ok it.1)) }
         ensures crash { IfOk result (λ it. Survives (state S.Store connection)
             (shown_by S.Store it.0) (MayBring make (state S.Store connection))) }
         ensures kept { IfOk result (λ it. it.0.lost ≡ false) }

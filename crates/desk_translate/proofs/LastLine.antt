@@ -3,9 +3,9 @@ use Rattle.std.proofs.Common.{◌≡◌, ◌≢◌, ℕ, Bool, true, List, [], �
 use Rattle.std.proofs.KnownBytes.{Appends-nil}
 use Rattle.louis_table.specs.Meaning.{Meaning}
 use Rattle.desk_ends.specs.Lines.{HasNoFeed, without_ending}
-use Rattle.desk_ends.specs.Sent.{Sends}
+use Rattle.desk_ends.specs.Sending.{Sends}
 use Rattle.desk_ends.specs.declared.ends.Sink.{Ghosts}
-use Rattle.desk_ends.proofs.Sending.{Sent-whole}
+use Rattle.desk_ends.proofs.Sending.{Transmits-whole}
 use Rattle.desk_translate.specs.Sends.{IsLastAnswer, SendsLast, SendsLine}
 use Rattle.desk_translate.proofs.Answering.{answer_to, is-answer, output_of}
 use Rattle.desk_translate.proofs.Cuts.{output_of-line}
@@ -23,7 +23,7 @@ module _ {K : Type 0} (sink : Ghosts K) (old new : K) (meaning : Meaning) where
   pub SendsLast-none : (bytes : List ℕ) → [] ≡ bytes → SendsLast sink old old meaning bytes true
   SendsLast-none bytes none = λ text right.
       subst (λ (t : List ℕ). Sends sink old old t true) (sym (none-answered meaning bytes text none right))
-      (Sent-whole sink.can_fail (sink.contents old) (sink.contents old) [] true (Appends-nil (sink.contents old)) refl)
+      (Transmits-whole sink.can_fail (sink.contents old) (sink.contents old) [] true (Appends-nil (sink.contents old)) refl)
 
   pub SendsLast-some : (bytes : List ℕ) (ok : Bool) → [] ≢ bytes → SendsLine sink old new meaning (without_ending bytes) ok
       → SendsLast sink old new meaning bytes ok

@@ -4,12 +4,12 @@ use Rattle.std.specs.Io.KnownBytes.{Appends, Consumes, IsAtEnd}
 use Rattle.std.proofs.KnownBytes.{Appends-nil, Appends-trans, Consumes-whole}
 use Rattle.std.proofs.lemmas.List.{append-nil, nil_from_length}
 use Rattle.louis_table.specs.Meaning.{Meaning}
-use Rattle.desk_ends.specs.Input.{Input, Used, unread}
+use Rattle.desk_ends.specs.Input.{Input, UsesInput, unread}
 use Rattle.desk_ends.specs.Limits.{most_input}
 use Rattle.desk_ends.specs.Lines.{HasNoFeed, without_ending}
-use Rattle.desk_ends.specs.Sent.{Sent}
+use Rattle.desk_ends.specs.Sending.{Transmits}
 use Rattle.desk_ends.proofs.OneLine.{ends-some, fed-ends}
-use Rattle.desk_ends.proofs.UsedInput.{Used-none, Used-then, left_to_use, left_to_use-fewer, unread-knows}
+use Rattle.desk_ends.proofs.UsedInput.{UsesInput-none, UsesInput-then, left_to_use, left_to_use-fewer, unread-knows}
 use Rattle.desk_translate.specs.declared.translate.Ended.{Ended}
 use Rattle.desk_translate.specs.declared.translate.Ended.TheVariants as ended
 use Rattle.desk_translate.specs.NextLine.{TakesLine}
@@ -115,16 +115,16 @@ module _ {meaning : Meaning} {how : Ended} {a b v w : Option (List ℕ)} {ReadsF
 -- so many lines were answered
 pub record Answered (meaning : Meaning) (a b v w : Option (List ℕ)) (input : Input) : Type 0 where
   pub lines : List ℕ
-  pub used : Used a b unread input lines
+  pub used : UsesInput a b unread input lines
   pub whole : AreWhole lines
   pub out : Appends v w (output_of meaning lines)
 
 pub Answered-none : (meaning : Meaning) (a v : Option (List ℕ)) → Answered meaning a a v v unread
-Answered-none meaning a v = record { lines = []; used = Used-none a unread; whole = inl refl; out = Appends-nil v }
+Answered-none meaning a v = record { lines = []; used = UsesInput-none a unread; whole = inl refl; out = Appends-nil v }
 
 -- what is whole went out
-Sent-Appends : (F : Type 0) (a b : Option (List ℕ)) (text : List ℕ) (ok : Bool) → Sent F a b text [] ok → ok ≡ true → Appends a b text
-Sent-Appends F a b text ok s t =
+Transmits-Appends : (F : Type 0) (a b : Option (List ℕ)) (text : List ℕ) (ok : Bool) → Transmits F a b text [] ok → ok ≡ true → Appends a b text
+Transmits-Appends F a b text ok s t =
     subst (λ (o : List ℕ). Appends a b o) (sym (append-nil s.out) ∙ (ap (λ (r : List ℕ). s.out ++ r) (sym (s.holds t)) ∙ s.begins)) s.appends
 
 module _ (meaning : Meaning) (RF WF : Type 0) (a b c v w x f : Option (List ℕ)) (input new : Input) (line : Option (List ℕ))
@@ -133,8 +133,8 @@ module _ (meaning : Meaning) (RF WF : Type 0) (a b c v w x f : Option (List ℕ)
   abbrev Takes : Result Bool Ended → Type 0
   Takes result = TakesLine RF WF b c w x f input new line result
 
-  used : {result : Result Bool Ended} (read : Takes result) → Used a c unread new (so_far.lines ++ read.bytes)
-  used read = Used-then a b c unread input new so_far.lines read.bytes so_far.used read.used
+  used : {result : Result Bool Ended} (read : Takes result) → UsesInput a c unread new (so_far.lines ++ read.bytes)
+  used read = UsesInput-then a b c unread input new so_far.lines read.bytes so_far.used read.used
 
   -- nothing more went out
   same_out : {result : Result Bool Ended} → Takes result → Appends v x (output_of meaning so_far.lines)
@@ -177,7 +177,7 @@ module _ (meaning : Meaning) (RF WF : Type 0) (a b c v w x f : Option (List ℕ)
 
   -- a line with its line feed
   module _ (read : Takes (Ok true)) (y : Option (List ℕ)) (ok : Bool)
-      (sent : Sent WF x y (answer_to meaning (without_ending read.bytes) ++ 10 ∷ []) [] ok) where
+      (sent : Transmits WF x y (answer_to meaning (without_ending read.bytes) ++ 10 ∷ []) [] ok) where
     one_more : output_of meaning (so_far.lines ++ read.bytes) ≡ output_of meaning so_far.lines ++ (answer_to meaning (without_ending read.bytes) ++ 10 ∷ [])
     one_more =
         output_of-then meaning so_far.lines read.bytes so_far.whole
@@ -190,7 +190,7 @@ module _ (meaning : Meaning) (RF WF : Type 0) (a b c v w x f : Option (List ℕ)
       used = used read;
       whole = AreWhole-more so_far.lines read.bytes read.ends;
       out = subst (Appends v y) (sym one_more)
-          (Appends-trans v x y (output_of meaning so_far.lines) _ (same_out read) (Sent-Appends WF x y _ ok sent t));
+          (Appends-trans v x y (output_of meaning so_far.lines) _ (same_out read) (Transmits-Appends WF x y _ ok sent t));
     }
 
     -- bytes were used
@@ -221,7 +221,7 @@ module _ (meaning : Meaning) (RF WF : Type 0) (a b c v w x f : Option (List ℕ)
     }
 
   -- what is left at the end of the input
-  module _ (read : Takes (Ok false)) (y : Option (List ℕ)) (ok : Bool) (sent : Sent WF x y (output_of meaning read.bytes) [] ok) where
+  module _ (read : Takes (Ok false)) (y : Option (List ℕ)) (ok : Bool) (sent : Transmits WF x y (output_of meaning read.bytes) [] ok) where
     at_end : IsAtEnd c
     at_end = ((used read).ends (unread-knows a) read.ends.1).0
 
@@ -234,7 +234,7 @@ module _ (meaning : Meaning) (RF WF : Type 0) (a b c v w x f : Option (List ℕ)
       taken = (used read).read;
       out = output_of meaning so_far.lines ++ output_of meaning read.bytes;
       consumes = (used read).consumes;
-      appends = Appends-trans v x y (output_of meaning so_far.lines) (output_of meaning read.bytes) (same_out read) (Sent-Appends WF x y _ ok sent t);
+      appends = Appends-trans v x y (output_of meaning so_far.lines) (output_of meaning read.bytes) (same_out read) (Transmits-Appends WF x y _ ok sent t);
       steps = (at_end, whole_output);
       honest = tt;
     }

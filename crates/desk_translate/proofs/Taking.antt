@@ -2,7 +2,7 @@
 use Rattle.std.proofs.Common.{◌≡◌, true, false, List, [], ℕ, Option, Ok, Err}
 use Rattle.std.specs.Io.KnownBytes.{Appends, Keeps}
 use Rattle.std.proofs.KnownBytes.{Appends-kept}
-use Rattle.desk_ends.specs.declared.ends.Failed.{Failed}
+use Rattle.desk_ends.specs.declared.ends.Failure.{Failure}
 use Rattle.desk_ends.specs.Ends.{IsFlushed}
 use Rattle.desk_ends.specs.Input.{FillsInput, Input, PassesLine}
 use Rattle.desk_ends.proofs.LineReading.{IsReading, IsReading-filled, IsReading-more, ReadsLine-failed, ReadsLine-fed, ReadsLine-over}
@@ -42,7 +42,7 @@ module _ (RF WF : Type 0) (a b c v w f : Option (List ℕ)) (old mid new : Input
       let read = ReadsLine-over RF a b c old mid new line taking.part fills in
       record { bytes = read.bytes; used = read.used; held = read.held; still = taking.still; ends = read.ends }
 
-  pub TakesLine-failed : (failed : Failed) → FillsInput RF b c mid new (Err failed) → IsFlushed w f
+  pub TakesLine-failed : (failed : Failure) → FillsInput RF b c mid new (Err failed) → IsFlushed w f
       → TakesLine RF WF a c v w f old new line (Err ended.Input)
   TakesLine-failed failed fills flushed =
       let read = ReadsLine-failed RF a b c old mid new line taking.part failed fills in

@@ -1,13 +1,13 @@
 -- What goes out of a print's pieces.
 use Rattle.std.specs.Prelude.{◌≡◌, ℕ, List, ◌++◌, Bool}
 use Rattle.std.specs.List.{flat_map}
-use Rattle.louis_translate.specs.Items.{Made, made_cells}
+use Rattle.louis_translate.specs.Items.{PieceItem, made_cells}
 use Rattle.desk_ends.specs.Cells.{text_of}
-use Rattle.desk_ends.specs.Sent.{Puts}
+use Rattle.desk_ends.specs.Sending.{Puts}
 use Rattle.desk_ends.specs.declared.ends.Sink.{Ghosts}
 
 -- some first pieces of those that were left are taken, and their cells went after the block to the sink so
-pub record PutsFirst {K : Type 0} (sink : Ghosts K) (old new : K) (block held : List ℕ) (left others : List Made) (whole : Bool) : Type 0 where
-  pub taken : List Made
+pub record PutsFirst {K : Type 0} (sink : Ghosts K) (old new : K) (block held : List ℕ) (left others : List PieceItem) (whole : Bool) : Type 0 where
+  pub taken : List PieceItem
   pub parts : left ≡ taken ++ others
   pub puts : Puts sink old new (block ++ text_of (flat_map made_cells taken)) held whole

@@ -2,8 +2,8 @@
 use Rattle.std.specs.Prelude.{◌≡◌, ℕ, Bool, true, false, List, [], Option, Result, Ok, Err}
 use Rattle.std.specs.Io.KnownBytes.{Appends}
 use Rattle.desk_ends.specs.Ends.{IsFlushed}
-use Rattle.desk_ends.specs.Input.{Input, IsStopped, Used}
-use Rattle.desk_ends.specs.Lines.{HasNoFeed, IsFed, kept}
+use Rattle.desk_ends.specs.Input.{Input, IsStopped, UsesInput}
+use Rattle.desk_ends.specs.Lines.{HasNoFeed, IsFed, kept_line}
 use Rattle.desk_translate.specs.declared.translate.Ended.{Ended}
 use Rattle.desk_translate.specs.declared.translate.Ended.TheVariants as ended
 
@@ -21,7 +21,7 @@ LineTaken ReadsFail WritesFail Flushed new bytes (Err ended.Output) = HasNoFeed 
 pub record TakesLine (ReadsFail WritesFail : Type 0) (read_old read_new write_old write_new flushed_new : Option (List ℕ))
     (old new : Input) (line : Option (List ℕ)) (result : Result Bool Ended) : Type 0 where
   pub bytes : List ℕ
-  pub used : Used read_old read_new old new bytes
-  pub held : line ≡ kept bytes
+  pub used : UsesInput read_old read_new old new bytes
+  pub held : line ≡ kept_line bytes
   pub still : Appends write_old write_new []
   pub ends : LineTaken ReadsFail WritesFail (IsFlushed write_new flushed_new) new bytes result

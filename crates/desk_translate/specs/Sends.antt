@@ -2,7 +2,7 @@
 use Rattle.std.specs.Prelude.{◌≡◌, ℕ, List, [], ◌∷◌, ◌++◌, Bool}
 use Rattle.desk_ends.specs.declared.ends.Sink.{Ghosts}
 use Rattle.desk_ends.specs.Lines.{without_ending}
-use Rattle.desk_ends.specs.Sent.{Sends}
+use Rattle.desk_ends.specs.Sending.{Sends}
 use Rattle.louis_table.specs.Meaning.{Meaning}
 use Rattle.desk_translate.specs.Reply.{IsAnswer}
 

@@ -1,14 +1,14 @@
 //! What is answered to one line.
 ghost use Rattle.desk_translate.specs.Refusal.{IsPrint, IsRefused, refusal_text};
 ghost use Rattle.desk_translate.specs.Sends.{SendsLast, SendsLine};
-ghost use Rattle.desk_ends.specs.Lines.{kept, without_ending};
-ghost use Rattle.desk_ends.specs.Sent.{HasFlushed, Sends};
+ghost use Rattle.desk_ends.specs.Lines.{kept_line, without_ending};
+ghost use Rattle.desk_ends.specs.Sending.{HasFlushed, Sends};
 ghost use Rattle.std.specs.Prelude.{List, MatchResult, OnOk, [], is_ok, ◌++◌, ◌≡◌, ◌∷◌, ℕ};
 ghost use Rattle.std.specs.Str.{chars};
 
 use super::braille::send_braille;
 use super::print::{Print, TooManyCharacters};
-use desk_ends::{Block, Failed, Line, MOST_LINE_BYTES, Sink, send, send_parts, without_ending};
+use desk_ends::{Block, Failure, Line, MOST_LINE_BYTES, Sink, send, send_parts, without_ending};
 use itoa::Buffer;
 use louis_translate::RuleBook;
 
@@ -47,8 +47,8 @@ impl Workspace {
         sink: &mut K,
         book: &B,
         line: &Line,
-    ) -> Result<(), Failed>
-        ensures { (bytes : List ℕ) → line.now ≡ kept bytes
+    ) -> Result<(), Failure>
+        ensures { (bytes : List ℕ) → line.now ≡ kept_line bytes
             → SendsLine K.Sink sink.old sink.new (B.meaning book.now) (without_ending bytes) (is_ok result) }
     {
         match line.bytes() {
@@ -63,9 +63,9 @@ impl Workspace {
         sink: &mut K,
         book: &B,
         line: &Line,
-    ) -> Result<(), Failed>
+    ) -> Result<(), Failure>
         ensures flushed { OnOk result (HasFlushed K.Sink sink.new) }
-        ensures sent { (bytes : List ℕ) → line.now ≡ kept bytes
+        ensures sent { (bytes : List ℕ) → line.now ≡ kept_line bytes
             → SendsLast K.Sink sink.old sink.new (B.meaning book.now) bytes (is_ok result) }
     {
         self.answer_last(sink, book, line)?;
@@ -78,8 +78,8 @@ impl Workspace {
         sink: &mut K,
         book: &B,
         line: &Line,
-    ) -> Result<(), Failed>
-        ensures { (bytes : List ℕ) → line.now ≡ kept bytes
+    ) -> Result<(), Failure>
+        ensures { (bytes : List ℕ) → line.now ≡ kept_line bytes
             → SendsLast K.Sink sink.old sink.new (B.meaning book.now) bytes (is_ok result) }
     {
         if line.is_empty() {
@@ -94,7 +94,7 @@ impl Workspace {
         sink: &mut K,
         book: &B,
         line: &[u8],
-    ) -> Result<(), Failed>
+    ) -> Result<(), Failure>
         ensures { SendsLine K.Sink sink.old sink.new (B.meaning book.now) line.now (is_ok result) }
     {
         match read_print(&mut self.print, book, line) {
@@ -124,7 +124,7 @@ fn read_print<B: RuleBook>(print: &mut Print, book: &B, line: &[u8]) -> Result<(
 }
 
 /// Sends a refusal and a line feed.
-pub fn refuse<K: Sink>(sink: &mut K, refusal: Refusal) -> Result<(), Failed>
+pub fn refuse<K: Sink>(sink: &mut K, refusal: Refusal) -> Result<(), Failure>
     ensures { Sends K.Sink sink.old sink.new (refusal_text refusal ++ 10 ∷ []) (is_ok result) }
 {
     match refusal {
@@ -135,7 +135,7 @@ pub fn refuse<K: Sink>(sink: &mut K, refusal: Refusal) -> Result<(), Failed>
 }
 
 /// Sends the refusal of an undefined character and a line feed.
-fn refuse_place<K: Sink>(sink: &mut K, place: usize) -> Result<(), Failed>
+fn refuse_place<K: Sink>(sink: &mut K, place: usize) -> Result<(), Failure>
     ensures { Sends K.Sink sink.old sink.new
         (refusal_text (Refusal.Undefined place) ++ 10 ∷ []) (is_ok result) }
 {

@@ -1,6 +1,6 @@
 //! The braille of a print, sent in blocks.
 ghost use Rattle.desk_ends.specs.Cells.{text_of};
-ghost use Rattle.desk_ends.specs.Sent.{Puts, Sends};
+ghost use Rattle.desk_ends.specs.Sending.{Puts, Sends};
 ghost use Rattle.desk_translate.specs.Braille.{PutsFirst};
 ghost use Rattle.louis_translate.specs.Braille.{braille};
 ghost use Rattle.louis_translate.specs.Position.{AreDefined};
@@ -8,7 +8,7 @@ ghost use Rattle.louis_translate.specs.Tiling.{Tiles};
 ghost use Rattle.louis_translate.specs.declared.choices.Choice.{Choice as ChoiceTerm};
 ghost use Rattle.std.specs.Prelude.{List, [], is_ok, ◌++◌, ◌∷◌};
 
-use desk_ends::{Block, Failed, Sink, put_cell, put_cells, send_block};
+use desk_ends::{Block, Failure, Sink, put_cell, put_cells, send_block};
 use louis_translate::{Pieces, RuleBook};
 
 /// Sends the braille of a print and a line feed.
@@ -17,7 +17,7 @@ pub fn send_braille<K: Sink, B: RuleBook>(
     block: &mut Block,
     book: &B,
     print: &[char],
-) -> Result<(), Failed>
+) -> Result<(), Failure>
     requires { AreDefined (B.meaning book.now) print.now }
     ensures { (choices : List ChoiceTerm) → Tiles (B.meaning book.now) print.now choices
         → Sends K.Sink sink.old sink.new
@@ -37,7 +37,7 @@ fn put_print<K: Sink, B: RuleBook>(
     block: &mut Block,
     book: &B,
     print: &[char],
-) -> Result<(), Failed>
+) -> Result<(), Failure>
     requires { AreDefined (B.meaning book.now) print.now }
     ensures { (choices : List ChoiceTerm) → Tiles (B.meaning book.now) print.now choices
         → Puts K.Sink sink.old sink.new
@@ -60,7 +60,7 @@ fn put_run<K: Sink, B: RuleBook>(
     sink: &mut K,
     block: &mut Block,
     pieces: &mut Pieces<'_, B>,
-) -> Result<(), Failed>
+) -> Result<(), Failure>
     ensures { PutsFirst K.Sink sink.old sink.new block.old block.new pieces.old pieces.new (is_ok result) }
 {
     while let Some(cell) = pieces.next_lone() {

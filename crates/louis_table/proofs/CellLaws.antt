@@ -10,7 +10,7 @@ use Rattle.louis_table.specs.declared.definition.Definition.{Definition}
 use Rattle.louis_table.specs.declared.rule.Rule.{Rule}
 use Rattle.louis_table.specs.Characters.{Spells}
 use Rattle.louis_table.specs.Fields.{HasFields}
-use Rattle.louis_table.specs.Meaning.{Meaning, HasCells, definition_of, folded}
+use Rattle.louis_table.specs.Meaning.{Meaning, HasCells, definition_of, fold_of}
 use Rattle.louis_table.specs.Profile.{Profile}
 use Rattle.louis_table.specs.Table.{Entry, Defines, Pairs, Replaces, Announces, Collects, PairDots, RuleDots, Gives, definition_line, pair_line, rule_line, sign_line, set_line, GiveFrom, definitions_in, cells_in_definition, rule_cells, rules_in, IsLacking, MeansIn}
 
@@ -115,11 +115,11 @@ module _ (meaning : Meaning) (known : (c : ℕ) (defined : Definition) → defin
       at None e = absurd (some e)
       at (Some defined) e = known c defined e
 
-  spelled-cells : (text : List ℕ) → text ≢ [] → ((c : ℕ) → Contains text c → definition_of meaning (folded meaning c) ≢ None)
-      → rule_cells meaning (map (folded meaning) text) None ≢ []
+  spelled-cells : (text : List ℕ) → text ≢ [] → ((c : ℕ) → Contains text c → definition_of meaning (fold_of meaning c) ≢ None)
+      → rule_cells meaning (map (fold_of meaning) text) None ≢ []
   spelled-cells [] some all = λ e. some refl
   spelled-cells (c ∷ text) some all =
-      joined_cells _ _ (defined-cells (folded meaning c) (all c (0, omega arith, refl)))
+      joined_cells _ _ (defined-cells (fold_of meaning c) (all c (0, omega arith, refl)))
 
   rule-cells : (n : ℕ) (entry : Entry) → MakesCells entry → (IsLacking meaning entry → ⊥) → AllByRecursion (λ r. r.cells ≢ []) (rules_in meaning (n, entry))
   rule-cells n (Defines character defined) h complete = tt

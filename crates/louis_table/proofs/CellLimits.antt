@@ -16,9 +16,9 @@ use Rattle.louis_table.specs.declared.sign.Sign.{Sign}
 use Rattle.louis_table.specs.declared.sign.Sign.TheVariants as signs
 use Rattle.louis_table.specs.Characters.{Spells, Writes, itself, escape, number}
 use Rattle.louis_table.specs.Fields.{Begins, HasFields}
-use Rattle.louis_table.specs.Meaning.{Meaning, definition_of, folded, sign_cells}
+use Rattle.louis_table.specs.Meaning.{Meaning, definition_of, fold_of, sign_cells}
 use Rattle.louis_table.specs.Profile.{Profile}
-use Rattle.louis_table.specs.Table.{Entry, Defines, Pairs, Replaces, Announces, Collects, PairDots, RuleDots, Gives, definition_line, pair_line, rule_line, sign_line, set_line, GiveFrom, Fault, long_line, line_too_many, HasCause, on_line, definitions_in, cells_in_definition, cells_for, rule_cells, rules_in, is_same_sign, MeansIn, text_lines, most_lines, most_line_characters}
+use Rattle.louis_table.specs.Table.{Entry, Defines, Pairs, Replaces, Announces, Collects, PairDots, RuleDots, Gives, definition_line, pair_line, rule_line, sign_line, set_line, GiveFrom, IsFault, long_line, line_too_many, HasCause, on_line, definitions_in, cells_in_definition, cells_for, rule_cells, rules_in, is_same_sign, MeansIn, text_lines, most_lines, most_line_characters}
 
 split_at : {X : Type 0} (n : ℕ) (xs : List X) → n < length xs → (before : List X) × (x : X) × (after : List X) × (xs ≡ before ++ x ∷ after) × (length before ≡ n)
 split_at n [] lt = absurd (omega (arith, lt))
@@ -119,7 +119,7 @@ gives-few profile line entry short (sign_line sign dots cells has h d e) =
 gives-few profile line entry short (set_line set characters text has h s e) = subst FewCells (sym e) tt
 
 module _ (profile : Profile) (all : List (List ℕ)) (sound : (n cause : ℕ) → HasCause profile all n cause → ⊥) where
-  no_fault : (before : List (List ℕ)) (line : List ℕ) (after : List (List ℕ)) → all ≡ before ++ line ∷ after → (cause : ℕ) → Fault profile before line cause → ⊥
+  no_fault : (before : List (List ℕ)) (line : List ℕ) (after : List (List ℕ)) → all ≡ before ++ line ∷ after → (cause : ℕ) → IsFault profile before line cause → ⊥
   no_fault before line after parts cause fault = sound (length before + 1) cause (on_line before line after parts refl fault)
 
   line-short : (before : List (List ℕ)) (line : List ℕ) (after : List (List ℕ)) → all ≡ before ++ line ∷ after → length line ≤ 1000
@@ -208,10 +208,10 @@ module _ (meaning : Meaning) (known : All FewDefined meaning.definitions) where
   rule-few n (Replaces kind text None) h =
       All-cons FewOfRule _ [] (few) (All-nil FewOfRule)
     where
-      few : length (rule_cells meaning (map (folded meaning) text) None) ≤ 1000000
+      few : length (rule_cells meaning (map (fold_of meaning) text) None) ≤ 1000000
       few =
-          let each = joined-few (λ (c : ℕ). cells_in_definition (definition_of meaning c)) 1000 (map (folded meaning) text) (λ k d lt. defined-few _) in
-          let size = length-map text (folded meaning) in
+          let each = joined-few (λ (c : ℕ). cells_in_definition (definition_of meaning c)) 1000 (map (fold_of meaning) text) (λ k d lt. defined-few _) in
+          let size = length-map text (fold_of meaning) in
           let short = h.0 in
           omega (arith, each, size, short)
   rule-few n (Replaces kind text (Some cells)) h = All-cons FewOfRule _ [] (let few = h.1 cells refl in omega (arith, few)) (All-nil FewOfRule)

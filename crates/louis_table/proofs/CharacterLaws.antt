@@ -6,7 +6,7 @@ use Rattle.std.specs.Char.{digit_value}
 use lib.Utf8.{scalar}
 use Rattle.std.proofs.lemmas.Bool.{eqb-true, eqb-false, ne_eqb, ltb-true, ltb-false, lt-ltb, le-ltb}
 use Rattle.std.proofs.lemmas.List.{take-append-drop, length-take, length-append, take_at, drop_at}
-use Rattle.louis_table.specs.Characters.{escaped, digits_behind, spelled_behind, Writes, itself, escape, number, Spells}
+use Rattle.louis_table.specs.Characters.{escape_character, digits_behind, spelled_behind, Writes, itself, escape, number, Spells}
 use Rattle.louis_table.specs.Steps.Characters.{with_rest, hex_value, scalar_from, number_at, escape_by, character_at, characters_within, characters_in}
 
 -- which way a test went
@@ -67,7 +67,7 @@ number_at-reads letter count text c rest b e =
           )
     ]
 
-escape_by-reads : (letter c : ℕ) (text rest : List ℕ) (o d : Option ℕ) → escaped letter ≡ o → digits_behind letter ≡ d → escape_by o d text ≡ Some (c, rest)
+escape_by-reads : (letter c : ℕ) (text rest : List ℕ) (o d : Option ℕ) → escape_character letter ≡ o → digits_behind letter ≡ d → escape_by o d text ≡ Some (c, rest)
     → ReadsFront (92 ∷ letter ∷ text) c rest
 escape_by-reads letter c text rest (Some v) d e f h =
     let w = with_rest-Some (Some v) text c rest h in
@@ -77,7 +77,7 @@ escape_by-reads letter c text rest None None e f h = absurd cc
 
 escape_at-reads : (c : ℕ) (text rest : List ℕ) → character_at (92 ∷ text) ≡ Some (c, rest) → ReadsFront (92 ∷ text) c rest
 escape_at-reads c [] rest e = absurd cc
-escape_at-reads c (letter ∷ text) rest e = escape_by-reads letter c text rest (escaped letter) (digits_behind letter) refl refl e
+escape_at-reads c (letter ∷ text) rest e = escape_by-reads letter c text rest (escape_character letter) (digits_behind letter) refl refl e
 
 pub character_at-reads : (text : List ℕ) (c : ℕ) (rest : List ℕ) → character_at text ≡ Some (c, rest) → ReadsFront text c rest
 character_at-reads [] c rest e = absurd cc
@@ -91,14 +91,14 @@ character_at-reads (x ∷ text) c rest e =
     ]
 
 -- an escape by number has no letter of a shorter one
-digits_behind-escaped : (letter count : ℕ) → digits_behind letter ≡ Some count → escaped letter ≡ None
+digits_behind-escaped : (letter count : ℕ) → digits_behind letter ≡ Some count → escape_character letter ≡ None
 digits_behind-escaped letter count e =
     elim (chosen (eqb letter 120) _ _ _ e) [
-      | inl p ↦ ap escaped (eqb-true letter 120 p.0)
+      | inl p ↦ ap escape_character (eqb-true letter 120 p.0)
       | inr p ↦ elim (chosen (eqb letter 121) _ _ _ p.1) [
-        | inl q ↦ ap escaped (eqb-true letter 121 q.0)
+        | inl q ↦ ap escape_character (eqb-true letter 121 q.0)
         | inr q ↦ elim (chosen (eqb letter 122) _ _ _ q.1) [
-          | inl r ↦ ap escaped (eqb-true letter 122 r.0)
+          | inl r ↦ ap escape_character (eqb-true letter 122 r.0)
           | inr r ↦ absurd cc
         ]
       ]

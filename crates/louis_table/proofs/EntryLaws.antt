@@ -24,7 +24,7 @@ use Rattle.louis_table.specs.Steps.Characters.{characters_in}
 use Rattle.louis_table.specs.Steps.Opcode.{opcode_among, opcodes, opcode_named}
 use Rattle.louis_table.specs.Steps.Dots.{pair_in, rule_in, are_many, are_many_written}
 use Rattle.louis_table.specs.Steps.Line.{or_cause, entry_from, with_dots, both_from, both_at, entry_of_both, entry_of_one, entry_of_set, entry_at, as_some, opcode_gives, fields_give, line_gives, is_large}
-use Rattle.louis_table.specs.Table.{Entry, Defines, Pairs, Replaces, Announces, Collects, AreCharactersFor, HasCharacters, HasDots, HasOperands, AreTooManyFor, RuleDots, IsDotsFor, WritesCells, most_rule_characters, IsComment, SaysNothing, blank, comment, Gives, definition_line, pair_line, rule_line, sign_line, set_line, Fault, unknown_opcode, missing_operand, bad_characters, bad_dots, many_characters, many_cells}
+use Rattle.louis_table.specs.Table.{Entry, Defines, Pairs, Replaces, Announces, Collects, AreCharactersFor, HasCharacters, HasDots, HasOperands, AreTooManyFor, RuleDots, IsDotsFor, WritesCells, most_rule_characters, IsComment, SaysNothing, blank, comment, Gives, definition_line, pair_line, rule_line, sign_line, set_line, IsFault, unknown_opcode, missing_operand, bad_characters, bad_dots, many_characters, many_cells}
 use Rattle.louis_table.proofs.FieldLaws.{field_at-Begins, Begins-field_at, IsGap-field_at, field_at-gap, gap_without_field}
 use Rattle.louis_table.proofs.CharacterLaws.{chosen, map_some, characters_in-Spells, Spells-characters_in}
 use Rattle.louis_table.proofs.OperandLaws.{pair_in-PairDots, PairDots-pair_in, rule_in-RuleDots, RuleDots-rule_in}
@@ -117,13 +117,13 @@ front_field line name characters dots h = (h.0, h.1, (h.2.0, h.2.1, tt))
 abbrev pub Says : List ℕ → Result (Option Entry) ℕ → Type 0
 Says line (Ok None) = SaysNothing line
 Says line (Ok (Some entry)) = Gives WithNumericMode line entry
-Says line (Err cause) = (before : List (List ℕ)) → Fault WithNumericMode before line cause
+Says line (Err cause) = (before : List (List ℕ)) → IsFault WithNumericMode before line cause
 
 map_none : {A B : Type 0} (f : A → B) (o : Option A) → option_map f o ≡ None → o ≡ None
 map_none f None e = refl
 map_none f (Some x) e = absurd cc
 
-or_cause_says : (line : List ℕ) (cause : ℕ) (o : Option Entry) → ((entry : Entry) → o ≡ Some entry → Gives WithNumericMode line entry) → (o ≡ None → (before : List (List ℕ)) → Fault WithNumericMode before line cause)
+or_cause_says : (line : List ℕ) (cause : ℕ) (o : Option Entry) → ((entry : Entry) → o ≡ Some entry → Gives WithNumericMode line entry) → (o ≡ None → (before : List (List ℕ)) → IsFault WithNumericMode before line cause)
     → Says line (as_some (or_cause cause o))
 or_cause_says line cause None g f = f refl
 or_cause_says line cause (Some entry) g f = g entry refl
@@ -140,7 +140,7 @@ wrong_length opcode characters text e n other a s =
 
 module _ (line characters dots : List ℕ) where
   wrong_says : (opcode : Opcode) (text : List ℕ) → TakesBoth opcode → HasFields line (name_of opcode ∷ characters ∷ dots ∷ []) → characters_in characters ≡ Some text
-      → ¬ AreCharactersFor opcode text → (before : List (List ℕ)) → Fault WithNumericMode before line 3
+      → ¬ AreCharactersFor opcode text → (before : List (List ℕ)) → IsFault WithNumericMode before line 3
   wrong_says opcode text b h e n before =
       bad_characters opcode characters (has_opcode opcode) (HasCharacters-both line characters opcode b (front_field line (name_of opcode) characters dots h)) (wrong_length opcode characters text e n) refl
 
@@ -640,7 +640,7 @@ many_cells_large line dots cells (Announce sign) h w lt =
 many_cells_large line dots cells (Collect set) h w lt = absurd h
 
 -- an entry with an operand beyond its limit is a fault
-pub large_fault : (before : List (List ℕ)) (line : List ℕ) (entry : Entry) → Gives WithNumericMode line entry → is_large entry ≡ true → Fault WithNumericMode before line 8
+pub large_fault : (before : List (List ℕ)) (line : List ℕ) (entry : Entry) → Gives WithNumericMode line entry → is_large entry ≡ true → IsFault WithNumericMode before line 8
 large_fault before line entry (definition_line class characters dots c cells has h s d e) t =
     many_cells (Define class) dots cells (has_opcode (Define class)) (characters, h) d (ltb-true _ _ (sym (ap is_large e) ∙ t)) refl
 large_fault before line entry (pair_line characters dots upper lower upper_cells lower_cells has h s d e) t =
@@ -654,7 +654,7 @@ large_fault before line entry (rule_line kind characters dots text cells has h s
       | inr m ↦ written cells d m
     ]
   where
-    written : (cells : Option (List ℕ)) → RuleDots dots cells → are_many_written cells ≡ true → Fault WithNumericMode before line 8
+    written : (cells : Option (List ℕ)) → RuleDots dots cells → are_many_written cells ≡ true → IsFault WithNumericMode before line 8
     written None d m = absurd cc
     written (Some cells) d m = many_cells (Replace kind) dots cells (has_opcode (Replace kind)) (characters, h) d (ltb-true _ _ m) refl
 large_fault before line entry (sign_line sign dots cells has h d e) t =

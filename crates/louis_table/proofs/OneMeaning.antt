@@ -14,14 +14,14 @@ use Rattle.louis_table.specs.declared.sign.Sign.{Sign}
 use Rattle.louis_table.specs.declared.sign.Sign.TheVariants as signs
 use Rattle.louis_table.specs.declared.character_set.CharacterSet.{CharacterSet}
 use Rattle.louis_table.specs.declared.character_set.CharacterSet.TheVariants as sets
-use Rattle.louis_table.specs.declared.written.Written.{Written}
-use Rattle.louis_table.specs.declared.written.Written.TheVariants as writtens
+use Rattle.louis_table.specs.declared.pending.PendingEntry.{PendingEntry}
+use Rattle.louis_table.specs.declared.pending.PendingEntry.TheVariants as writtens
 use Rattle.louis_table.specs.Lines.{lines_of}
-use Rattle.louis_table.specs.Meaning.{Meaning, definition_of, folded, sign_cells, set_characters}
+use Rattle.louis_table.specs.Meaning.{Meaning, definition_of, fold_of, sign_cells, set_characters}
 use Rattle.louis_table.specs.Profile.{Profile, WithNumericMode}
 use Rattle.louis_table.specs.Steps.Table.{no_meaning, with_given, is_known}
 use Rattle.louis_table.specs.Steps.Draft.{written_in}
-use Rattle.louis_table.specs.Steps.Written.{are_defined, finished, first_lacking, is_complete, line_of}
+use Rattle.louis_table.specs.Steps.Pending.{are_defined, complete_rules, first_lacking, is_complete, line_of}
 use Rattle.louis_table.specs.Steps.Read.{Gathers, LinesGive, LinesMean, IsTold, IsLackingIn, LinesTell, judge}
 use Rattle.louis_table.specs.Table.{Entry, Defines, Pairs, Replaces, Announces, Collects, Gives, definition_line, pair_line, rule_line, sign_line, set_line, GiveFrom, rules_in, IsToldNoLater, text_lines, line_of_stop, without_byte_order_mark, IsMadeOf, IsLacking, Bad, BadIn, no_text, bad_line, undefined_character, Means, MeansIn}
 use Rattle.louis_table.specs.Tells.{Tells}
@@ -181,14 +181,14 @@ set_again : (meaning : Meaning) (rules : List Rule) (set : CharacterSet) → set
 set_again meaning rules sets.NumericMode = refl
 set_again meaning rules sets.NoContraction = refl
 
-made_of : (lines : List (List ℕ)) (meaning : Meaning) (rules : List Written) (g : Gathers lines meaning rules) → meaning.rules ≡ flat_map (finished meaning) rules → IsMadeOf g.entries meaning
+made_of : (lines : List (List ℕ)) (meaning : Meaning) (rules : List PendingEntry) (g : Gathers lines meaning rules) → meaning.rules ≡ flat_map (complete_rules meaning) rules → IsMadeOf g.entries meaning
 made_of lines meaning rules g e =
     record {
       definitions = g.definitions;
       partners = g.partners;
       signs = g.signs;
       sets = g.sets;
-      rules = e ∙ (ap (flat_map (finished meaning)) g.written ∙ finished_entries meaning g.entries);
+      rules = e ∙ (ap (flat_map (complete_rules meaning)) g.written ∙ finished_entries meaning g.entries);
     }
 
 -- what a rule lacks doesn't depend on rules
@@ -197,10 +197,10 @@ lacking_by t w (Defines k definition) d p h = h
 lacking_by t w (Pairs u uc l lc) d p h = h
 lacking_by t w (Replaces kind text cells) d p h = (h.0, h.1, subst (λ (o : Option Definition). o ≡ None) (found h.0) h.2)
   where
-    found : (c : ℕ) → definition_of t (folded t c) ≡ definition_of w (folded w c)
+    found : (c : ℕ) → definition_of t (fold_of t c) ≡ definition_of w (fold_of w c)
     found c =
         ap (λ (ps : List (ℕ × ℕ)). lookup (nat_eq (unwrap_or (lookup (nat_eq c) ps) c)) t.definitions) p
-        ∙ ap (λ (ds : List (ℕ × Definition)). lookup (nat_eq (folded w c)) ds) d
+        ∙ ap (λ (ds : List (ℕ × Definition)). lookup (nat_eq (fold_of w c)) ds) d
 lacking_by t w (Announces sign cells) d p h = h
 lacking_by t w (Collects set text) d p h = (h.0, h.1, ap (lookup (nat_eq h.0)) (sym d) ∙ h.2)
 
@@ -237,13 +237,13 @@ module _ (bytes rest : List ℕ) (u : IsUtf8 bytes) (e : rest ≡ without_byte_o
           let g : Gathers (text_lines bytes) l.meaning l.all = l.gives.gathered in
           let found : first_in l.meaning g.entries ≡ Some n = sym (first_lacking-first_in l.meaning g.entries) ∙ (sym (ap (first_lacking l.meaning) g.written) ∙ l.lacking) in
           let first = first_in-Some l.meaning 1 (text_lines bytes) g.entries n g.given found in
-          let finished_meaning : Meaning = record l.meaning { rules = flat_map (finished l.meaning) l.all } in
+          let finished_meaning : Meaning = record l.meaning { rules = flat_map (complete_rules l.meaning) l.all } in
           let made : IsMadeOf g.entries finished_meaning = record {
             definitions = g.definitions;
             partners = g.partners;
-            signs = λ sign. sign_again l.meaning (flat_map (finished l.meaning) l.all) sign ∙ g.signs sign;
-            sets = λ set. set_again l.meaning (flat_map (finished l.meaning) l.all) set ∙ g.sets set;
-            rules = ap (flat_map (finished l.meaning)) g.written ∙ (finished_entries l.meaning g.entries ∙ same_rules l.meaning (flat_map (finished l.meaning) l.all) g.entries);
+            signs = λ sign. sign_again l.meaning (flat_map (complete_rules l.meaning) l.all) sign ∙ g.signs sign;
+            sets = λ set. set_again l.meaning (flat_map (complete_rules l.meaning) l.all) set ∙ g.sets set;
+            rules = ap (flat_map (complete_rules l.meaning)) g.written ∙ (finished_entries l.meaning g.entries ∙ same_rules l.meaning (flat_map (complete_rules l.meaning) l.all) g.entries);
           } in
           undefined_character u l.gives.is_sound g.entries finished_meaning g.given made
           first.rule first.among (lacking_by l.meaning finished_meaning first.rule refl refl first.lacking)
@@ -257,21 +257,21 @@ module _ (bytes rest : List ℕ) (u : IsUtf8 bytes) (e : rest ≡ without_byte_o
 -- ---- a meaning or a fault
 
 abbrev Outcome : List (List ℕ) → Type 0
-Outcome lines = ((t : Meaning) × (rules : List Written) × LinesGive lines t rules) ⊎ ((n : ℕ) × (c : ℕ) × IsTold lines n c)
+Outcome lines = ((t : Meaning) × (rules : List PendingEntry) × LinesGive lines t rules) ⊎ ((n : ℕ) × (c : ℕ) × IsTold lines n c)
 
-pub outcome_from : (lines before rest : List (List ℕ)) (meaning : Meaning) (rules : List Written) → Reached lines before rest meaning rules → Outcome lines
+pub outcome_from : (lines before rest : List (List ℕ)) (meaning : Meaning) (rules : List PendingEntry) → Reached lines before rest meaning rules → Outcome lines
 outcome_from lines before [] meaning rules r = inl (meaning, rules, Reached-all lines before meaning rules r)
 outcome_from lines before (line ∷ rest) meaning rules r = by (judge meaning (length before) line) refl (λ old new all s. outcome_from lines old rest new all s)
   where
     by : (v : Result (Option Entry) ℕ) → judge meaning (length before) line ≡ v
-        → ((old : List (List ℕ)) (new : Meaning) (all : List Written) → Reached lines old rest new all → Outcome lines) → Outcome lines
+        → ((old : List (List ℕ)) (new : Meaning) (all : List PendingEntry) → Reached lines old rest new all → Outcome lines) → Outcome lines
     by (Ok given) e more =
         more (before ++ line ∷ []) (with_given meaning given) (rules ++ written_in (length before + 1) given)
         (Reached-more lines before rest line meaning rules r given (with_given meaning given) (rules ++ written_in (length before + 1) given) e refl refl)
     by (Err c) e more = inr (_, c, Reached-fault lines before rest line meaning rules r c e)
 
 -- the rules of a meaning are not among what its lines give directly
-pub LinesGive-rules : (lines : List (List ℕ)) (meaning : Meaning) (written : List Written) (rules : List Rule) → LinesGive lines meaning written
+pub LinesGive-rules : (lines : List (List ℕ)) (meaning : Meaning) (written : List PendingEntry) (rules : List Rule) → LinesGive lines meaning written
     → LinesGive lines (record meaning { rules = rules }) written
 LinesGive-rules lines meaning written rules l =
     record {
@@ -292,8 +292,8 @@ defined_again meaning rules [] = refl
 defined_again meaning rules (c ∷ text) = ap (λ (b : Bool). cond (is_known meaning c) b false) (defined_again meaning rules text)
 
 -- the complete rules, with the rest, are what the lines mean
-pub LinesMean-finished : (lines : List (List ℕ)) (meaning : Meaning) (written : List Written) (rules : List Rule) → LinesGive lines meaning written → first_lacking meaning written ≡ None
-    → rules ≡ flat_map (finished meaning) written → LinesMean lines (record meaning { rules = rules })
+pub LinesMean-finished : (lines : List (List ℕ)) (meaning : Meaning) (written : List PendingEntry) (rules : List Rule) → LinesGive lines meaning written → first_lacking meaning written ≡ None
+    → rules ≡ flat_map (complete_rules meaning) written → LinesMean lines (record meaning { rules = rules })
 LinesMean-finished lines meaning written rules l complete e =
     record {
       all = written;
@@ -302,31 +302,31 @@ LinesMean-finished lines meaning written rules l complete e =
       rules = e ∙ finished_again meaning rules written;
     }
   where
-    complete_one : (meaning : Meaning) (rules : List Rule) (one : Written) → is_complete (record meaning { rules = rules }) one ≡ is_complete meaning one
-    complete_one meaning rules (writtens.Rule rule) = defined_again meaning rules (map (folded meaning) rule.characters)
+    complete_one : (meaning : Meaning) (rules : List Rule) (one : PendingEntry) → is_complete (record meaning { rules = rules }) one ≡ is_complete meaning one
+    complete_one meaning rules (writtens.Rule rule) = defined_again meaning rules (map (fold_of meaning) rule.characters)
     complete_one meaning rules (writtens.Set set) = defined_again meaning rules set.characters
 
-    complete_again : (meaning : Meaning) (rules : List Rule) (written : List Written) → first_lacking (record meaning { rules = rules }) written ≡ first_lacking meaning written
+    complete_again : (meaning : Meaning) (rules : List Rule) (written : List PendingEntry) → first_lacking (record meaning { rules = rules }) written ≡ first_lacking meaning written
     complete_again meaning rules [] = refl
     complete_again meaning rules (w ∷ written) =
         ap (λ (b : Bool). cond b (first_lacking (record meaning { rules = rules }) written) (Some (line_of w))) (complete_one meaning rules w)
         ∙ ap (λ (o : Option ℕ). cond (is_complete meaning w) o (Some (line_of w))) (complete_again meaning rules written)
 
-    finished_one : (meaning : Meaning) (rules : List Rule) (one : Written) → finished meaning one ≡ finished (record meaning { rules = rules }) one
+    finished_one : (meaning : Meaning) (rules : List Rule) (one : PendingEntry) → complete_rules meaning one ≡ complete_rules (record meaning { rules = rules }) one
     finished_one meaning rules (writtens.Rule rule) = refl
     finished_one meaning rules (writtens.Set set) = refl
 
-    finished_again : (meaning : Meaning) (rules : List Rule) (written : List Written) → flat_map (finished meaning) written ≡ flat_map (finished (record meaning { rules = rules })) written
+    finished_again : (meaning : Meaning) (rules : List Rule) (written : List PendingEntry) → flat_map (complete_rules meaning) written ≡ flat_map (complete_rules (record meaning { rules = rules })) written
     finished_again meaning rules [] = refl
     finished_again meaning rules (w ∷ written) =
-        ap (λ (rs : List Rule). rs ++ flat_map (finished meaning) written) (finished_one meaning rules w)
-        ∙ ap (λ (rs : List Rule). finished (record meaning { rules = rules }) w ++ rs) (finished_again meaning rules written)
+        ap (λ (rs : List Rule). rs ++ flat_map (complete_rules meaning) written) (finished_one meaning rules w)
+        ∙ ap (λ (rs : List Rule). complete_rules (record meaning { rules = rules }) w ++ rs) (finished_again meaning rules written)
 
-finish : (lines : List (List ℕ)) (meaning : Meaning) (rules : List Written) → LinesGive lines meaning rules → ((t : Meaning) × LinesMean lines t) ⊎ ((n : ℕ) × IsLackingIn lines n)
+finish : (lines : List (List ℕ)) (meaning : Meaning) (rules : List PendingEntry) → LinesGive lines meaning rules → ((t : Meaning) × LinesMean lines t) ⊎ ((n : ℕ) × IsLackingIn lines n)
 finish lines meaning rules l = by (first_lacking meaning rules) refl
   where
     by : (o : Option ℕ) → first_lacking meaning rules ≡ o → ((t : Meaning) × LinesMean lines t) ⊎ ((n : ℕ) × IsLackingIn lines n)
-    by None e = inl (_, LinesMean-finished lines meaning rules (flat_map (finished meaning) rules) l e refl)
+    by None e = inl (_, LinesMean-finished lines meaning rules (flat_map (complete_rules meaning) rules) l e refl)
     by (Some n) e = inr (n, record { meaning = meaning; all = rules; gives = l; lacking = e })
 
 pub some_meaning : (bytes : List ℕ) → ((t : Meaning) × Means bytes t) ⊎ ((n : ℕ) × (c : ℕ) × Bad bytes n c)
@@ -336,7 +336,7 @@ some_meaning bytes =
       | inr f ↦ inr (line_of_stop bytes, 9, no_text (λ u. true≢false (sym (is_utf8-from_IsUtf8 bytes u) ∙ f)) refl refl)
     ]
   where
-    given : IsUtf8 bytes → (meaning : Meaning) (rules : List Written) → LinesGive (text_lines bytes) meaning rules → ((t : Meaning) × Means bytes t) ⊎ ((n : ℕ) × (c : ℕ) × Bad bytes n c)
+    given : IsUtf8 bytes → (meaning : Meaning) (rules : List PendingEntry) → LinesGive (text_lines bytes) meaning rules → ((t : Meaning) × Means bytes t) ⊎ ((n : ℕ) × (c : ℕ) × Bad bytes n c)
     given u meaning rules l =
         elim (finish (text_lines bytes) meaning rules l) [
           | inl (t, m) ↦ inl (t, LinesMean-Means bytes (without_byte_order_mark bytes) u refl t m)

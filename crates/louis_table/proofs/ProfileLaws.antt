@@ -14,7 +14,7 @@ use Rattle.louis_table.specs.Opcode.{name_of, HasOpcode}
 use Rattle.louis_table.specs.Profile.{Profile, WithoutNumericMode, WithNumericMode}
 use Rattle.louis_table.specs.Steps.Opcode.{opcode_named}
 use Rattle.louis_table.specs.Steps.Line.{as_some}
-use Rattle.louis_table.specs.Table.{Entry, SaysNothing, Gives, definition_line, pair_line, rule_line, sign_line, set_line, GiveFrom, SomeGives, cells_for, characters_for, is_same_sign, HasCharacters, HasDots, Fault, unknown_opcode, missing_operand, bad_characters, bad_dots, defined_before, defined_twice, given_before, long_line, line_too_many, many_characters, many_cells, HasCause, on_line, text_lines, Means, MeansIn}
+use Rattle.louis_table.specs.Table.{Entry, SaysNothing, Gives, definition_line, pair_line, rule_line, sign_line, set_line, GiveFrom, SomeGives, cells_for, characters_for, is_same_sign, HasCharacters, HasDots, IsFault, unknown_opcode, missing_operand, bad_characters, bad_dots, defined_before, defined_twice, given_before, long_line, line_too_many, many_characters, many_cells, HasCause, on_line, text_lines, Means, MeansIn}
 use Rattle.louis_table.proofs.FieldLaws.{Begins-field_at}
 use Rattle.louis_table.proofs.EntryLaws.{has_opcode, opcode_named-name_of, opcode_line, line_gives-nothing}
 use Rattle.louis_table.proofs.VerdictLaws.{only_one}
@@ -94,7 +94,7 @@ module _ (before : List (List ℕ)) (line : List ℕ) (others : (other : List �
   by_dots : (dots : List ℕ) (opcode : Opcode) → HasDots line opcode dots → HasOpcode WithoutNumericMode opcode
   by_dots dots opcode h = let b = dots_begin line dots opcode h in early opcode b.0 b.1
 
-  pub early_fault : (cause : ℕ) → Fault WithNumericMode before line cause → Fault WithoutNumericMode before line cause
+  pub early_fault : (cause : ℕ) → IsFault WithNumericMode before line cause → IsFault WithoutNumericMode before line cause
   early_fault cause (unknown_opcode field rest b n u e) = unknown_opcode field rest b n (λ opcode has. u opcode (has_opcode opcode)) e
   early_fault cause (missing_operand opcode rest has b n e) = missing_operand opcode rest (early opcode rest b) b n e
   early_fault cause (bad_characters opcode characters has h n e) = bad_characters opcode characters (by_characters characters opcode h) h n e
@@ -111,7 +111,7 @@ module _ (before : List (List ℕ)) (line : List ℕ) (others : (other : List �
   late_some Holds (other, entry, m, gives, h) = (other, entry, m, in_last WithoutNumericMode other entry gives, h)
 
   -- and the other way round
-  pub late_fault : (cause : ℕ) → Fault WithoutNumericMode before line cause → Fault WithNumericMode before line cause
+  pub late_fault : (cause : ℕ) → IsFault WithoutNumericMode before line cause → IsFault WithNumericMode before line cause
   late_fault cause (unknown_opcode field rest b n u e) =
       unknown_opcode field rest b n (λ opcode has same. u opcode (early opcode rest (subst (λ (f : List ℕ). Begins line f rest) same b)) same) e
   late_fault cause (missing_operand opcode rest has b n e) = missing_operand opcode rest (has_opcode opcode) b n e

@@ -13,7 +13,7 @@ use Rattle.louis_table.specs.Steps.Fields.{field_at}
 use Rattle.louis_table.specs.Steps.Opcode.{opcode_named}
 use Rattle.louis_table.specs.Steps.Table.{no_meaning}
 use Rattle.louis_table.specs.Steps.Read.{IsTold}
-use Rattle.louis_table.specs.Table.{Entry, GiveFrom, comment, Fault, unknown_opcode, missing_operand, bad_characters, bad_dots, defined_before, defined_twice, given_before, long_line, line_too_many, many_characters, many_cells, HasCause, on_line, IsToldNoLater, text_lines, line_of_stop, Bad, BadIn, no_text, bad_line, undefined_character, Means, MeansIn}
+use Rattle.louis_table.specs.Table.{Entry, GiveFrom, comment, IsFault, unknown_opcode, missing_operand, bad_characters, bad_dots, defined_before, defined_twice, given_before, long_line, line_too_many, many_characters, many_cells, HasCause, on_line, IsToldNoLater, text_lines, line_of_stop, Bad, BadIn, no_text, bad_line, undefined_character, Means, MeansIn}
 use Rattle.louis_table.proofs.FieldLaws.{Begins-field_at, field_at-Begins}
 use Rattle.louis_table.proofs.EntryLaws.{opcode_named-name_of, opcode_named-Some, opcode_line, line_gives-nothing}
 use Rattle.louis_table.proofs.VerdictLaws.{only_one}
@@ -102,13 +102,13 @@ all_or_first (line ∷ lines) =
     ]
 
 -- such a line has cause 1 without numeric mode
-late_unknown : (before : List (List ℕ)) (line : List ℕ) → StartsLate line → Fault WithoutNumericMode before line 1
+late_unknown : (before : List (List ℕ)) (line : List ℕ) → StartsLate line → IsFault WithoutNumericMode before line 1
 late_unknown before line late =
     unknown_opcode (name_of late.opcode) late.rest late.begins
     (λ is. not_nothing _ (sym (opcode_line line late.rest late.opcode late.begins) ∙ line_gives-nothing line (comment (name_of late.opcode) late.rest late.begins is)))
     (λ opcode has same. late.later (subst (HasOpcode WithoutNumericMode) (sym (same_opcode late.opcode opcode same)) has)) refl
 
-least_cause : (profile : Profile) (before : List (List ℕ)) (line : List ℕ) (cause : ℕ) → Fault profile before line cause → 1 ≤ cause
+least_cause : (profile : Profile) (before : List (List ℕ)) (line : List ℕ) (cause : ℕ) → IsFault profile before line cause → 1 ≤ cause
 least_cause profile before line cause (unknown_opcode field rest b n u e) = rw e (lit≤ tt)
 least_cause profile before line cause (missing_operand opcode rest has b n e) = rw e (lit≤ tt)
 least_cause profile before line cause (bad_characters opcode characters has h n e) = rw e (lit≤ tt)

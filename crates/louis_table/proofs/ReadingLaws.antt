@@ -13,16 +13,16 @@ use Rattle.louis_table.specs.declared.sign.Sign.{Sign}
 use Rattle.louis_table.specs.declared.sign.Sign.TheVariants as signs
 use Rattle.louis_table.specs.declared.character_set.CharacterSet.{CharacterSet}
 use Rattle.louis_table.specs.declared.character_set.CharacterSet.TheVariants as sets
-use Rattle.louis_table.specs.declared.written.Written.{Written}
+use Rattle.louis_table.specs.declared.pending.PendingEntry.{PendingEntry}
 use Rattle.louis_table.specs.Lines.{lines_of}
 use Rattle.louis_table.specs.Meaning.{Meaning, sign_cells, set_characters}
 use Rattle.louis_table.specs.Steps.Table.{no_meaning, HasDefinedPartners, with_given}
 use Rattle.louis_table.specs.Steps.Draft.{written_in, written_by}
 use Rattle.louis_table.specs.Steps.Read.{Gathers, LinesGive, IsTold, judge}
 use Rattle.louis_table.specs.Profile.{WithNumericMode}
-use Rattle.louis_table.specs.Table.{most_lines, Entry, Defines, Pairs, Replaces, Announces, Collects, SaysNothing, Gives, GiveFrom, definitions_in, partners_in, cells_for, characters_for, Fault, HasCause, on_line, IsToldNoLater}
+use Rattle.louis_table.specs.Table.{most_lines, Entry, Defines, Pairs, Replaces, Announces, Collects, SaysNothing, Gives, GiveFrom, definitions_in, partners_in, cells_for, characters_for, IsFault, HasCause, on_line, IsToldNoLater}
 use Rattle.louis_table.proofs.EntryLaws.{Says}
-use Rattle.louis_table.proofs.VerdictLaws.{any_gives, lookup-flat_map, judge-Fault, Fault-judge, judge-few, judge-given}
+use Rattle.louis_table.proofs.VerdictLaws.{any_gives, lookup-flat_map, judge-Fault, IsFault-judge, judge-few, judge-given}
 
 -- ---- one more line
 
@@ -67,7 +67,7 @@ no_characters sets.NumericMode = refl
 no_characters sets.NoContraction = refl
 
 -- what the line gives is gathered with the rest
-Gathers-more : (before : List (List ℕ)) (line : List ℕ) (old new : Meaning) (rules all : List Written) (given : Option Entry) → Gathers before old rules → Says line (Ok given)
+Gathers-more : (before : List (List ℕ)) (line : List ℕ) (old new : Meaning) (rules all : List PendingEntry) (given : Option Entry) → Gathers before old rules → Says line (Ok given)
     → new ≡ with_given old given → all ≡ rules ++ written_in (length before + 1) given → Gathers (before ++ line ∷ []) new all
 Gathers-more before line old new rules all None g s e w =
     record {
@@ -120,7 +120,7 @@ undefined_partner c (e ∷ entries) h =
     ∙ undefined_partner c entries both.1
 
 -- each capital that is gathered is defined
-pub Gathers-HasDefinedPartners : (lines : List (List ℕ)) (meaning : Meaning) (rules : List Written) → Gathers lines meaning rules → HasDefinedPartners meaning
+pub Gathers-HasDefinedPartners : (lines : List (List ℕ)) (meaning : Meaning) (rules : List PendingEntry) → Gathers lines meaning rules → HasDefinedPartners meaning
 Gathers-HasDefinedPartners lines meaning rules g c n =
     none_from _
     (ap (λ (ps : List (ℕ × ℕ)). is_some (lookup (nat_eq c) ps)) g.partners
@@ -143,12 +143,12 @@ same_place (w ∷ xs) (z ∷ ys) x y after rest e l =
 -- ---- how far the lines were read
 
 -- these lines stand before the rest, have no fault, and give this
-pub record Reached (lines before rest : List (List ℕ)) (meaning : Meaning) (rules : List Written) : Type 0 where
+pub record Reached (lines before rest : List (List ℕ)) (meaning : Meaning) (rules : List PendingEntry) : Type 0 where
   pub parts : lines ≡ before ++ rest
   pub sound : (n cause : ℕ) → HasCause WithNumericMode lines n cause → length before < n
   pub gathered : Gathers before meaning rules
 
-pub Reached-none : (lines : List (List ℕ)) (meaning : Meaning) (rules : List Written) → meaning ≡ no_meaning → rules ≡ [] → Reached lines [] lines meaning rules
+pub Reached-none : (lines : List (List ℕ)) (meaning : Meaning) (rules : List PendingEntry) → meaning ≡ no_meaning → rules ≡ [] → Reached lines [] lines meaning rules
 Reached-none lines meaning rules e w =
     record {
       parts = refl;
@@ -167,14 +167,14 @@ Reached-none lines meaning rules e w =
     from_one : (n cause : ℕ) → HasCause WithNumericMode lines n cause → 0 < n
     from_one n cause (on_line before line after e at f) = omega arith
 
-module _ (lines before rest : List (List ℕ)) (line : List ℕ) (meaning : Meaning) (rules : List Written) (r : Reached lines before (line ∷ rest) meaning rules) where
+module _ (lines before rest : List (List ℕ)) (line : List ℕ) (meaning : Meaning) (rules : List PendingEntry) (r : Reached lines before (line ∷ rest) meaning rules) where
   -- a fault of the line that comes next
-  here : (n cause : ℕ) → HasCause WithNumericMode lines n cause → n ≡ length before + 1 → Fault WithNumericMode before line cause
+  here : (n cause : ℕ) → HasCause WithNumericMode lines n cause → n ≡ length before + 1 → IsFault WithNumericMode before line cause
   here n cause (on_line front other after e at f) h =
       let same = same_place front before other line after rest (sym e ∙ r.parts) (omega arith) in
-      subst (λ (b : List (List ℕ)). Fault WithNumericMode b line cause) same.0 (subst (λ (l : List ℕ). Fault WithNumericMode front l cause) same.1 f)
+      subst (λ (b : List (List ℕ)). IsFault WithNumericMode b line cause) same.0 (subst (λ (l : List ℕ). IsFault WithNumericMode front l cause) same.1 f)
 
-  pub Reached-more : (given : Option Entry) (new : Meaning) (all : List Written) → judge meaning (length before) line ≡ Ok given
+  pub Reached-more : (given : Option Entry) (new : Meaning) (all : List PendingEntry) → judge meaning (length before) line ≡ Ok given
       → new ≡ with_given meaning given → all ≡ rules ++ written_in (length before + 1) given → Reached lines (before ++ line ∷ []) rest new all
   Reached-more given new all j e w =
       record {
@@ -183,8 +183,8 @@ module _ (lines before rest : List (List ℕ)) (line : List ℕ) (meaning : Mean
         gathered = Gathers-more before line meaning new rules all given r.gathered (judge-given meaning (length before) line given j) e w;
       }
     where
-      no_fault : (cause : ℕ) → ¬ Fault WithNumericMode before line cause
-      no_fault cause f = let k = Fault-judge before line meaning rules r.gathered cause f in let bad : judge meaning (length before) line ≡ Err k.0 = k.1 in cc
+      no_fault : (cause : ℕ) → ¬ IsFault WithNumericMode before line cause
+      no_fault cause f = let k = IsFault-judge before line meaning rules r.gathered cause f in let bad : judge meaning (length before) line ≡ Err k.0 = k.1 in cc
 
       beyond : (n cause : ℕ) → HasCause WithNumericMode lines n cause → length (before ++ line ∷ []) < n
       beyond n cause h =
@@ -199,9 +199,9 @@ module _ (lines before rest : List (List ℕ)) (line : List ℕ) (meaning : Mean
         first = λ m other h. told m other h;
       }
     where
-      least : (other : ℕ) → Fault WithNumericMode before line other → cause ≤ other
+      least : (other : ℕ) → IsFault WithNumericMode before line other → cause ≤ other
       least other f =
-          let k = Fault-judge before line meaning rules r.gathered other f in
+          let k = IsFault-judge before line meaning rules r.gathered other f in
           let same : cause ≡ k.0 = let bad : judge meaning (length before) line ≡ Err k.0 = k.1 in cc in
           let le : k.0 ≤ other = k.2 in
           omega arith
@@ -215,7 +215,7 @@ module _ (lines before rest : List (List ℕ)) (line : List ℕ) (meaning : Mean
           let past : length before < m = r.sound m other h in
           by m other h (elim (cases_lt (length before + 1) m) [ inl lt ↦ inr lt | inr le ↦ inl (omega arith) ])
 
-pub Reached-all : (lines before : List (List ℕ)) (meaning : Meaning) (rules : List Written) → Reached lines before [] meaning rules → LinesGive lines meaning rules
+pub Reached-all : (lines before : List (List ℕ)) (meaning : Meaning) (rules : List PendingEntry) → Reached lines before [] meaning rules → LinesGive lines meaning rules
 Reached-all lines before meaning rules r =
     let whole : lines ≡ before = r.parts ∙ append-nil before in
     record { is_sound = λ n cause h. sound n cause whole h; gathered = subst (λ (ls : List (List ℕ)). Gathers ls meaning rules) (sym whole) r.gathered }
@@ -227,25 +227,25 @@ Reached-all lines before meaning rules r =
         absurd (omega (arith, length-append front (line ∷ after)))
 
 -- the lines that were read, so many, and those of the rest
-pub record ReadsOn (text : List ℕ) (count : ℕ) (rest : List ℕ) (meaning : Meaning) (rules : List Written) : Type 0 where
+pub record ReadsOn (text : List ℕ) (count : ℕ) (rest : List ℕ) (meaning : Meaning) (rules : List PendingEntry) : Type 0 where
   pub before : List (List ℕ)
   pub counted : count ≡ length before
   pub few : count ≤ most_lines
   pub reached : Reached (map chars (lines_of text)) before (map chars (lines_of rest)) meaning rules
 
-pub ReadsOn-none : (text : List ℕ) (meaning : Meaning) (rules : List Written) → meaning ≡ no_meaning → rules ≡ [] → ReadsOn text 0 text meaning rules
+pub ReadsOn-none : (text : List ℕ) (meaning : Meaning) (rules : List PendingEntry) → meaning ≡ no_meaning → rules ≡ [] → ReadsOn text 0 text meaning rules
 ReadsOn-none text meaning rules e w = record { before = []; counted = refl; few = lit≤ tt; reached = Reached-none (map chars (lines_of text)) meaning rules e w }
 
-pub ReadsOn-HasDefinedPartners : (text : List ℕ) (count : ℕ) (rest : List ℕ) (meaning : Meaning) (rules : List Written) → ReadsOn text count rest meaning rules → HasDefinedPartners meaning
+pub ReadsOn-HasDefinedPartners : (text : List ℕ) (count : ℕ) (rest : List ℕ) (meaning : Meaning) (rules : List PendingEntry) → ReadsOn text count rest meaning rules → HasDefinedPartners meaning
 ReadsOn-HasDefinedPartners text count rest meaning rules r = Gathers-HasDefinedPartners r.before meaning rules r.reached.gathered
 
-pub ReadsOn-all : (text : List ℕ) (count : ℕ) (rest : List ℕ) (meaning : Meaning) (rules : List Written) → ReadsOn text count rest meaning rules → rest ≡ []
+pub ReadsOn-all : (text : List ℕ) (count : ℕ) (rest : List ℕ) (meaning : Meaning) (rules : List PendingEntry) → ReadsOn text count rest meaning rules → rest ≡ []
     → LinesGive (map chars (lines_of text)) meaning rules
 ReadsOn-all text count rest meaning rules r e =
     Reached-all (map chars (lines_of text)) r.before meaning rules
     (subst (λ (t : List ℕ). Reached (map chars (lines_of text)) r.before (map chars (lines_of t)) meaning rules) e r.reached)
 
-module _ (text : List ℕ) (count : ℕ) (rest line next characters : List ℕ) (meaning : Meaning) (rules : List Written) (r : ReadsOn text count rest meaning rules)
+module _ (text : List ℕ) (count : ℕ) (rest line next characters : List ℕ) (meaning : Meaning) (rules : List PendingEntry) (r : ReadsOn text count rest meaning rules)
     (l : lines_of rest ≡ line ∷ lines_of next) (c : characters ≡ chars line) where
   reached_line : Reached (map chars (lines_of text)) r.before (characters ∷ map chars (lines_of next)) meaning rules
   reached_line = subst (λ (ls : List (List ℕ)). Reached (map chars (lines_of text)) r.before ls meaning rules) (ap (map chars) l ∙ ap (λ (x : List ℕ). x ∷ map chars (lines_of next)) (sym c)) r.reached
@@ -256,7 +256,7 @@ module _ (text : List ℕ) (count : ℕ) (rest line next characters : List ℕ) 
       (Reached-fault (map chars (lines_of text)) r.before (map chars (lines_of next)) characters meaning rules reached_line cause
       (ap (λ (n : ℕ). judge meaning n characters) (sym r.counted) ∙ j))
 
-  pub ReadsOn-more : (given : Option Entry) (new : Meaning) (all : List Written) → judge meaning count characters ≡ Ok given
+  pub ReadsOn-more : (given : Option Entry) (new : Meaning) (all : List PendingEntry) → judge meaning count characters ≡ Ok given
       → new ≡ with_given meaning given → all ≡ rules ++ written_in (count + 1) given → ReadsOn text (count + 1) next new all
   ReadsOn-more given new all j e w =
       let few : count < most_lines = judge-few meaning count characters given j in

@@ -5,20 +5,20 @@ use Rattle.std.specs.Prelude.{map}
 use Rattle.std.proofs.lemmas.Grind.{flat_map-append}
 use Rattle.std.proofs.lemmas.List.Elements.{Contains-append_left, Contains-append_right, Contains-append_cases}
 use Rattle.louis_table.specs.declared.rule.Rule.{Rule}
-use Rattle.louis_table.specs.declared.written.Written.{Written}
+use Rattle.louis_table.specs.declared.pending.PendingEntry.{PendingEntry}
 use Rattle.louis_table.specs.declared.fault.ReadFault.{ReadFault}
 use Rattle.louis_table.specs.declared.fault.ReadFault.TheVariants as faults
-use Rattle.louis_table.specs.Meaning.{Meaning, definition_of, folded}
+use Rattle.louis_table.specs.Meaning.{Meaning, definition_of, fold_of}
 use Rattle.louis_table.specs.Steps.Table.{is_known}
 use Rattle.louis_table.specs.Steps.Draft.{written_by}
-use Rattle.louis_table.specs.Steps.Written.{are_defined, is_complete, line_of, finished, first_lacking, Finishes, FinishesAll}
+use Rattle.louis_table.specs.Steps.Pending.{are_defined, is_complete, line_of, complete_rules, first_lacking, Finishes, FinishesAll}
 use Rattle.louis_table.specs.Profile.{WithNumericMode}
 use Rattle.louis_table.specs.Table.{Entry, Defines, Pairs, Replaces, Announces, Collects, GiveFrom, rules_in, IsLacking}
 use Rattle.louis_table.proofs.VerdictLaws.{only_one}
 
 -- ---- what is finished
 
-finished_entry : (meaning : Meaning) (n : ℕ) (entry : Entry) → flat_map (finished meaning) (written_by n entry) ≡ rules_in meaning (n, entry)
+finished_entry : (meaning : Meaning) (n : ℕ) (entry : Entry) → flat_map (complete_rules meaning) (written_by n entry) ≡ rules_in meaning (n, entry)
 finished_entry meaning n (Defines k definition) = refl
 finished_entry meaning n (Pairs u uc l lc) = refl
 finished_entry meaning n (Replaces kind text cells) = refl
@@ -26,11 +26,11 @@ finished_entry meaning n (Announces sign cells) = refl
 finished_entry meaning n (Collects set text) = refl
 
 pub finished_entries : (meaning : Meaning) (entries : List (ℕ × Entry))
-    → flat_map (finished meaning) (flat_map (λ e. written_by e.0 e.1) entries) ≡ flat_map (rules_in meaning) entries
+    → flat_map (complete_rules meaning) (flat_map (λ e. written_by e.0 e.1) entries) ≡ flat_map (rules_in meaning) entries
 finished_entries meaning [] = refl
 finished_entries meaning (e ∷ entries) =
-    flat_map-append (finished meaning) (written_by e.0 e.1) (flat_map (λ x. written_by x.0 x.1) entries)
-    ∙ (ap (λ (rs : List Rule). rs ++ flat_map (finished meaning) (flat_map (λ x. written_by x.0 x.1) entries)) (finished_entry meaning e.0 e.1)
+    flat_map-append (complete_rules meaning) (written_by e.0 e.1) (flat_map (λ x. written_by x.0 x.1) entries)
+    ∙ (ap (λ (rs : List Rule). rs ++ flat_map (complete_rules meaning) (flat_map (λ x. written_by x.0 x.1) entries)) (finished_entry meaning e.0 e.1)
     ∙ ap (λ (rs : List Rule). rules_in meaning e ++ rs) (finished_entries meaning entries))
 
 -- ---- what is lacking
@@ -39,28 +39,28 @@ none_from : {X : Type 0} (o : Option X) → is_some o ≡ false → o ≡ None
 none_from None e = refl
 none_from (Some x) e = absurd cc
 
-lacking_character : (meaning : Meaning) (text : List ℕ) → are_defined meaning (map (folded meaning) text) ≡ false
-    → (character : ℕ) × Contains text character × (definition_of meaning (folded meaning character) ≡ None)
+lacking_character : (meaning : Meaning) (text : List ℕ) → are_defined meaning (map (fold_of meaning) text) ≡ false
+    → (character : ℕ) × Contains text character × (definition_of meaning (fold_of meaning character) ≡ None)
 lacking_character meaning [] e = absurd cc
-lacking_character meaning (c ∷ text) e = by (definition_of meaning (folded meaning c)) (λ f. none_from _ f) e (lacking_character meaning text)
+lacking_character meaning (c ∷ text) e = by (definition_of meaning (fold_of meaning c)) (λ f. none_from _ f) e (lacking_character meaning text)
   where
-    by : {D : Type 0} (o : Option D) → (is_some o ≡ false → definition_of meaning (folded meaning c) ≡ None) → cond (is_some o) (are_defined meaning (map (folded meaning) text)) false ≡ false
-        → (are_defined meaning (map (folded meaning) text) ≡ false → (character : ℕ) × Contains text character × (definition_of meaning (folded meaning character) ≡ None))
-        → (character : ℕ) × Contains (c ∷ text) character × (definition_of meaning (folded meaning character) ≡ None)
+    by : {D : Type 0} (o : Option D) → (is_some o ≡ false → definition_of meaning (fold_of meaning c) ≡ None) → cond (is_some o) (are_defined meaning (map (fold_of meaning) text)) false ≡ false
+        → (are_defined meaning (map (fold_of meaning) text) ≡ false → (character : ℕ) × Contains text character × (definition_of meaning (fold_of meaning character) ≡ None))
+        → (character : ℕ) × Contains (c ∷ text) character × (definition_of meaning (fold_of meaning character) ≡ None)
     by None n e rec = (c, Contains-append_left (c ∷ []) text c (0, omega arith, refl), n refl)
     by (Some d) n e rec = let r = rec e in (r.0, Contains-append_right (c ∷ []) text r.0 r.1, r.2)
 
-character_lacking : (meaning : Meaning) (text : List ℕ) (c : ℕ) → Contains text c → definition_of meaning (folded meaning c) ≡ None → are_defined meaning (map (folded meaning) text) ≡ false
+character_lacking : (meaning : Meaning) (text : List ℕ) (c : ℕ) → Contains text c → definition_of meaning (fold_of meaning c) ≡ None → are_defined meaning (map (fold_of meaning) text) ≡ false
 character_lacking meaning [] c (k, lt, e) n = absurd (omega arith)
 character_lacking meaning (x ∷ text) c m n =
     elim (Contains-append_cases (x ∷ []) text c m) [
       | inl here ↦
-          let none : is_known meaning (folded meaning x) ≡ false = ap (λ (y : ℕ). is_known meaning (folded meaning y)) (only_one x c here) ∙ ap is_some n in
-          ap (λ (b : Bool). cond b (are_defined meaning (map (folded meaning) text)) false) none
-      | inr there ↦ by (is_known meaning (folded meaning x)) (character_lacking meaning text c there n)
+          let none : is_known meaning (fold_of meaning x) ≡ false = ap (λ (y : ℕ). is_known meaning (fold_of meaning y)) (only_one x c here) ∙ ap is_some n in
+          ap (λ (b : Bool). cond b (are_defined meaning (map (fold_of meaning) text)) false) none
+      | inr there ↦ by (is_known meaning (fold_of meaning x)) (character_lacking meaning text c there n)
     ]
   where
-    by : (b : Bool) → are_defined meaning (map (folded meaning) text) ≡ false → cond b (are_defined meaning (map (folded meaning) text)) false ≡ false
+    by : (b : Bool) → are_defined meaning (map (fold_of meaning) text) ≡ false → cond b (are_defined meaning (map (fold_of meaning) text)) false ≡ false
     by true e = e
     by false e = refl
 
@@ -92,7 +92,7 @@ set_lacking meaning (x ∷ text) c m n =
 abbrev pub is_whole : Meaning → Entry → Bool
 is_whole meaning (Defines k definition) = true
 is_whole meaning (Pairs u uc l lc) = true
-is_whole meaning (Replaces kind text cells) = are_defined meaning (map (folded meaning) text)
+is_whole meaning (Replaces kind text cells) = are_defined meaning (map (fold_of meaning) text)
 is_whole meaning (Announces sign cells) = true
 is_whole meaning (Collects set text) = are_defined meaning text
 
@@ -115,7 +115,7 @@ abbrev pub first_in : Meaning → List (ℕ × Entry) → Option ℕ
 first_in meaning [] = None
 first_in meaning (e ∷ entries) = cond (is_whole meaning e.1) (first_in meaning entries) (Some e.0)
 
-first_of : (meaning : Meaning) (n : ℕ) (entry : Entry) (rules : List Written)
+first_of : (meaning : Meaning) (n : ℕ) (entry : Entry) (rules : List PendingEntry)
     → first_lacking meaning (written_by n entry ++ rules) ≡ cond (is_whole meaning entry) (first_lacking meaning rules) (Some n)
 first_of meaning n (Defines k definition) rules = refl
 first_of meaning n (Pairs u uc l lc) rules = refl
@@ -205,7 +205,7 @@ first_in-Some meaning k (line ∷ lines) entries n (inr (given, rest, gives, i, 
 
 -- ---- one by one
 
-pub first_lacking-append : (meaning : Meaning) (done rest : List Written) → first_lacking meaning done ≡ None → first_lacking meaning (done ++ rest) ≡ first_lacking meaning rest
+pub first_lacking-append : (meaning : Meaning) (done rest : List PendingEntry) → first_lacking meaning done ≡ None → first_lacking meaning (done ++ rest) ≡ first_lacking meaning rest
 first_lacking-append meaning [] rest e = refl
 first_lacking-append meaning (w ∷ done) rest e = by (is_complete meaning w) e (first_lacking-append meaning done rest)
   where
@@ -214,7 +214,7 @@ first_lacking-append meaning (w ∷ done) rest e = by (is_complete meaning w) e 
     by true e rec = rec e
     by false e rec = absurd cc
 
-pub FinishesAll-fault : (meaning : Meaning) (all done rest : List Written) (one : Written) (old new : List Rule) (fault : ReadFault) → first_lacking meaning done ≡ None → all ≡ done ++ one ∷ rest
+pub FinishesAll-fault : (meaning : Meaning) (all done rest : List PendingEntry) (one : PendingEntry) (old new : List Rule) (fault : ReadFault) → first_lacking meaning done ≡ None → all ≡ done ++ one ∷ rest
     → Finishes (Err fault) meaning one old new → FinishesAll (Err fault) meaning all
 FinishesAll-fault meaning all done rest one old new (faults.Table fault) n e f = (
   ap (first_lacking meaning) e ∙ (first_lacking-append meaning done (one ∷ rest) n

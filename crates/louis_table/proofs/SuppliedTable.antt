@@ -9,8 +9,8 @@ use Rattle.std.proofs.lemmas.List.Elements.{All-cons, All-nil}
 use Rattle.std.proofs.lemmas.Str.{chars-IsAscii, IsUtf8-from_ascii}
 use Rattle.std.proofs.lemmas.Str.Ascii.{IsAscii-from_all}
 use Rattle.louis_table.specs.declared.en.TheConstants.{EN}
-use Rattle.louis_table.specs.declared.written.Written.{Written}
-use Rattle.louis_table.specs.declared.written.Written.TheVariants as written
+use Rattle.louis_table.specs.declared.pending.PendingEntry.{PendingEntry}
+use Rattle.louis_table.specs.declared.pending.PendingEntry.TheVariants as pending
 use Rattle.louis_table.specs.Lines.{lines_of}
 use Rattle.louis_table.specs.Meaning.{Meaning}
 use Rattle.louis_table.specs.SuppliedTable.{english}
@@ -29,7 +29,7 @@ use Rattle.louis_table.proofs.ReadingLaws.{Reached, Reached-none, Reached-more, 
 
 -- a table so far, and the rules and sets that are written in it
 abbrev pub Read : Type 0
-Read = Meaning × List Written
+Read = Meaning × List PendingEntry
 
 abbrev pub after_line : Read → ℕ → Result (Option Entry) ℕ → Option Read
 after_line read n (Ok given) = Some (with_given read.0 given, read.1 ++ written_in (n + 1) given)
@@ -80,9 +80,9 @@ same_lines (line ∷ lines) h =
 
 -- ---- the supplied table
 
-english_sets : List Written
+english_sets : List PendingEntry
 english_sets =
-    written.Set (record { line = 59; characters = english.mode_chars }) ∷ written.Set (record { line = 61; characters = english.nocontract_chars }) ∷ []
+    pending.Set (record { line = 59; characters = english.mode_chars }) ∷ pending.Set (record { line = 61; characters = english.nocontract_chars }) ∷ []
 
 english_read : after_lines (Some (no_meaning, [])) 0 (lines_of EN.now) ≡ Some (english, english_sets)
 unfolding english_sets judge judge_line line_gives opcode_named entry_at characters_in entry_verdict pair_in

@@ -12,7 +12,7 @@ use Rattle.louis_table.specs.declared.sign.Sign.{Sign}
 use Rattle.louis_table.specs.declared.sign.Sign.TheVariants as signs
 use Rattle.louis_table.specs.declared.character_set.CharacterSet.{CharacterSet}
 use Rattle.louis_table.specs.declared.character_set.CharacterSet.TheVariants as sets
-use Rattle.louis_table.specs.declared.written.Written.{Written}
+use Rattle.louis_table.specs.declared.pending.PendingEntry.{PendingEntry}
 use Rattle.louis_table.specs.Fields.{IsField}
 use Rattle.louis_table.specs.Characters.{Spells}
 use Rattle.louis_table.specs.Meaning.{Meaning, definition_of, sign_cells, set_characters}
@@ -20,7 +20,7 @@ use Rattle.louis_table.specs.Steps.Table.{is_known, IsNewFor, CanTake, HasDefine
 use Rattle.louis_table.specs.Steps.Line.{as_some, repeats, announces, is_large, verdict_by, entry_verdict, line_verdict, line_gives, judge_line}
 use Rattle.louis_table.specs.Steps.Read.{Gathers, within_limits, judge}
 use Rattle.louis_table.specs.Profile.{WithNumericMode}
-use Rattle.louis_table.specs.Table.{most_lines, most_line_characters, Entry, Defines, Pairs, Replaces, Announces, Collects, SaysNothing, Gives, definition_line, pair_line, rule_line, sign_line, set_line, GiveFrom, definitions_in, is_same_sign, is_same_set, cells_for, characters_for, IsDefinedIn, GivesAgain, SomeGives, Fault, unknown_opcode, missing_operand, bad_characters, bad_dots, defined_before, defined_twice, given_before, long_line, line_too_many, many_characters, many_cells}
+use Rattle.louis_table.specs.Table.{most_lines, most_line_characters, Entry, Defines, Pairs, Replaces, Announces, Collects, SaysNothing, Gives, definition_line, pair_line, rule_line, sign_line, set_line, GiveFrom, definitions_in, is_same_sign, is_same_set, cells_for, characters_for, IsDefinedIn, GivesAgain, SomeGives, IsFault, unknown_opcode, missing_operand, bad_characters, bad_dots, defined_before, defined_twice, given_before, long_line, line_too_many, many_characters, many_cells}
 use Rattle.louis_table.proofs.CharacterLaws.{chosen}
 use Rattle.louis_table.proofs.EntryLaws.{Says, FailsBy, IsLargeBy, or_right, or_left, or_cases, line_gives-Says, line_gives-nothing, line_gives-entry, unknown_fails, missing_fails, characters_fail, dots_fail, many_characters_large, many_cells_large, large_fault}
 
@@ -120,7 +120,7 @@ Contains-lookup c ((k, x) ∷ xs) m =
 abbrev defines : ℕ → Entry → Bool
 defines c entry = is_some (lookup (nat_eq c) (definitions_in entry))
 
-module _ (lines : List (List ℕ)) (meaning : Meaning) (written : List Written) (g : Gathers lines meaning written) where
+module _ (lines : List (List ℕ)) (meaning : Meaning) (written : List PendingEntry) (g : Gathers lines meaning written) where
   is_known-any : (c : ℕ) → is_known meaning c ≡ any_gives (defines c) g.entries
   is_known-any c = ap (λ (ds : List (ℕ × Definition)). is_some (lookup (nat_eq c) ds)) g.definitions ∙ lookup-flat_map (nat_eq c) definitions_in g.entries
 
@@ -239,7 +239,7 @@ Gives-some_text line entry set text (set_line other characters others has h s e)
     let equal : others ≡ text = cc in
     ap are_some (sym equal) ∙ Spells-some characters others h.2.1.is_field s
 
-module _ (lines : List (List ℕ)) (meaning : Meaning) (written : List Written) (g : Gathers lines meaning written) where
+module _ (lines : List (List ℕ)) (meaning : Meaning) (written : List PendingEntry) (g : Gathers lines meaning written) where
   sign_cells-any : (sign : Sign) → are_some (sign_cells meaning sign) ≡ any_gives (λ entry. are_some (cells_for sign entry)) g.entries
   sign_cells-any sign = ap are_some (g.signs sign) ∙ are_some-flat_map (cells_for sign) g.entries
 
@@ -298,8 +298,8 @@ IsLong-is_long before line (inr h) = or_right (ltb most_line_characters (length 
 err_is : (a c : ℕ) → (let r : Result (Option Entry) ℕ = Err a in r) ≡ Err c → c ≡ a
 err_is a c e = cc
 
-module _ (before : List (List ℕ)) (line : List ℕ) (meaning : Meaning) (written : List Written) (gathered : Gathers before meaning written) where
-  limits_fault : (given : Option Entry) (c : ℕ) → within_limits (length before) line (Ok given) ≡ Err c → Fault WithNumericMode before line c
+module _ (before : List (List ℕ)) (line : List ℕ) (meaning : Meaning) (written : List PendingEntry) (gathered : Gathers before meaning written) where
+  limits_fault : (given : Option Entry) (c : ℕ) → within_limits (length before) line (Ok given) ≡ Err c → IsFault WithNumericMode before line c
   limits_fault given c e =
       elim (chosen (is_long (length before) line) _ _ _ e) [
         | inl p ↦ elim (is_long-IsLong (length before) line p.0) [
@@ -309,7 +309,7 @@ module _ (before : List (List ℕ)) (line : List ℕ) (meaning : Meaning) (writt
         | inr p ↦ absurd cc
       ]
 
-  repeats_fault : (entry : Entry) → Gives WithNumericMode line entry → repeats meaning entry ≡ true → Fault WithNumericMode before line 5
+  repeats_fault : (entry : Entry) → Gives WithNumericMode line entry → repeats meaning entry ≡ true → IsFault WithNumericMode before line 5
   repeats_fault (Defines k definition) g t =
       defined_before (Defines k definition) k g (0, omega arith, refl) (is_known-SomeGives before meaning written gathered k t) refl
   repeats_fault (Pairs u uc l lc) g t =
@@ -324,24 +324,24 @@ module _ (before : List (List ℕ)) (line : List ℕ) (meaning : Meaning) (writt
   repeats_fault (Announces sign cells) g t = absurd cc
   repeats_fault (Collects set text) g t = absurd cc
 
-  announces_fault : (entry : Entry) → Gives WithNumericMode line entry → announces meaning entry ≡ true → Fault WithNumericMode before line 6
+  announces_fault : (entry : Entry) → Gives WithNumericMode line entry → announces meaning entry ≡ true → IsFault WithNumericMode before line 6
   announces_fault entry g t = given_before entry g (announces-SomeGives before meaning written gathered entry t) refl
 
   entry_fault : (entry : Entry) (c : ℕ) → Gives WithNumericMode line entry → (r a l : Bool) → repeats meaning entry ≡ r → announces meaning entry ≡ a → is_large entry ≡ l
-      → within_limits (length before) line (as_some (verdict_by r a l entry)) ≡ Err c → Fault WithNumericMode before line c
-  entry_fault entry c g true a l x y z e = subst (Fault WithNumericMode before line) (sym (err_is 5 c e)) (repeats_fault entry g x)
-  entry_fault entry c g false true l x y z e = subst (Fault WithNumericMode before line) (sym (err_is 6 c e)) (announces_fault entry g y)
-  entry_fault entry c g false false true x y z e = subst (Fault WithNumericMode before line) (sym (err_is 8 c e)) (large_fault before line entry g z)
+      → within_limits (length before) line (as_some (verdict_by r a l entry)) ≡ Err c → IsFault WithNumericMode before line c
+  entry_fault entry c g true a l x y z e = subst (IsFault WithNumericMode before line) (sym (err_is 5 c e)) (repeats_fault entry g x)
+  entry_fault entry c g false true l x y z e = subst (IsFault WithNumericMode before line) (sym (err_is 6 c e)) (announces_fault entry g y)
+  entry_fault entry c g false false true x y z e = subst (IsFault WithNumericMode before line) (sym (err_is 8 c e)) (large_fault before line entry g z)
   entry_fault entry c g false false false x y z e = limits_fault (Some entry) c e
 
-  verdict_fault : (v : Result (Option Entry) ℕ) (c : ℕ) → Says line v → within_limits (length before) line (line_verdict meaning v) ≡ Err c → Fault WithNumericMode before line c
+  verdict_fault : (v : Result (Option Entry) ℕ) (c : ℕ) → Says line v → within_limits (length before) line (line_verdict meaning v) ≡ Err c → IsFault WithNumericMode before line c
   unfolding entry_verdict
   verdict_fault (Ok None) c s e = limits_fault None c e
   verdict_fault (Ok (Some entry)) c s e = entry_fault entry c s _ _ _ refl refl refl e
-  verdict_fault (Err a) c s e = subst (λ (x : ℕ). Fault WithNumericMode before line x) (sym (err_is a c e)) (s before)
+  verdict_fault (Err a) c s e = subst (λ (x : ℕ). IsFault WithNumericMode before line x) (sym (err_is a c e)) (s before)
 
   -- the cause that is given is one
-  pub judge-Fault : (c : ℕ) → judge meaning (length before) line ≡ Err c → Fault WithNumericMode before line c
+  pub judge-Fault : (c : ℕ) → judge meaning (length before) line ≡ Err c → IsFault WithNumericMode before line c
   unfolding judge judge_line
   judge-Fault c e = verdict_fault (line_gives line) c (line_gives-Says line) e
 
@@ -389,7 +389,7 @@ module _ (before : List (List ℕ)) (line : List ℕ) (meaning : Meaning) (writt
       by false false true t = (8, refl, lit≤ tt)
       by false false false t = absurd cc
 
-  fault_small : (c : ℕ) → Fault WithNumericMode before line c → c ≤ 8
+  fault_small : (c : ℕ) → IsFault WithNumericMode before line c → c ≤ 8
   fault_small c (unknown_opcode field rest b n u e) = rw e (lit≤ tt)
   fault_small c (missing_operand opcode rest has b n e) = rw e (lit≤ tt)
   fault_small c (bad_characters opcode characters has h n e) = rw e (lit≤ tt)
@@ -421,21 +421,21 @@ module _ (before : List (List ℕ)) (line : List ℕ) (meaning : Meaning) (writt
   repeats-defined (Announces sign cells) c (k, lt, e) t = absurd (omega arith)
   repeats-defined (Collects set text) c (k, lt, e) t = absurd (omega arith)
 
-  pub Fault-judge : (cause : ℕ) → Fault WithNumericMode before line cause → IsJudged cause
-  Fault-judge cause (unknown_opcode field rest b n u e) = rw e (fails_judged 1 (unknown_fails line field rest b n u))
-  Fault-judge cause (missing_operand opcode rest has b n e) = rw e (fails_judged 2 (missing_fails line rest opcode b n))
-  Fault-judge cause (bad_characters opcode characters has h n e) = rw e (fails_judged 3 (characters_fail line characters opcode h n))
-  Fault-judge cause (bad_dots opcode dots has h n e) = rw e (fails_judged 4 (dots_fail line dots opcode h n))
-  Fault-judge cause (defined_before entry k g i s e) =
+  pub IsFault-judge : (cause : ℕ) → IsFault WithNumericMode before line cause → IsJudged cause
+  IsFault-judge cause (unknown_opcode field rest b n u e) = rw e (fails_judged 1 (unknown_fails line field rest b n u))
+  IsFault-judge cause (missing_operand opcode rest has b n e) = rw e (fails_judged 2 (missing_fails line rest opcode b n))
+  IsFault-judge cause (bad_characters opcode characters has h n e) = rw e (fails_judged 3 (characters_fail line characters opcode h n))
+  IsFault-judge cause (bad_dots opcode dots has h n e) = rw e (fails_judged 4 (dots_fail line dots opcode h n))
+  IsFault-judge cause (defined_before entry k g i s e) =
       rw e (repeats_judged entry g (repeats-defined entry k i (SomeGives-is_known before meaning written gathered k s)))
-  Fault-judge cause (defined_twice k uc lc g e) =
+  IsFault-judge cause (defined_twice k uc lc g e) =
       rw e (repeats_judged (Pairs k uc k lc) g (or_left _ _ (or_left _ _ (eq-eqb k k refl))))
-  Fault-judge cause (given_before entry g s e) =
+  IsFault-judge cause (given_before entry g s e) =
       rw e (announces_judged entry g (SomeGives-announces before meaning written gathered entry s))
-  Fault-judge cause (long_line h e) = rw e (long_judged (judge_line meaning line) refl (inl h))
-  Fault-judge cause (line_too_many h e) = rw e (long_judged (judge_line meaning line) refl (inr h))
-  Fault-judge cause (many_characters opcode characters text has h s many e) = rw e (large_judged (many_characters_large line characters text opcode h s many))
-  Fault-judge cause (many_cells opcode dots cells has h w lt e) = rw e (large_judged (many_cells_large line dots cells opcode h w lt))
+  IsFault-judge cause (long_line h e) = rw e (long_judged (judge_line meaning line) refl (inl h))
+  IsFault-judge cause (line_too_many h e) = rw e (long_judged (judge_line meaning line) refl (inr h))
+  IsFault-judge cause (many_characters opcode characters text has h s many e) = rw e (large_judged (many_characters_large line characters text opcode h s many))
+  IsFault-judge cause (many_cells opcode dots cells has h w lt e) = rw e (large_judged (many_cells_large line dots cells opcode h w lt))
 
 -- ---- a line that is accepted
 

@@ -4,8 +4,8 @@ use Rattle.std.specs.List.{AllByRecursion}
 use Rattle.std.specs.Char.{IsScalar, digit_value}
 
 -- the character that an escape stands for, by the character after its backslash: \f \n \r \s \t \v \e \\
-abbrev pub escaped : ℕ → Option ℕ
-escaped letter =
+abbrev pub escape_character : ℕ → Option ℕ
+escape_character letter =
     if letter == 102 then Some 12
     else if letter == 110 then Some 10
     else if letter == 114 then Some 13
@@ -32,7 +32,7 @@ spelled_behind n (digit ∷ digits) = spelled_behind (16 * n + digit_value digit
 -- one character as it is written: itself, an escape, or an escape by its number
 pub data Writes (text : List ℕ) (character : ℕ) : Type 0 where
   itself : character ≢ 92 → text ≡ character ∷ [] → Writes text character
-  escape : (letter : ℕ) → escaped letter ≡ Some character → text ≡ 92 ∷ letter ∷ [] → Writes text character
+  escape : (letter : ℕ) → escape_character letter ≡ Some character → text ≡ 92 ∷ letter ∷ [] → Writes text character
   number : (letter : ℕ) (digits : List ℕ) → digits_behind letter ≡ Some (length digits)
       → AllByRecursion (λ d. digit_value d < 16) digits → spelled_behind 0 digits ≡ character → IsScalar character
       → text ≡ 92 ∷ letter ∷ digits → Writes text character

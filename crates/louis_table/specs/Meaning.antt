@@ -31,8 +31,8 @@ abbrev pub partner_of : Meaning → ℕ → Option ℕ
 partner_of meaning character = lookup (nat_eq character) meaning.partners
 
 -- the lower character of a capital, and every other character itself
-abbrev pub folded : Meaning → ℕ → ℕ
-folded meaning character = unwrap_or (partner_of meaning character) character
+abbrev pub fold_of : Meaning → ℕ → ℕ
+fold_of meaning character = unwrap_or (partner_of meaning character) character
 
 -- the cells of a sign
 abbrev pub sign_cells : Meaning → Sign → List ℕ

@@ -8,5 +8,5 @@ pub mod Dots
 pub mod Table
 pub mod Line
 pub mod Draft
-pub mod Written
+pub mod Pending
 pub mod Read

@@ -20,7 +20,7 @@ use Rattle.louis_table.specs.Fields.{IsGap, Begins, HasFields}
 use Rattle.louis_table.specs.Characters.{Spells}
 use Rattle.louis_table.specs.Profile.{Profile, WithNumericMode}
 use Rattle.louis_table.specs.Opcode.{name_of, HasOpcode}
-use Rattle.louis_table.specs.Meaning.{Meaning, definition_of, folded, sign_cells, set_characters}
+use Rattle.louis_table.specs.Meaning.{Meaning, definition_of, fold_of, sign_cells, set_characters}
 
 -- ---- the limits
 
@@ -222,7 +222,7 @@ abbrev pub rules_in : Meaning → ℕ × Entry → List Rule
 rules_in meaning (n, Defines character defined) = []
 rules_in meaning (n, Pairs upper upper_cells lower lower_cells) = []
 rules_in meaning (n, Replaces kind text cells) =
-    record { line = n; kind = kind; chars = map (folded meaning) text; cells = rule_cells meaning (map (folded meaning) text) cells } ∷ []
+    record { line = n; kind = kind; chars = map (fold_of meaning) text; cells = rule_cells meaning (map (fold_of meaning) text) cells } ∷ []
 rules_in meaning (n, Announces sign cells) = []
 rules_in meaning (n, Collects set text) = []
 
@@ -253,7 +253,7 @@ abbrev pub IsLacking : Meaning → Entry → Type 0
 IsLacking meaning (Defines character defined) = ⊥
 IsLacking meaning (Pairs upper upper_cells lower lower_cells) = ⊥
 IsLacking meaning (Replaces kind text cells) =
-    (character : ℕ) × Contains text character × (definition_of meaning (folded meaning character) ≡ None)
+    (character : ℕ) × Contains text character × (definition_of meaning (fold_of meaning character) ≡ None)
 IsLacking meaning (Announces sign cells) = ⊥
 IsLacking meaning (Collects set text) =
     (character : ℕ) × Contains text character × (definition_of meaning character ≡ None)
@@ -311,44 +311,44 @@ module _ (profile : Profile) where
 
   -- the line, after the lines before it, has a fault with this cause; only lines that give an entry count as
   -- repetitions: a line that says something and gives none has a cause from 1 to 4 of its own
-  pub data Fault (before : List (List ℕ)) (line : List ℕ) (cause : ℕ) : Type 0 where
+  pub data IsFault (before : List (List ℕ)) (line : List ℕ) (cause : ℕ) : Type 0 where
     -- the first field isn't an opcode of the profile
     unknown_opcode : (field rest : List ℕ) → Begins line field rest → ¬ IsComment field
         → ((opcode : Opcode) → HasOpcode profile opcode → field ≢ name_of opcode)
-        → cause ≡ 1 → Fault before line cause
+        → cause ≡ 1 → IsFault before line cause
     -- the line lacks one of its operands
     missing_operand : (opcode : Opcode) (rest : List ℕ) → HasOpcode profile opcode → Begins line (name_of opcode) rest
-        → ¬ HasOperands line opcode → cause ≡ 2 → Fault before line cause
+        → ¬ HasOperands line opcode → cause ≡ 2 → IsFault before line cause
     -- the characters operand isn't one for the opcode
     bad_characters : (opcode : Opcode) (characters : List ℕ)
         → HasOpcode profile opcode → HasCharacters line opcode characters
         → ((text : List ℕ) → AreCharactersFor opcode text → ¬ Spells characters text)
-        → cause ≡ 3 → Fault before line cause
+        → cause ≡ 3 → IsFault before line cause
     -- the dots operand isn't one for the opcode
     bad_dots : (opcode : Opcode) (dots : List ℕ) → HasOpcode profile opcode → HasDots line opcode dots
-        → ¬ IsDotsFor opcode dots → cause ≡ 4 → Fault before line cause
+        → ¬ IsDotsFor opcode dots → cause ≡ 4 → IsFault before line cause
     -- an earlier line defines a character of this one, or this one defines it twice
     defined_before : (entry : Entry) (character : ℕ) → Gives line entry → IsDefinedIn character entry
-        → SomeGives before (IsDefinedIn character) → cause ≡ 5 → Fault before line cause
+        → SomeGives before (IsDefinedIn character) → cause ≡ 5 → IsFault before line cause
     defined_twice : (character : ℕ) (upper_cells lower_cells : List ℕ)
         → Gives line (Pairs character upper_cells character lower_cells)
-        → cause ≡ 5 → Fault before line cause
+        → cause ≡ 5 → IsFault before line cause
     -- an earlier line gives the sign or the set too
     given_before : (entry : Entry) → Gives line entry → SomeGives before (GivesAgain entry)
-        → cause ≡ 6 → Fault before line cause
+        → cause ≡ 6 → IsFault before line cause
     -- the line is too long or one too many, an operand has too many characters, or too many written cells
-    long_line : most_line_characters < length line → cause ≡ 8 → Fault before line cause
-    line_too_many : most_lines ≤ length before → cause ≡ 8 → Fault before line cause
+    long_line : most_line_characters < length line → cause ≡ 8 → IsFault before line cause
+    line_too_many : most_lines ≤ length before → cause ≡ 8 → IsFault before line cause
     many_characters : (opcode : Opcode) (characters text : List ℕ)
         → HasOpcode profile opcode → HasCharacters line opcode characters
-        → Spells characters text → AreTooManyFor opcode text → cause ≡ 8 → Fault before line cause
+        → Spells characters text → AreTooManyFor opcode text → cause ≡ 8 → IsFault before line cause
     many_cells : (opcode : Opcode) (dots cells : List ℕ) → HasOpcode profile opcode → HasDots line opcode dots
-        → WritesCells opcode dots cells → most_cells < length cells → cause ≡ 8 → Fault before line cause
+        → WritesCells opcode dots cells → most_cells < length cells → cause ≡ 8 → IsFault before line cause
 
   -- line n of the lines, counted from 1, has a fault with this cause
   pub data HasCause (lines : List (List ℕ)) (n cause : ℕ) : Type 0 where
     on_line : (before : List (List ℕ)) (line : List ℕ) (after : List (List ℕ)) → lines ≡ before ++ line ∷ after
-        → n ≡ length before + 1 → Fault before line cause → HasCause lines n cause
+        → n ≡ length before + 1 → IsFault before line cause → HasCause lines n cause
 
   -- ---- the whole text
 

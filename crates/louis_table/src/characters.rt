@@ -1,13 +1,13 @@
 //! Characters as they are written in an operand, with escapes.
-ghost use Rattle.louis_table.specs.Characters.{digits_behind, escaped};
+ghost use Rattle.louis_table.specs.Characters.{digits_behind, escape_character};
 ghost use Rattle.louis_table.specs.Steps.Characters.{character_at, characters_in, hex_value, number_at, only_character, only_pair};
 ghost use Rattle.std.specs.Prelude.{◌≡◌, ◌≤◌, ◌<◌, ◌+◌, IfOk, IfSome, length, option_map};
 
 use std::alloc::{AllocError, Global};
 
 /// The character that an escape stands for, by the character after its backslash.
-fn escaped(letter: char) -> Option<char>
-    ensures { result ≡ escaped letter }
+fn escape_character(letter: char) -> Option<char>
+    ensures { result ≡ escape_character letter }
 {
     match letter {
         'f' => Some('\u{000C}'),
@@ -70,7 +70,7 @@ fn next_character(text: &[char]) -> Option<(char, &[char])>
     match text {
         [] => None,
         ['\\'] => None,
-        ['\\', letter, rest @ ..] => match escaped(*letter) {
+        ['\\', letter, rest @ ..] => match escape_character(*letter) {
             Some(character) => Some((character, rest)),
             None => read_number(rest, digits_behind(*letter)?),
         },

@@ -4,10 +4,10 @@ ghost use Rattle.louis_table.specs.Steps.Line.{entry_in};
 ghost use Rattle.louis_table.specs.Steps.Table.{CanTake, no_meaning, with_given};
 ghost use Rattle.std.specs.Prelude.{◌≡◌, ◌++◌, [], OnOk};
 
-use super::line::Given;
+use super::line_entry::LineEntry;
+use super::pending::{PendingEntry, PendingRule, PendingSet};
 use super::rule::Characters;
 use super::table::Table;
-use super::written::{Written, WrittenRule, WrittenSet};
 use std::alloc::{AllocError, Global};
 
 /// What the lines so far give: a table without rules, and what can be checked only once all definitions are
@@ -15,7 +15,7 @@ use std::alloc::{AllocError, Global};
 #[derive(Drop)]
 pub(crate) struct Draft {
     pub(crate) table: Table,
-    pub(crate) written: Vec<Written>,
+    pub(crate) written: Vec<PendingEntry>,
 }
 
 impl Draft {
@@ -35,7 +35,7 @@ impl Draft {
         &mut self,
         alloc: Global,
         line: usize,
-        given: Given,
+        given: LineEntry,
     ) -> Result<(), AllocError>
         requires { CanTake self.old.table (entry_in given) }
         ensures table { OnOk result (self.new.table ≡ with_given self.old.table (entry_in given)) }
@@ -43,13 +43,13 @@ impl Draft {
             ++ written_in line (entry_in given)) }
     {
         match given {
-            Given::Nothing => Ok(()),
-            Given::Defines(character, definition) => self.table.define(character, definition),
-            Given::Pairs(upper, upper_cells, lower, lower_cells) => {
+            LineEntry::Nothing => Ok(()),
+            LineEntry::Defines(character, definition) => self.table.define(character, definition),
+            LineEntry::Pairs(upper, upper_cells, lower, lower_cells) => {
                 self.table.pair(upper, upper_cells, lower, lower_cells)
             }
-            Given::Replaces(kind, characters, cells) => {
-                self.written.push(Written::Rule(WrittenRule {
+            LineEntry::Replaces(kind, characters, cells) => {
+                self.written.push(PendingEntry::Rule(PendingRule {
                     line,
                     kind,
                     characters,
@@ -57,13 +57,13 @@ impl Draft {
                 }))?;
                 Ok(())
             }
-            Given::Announces(sign, cells) => {
+            LineEntry::Announces(sign, cells) => {
                 self.table.announce(sign, cells);
                 Ok(())
             }
-            Given::Collects(set, characters) => {
+            LineEntry::Collects(set, characters) => {
                 let copy = Vec::from_slice(alloc, characters.as_slice())?;
-                self.written.push(Written::Set(WrittenSet {
+                self.written.push(PendingEntry::Set(PendingSet {
                     line,
                     characters: Characters::from_vec(copy),
                 }))?;

@@ -4,7 +4,7 @@ ghost use Rattle.louis_table.specs.Profile.{Profile, WithoutNumericMode};
 ghost use Rattle.louis_table.specs.SuppliedTable.{english};
 ghost use Rattle.louis_table.specs.Table.{Bad, BadIn, Means, MeansIn, most_line_characters, most_lines, most_rule_characters, most_set_characters};
 ghost use Rattle.louis_table.specs.declared.en.TheConstants.{EN};
-ghost use Rattle.louis_table.specs.declared.line.TheConstants.{MOST_RULE_CHARACTERS, MOST_SET_CHARACTERS};
+ghost use Rattle.louis_table.specs.declared.line_entry.TheConstants.{MOST_RULE_CHARACTERS, MOST_SET_CHARACTERS};
 ghost use Rattle.louis_table.specs.declared.read.TheConstants.{MOST_LINES, MOST_LINE_CHARACTERS};
 ghost use Rattle.std.specs.Prelude.{◌≡◌, ◌⊎◌, ℕ, List, []};
 

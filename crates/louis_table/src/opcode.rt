@@ -111,7 +111,7 @@ fn opcode_among(mut opcodes: &[(&[u8], Opcode)], field: &[char]) -> Option<Opcod
 impl Opcode {
     /// The opcode with this name, if there is one.
     #[tactic(auto, unfolding(crate::specs::Steps::Opcode::opcode_named))]
-    pub(crate) fn named(field: &[char]) -> Option<Self>
+    pub(crate) fn from_name(field: &[char]) -> Option<Self>
         ensures { result ≡ opcode_named field.now }
     {
         opcode_among(&OPCODES, field)

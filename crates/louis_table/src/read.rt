@@ -10,10 +10,10 @@ ghost use Rattle.std.specs.Str.Lossy.{utf8_valid_len};
 
 use super::draft::Draft;
 use super::fault::{Cause, LineFault, ReadFault, TableFault};
-use super::line::read_line;
+use super::line_entry::read_line;
 use super::lines::{behind_byte_order_mark, next_line, replace_characters};
+use super::pending::finish_all;
 use super::table::Table;
-use super::written::finish_all;
 use std::alloc::Global;
 
 /// How many lines a table text may have.

@@ -1,6 +1,6 @@
 //! A table that was read.
 ghost use Rattle.std.specs.Prelude.{◌≡◌, ◌≢◌, ◌∷◌, ◌++◌, [], None, Some, OnOk, option_map, is_some};
-ghost use Rattle.louis_table.specs.Meaning.{definition_of, folded, partner_of, set_characters, sign_cells};
+ghost use Rattle.louis_table.specs.Meaning.{definition_of, fold_of, partner_of, set_characters, sign_cells};
 ghost use Rattle.louis_table.specs.Steps.Table.{CanTake, is_known, no_meaning, with_definition, with_given, with_partner};
 ghost use Rattle.louis_table.specs.Table.{Announces, Collects, Pairs};
 ghost use Rattle.std.specs.Option.{option_copied};
@@ -208,7 +208,7 @@ impl Table {
     /// The lower character of a capital, and every other character itself.
     #[inline(always)]
     pub fn fold(&self, character: char) -> char
-        ensures { result ≡ folded self.now character }
+        ensures { result ≡ fold_of self.now character }
     {
         self.partners.get(character).copied().unwrap_or(character)
     }

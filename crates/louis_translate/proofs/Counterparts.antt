@@ -6,7 +6,7 @@ use Rattle.std.proofs.lemmas.List.Concat.{flat_map-append}
 use Rattle.louis_table.specs.Meaning.{Meaning}
 use Rattle.louis_translate.specs.declared.choices.Choice.{Choice}
 use Rattle.louis_translate.specs.declared.pieces.Piece.{Piece}
-use Rattle.louis_translate.specs.Items.{Made, shown, made_by}
+use Rattle.louis_translate.specs.Items.{PieceItem, item_of, made_by}
 use Rattle.louis_translate.specs.Tiling.{Tiles}
 use Rattle.louis_translate.specs.Braille.{cells_of, braille, IsAmong, IsOutputPlace, MakesCell}
 use Rattle.louis_translate.proofs.PieceLists.{Left, Left-start, Left-one, Left-next, Left-step, Left-all, Left-end, Next, braille-next, count-next, parts-next}
@@ -14,7 +14,7 @@ use Rattle.louis_translate.proofs.Tilings.{one_cover}
 
 module _ (meaning : Meaning) (print : List ℕ) where
   -- the next piece's choice is one of the tiling
-  module _ (left : List Made) (l : Left meaning print left) (piece : Piece) (after : List Made) (next : Next meaning print left l piece after) where
+  module _ (left : List PieceItem) (l : Left meaning print left) (piece : Piece) (after : List PieceItem) (next : Next meaning print left l piece after) where
     among : IsAmong (l.before ++ l.rest) l.before piece.choice
     among = record { after = next.others; parts = parts-next meaning print left l piece after next }
 
@@ -42,19 +42,19 @@ module _ (meaning : Meaning) (print : List ℕ) where
   -- ---- the cells before a place
 
   -- the place comes no earlier than what is left, before which there are so many cells
-  pub record OutputLeft (place : ℕ) (left : List Made) (before : ℕ) : Type 0 where
+  pub record OutputLeft (place : ℕ) (left : List PieceItem) (before : ℕ) : Type 0 where
     pub so_far : Left meaning print left
     pub from : so_far.place ≤ place
     pub count : before ≡ length (braille meaning print so_far.before)
 
-  pub OutputLeft-start : (place : ℕ) (left : List Made) → ((choices : List Choice) → Tiles meaning print choices → left ≡ map (made_by meaning print) choices) → OutputLeft place left 0
+  pub OutputLeft-start : (place : ℕ) (left : List PieceItem) → ((choices : List Choice) → Tiles meaning print choices → left ≡ map (made_by meaning print) choices) → OutputLeft place left 0
   OutputLeft-start place left made = record { so_far = Left-start meaning print left made; from = omega arith; count = refl }
 
   -- after the last piece the place is past the print
-  pub OutputLeft-past : (place : ℕ) (left : List Made) (before : ℕ) → OutputLeft place left before → left ≡ [] → length print ≤ place
+  pub OutputLeft-past : (place : ℕ) (left : List PieceItem) (before : ℕ) → OutputLeft place left before → left ≡ [] → length print ≤ place
   OutputLeft-past place left before o e = let end = Left-end meaning print left o.so_far e in omega (arith, o.from)
 
-  module _ (place : ℕ) (left : List Made) (before : ℕ) (piece : Piece) (after : List Made) (o : OutputLeft place left before) (e : left ≡ shown piece ∷ after) where
+  module _ (place : ℕ) (left : List PieceItem) (before : ℕ) (piece : Piece) (after : List PieceItem) (o : OutputLeft place left before) (e : left ≡ item_of piece ∷ after) where
     output_next : Next meaning print left o.so_far piece after
     output_next = Left-next meaning print left o.so_far piece after e
 
@@ -86,14 +86,14 @@ module _ (meaning : Meaning) (print : List ℕ) where
   -- ---- the choice of a cell
 
   -- so many cells are left up to a cell
-  pub record PrintLeft (cell : ℕ) (left : List Made) (n : ℕ) : Type 0 where
+  pub record PrintLeft (cell : ℕ) (left : List PieceItem) (n : ℕ) : Type 0 where
     pub so_far : Left meaning print left
     pub count : cell ≡ length (braille meaning print so_far.before) + n
 
-  pub PrintLeft-start : (cell : ℕ) (left : List Made) → ((choices : List Choice) → Tiles meaning print choices → left ≡ map (made_by meaning print) choices) → PrintLeft cell left cell
+  pub PrintLeft-start : (cell : ℕ) (left : List PieceItem) → ((choices : List Choice) → Tiles meaning print choices → left ≡ map (made_by meaning print) choices) → PrintLeft cell left cell
   PrintLeft-start cell left made = record { so_far = Left-start meaning print left made; count = omega arith }
 
-  module _ (cell : ℕ) (left : List Made) (n : ℕ) (piece : Piece) (after : List Made) (p : PrintLeft cell left n) (e : left ≡ shown piece ∷ after) where
+  module _ (cell : ℕ) (left : List PieceItem) (n : ℕ) (piece : Piece) (after : List PieceItem) (p : PrintLeft cell left n) (e : left ≡ item_of piece ∷ after) where
     print_next : Next meaning print left p.so_far piece after
     print_next = Left-next meaning print left p.so_far piece after e
 
@@ -115,7 +115,7 @@ module _ (meaning : Meaning) (print : List ℕ) where
         })
 
   -- after the last choice there is no cell left
-  pub PrintLeft-past : (cell : ℕ) (left : List Made) (n : ℕ) → PrintLeft cell left n → left ≡ [] → (choices : List Choice) → Tiles meaning print choices
+  pub PrintLeft-past : (cell : ℕ) (left : List PieceItem) (n : ℕ) → PrintLeft cell left n → left ≡ [] → (choices : List Choice) → Tiles meaning print choices
       → length (braille meaning print choices) ≤ cell
   PrintLeft-past cell left n p e choices tiles =
       let all = one_cover meaning print 0 p.so_far.before choices (Left-all meaning print left p.so_far e) tiles in

@@ -10,7 +10,7 @@ use Rattle.louis_translate.specs.Position.{class_of, is_digit}
 use Rattle.louis_translate.specs.Sign.{ends_number, is_capital, is_capital_at, is_digit_at, sign_at}
 use Rattle.louis_translate.specs.Braille.{chosen_cells, own_cells}
 use Rattle.louis_translate.specs.Choice.{IsChosen}
-use Rattle.louis_translate.specs.Items.{Made, made_by}
+use Rattle.louis_translate.specs.Items.{PieceItem, made_by}
 use Rattle.louis_translate.specs.Left.{choices_from}
 use Rattle.louis_translate.specs.Piece.{IsFree, IsLoneAt, IsLoneCell, one_character}
 use Rattle.louis_translate.proofs.Numbers.{ends_number-never, follows_number-never}
@@ -22,7 +22,7 @@ none_either false xs e = refl
 
 -- what a choice makes, by its sign and its cells
 pub made_is : (meaning : Meaning) (print : List ℕ) (choice : Choice) (sign own : List ℕ) → sign ≡ sign_at meaning print choice.start → own ≡ chosen_cells meaning print choice.start choice.rule
-    → made_by meaning print choice ≡ (let made : Made = record { choice = choice; sign = sign; own = own } in made)
+    → made_by meaning print choice ≡ (let made : PieceItem = record { choice = choice; sign = sign; own = own } in made)
 made_is meaning print choice sign own e f = rw (e, f) refl
 
 module _ (meaning : Meaning) (print : List ℕ) (i character cell : ℕ) (there : slice_get print i ≡ Some character) (lone : IsLoneCell meaning character cell) where
@@ -57,10 +57,10 @@ module _ (meaning : Meaning) (print : List ℕ) (i character cell : ℕ) (there 
 -- a lone cell is all that is made first of what is left
 pub lone_first : (meaning : Meaning) (print : List ℕ) (i cell : ℕ) (own : List ℕ) → own ≡ cell ∷ [] → IsLoneAt meaning print i cell
     → map (made_by meaning print) (choices_from meaning print i)
-    ≡ (let made : Made = record { choice = one_character i; sign = []; own = own } in made) ∷ map (made_by meaning print) (choices_from meaning print (i + 1))
+    ≡ (let made : PieceItem = record { choice = one_character i; sign = []; own = own } in made) ∷ map (made_by meaning print) (choices_from meaning print (i + 1))
 lone_first meaning print i cell own e h =
     ap (map (made_by meaning print)) (choices_from-next meaning print i (one_character i) h.within (record { start = refl; end = refl; chosen = h.chosen }))
-    ∙ ap (λ (m : Made). m ∷ map (made_by meaning print) (choices_from meaning print (i + 1))) (made_is meaning print (one_character i) [] own (sym h.no_sign) (e ∙ sym h.own))
+    ∙ ap (λ (m : PieceItem). m ∷ map (made_by meaning print) (choices_from meaning print (i + 1))) (made_is meaning print (one_character i) [] own (sym h.no_sign) (e ∙ sym h.own))
 
 -- the cells of a rule, or a lone cell, are those of the choice
 pub own_or_lone : (meaning table : Meaning) (print : List ℕ) (i cell : ℕ) (rule : Option ℕ) (own : List ℕ) → table ≡ meaning → chosen_cells meaning print i None ≡ cell ∷ []

@@ -8,13 +8,13 @@ use Rattle.louis_translate.specs.declared.choices.Choice.{Choice}
 use Rattle.louis_translate.specs.declared.pieces.Piece.{Piece}
 use Rattle.louis_translate.specs.Tiling.{Covers, IsChoiceAt, Tiles}
 use Rattle.louis_translate.specs.Braille.{cells_of, braille}
-use Rattle.louis_translate.specs.Items.{Made, shown, made_by, made_cells}
+use Rattle.louis_translate.specs.Items.{PieceItem, item_of, made_by, made_cells}
 use Rattle.louis_translate.proofs.PlaceLists.{flat_map-push}
 use Rattle.louis_translate.proofs.Tilings.{Covers-append, Covers-push, one_cover, one_tiling}
 
 module _ (meaning : Meaning) (print : List ℕ) where
   -- these pieces are left of a print: what the choices from a place on make
-  pub record Left (left : List Made) : Type 0 where
+  pub record Left (left : List PieceItem) : Type 0 where
     pub before : List Choice
     pub rest : List Choice
     pub place : ℕ
@@ -22,20 +22,20 @@ module _ (meaning : Meaning) (print : List ℕ) where
     pub covers : Covers meaning print place rest (length print)
     pub are : left ≡ map (made_by meaning print) rest
 
-  abbrev pub Left-start : (left : List Made) → ((choices : List Choice) → Tiles meaning print choices → left ≡ map (made_by meaning print) choices) → Left left
+  abbrev pub Left-start : (left : List PieceItem) → ((choices : List Choice) → Tiles meaning print choices → left ≡ map (made_by meaning print) choices) → Left left
   Left-start left made =
       let tiling = one_tiling meaning print in
       record { before = []; rest = tiling.0; place = 0; front = refl; covers = tiling.1; are = made tiling.0 tiling.1 }
 
   -- the choices so far and those left are the tiling
-  pub Left-tiles : (left : List Made) (l : Left left) → Tiles meaning print (l.before ++ l.rest)
+  pub Left-tiles : (left : List PieceItem) (l : Left left) → Tiles meaning print (l.before ++ l.rest)
   Left-tiles left l = Covers-append meaning print 0 l.place (length print) l.before l.rest l.front l.covers
 
-  pub Left-one : (left : List Made) (l : Left left) (choices : List Choice) → Tiles meaning print choices → l.before ++ l.rest ≡ choices
+  pub Left-one : (left : List PieceItem) (l : Left left) (choices : List Choice) → Tiles meaning print choices → l.before ++ l.rest ≡ choices
   Left-one left l choices tiles = one_cover meaning print 0 (l.before ++ l.rest) choices (Left-tiles left l) tiles
 
   -- the choice of the next piece is the first of those left
-  pub record Next (left : List Made) (l : Left left) (piece : Piece) (after : List Made) : Type 0 where
+  pub record Next (left : List PieceItem) (l : Left left) (piece : Piece) (after : List PieceItem) : Type 0 where
     pub others : List Choice
     pub within : l.place < length print
     pub choice : IsChoiceAt meaning print l.place piece.choice
@@ -44,19 +44,19 @@ module _ (meaning : Meaning) (print : List ℕ) where
     pub cells : piece.sign.now ++ piece.own.now ≡ cells_of meaning print piece.choice
     pub are : after ≡ map (made_by meaning print) others
 
-  pub Left-next : (left : List Made) (l : Left left) (piece : Piece) (after : List Made) → left ≡ shown piece ∷ after → Next left l piece after
+  pub Left-next : (left : List PieceItem) (l : Left left) (piece : Piece) (after : List PieceItem) → left ≡ item_of piece ∷ after → Next left l piece after
   Left-next left l piece after e = next l.rest refl
     where
       next : (rest : List Choice) → l.rest ≡ rest → Next left l piece after
       next [] none =
-          let ends : shown piece ∷ after ≡ [] = sym e ∙ (l.are ∙ ap (map (made_by meaning print)) none) in
+          let ends : item_of piece ∷ after ≡ [] = sym e ∙ (l.are ∙ ap (map (made_by meaning print)) none) in
           cc
       next (c ∷ others) some =
-          let both : shown piece ∷ after ≡ made_by meaning print c ∷ map (made_by meaning print) others =
+          let both : item_of piece ∷ after ≡ made_by meaning print c ∷ map (made_by meaning print) others =
           sym e ∙ (l.are ∙ ap (map (made_by meaning print)) some) in
-          let made : shown piece ≡ made_by meaning print c = cc in
+          let made : item_of piece ≡ made_by meaning print c = cc in
           let others_are : after ≡ map (made_by meaning print) others = cc in
-          let same : piece.choice ≡ c = ap (λ (m : Made). m.choice) made in
+          let same : piece.choice ≡ c = ap (λ (m : PieceItem). m.choice) made in
           let from = subst (λ (t : List Choice). Covers meaning print l.place t (length print)) some l.covers in
           record {
             others = others;
@@ -68,7 +68,7 @@ module _ (meaning : Meaning) (print : List ℕ) where
             are = others_are;
           }
 
-  module _ (left : List Made) (l : Left left) (piece : Piece) (after : List Made) (next : Next left l piece after) where
+  module _ (left : List PieceItem) (l : Left left) (piece : Piece) (after : List PieceItem) (next : Next left l piece after) where
     abbrev pub Left-step : Left after
     Left-step = record {
       before = l.before ++ piece.choice ∷ [];
@@ -94,7 +94,7 @@ module _ (meaning : Meaning) (print : List ℕ) where
     parts-next = ap (λ (t : List Choice). l.before ++ t) next.first
 
   -- after the last piece the choices so far are all
-  pub Left-all : (left : List Made) (l : Left left) → left ≡ [] → Tiles meaning print l.before
+  pub Left-all : (left : List PieceItem) (l : Left left) → left ≡ [] → Tiles meaning print l.before
   Left-all left l e = subst (λ (t : List Choice). Tiles meaning print t) (ap (λ (t : List Choice). l.before ++ t) (none l.rest (sym l.are ∙ e)) ∙ append-nil l.before) (Left-tiles left l)
     where
       none : (rest : List Choice) → map (made_by meaning print) rest ≡ [] → rest ≡ []
@@ -102,7 +102,7 @@ module _ (meaning : Meaning) (print : List ℕ) where
       none (c ∷ rest) h = cc
 
   -- and they cover the whole print
-  pub Left-end : (left : List Made) (l : Left left) → left ≡ [] → l.place ≡ length print
+  pub Left-end : (left : List PieceItem) (l : Left left) → left ≡ [] → l.place ≡ length print
   Left-end left l e = ends l.rest l.covers (sym l.are ∙ e)
     where
       ends : (rest : List Choice) → Covers meaning print l.place rest (length print) → map (made_by meaning print) rest ≡ [] → l.place ≡ length print
@@ -119,14 +119,14 @@ module _ (meaning : Meaning) (print : List ℕ) where
   -- ---- the cells so far
 
   -- these are the cells of the choices before what is left
-  pub record CellsSoFar (left : List Made) (cells : List ℕ) : Type 0 where
+  pub record CellsSoFar (left : List PieceItem) (cells : List ℕ) : Type 0 where
     pub so_far : Left left
     pub are : cells ≡ braille meaning print so_far.before
 
-  pub CellsSoFar-start : (left : List Made) → ((choices : List Choice) → Tiles meaning print choices → left ≡ map (made_by meaning print) choices) → CellsSoFar left []
+  pub CellsSoFar-start : (left : List PieceItem) → ((choices : List Choice) → Tiles meaning print choices → left ≡ map (made_by meaning print) choices) → CellsSoFar left []
   CellsSoFar-start left made = record { so_far = Left-start left made; are = refl }
 
-  pub CellsSoFar-next : (left : List Made) (cells : List ℕ) (piece : Piece) (after : List Made) → CellsSoFar left cells → left ≡ shown piece ∷ after
+  pub CellsSoFar-next : (left : List PieceItem) (cells : List ℕ) (piece : Piece) (after : List PieceItem) → CellsSoFar left cells → left ≡ item_of piece ∷ after
       → CellsSoFar after ((cells ++ piece.sign.now) ++ piece.own.now)
   CellsSoFar-next left cells piece after done e =
       let next = Left-next left done.so_far piece after e in
@@ -137,5 +137,5 @@ module _ (meaning : Meaning) (print : List ℕ) where
             ∙ sym (braille-next left done.so_far piece after next));
       }
 
-  pub CellsSoFar-all : (left : List Made) (cells : List ℕ) → CellsSoFar left cells → left ≡ [] → (choices : List Choice) × Tiles meaning print choices × (cells ≡ braille meaning print choices)
+  pub CellsSoFar-all : (left : List PieceItem) (cells : List ℕ) → CellsSoFar left cells → left ≡ [] → (choices : List Choice) × Tiles meaning print choices × (cells ≡ braille meaning print choices)
   CellsSoFar-all left cells done e = (done.so_far.before, Left-all left done.so_far e, done.are)

@@ -5,7 +5,7 @@ use Rattle.std.specs.Option.{option_map_or, option_and_then}
 use Rattle.std.proofs.lemmas.Bool.{cases_order}
 use Rattle.std.proofs.lemmas.Option.{slice_get_within, slice_get-map}
 use Rattle.std.proofs.lemmas.List.{length-take, length-map, length-drop, take-map}
-use Rattle.louis_table.specs.Meaning.{Meaning, folded}
+use Rattle.louis_table.specs.Meaning.{Meaning, fold_of}
 use Rattle.louis_table.specs.declared.rule.Rule.{Rule}
 use Rattle.louis_translate.specs.declared.rule_tree.RuleTree.{RuleTree}
 use Rattle.louis_translate.specs.declared.indexed_table.IndexedTable.{IndexedTable}
@@ -32,7 +32,7 @@ rule_span meaning j rule there = ap (λ (o : Option Rule). option_map_or (λ r. 
 -- ---- the text
 
 pub text_length : (meaning : Meaning) (print : List ℕ) (i : ℕ) → length (folded_from meaning print i) ≡ length print - i
-text_length meaning print i = length-map (drop i print) (folded meaning) ∙ length-drop i print
+text_length meaning print i = length-map (drop i print) (fold_of meaning) ∙ length-drop i print
 
 get_drop : (print : List ℕ) (i n : ℕ) → slice_get (drop i print) n ≡ slice_get print (i + n)
 get_drop [] zero n = refl
@@ -40,8 +40,8 @@ get_drop [] (suc i) n = refl
 get_drop (x ∷ print) zero n = let e : n ≡ 0 + n = omega arith in ap (slice_get (x ∷ print)) e
 get_drop (x ∷ print) (suc i) n = let e : suc (i + n) ≡ suc i + n = omega arith in get_drop print i n ∙ ap (slice_get (x ∷ print)) e
 
-pub text_at : (meaning : Meaning) (print : List ℕ) (i n : ℕ) → slice_get (folded_from meaning print i) n ≡ option_map (folded meaning) (slice_get print (i + n))
-text_at meaning print i n = slice_get-map (folded meaning) (drop i print) n ∙ ap (option_map (folded meaning)) (get_drop print i n)
+pub text_at : (meaning : Meaning) (print : List ℕ) (i n : ℕ) → slice_get (folded_from meaning print i) n ≡ option_map (fold_of meaning) (slice_get print (i + n))
+text_at meaning print i n = slice_get-map (fold_of meaning) (drop i print) n ∙ ap (option_map (fold_of meaning)) (get_drop print i n)
 
 -- ---- the rules that stand where the text leads
 
@@ -68,7 +68,7 @@ dead_end tree (c ∷ text) (suc n) (suc m) from place p a b more le none =
 
 module _ (meaning : Meaning) (tree : RuleTree) (print : List ℕ) (i : ℕ) (t : IsTree meaning.rules (length meaning.rules) tree) where
   rule_text : (rule : Rule) → Matches meaning print i rule → take (length rule.chars) (folded_from meaning print i) ≡ rule.chars
-  rule_text rule m = take-map (folded meaning) (length rule.chars) (drop i print) ∙ m.characters
+  rule_text rule m = take-map (fold_of meaning) (length rule.chars) (drop i print) ∙ m.characters
 
   candidate_fits : (j : ℕ) → IsCandidate meaning print i (Some j) → span meaning (Some j) ≤ length (folded_from meaning print i)
   candidate_fits j h =
@@ -138,9 +138,9 @@ module _ (meaning : Meaning) (print : List ℕ) (i d : ℕ) (here : List ℕ) (s
     pub candidate_here : MayCover meaning print rule.kind i (i + d) → IsCandidate meaning print i (Some k)
     candidate_here m =
         let len = length_here k rule at is in
-        let chars : map (folded meaning) (take (length rule.chars) (drop i print)) ≡ rule.chars =
-        ap (λ (n : ℕ). map (folded meaning) (take n (drop i print))) len
-        ∙ (sym (take-map (folded meaning) d (drop i print)) ∙ sym (chars_here k rule at is)) in
+        let chars : map (fold_of meaning) (take (length rule.chars) (drop i print)) ≡ rule.chars =
+        ap (λ (n : ℕ). map (fold_of meaning) (take n (drop i print))) len
+        ∙ (sym (take-map (fold_of meaning) d (drop i print)) ∙ sym (chars_here k rule at is)) in
         let n = subst (λ (e : ℕ). MayCover meaning print rule.kind i (i + e)) (sym len) m in
         rule_candidate meaning print i k rule is (record { characters = chars; position = n.0; no_sign_inside = n.1 })
 
@@ -224,10 +224,10 @@ then_some f None x h = absurd cc
 then_some f (Some c) x h = (c, refl, h)
 
 module _ (index : IndexedTable) (print : List ℕ) (i : ℕ) (t : IsWhole index) where
-  next_is : (j : ℕ) (place : Option ℕ) → i ≤ j → option_and_then (leads index.tree place) (slice_get (folded_from index.table print i) (j - i)) ≡ option_and_then (λ c. leads index.tree place (folded index.table c)) (slice_get print j)
+  next_is : (j : ℕ) (place : Option ℕ) → i ≤ j → option_and_then (leads index.tree place) (slice_get (folded_from index.table print i) (j - i)) ≡ option_and_then (λ c. leads index.tree place (fold_of index.table c)) (slice_get print j)
   next_is j place le =
-      ap (option_and_then (leads index.tree place)) (text_at index.table print i (j - i) ∙ ap (λ (k : ℕ). option_map (folded index.table) (slice_get print k)) (omega arith))
-      ∙ then_map (leads index.tree place) (folded index.table) (slice_get print j)
+      ap (option_and_then (leads index.tree place)) (text_at index.table print i (j - i) ∙ ap (λ (k : ℕ). option_map (fold_of index.table) (slice_get print k)) (omega arith))
+      ∙ then_map (leads index.tree place) (fold_of index.table) (slice_get print j)
 
   pub AreThose-on_way : (j node : ℕ) → IsOnWay index print i j node → AreThose index.table print i (j - i) (rules_at index.tree.nodes.items node)
   AreThose-on_way j node w = let lt = w.order in AreThose-way index.table index.tree print i t (j - i) node (omega arith) w.way
@@ -240,16 +240,16 @@ module _ (index : IndexedTable) (print : List ℕ) (i : ℕ) (t : IsWhole index)
       let m = text_length index.table print i in
       way_within index.table.rules (length index.table.rules) index.tree t (take (j - i) (folded_from index.table print i)) None node (omega arith) w.way
 
-  pub chosen_at_end : (j node : ℕ) (found : Option ℕ) → IsOnWay index print i j node → IsBestBelow index.table print i (j - i + 1) found → option_and_then (λ c. leads index.tree (Some node) (folded index.table c)) (slice_get print j) ≡ None → IsChosen index.table print i found
+  pub chosen_at_end : (j node : ℕ) (found : Option ℕ) → IsOnWay index print i j node → IsBestBelow index.table print i (j - i + 1) found → option_and_then (λ c. leads index.tree (Some node) (fold_of index.table c)) (slice_get print j) ≡ None → IsChosen index.table print i found
   chosen_at_end j node found w b none =
       let lt = w.order in
       IsBestBelow-all index.table print i (j - i) found b
       (longest_at_end index.table index.tree print i t (j - i) (Some node) w.way (next_is j (Some node) (omega arith) ∙ none))
 
-  pub IsOnWay-next : (j node child : ℕ) → IsOnWay index print i j node → option_and_then (λ c. leads index.tree (Some node) (folded index.table c)) (slice_get print j) ≡ Some child → IsOnWay index print i (j + 1) child
+  pub IsOnWay-next : (j node child : ℕ) → IsOnWay index print i j node → option_and_then (λ c. leads index.tree (Some node) (fold_of index.table c)) (slice_get print j) ≡ Some child → IsOnWay index print i (j + 1) child
   IsOnWay-next j node child w some =
       let lt = w.order in
-      let within = some_within print (λ c. leads index.tree (Some node) (folded index.table c)) j child some in
+      let within = some_within print (λ c. leads index.tree (Some node) (fold_of index.table c)) j child some in
       let p = then_some (leads index.tree (Some node)) (slice_get (folded_from index.table print i) (j - i)) child (next_is j (Some node) (omega arith) ∙ some) in
       let way = way_next index.tree (folded_from index.table print i) (j - i) None (Some node) p.0 child w.way p.1 p.2 in
       let one_more : suc (j - i) ≡ j + 1 - i = omega arith in
@@ -259,12 +259,12 @@ module _ (index : IndexedTable) (print : List ℕ) (i : ℕ) (t : IsWhole index)
         way = subst (λ (n : ℕ). LeadTo index.tree None (take n (folded_from index.table print i)) (Some child)) one_more way;
       }
 
-  pub IsOnWay-first : (c node : ℕ) → slice_get print i ≡ Some c → leads index.tree None (folded index.table c) ≡ Some node → IsOnWay index print i (i + 1) node
+  pub IsOnWay-first : (c node : ℕ) → slice_get print i ≡ Some c → leads index.tree None (fold_of index.table c) ≡ Some node → IsOnWay index print i (i + 1) node
   IsOnWay-first c node here leads_to =
       let lt = slice_get_within print i c here in
-      let first : slice_get (folded_from index.table print i) 0 ≡ Some (folded index.table c) =
-      text_at index.table print i 0 ∙ ap (option_map (folded index.table)) (ap (slice_get print) (omega arith) ∙ here) in
-      let way = way_next index.tree (folded_from index.table print i) 0 None None (folded index.table c) node refl first leads_to in
+      let first : slice_get (folded_from index.table print i) 0 ≡ Some (fold_of index.table c) =
+      text_at index.table print i 0 ∙ ap (option_map (fold_of index.table)) (ap (slice_get print) (omega arith) ∙ here) in
+      let way = way_next index.tree (folded_from index.table print i) 0 None None (fold_of index.table c) node refl first leads_to in
       let one : 1 ≡ i + 1 - i = omega arith in
       record {
         order = omega arith;
@@ -273,9 +273,9 @@ module _ (index : IndexedTable) (print : List ℕ) (i : ℕ) (t : IsWhole index)
       }
 
   -- no rule begins with the character
-  pub chosen_nowhere : (c : ℕ) → slice_get print i ≡ Some c → leads index.tree None (folded index.table c) ≡ None → IsChosen index.table print i None
+  pub chosen_nowhere : (c : ℕ) → slice_get print i ≡ Some c → leads index.tree None (fold_of index.table c) ≡ None → IsChosen index.table print i None
   chosen_nowhere c here none =
-      let first : slice_get (folded_from index.table print i) 0 ≡ Some (folded index.table c) =
-      text_at index.table print i 0 ∙ ap (option_map (folded index.table)) (ap (slice_get print) (omega arith) ∙ here) in
+      let first : slice_get (folded_from index.table print i) 0 ≡ Some (fold_of index.table c) =
+      text_at index.table print i 0 ∙ ap (option_map (fold_of index.table)) (ap (slice_get print) (omega arith) ∙ here) in
       IsBestBelow-all index.table print i 0 None (IsBestBelow-first index.table print i)
       (longest_at_end index.table index.tree print i t 0 None refl (ap (option_and_then (leads index.tree None)) first ∙ none))

@@ -3,7 +3,7 @@ use Rattle.std.proofs.Common.{◌≡◌, ℕ, ◌+◌, ◌<◌, ◌≤◌, List,
 use Rattle.std.specs.Prelude.{slice_get, IsSomeAnd}
 use Rattle.std.specs.Option.{option_map_or}
 use Rattle.std.proofs.lemmas.List.{length-map, length-take, length-drop}
-use Rattle.louis_table.specs.Meaning.{Meaning, folded}
+use Rattle.louis_table.specs.Meaning.{Meaning, fold_of}
 use Rattle.louis_table.specs.declared.rule.Rule.{Rule}
 use Rattle.louis_translate.specs.Choice.{Matches, IsCandidate, span, IsChosen}
 
@@ -14,7 +14,7 @@ span-positive meaning print i c h = elim (h.first None tt) [ inl p ↦ omega ari
 Matches-fits : (meaning : Meaning) (print : List ℕ) (i : ℕ) (rule : Rule) → i < length print → Matches meaning print i rule → i + length rule.chars ≤ length print
 Matches-fits meaning print i rule lt m =
     let same : length (take (length rule.chars) (drop i print)) ≡ length rule.chars =
-    sym (length-map (take (length rule.chars) (drop i print)) (folded meaning)) ∙ ap length m.characters in
+    sym (length-map (take (length rule.chars) (drop i print)) (fold_of meaning)) ∙ ap length m.characters in
     omega (arith, length-take (length rule.chars) (drop i print), length-drop i print)
 
 -- a choice ends within the print

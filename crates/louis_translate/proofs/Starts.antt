@@ -3,7 +3,7 @@ use Rattle.std.proofs.Common.{◌≡◌, ℕ, ◌+◌, ◌*◌, ◌/◌, ◌%◌
 use Rattle.std.specs.Prelude.{slice_get}
 use Rattle.std.specs.Option.{option_and_then}
 use Rattle.std.proofs.lemmas.Option.{slice_get_within}
-use Rattle.louis_table.specs.Meaning.{folded}
+use Rattle.louis_table.specs.Meaning.{fold_of}
 use Rattle.louis_translate.specs.declared.indexed_table.IndexedTable.{IndexedTable}
 use Rattle.louis_translate.specs.declared.start.Start.{Start}
 use Rattle.louis_translate.specs.declared.start.Start.TheVariants.{Nowhere, Group, Child}
@@ -14,25 +14,25 @@ use Rattle.louis_translate.specs.Start.{AreStarts, IsStart, MayStart, StandsAt}
 use Rattle.louis_translate.proofs.Searches.{AreThose-on_way, IsBestBelow-first, IsBestBelow-keep, IsOnWay-first, IsOnWay-next, chosen_at_end, chosen_nowhere}
 
 module _ (index : IndexedTable) (starts : List Start) (t : IsWhole index) (are : AreStarts index.table index.tree starts) where
-  stands : (a b : ℕ) (start : Start) → StandsAt starts a b start → (start ≡ Group) ⊎ IsStart index.tree (folded index.table a) (folded index.table b) start
+  stands : (a b : ℕ) (start : Start) → StandsAt starts a b start → (start ≡ Group) ⊎ IsStart index.tree (fold_of index.table a) (fold_of index.table b) start
   stands a b start (inl e) = inl e
   stands a b start (inr p) =
       let lt = p.0 in
       let row : (128 * a + b) / 128 ≡ a = omega arith in
       let column : (128 * a + b) % 128 ≡ b = omega arith in
       let there = are.each (128 * a + b) start p.1 in
-      inr (subst (λ (k : ℕ). IsStart index.tree (folded index.table k) (folded index.table b) start) row
-      (subst (λ (k : ℕ). IsStart index.tree (folded index.table ((128 * a + b) / 128)) (folded index.table k) start) column there))
+      inr (subst (λ (k : ℕ). IsStart index.tree (fold_of index.table k) (fold_of index.table b) start) row
+      (subst (λ (k : ℕ). IsStart index.tree (fold_of index.table ((128 * a + b) / 128)) (fold_of index.table k) start) column there))
 
   module _ (print : List ℕ) (i a b : ℕ) (first : slice_get print i ≡ Some a) (second : slice_get print (i + 1) ≡ Some b) where
-    next : (n : ℕ) → option_and_then (λ c. leads index.tree (Some n) (folded index.table c)) (slice_get print (i + 1)) ≡ leads index.tree (Some n) (folded index.table b)
-    next n = ap (option_and_then (λ c. leads index.tree (Some n) (folded index.table c))) second
+    next : (n : ℕ) → option_and_then (λ c. leads index.tree (Some n) (fold_of index.table c)) (slice_get print (i + 1)) ≡ leads index.tree (Some n) (fold_of index.table b)
+    next n = ap (option_and_then (λ c. leads index.tree (Some n) (fold_of index.table c))) second
 
-    group_way : (n : ℕ) → leads index.tree None (folded index.table a) ≡ Some n → IsOnWay index print i (i + 1) n
+    group_way : (n : ℕ) → leads index.tree None (fold_of index.table a) ≡ Some n → IsOnWay index print i (i + 1) n
     group_way n e = IsOnWay-first index print i t a n first e
 
     -- no rule is the first character alone
-    group_best : (n j : ℕ) → i + 2 ≡ j → leads index.tree None (folded index.table a) ≡ Some n → rules_at index.tree.nodes.items n ≡ [] → IsBestBelow index.table print i (j - i) None
+    group_best : (n j : ℕ) → i + 2 ≡ j → leads index.tree None (fold_of index.table a) ≡ Some n → rules_at index.tree.nodes.items n ≡ [] → IsBestBelow index.table print i (j - i) None
     group_best n j two e none =
         let second_within = slice_get_within print (i + 1) b second in
         let empty : IsFirstOf index.table print i (rules_at index.tree.nodes.items n) None = λ k at _. let e = sym (ap (λ (xs : List ℕ). slice_get xs at.0) none) ∙ at.1 in absurd cc in
@@ -43,9 +43,9 @@ module _ (index : IndexedTable) (starts : List Start) (t : IsWhole index) (are :
         (subst (λ (d : ℕ). IsBestBelow index.table print i d None) one (IsBestBelow-first index.table print i)))
 
     pub start_nowhere : StandsAt starts a b Nowhere → IsChosen index.table print i None
-    start_nowhere h = elim (stands a b Nowhere h) [ inl e ↦ absurd cc | inr none ↦ at_group none (leads index.tree None (folded index.table a)) refl ]
+    start_nowhere h = elim (stands a b Nowhere h) [ inl e ↦ absurd cc | inr none ↦ at_group none (leads index.tree None (fold_of index.table a)) refl ]
       where
-        at_group : IsStart index.tree (folded index.table a) (folded index.table b) Nowhere → (o : Option ℕ) → leads index.tree None (folded index.table a) ≡ o → IsChosen index.table print i None
+        at_group : IsStart index.tree (fold_of index.table a) (fold_of index.table b) Nowhere → (o : Option ℕ) → leads index.tree None (fold_of index.table a) ≡ o → IsChosen index.table print i None
         at_group none None e = chosen_nowhere index print i t a first e
         at_group none (Some n) e =
             let here = none n e in
@@ -53,7 +53,7 @@ module _ (index : IndexedTable) (starts : List Start) (t : IsWhole index) (are :
             chosen_at_end index print i t (i + 1) n None (group_way n e)
             (subst (λ (d : ℕ). IsBestBelow index.table print i d None) two (group_best n (i + 2) refl e here.0)) (next n ∙ here.1)
 
-    child_parts : (m : ℕ) → StandsAt starts a b (Child m) → (n : ℕ) × (leads index.tree None (folded index.table a) ≡ Some n) × (rules_at index.tree.nodes.items n ≡ []) × (leads index.tree (Some n) (folded index.table b) ≡ Some m)
+    child_parts : (m : ℕ) → StandsAt starts a b (Child m) → (n : ℕ) × (leads index.tree None (fold_of index.table a) ≡ Some n) × (rules_at index.tree.nodes.items n ≡ []) × (leads index.tree (Some n) (fold_of index.table b) ≡ Some m)
     child_parts m h = elim (stands a b (Child m) h) [ inl e ↦ absurd cc | inr p ↦ p ]
 
     pub start_way : (m j : ℕ) → i + 2 ≡ j → StandsAt starts a b (Child m) → IsOnWay index print i j m

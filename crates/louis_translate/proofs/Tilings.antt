@@ -9,7 +9,7 @@ use Rattle.std.proofs.lemmas.Bool.{cases_order, cases_Bool, both_ways, eqb-true,
 use Rattle.std.proofs.lemmas.Bool.Decides.{nat_tests}
 use Rattle.std.proofs.lemmas.Slice.Eq.{bytes_eq-Decides}
 use Rattle.std.proofs.Math.Numerals.{add-one}
-use Rattle.louis_table.specs.Meaning.{Meaning, folded}
+use Rattle.louis_table.specs.Meaning.{Meaning, fold_of}
 use Rattle.louis_table.specs.declared.rule.Rule.{Rule}
 use Rattle.louis_translate.specs.declared.choices.Choice.{Choice}
 use Rattle.louis_translate.specs.Position.{fits}
@@ -91,7 +91,7 @@ no_signs_decide meaning print i n = (
 matches_tells : (meaning : Meaning) (print : List ℕ) (i : ℕ) (rule : Rule)
     → ((matches meaning print i rule ≡ true) × Matches meaning print i rule) ⊎ ((matches meaning print i rule ≡ false) × (Matches meaning print i rule → ⊥))
 matches_tells meaning print i rule =
-    let chars = map (folded meaning) (take (length rule.chars) (drop i print)) in
+    let chars = map (fold_of meaning) (take (length rule.chars) (drop i print)) in
     let same = bytes_eq-Decides chars rule.chars in
     let none = no_signs_decide meaning print i (length rule.chars) in
     elim (cases_Bool (bytes_eq chars rule.chars)) [

@@ -2,7 +2,7 @@
 -- character there.
 use Rattle.std.specs.Prelude.{◌≡◌, ℕ, ◌+◌, ◌<◌, ◌≤◌, ◌⊎◌, true, List, [], length, take, drop, map, slice_get, Option, Some, None, IsSomeAnd}
 use Rattle.std.specs.Option.{option_map_or}
-use Rattle.louis_table.specs.Meaning.{Meaning, folded}
+use Rattle.louis_table.specs.Meaning.{Meaning, fold_of}
 use Rattle.louis_table.specs.declared.rule.Rule.{Rule}
 use Rattle.louis_table.specs.declared.rule.RuleKind.{RuleKind}
 use Rattle.louis_translate.specs.Position.{fits}
@@ -31,7 +31,7 @@ module _ (sign : ℕ → List ℕ) (meaning : Meaning) (print : List ℕ) where
   -- the rule may be used at place i: its characters are the folded print's, its position test holds, and no sign stands
   -- inside it
   pub record MatchesBy (i : ℕ) (rule : Rule) : Type 0 where
-    pub characters : map (folded meaning) (take (length rule.chars) (drop i print)) ≡ rule.chars
+    pub characters : map (fold_of meaning) (take (length rule.chars) (drop i print)) ≡ rule.chars
     pub position : fits meaning print rule.kind i (i + length rule.chars) ≡ true
     pub no_sign_inside : (k : ℕ) → i < k → k < i + length rule.chars → sign k ≡ []
 

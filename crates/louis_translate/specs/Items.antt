@@ -7,17 +7,17 @@ use Rattle.louis_translate.specs.Sign.{sign_at}
 use Rattle.louis_translate.specs.Braille.{chosen_cells}
 
 -- a choice, the sign before its start, and its cells
-pub record Made : Type 0 where
+pub record PieceItem : Type 0 where
   pub choice : Choice
   pub sign : List ℕ
   pub own : List ℕ
 
 -- what a piece shows
-abbrev pub shown : Piece → Made
-shown piece = record { choice = piece.choice; sign = piece.sign.now; own = piece.own.now }
+abbrev pub item_of : Piece → PieceItem
+item_of piece = record { choice = piece.choice; sign = piece.sign.now; own = piece.own.now }
 
 -- what a choice makes from a print
-abbrev pub made_by : Meaning → List ℕ → Choice → Made
+abbrev pub made_by : Meaning → List ℕ → Choice → PieceItem
 made_by meaning print choice = record {
   choice = choice;
   sign = sign_at meaning print choice.start;
@@ -25,5 +25,5 @@ made_by meaning print choice = record {
 }
 
 -- its cells, the sign first
-abbrev pub made_cells : Made → List ℕ
+abbrev pub made_cells : PieceItem → List ℕ
 made_cells made = made.sign ++ made.own

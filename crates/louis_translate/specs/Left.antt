@@ -3,7 +3,7 @@ use Rattle.std.specs.Prelude.{ℕ, zero, suc, ◌+◌, ◌-◌, Bool, false, ◌
 use Rattle.std.specs.List.{list_all, range_with_len}
 use Rattle.std.specs.Option.{option_map_or}
 use Rattle.std.specs.Str.{bytes_eq}
-use Rattle.louis_table.specs.Meaning.{Meaning, folded}
+use Rattle.louis_table.specs.Meaning.{Meaning, fold_of}
 use Rattle.louis_table.specs.declared.rule.Rule.{Rule}
 use Rattle.louis_translate.specs.declared.choices.Choice.{Choice}
 use Rattle.louis_translate.specs.Position.{fits}
@@ -16,7 +16,7 @@ has_no_sign meaning print k = length (sign_at meaning print k) == 0
 -- whether a rule may be used at place i
 abbrev pub matches : Meaning → List ℕ → ℕ → Rule → Bool
 matches meaning print i rule =
-    bytes_eq (map (folded meaning) (take (length rule.chars) (drop i print))) rule.chars
+    bytes_eq (map (fold_of meaning) (take (length rule.chars) (drop i print))) rule.chars
     && (fits meaning print rule.kind i (i + length rule.chars)
     && list_all (has_no_sign meaning print) (range_with_len (i + 1) (length rule.chars - 1)))
 

@@ -6,7 +6,7 @@ use Rattle.louis_table.specs.Meaning.{Meaning, definition_of}
 use Rattle.louis_translate.specs.declared.choices.Choice.{Choice}
 use Rattle.louis_translate.specs.Braille.{chosen_cells}
 use Rattle.louis_translate.specs.Choice.{IsChosen}
-use Rattle.louis_translate.specs.Items.{Made}
+use Rattle.louis_translate.specs.Items.{PieceItem}
 use Rattle.louis_translate.specs.Position.{is_digit}
 use Rattle.louis_translate.specs.Sign.{follows_number, is_capital, sign_at}
 
@@ -46,6 +46,6 @@ abbrev pub one_character : ℕ → Choice
 one_character i = record { rule = None; start = i; end = i + 1 }
 
 -- what is left begins with a lone cell, without a sign, and goes on so
-abbrev pub BeginsWithLone : List Made → List Made → ℕ → Type 0
+abbrev pub BeginsWithLone : List PieceItem → List PieceItem → ℕ → Type 0
 BeginsWithLone left others cell =
     (choice : Choice) × (left ≡ record { choice = choice; sign = []; own = cell ∷ [] } ∷ others)

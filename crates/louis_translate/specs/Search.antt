@@ -1,6 +1,6 @@
 -- How the chosen rule is found in a tree, along the characters of a print.
 use Rattle.std.specs.Prelude.{◌≡◌, ℕ, ◌-◌, ◌<◌, ◌≤◌, List, length, map, take, drop, Option, Some, None}
-use Rattle.louis_table.specs.Meaning.{Meaning, folded}
+use Rattle.louis_table.specs.Meaning.{Meaning, fold_of}
 use Rattle.louis_translate.specs.declared.indexed_table.IndexedTable.{IndexedTable}
 use Rattle.louis_translate.specs.Choice.{IsCandidate, YieldsTo, span}
 use Rattle.louis_translate.specs.Tree.{AreAscending, HasCharacters, IsAt, IsTree, LeadTo}
@@ -11,7 +11,7 @@ IsWhole index = IsTree index.table.rules (length index.table.rules) index.tree
 
 -- the folded characters from a place on
 abbrev pub folded_from : Meaning → List ℕ → ℕ → List ℕ
-folded_from meaning print i = map (folded meaning) (drop i print)
+folded_from meaning print i = map (fold_of meaning) (drop i print)
 
 -- the best among the definition and the rules of fewer than d characters
 pub record IsBestBelow (meaning : Meaning) (print : List ℕ) (i d : ℕ) (found : Option ℕ) : Type 0 where

@@ -1,6 +1,6 @@
 -- Where a walk begins, by the two characters there.
 use Rattle.std.specs.Prelude.{◌≡◌, ◌*◌, ◌/◌, ◌%◌, ◌+◌, ◌<◌, ◌⊎◌, ℕ, List, [], length, slice_get, Some, None}
-use Rattle.louis_table.specs.Meaning.{Meaning, folded}
+use Rattle.louis_table.specs.Meaning.{Meaning, fold_of}
 use Rattle.louis_translate.specs.declared.rule_tree.RuleTree.{RuleTree}
 use Rattle.louis_translate.specs.declared.start.Start.{Start}
 use Rattle.louis_translate.specs.declared.start.Start.TheVariants.{Nowhere, Group, Child}
@@ -18,7 +18,7 @@ IsStart tree a b (Child m) = (n : ℕ) × (leads tree None a ≡ Some n) × (rul
 
 -- the starts of pairs of characters as they are written, row by row
 pub record AreStarts (meaning : Meaning) (tree : RuleTree) (starts : List Start) : Type 0 where
-  pub each : (i : ℕ) (start : Start) → slice_get starts i ≡ Some start → IsStart tree (folded meaning (i / 128)) (folded meaning (i % 128)) start
+  pub each : (i : ℕ) (start : Start) → slice_get starts i ≡ Some start → IsStart tree (fold_of meaning (i / 128)) (fold_of meaning (i % 128)) start
 
 -- a table with rules has the starts of all pairs
 abbrev pub AreAll : Meaning → List Start → Type 0

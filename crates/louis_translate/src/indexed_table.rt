@@ -19,7 +19,7 @@ impl Drop for IndexedTable {
 }
 
 impl IndexedTable {
-    ghost use Rattle.louis_table.specs.Meaning.{folded};
+    ghost use Rattle.louis_table.specs.Meaning.{fold_of};
     ghost use Rattle.louis_translate.specs.Search.{IsWhole};
     ghost use Rattle.louis_translate.specs.Tree.{leads};
     ghost use Rattle.std.specs.Option.{option_and_then};
@@ -41,7 +41,7 @@ impl IndexedTable {
     #[inline(always)]
     pub(crate) fn next(&self, print: &[char], place: usize, node: usize) -> Option<usize>
         requires { node < length self.now.tree.nodes.items }
-        ensures { result ≡ option_and_then (λ c. leads self.now.tree (Some node) (folded self.now.table c))
+        ensures { result ≡ option_and_then (λ c. leads self.now.tree (Some node) (fold_of self.now.table c))
             (slice_get print.now place) }
     {
         let character = *print.get(place)?;

@@ -43,13 +43,13 @@ pub struct Pieces<'a, B: RuleBook> {
 }
 
 impl<'a, B: RuleBook> Model for Pieces<'a, B> {
-    ghost use Rattle.louis_translate.specs.Items.{Made, made_by};
+    ghost use Rattle.louis_translate.specs.Items.{PieceItem, made_by};
     ghost use Rattle.louis_translate.specs.Left.{choices_from};
     ghost use Rattle.louis_translate.specs.Piece.{IsFree};
     ghost use Rattle.louis_translate.specs.Position.{AreDefined};
     ghost use Rattle.std.specs.Prelude.{◌≡◌, ◌≤◌, List, length, map, true};
 
-    ghost Value = { List Made };
+    ghost Value = { List PieceItem };
 
     ghost view = { λ p. map (made_by (B.meaning p.book.now) p.print.now) (choices_from (B.meaning p.book.now) p.print.now p.at) };
 
@@ -59,7 +59,7 @@ impl<'a, B: RuleBook> Model for Pieces<'a, B> {
 }
 
 impl<'a, B: RuleBook> Pieces<'a, B> {
-    ghost use Rattle.louis_translate.specs.Items.{made_by, shown};
+    ghost use Rattle.louis_translate.specs.Items.{made_by, item_of};
     ghost use Rattle.louis_translate.specs.Piece.{BeginsWithLone};
     ghost use Rattle.louis_translate.specs.Position.{AreDefined};
     ghost use Rattle.louis_translate.specs.Tiling.{Tiles};
@@ -94,7 +94,7 @@ impl<'a, B: RuleBook> Pieces<'a, B> {
     /// The next piece, as `next` gives it, without looking whether it is a lone cell.
     #[inline(always)]
     pub fn next_chosen(&mut self) -> Option<Piece<'a>>
-        ensures { MatchOption result ((self.old ≡ []) × (self.new ≡ [])) (λ piece. self.old ≡ shown piece ∷ self.new) }
+        ensures { MatchOption result ((self.old ≡ []) × (self.new ≡ [])) (λ piece. self.old ≡ item_of piece ∷ self.new) }
     {
         if self.at == self.print.len() {
             return None;
@@ -199,12 +199,12 @@ fn frees_next(table: &Table, character: char) -> bool
 }
 
 impl<'a, B: RuleBook> Iterator for Pieces<'a, B> {
-    ghost use Rattle.louis_translate.specs.Items.{shown};
+    ghost use Rattle.louis_translate.specs.Items.{item_of};
     ghost use Rattle.std.specs.Iterator.{YieldsFirstBy, item_count};
 
     type Item = Piece<'a>;
 
-    ghost next_gives = { YieldsFirstBy shown (λ left. left) };
+    ghost next_gives = { YieldsFirstBy item_of (λ left. left) };
 
     ghost remaining = { item_count (λ left. left) };
 

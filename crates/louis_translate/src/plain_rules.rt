@@ -1,5 +1,5 @@
 //! A rule book that looks at all rules.
-ghost use Rattle.louis_table.specs.Meaning.{folded};
+ghost use Rattle.louis_table.specs.Meaning.{fold_of};
 ghost use Rattle.louis_translate.specs.Choice.{IsChosen, Matches};
 ghost use Rattle.std.specs.Bool.{OnTrue, OnFalse};
 ghost use Rattle.std.specs.Prelude.{◌≡◌, ◌≢◌, ◌+◌, ◌<◌, ◌≤◌, ◌⊎◌, ◌↔◌, ℕ, [], None, Some, slice_get, length, map, take, drop, slice_index, IsTrue, MatchBool};
@@ -38,7 +38,7 @@ impl PlainRules {
 fn has_characters(table: &Table, print: &[char], at: usize, wanted: &[char]) -> bool
     requires { at ≤ length print.now }
     ensures { IsTrue result
-        ↔ (map (folded table.now) (take (length wanted.now) (drop at print.now)) ≡ wanted.now) }
+        ↔ (map (fold_of table.now) (take (length wanted.now) (drop at print.now)) ≡ wanted.now) }
 {
     if print.len() - at < wanted.len() {
         return false;
@@ -65,7 +65,7 @@ fn begins_with(characters: &[char], first: char) -> bool
 /// is.
 fn matches(table: &Table, rule: &Rule, print: &[char], at: usize, first: char) -> bool
     requires within { at < length print.now }
-    requires first { first ≡ folded table.now (slice_index print.now at) }
+    requires first { first ≡ fold_of table.now (slice_index print.now at) }
     ensures yes { OnTrue result (Matches table.now print.now at rule.now) }
     ensures no { OnFalse result (Matches table.now print.now at rule.now → length rule.now.chars ≡ 0) }
 {

@@ -29,7 +29,7 @@ use Rattle.sqlite.specs.Rows.{shown, stamped}
 use Rattle.sqlite.specs.State.{State, Executes}
 use Rattle.sql_tables.specs.Rows.{HaveRowids, Lists, put_in}
 use Rattle.sql_tables.specs.Tables.{IsDeclared}
-use Rattle.sql_tables.specs.Tables.{numbered}
+use Rattle.sql_tables.specs.Tables.{numbered_table}
 use Rattle.sql_tables.proofs.PutLists.{lists_put}
 use Rattle.sql_tables.proofs.Meaning.{IsText, parse_of, rows_in, clause_in}
 use Rattle.sql_tables.proofs.OneTable.{Parts, draft_of, is_typed}
@@ -38,7 +38,7 @@ use Rattle.sql_tables.proofs.Running.{Wrote}
 use Rattle.sql_tables.proofs.Casts.{cast_null, cast_int}
 use Rattle.sql_tables.proofs.Upserts.{IsUpsert, PutsRow, puts_row}
 use Rattle.sql_tables.proofs.Writing.{IsPut}
-use Rattle.sql_tables.specs.Rows.{picked, numbers_from}
+use Rattle.sql_tables.specs.Rows.{columns_at, numbers_from}
 
 -- the columns take these values as they are
 abbrev pub fits_kind : Kind → Value → Bool
@@ -71,7 +71,7 @@ abbrev pub stored : ℤ → Row → Row
 stored id r = value.Int id ∷ value.Null ∷ drop 1 r
 
 -- it stands as it is
-pub cast_stored : (name : List ℕ) (columns : List Column) (tree : ℕ) (r : Row) (id : ℤ) → fits columns (drop 1 (stored id r)) ≡ true → cast_row (numbered name columns tree) (stored id r) ≡ stored id r
+pub cast_stored : (name : List ℕ) (columns : List Column) (tree : ℕ) (r : Row) (id : ℤ) → fits columns (drop 1 (stored id r)) ≡ true → cast_row (numbered_table name columns tree) (stored id r) ≡ stored id r
 cast_stored name columns tree r id suits = rw (cast_int id, cast_fits columns (drop 1 (stored id r)) suits)
 
 -- the parameters from the second on
@@ -80,7 +80,7 @@ later n = map (col 0) (drop 1 (numbers_from 0 (replicate n 0)))
 
 module _ (name : List ℕ) (columns : List Column) (own : List ℕ) (text : List ℕ) {X : Type 0} (row : X → Row) (key : X → ℤ) where
   abbrev pub table : ℕ → Table
-  table = numbered name columns
+  table = numbered_table name columns
 
   abbrev pub width : ℕ
   width = length columns
@@ -110,8 +110,8 @@ module _ (name : List ℕ) (columns : List Column) (own : List ℕ) (text : List
     pub draft : (schema : Schema) (at tree : ℕ) → do_update schema at (table tree) width on_clash ≡ Ok (draft_of tree parts)
     pub typed : (tree : ℕ) → is_typed (table tree) parts [] ≡ true
     pub first : (x : X) → column (row x) 0 ≡ value.Int (key x)
-    pub first_shown : (r : Row) → column (picked own r) 0 ≡ rowid r
-    pub back : (x : X) → picked own (stored (key x) (row x)) ≡ row x
+    pub first_shown : (r : Row) → column (columns_at own r) 0 ≡ rowid r
+    pub back : (x : X) → columns_at own (stored (key x) (row x)) ≡ row x
     pub suits : (x : X) → fits columns (drop 1 (stored (key x) (row x))) ≡ true
     pub values : (x : X) (tree : ℕ) → value_rows (stamped (table tree) (row x)) (suc width) (length terms / suc width) terms ≡ stored (key x) (row x) ∷ []
     pub asked : (x : X) (rest : Row) → column (row x ++ value.Int (key x) ∷ rest) width ≡ value.Int (key x)
@@ -148,11 +148,11 @@ module _ (name : List ℕ) (columns : List Column) (own : List ℕ) (text : List
     each x = record { source_is = u.values x; cast = λ tree. cast_stored name columns tree (row x) (key x) (u.suits x); is = refl; asked = λ tree. u.asked x (shown (table tree) (stored (key x) (row x))); made = makes x }
 
     pub numbered_puts : (schema : Schema) (tree : ℕ) (d : IsDeclared schema (table tree)) (old new : State) (count : ℕ) (x : X) (xs : List X) → old.now.schema ≡ schema → IsSound schema old.now.trees
-        → HaveRowids (old.now.trees tree) → Lists row (picked own) xs (old.now.trees tree) → Executes text (row x) old new (Ok count)
-        → Wrote old new × ((id : ℤ) × (it : Row) × IsPut schema (table tree) it id old.now.trees new.now.trees × Lists row (picked own) (put_in (λ y. int_eq (key y) (key x)) x xs) (new.now.trees tree) × HaveRowids (new.now.trees tree))
+        → HaveRowids (old.now.trees tree) → Lists row (columns_at own) xs (old.now.trees tree) → Executes text (row x) old new (Ok count)
+        → Wrote old new × ((id : ℤ) × (it : Row) × IsPut schema (table tree) it id old.now.trees new.now.trees × Lists row (columns_at own) (put_in (λ y. int_eq (key y) (key x)) x xs) (new.now.trees tree) × HaveRowids (new.now.trees tree))
     numbered_puts schema tree d old new count x xs has sound ids lists h =
         let it = stored (key x) (row x) in
         let did = puts_row name columns text upsert (row x) it (key x) (each x) schema tree d old new count has sound ids h in (
           did.0,
-          (key x, it, did.1, rw did.1.rows (lists_put row (picked own) key u.first u.first_shown x xs it (old.now.trees tree) lists (u.back x) refl), rw did.1.rows (rowids_stay (key x) it refl (old.now.trees tree) ids)),
+          (key x, it, did.1, rw did.1.rows (lists_put row (columns_at own) key u.first u.first_shown x xs it (old.now.trees tree) lists (u.back x) refl), rw did.1.rows (rowids_stay (key x) it refl (old.now.trees tree) ids)),
         )

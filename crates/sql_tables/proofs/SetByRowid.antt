@@ -11,8 +11,8 @@ use Rattle.sqlite_schema.specs.declared.schema.Schema.{Schema}
 use Rattle.sqlite_rules.specs.Cast.{cast_row}
 use Rattle.sqlite_catalog.specs.Listing.{IsSound}
 use Rattle.sqlite.specs.State.{State, Executes}
-use Rattle.sql_tables.specs.Rows.{HaveRowids, Lists, picked, set_where}
-use Rattle.sql_tables.specs.Tables.{IsDeclared, numbered}
+use Rattle.sql_tables.specs.Rows.{HaveRowids, Lists, columns_at, set_where}
+use Rattle.sql_tables.specs.Tables.{IsDeclared, numbered_table}
 use Rattle.sql_tables.proofs.ByRowid.{cast_stored, fits, stored}
 use Rattle.sql_tables.proofs.RowLists.{shows_one}
 use Rattle.sql_tables.proofs.Running.{Wrote}
@@ -29,35 +29,35 @@ module _ (name : List ℕ) (columns : List Column) (own : List ℕ) (text : List
     pub update : IsUpdate name columns text
     pub change : Row → Row
     pub asked : column params 0 ≡ value.Int id
-    pub made : (r : Row) → eval_all update.project (params ∷ r ∷ []) ≡ rowid r ∷ kept (change (picked own r))
+    pub made : (r : Row) → eval_all update.project (params ∷ r ∷ []) ≡ rowid r ∷ kept (change (columns_at own r))
     pub changes : (x : X) → row (set x) ≡ change (row x)
     pub same_key : (x : X) → key (set x) ≡ key x
     pub first : (x : X) → column (row x) 0 ≡ value.Int (key x)
-    pub first_shown : (r : Row) → column (picked own r) 0 ≡ rowid r
-    pub back : (x : X) → picked own (stored (key x) (row x)) ≡ row x
+    pub first_shown : (r : Row) → column (columns_at own r) 0 ≡ rowid r
+    pub back : (x : X) → columns_at own (stored (key x) (row x)) ≡ row x
     pub suits : (x : X) → fits columns (drop 1 (stored (key x) (row x))) ≡ true
 
-  module _ (u : SetsByRowid) (schema : Schema) (tree : ℕ) (d : IsDeclared schema (numbered name columns tree)) where
+  module _ (u : SetsByRowid) (schema : Schema) (tree : ℕ) (d : IsDeclared schema (numbered_table name columns tree)) where
     abbrev table : Table
-    table = numbered name columns tree
+    table = numbered_table name columns tree
 
     -- what becomes of a row of the tree
-    becomes : (x : X) (r : Row) → picked own r ≡ row x → rowid r ≡ value.Int id
-        → (it : Row) × (cast_row table (drop 1 (eval_all u.update.project (params ∷ r ∷ []))) ≡ it) × (rowid it ≡ value.Int id) × ((picked own it ≡ u.change (picked own r)) × (rowid it ≡ value.Int id))
+    becomes : (x : X) (r : Row) → columns_at own r ≡ row x → rowid r ≡ value.Int id
+        → (it : Row) × (cast_row table (drop 1 (eval_all u.update.project (params ∷ r ∷ []))) ≡ it) × (rowid it ≡ value.Int id) × ((columns_at own it ≡ u.change (columns_at own r)) × (rowid it ≡ value.Int id))
     becomes x r is number =
         let y = set x in
         let it = stored (key y) (row y) in
-        let changed : u.change (picked own r) ≡ row y = ap u.change is ∙ sym (u.changes x) in
+        let changed : u.change (columns_at own r) ≡ row y = ap u.change is ∙ sym (u.changes x) in
         let head : value.Int (key x) ≡ value.Int id = sym (u.first x) ∙ sym (ap (λ (s : Row). column s 0) is) ∙ u.first_shown r ∙ number in
         let keyed : rowid it ≡ value.Int id = ap value.Int (u.same_key x) ∙ head in
-        let same : kept (u.change (picked own r)) ≡ it = ap kept changed ∙ ap (λ v. v ∷ value.Null ∷ drop 1 (row y)) (u.first y) in
+        let same : kept (u.change (columns_at own r)) ≡ it = ap kept changed ∙ ap (λ v. v ∷ value.Null ∷ drop 1 (row y)) (u.first y) in
         (it, ap (λ (s : Row). cast_row table (drop 1 s)) (u.made r) ∙ ap (cast_row table) same ∙ cast_stored name columns tree (row y) (key y) (u.suits y), keyed, (u.back y ∙ sym changed, keyed))
 
-    pub sets_by_rowid : (old new : State) (count : ℕ) (xs : List X) → old.now.schema ≡ schema → IsSound schema old.now.trees → HaveRowids (old.now.trees tree) → Lists row (picked own) xs (old.now.trees tree)
+    pub sets_by_rowid : (old new : State) (count : ℕ) (xs : List X) → old.now.schema ≡ schema → IsSound schema old.now.trees → HaveRowids (old.now.trees tree) → Lists row (columns_at own) xs (old.now.trees tree)
         → Executes text params old new (Ok count)
-        → Wrote old new × (Lists row (picked own) (set_where (λ x. int_eq (key x) id) set xs) (new.now.trees tree) × HaveRowids (new.now.trees tree) × Spares schema tree old.now.trees new.now.trees)
+        → Wrote old new × (Lists row (columns_at own) (set_where (λ x. int_eq (key x) id) set xs) (new.now.trees tree) × HaveRowids (new.now.trees tree) × Spares schema tree old.now.trees new.now.trees)
     sets_by_rowid old new count xs has sound ids lists h =
         let db = old.now.trees in
-        let did = sets_row name columns text u.update schema tree d params id (λ r it. (picked own it ≡ u.change (picked own r)) × (rowid it ≡ value.Int id)) u.asked (λ r. ap rowid (u.made r)) old new count has sound ids
-        (λ r within number. let x = shows_one row (picked own) xs (db tree) lists r within in becomes x.0 r x.1 number) h in
-        (did.0, lists_set name columns text u.update schema tree d row (picked own) key u.first u.first_shown id set u.change u.changes xs db new.now.trees lists ids did.1)
+        let did = sets_row name columns text u.update schema tree d params id (λ r it. (columns_at own it ≡ u.change (columns_at own r)) × (rowid it ≡ value.Int id)) u.asked (λ r. ap rowid (u.made r)) old new count has sound ids
+        (λ r within number. let x = shows_one row (columns_at own) xs (db tree) lists r within in becomes x.0 r x.1 number) h in
+        (did.0, lists_set name columns text u.update schema tree d row (columns_at own) key u.first u.first_shown id set u.change u.changes xs db new.now.trees lists ids did.1)

@@ -21,7 +21,7 @@ use Rattle.sqlite_resolve.specs.Body.{tests}
 use Rattle.sqlite_resolve.specs.Compile.{command, update}
 use Rattle.sqlite_resolve.specs.Write.{assigned, row, picked, updated, updated_in}
 use Rattle.sql_tables.specs.Tables.{IsDeclared}
-use Rattle.sql_tables.specs.Tables.{numbered}
+use Rattle.sql_tables.specs.Tables.{numbered_table}
 use Rattle.sql_tables.proofs.Declaring.{classes_are, low_tree, uncovered}
 use Rattle.sql_tables.proofs.Meaning.{IsText, update_is}
 use Rattle.sql_tables.proofs.OneTable.{Parts, draft_of, program_on, is_typed, program_is}
@@ -92,7 +92,7 @@ pub record IsKeyTest (e : Expr) (name : Name) : Type 0 where
 abbrev pub AreRich : ℕ → Type 0
 AreRich budget = (nat_lt 1 budget ≡ true) × (nat_lt 1 (budget - 1) ≡ true) × (nat_lt 1 (budget - 1 - 1) ≡ true)
 
-module _ (schema : Schema) (at : ℕ) (table : Table) (there : slice_get schema.tables at ≡ Some table) (numbered : table.key ≡ Some 0) where
+module _ (schema : Schema) (at : ℕ) (table : Table) (there : slice_get schema.tables at ≡ Some table) (by_rowid : table.key ≡ Some 0) where
   lowers_parameter : (depth : ℕ) (e : Expr) (budget : ℕ) → nat_lt 1 budget ≡ true → out-Expr e ≡ Expr-F.Parameter 1 → lower_to (suc depth) (over schema at table there table.name [] false) e (clear budget nothing) ≡ Ok (col 0 0, clear (budget - 1) nothing)
   unfolding lower_to node opened spend begin finish passes
   lowers_parameter depth e budget rich is = rw (rich, is)
@@ -100,7 +100,7 @@ module _ (schema : Schema) (at : ℕ) (table : Table) (there : slice_get schema.
   lowers_test : (e : Expr) (name : Name) (c : Column) (budget : ℕ) → AreRich budget → (t : IsKeyTest e name) → IsColumn schema at table there table.name t.left name 0 c
       → lower (over schema at table there table.name [] false) e (clear budget nothing) ≡ Ok (equal Binary (col 1 0) (col 0 0), clear (budget - 1 - 1 - 1) nothing)
   unfolding lower_to node opened spend begin finish passes operation both combine wanted_truth tests_truth tests_alias compared affinity_of of_column converted may_be_text chosen first_found
-  lowers_test e name c budget rich t it = rw (rich.0, t.equals, lowers_to schema at table there table.name 698 t.left name 0 c it [] false (budget - 1) nothing rich.1, numbered, lowers_parameter 698 t.right (budget - 1 - 1) rich.2 t.asked)
+  lowers_test e name c budget rich t it = rw (rich.0, t.equals, lowers_to schema at table there table.name 698 t.left name 0 c it [] false (budget - 1) nothing rich.1, by_rowid, lowers_parameter 698 t.right (budget - 1 - 1) rich.2 t.asked)
 
 module _ (name : Name) (columns : List Column) (text : List ℕ) where
   abbrev pub parts_of : List Term → Parts
@@ -118,17 +118,17 @@ module _ (name : Name) (columns : List Column) (text : List ℕ) where
     pub budget : ℕ
     pub rich : AreRich budget
     pub is_text : IsText text (written.Update name sets (Some test) [])
-    pub assigned_is : (schema : Schema) (at tree : ℕ) (there : slice_get schema.tables at ≡ Some (numbered name columns tree))
-        → assigned (over schema at (numbered name columns tree) there name [] false) (numbered name columns tree) sets (fresh 2 max_budget) ≡ Ok ((places, terms), clear budget nothing)
-    pub row_is : (tree : ℕ) → row (numbered name columns tree) None places (col 1 0 ∷ []) terms ≡ Ok project
+    pub assigned_is : (schema : Schema) (at tree : ℕ) (there : slice_get schema.tables at ≡ Some (numbered_table name columns tree))
+        → assigned (over schema at (numbered_table name columns tree) there name [] false) (numbered_table name columns tree) sets (fresh 2 max_budget) ≡ Ok ((places, terms), clear budget nothing)
+    pub row_is : (tree : ℕ) → row (numbered_table name columns tree) None places (col 1 0 ∷ []) terms ≡ Ok project
     pub tests : IsKeyTest test key
-    pub named : (tree : ℕ) → column_named (numbered name columns tree) key ≡ Some 0
+    pub named : (tree : ℕ) → column_named (numbered_table name columns tree) key ≡ Some 0
     pub first : slice_get columns 0 ≡ Some column
-    pub typed : (tree : ℕ) → is_typed (numbered name columns tree) (parts_of project) [] ≡ true
+    pub typed : (tree : ℕ) → is_typed (numbered_table name columns tree) (parts_of project) [] ≡ true
 
-  module _ (u : IsUpdate) (schema : Schema) (tree : ℕ) (d : IsDeclared schema (numbered name columns tree)) where
+  module _ (u : IsUpdate) (schema : Schema) (tree : ℕ) (d : IsDeclared schema (numbered_table name columns tree)) where
     abbrev table : Table
-    table = numbered name columns tree
+    table = numbered_table name columns tree
 
     draft_is : updated schema d.at table u.sets (Some u.test) ≡ Ok (draft_of tree (parts_of u.project))
     unfolding updated updated_in picked tests

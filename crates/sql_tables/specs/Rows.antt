@@ -18,8 +18,8 @@ abbrev pub put_in : {X : Type 0} → (X → Bool) → X → List X → List X
 put_in has_key x xs = x ∷ filter (λ y. not (has_key y)) xs
 
 -- the columns at these places
-abbrev pub picked : List ℕ → Row → Row
-picked places r = map (column r) places
+abbrev pub columns_at : List ℕ → Row → Row
+columns_at places r = map (column r) places
 
 abbrev pub numbers_from : ℕ → List ℕ → List ℕ
 numbers_from at [] = []

@@ -28,8 +28,8 @@ needed name kind = record {
 }
 
 -- a column with no type and no rule
-abbrev pub untyped : List ℕ → Column
-untyped name = record {
+abbrev pub untyped_column : List ℕ → Column
+untyped_column name = record {
   name = name;
   kind = Any;
   is_strict = false;
@@ -56,17 +56,17 @@ plain_table name columns key primary uniques orders tree = record {
 }
 
 -- one whose key is its first column, which is the rowid
-abbrev pub numbered : List ℕ → List Column → ℕ → Table
-numbered name columns = plain_table name columns (Some 0) (0 ∷ []) [] []
+abbrev pub numbered_table : List ℕ → List Column → ℕ → Table
+numbered_table name columns = plain_table name columns (Some 0) (0 ∷ []) [] []
 
 -- one whose key is the columns at these places, and whose rowid is hidden
-abbrev pub keyed : List ℕ → List ℕ → List Column → ℕ → Table
-keyed name places columns = plain_table name columns None places (places ∷ []) (plain ∷ [])
+abbrev pub keyed_table : List ℕ → List ℕ → List Column → ℕ → Table
+keyed_table name places columns = plain_table name columns None places (places ∷ []) (plain ∷ [])
 
 -- the table in which the database counts the rowids of those that are declared with AUTOINCREMENT
 abbrev pub counter : ℕ → Table
 counter =
-    plain_table (codes "sqlite_sequence") (untyped (codes "name") ∷ untyped (codes "seq") ∷ [])
+    plain_table (codes "sqlite_sequence") (untyped_column (codes "name") ∷ untyped_column (codes "seq") ∷ [])
     None [] [] []
 
 -- The schema has this table under its name, in a tree that is no other table's, and no unique index on it except those of its key.

@@ -11,8 +11,8 @@ use Rattle.desk_model.specs.Damage.{IsDamaged, IsDamagedCache, IsDamagedEntries,
 use Rattle.desk_parts.specs.FileRows.{EntryRows, FileRows, Named, Unnamed, entries_in, table_of}
 use Rattle.desk_book.specs.Joined.{IsDamagedBraille, TellsDamageOf, fault_in}
 use Rattle.desk_book.specs.Judged.{IsWhole, TellsDamage}
-use Rattle.desk_model.specs.Rebuilt.{IsFaultOf}
-use Rattle.desk_parts.specs.Rows.{Cached, Para as ParaRow, Tab as TabRow}
+use Rattle.desk_model.specs.Rebuilding.{IsFaultOf}
+use Rattle.desk_parts.specs.Rows.{Para as ParaRow, ParaCells, Tab as TabRow}
 use Rattle.desk_model.proofs.Commands.Turns.{same_some}
 
 -- the fault of a table's rows is reported of it
@@ -44,15 +44,15 @@ module _ {T : Type 0} (table : FileTable) (given : Result T RowsFault) (result :
       by (Err fault) same holds = subst (λ r. IfOk r P) (sym same) tt
 
 -- where rows of braille are there, their damage is that of the table
-braille-own : (tabs : List TabRow) (paras : List ParaRow) (caches : List Cached) (id : ℤ)
+braille-own : (tabs : List TabRow) (paras : List ParaRow) (caches : List ParaCells) (id : ℤ)
     → IsDamagedBraille tabs paras (Some caches) id → IsDamagedCache tabs paras caches id
 braille-own tabs paras caches id (others, same, damaged) = subst (λ cs. IsDamagedCache tabs paras cs id) (sym (same_some caches others same)) damaged
 
-pub braille-whole : (tabs : List TabRow) (paras : List ParaRow) (caches : List Cached)
+pub braille-whole : (tabs : List TabRow) (paras : List ParaRow) (caches : List ParaCells)
     → IsWhole (IsDamagedCache tabs paras caches) → IsWhole (IsDamagedBraille tabs paras (Some caches))
 braille-whole tabs paras caches whole id damaged = whole id (braille-own tabs paras caches id damaged)
 
-pub braille-told : (tabs : List TabRow) (paras : List ParaRow) (caches : List Cached) (fault : RowsFault)
+pub braille-told : (tabs : List TabRow) (paras : List ParaRow) (caches : List ParaCells) (fault : RowsFault)
     → TellsDamage (IsDamagedCache tabs paras caches) fault → TellsDamage (IsDamagedBraille tabs paras (Some caches)) fault
 braille-told tabs paras caches (rows_fault.Damaged id) told = ((caches, refl, told.0), λ other damaged. told.1 other (braille-own tabs paras caches other damaged))
 braille-told tabs paras caches rows_fault.NoMemory told = tt

@@ -25,12 +25,12 @@ use Rattle.desk_model.specs.Damage.{HasItsTables, HasSoundEntries, IsDamaged, hi
 use Rattle.desk_parts.specs.FileRows.{AreTexts, FileRows, entries_in, spelled_mark, spelled_tab}
 use Rattle.desk_book.specs.Histories.{HaveTaken, entries_kept}
 use Rattle.desk_book.specs.Judged.{AreInPlaces, AreMarksOf, AreOf, AreTables, HasCells, HasHistory, HasKept, HaveMarks}
-use Rattle.desk_book.specs.Kept.{HasMarks, IsKept, IsKeptParagraph, KeptParagraphs, KeptTables, book_kept, mark_kept, marks_kept, numbered, paragraph_kept}
+use Rattle.desk_book.specs.Kept.{HasMarks, IsKept, IsKeptParagraph, KeptParagraphs, KeptTables, book_kept, mark_kept, marks_kept, paragraph_kept, paragraph_with_id}
 use Rattle.desk_book.specs.KeptMarks.{indexes_on}
-use Rattle.desk_model.specs.Print.{corrected}
+use Rattle.desk_model.specs.Print.{corrected_print}
 use Rattle.desk_parts.specs.Rows.{Para}
 use Rattle.desk_model.specs.Shows.{Shows, tab_of}
-use Rattle.desk_book.proofs.Kept.Arranging.{numbered-cons}
+use Rattle.desk_book.proofs.Kept.Arranging.{paragraph_with_id-cons}
 use Rattle.desk_model.proofs.Lists.Items.{lookup-map}
 use Rattle.desk_model.proofs.Rows.OneBook.{flag_back, marks_same, number, style_back, tables_same, to_flag, to_style}
 use Rattle.desk_model.proofs.Commands.Turns.{same_some}
@@ -67,14 +67,14 @@ module _ (rows : FileRows) (texts : AreTexts rows) (its : HasItsTables rows) (no
   cells-of_it : (row : Para) (c : Contains rows.paras row) → (cells_at row c).kept ≡ (kept_of row c).kept
   cells-of_it row c = same_some (cells_at row c).kept (kept_of row c).kept (sym (cells_at row c).at ∙ (kept_of row c).at)
 
-  print-of_it : (row : Para) (c : Contains rows.paras row) → corrected (chars row.original) (history_of (history_at row c).sorted) ≡ chars row.print
+  print-of_it : (row : Para) (c : Contains rows.paras row) → corrected_print (chars row.original) (history_of (history_at row c).sorted) ≡ chars row.print
   print-of_it row c =
       let k = kept_of row c in
       let h = history_at row c in
       let same = history-of_it row c in
       let original : h.kept.original ≡ chars row.original = ap (λ (x : KeptParagraph). x.original) same ∙ k.of.original in
       let print : h.kept.print ≡ chars row.print = ap (λ (x : KeptParagraph). x.print) same ∙ k.of.print in
-      ap (λ o. corrected o (history_of h.sorted)) (sym original) ∙ (h.print ∙ print)
+      ap (λ o. corrected_print o (history_of h.sorted)) (sym original) ∙ (h.print ∙ print)
 
   abbrev history_for : (row : Para) → Contains rows.paras row → HasSoundEntries (entries_in rows.entries) row
   history_for row c =
@@ -110,7 +110,7 @@ module _ (rows : FileRows) (texts : AreTexts rows) (its : HasItsTables rows) (no
   at-id row c id is = ap (λ (z : ℤ). slice_get items (nat_abs z - 1)) (sym is) ∙ (kept_of row c).at
 
   paragraphs-are : (ps : List Para) (all : All (Contains rows.paras) ps) (ids : List ℕ) → map (λ row. row.id) ps ≡ map pos ids
-      → map paragraph_kept (flat_map (numbered items) ids) ≡ whole.made rows texts its none by_place history_for ps all
+      → map paragraph_kept (flat_map (paragraph_with_id items) ids) ≡ whole.made rows texts its none by_place history_for ps all
   paragraphs-are [] all [] is = refl
   paragraphs-are [] all (id ∷ ids) is = absurd (cc)
   paragraphs-are (p ∷ ps) all [] is = absurd (cc)
@@ -118,7 +118,7 @@ module _ (rows : FileRows) (texts : AreTexts rows) (its : HasItsTables rows) (no
       let first : p.id ≡ pos id = cc in
       let rest : map (λ (row : Para). row.id) ps ≡ map pos ids = cc in
       let c = All-head (Contains rows.paras) p ps all in
-      ap (map paragraph_kept) (numbered-cons items id ids (kept_of p c).kept (at-id p c id first))
+      ap (map paragraph_kept) (paragraph_with_id-cons items id ids (kept_of p c).kept (at-id p c id first))
       ∙ (λ i. paragraph-is p c id first i ∷ paragraphs-are ps (All-tail (Contains rows.paras) p ps all) ids rest i)
 
   abbrev texts_kept : List (List ℕ × List ℕ)
@@ -141,7 +141,7 @@ module _ (rows : FileRows) (texts : AreTexts rows) (its : HasItsTables rows) (no
   version-is = let head = sound-book rows.books (λ id. none file.Book id) in ap number (is_version head.0 head.1)
 
   abbrev paragraphs : KeptParagraphs
-  paragraphs = flat_map (numbered items) order
+  paragraphs = flat_map (paragraph_with_id items) order
 
   book-is : whole.book rows texts its none by_place history_for ≡ book_kept version tables paragraphs marks
   book-is =
@@ -180,8 +180,8 @@ module _ (rows : FileRows) (texts : AreTexts rows) (its : HasItsTables rows) (no
       let own = subst (λ (x : KeptParagraph). AreCellsOf s.meaning x.print x.cells) (cells-of_it row c) s.cells in
       let braille = subst (λ (m : Meaning). AreCellsOf m k.kept.print k.kept.cells) table.2 own in
       record {
-        print = subst (λ (x : KeptParagraph). x.print ≡ corrected x.original (entries_kept x.history)) (history-of_it row c)
-            (sym h.print ∙ ap (corrected h.kept.original) (sym h.history));
+        print = subst (λ (x : KeptParagraph). x.print ≡ corrected_print x.original (entries_kept x.history)) (history-of_it row c)
+            (sym h.print ∙ ap (corrected_print h.kept.original) (sym h.history));
         table = table.0;
         found = ap (λ name. lookup (pointwise nat_eq name) tables) k.of.table ∙ table.1;
         choices = braille.0;
@@ -200,7 +200,7 @@ module _ (rows : FileRows) (texts : AreTexts rows) (its : HasItsTables rows) (no
 
   -- what is so of the kept paragraph of each row
   each-kept : (P : ℕ × KeptParagraph → Type 0) → ((row : Para) (c : Contains rows.paras row) (id : ℕ) → row.id ≡ pos id → P (id, (kept_of row c).kept))
-      → (ps : List Para) (all : All (Contains rows.paras) ps) (ids : List ℕ) → map (λ row. row.id) ps ≡ map pos ids → All P (flat_map (numbered items) ids)
+      → (ps : List Para) (all : All (Contains rows.paras) ps) (ids : List ℕ) → map (λ row. row.id) ps ≡ map pos ids → All P (flat_map (paragraph_with_id items) ids)
   each-kept P each [] all [] is = All-nil P
   each-kept P each [] all (id ∷ ids) is = absurd (cc)
   each-kept P each (p ∷ ps) all [] is = absurd (cc)
@@ -208,8 +208,8 @@ module _ (rows : FileRows) (texts : AreTexts rows) (its : HasItsTables rows) (no
       let first : p.id ≡ pos id = cc in
       let rest : map (λ (row : Para). row.id) ps ≡ map pos ids = cc in
       let c = All-head (Contains rows.paras) p ps all in
-      subst (All P) (sym (numbered-cons items id ids (kept_of p c).kept (at-id p c id first)))
-      (All-cons P (id, (kept_of p c).kept) (flat_map (numbered items) ids) (each p c id first)
+      subst (All P) (sym (paragraph_with_id-cons items id ids (kept_of p c).kept (at-id p c id first)))
+      (All-cons P (id, (kept_of p c).kept) (flat_map (paragraph_with_id items) ids) (each p c id first)
       (each-kept P each ps (All-tail (Contains rows.paras) p ps all) ids rest))
 
   pub is_kept : IsKept version tables paragraphs marks

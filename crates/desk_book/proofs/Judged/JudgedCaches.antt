@@ -33,7 +33,7 @@ use Rattle.desk_book.specs.Judged.{AreOf, AreTables, HasCells, HasKept, IsFirstI
 use Rattle.desk_book.specs.JudgedCaches.{AreAllRight, AreRight, AreTheirCells, IsItsBraille, IsLacking, IsMisfit, IsSurplus, IsTranslatable, IsWrong}
 use Rattle.desk_book.specs.Kept.{KeptTables, renewed_items, with_cells}
 use Rattle.desk_model.specs.Limits.{most_paragraphs}
-use Rattle.desk_parts.specs.Rows.{Cached, Para, Tab}
+use Rattle.desk_parts.specs.Rows.{Para, ParaCells, Tab}
 use Rattle.desk_model.specs.Shows.{tab_of}
 use Rattle.desk_model.proofs.Lists.Items.{Contains-there, slice_get-there}
 use Rattle.desk_model.proofs.Lists.Members.{Contains-cases, Contains-map, Contains-none}
@@ -212,22 +212,22 @@ module _ (tabs : List Tab) (paras : List Para) (tables : KeptTables) (items : Li
 
   -- ---- rows of braille in the order of their ids
 
-  module _ (caches rows : List Cached) (moved : IsPermutation caches rows) (sorted : IsSortedByKey (λ (row : Cached). row.para) int_cmp rows) where
-    abbrev para_of : Cached → ℤ
+  module _ (caches rows : List ParaCells) (moved : IsPermutation caches rows) (sorted : IsSortedByKey (λ (row : ParaCells). row.para) int_cmp rows) where
+    abbrev para_of : ParaCells → ℤ
     para_of row = row.para
 
-    rises : (i j : ℕ) (a b : Cached) → i ≤ j → slice_get rows i ≡ Some a → slice_get rows j ≡ Some b → a.para ≤ℤ b.para
+    rises : (i j : ℕ) (a b : ParaCells) → i ≤ j → slice_get rows i ≡ Some a → slice_get rows j ≡ Some b → a.para ≤ℤ b.para
     rises i j a b low at_a at_b =
-        let far = sorted_far (λ (x y : Cached). is_lt (int_cmp x.para y.para)) (ranks_by int_cmp_total para_of) rows sorted i j a low (slice_get_within rows j b at_b) in
+        let far = sorted_far (λ (x y : ParaCells). is_lt (int_cmp x.para y.para)) (ranks_by int_cmp_total para_of) rows sorted i j a low (slice_get_within rows j b at_b) in
         not-less a.para b.para
-        (ap₂ (λ (x y : Cached). is_lt (int_cmp x.para y.para)) (sym (get_or_from_slice_get rows j b a at_b)) (sym (get_or_from_slice_get rows i a a at_a)) ∙ far)
+        (ap₂ (λ (x y : ParaCells). is_lt (int_cmp x.para y.para)) (sym (get_or_from_slice_get rows j b a at_b)) (sym (get_or_from_slice_get rows i a a at_a)) ∙ far)
 
-    there-to : (i : ℕ) (row : Cached) → slice_get rows i ≡ Some row → Contains caches row
+    there-to : (i : ℕ) (row : ParaCells) → slice_get rows i ≡ Some row → Contains caches row
     there-to i row at = Contains-permutation rows caches row (IsPermutation-sym caches rows moved) (Contains-there rows i row at)
 
     counted : (i : ℕ) (id : ℤ) → rows_with para_of id caches ≡ rows_with para_of id (take i rows) + rows_with para_of id (drop i rows)
     counted i id =
-        let test : Cached → Bool = λ row. int_eq row.para id in
+        let test : ParaCells → Bool = λ row. int_eq row.para id in
         let all = length_permutation (filter test caches) (filter test rows) (IsPermutation-filter test caches rows moved) in
         let parts = ap length (ap (filter test) (sym (parted i rows)) ∙ filter-append test (take i rows) (drop i rows)) in
         let long = length-append (filter test (take i rows)) (filter test (drop i rows)) in
@@ -253,11 +253,11 @@ module _ (tabs : List Tab) (paras : List Para) (tables : KeptTables) (items : Li
           let high = k.3 in
           omega (arith, more, one, high))
 
-      none-after : (id : ℤ) → ((j : ℕ) (row : Cached) → i ≤ j → slice_get rows j ≡ Some row → ¬ (row.para ≡ id)) → rows_with para_of id (drop i rows) ≡ 0
+      none-after : (id : ℤ) → ((j : ℕ) (row : ParaCells) → i ≤ j → slice_get rows j ≡ Some row → ¬ (row.para ≡ id)) → rows_with para_of id (drop i rows) ≡ 0
       none-after id apart = none-with para_of id (drop i rows) (λ (row, c, same). let at = from-drop i rows row c in apart at.0 row at.1 at.2 same)
 
       -- a right row is sound, where no later row has its id
-      right-sound : (k : ℕ) → k < i → (row : Cached) → slice_get rows k ≡ Some row → rows_with para_of row.para (drop i rows) ≡ 0 → IsSoundCacheRow tabs paras caches row
+      right-sound : (k : ℕ) → k < i → (row : ParaCells) → slice_get rows k ≡ Some row → rows_with para_of row.para (drop i rows) ≡ 0 → IsSoundCacheRow tabs paras caches row
       right-sound k less row at alone =
           let r = right k less in
           let same : r.row ≡ row = same_Some r.row row (sym r.row_at ∙ at) in
@@ -265,7 +265,7 @@ module _ (tabs : List Tab) (paras : List Para) (tables : KeptTables) (items : Li
           let s = sound own.0 own.1 in
           let id : row.para ≡ pos (k + 1) = sym (ap para_of same) ∙ r.para in
           let b = braille-from own.0 r.kept s.meaning own.3 s.table r.row.cells r.cells in
-          let c = subst (λ (cells : List ℕ). AreCellsOf s.meaning (chars own.0.print) cells) (ap (λ (row : Cached). row.cells) same)
+          let c = subst (λ (cells : List ℕ). AreCellsOf s.meaning (chars own.0.print) cells) (ap (λ (row : ParaCells). row.cells) same)
           (subst (λ (print : List ℕ). AreCellsOf s.meaning print r.row.cells) own.3.print b) in
           let all = counted i row.para in
           let before = ap (λ z. rows_with para_of z (take i rows)) id ∙ one-before (k + 1) (omega arith) (omega (arith, less)) in
@@ -282,7 +282,7 @@ module _ (tabs : List Tab) (paras : List Para) (tables : KeptTables) (items : Li
           }
 
       -- nothing below is damaged
-      lowest : (told : ℤ) → ((j : ℕ) (row : Cached) → i ≤ j → slice_get rows j ≡ Some row → told ≤ℤ row.para) → (length items ≤ i) ⊎ (told ≤ℤ pos (i + 1))
+      lowest : (told : ℤ) → ((j : ℕ) (row : ParaCells) → i ≤ j → slice_get rows j ≡ Some row → told ≤ℤ row.para) → (length items ≤ i) ⊎ (told ≤ℤ pos (i + 1))
           → (other : ℤ) → IsDamagedCache tabs paras caches other → told ≤ℤ other
       lowest told above ends other damage =
           elim (is_le told other) [
@@ -320,7 +320,7 @@ module _ (tabs : List Tab) (paras : List Para) (tables : KeptTables) (items : Li
         bound (pos n) = suc n
         bound (negsuc n) = 0
 
-        past : (j : ℕ) (row : Cached) → length items ≤ j → slice_get rows j ≡ Some row → ⊥
+        past : (j : ℕ) (row : ParaCells) → length items ≤ j → slice_get rows j ≡ Some row → ⊥
         past j row low at =
             let within = slice_get_within rows j row at in
             let found = slice_get-there rows (length items) (omega (arith, low, within)) in
@@ -345,7 +345,7 @@ module _ (tabs : List Tab) (paras : List Para) (tables : KeptTables) (items : Li
               (lowest i right (pos (i + 1)) (λ j row low at. absurd (past j row low at)) (inr (pos_le (i + 1) (i + 1) (omega arith))) other),
         )
       where
-        past : (j : ℕ) (row : Cached) → i ≤ j → slice_get rows j ≡ Some row → ⊥
+        past : (j : ℕ) (row : ParaCells) → i ≤ j → slice_get rows j ≡ Some row → ⊥
         past j row low at =
             let within = slice_get_within rows j row at in
             let found = slice_get-there rows i (omega (arith, low, within)) in
@@ -360,7 +360,7 @@ module _ (tabs : List Tab) (paras : List Para) (tables : KeptTables) (items : Li
           (lowest i right (pos (i + 1)) above (inr (pos_le (i + 1) (i + 1) (omega arith))) other),
     )
       where
-        above : (j : ℕ) (row : Cached) → i ≤ j → slice_get rows j ≡ Some row → pos (i + 1) ≤ℤ row.para
+        above : (j : ℕ) (row : ParaCells) → i ≤ j → slice_get rows j ≡ Some row → pos (i + 1) ≤ℤ row.para
         above j row low at =
             let up = rises i j w.row row low w.row_at at in
             let first = w.no_earlier in
@@ -433,11 +433,11 @@ module _ (tabs : List Tab) (paras : List Para) (tables : KeptTables) (items : Li
     ]
 
   -- the cells of right rows are those of the paragraphs
-  pub their-cells : (rows : List Cached) → AreAllRight tables items rows → AreTheirCells tables items (map (λ row. Some row.cells) rows)
+  pub their-cells : (rows : List ParaCells) → AreAllRight tables items rows → AreTheirCells tables items (map (λ row. Some row.cells) rows)
   their-cells rows all index kept at =
       let r = all.right index (slice_get_within items index kept at) in
       let same : r.kept ≡ kept = same_Some r.kept kept (sym r.at ∙ at) in (
         r.row.cells,
-        slice_get-map (λ (row : Cached). Some row.cells) rows index ∙ ap (option_map (λ (row : Cached). Some row.cells)) r.row_at,
+        slice_get-map (λ (row : ParaCells). Some row.cells) rows index ∙ ap (option_map (λ (row : ParaCells). Some row.cells)) r.row_at,
         subst (λ k. IsItsBraille tables k r.row.cells) same r.cells,
       )

@@ -7,7 +7,7 @@ use Rattle.louis_table.specs.Meaning.{Meaning}
 use Rattle.louis_translate.specs.declared.choices.Choice.{Choice}
 use Rattle.louis_translate.specs.declared.pieces.Piece.{Piece}
 use Rattle.louis_translate.specs.Braille.{braille, cells_of}
-use Rattle.louis_translate.specs.Items.{Made, made_by, shown}
+use Rattle.louis_translate.specs.Items.{PieceItem, item_of, made_by}
 use Rattle.louis_translate.specs.Tiling.{Tiles}
 use Rattle.louis_translate.proofs.PieceLists.{CellsSoFar, CellsSoFar-all, CellsSoFar-next, CellsSoFar-start, Left-next, Left-one}
 use Rattle.louis_translate.proofs.Tilings.{one_cover}
@@ -31,15 +31,15 @@ module _ (meaning : Meaning) (print : List ℕ) where
       is ∙ (ap (braille meaning print) (one_cover meaning print 0 choices other tiles tiled) ∙ sym are)
 
   -- what is left of the masks stands after the cells of the choices before those left
-  pub record IsBehind (left : List Made) (masks rest : List ℕ) : Type 0 where
+  pub record IsBehind (left : List PieceItem) (masks rest : List ℕ) : Type 0 where
     pub cells : List ℕ
     pub so_far : CellsSoFar meaning print left cells
     pub parts : masks ≡ cells ++ rest
 
-  pub IsBehind-start : (left : List Made) (masks : List ℕ) → ((choices : List Choice) → Tiles meaning print choices → left ≡ map (made_by meaning print) choices) → IsBehind left masks masks
+  pub IsBehind-start : (left : List PieceItem) (masks : List ℕ) → ((choices : List Choice) → Tiles meaning print choices → left ≡ map (made_by meaning print) choices) → IsBehind left masks masks
   IsBehind-start left masks made = record { cells = []; so_far = CellsSoFar-start meaning print left made; parts = refl }
 
-  pub IsBehind-next : (left : List Made) (masks rest : List ℕ) (piece : Piece) (after : List Made) (others : List ℕ) → IsBehind left masks rest → left ≡ shown piece ∷ after
+  pub IsBehind-next : (left : List PieceItem) (masks rest : List ℕ) (piece : Piece) (after : List PieceItem) (others : List ℕ) → IsBehind left masks rest → left ≡ item_of piece ∷ after
       → rest ≡ (piece.sign.now ++ piece.own.now) ++ others → IsBehind after masks others
   IsBehind-next left masks rest piece after others b e is = record {
     cells = (b.cells ++ piece.sign.now) ++ piece.own.now;
@@ -51,7 +51,7 @@ module _ (meaning : Meaning) (print : List ℕ) where
   }
 
   -- where the masks are the braille, the cells of the next piece stand in front of what is left
-  pub IsBehind-goes_on : (left : List Made) (masks rest : List ℕ) (piece : Piece) (after : List Made) → IsBehind left masks rest → left ≡ shown piece ∷ after
+  pub IsBehind-goes_on : (left : List PieceItem) (masks rest : List ℕ) (piece : Piece) (after : List PieceItem) → IsBehind left masks rest → left ≡ item_of piece ∷ after
       → AreCellsOf meaning print masks → (others : List ℕ) × (rest ≡ (piece.sign.now ++ piece.own.now) ++ others)
   IsBehind-goes_on left masks rest piece after b e are =
       let l = b.so_far.so_far in
@@ -64,12 +64,12 @@ module _ (meaning : Meaning) (print : List ℕ) where
             ∙ (ap (braille meaning print) next.first ∙ ap (λ (t : List ℕ). t ++ braille meaning print next.others) (sym next.cells)),
       )
 
-  pub IsBehind-ends : (left : List Made) (masks rest : List ℕ) → IsBehind left masks rest → left ≡ [] → rest ≡ [] → AreCellsOf meaning print masks
+  pub IsBehind-ends : (left : List PieceItem) (masks rest : List ℕ) → IsBehind left masks rest → left ≡ [] → rest ≡ [] → AreCellsOf meaning print masks
   IsBehind-ends left masks rest b none empty =
       CellsSoFar-all meaning print left masks
       (record { so_far = b.so_far.so_far; are = b.parts ∙ (ap (λ (t : List ℕ). b.cells ++ t) empty ∙ (append-nil b.cells ∙ b.so_far.are)) }) none
 
-  pub IsBehind-empty : (left : List Made) (masks rest : List ℕ) → IsBehind left masks rest → left ≡ [] → AreCellsOf meaning print masks → rest ≡ []
+  pub IsBehind-empty : (left : List PieceItem) (masks rest : List ℕ) → IsBehind left masks rest → left ≡ [] → AreCellsOf meaning print masks → rest ≡ []
   IsBehind-empty left masks rest b none are =
       let own = CellsSoFar-all meaning print left b.cells b.so_far none in
       same_front b.cells rest [] (sym b.parts ∙ (one_braille masks b.cells are own ∙ sym (append-nil b.cells)))

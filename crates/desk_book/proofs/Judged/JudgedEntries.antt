@@ -13,7 +13,7 @@ use Rattle.desk_model.specs.Damage.{HasPara, HasSoundEntries, IsDamagedEntries, 
 use Rattle.desk_book.specs.Judged.{AreOf, HasHistory, HasKept, IsFirstId, IsOf, IsWhole, without_history}
 use Rattle.desk_book.specs.JudgedEntries.{AreGrouped, HaveRead, IsFirstStray, IsStray, IsUnread, rows_of}
 use Rattle.desk_book.specs.JudgedHistory.{AreSoundRows, CanBeRead, HasRead}
-use Rattle.desk_model.specs.Print.{corrected}
+use Rattle.desk_model.specs.Print.{corrected_print}
 use Rattle.desk_parts.specs.Rows.{NamedCorr, Para}
 use Rattle.desk_model.proofs.Lists.Members.{Contains-behind, Contains-here, Contains-map}
 use Rattle.desk_model.proofs.Lists.Items.{slice_get-there}
@@ -105,7 +105,7 @@ module _ (paras : List Para) (was : List KeptParagraph) (are : AreOf paras was) 
         sorted = can.sorted;
         its_own = can.same;
         each = subst (λ (t : List ℕ). AreSoundRows t can.sorted) a.of.original can.each;
-        print = ap (λ (t : List ℕ). corrected t (history_of can.sorted)) (sym a.of.original) ∙ (can.print_is ∙ a.of.print);
+        print = ap (λ (t : List ℕ). corrected_print t (history_of can.sorted)) (sym a.of.original) ∙ (can.print_is ∙ a.of.print);
       }
 
   read-from_sound : (para : Para) (c : Contains paras para) → HasSoundEntries entries para → CanBeRead (rows_of entries para.id) (at-row para c).kept.original (at-row para c).kept.print
@@ -115,7 +115,7 @@ module _ (paras : List Para) (was : List KeptParagraph) (are : AreOf paras was) 
         sorted = has.sorted;
         same = has.its_own;
         each = subst (λ (t : List ℕ). AreSoundRows t has.sorted) (sym a.of.original) has.each;
-        print_is = ap (λ (t : List ℕ). corrected t (history_of has.sorted)) a.of.original ∙ (has.print ∙ sym a.of.print);
+        print_is = ap (λ (t : List ℕ). corrected_print t (history_of has.sorted)) a.of.original ∙ (has.print ∙ sym a.of.print);
       }
 
   -- an id of rows that no paragraph has is damaged
@@ -199,7 +199,7 @@ module _ (paras : List Para) (was : List KeptParagraph) (are : AreOf paras was) 
             sorted = has.sorted;
             same = has.same;
             each = subst (λ (t : List ℕ). AreSoundRows t has.sorted) new.2 has.each;
-            print_is = ap (λ (t : List ℕ). corrected t (history_of has.sorted)) (sym new.2) ∙ (has.print ∙ new.3);
+            print_is = ap (λ (t : List ℕ). corrected_print t (history_of has.sorted)) (sym new.2) ∙ (has.print ∙ new.3);
           }
 
       -- where all can be read, a stray id is the first damage

@@ -12,7 +12,7 @@ use Rattle.desk_book.specs.declared.paragraphs.Paragraph.{Paragraph as KeptParag
 use Rattle.desk_book.specs.Histories.{HaveTaken, entries_kept}
 use Rattle.desk_book.specs.Judged.{AreInPlaces, AreOf, HasHistory, HasKept, HaveMarks, IsOf, without_cells}
 use Rattle.desk_model.specs.Damage.{history_of}
-use Rattle.desk_model.specs.Print.{corrected}
+use Rattle.desk_model.specs.Print.{corrected_print}
 use Rattle.desk_parts.specs.Rows.{NamedCorr, Para}
 use Rattle.desk_model.specs.Shows.{flag_number, style_number}
 use Rattle.desk_model.proofs.Rows.OneBook.{number}
@@ -91,7 +91,7 @@ module _ (xs ys : List KeptParagraph) (same : map told xs ≡ map told ys) where
         at = other.1;
         history = ap entries_kept (sym history) ∙ has.history;
         taken = subst (λ o. HaveTaken o other.0.history) original (subst (HaveTaken has.kept.original) history has.taken);
-        print = ap (λ o. corrected o (history_of has.sorted)) (sym original) ∙ (has.print ∙ print);
+        print = ap (λ o. corrected_print o (history_of has.sorted)) (sym original) ∙ (has.print ∙ print);
       }
 
   pub histories-same : (entries : List NamedCorr) (paras : List Para) → All (HasHistory entries xs) paras → All (HasHistory entries ys) paras

@@ -12,18 +12,18 @@ use Rattle.desk_book.specs.declared.history.KeptEntry.{KeptEntry}
 use Rattle.desk_book.specs.declared.history.KeptEntry.TheVariants.{Corrects as KeptCorrects, Undoes as KeptUndoes}
 use Rattle.desk_book.specs.declared.judged_history.Next.{Next}
 use Rattle.desk_model.specs.Book.{Corrects, Entry, Replacement, Undoes}
-use Rattle.desk_book.specs.Corrected.{IsCorrection, replaced_by}
+use Rattle.desk_book.specs.Corrections.{IsCorrection, replaced_by}
 use Rattle.desk_model.specs.Damage.{IsSoundUndo, entry_of}
 use Rattle.desk_book.specs.Histories.{IsNewestInForce, LeavePrint, TookFrom, entries_kept, entry_kept}
 use Rattle.desk_book.specs.JudgedHistory.{IsCorrecting, IsNext}
 use Rattle.desk_model.specs.Name.{IsProofreaderName}
-use Rattle.desk_model.specs.Print.{corrected}
+use Rattle.desk_model.specs.Print.{corrected_print}
 use Rattle.desk_parts.specs.Rows.{NamedCorr}
 use Rattle.desk_model.specs.Sound.{AreSoundEntries, IsSoundEntry}
-use Rattle.desk_model.specs.Stored.{IsUnbarred, is_barred}
-use Rattle.desk_book.proofs.Planned.EntryPlanned.{TookFrom-correction, entry-correction}
+use Rattle.desk_model.specs.NormalForm.{IsUnbarred, is_barred}
+use Rattle.desk_book.proofs.Plans.EntryPlanned.{TookFrom-correction, entry-correction}
 use Rattle.desk_book.proofs.Kept.UndonePrints.{undone-print}
-use Rattle.desk_model.proofs.Books.HistoryLists.{corrected-corrects}
+use Rattle.desk_model.proofs.Books.HistoryLists.{corrected_print-corrects}
 use Rattle.desk_model.proofs.Lists.RowNumbers.{pos_le}
 use Rattle.desk_model.proofs.Rows.RowParts.{entry-corrects, entry-undoes}
 use Rattle.desk_model.proofs.Lists.Stable.{le_from, natural}
@@ -42,8 +42,8 @@ IsNext-undo original entries print left number c force row next undo start entry
       fits = inr undo;
       sound = subst (IsSoundEntry original h) entry (ap (option_map (λ (correction : ℕ × Replacement). correction.0)) force.newest_is);
       entry = ap entry_kept entry_is ∙ entry;
-      taken = subst (TookFrom (corrected original h)) (sym entry_is) tt;
-      print = print_is ∙ (undone-print original entries print left number c force ∙ ap (λ (e : Entry). corrected original (h ++ e ∷ [])) entry);
+      taken = subst (TookFrom (corrected_print original h)) (sym entry_is) tt;
+      print = print_is ∙ (undone-print original entries print left number c force ∙ ap (λ (e : Entry). corrected_print original (h ++ e ∷ [])) entry);
     }
 
 -- ---- a correction
@@ -73,17 +73,17 @@ IsCorrecting-made print row start count c next kind starts counts span text who 
       who_characters = made.who_characters;
     }
 
-pub IsNext-correcting : (original : List ℕ) (history : List Entry) (print : List ℕ) (row : NamedCorr) (next : Next) → AreSoundEntries original history → print ≡ corrected original history → IsCorrecting print row next → IsNext original history row next
+pub IsNext-correcting : (original : List ℕ) (history : List Entry) (print : List ℕ) (row : NamedCorr) (next : Next) → AreSoundEntries original history → print ≡ corrected_print original history → IsCorrecting print row next → IsNext original history row next
 IsNext-correcting original history print row next sound is given =
-    let c : IsCorrecting (corrected original history) row next = subst (λ (t : List ℕ). IsCorrecting t row next) is given in
+    let c : IsCorrecting (corrected_print original history) row next = subst (λ (t : List ℕ). IsCorrecting t row next) is given in
     let s = c.sound in
     let replacement : Replacement = record { start = nat_abs row.entry.start; count = nat_abs row.entry.len; text = chars row.entry.body } in
     let entry : entry_of row ≡ Corrects replacement (chars row.who) = entry-corrects row s.kind in
     record {
       fits = inl s;
       sound = subst (IsSoundEntry original history) (sym entry) (
-        le_from (nat_abs row.entry.start + nat_abs row.entry.len) (length (corrected original history))
-            (subst (λ z. z ≤ℤ pos (length (corrected original history)))
+        le_from (nat_abs row.entry.start + nat_abs row.entry.len) (length (corrected_print original history))
+            (subst (λ z. z ≤ℤ pos (length (corrected_print original history)))
             (ap₂ (λ (a b : ℤ). a +ℤ b) (natural row.entry.start s.start) (natural row.entry.len s.len)) s.span),
         record { characters = c.characters; unbarred = s.text },
         s.who,
@@ -91,10 +91,10 @@ IsNext-correcting original history print row next sound is given =
       );
       entry = c.entry;
       taken = c.taken;
-      print = c.print_is ∙ (sym (corrected-corrects original history replacement (chars row.who) sound) ∙ ap (λ (e : Entry). corrected original (history ++ e ∷ [])) (sym entry));
+      print = c.print_is ∙ (sym (corrected_print-corrects original history replacement (chars row.who) sound) ∙ ap (λ (e : Entry). corrected_print original (history ++ e ∷ [])) (sym entry));
     }
 
-pub IfSome-correcting : (original : List ℕ) (history : List Entry) (print : List ℕ) (row : NamedCorr) → AreSoundEntries original history → print ≡ corrected original history → (o : Option Next)
+pub IfSome-correcting : (original : List ℕ) (history : List Entry) (print : List ℕ) (row : NamedCorr) → AreSoundEntries original history → print ≡ corrected_print original history → (o : Option Next)
     → IfSome o (IsCorrecting print row) → IfSome o (IsNext original history row)
 IfSome-correcting original history print row sound is None given = tt
 IfSome-correcting original history print row sound is (Some next) given = IsNext-correcting original history print row next sound is given

@@ -10,7 +10,7 @@ use Rattle.desk_book.specs.Judged.{without_history}
 use Rattle.desk_book.specs.JudgedEntries.{HaveRead, IsUnread}
 use Rattle.desk_book.specs.JudgedHistory.{AreSoundRows, CanBeRead, HasRead}
 use Rattle.desk_model.specs.Damage.{history_of}
-use Rattle.desk_model.specs.Print.{corrected}
+use Rattle.desk_model.specs.Print.{corrected_print}
 use Rattle.desk_parts.specs.Rows.{NamedCorr}
 use Rattle.desk_model.proofs.Lists.Items.{map-set_same, slice_get-set_other, slice_get-set_same}
 use Rattle.desk_book.proofs.Judged.JudgedEntries.{kept-at}
@@ -57,7 +57,7 @@ module _ (groups : List (List NamedCorr)) (was now : List KeptParagraph) (count 
           sorted = has.sorted;
           same = has.same;
           each = subst (λ (t : List ℕ). AreSoundRows t has.sorted) found.2 has.each;
-          print_is = ap (λ (t : List ℕ). corrected t (history_of has.sorted)) (sym found.2) ∙ (has.print ∙ found.3);
+          print_is = ap (λ (t : List ℕ). corrected_print t (history_of has.sorted)) (sym found.2) ∙ (has.print ∙ found.3);
         };
   }
 

@@ -6,11 +6,11 @@ use Rattle.std.specs.Map.{lookup}
 use Rattle.std.specs.Prelude.{nat_eq}
 use Rattle.std.proofs.lemmas.Option.{slice_get_read}
 use Rattle.desk_book.specs.declared.paragraphs.Paragraph.{Paragraph as KeptParagraph}
-use Rattle.desk_book.specs.Kept.{KeptParagraphs, numbered, with_kept_change}
+use Rattle.desk_book.specs.Kept.{KeptParagraphs, paragraph_with_id, with_kept_change}
 use Rattle.desk_book.proofs.Kept.Arranging.{length-shown, lookup_index-in_order, with_kept_change-in_order}
 
 module _ (items list : List KeptParagraph) (order : List ℕ) (value : KeptParagraphs) (permutes : IsPermutation (range_with_len 1 (length items)) order)
-    (view_is : flat_map (numbered items) order ≡ value) (shown : list ≡ items) (id index : ℕ) (found : (index + 1 ≡ id) × (index < length value)) where
+    (view_is : flat_map (paragraph_with_id items) order ≡ value) (shown : list ≡ items) (id index : ℕ) (found : (index + 1 ≡ id) × (index < length value)) where
   -- the index is one of the list
   pub index_below : index < length list
   index_below =
@@ -28,7 +28,7 @@ module _ (items list : List KeptParagraph) (order : List ℕ) (value : KeptParag
 
     -- what is written there changes this one
     pub written_paragraph : (ids : List ℕ) (change : KeptParagraph → KeptParagraph) → ids ≡ order
-        → flat_map (numbered (set list index (change kept))) ids ≡ with_kept_change id change value
+        → flat_map (paragraph_with_id (set list index (change kept))) ids ≡ with_kept_change id change value
     written_paragraph ids change placed =
-        ap₂ (λ paragraphs ids. flat_map (numbered (set paragraphs index (change kept))) ids) shown placed
+        ap₂ (λ paragraphs ids. flat_map (paragraph_with_id (set paragraphs index (change kept))) ids) shown placed
         ∙ sym (sym (ap (with_kept_change id change) view_is) ∙ with_kept_change-in_order items order permutes id index kept change found.0 item)

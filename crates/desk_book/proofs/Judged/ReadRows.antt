@@ -12,7 +12,7 @@ use Rattle.desk_model.specs.Damage.{IsSoundEntryRow, entry_of, history_of}
 use Rattle.desk_book.specs.Histories.{HaveTaken, entries_kept, entry_kept}
 use Rattle.desk_book.specs.JudgedHistory.{AreSoundRows, IsFit, IsNext, IsRead, IsSoundNext}
 use Rattle.desk_model.specs.Limits.{most_entries, most_print}
-use Rattle.desk_model.specs.Print.{corrected}
+use Rattle.desk_model.specs.Print.{corrected_print}
 use Rattle.desk_parts.specs.Rows.{NamedCorr}
 use Rattle.desk_model.specs.Sound.{AreSoundEntries}
 use Rattle.desk_book.proofs.Kept.Settled.{HaveTaken-push}
@@ -35,8 +35,8 @@ module _ (original : List ℕ) (rows : List NamedCorr) (reading : Reading) (is :
   unfit-next unfit sound = unfit (subst (λ (h : List Entry). IsFit original h row) (sym is.entries) sound.fits)
 
   module _ (next : Next) (follows : IsNext original (entries_kept reading.entries.items) row next) where
-    print_is : next.print.items ≡ corrected original (history_of (rows ++ row ∷ []))
-    print_is = follows.print ∙ (ap (λ (h : List Entry). corrected original (h ++ entry_of row ∷ [])) is.entries ∙ ap (corrected original) (sym (history-push rows row)))
+    print_is : next.print.items ≡ corrected_print original (history_of (rows ++ row ∷ []))
+    print_is = follows.print ∙ (ap (λ (h : List Entry). corrected_print original (h ++ entry_of row ∷ [])) is.entries ∙ ap (corrected_print original) (sym (history-push rows row)))
 
     pub long-next : most_print < length next.print.items → ¬ IsSoundNext original rows row
     long-next long sound = let short = sound.short in let same = ap length print_is in omega (arith, short, same, long)
@@ -57,7 +57,7 @@ module _ (original : List ℕ) (rows : List NamedCorr) (reading : Reading) (is :
           left = record {
             sound = subst (AreSoundEntries original) (sym kept) (AreSoundEntries-push original (entries_kept entries) (entry_of row) is.left.sound follows.sound);
             taken = subst (HaveTaken original) (sym more) (HaveTaken-push original entries next.entry is.left.taken follows.taken);
-            print_is = printed ∙ (follows.print ∙ ap (corrected original) (sym kept));
+            print_is = printed ∙ (follows.print ∙ ap (corrected_print original) (sym kept));
           };
           entries = kept ∙ (ap (λ (h : List Entry). h ++ entry_of row ∷ []) is.entries ∙ sym (history-push rows row));
         }
@@ -77,7 +77,7 @@ module _ (original : List ℕ) (rows : List NamedCorr) (index : ℕ) (row : Name
     number = sound.number ∙ ap (λ (n : ℕ). pos (n + 1)) many;
     room = let same = many in let room = sound.room in omega (arith, same, room);
     fits = sound.fits;
-    short = subst (λ (t : List NamedCorr). length (corrected original (history_of t)) ≤ most_print) (sym front) sound.short;
+    short = subst (λ (t : List NamedCorr). length (corrected_print original (history_of t)) ≤ most_print) (sym front) sound.short;
   }
 
   pub next-from_row : IsSoundEntryRow original rows index row → IsSoundNext original (take index rows) row
@@ -85,7 +85,7 @@ module _ (original : List ℕ) (rows : List NamedCorr) (index : ℕ) (row : Name
     number = sound.number ∙ ap (λ (n : ℕ). pos (n + 1)) (sym many);
     room = let same = many in let room = sound.room in omega (arith, same, room);
     fits = sound.fits;
-    short = subst (λ (t : List NamedCorr). length (corrected original (history_of t)) ≤ most_print) front sound.short;
+    short = subst (λ (t : List NamedCorr). length (corrected_print original (history_of t)) ≤ most_print) front sound.short;
   }
 
 -- the rows before an index are sound
@@ -116,7 +116,7 @@ nothing-read original reading none printed = record {
   left = record {
     sound = subst (λ (es : List KeptEntry). AreSoundEntries original (entries_kept es)) (sym none) (λ i e at. absurd (cc));
     taken = subst (HaveTaken original) (sym none) (λ i e at. absurd (cc));
-    print_is = printed ∙ ap (λ (es : List KeptEntry). corrected original (entries_kept es)) (sym none);
+    print_is = printed ∙ ap (λ (es : List KeptEntry). corrected_print original (entries_kept es)) (sym none);
   };
   entries = ap entries_kept none;
 }

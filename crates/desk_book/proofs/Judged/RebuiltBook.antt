@@ -14,9 +14,9 @@ use Rattle.desk_model.specs.Damage.{HasItsTables, IsDamaged, IsDamagedEntries, I
 use Rattle.desk_parts.specs.FileRows.{AreTexts, EntryRows, FileRows, HasEntryTexts, HasMarkText, Named, Unnamed, entries_in, format_of, table_of}
 use Rattle.desk_book.specs.Joined.{IsDamagedBraille, TellsDamageOf}
 use Rattle.desk_book.specs.Judged.{AreInPlaces, AreMarksOf, AreOf, AreTables, HasCells, HasHistory, HaveMarks, IsWhole, without_cells, without_history, without_marks}
-use Rattle.desk_book.specs.Kept.{IsKept, KeptTables, book_kept, numbered}
+use Rattle.desk_book.specs.Kept.{IsKept, KeptTables, book_kept, paragraph_with_id}
 use Rattle.desk_model.specs.Limits.{most_version}
-use Rattle.desk_model.specs.Rebuilt.{IsFaultOf}
+use Rattle.desk_model.specs.Rebuilding.{IsFaultOf}
 use Rattle.desk_parts.specs.Parts.{rows_in}
 use Rattle.desk_parts.specs.Rows.{Para as ParaRow}
 use Rattle.desk_model.specs.Shows.{Shows}
@@ -121,10 +121,10 @@ module _ (parts : Parts) (within : IsWithin 0 most_version parts.version) where
     have_all_marks : HaveMarks marks items
     have_all_marks = HaveMarks-same marks with_marks items (sym same_cells) have_marks
 
-    pub made-kept : IsKept version tables (flat_map (numbered items) order) marks
+    pub made-kept : IsKept version tables (flat_map (paragraph_with_id items) order) marks
     made-kept =
         is_kept rows texts its-tables none version versioned tables are_tables items order are_of places have_histories cells marks are_marks have_all_marks
 
-    pub made-shown : Shows rows (book_kept version tables (flat_map (numbered items) order) marks)
+    pub made-shown : Shows rows (book_kept version tables (flat_map (paragraph_with_id items) order) marks)
     made-shown =
         shown rows texts its-tables none version versioned tables are_tables items order are_of places have_histories cells marks are_marks have_all_marks

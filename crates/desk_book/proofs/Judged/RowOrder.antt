@@ -9,7 +9,7 @@ use Rattle.std.proofs.lemmas.List.Sorted.{Contains-permutation, IsPermutation-ma
 use Rattle.std.proofs.lemmas.Option.{get_or_from_slice_get, slice_get_within}
 use Rattle.desk_model.specs.Damage.{history_of, rows_with}
 use Rattle.desk_book.specs.JudgedHistory.{AreSoundRows, CanBeRead}
-use Rattle.desk_model.specs.Print.{corrected}
+use Rattle.desk_model.specs.Print.{corrected_print}
 use Rattle.desk_parts.specs.Rows.{NamedCorr}
 use Rattle.desk_model.proofs.Lists.Members.{Contains-behind, Contains-cases, Contains-here, Contains-map, Contains-none}
 use Rattle.desk_model.proofs.Lists.NumberedRows.{AreOnce, once-keys, once-rest}
@@ -110,5 +110,5 @@ module _ (rows sorted : List NamedCorr) (same : IsPermutation rows sorted) (risi
   pub sound-as_sorted : AreSoundRows original sorted
   sound-as_sorted = subst (AreSoundRows original) (sym same-order) h.each
 
-  pub print-as_sorted : corrected original (history_of sorted) ≡ print
-  print-as_sorted = ap (λ (t : List NamedCorr). corrected original (history_of t)) same-order ∙ h.print_is
+  pub print-as_sorted : corrected_print original (history_of sorted) ≡ print
+  print-as_sorted = ap (λ (t : List NamedCorr). corrected_print original (history_of t)) same-order ∙ h.print_is

@@ -21,7 +21,7 @@ use Rattle.desk_model.specs.Book.{Book, Paragraph, paragraph_of, text_of}
 use Rattle.desk_book.specs.Kept.{HasMarks, KeptTables, KeptParagraphs, paragraph_kept, book_kept, IsKeptParagraph, IsKept}
 use Rattle.desk_model.specs.Print.{print_of}
 use Rattle.desk_model.specs.Sound.{IsSoundParagraph}
-use Rattle.desk_book.specs.Shown.{IsShown}
+use Rattle.desk_book.specs.Display.{IsShown}
 use Rattle.desk_book.proofs.Kept.MarkIndexes.{count-indexes}
 use Rattle.desk_model.proofs.Books.SoundSteps.{IsSound-empty}
 use Rattle.desk_model.proofs.Lists.Items.{All-from_map, lookup-map}

@@ -16,7 +16,7 @@ use Rattle.desk_model.specs.Book.{Book, Paragraph, paragraph_of, text_of}
 use Rattle.desk_book.specs.Kept.{KeptTables, KeptParagraphs, IsKept, IsKeptParagraph, book_kept, ids, paragraph_kept}
 use Rattle.desk_model.specs.Print.{print_of}
 use Rattle.desk_model.specs.Sound.{IsSound}
-use Rattle.desk_book.specs.Planned.{AreThere, IsKeptFor, IsTableFor}
+use Rattle.desk_book.specs.Plans.{AreThere, IsKeptFor, IsTableFor}
 use Rattle.desk_book.proofs.Kept.KeptBooks.{All-found, found-kept}
 use Rattle.desk_model.proofs.Lists.Items.{lookup-map}
 use Rattle.desk_book.proofs.Kept.OrderLists.{ids_of-kept}

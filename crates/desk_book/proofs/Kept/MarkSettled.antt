@@ -14,7 +14,7 @@ use Rattle.desk_book.specs.Kept.{mark_kept, marks_kept}
 use Rattle.desk_book.specs.KeptMarks.{kept_mark, AreWithin, IsWithin, moved_kept, moved_kept_of, with_kept_moved, with_kept_resolved}
 use Rattle.desk_model.specs.Limits.{most_print}
 use Rattle.desk_model.specs.Marks.{mark_moved_by}
-use Rattle.desk_model.specs.Print.{corrected}
+use Rattle.desk_model.specs.Print.{corrected_print}
 use Rattle.desk_model.specs.Sound.{IsSound, IsSoundMark}
 use Rattle.desk_model.specs.Step.{moved_on, with_marks_moved, with_resolved}
 use Rattle.desk_model.proofs.Books.HistoryLists.{enumerate_from-append}
@@ -113,7 +113,7 @@ pub IsWithin-sound : (book : Book) (m : Mark) → IsSound book → IsSoundMark b
 IsWithin-sound book m sound s =
     let p = IsSoundParagraph-found book sound m.paragraph s.paragraph s.found in
     let history = s.paragraph.history in
-    let short = subst (λ t. length (corrected s.paragraph.original t) ≤ most_print) (take-length history) (p.history.short (length history) (omega arith)) in
+    let short = subst (λ t. length (corrected_print s.paragraph.original t) ≤ most_print) (take-length history) (p.history.short (length history) (omega arith)) in
     let within = s.within in
     (s.ordered, omega arith)
 

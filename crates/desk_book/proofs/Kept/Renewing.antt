@@ -6,9 +6,9 @@ use Rattle.std.specs.Vec.Iter.{into_iter_items, into_iter_steps}
 use Rattle.std.specs.declared.vec.IntoIter.{IntoIter}
 use Rattle.std.proofs.lemmas.List.{nil_from_length}
 use Rattle.std.proofs.lemmas.Option.{none-some, same_Some}
-use Rattle.desk_book.specs.Kept.{new_cells, numbered, renewed, renewed_items, with_cells}
+use Rattle.desk_book.specs.Kept.{new_cells, paragraph_with_id, renewed_items, with_cells, with_new_cells}
 use Rattle.desk_book.specs.declared.paragraphs.Paragraph.{Paragraph as KeptParagraph}
-use Rattle.desk_book.proofs.Kept.Arranging.{IsUpTo, entry_of, map-in_order, numbered-there}
+use Rattle.desk_book.proofs.Kept.Arranging.{IsUpTo, entry_of, map-in_order, paragraph_with_id-there}
 
 pub length-renewed_items : (cells : List (Option (List ℕ))) (items : List KeptParagraph) → length (renewed_items cells items) ≡ length items
 length-renewed_items cells [] = refl
@@ -31,15 +31,15 @@ flatten_is None = refl
 flatten_is (Some new) = refl
 
 -- the paragraphs of a book change as their items do
-pub renewed-in_order : (cells : List (Option (List ℕ))) (items : List KeptParagraph) (order : List ℕ) → IsPermutation (range_with_len 1 (length items)) order
-    → map (renewed cells) (flat_map (numbered items) order) ≡ flat_map (numbered (renewed_items cells items)) order
-renewed-in_order cells items order permutes = map-in_order items order permutes (renewed_items cells items) (renewed cells) each
+pub with_new_cells-in_order : (cells : List (Option (List ℕ))) (items : List KeptParagraph) (order : List ℕ) → IsPermutation (range_with_len 1 (length items)) order
+    → map (with_new_cells cells) (flat_map (paragraph_with_id items) order) ≡ flat_map (paragraph_with_id (renewed_items cells items)) order
+with_new_cells-in_order cells items order permutes = map-in_order items order permutes (renewed_items cells items) (with_new_cells cells) each
   where
-    each : (id : ℕ) → IsUpTo (length items) id → map (renewed cells) (numbered items id) ≡ numbered (renewed_items cells items) id
+    each : (id : ℕ) → IsUpTo (length items) id → map (with_new_cells cells) (paragraph_with_id items id) ≡ paragraph_with_id (renewed_items cells items) id
     each id up =
-        let found = numbered-there items id up in
+        let found = paragraph_with_id-there items id up in
         let new = ap (λ new. option_map (with_cells new) (slice_get items (id - 1))) (flatten_is (slice_get cells (id - 1))) in
-        ap (λ o. map (renewed cells) (entry_of id o)) found.1
+        ap (λ o. map (with_new_cells cells) (entry_of id o)) found.1
         ∙ sym (ap (entry_of id) (slice_get-renewed_items cells items (id - 1) ∙ (new ∙ ap (option_map (with_cells (new_cells cells id))) found.1)))
 
 -- ---- one after the other

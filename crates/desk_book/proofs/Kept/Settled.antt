@@ -45,11 +45,11 @@ use Rattle.desk_model.proofs.Lists.Items.{All-from_map, here-at, lookup-map, sli
 use Rattle.desk_book.proofs.Kept.MarkIndexes.{count-indexes, few-on, indexes-moved, indexes-none, indexes-push_on, indexes-push_other}
 use Rattle.desk_book.proofs.Kept.MarkSettled.{AreWithin-sound, marks-elsewhere, marks-moved, marks-push}
 use Rattle.desk_model.specs.ParagraphMarks.{marks_on}
-use Rattle.desk_book.specs.Kept.{HasMarks, mark_kept, KeptTables, KeptParagraphs, with_table, arranged, ids, in_order, new_cells, renewed, with_kept_change, marks_kept, paragraph_kept, book_kept, IsKeptParagraph, IsKept}
-use Rattle.desk_model.specs.Print.{corrected, print_of, with_entry}
+use Rattle.desk_book.specs.Kept.{HasMarks, mark_kept, KeptTables, KeptParagraphs, with_table, in_order_of, ids, in_order, new_cells, with_new_cells, with_kept_change, marks_kept, paragraph_kept, book_kept, IsKeptParagraph, IsKept}
+use Rattle.desk_model.specs.Print.{corrected_print, print_of, with_entry}
 use Rattle.desk_model.specs.Refusals.{IsAccepted, paragraph_before}
 use Rattle.desk_model.specs.Sound.{IsSound, IsSoundMark}
-use Rattle.desk_model.specs.Step.{Makes, typed, next_id, next_mark, next_with_marks, next_with_paragraphs, with_marks_moved, with_paragraph, with_move, with_change}
+use Rattle.desk_model.specs.Step.{Makes, new_paragraph, next_id, next_mark, next_with_marks, next_with_paragraphs, with_marks_moved, with_paragraph, with_move, with_change}
 use Rattle.desk_book.proofs.Kept.KeptBooks.{found-kept, All-found, means-kept}
 use Rattle.desk_model.proofs.Commands.Accepted.{named_paragraph}
 use Rattle.desk_model.proofs.Lists.Members.{Contains-here, Contains-behind, Contains-map}
@@ -122,21 +122,21 @@ option_entry id None = refl
 option_entry id (Some k) = refl
 
 -- kept paragraphs in an order stand for the paragraphs in this order
-pub kept-arranged : (order : List ℕ) (kept : KeptParagraphs) → map paragraph_kept (arranged order kept) ≡ in_order order (map paragraph_kept kept)
+pub kept-arranged : (order : List ℕ) (kept : KeptParagraphs) → map paragraph_kept (in_order_of order kept) ≡ in_order order (map paragraph_kept kept)
 kept-arranged [] kept = refl
 kept-arranged (id ∷ order) kept =
     let first : KeptParagraphs = option_to_list (option_map (λ k. (id, k)) (lookup (nat_eq id) kept)) in
     let here : map paragraph_kept first ≡ option_to_list (found id (map paragraph_kept kept)) =
     option_entry id (lookup (nat_eq id) kept) ∙ ap (λ (o : Option Paragraph). option_to_list o) (sym (found-kept id kept)) in
-    map-append paragraph_kept first (arranged order kept)
-    ∙ (ap (λ (ps : List Paragraph). ps ++ map paragraph_kept (arranged order kept)) here
+    map-append paragraph_kept first (in_order_of order kept)
+    ∙ (ap (λ (ps : List Paragraph). ps ++ map paragraph_kept (in_order_of order kept)) here
     ∙ ap (λ (ps : List Paragraph). option_to_list (found id (map paragraph_kept kept)) ++ ps) (kept-arranged order kept))
 
 -- what holds of each kept paragraph holds of each in the order
-pub All-arranged : (P : ℕ × KeptParagraph → Type 0) (order : List ℕ) (kept : KeptParagraphs) → All P kept → All P (arranged order kept)
+pub All-arranged : (P : ℕ × KeptParagraph → Type 0) (order : List ℕ) (kept : KeptParagraphs) → All P kept → All P (in_order_of order kept)
 All-arranged P [] kept all = All-nil P
 All-arranged P (id ∷ order) kept all =
-    All-append P (option_to_list (option_map (λ k. (id, k)) (lookup (nat_eq id) kept))) (arranged order kept) (here (lookup (nat_eq id) kept) refl) (All-arranged P order kept all)
+    All-append P (option_to_list (option_map (λ k. (id, k)) (lookup (nat_eq id) kept))) (in_order_of order kept) (here (lookup (nat_eq id) kept) refl) (All-arranged P order kept all)
   where
     here : (o : Option KeptParagraph) → lookup (nat_eq id) kept ≡ o → All P (option_to_list (option_map (λ k. (id, k)) o))
     here None e = All-nil P
@@ -156,20 +156,20 @@ in_order-permutation qs ps apart moved =
 -- ---- histories
 
 -- what corrections took away, one entry more
-pub HaveTaken-push : (original : List ℕ) (entries : List KeptEntry) (entry : KeptEntry) → HaveTaken original entries → TookFrom (corrected original (entries_kept entries)) entry → HaveTaken original (entries ++ entry ∷ [])
+pub HaveTaken-push : (original : List ℕ) (entries : List KeptEntry) (entry : KeptEntry) → HaveTaken original entries → TookFrom (corrected_print original (entries_kept entries)) entry → HaveTaken original (entries ++ entry ∷ [])
 HaveTaken-push original entries entry taken last i e at =
     let within = slice_get_within (entries ++ entry ∷ []) i e at in
     let long = length-append entries (entry ∷ []) in
     elim (cases_lt i (length entries)) [
       | inl before ↦
-          subst (λ (t : List KeptEntry). TookFrom (corrected original (entries_kept t)) e) (sym (take-append-le i entries (entry ∷ []) (omega arith)))
+          subst (λ (t : List KeptEntry). TookFrom (corrected_print original (entries_kept t)) e) (sym (take-append-le i entries (entry ∷ []) (omega arith)))
           (taken i e (sym (slice_get-append_left entries (entry ∷ []) i before) ∙ at))
       | inr past ↦
           let here : i ≡ length entries = omega arith in
           let both : Some entry ≡ Some e = sym (here-at entries [] entry) ∙ (ap (slice_get (entries ++ entry ∷ [])) (sym here) ∙ at) in
           let same : entry ≡ e = cc in
           let whole : take i (entries ++ entry ∷ []) ≡ entries = ap (λ (k : ℕ). take k (entries ++ entry ∷ [])) here ∙ take-append_seam entries (entry ∷ []) in
-          subst (λ (t : List KeptEntry). TookFrom (corrected original (entries_kept t)) e) (sym whole) (subst (TookFrom (corrected original (entries_kept entries))) same last)
+          subst (λ (t : List KeptEntry). TookFrom (corrected_print original (entries_kept t)) e) (sym whole) (subst (TookFrom (corrected_print original (entries_kept entries))) same last)
     ]
 
 -- ---- books
@@ -259,30 +259,30 @@ module _ (version : ℕ) (tables : KeptTables) (paragraphs : KeptParagraphs) (ma
 
   module _ (next : Book) (w : ℕ) (name : List ℕ) (table : BookTable) (cells : List (Option (List ℕ))) (at : w ≡ next.version)
       (makes : Makes book (Table name table.text) next) (means : Means table.text table.rules) (renews : AreRenewed book name table.rules cells) where
-    kept-renewed : (entry : ℕ × KeptParagraph) → paragraph_kept (renewed cells entry) ≡ paragraph_kept entry
+    kept-renewed : (entry : ℕ × KeptParagraph) → paragraph_kept (with_new_cells cells entry) ≡ paragraph_kept entry
     kept-renewed (id, kept) = by (new_cells cells id)
       where
         by : (o : Option (List ℕ)) → paragraph_kept (id, option_map_or (λ new. record kept { cells = new }) o kept) ≡ paragraph_kept (id, kept)
         by None = refl
         by (Some new) = refl
 
-    marks-renewed : (entry : ℕ × KeptParagraph) → (renewed cells entry).1.marks ≡ entry.1.marks
+    marks-renewed : (entry : ℕ × KeptParagraph) → (with_new_cells cells entry).1.marks ≡ entry.1.marks
     marks-renewed (id, kept) = by (new_cells cells id)
       where
         by : (o : Option (List ℕ)) → (option_map_or (λ new. record kept { cells = new }) o kept).marks ≡ kept.marks
         by None = refl
         by (Some new) = refl
 
-    all-renewed : (kept : KeptParagraphs) → map paragraph_kept (map (renewed cells) kept) ≡ map paragraph_kept kept
+    all-renewed : (kept : KeptParagraphs) → map paragraph_kept (map (with_new_cells cells) kept) ≡ map paragraph_kept kept
     all-renewed [] = refl
     all-renewed (entry ∷ kept) = λ i. kept-renewed entry i ∷ all-renewed kept i
 
-    pub next-replaced : book_kept w (with_table name table tables) (map (renewed cells) paragraphs) marks ≡ next
-    next-replaced = next-with_table next w name table (map (renewed cells) paragraphs) at makes (all-renewed paragraphs)
+    pub next-replaced : book_kept w (with_table name table tables) (map (with_new_cells cells) paragraphs) marks ≡ next
+    next-replaced = next-with_table next w name table (map (with_new_cells cells) paragraphs) at makes (all-renewed paragraphs)
 
     IsKeptParagraph-renewed : (entry : ℕ × KeptParagraph) → IsKeptParagraph tables entry
         → MatchOption (new_cells cells entry.0) (entry.1.table ≢ name) (λ new. (entry.1.table ≡ name) × AreCellsOf table.rules (print_of (paragraph_kept entry)) new)
-        → IsKeptParagraph (with_table name table tables) (renewed cells entry)
+        → IsKeptParagraph (with_table name table tables) (with_new_cells cells entry)
     IsKeptParagraph-renewed (id, kept) k m = by (new_cells cells id) m
       where
         by : (o : Option (List ℕ)) → MatchOption o (kept.table ≢ name) (λ new. (kept.table ≡ name) × AreCellsOf table.rules (print_of (paragraph_kept (id, kept))) new)
@@ -298,18 +298,18 @@ module _ (version : ℕ) (tables : KeptTables) (paragraphs : KeptParagraphs) (ma
           taken = k.taken;
         }
 
-    pub IsKept-replaced : IsKept version tables paragraphs marks → IsSound next → IsKept w (with_table name table tables) (map (renewed cells) paragraphs) marks
+    pub IsKept-replaced : IsKept version tables paragraphs marks → IsSound next → IsKept w (with_table name table tables) (map (with_new_cells cells) paragraphs) marks
     IsKept-replaced is sound =
         let Renews : Paragraph → Type 0 = λ p. MatchOption (new_cells cells p.id) (p.table ≢ name) (λ new. (p.table ≡ name) × AreCellsOf table.rules (print_of p) new) in
         let each = All-from_map Renews paragraph_kept paragraphs renews in
         record {
           sound = subst IsSound (sym next-replaced) sound;
           means = means-with_table name table tables means is.means;
-          translated = All-map (IsKeptParagraph (with_table name table tables)) (renewed cells) paragraphs
-              (All-weaker (Contains paragraphs) (λ entry. IsKeptParagraph (with_table name table tables) (renewed cells entry))
+          translated = All-map (IsKeptParagraph (with_table name table tables)) (with_new_cells cells) paragraphs
+              (All-weaker (Contains paragraphs) (λ entry. IsKeptParagraph (with_table name table tables) (with_new_cells cells entry))
               (λ entry c. IsKeptParagraph-renewed entry (All-contains (IsKeptParagraph tables) paragraphs entry is.translated c) (All-contains (λ e. Renews (paragraph_kept e)) paragraphs entry each c))
               paragraphs (All-contains_itself paragraphs));
-          marked = All-map (HasMarks marks) (renewed cells) paragraphs (All-weaker (HasMarks marks) (λ entry. HasMarks marks (renewed cells entry)) (λ entry has. marks-renewed entry ∙ has) paragraphs is.marked);
+          marked = All-map (HasMarks marks) (with_new_cells cells) paragraphs (All-weaker (HasMarks marks) (λ entry. HasMarks marks (with_new_cells cells entry)) (λ entry has. marks-renewed entry ∙ has) paragraphs is.marked);
         }
 
   -- the table of a text is there
@@ -375,7 +375,7 @@ module _ (version : ℕ) (tables : KeptTables) (paragraphs : KeptParagraphs) (ma
       (given : IsKeptTyped book kept.table text kept) (order_is : order ≡ ids_of next.paragraphs)
       (is : IsKept version tables paragraphs marks) (sound : IsSound next) where
     abbrev new : Paragraph
-    new = typed (next_id book) kept.table text
+    new = new_paragraph (next_id book) kept.table text
 
     abbrev all : KeptParagraphs
     all = paragraphs ++ (length paragraphs + 1, kept) ∷ []
@@ -406,16 +406,16 @@ module _ (version : ℕ) (tables : KeptTables) (paragraphs : KeptParagraphs) (ma
         subst (λ (n : ℕ). IsPermutation (range_with_len 1 n) order) count
         (subst (IsPermutation (range_with_len 1 (length next.paragraphs))) (sym order_is) sound.ids)
 
-    pub next-typed : book_kept w tables (arranged order all) marks ≡ next
+    pub next-typed : book_kept w tables (in_order_of order all) marks ≡ next
     next-typed =
-        next-with_paragraphs next w (with_paragraph anchor new before) (arranged order all) at makes
+        next-with_paragraphs next w (with_paragraph anchor new before) (in_order_of order all) at makes
         (kept-arranged order all
         ∙ (ap (in_order order) kept-typed
         ∙ (ap (λ (o : List ℕ). in_order o (before ++ new ∷ [])) order_is
         ∙ (in_order-permutation next.paragraphs (before ++ new ∷ []) (paragraphs-apart next sound) moved-typed
         ∙ ap (λ (b : Book). b.paragraphs) makes))))
 
-    pub IsKept-typed : IsKept w tables (arranged order all) marks
+    pub IsKept-typed : IsKept w tables (in_order_of order all) marks
     IsKept-typed =
         let entry : ℕ × KeptParagraph = (length paragraphs + 1, kept) in
         let print : kept.print ≡ print_of (paragraph_kept entry) = given.print ∙ sym (ap (λ (p : Paragraph). print_of p) given.kept_is) in
@@ -527,15 +527,15 @@ module _ (version : ℕ) (tables : KeptTables) (paragraphs : KeptParagraphs) (ma
         subst (λ (n : ℕ). IsPermutation (range_with_len 1 n) order) count
         (subst (IsPermutation (range_with_len 1 (length next.paragraphs))) (sym order_is) sound.ids)
 
-    pub next-reordered : book_kept w tables (arranged order paragraphs) marks ≡ next
+    pub next-reordered : book_kept w tables (in_order_of order paragraphs) marks ≡ next
     next-reordered =
-        next-with_paragraphs next w (with_move id anchor book) (arranged order paragraphs) at makes
+        next-with_paragraphs next w (with_move id anchor book) (in_order_of order paragraphs) at makes
         (kept-arranged order paragraphs
         ∙ (ap (λ (o : List ℕ). in_order o before) order_is
         ∙ (in_order-permutation next.paragraphs before (paragraphs-apart next sound) moved-reordered
         ∙ ap (λ (b : Book). b.paragraphs) makes)))
 
-    pub IsKept-reordered : IsKept w tables (arranged order paragraphs) marks
+    pub IsKept-reordered : IsKept w tables (in_order_of order paragraphs) marks
     IsKept-reordered = record {
       sound = subst IsSound (sym next-reordered) sound;
       means = is.means;

@@ -7,11 +7,11 @@ use Rattle.desk_book.specs.declared.history.Correction.{Correction}
 use Rattle.desk_book.specs.declared.history.KeptEntry.{KeptEntry}
 use Rattle.desk_book.specs.declared.history.KeptEntry.TheVariants.{Corrects as KeptCorrects}
 use Rattle.desk_model.specs.Book.{Corrects, Entry, Replacement, Undoes}
-use Rattle.desk_book.specs.Corrected.{replaced_by}
+use Rattle.desk_book.specs.Corrections.{replaced_by}
 use Rattle.desk_book.specs.Histories.{IsNewestInForce, LeavePrint, entries_kept, entry_kept, replacement_kept}
-use Rattle.desk_model.specs.Print.{corrected, replaced}
-use Rattle.desk_book.proofs.Planned.Replacing.{replaced-back}
-use Rattle.desk_model.proofs.Books.HistoryLists.{corrected-before, corrected-undone}
+use Rattle.desk_model.specs.Print.{corrected_print, with_replacement}
+use Rattle.desk_book.proofs.Plans.Replacing.{replaced-back}
+use Rattle.desk_model.proofs.Books.HistoryLists.{corrected_print-before, corrected_print-undone}
 use Rattle.desk_model.proofs.Books.SoundEntries.{length-replaced}
 
 module _ (original : List ℕ) (entries : List KeptEntry) (print : List ℕ) (left : LeavePrint original entries print) (number : ℕ) (c : Correction) (force : IsNewestInForce entries number c) where
@@ -22,13 +22,13 @@ module _ (original : List ℕ) (entries : List KeptEntry) (print : List ℕ) (le
   r = replacement_kept c
 
   abbrev before : List ℕ
-  before = corrected original (h ++ Undoes number ∷ [])
+  before = corrected_print original (h ++ Undoes number ∷ [])
 
-  now_is : print ≡ replaced before r
-  now_is = left.print_is ∙ corrected-undone original h number r force.newest_is
+  now_is : print ≡ with_replacement before r
+  now_is = left.print_is ∙ corrected_print-undone original h number r force.newest_is
 
-  then_is : before ≡ corrected original (take (number - 1) h)
-  then_is = corrected-before original h left.sound number r force.newest_is
+  then_is : before ≡ corrected_print original (take (number - 1) h)
+  then_is = corrected_print-before original h left.sound number r force.newest_is
 
   -- what gave way is there again
   pub taken-span : c.start + length c.taken ≤ length before
@@ -38,8 +38,8 @@ module _ (original : List ℕ) (entries : List KeptEntry) (print : List ℕ) (le
 
   taken_is : c.taken ≡ take (length c.taken) (drop c.start before)
   taken_is =
-      let same : corrected original (entries_kept (take (number - 1) entries)) ≡ before =
-      ap (corrected original) (sym (take-map entry_kept (number - 1) entries)) ∙ sym then_is in
+      let same : corrected_print original (entries_kept (take (number - 1) entries)) ≡ before =
+      ap (corrected_print original) (sym (take-map entry_kept (number - 1) entries)) ∙ sym then_is in
       subst (λ (t : List ℕ). c.taken ≡ take (length c.taken) (drop c.start t)) same (left.taken (number - 1) (KeptCorrects c) force.at)
 
   -- so many characters the print has after it

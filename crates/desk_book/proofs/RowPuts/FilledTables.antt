@@ -16,14 +16,14 @@ use Rattle.desk_book.specs.declared.marks.KeptMark.{KeptMark}
 use Rattle.desk_book.specs.declared.paragraphs.Paragraph.{Paragraph as KeptParagraph}
 use Rattle.desk_model.specs.Book.{Book, Entry, Paragraph}
 use Rattle.desk_book.specs.ChangePuts.{entry_row}
-use Rattle.desk_model.specs.Lent.{row_number}
+use Rattle.desk_model.specs.Loans.{row_number}
 use Rattle.desk_parts.specs.FileRows.{HasEntryTexts, spelled_entry}
 use Rattle.desk_model.specs.FilledRows.{AreEntriesOf, Fills}
 use Rattle.desk_book.specs.Filling.{HaveHistories, braille_from, braille_put, histories_from, history_puts}
 use Rattle.desk_book.specs.Histories.{entries_kept, entry_kept}
 use Rattle.desk_book.specs.Kept.{IsKept, IsKeptParagraph, KeptParagraphs, KeptTables, book_kept, paragraph_kept}
 use Rattle.desk_parts.specs.Puts.{PutBook, PutCache, PutEntry, RowPut, RowPuts}
-use Rattle.desk_parts.specs.Rows.{Cached, NamedCorr}
+use Rattle.desk_parts.specs.Rows.{ParaCells, NamedCorr}
 use Rattle.desk_model.specs.Shows.{AreCached, IsCached, entry_row_of, entry_rows_of}
 use Rattle.desk_model.specs.Sound.{IsSoundParagraph}
 use Rattle.desk_model.proofs.Lists.Items.{All-from_map, drop-past, drop-there}
@@ -114,10 +114,10 @@ module _ (book : Book) where
 -- ---- braille
 
 -- the row of a paragraph's braille
-abbrev cached_row : ℕ × KeptParagraph → Cached
+abbrev cached_row : ℕ × KeptParagraph → ParaCells
 cached_row entry = record { para = row_number entry.0; cells = entry.1.cells }
 
-abbrev pub caches_of : KeptParagraphs → List Cached
+abbrev pub caches_of : KeptParagraphs → List ParaCells
 caches_of kept = map cached_row kept
 
 pub caches-put : (kept : KeptParagraphs) → map braille_put kept ≡ map PutCache (caches_of kept)
@@ -141,9 +141,9 @@ module _ (version : ℕ) (tables : KeptTables) (kept : KeptParagraphs) (marks : 
   pub of-book : AreEntriesOf book (entries_of kept)
   of-book = (texts-all book kept sound-kept, IsPermutation-same _ (flat_map entry_rows_of book.paragraphs) (spelled-all book kept sound-kept))
 
-  small-ids : map (λ (row : Cached). row.para) (caches_of kept) ≡ map (λ (p : Paragraph). pos p.id) book.paragraphs
+  small-ids : map (λ (row : ParaCells). row.para) (caches_of kept) ≡ map (λ (p : Paragraph). pos p.id) book.paragraphs
   small-ids =
-      map-map (λ (row : Cached). row.para) cached_row kept
+      map-map (λ (row : ParaCells). row.para) cached_row kept
       ∙ (map-agree (λ (entry : ℕ × KeptParagraph). row_number entry.0) (λ (entry : ℕ × KeptParagraph). pos entry.0) kept
       (All-weaker (IsSoundKept book) (λ (entry : ℕ × KeptParagraph). row_number entry.0 ≡ pos entry.0) (λ entry facts. let few = facts.0 in number-small entry.0 (omega arith)) kept sound-kept)
       ∙ sym (map-map (λ (p : Paragraph). pos p.id) paragraph_kept kept))

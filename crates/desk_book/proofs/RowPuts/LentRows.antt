@@ -15,7 +15,7 @@ use Rattle.desk_command.specs.declared.command.Command.TheVariants.{Table}
 use Rattle.desk_parts.specs.Puts.{RowPut, SetPlace, SetPrint, SetVersion}
 use Rattle.desk_model.specs.Book.{Book, Mark}
 use Rattle.desk_book.specs.ChangePuts.{cache_put, cells_from, cells_put, effect_puts, elsewhere_from, elsewhere_put, entry_row, further_from, further_put, span_put, stays_in, tab_put}
-use Rattle.desk_model.specs.Lent.{AreLent, Comes, GetsEntry, IsLent, Reorders, next_entry_number, row_number}
+use Rattle.desk_model.specs.Loans.{AreLent, Comes, GetsEntry, IsLent, Reorders, next_entry_number, row_number}
 use Rattle.desk_book.specs.Changes.{Carries, Change, Does, change_puts, puts-change_by, has-effect}
 use Rattle.desk_book.specs.Histories.{entry_kept}
 use Rattle.desk_model.specs.Marks.{mark_moved_by}

@@ -10,11 +10,11 @@ use Rattle.std.proofs.lemmas.List.Elements.{All-cons, All-contains, All-filter, 
 use Rattle.std.proofs.lemmas.List.Sorted.{IsPermutation-cons, IsPermutation-refl, IsPermutation-sym, IsPermutation-to_front, IsPermutation-trans}
 use Rattle.desk_book.specs.declared.marks.KeptMark.{KeptMark}
 use Rattle.desk_model.specs.Book.{Book, Mark}
-use Rattle.desk_model.specs.Lent.{LeadTo, row_number}
+use Rattle.desk_model.specs.Loans.{LeadTo, row_number}
 use Rattle.desk_book.specs.ChangePuts.{kept_mark_row}
 use Rattle.desk_parts.specs.FileRows.{HasMarkText, format_of, spelled_mark}
 use Rattle.desk_book.specs.Kept.{mark_kept}
-use Rattle.desk_parts.specs.Puts.{PutMark, SetVersion, put_in}
+use Rattle.desk_parts.specs.Puts.{PutMark, SetVersion, put_by_key}
 use Rattle.desk_parts.specs.Rows.{Mark as MarkRow}
 use Rattle.desk_model.specs.Shows.{flag_number, mark_row_of}
 use Rattle.desk_model.specs.Sound.{IsSound, IsSoundMark}
@@ -48,13 +48,13 @@ module _ {X : Type 0} (spelled : X → X) (has_key key : X → Bool) (x : X) whe
       ]
 
   pub IsPermutation-put_in : (xs ys : List X) → All (λ y. has_key y ≡ key (spelled y)) xs → IsPermutation (map spelled xs) ys
-      → IsPermutation (map spelled (put_in has_key x xs)) (spelled x ∷ filter (λ y. not (key y)) ys)
+      → IsPermutation (map spelled (put_by_key has_key x xs)) (spelled x ∷ filter (λ y. not (key y)) ys)
   IsPermutation-put_in xs ys all moved =
       subst (λ (zs : List X). IsPermutation (spelled x ∷ zs) (spelled x ∷ filter (λ y. not (key y)) ys)) (sym (filter-spelled xs all))
       (IsPermutation-cons (spelled x) (filter (λ y. not (key y)) (map spelled xs)) (filter (λ y. not (key y)) ys)
       (IsPermutation-filter (λ y. not (key y)) (map spelled xs) ys moved))
 
-pub All-put_in : {X : Type 0} (P : X → Type 0) (has_key : X → Bool) (x : X) (xs : List X) → P x → All P xs → All P (put_in has_key x xs)
+pub All-put_in : {X : Type 0} (P : X → Type 0) (has_key : X → Bool) (x : X) (xs : List X) → P x → All P xs → All P (put_by_key has_key x xs)
 All-put_in P has_key x xs here all = All-cons P x (filter (λ y. not (has_key y)) xs) here (All-filter (λ y. not (has_key y)) P xs all)
 
 -- ---- a mark more
@@ -129,9 +129,9 @@ module _ (book : Book) (kept : KeptMark) (sound : IsSound book) where
           let moved = IsPermutation-put_in spelled_mark key key row rows.marks old (λ k d within. refl) shows.marks in
           let all : filter (λ m. not (key m)) old ≡ old = filter-all (λ m. not (key m)) old others-apart in
           let now : map mark_row_of (book.marks ++ mark ∷ []) ≡ old ++ mark_row_of mark ∷ [] = map-append mark_row_of book.marks (mark ∷ []) in
-          subst (IsPermutation (map spelled_mark (put_in key row rows.marks))) (sym now)
-          (IsPermutation-trans (map spelled_mark (put_in key row rows.marks)) (mark_row_of mark ∷ old) (old ++ mark_row_of mark ∷ [])
-          (subst (IsPermutation (map spelled_mark (put_in key row rows.marks))) (λ i. spelled-row i ∷ all i) moved)
+          subst (IsPermutation (map spelled_mark (put_by_key key row rows.marks))) (sym now)
+          (IsPermutation-trans (map spelled_mark (put_by_key key row rows.marks)) (mark_row_of mark ∷ old) (old ++ mark_row_of mark ∷ [])
+          (subst (IsPermutation (map spelled_mark (put_by_key key row rows.marks))) (λ i. spelled-row i ∷ all i) moved)
           (IsPermutation-sym (old ++ mark_row_of mark ∷ []) (mark_row_of mark ∷ old) (IsPermutation-to_front old (mark_row_of mark))));
       caches = λ caches same. AreCached-same book marked caches (IsPermutation-refl (map id_number book.paragraphs)) (IsCached-marks book marked refl refl) (shows.caches caches same);
     }

@@ -9,12 +9,12 @@ use Rattle.std.proofs.lemmas.Bool.{cases_Bool, cond-true, cond-false, eq-eqb}
 use Rattle.std.proofs.lemmas.List.Elements.{All-contains_itself, All-weaker, filter_agree}
 use Rattle.std.proofs.lemmas.List.Sorted.{IsPermutation-map, IsPermutation-sym}
 use Rattle.desk_model.specs.Book.{Book, Paragraph, paragraph_of}
-use Rattle.desk_model.specs.Lent.{LeadTo, row_number}
+use Rattle.desk_model.specs.Loans.{LeadTo, row_number}
 use Rattle.desk_book.specs.ChangePuts.{cache_put}
 use Rattle.desk_book.specs.Changes.{AreCellsByTable}
 use Rattle.desk_parts.specs.FileRows.{HasParaTexts, format_of, spelled_para}
-use Rattle.desk_parts.specs.Puts.{PutCache, SetTable, SetVersion, put_in}
-use Rattle.desk_parts.specs.Rows.{Cached, Para}
+use Rattle.desk_parts.specs.Puts.{PutCache, SetTable, SetVersion, put_by_key}
+use Rattle.desk_parts.specs.Rows.{ParaCells, Para}
 use Rattle.desk_model.specs.Shows.{AreCached, IsCached, paras_of}
 use Rattle.desk_model.specs.Sound.{IsSound}
 use Rattle.desk_command.specs.Characters.{AreCharacters}
@@ -89,7 +89,7 @@ module _ (book : Book) (id : ℕ) (name cells : List ℕ) (sound : IsSound book)
         );
       }
 
-  cached-others : (row : Cached) → int_eq row.para (pos id) ≡ false → IsCached book row → IsCached with_table row
+  cached-others : (row : ParaCells) → int_eq row.para (pos id) ≡ false → IsCached book row → IsCached with_table row
   cached-others row other is =
       let p : Paragraph = is.paragraph in
       let apart : nat_eq p.id id ≡ false = sym (int_eq-pos p.id id) ∙ (ap (λ n. int_eq n (pos id)) (sym is.named) ∙ other) in
@@ -101,7 +101,7 @@ module _ (book : Book) (id : ℕ) (name cells : List ℕ) (sound : IsSound book)
         cells = IsBraille-same book with_table p p refl refl row.cells is.cells;
       }
 
-  cached-all : (rows : List Cached) → AreCached book rows → AreCached with_table (put_in (λ c. int_eq c.para (pos id)) (record { para = pos id; cells = cells }) rows)
+  cached-all : (rows : List ParaCells) → AreCached book rows → AreCached with_table (put_by_key (λ c. int_eq c.para (pos id)) (record { para = pos id; cells = cells }) rows)
   cached-all rows is =
       let same : map id_number book.paragraphs ≡ map id_number with_table.paragraphs = numbers-same book.paragraphs with_table.paragraphs (sym (ids-with_change id retabled (λ p. refl) book.paragraphs)) in
       AreCached-put book with_table rows (record { para = pos id; cells = cells })
@@ -125,7 +125,7 @@ module _ (book : Book) (id : ℕ) (name cells : List ℕ) (sound : IsSound book)
         (IsPermutation-set spelled_para (para_set id retabled_bytes) (para_set id retabled_row) spelled-set rows.paras (paras_of book.paragraphs) shows.paragraphs);
     entries = subst (IsPermutation _) (sym (entries-changed id retabled (λ p. refl) book.paragraphs)) shows.entries;
     marks = shows.marks;
-    caches = ForSome-map (put_in (λ c. int_eq c.para (pos id)) (record { para = pos id; cells = cells })) (AreCached book) (AreCached with_table) rows.caches shows.caches cached-all;
+    caches = ForSome-map (put_by_key (λ c. int_eq c.para (pos id)) (record { para = pos id; cells = cells })) (AreCached book) (AreCached with_table) rows.caches shows.caches cached-all;
   }
     where
       spelled-set : (p : Para) → spelled_para (para_set id retabled_bytes p) ≡ para_set id retabled_row (spelled_para p)

@@ -13,14 +13,14 @@ use Rattle.std.proofs.lemmas.List.FromFn.{length-range_with_len, get_or-range_wi
 use Rattle.std.proofs.lemmas.List.Sorted.{IsPermutation-refl}
 use Rattle.desk_command.specs.declared.style.Style.{Style}
 use Rattle.desk_model.specs.Book.{Book, Mark, Paragraph}
-use Rattle.desk_model.specs.Lent.{LeadTo, row_number}
+use Rattle.desk_model.specs.Loans.{LeadTo, row_number}
 use Rattle.desk_parts.specs.FileRows.{HasParaTexts, HasMarkText, format_of, spelled_mark, spelled_para}
 use Rattle.desk_parts.specs.Puts.{SetFlags, SetResolved, SetVersion}
-use Rattle.desk_parts.specs.Rows.{Cached, Mark as MarkRow, Para}
+use Rattle.desk_parts.specs.Rows.{Mark as MarkRow, Para, ParaCells}
 use Rattle.desk_model.specs.Shows.{IsCached, entry_rows_of, flag_number, mark_row_of, para_of, paras_of, style_number}
 use Rattle.desk_model.specs.Sound.{IsSound}
 use Rattle.desk_model.specs.Step.{next_with_marks, next_with_paragraphs, resolved_by, with_change, with_resolved}
-use Rattle.desk_model.specs.Translated.{IsBraille}
+use Rattle.desk_model.specs.Translation.{IsBraille}
 use Rattle.desk_model.proofs.Lists.Items.{All-from_map}
 use Rattle.desk_model.proofs.Lists.Members.{Contains-map}
 use Rattle.desk_model.proofs.Books.ParagraphLists.{changed, ids-with_change}
@@ -63,7 +63,7 @@ module _ (book : Book) (sound : IsSound book) where
       omega arith))
 
 -- a row of braille of a book with other marks
-pub IsCached-marks : (book next : Book) → next.tables ≡ book.tables → next.paragraphs ≡ book.paragraphs → (row : Cached) → IsCached book row → IsCached next row
+pub IsCached-marks : (book next : Book) → next.tables ≡ book.tables → next.paragraphs ≡ book.paragraphs → (row : ParaCells) → IsCached book row → IsCached next row
 IsCached-marks book next tables paragraphs row is = record {
   paragraph = is.paragraph;
   there = subst (λ (ps : List Paragraph). Contains ps is.paragraph) (sym paragraphs) is.there;
@@ -116,7 +116,7 @@ module _ (book : Book) (id : ℕ) (style : Style) (begins struck : Bool) (sound 
   abbrev with_flags : Book
   with_flags = next_with_paragraphs book (with_change id flagged book.paragraphs)
 
-  flagged-cached : (row : Cached) → IsCached book row → IsCached with_flags row
+  flagged-cached : (row : ParaCells) → IsCached book row → IsCached with_flags row
   flagged-cached row is = record {
     paragraph = changed id flagged is.paragraph;
     there = Contains-map (changed id flagged) book.paragraphs is.paragraph is.there;

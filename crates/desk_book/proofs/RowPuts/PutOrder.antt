@@ -13,11 +13,11 @@ use Rattle.std.proofs.lemmas.List.Sorted.{Contains-permutation, IsPermutation-ap
 use Rattle.std.proofs.lemmas.Map.Keys.{IsDistinct-head, IsDistinct-tail}
 use Rattle.std.proofs.lemmas.Simd.{map-map}
 use Rattle.desk_model.specs.Book.{Book, Paragraph}
-use Rattle.desk_model.specs.Lent.{LeadTo, row_number}
+use Rattle.desk_model.specs.Loans.{LeadTo, row_number}
 use Rattle.desk_book.specs.ChangePuts.{elsewhere_from, elsewhere_put, stays_in}
 use Rattle.desk_parts.specs.FileRows.{FileRows, HasParaTexts, format_of, spelled_para}
 use Rattle.desk_parts.specs.Puts.{RowPut, SetPlace, SetVersion, with_put, with_puts}
-use Rattle.desk_parts.specs.Rows.{Cached, Para}
+use Rattle.desk_parts.specs.Rows.{ParaCells, Para}
 use Rattle.desk_model.specs.Shows.{IsCached, Shows, entry_rows_of, para_of, paras_of}
 use Rattle.desk_model.specs.Sound.{IsSound}
 use Rattle.desk_model.specs.Step.{next_with_paragraphs}
@@ -220,7 +220,7 @@ module _ (book : Book) (ps : List Paragraph) (sound : IsSound book) (moved : IsP
         subst (λ (rows : List Para). IsPermutation rows (paras_of ps)) (sym first)
         (subst (IsPermutation (map new book.paragraphs)) last (IsPermutation-map new book.paragraphs ps moved))
 
-    cached-on : (row : Cached) → IsCached book row → IsCached next row
+    cached-on : (row : ParaCells) → IsCached book row → IsCached next row
     cached-on row is = record {
       paragraph = is.paragraph;
       there = Contains-permutation book.paragraphs ps is.paragraph moved is.there;

@@ -18,15 +18,15 @@ use Rattle.louis_translate.specs.Tiling.{Tiles}
 use Rattle.desk_book.specs.declared.history.KeptEntry.{KeptEntry}
 use Rattle.desk_book.specs.declared.paragraphs.Paragraph.{Paragraph as KeptParagraph}
 use Rattle.desk_model.specs.Book.{Book, Paragraph, text_of}
-use Rattle.desk_model.specs.Lent.{LeadTo, row_number}
+use Rattle.desk_model.specs.Loans.{LeadTo, row_number}
 use Rattle.desk_book.specs.ChangePuts.{cache_put, further_from, kept_row}
 use Rattle.desk_book.specs.Changes.{AreCellsOf}
 use Rattle.desk_parts.specs.FileRows.{FileRows, HasParaTexts, format_of, spelled_para}
 use Rattle.desk_book.specs.Histories.{entries_kept}
 use Rattle.desk_book.specs.Kept.{paragraph_kept}
-use Rattle.desk_model.specs.Print.{corrected, print_of}
-use Rattle.desk_parts.specs.Puts.{PutCache, PutPara, RowPut, SetVersion, put_in, with_put, with_puts}
-use Rattle.desk_parts.specs.Rows.{Cached, NamedCorr, Para}
+use Rattle.desk_model.specs.Print.{corrected_print, print_of}
+use Rattle.desk_parts.specs.Puts.{PutCache, PutPara, RowPut, SetVersion, put_by_key, with_put, with_puts}
+use Rattle.desk_parts.specs.Rows.{NamedCorr, Para, ParaCells}
 use Rattle.desk_model.specs.Shows.{AreCached, IsCached, Shows, entry_row_of, entry_rows_of, flag_number, para_of, paras_of, style_number}
 use Rattle.desk_model.specs.Sound.{IsSound, IsSoundParagraph}
 use Rattle.desk_model.specs.Step.{next_id, next_with_paragraphs}
@@ -180,7 +180,7 @@ module _ (book : Book) (ps : List Paragraph) (kept : KeptParagraph) (place : ℕ
     characters = name-characters kept.table (IsSoundTable-found next after kept.table is_sound.text is_sound.found).named
 
     print_is : kept.print ≡ print_of new
-    print_is = print ∙ sym (ap (λ (h : List KeptEntry). corrected kept.original (entries_kept h)) fresh)
+    print_is = print ∙ sym (ap (λ (h : List KeptEntry). corrected_print kept.original (entries_kept h)) fresh)
 
     abbrev row : Para
     row = kept_row number (place + 1) kept
@@ -250,7 +250,7 @@ module _ (book : Book) (ps : List Paragraph) (kept : KeptParagraph) (place : ℕ
         ap not (int_eq-pos p.id number ∙ ne_eqb p.id number (λ same. omega arith))) book.paragraphs (All-contains_itself book.paragraphs))) in
         subst (λ (ns : List ℤ). IsPermutation (pos number ∷ ns) (map id_number ps)) (sym all) (IsPermutation-map id_number (new ∷ book.paragraphs) ps moved)
 
-    abbrev cached : Cached
+    abbrev cached : ParaCells
     cached = record { para = pos number; cells = kept.cells }
 
     cached-here : IsCached next cached
@@ -266,7 +266,7 @@ module _ (book : Book) (ps : List Paragraph) (kept : KeptParagraph) (place : ℕ
       );
     }
 
-    cached-others : (other : Cached) → IsCached book other → IsCached next other
+    cached-others : (other : ParaCells) → IsCached book other → IsCached next other
     cached-others other is = record {
       paragraph = is.paragraph;
       there = Contains-permutation (new ∷ book.paragraphs) ps is.paragraph moved (Contains-behind new is.paragraph book.paragraphs is.there);
@@ -283,12 +283,12 @@ module _ (book : Book) (ps : List Paragraph) (kept : KeptParagraph) (place : ℕ
     abbrev key : Para → Bool
     key p = int_eq p.id (row_number number)
 
-    spelled-rows : (rows : FileRows) → Shows rows book → IsPermutation (map spelled_para (put_in key row rows.paras)) (para_of (place + 1, new) ∷ paras_of book.paragraphs)
+    spelled-rows : (rows : FileRows) → Shows rows book → IsPermutation (map spelled_para (put_by_key key row rows.paras)) (para_of (place + 1, new) ∷ paras_of book.paragraphs)
     spelled-rows rows shows =
         let olds : List Para = paras_of book.paragraphs in
         let put = IsPermutation-put_in spelled_para key key row rows.paras olds (λ k d lt. refl) shows.paragraphs in
         let all : filter (λ p. not (key p)) olds ≡ olds = filter-all (λ p. not (key p)) olds others-rows in
-        subst (IsPermutation (map spelled_para (put_in key row rows.paras))) (λ i. spelled-row i ∷ all i) put
+        subst (IsPermutation (map spelled_para (put_by_key key row rows.paras))) (λ i. spelled-row i ∷ all i) put
       where
         others-rows : All (λ (p : Para). not (key p) ≡ true) (paras_of book.paragraphs)
         others-rows = subst (All (λ (p : Para). not (key p) ≡ true)) (sym (paras-indexed 1 book.paragraphs (paragraphs-apart book sound)))
@@ -301,23 +301,23 @@ module _ (book : Book) (ps : List Paragraph) (kept : KeptParagraph) (place : ℕ
     shown-placed : (rows : FileRows) → Shows rows book → Shows (with_puts (map place_put es) (with_put (PutCache cached) (with_put (PutPara row) (with_put (SetVersion (row_number next.version)) rows)))) next
     shown-placed rows shows =
         let at : FileRows = with_put (PutCache cached) (with_put (PutPara row) (with_put (SetVersion (row_number next.version)) rows)) in
-        let texts : All HasParaTexts (put_in key row rows.paras) = All-put_in HasParaTexts key row rows.paras
+        let texts : All HasParaTexts (put_by_key key row rows.paras) = All-put_in HasParaTexts key row rows.paras
         (encoded-text kept.table characters, encoded-text kept.original is_sound.clean.characters, encoded-text kept.print (subst AreCharacters (sym print) is_sound.clean.characters)) shows.texts.paras in
         subst (λ (r : FileRows). Shows r next) (sym (places-put es at)) (record {
           sound = after;
           texts = record {
             tabs = shows.texts.tabs;
-            paras = All-map HasParaTexts (placed es) (put_in key row rows.paras) (All-weaker HasParaTexts (λ p. HasParaTexts (placed es p)) (placed-texts es) (put_in key row rows.paras) texts);
+            paras = All-map HasParaTexts (placed es) (put_by_key key row rows.paras) (All-weaker HasParaTexts (λ p. HasParaTexts (placed es p)) (placed-texts es) (put_by_key key row rows.paras) texts);
             entries = shows.texts.entries;
             marks = shows.texts.marks;
           };
           row = versioned (format_of rows.entries) book.version next.version rows.books after.version shows.row;
           tables = shows.tables;
-          paragraphs = IsPermutation-trans (map spelled_para (map (placed es) (put_in key row rows.paras))) (map (placed es) (para_of (place + 1, new) ∷ paras_of book.paragraphs)) (paras_of ps)
-              (IsPermutation-set spelled_para (placed es) (placed es) (placed-spelled es) (put_in key row rows.paras) (para_of (place + 1, new) ∷ paras_of book.paragraphs) (spelled-rows rows shows)) rows-placed;
+          paragraphs = IsPermutation-trans (map spelled_para (map (placed es) (put_by_key key row rows.paras))) (map (placed es) (para_of (place + 1, new) ∷ paras_of book.paragraphs)) (paras_of ps)
+              (IsPermutation-set spelled_para (placed es) (placed es) (placed-spelled es) (put_by_key key row rows.paras) (para_of (place + 1, new) ∷ paras_of book.paragraphs) (spelled-rows rows shows)) rows-placed;
           entries = IsPermutation-trans _ (flat_map entry_rows_of book.paragraphs) (flat_map entry_rows_of ps) shows.entries entries-same;
           marks = shows.marks;
-          caches = ForSome-map (put_in (λ c. int_eq c.para (pos number)) cached) (AreCached book) (AreCached next) rows.caches shows.caches
+          caches = ForSome-map (put_by_key (λ c. int_eq c.para (pos number)) cached) (AreCached book) (AreCached next) rows.caches shows.caches
               (λ caches is. AreCached-put book next caches cached ids-more cached-here (λ other apart. cached-others other) is);
         })
 

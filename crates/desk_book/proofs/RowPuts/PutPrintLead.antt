@@ -17,16 +17,16 @@ use Rattle.louis_translate.specs.Tiling.{Tiles}
 use Rattle.desk_book.specs.declared.change.PrintChange.{PrintChange}
 use Rattle.desk_parts.specs.declared.file_table.FileTable.TheVariants.{NamedCorr as NamedCorrTable}
 use Rattle.desk_model.specs.Book.{Book, Entry, Mark, Paragraph, paragraph_of}
-use Rattle.desk_model.specs.Lent.{LeadTo, row_number}
+use Rattle.desk_model.specs.Loans.{LeadTo, row_number}
 use Rattle.desk_book.specs.ChangePuts.{cache_put, entry_row, span_put}
 use Rattle.desk_book.specs.Changes.{ChangesPrint}
 use Rattle.desk_parts.specs.FileRows.{EntryRows, FileRows, HasEntryTexts, HasMarkText, HasParaTexts, Named, Unnamed, entries_in, format_of, spelled_entry, spelled_mark, spelled_para, table_of}
 use Rattle.desk_book.specs.Histories.{entry_kept}
 use Rattle.desk_model.specs.Marks.{mark_moved_by}
 use Rattle.desk_model.specs.ParagraphMarks.{marks_on}
-use Rattle.desk_model.specs.Print.{corrected, print_of, with_entry}
-use Rattle.desk_parts.specs.Puts.{PutCache, PutEntry, RowPut, SetPrint, SetVersion, put_in, with_entry_row, with_put, with_puts}
-use Rattle.desk_parts.specs.Rows.{Cached, Mark as MarkRow, NamedCorr, Para}
+use Rattle.desk_model.specs.Print.{corrected_print, print_of, with_entry}
+use Rattle.desk_parts.specs.Puts.{PutCache, PutEntry, RowPut, SetPrint, SetVersion, put_by_key, with_entry_row, with_put, with_puts}
+use Rattle.desk_parts.specs.Rows.{Mark as MarkRow, NamedCorr, Para, ParaCells}
 use Rattle.desk_model.specs.Shows.{AreCached, IsCached, Shows, book_row_of, entry_row_of, entry_rows_of, flag_number, mark_row_of, para_of, paras_of}
 use Rattle.desk_model.specs.Sound.{IsSound, IsSoundEntry, IsSoundMark, IsSoundParagraph}
 use Rattle.desk_model.specs.Step.{moved_on, next_with_entry}
@@ -112,10 +112,10 @@ module _ (book : Book) (id : ℕ) (change : PrintChange) (sound : IsSound book) 
         subst (λ (before : List Entry). IsSoundEntry p.original before entry) (take-append_seam p.history (entry ∷ []))
         (sound-more.history.entries (length p.history) entry (here-at p.history [] entry))
 
-    short : length (corrected p.original p.history) ≤ 4000
+    short : length (corrected_print p.original p.history) ≤ 4000
     short =
         let s = IsSoundParagraph-found book sound id p given.there in
-        subst (λ (h : List Entry). length (corrected p.original h) ≤ 4000) (take-length p.history) (s.history.short (length p.history) (omega arith))
+        subst (λ (h : List Entry). length (corrected_print p.original h) ≤ 4000) (take-length p.history) (s.history.short (length p.history) (omega arith))
 
     small : id ≤ 20000
     small = let within = (paragraph_of-within book sound id p given.there).1 in let most = sound.few_paragraphs in omega arith
@@ -197,7 +197,7 @@ module _ (book : Book) (id : ℕ) (change : PrintChange) (sound : IsSound book) 
           );
         }
 
-    cached-others : (row : Cached) → int_eq row.para (pos id) ≡ false → IsCached book row → IsCached next row
+    cached-others : (row : ParaCells) → int_eq row.para (pos id) ≡ false → IsCached book row → IsCached next row
     cached-others row other is =
         let q : Paragraph = is.paragraph in
         let apart : nat_eq q.id id ≡ false = sym (int_eq-pos q.id id) ∙ (ap (λ n. int_eq n (pos id)) (sym is.named) ∙ other) in
@@ -209,7 +209,7 @@ module _ (book : Book) (id : ℕ) (change : PrintChange) (sound : IsSound book) 
           cells = IsBraille-same book next q q refl refl row.cells is.cells;
         }
 
-    cached-all : (rows : List Cached) → AreCached book rows → AreCached next (put_in (λ c. int_eq c.para (pos id)) (record { para = pos id; cells = change.cells }) rows)
+    cached-all : (rows : List ParaCells) → AreCached book rows → AreCached next (put_by_key (λ c. int_eq c.para (pos id)) (record { para = pos id; cells = change.cells }) rows)
     cached-all rows is =
         let same : map id_number book.paragraphs ≡ map id_number next.paragraphs = numbers-same book.paragraphs next.paragraphs (sym (ids-with_change id more (λ q. refl) book.paragraphs)) in
         AreCached-put book next rows (record { para = pos id; cells = change.cells })
@@ -281,7 +281,7 @@ module _ (book : Book) (id : ℕ) (change : PrintChange) (sound : IsSound book) 
         marks = subst (IsPermutation (map spelled_mark (map (spanned change.start change.removed change.added (marks_on id book.marks)) rows.marks))) rows-moved
             (IsPermutation-set spelled_mark (spanned change.start change.removed change.added (marks_on id book.marks)) (spanned change.start change.removed change.added (marks_on id book.marks))
             (spanned-spelled change.start change.removed change.added (marks_on id book.marks)) rows.marks (map mark_row_of book.marks) shows.marks);
-        caches = ForSome-map (put_in (λ c. int_eq c.para (pos id)) (record { para = pos id; cells = change.cells })) (AreCached book) (AreCached next) rows.caches shows.caches cached-all;
+        caches = ForSome-map (put_by_key (λ c. int_eq c.para (pos id)) (record { para = pos id; cells = change.cells })) (AreCached book) (AreCached next) rows.caches shows.caches cached-all;
       }
 
     abbrev first_puts : ℤ → FileRows → FileRows

@@ -14,11 +14,11 @@ use Rattle.desk_book.specs.declared.history.KeptEntry.{KeptEntry}
 use Rattle.desk_book.specs.declared.history.KeptEntry.TheVariants.{Corrects as KeptCorrects, Undoes as KeptUndoes}
 use Rattle.desk_model.specs.Book.{Entry, Mark, Paragraph, Replacement}
 use Rattle.desk_book.specs.ChangePuts.{entry_row, span_put}
-use Rattle.desk_model.specs.Lent.{row_number}
+use Rattle.desk_model.specs.Loans.{row_number}
 use Rattle.desk_parts.specs.FileRows.{FileRows, HasEntryTexts, HasMarkText, spelled_entry, spelled_mark}
 use Rattle.desk_book.specs.Histories.{entry_kept}
 use Rattle.desk_model.specs.Marks.{mark_moved_by}
-use Rattle.desk_model.specs.Print.{corrected, newest, with_entry}
+use Rattle.desk_model.specs.Print.{corrected_print, newest, with_entry}
 use Rattle.desk_parts.specs.Puts.{with_puts}
 use Rattle.desk_parts.specs.Rows.{Mark as MarkRow, NamedCorr}
 use Rattle.desk_model.specs.Shows.{entry_row_of, entry_rows_of, flag_number, mark_row_of}
@@ -34,7 +34,7 @@ use Rattle.desk_model.proofs.Rows.PutRows.{number-small}
 -- ---- the entry
 
 module _ (original : List ℕ) (before : List Entry) (id seq : ℕ) (small : id ≤ 20000) (early : seq ≤ 10001) (few : length before ≤ 10000)
-    (short : length (corrected original before) ≤ 4000) where
+    (short : length (corrected_print original before) ≤ 4000) where
   pub entry-spelled : (kept : KeptEntry) → IsSoundEntry original before (entry_kept kept) → spelled_entry (entry_row id seq kept) ≡ entry_row_of id (seq, entry_kept kept)
   entry-spelled (KeptCorrects c) sound =
       let span = sound.0 in

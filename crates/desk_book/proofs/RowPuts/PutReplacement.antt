@@ -11,18 +11,18 @@ use Rattle.std.proofs.lemmas.Option.{slice_get_past}
 use Rattle.louis_table.specs.Meaning.{Meaning}
 use Rattle.louis_table.specs.Table.{Means}
 use Rattle.desk_model.specs.Book.{Book, Paragraph, paragraph_of}
-use Rattle.desk_model.specs.Lent.{LeadTo, row_number}
+use Rattle.desk_model.specs.Loans.{LeadTo, row_number}
 use Rattle.desk_book.specs.ChangePuts.{cells_from, cells_put}
 use Rattle.desk_book.specs.Changes.{AreCellsOf, AreRenewed}
 use Rattle.desk_parts.specs.FileRows.{FileRows, format_of}
 use Rattle.desk_book.specs.Kept.{new_cells}
 use Rattle.desk_model.specs.Print.{print_of}
-use Rattle.desk_parts.specs.Puts.{PutTab, SetVersion, put_in, with_puts}
-use Rattle.desk_parts.specs.Rows.{Cached}
+use Rattle.desk_parts.specs.Puts.{PutTab, SetVersion, put_by_key, with_puts}
+use Rattle.desk_parts.specs.Rows.{ParaCells}
 use Rattle.desk_model.specs.Shows.{AreCached, IsCached, Shows}
 use Rattle.desk_model.specs.Sound.{IsSound}
 use Rattle.desk_model.specs.Step.{next_with_tables}
-use Rattle.desk_model.specs.Translated.{IsBraille}
+use Rattle.desk_model.specs.Translation.{IsBraille}
 use Rattle.desk_model.proofs.Books.ParagraphLists.{Contains-found, id-found}
 use Rattle.desk_book.proofs.RowPuts.PutCells.{ForSome-map, id-small, ids-once}
 use Rattle.desk_model.proofs.Rows.PutRows.{All-put_apart, IsBraille-same, IsPermutation-put_number, id_number, versioned}
@@ -30,18 +30,18 @@ use Rattle.desk_book.proofs.RowPuts.PutTables.{put-characters, tables-put, texts
 use Rattle.desk_model.proofs.Lists.RowNumbers.{int_eq-pos}
 use Rattle.desk_model.proofs.Books.SoundBooks.{paragraph_of-own, paragraph_of-some, paragraph_of-within}
 use Rattle.desk_model.proofs.Lists.TableEntries.{text-put_other, text-put_same, with_text}
-use Rattle.desk_book.proofs.Planned.Users.{Renews}
+use Rattle.desk_book.proofs.Plans.Users.{Renews}
 
 -- the row is a paragraph's, and has its braille in the next book unless the paragraph uses the table and has this number
 -- or a later one
-pub record IsCachedBelow (book next : Book) (name : List ℕ) (n : ℕ) (row : Cached) : Type 0 where
+pub record IsCachedBelow (book next : Book) (name : List ℕ) (n : ℕ) (row : ParaCells) : Type 0 where
   pub paragraph : Paragraph
   pub there : Contains book.paragraphs paragraph
   pub named : row.para ≡ pos paragraph.id
   pub cells : (paragraph.table ≡ name → paragraph.id < n) → IsBraille next paragraph row.cells
 
 -- each paragraph has one such row
-pub record AreCachedBelow (book next : Book) (name : List ℕ) (n : ℕ) (rows : List Cached) : Type 0 where
+pub record AreCachedBelow (book next : Book) (name : List ℕ) (n : ℕ) (rows : List ParaCells) : Type 0 where
   pub one_each : IsPermutation (map (λ row. row.para) rows) (map id_number book.paragraphs)
   pub cells : All (IsCachedBelow book next name n) rows
 
@@ -53,21 +53,21 @@ module _ (book : Book) (name text : List ℕ) (meaning : Meaning) (sound : IsSou
   abbrev retexted : Book
   retexted = next_with_tables book (with_text name text book.tables)
 
-  abbrev Below : ℕ → Cached → Type 0
+  abbrev Below : ℕ → ParaCells → Type 0
   Below n = IsCachedBelow book retexted name n
 
-  abbrev AllBelow : ℕ → List Cached → Type 0
+  abbrev AllBelow : ℕ → List ParaCells → Type 0
   AllBelow n = AreCachedBelow book retexted name n
 
   -- ---- one paragraph after the other
 
-  below-first : (rows : List Cached) → AreCached book rows → AllBelow 1 rows
+  below-first : (rows : List ParaCells) → AreCached book rows → AllBelow 1 rows
   below-first rows is = record {
     one_each = is.one_each;
     cells = All-weaker (IsCached book) (Below 1) first rows is.cells;
   }
     where
-      first : (row : Cached) → IsCached book row → Below 1 row
+      first : (row : ParaCells) → IsCached book row → Below 1 row
       first row c =
           let p : Paragraph = c.paragraph in
           record {
@@ -81,10 +81,10 @@ module _ (book : Book) (name text : List ℕ) (meaning : Meaning) (sound : IsSou
           }
 
   -- the paragraph with this number doesn't use the table
-  below-none : (n : ℕ) → Renews book meaning name n None → (rows : List Cached) → AllBelow n rows → AllBelow (n + 1) rows
+  below-none : (n : ℕ) → Renews book meaning name n None → (rows : List ParaCells) → AllBelow n rows → AllBelow (n + 1) rows
   below-none n renews rows is = record { one_each = is.one_each; cells = All-weaker (Below n) (Below (n + 1)) further rows is.cells }
     where
-      further : (row : Cached) → Below n row → Below (n + 1) row
+      further : (row : ParaCells) → Below n row → Below (n + 1) row
       further row c =
           let p : Paragraph = c.paragraph in
           record {
@@ -100,7 +100,7 @@ module _ (book : Book) (name text : List ℕ) (meaning : Meaning) (sound : IsSou
 
   -- the paragraph with this number uses it, and has new cells
   module _ (n : ℕ) (new : List ℕ) (p : Paragraph) (at : paragraph_of book n ≡ Some p) (renews : Renews book meaning name n (Some new)) where
-    abbrev row : Cached
+    abbrev row : ParaCells
     row = record { para = row_number n; cells = new }
 
     own : p.id ≡ n
@@ -121,7 +121,7 @@ module _ (book : Book) (name text : List ℕ) (meaning : Meaning) (sound : IsSou
           );
         }
 
-    others : (other : Cached) → int_eq other.para row.para ≡ false → Below n other → Below (n + 1) other
+    others : (other : ParaCells) → int_eq other.para row.para ≡ false → Below n other → Below (n + 1) other
     others other apart c =
         let q : Paragraph = c.paragraph in
         let differ : nat_eq q.id n ≡ false = sym (int_eq-pos q.id n) ∙ ((λ i. int_eq (sym c.named i) (sym (id-small book n p sound at) i)) ∙ apart) in
@@ -136,7 +136,7 @@ module _ (book : Book) (name text : List ℕ) (meaning : Meaning) (sound : IsSou
               ]);
         }
 
-    below-some : (rows : List Cached) → AllBelow n rows → AllBelow (n + 1) (put_in (λ c. int_eq c.para (row_number n)) row rows)
+    below-some : (rows : List ParaCells) → AllBelow n rows → AllBelow (n + 1) (put_by_key (λ c. int_eq c.para (row_number n)) row rows)
     below-some rows is = record {
       one_each = IsPermutation-put_number rows row (map id_number book.paragraphs) (map id_number book.paragraphs)
           (subst (λ (k : ℤ). IsPermutation (k ∷ filter (λ m. not (int_eq m k)) (map id_number book.paragraphs)) (map id_number book.paragraphs)) (sym (id-small book n p sound at)) (ids-once book n p sound at))
@@ -153,9 +153,9 @@ module _ (book : Book) (name text : List ℕ) (meaning : Meaning) (sound : IsSou
   renews-here n item cells renews = let same : n + 0 ≡ n = omega arith in subst (λ (id : ℕ). Renews book meaning name id item) same (renews 0 item refl)
 
   -- the cells that are put from this number on change `cache` alone, and what it has is below the last number
-  along : (n last : ℕ) (cells : List (Option (List ℕ))) (rows : FileRows) (caches : Option (List Cached)) → 1 ≤ n → n + length cells ≡ last → last ≤ length book.paragraphs + 1
+  along : (n last : ℕ) (cells : List (Option (List ℕ))) (rows : FileRows) (caches : Option (List ParaCells)) → 1 ≤ n → n + length cells ≡ last → last ≤ length book.paragraphs + 1
       → RenewsFrom book meaning name n cells → ForSome caches (AllBelow n)
-      → (now : Option (List Cached)) × ForSome now (AllBelow last) × (with_puts (flat_map cells_put (enumerate_from n cells)) (record rows { caches = caches }) ≡ record rows { caches = now })
+      → (now : Option (List ParaCells)) × ForSome now (AllBelow last) × (with_puts (flat_map cells_put (enumerate_from n cells)) (record rows { caches = caches }) ≡ record rows { caches = now })
   along n last [] rows caches one end few renews is =
       let same : n ≡ last = omega (arith, end) in
       (caches, subst (λ (m : ℕ). ForSome caches (AllBelow m)) same is, refl)
@@ -164,9 +164,9 @@ module _ (book : Book) (name text : List ℕ) (meaning : Meaning) (sound : IsSou
       (λ c e. below-none n (renews-here n None cells renews) c (is c e))
   along n last (Some new ∷ cells) rows caches one end few renews is =
       let found = paragraph_of-some book sound n one (omega (arith, end)) in
-      let row : Cached = record { para = row_number n; cells = new } in
-      along (n + 1) last cells rows (option_map (put_in (λ c. int_eq c.para (row_number n)) row) caches) (omega arith) (omega (arith, end)) few (renews-next n (Some new) cells renews)
-      (ForSome-map (put_in (λ c. int_eq c.para (row_number n)) row) (AllBelow n) (AllBelow (n + 1)) caches is
+      let row : ParaCells = record { para = row_number n; cells = new } in
+      along (n + 1) last cells rows (option_map (put_by_key (λ c. int_eq c.para (row_number n)) row) caches) (omega arith) (omega (arith, end)) few (renews-next n (Some new) cells renews)
+      (ForSome-map (put_by_key (λ c. int_eq c.para (row_number n)) row) (AllBelow n) (AllBelow (n + 1)) caches is
       (below-some n new found.0 found.1 (renews-here n (Some new) cells renews)))
 
   module _ (cells : List (Option (List ℕ))) (renewed : AreRenewed book name meaning cells) where
@@ -190,7 +190,7 @@ module _ (book : Book) (name text : List ℕ) (meaning : Meaning) (sound : IsSou
               (All-contains (λ (q : Paragraph). MatchOption (new_cells cells q.id) (q.table ≢ name) (λ new. (q.table ≡ name) × AreCellsOf meaning (print_of q) new)) book.paragraphs p renewed there) uses)
         ]
 
-    below-last : (rows : List Cached) → AllBelow (1 + length cells) rows → AreCached retexted rows
+    below-last : (rows : List ParaCells) → AllBelow (1 + length cells) rows → AreCached retexted rows
     below-last rows is = record {
       one_each = is.one_each;
       cells = All-weaker (Below (1 + length cells)) (IsCached retexted)
@@ -203,7 +203,7 @@ module _ (book : Book) (name text : List ℕ) (meaning : Meaning) (sound : IsSou
         let characters = put-characters book name text after in
         let put : FileRows = with_puts (SetVersion (row_number retexted.version) ∷ PutTab (record { name = encode_utf8_all name; body = text }) ∷ []) rows in
         let made = along 1 (1 + length cells) cells put rows.caches (omega arith) refl (omega (arith, few)) renews-all (λ caches e. below-first caches (shows.caches caches e)) in
-        let now : Option (List Cached) = made.0 in
+        let now : Option (List ParaCells) = made.0 in
         let shown : Shows (record put { caches = now }) retexted = record {
           sound = after;
           texts = record {

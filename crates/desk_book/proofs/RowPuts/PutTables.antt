@@ -15,10 +15,10 @@ use Rattle.std.proofs.lemmas.List.Elements.{All-weaker}
 use Rattle.std.proofs.lemmas.List.Sorted.{IsPermutation-cons, IsPermutation-map, IsPermutation-middle, IsPermutation-refl, IsPermutation-trans}
 use Rattle.std.proofs.lemmas.Slice.Eq.{bytes_eq-Decides}
 use Rattle.desk_model.specs.Book.{Book, text_of}
-use Rattle.desk_model.specs.Lent.{LeadTo, row_number}
+use Rattle.desk_model.specs.Loans.{LeadTo, row_number}
 use Rattle.desk_parts.specs.FileRows.{HasTabText, format_of, spelled_tab}
-use Rattle.desk_parts.specs.Puts.{PutTab, SetVersion, put_in}
-use Rattle.desk_parts.specs.Rows.{Cached, Tab}
+use Rattle.desk_parts.specs.Puts.{PutTab, SetVersion, put_by_key}
+use Rattle.desk_parts.specs.Rows.{ParaCells, Tab}
 use Rattle.desk_model.specs.Shows.{IsCached, tab_of}
 use Rattle.desk_model.specs.Sound.{IsSound}
 use Rattle.desk_model.specs.Step.{next_with_tables}
@@ -84,7 +84,7 @@ module _ (name text : List ℕ) (characters : AreCharacters name) where
   tab_row = record { name = encode_utf8_all name; body = text }
 
   abbrev pub tab_put_in : List Tab → List Tab
-  tab_put_in tabs = put_in (λ t. bytes_eq t.name (encode_utf8_all name)) tab_row tabs
+  tab_put_in tabs = put_by_key (λ t. bytes_eq t.name (encode_utf8_all name)) tab_row tabs
 
   -- bytes are those of the name where they spell it
   same_named : (bytes : List ℕ) → IsUtf8 bytes → bytes_eq bytes (encode_utf8_all name) ≡ bytes_eq (chars bytes) name
@@ -119,7 +119,7 @@ module _ (book : Book) (name text : List ℕ) (sound : IsSound book) (new : text
   abbrev tabled : Book
   tabled = next_with_tables book (with_text name text book.tables)
 
-  cached-on : (row : Cached) → IsCached book row → IsCached tabled row
+  cached-on : (row : ParaCells) → IsCached book row → IsCached tabled row
   cached-on row is =
       let by = is.cells.2 in
       record {

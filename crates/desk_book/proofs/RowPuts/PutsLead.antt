@@ -9,7 +9,7 @@ use Rattle.desk_command.specs.declared.command.Command.{Command}
 use Rattle.desk_command.specs.declared.command.Command.TheVariants.{TypeIn, Move}
 use Rattle.desk_book.specs.declared.history.KeptEntry.{KeptEntry}
 use Rattle.desk_model.specs.Book.{Book, Paragraph, paragraph_of}
-use Rattle.desk_model.specs.Lent.{LeadTo, row_number}
+use Rattle.desk_model.specs.Loans.{LeadTo, row_number}
 use Rattle.desk_book.specs.ChangePuts.{cache_put, effect_puts, entry_row, span_put}
 use Rattle.desk_book.specs.Changes.{Carries, Change, ChangesPrint, Does, IsEffect, change_puts, puts-change_by, has-effect}
 use Rattle.desk_book.specs.Histories.{entries_kept, entry_kept}
@@ -19,8 +19,8 @@ use Rattle.desk_model.specs.ParagraphMarks.{marks_on}
 use Rattle.desk_parts.specs.Puts.{PutEntry, RowPut, SetPrint, SetVersion}
 use Rattle.desk_model.specs.Refusals.{IsAccepted, paragraph_before}
 use Rattle.desk_model.specs.Sound.{IsSound}
-use Rattle.desk_model.specs.Step.{Makes, next_id, next_with_entry, next_with_paragraphs, next_with_tables, typed, with_change, with_move, with_paragraph}
-use Rattle.desk_model.specs.Stored.{stored}
+use Rattle.desk_model.specs.Step.{Makes, new_paragraph, next_id, next_with_entry, next_with_paragraphs, next_with_tables, with_change, with_move, with_paragraph}
+use Rattle.desk_model.specs.NormalForm.{normal_form}
 use Rattle.desk_model.proofs.Commands.Accepted.{named_paragraph}
 use Rattle.desk_model.proofs.Lists.Members.{Contains-behind, Contains-here, Contains-map}
 use Rattle.desk_model.proofs.Books.ParagraphLists.{Contains-found, IsPermutation-with_move, IsPermutation-with_paragraph, id-found, ids_of}
@@ -56,12 +56,12 @@ module _ (book next : Book) (command : Command) (sound : IsSound book) (accepted
       (replaced-lead book name table.text table.rules sound does.2 cells.items does.3 does.4 (subst IsSound is after))
   leads (effect.AddParagraph kept room order_room place) does =
       let given = does in
-      let new : Paragraph = typed (next_id book) kept.table given.text in
+      let new : Paragraph = new_paragraph (next_id book) kept.table given.text in
       let ps : List Paragraph = with_paragraph given.anchor new book.paragraphs in
       let is : next ≡ next_with_paragraphs book ps = subst (λ (c : Command). Makes book c next) given.command_is makes in
       let same = given.typed_is.kept_is in
       let fresh : kept.history ≡ [] = no-entries kept.history (ap (λ (q : Paragraph). q.history) same) in
-      let original : kept.original ≡ stored given.text = ap (λ (q : Paragraph). q.original) same in
+      let original : kept.original ≡ normal_form given.text = ap (λ (q : Paragraph). q.original) same in
       let anchored : (id : ℕ) → Contains (paragraph_before given.anchor) id → Contains (ids_of book.paragraphs) id =
       λ id c.
       let p = named_paragraph book None (TypeIn given.anchor kept.table given.text) (subst (IsAccepted book None) given.command_is accepted) id c in

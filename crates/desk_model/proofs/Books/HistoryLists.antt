@@ -11,7 +11,7 @@ use Rattle.std.proofs.lemmas.List.Folds.{list_any-append}
 use Rattle.std.proofs.lemmas.List.Sums.{fold-append}
 use Rattle.std.proofs.lemmas.Option.{slice_get_within}
 use Rattle.desk_model.specs.Book.{Replacement, Entry, Corrects, Undoes}
-use Rattle.desk_model.specs.Print.{corrected, in_force, newest, replaced, stack, undoes}
+use Rattle.desk_model.specs.Print.{corrected_print, in_force, newest, stack, undoes, with_replacement}
 use Rattle.desk_model.specs.Sound.{AreSoundEntries, IsSoundEntry}
 use Rattle.desk_model.proofs.Lists.Items.{flat_map-agree, here-at}
 
@@ -311,23 +311,23 @@ module _ (original : List ℕ) where
 
   -- ---- prints
 
-  pub corrected-corrects : (h : List Entry) (r : Replacement) (who : List ℕ) → AreSoundEntries original h → corrected original (h ++ Corrects r who ∷ []) ≡ replaced (corrected original h) r
-  corrected-corrects h r who sound =
-      ap (λ (t : List (ℕ × Replacement)). fold replaced original (map (λ c. c.1) t)) (stack-corrected h r who sound)
-      ∙ (ap (fold replaced original) (map-append (λ (c : ℕ × Replacement). c.1) (stack h) ((length h + 1, r) ∷ []))
-      ∙ fold-append replaced original (map (λ (c : ℕ × Replacement). c.1) (stack h)) (r ∷ []))
+  pub corrected_print-corrects : (h : List Entry) (r : Replacement) (who : List ℕ) → AreSoundEntries original h → corrected_print original (h ++ Corrects r who ∷ []) ≡ with_replacement (corrected_print original h) r
+  corrected_print-corrects h r who sound =
+      ap (λ (t : List (ℕ × Replacement)). fold with_replacement original (map (λ c. c.1) t)) (stack-corrected h r who sound)
+      ∙ (ap (fold with_replacement original) (map-append (λ (c : ℕ × Replacement). c.1) (stack h) ((length h + 1, r) ∷ []))
+      ∙ fold-append with_replacement original (map (λ (c : ℕ × Replacement). c.1) (stack h)) (r ∷ []))
 
   -- an undo takes the newest replacement away
-  pub corrected-undone : (h : List Entry) (n : ℕ) (r : Replacement) → newest h ≡ Some (n, r) → corrected original h ≡ replaced (corrected original (h ++ Undoes n ∷ [])) r
-  corrected-undone h n r e =
+  pub corrected_print-undone : (h : List Entry) (n : ℕ) (r : Replacement) → newest h ≡ Some (n, r) → corrected_print original h ≡ with_replacement (corrected_print original (h ++ Undoes n ∷ [])) r
+  corrected_print-undone h n r e =
       let parts = newest-parts h n r e in
-      ap (λ (t : List (ℕ × Replacement)). fold replaced original (map (λ c. c.1) t)) parts.1
-      ∙ (ap (fold replaced original) (map-append (λ (c : ℕ × Replacement). c.1) parts.0 ((n, r) ∷ []))
-      ∙ (fold-append replaced original (map (λ (c : ℕ × Replacement). c.1) parts.0) (r ∷ [])
-      ∙ ap (λ (t : List (ℕ × Replacement)). replaced (fold replaced original (map (λ c. c.1) t)) r) (sym (stack-undone h n r parts.0 parts.1))))
+      ap (λ (t : List (ℕ × Replacement)). fold with_replacement original (map (λ c. c.1) t)) parts.1
+      ∙ (ap (fold with_replacement original) (map-append (λ (c : ℕ × Replacement). c.1) parts.0 ((n, r) ∷ []))
+      ∙ (fold-append with_replacement original (map (λ (c : ℕ × Replacement). c.1) parts.0) (r ∷ [])
+      ∙ ap (λ (t : List (ℕ × Replacement)). with_replacement (fold with_replacement original (map (λ c. c.1) t)) r) (sym (stack-undone h n r parts.0 parts.1))))
 
   -- and brings back the print that stood just before the correction
-  pub corrected-before : (h : List Entry) → AreSoundEntries original h → (n : ℕ) (r : Replacement) → newest h ≡ Some (n, r) → corrected original (h ++ Undoes n ∷ []) ≡ corrected original (take (n - 1) h)
-  corrected-before h sound n r e =
+  pub corrected_print-before : (h : List Entry) → AreSoundEntries original h → (n : ℕ) (r : Replacement) → newest h ≡ Some (n, r) → corrected_print original (h ++ Undoes n ∷ []) ≡ corrected_print original (take (n - 1) h)
+  corrected_print-before h sound n r e =
       let parts = newest-parts h n r e in
-      ap (λ (t : List (ℕ × Replacement)). fold replaced original (map (λ c. c.1) t)) (stack-undone h n r parts.0 parts.1 ∙ sym (stack-before h sound n r parts.0 parts.1))
+      ap (λ (t : List (ℕ × Replacement)). fold with_replacement original (map (λ c. c.1) t)) (stack-undone h n r parts.0 parts.1 ∙ sym (stack-before h sound n r parts.0 parts.1))

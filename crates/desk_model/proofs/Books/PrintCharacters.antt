@@ -3,7 +3,7 @@ use Rattle.std.proofs.Common.{ℕ, ◌+◌, Bool, true, false, List, [], ◌∷�
 use Rattle.std.specs.List.{All, enumerate_from, flat_map, fold, list_any}
 use Rattle.std.proofs.lemmas.List.Elements.{All-append, All-cons, All-drop, All-head, All-map, All-nil, All-tail, All-take}
 use Rattle.desk_model.specs.Book.{Replacement, Entry, Corrects, Undoes, Paragraph}
-use Rattle.desk_model.specs.Print.{in_force, print_of, replaced, stack, undoes}
+use Rattle.desk_model.specs.Print.{in_force, print_of, stack, undoes, with_replacement}
 
 module _ (P : ℕ → Type 0) where
   -- it is true of each character of the entry's text
@@ -11,15 +11,15 @@ module _ (P : ℕ → Type 0) where
   HasText (Corrects r who) = All P r.text
   HasText (Undoes undone) = Unit {0}
 
-  replaced-all : (print : List ℕ) (r : Replacement) → All P print → All P r.text → All P (replaced print r)
-  replaced-all print r all text =
+  with_replacement-all : (print : List ℕ) (r : Replacement) → All P print → All P r.text → All P (with_replacement print r)
+  with_replacement-all print r all text =
       All-append P (take r.start print ++ r.text) (drop (r.start + r.count) print) (All-append P (take r.start print) r.text (All-take P r.start print all) text)
       (All-drop P (r.start + r.count) print all)
 
-  fold-all : (rs : List Replacement) (print : List ℕ) → All P print → All (λ r. All P r.text) rs → All P (fold replaced print rs)
+  fold-all : (rs : List Replacement) (print : List ℕ) → All P print → All (λ r. All P r.text) rs → All P (fold with_replacement print rs)
   fold-all [] print all texts = all
   fold-all (r ∷ rs) print all texts =
-      fold-all rs (replaced print r) (replaced-all print r all (All-head (λ r. All P r.text) r rs texts)) (All-tail (λ r. All P r.text) r rs texts)
+      fold-all rs (with_replacement print r) (with_replacement-all print r all (All-head (λ r. All P r.text) r rs texts)) (All-tail (λ r. All P r.text) r rs texts)
 
   abbrev IsOf : ℕ × Replacement → Type 0
   IsOf correction = All P correction.1.text

@@ -9,7 +9,7 @@ use Rattle.desk_model.proofs.Lists.Numbering.{IsDistinct-numbers, Contains-numbe
 use Rattle.desk_model.proofs.Books.ParagraphLists.{AreApart, ids_of, id-found, Contains-found, found-some, found-own}
 use Rattle.desk_model.proofs.Lists.TableEntries.{Contains-text}
 use Rattle.desk_model.specs.Limits.{most_print}
-use Rattle.desk_model.specs.Print.{corrected, print_of}
+use Rattle.desk_model.specs.Print.{corrected_print, print_of}
 
 module _ (book : Book) (sound : IsSound book) where
   -- no two paragraphs have one id
@@ -46,4 +46,4 @@ module _ (book : Book) (sound : IsSound book) where
 
 -- a print of a sound paragraph is short
 pub short-sound : (book : Book) (p : Paragraph) → IsSoundParagraph book p → length (print_of p) ≤ most_print
-short-sound book p s = subst (λ (t : List Entry). length (corrected p.original t) ≤ most_print) (take-length p.history) (s.history.short (length p.history) (omega arith))
+short-sound book p s = subst (λ (t : List Entry). length (corrected_print p.original t) ≤ most_print) (take-length p.history) (s.history.short (length p.history) (omega arith))

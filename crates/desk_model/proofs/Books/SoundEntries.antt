@@ -11,10 +11,10 @@ use Rattle.std.proofs.lemmas.List.Elements.{All-map, All-weaker}
 use Rattle.std.proofs.lemmas.Option.{slice_get_within}
 use Rattle.louis_translate.specs.Position.{AreDefined}
 use Rattle.desk_model.specs.Book.{Book, Entry, Mark, Paragraph, Replacement, paragraph_of}
-use Rattle.desk_model.specs.Stored.{IsClean}
+use Rattle.desk_model.specs.NormalForm.{IsClean}
 use Rattle.desk_model.specs.Limits.{most_entries, most_marks, most_note, most_paragraphs, most_print, most_version}
 use Rattle.desk_model.specs.Marks.{mark_moved_by}
-use Rattle.desk_model.specs.Print.{corrected, print_of, replaced, with_entry}
+use Rattle.desk_model.specs.Print.{corrected_print, print_of, with_entry, with_replacement}
 use Rattle.desk_model.specs.Sound.{AreSoundEntries, IsSoundEntry, IsSoundHistory, IsSoundParagraph, IsSoundMark, IsSound}
 use Rattle.desk_model.specs.Step.{moved_on, next_with_entry, next_with_marks, resolved_by, with_change, with_marks_moved, with_resolved}
 use Rattle.desk_model.proofs.Lists.Items.{here-at, slice_get-append_left}
@@ -43,7 +43,7 @@ module _ (original : List ℕ) (h : List Entry) (entry : Entry) where
             subst (λ (t : List Entry). IsSoundEntry original t e) (sym whole) (subst (IsSoundEntry original h) same last)
       ]
 
-  pub IsSoundHistory-push : IsSoundHistory original h → IsSoundEntry original h entry → length h < most_entries → length (corrected original (h ++ entry ∷ [])) ≤ most_print
+  pub IsSoundHistory-push : IsSoundHistory original h → IsSoundEntry original h entry → length h < most_entries → length (corrected_print original (h ++ entry ∷ [])) ≤ most_print
       → IsSoundHistory original (h ++ entry ∷ [])
   IsSoundHistory-push sound last few short =
       let long = length-append h (entry ∷ []) in
@@ -53,15 +53,15 @@ module _ (original : List ℕ) (h : List Entry) (entry : Entry) where
         short = shorts;
       }
     where
-      shorts : (i : ℕ) → i ≤ length (h ++ entry ∷ []) → length (corrected original (take i (h ++ entry ∷ []))) ≤ most_print
+      shorts : (i : ℕ) → i ≤ length (h ++ entry ∷ []) → length (corrected_print original (take i (h ++ entry ∷ []))) ≤ most_print
       shorts i le =
           let many = length-append h (entry ∷ []) in
           elim (cases_lt (length h) i) [
             | inl past ↦
                 let here : i ≡ length (h ++ entry ∷ []) = omega arith in
                 let whole : take i (h ++ entry ∷ []) ≡ h ++ entry ∷ [] = ap (λ (k : ℕ). take k (h ++ entry ∷ [])) here ∙ take-length (h ++ entry ∷ []) in
-                subst (λ (t : List Entry). length (corrected original t) ≤ most_print) (sym whole) short
-            | inr before ↦ subst (λ (t : List Entry). length (corrected original t) ≤ most_print) (sym (front i before)) (sound.short i before)
+                subst (λ (t : List Entry). length (corrected_print original t) ≤ most_print) (sym whole) short
+            | inr before ↦ subst (λ (t : List Entry). length (corrected_print original t) ≤ most_print) (sym (front i before)) (sound.short i before)
           ]
 
 pub IsSoundParagraph-entry : (book : Book) (p : Paragraph) (entry : Entry) (s : IsSoundParagraph book p) → IsSoundEntry p.original p.history entry → length p.history < most_entries
@@ -229,7 +229,7 @@ IsSound-resolved book id sound room =
 
 -- ---- lengths
 
-pub length-replaced : (print : List ℕ) (r : Replacement) → r.start + r.count ≤ length print → length (replaced print r) + r.count ≡ length print + length r.text
+pub length-replaced : (print : List ℕ) (r : Replacement) → r.start + r.count ≤ length print → length (with_replacement print r) + r.count ≡ length print + length r.text
 length-replaced print r le =
     let one = length-append (take r.start print ++ r.text) (drop (r.start + r.count) print) in
     let two = length-append (take r.start print) r.text in

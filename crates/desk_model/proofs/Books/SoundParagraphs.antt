@@ -10,12 +10,12 @@ use Rattle.std.proofs.lemmas.List.Sorted.{All-permutation, IsPermutation-map, Is
 use Rattle.louis_translate.specs.Position.{AreDefined}
 use Rattle.desk_command.specs.declared.command.Anchor.{Anchor}
 use Rattle.desk_model.specs.Book.{Book, Paragraph, Mark, text_of, paragraph_of}
-use Rattle.desk_model.specs.Print.{corrected, print_of}
+use Rattle.desk_model.specs.Print.{corrected_print, print_of}
 use Rattle.desk_model.specs.Refusals.{paragraph_before}
 use Rattle.desk_model.specs.Limits.{most_version, most_paragraphs}
 use Rattle.desk_model.specs.Sound.{IsSoundHistory, IsSoundParagraph, IsSoundMark, IsSound}
 use Rattle.desk_model.specs.Step.{with_paragraph, with_change, next_id, next_with_paragraphs}
-use Rattle.desk_model.specs.Stored.{IsClean}
+use Rattle.desk_model.specs.NormalForm.{IsClean}
 use Rattle.desk_model.proofs.Lists.Numbering.{next-number, IsDistinct-numbers}
 use Rattle.desk_model.proofs.Books.ParagraphLists.{ids_of, AreApart, found, changed, id-found, found-permutation, ids-with_change, found-with_change, All-with_change, IsPermutation-with_paragraph}
 use Rattle.desk_model.proofs.Books.SoundBooks.{paragraphs-apart, paragraph_of-within, paragraph_of-own, IsSoundParagraph-found}
@@ -95,7 +95,7 @@ pub IsSound-kept_text : (book : Book) (id : ℕ) (change : Paragraph → Paragra
 IsSound-kept_text book id change sound room keeps =
     IsSound-changed book id change sound room keeps.id (λ p e.
     let s = IsSoundParagraph-found book sound id p e in
-    let print : print_of (change p) ≡ print_of p = λ i. corrected (keeps.original p i) (keeps.history p i) in (
+    let print : print_of (change p) ≡ print_of p = λ i. corrected_print (keeps.original p i) (keeps.history p i) in (
       record {
         clean = subst IsClean (sym (keeps.original p)) s.clean;
         history = subst (λ (text : List ℕ). IsSoundHistory text (change p).history) (sym (keeps.original p)) (subst (IsSoundHistory p.original) (sym (keeps.history p)) s.history);

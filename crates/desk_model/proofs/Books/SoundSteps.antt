@@ -24,17 +24,17 @@ use Rattle.louis_translate.specs.Position.{AreDefined}
 use Rattle.desk_command.specs.declared.refusal.Refusal.TheVariants.{BadSpan}
 use Rattle.desk_model.specs.Book.{Book, Corrects, Mark as BookMark, Paragraph, Replacement, Undoes, text_of, empty_book}
 use Rattle.desk_model.specs.Marks.{mark_moved, mark_moved_back}
-use Rattle.desk_model.specs.Print.{corrected, print_of, print_undone, replaced, with_entry}
-use Rattle.desk_model.specs.Translated.{AreMarked}
+use Rattle.desk_model.specs.Print.{corrected_print, print_of, print_undone, with_entry, with_replacement}
+use Rattle.desk_model.specs.Translation.{AreMarked}
 use Rattle.desk_model.proofs.Lists.Items.{range_with_len-push}
 use Rattle.desk_model.proofs.Commands.CellPlaces.{begins-before, end-within}
-use Rattle.desk_model.proofs.Books.HistoryLists.{IsLast-parts, corrected-before, corrected-corrects, corrected-undone, newest-parts}
+use Rattle.desk_model.proofs.Books.HistoryLists.{IsLast-parts, corrected_print-before, corrected_print-corrects, corrected_print-undone, newest-parts}
 use Rattle.desk_model.proofs.Books.SoundEntries.{IsSound-resolved, IsSound-with_entry, IsSound-with_marks, IsSoundParagraph-entry, MovesTo-mark_moved_by, length-replaced}
 use Rattle.desk_model.specs.Refusals.{IsAccepted, paragraph_before}
 use Rattle.desk_model.specs.Limits.{most_tables, most_print}
 use Rattle.desk_model.specs.Sound.{IsSoundHistory, IsSoundTable, IsSoundParagraph, IsSoundMark, IsSound}
-use Rattle.desk_model.specs.Step.{typed, with_change, with_paragraph, with_move, next_id, IsNewest, new_mark, next_mark, next_with_entry, next_with_marks, next_with_paragraphs, next_with_tables, replacement_by, HasCharacters, Makes}
-use Rattle.desk_model.specs.Stored.{is_barred, IsClean, IsUnbarred, stored}
+use Rattle.desk_model.specs.Step.{new_paragraph, with_change, with_paragraph, with_move, next_id, IsNewest, new_mark, next_mark, next_with_entry, next_with_marks, next_with_paragraphs, next_with_tables, replacement_by, HasCharacters, Makes}
+use Rattle.desk_model.specs.NormalForm.{is_barred, IsClean, IsUnbarred, normal_form}
 use Rattle.desk_command.specs.Characters.{AreCharacters}
 use Rattle.desk_model.proofs.Commands.Accepted.{given_proofreader, given_unbarred, room_for_entry, room_for_mark, short_note, room_for_version, named_paragraph, named_table, shown_defined, short_print, room_for_paragraph, given_name, given_meaning, room_for_table, users_defined}
 use Rattle.desk_model.proofs.Commands.FirstUndefined.{DefinesUser}
@@ -100,11 +100,11 @@ sound_table book expect name text sound accepted =
 
 -- ---- a new paragraph
 
-IsUnbarred-stored : (text : List ℕ) → IsUnbarred (stored text)
+IsUnbarred-stored : (text : List ℕ) → IsUnbarred (normal_form text)
 IsUnbarred-stored text =
-    All-weaker (λ c. not (is_barred c) ≡ true) (λ c. is_barred c ≡ false) (λ c h. not-true (is_barred c) h) (stored text) (filter_passes (λ c. not (is_barred c)) (nfc text))
+    All-weaker (λ c. not (is_barred c) ≡ true) (λ c. is_barred c ≡ false) (λ c h. not-true (is_barred c) h) (normal_form text) (filter_passes (λ c. not (is_barred c)) (nfc text))
 
-short_start : (original : List ℕ) → length original ≤ most_print → (i : ℕ) → i ≤ 0 → length (corrected original (take i [])) ≤ most_print
+short_start : (original : List ℕ) → length original ≤ most_print → (i : ℕ) → i ≤ 0 → length (corrected_print original (take i [])) ≤ most_print
 short_start original short zero le = short
 short_start original short (suc i) le = absurd (omega arith)
 
@@ -115,21 +115,21 @@ IsSoundHistory-none original short = record {
   short = short_start original short;
 }
 
-sound_type : (book : Book) (expect : Option ℕ) (anchor : Anchor) (table text : List ℕ) → IsSound book → IsAccepted book expect (TypeIn anchor table text) → AreCharacters (stored text) → IsSound (next_with_paragraphs book (with_paragraph anchor (typed (next_id book) table text) book.paragraphs))
+sound_type : (book : Book) (expect : Option ℕ) (anchor : Anchor) (table text : List ℕ) → IsSound book → IsAccepted book expect (TypeIn anchor table text) → AreCharacters (normal_form text) → IsSound (next_with_paragraphs book (with_paragraph anchor (new_paragraph (next_id book) table text) book.paragraphs))
 sound_type book expect anchor table text sound accepted written =
     let command : Command = TypeIn anchor table text in
     let named = named_table book expect command accepted table refl in
     let shown = IsSoundTable-found book sound table named.0 named.1 in
-    let new : Paragraph = typed (next_id book) table text in
+    let new : Paragraph = new_paragraph (next_id book) table text in
     IsSound-with_paragraph book anchor new sound (room_for_version book expect command accepted) (room_for_paragraph book expect command accepted refl) refl
     (record {
       clean = record { characters = written; unbarred = IsUnbarred-stored text };
-      history = IsSoundHistory-none (stored text) (short_print book expect command accepted (stored text) refl);
+      history = IsSoundHistory-none (normal_form text) (short_print book expect command accepted (normal_form text) refl);
       text = named.0;
       meaning = shown.meaning;
       found = named.1;
       means = shown.means;
-      defined = shown_defined book expect command accepted (stored text) table named.0 shown.meaning refl named.1 shown.means;
+      defined = shown_defined book expect command accepted (normal_form text) table named.0 shown.meaning refl named.1 shown.means;
     })
     (λ other c.
     let q = named_paragraph book expect command accepted other c in
@@ -168,7 +168,7 @@ sound_move book expect id anchor sound accepted =
 
 -- ---- corrections
 
-sound_correct : (book : Book) (expect : Option ℕ) (id start count : ℕ) (text who : List ℕ) → IsSound book → IsAccepted book expect (Correct id start count text who) → AreCharacters (stored text) × AreCharacters who
+sound_correct : (book : Book) (expect : Option ℕ) (id start count : ℕ) (text who : List ℕ) → IsSound book → IsAccepted book expect (Correct id start count text who) → AreCharacters (normal_form text) × AreCharacters who
     → IsSound (next_with_entry book id (Corrects (replacement_by start count text) who) (mark_moved (replacement_by start count text)))
 sound_correct book expect id start count text who sound accepted written =
     let command : Command = Correct id start count text who in
@@ -176,19 +176,19 @@ sound_correct book expect id start count text who sound accepted written =
     let named = named_paragraph book expect command accepted id (Contains-here id []) in
     let p : Paragraph = named.0 in
     let s = IsSoundParagraph-found book sound id p named.1 in
-    let print : print_of (with_entry (Corrects r who) p) ≡ replaced (print_of p) r = corrected-corrects p.original p.history r who s.history.entries in
+    let print : print_of (with_entry (Corrects r who) p) ≡ with_replacement (print_of p) r = corrected_print-corrects p.original p.history r who s.history.entries in
     let span : start + count ≤ length (print_of p) = elim (cases_lt (length (print_of p)) (start + count)) [
       | inl past ↦ absurd (accepted BadSpan (record { paragraph = p; found = named.1; past = past }))
       | inr h ↦ h
     ] in
-    let short = short_print book expect command accepted (replaced (print_of p) r) (ap (option_map (λ (q : Paragraph). replaced (print_of q) r)) named.1) in
-    let defined = shown_defined book expect command accepted (replaced (print_of p) r) p.table s.text s.meaning (ap (option_map (λ (q : Paragraph). (replaced (print_of q) r, q.table))) named.1) s.found s.means in
-    let clean : IsClean (stored text) = record { characters = written.0; unbarred = IsUnbarred-stored text } in
-    let long : length (print_of (with_entry (Corrects r who) p)) + count ≡ length (print_of p) + length (stored text) = ap (λ (t : List ℕ). length t + count) print ∙ length-replaced (print_of p) r span in
+    let short = short_print book expect command accepted (with_replacement (print_of p) r) (ap (option_map (λ (q : Paragraph). with_replacement (print_of q) r)) named.1) in
+    let defined = shown_defined book expect command accepted (with_replacement (print_of p) r) p.table s.text s.meaning (ap (option_map (λ (q : Paragraph). (with_replacement (print_of q) r, q.table))) named.1) s.found s.means in
+    let clean : IsClean (normal_form text) = record { characters = written.0; unbarred = IsUnbarred-stored text } in
+    let long : length (print_of (with_entry (Corrects r who) p)) + count ≡ length (print_of p) + length (normal_form text) = ap (λ (t : List ℕ). length t + count) print ∙ length-replaced (print_of p) r span in
     IsSound-with_entry book id (Corrects r who) (mark_moved r) p sound (room_for_version book expect command accepted) named.1
     (IsSoundParagraph-entry book p (Corrects r who) s (span, clean, given_proofreader book expect command accepted who refl, written.1) (room_for_entry book expect command accepted id p refl named.1)
     (subst (λ (t : List ℕ). length t ≤ most_print) (sym print) short) (subst (AreDefined s.meaning) (sym print) defined))
-    (MovesTo-mark_moved_by start count (length (stored text)) (length (print_of p)) (length (print_of (with_entry (Corrects r who) p))) span (sym long))
+    (MovesTo-mark_moved_by start count (length (normal_form text)) (length (print_of p)) (length (print_of (with_entry (Corrects r who) p))) span (sym long))
 
 sound_undo : (book : Book) (expect : Option ℕ) (id n : ℕ) (r : Replacement) → IsSound book → IsAccepted book expect (Undo id) → IsNewest book id n r → IsSound (next_with_entry book id (Undoes n) (mark_moved_back r))
 sound_undo book expect id n r sound accepted is =
@@ -204,9 +204,9 @@ sound_undo book expect id n r sound accepted is =
     (ap (option_and_then (λ (q : Paragraph). option_map (λ (print : List ℕ). (print, q.table)) (print_undone q))) there ∙ ap (option_map (λ (print : List ℕ). (print, p.table))) undone) s.found s.means in
     let parts = newest-parts p.history n r e in
     let last = IsLast-parts p.history 1 p.history parts.0 n r parts.1 in
-    let before : new ≡ corrected p.original (take (n - 1) p.history) = corrected-before p.original p.history s.history.entries n r e in
+    let before : new ≡ corrected_print p.original (take (n - 1) p.history) = corrected_print-before p.original p.history s.history.entries n r e in
     let span : r.start + r.count ≤ length new = subst (λ (t : List ℕ). r.start + r.count ≤ length t) (sym before) (s.history.entries (n - 1) (Corrects r last.who) last.at).0 in
-    let long : length (print_of p) + r.count ≡ length new + length r.text = ap (λ (t : List ℕ). length t + r.count) (corrected-undone p.original p.history n r e) ∙ length-replaced new r span in
+    let long : length (print_of p) + r.count ≡ length new + length r.text = ap (λ (t : List ℕ). length t + r.count) (corrected_print-undone p.original p.history n r e) ∙ length-replaced new r span in
     IsSound-with_entry book id (Undoes n) (mark_moved_back r) p sound (room_for_version book expect command accepted) there
     (IsSoundParagraph-entry book p (Undoes n) s (ap (option_map (λ (c : ℕ × Replacement). c.0)) e) (room_for_entry book expect command accepted id p refl there) short defined)
     (MovesTo-mark_moved_by r.start (length r.text) r.count (length (print_of p)) (length new) (omega arith) long)

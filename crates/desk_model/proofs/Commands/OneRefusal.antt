@@ -15,7 +15,7 @@ use Rattle.desk_command.specs.declared.refusal.Refusal.TheVariants.{Moved, BadNa
 use Rattle.desk_model.specs.Book.{Book, Paragraph, text_of}
 use Rattle.desk_model.specs.Refusals.{DefinesUser, Holds, IsBadTable, IsBadText, IsRefused, IsUndefined, IsUntranslatable, turn}
 use Rattle.desk_model.specs.Print.{print_of}
-use Rattle.desk_model.specs.Stored.{IsFirstBarred}
+use Rattle.desk_model.specs.NormalForm.{IsFirstBarred}
 use Rattle.desk_model.proofs.Commands.Judging.{limit_turn, same_limit}
 use Rattle.desk_model.proofs.Commands.Turns.{defined_not_first, same_some}
 

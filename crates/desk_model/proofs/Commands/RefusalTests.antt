@@ -18,8 +18,8 @@ use Rattle.desk_model.specs.Limits.{most_entries, most_marks, most_name, most_no
 use Rattle.desk_model.specs.Name.{IsProofreaderName, IsTableName, is_name_character, is_proofreader_character}
 use Rattle.desk_model.specs.Refusals.{DefinesUser, HasLongNote, HasLongPrint, HasLongText, HasNothingToUndo, IsBadName, IsBadReader, IsBadSpan, IsBadTable, IsBadText, IsFull, IsMoved, IsNotStruck, IsPastPrint, IsResolved, IsStruck, IsUndefined, IsUntranslatable, LacksMark, LacksParagraph, LacksTable, adds_paragraph, history_grown, live_paragraph, mark_named, new_print, note_given, paragraphs_named, print_to_translate, proofreader_given, struck_paragraph, table_given, table_named, text_given, text_stored}
 use Rattle.desk_model.specs.Print.{newest, print_of}
-use Rattle.desk_model.specs.Stored.{IsFirstBarred, is_barred}
-use Rattle.desk_model.specs.Translated.{LacksCells}
+use Rattle.desk_model.specs.NormalForm.{IsFirstBarred, is_barred}
+use Rattle.desk_model.specs.Translation.{LacksCells}
 use Rattle.desk_model.proofs.Commands.FirstUndefined.{all_or_first_user, defined_or_first}
 use Rattle.desk_model.proofs.Commands.MarkedPlaces.{has_cells}
 use Rattle.desk_model.proofs.Lists.Members.{Contains-behind, Contains-cases, Contains-here, Contains-none}

@@ -14,7 +14,7 @@ use Rattle.desk_model.specs.Outcome.{HasOneOutcome}
 use Rattle.desk_model.specs.Print.{newest}
 use Rattle.desk_model.specs.Refusals.{Holds, IsAccepted, IsRefused, turn}
 use Rattle.desk_model.specs.Sound.{IsSound}
-use Rattle.desk_model.specs.Translated.{AreMarked}
+use Rattle.desk_model.specs.Translation.{AreMarked}
 use Rattle.desk_model.specs.Step.{Makes, next_with_entry, next_with_marks, new_mark, next_mark}
 use Rattle.desk_model.proofs.Commands.Accepted.{named_paragraph}
 use Rattle.desk_model.proofs.Commands.Judging.{IsRefused-passes, Passes-bad_name, Passes-bad_reader, Passes-bad_span, Passes-bad_table, Passes-bad_text, Passes-full, Passes-moved, Passes-no_mark, Passes-no_paragraph, Passes-no_table, Passes-not_struck, Passes-nothing_to_undo, Passes-resolved, Passes-start, Passes-struck, Passes-too_long, Passes-undefined, Passes-untranslatable}

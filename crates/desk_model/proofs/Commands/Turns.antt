@@ -11,7 +11,7 @@ use Rattle.desk_model.specs.Book.{Book, Paragraph, paragraph_of, text_of}
 use Rattle.desk_model.specs.Judging.{Passes}
 use Rattle.desk_model.specs.Limits.{most_paragraphs, most_print, most_version}
 use Rattle.desk_model.specs.Refusals.{HasLongNote, HasLongPrint, HasLongText, IsAccepted, IsTooLong, live_paragraph, new_print, note_given, paragraphs_named, table_named, text_given, text_stored}
-use Rattle.desk_model.specs.Stored.{IsUnbarred, IsFirstBarred}
+use Rattle.desk_model.specs.NormalForm.{IsUnbarred, IsFirstBarred}
 use Rattle.desk_model.proofs.Commands.Judging.{IsAccepted-passes, Passes-bad_text, Passes-full, Passes-moved, Passes-no_paragraph, Passes-no_table, Passes-skip, Passes-struck, Passes-too_long, skips}
 use Rattle.desk_model.proofs.Commands.TextTests.{IsUnbarred-none}
 

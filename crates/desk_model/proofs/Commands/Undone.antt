@@ -3,10 +3,10 @@ use Rattle.std.proofs.Common.{ℕ, refl, ap, ◌∙◌}
 use Rattle.desk_command.specs.declared.command.Command.TheVariants.{Undo}
 use Rattle.desk_model.specs.Book.{Book, Paragraph, Undoes}
 use Rattle.desk_model.specs.Print.{with_entry}
-use Rattle.desk_model.specs.Restored.{RestoresPrint}
+use Rattle.desk_model.specs.Restoration.{RestoresPrint}
 use Rattle.desk_model.specs.Sound.{IsSound}
 use Rattle.desk_model.specs.Step.{Makes}
-use Rattle.desk_model.proofs.Books.HistoryLists.{IsLast-parts, corrected-before, newest-parts}
+use Rattle.desk_model.proofs.Books.HistoryLists.{IsLast-parts, corrected_print-before, newest-parts}
 use Rattle.desk_model.proofs.Books.ParagraphLists.{found, found-changed}
 use Rattle.desk_model.proofs.Books.SoundBooks.{IsSoundParagraph-found}
 
@@ -27,5 +27,5 @@ RestoresPrint-undo book next id sound (n, r, is, e) =
       later = with_entry (Undoes n) p;
       found_later = ap (λ (b : Book). found id b.paragraphs) e ∙ found-changed id (with_entry (Undoes n)) (λ q. refl) book.paragraphs p is.found;
       entry = refl;
-      print = corrected-before p.original p.history s.history.entries n r is.newest_is;
+      print = corrected_print-before p.original p.history s.history.entries n r is.newest_is;
     }

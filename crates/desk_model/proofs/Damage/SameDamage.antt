@@ -8,7 +8,7 @@ use Rattle.desk_parts.specs.declared.file_table.FileTable.{FileTable}
 use Rattle.desk_parts.specs.declared.file_table.FileTable.TheVariants.{Book, Tab, Para, Corr, Mark, Cache, NamedCorr}
 use Rattle.desk_model.specs.Damage.{HasPara, HasSoundEntries, IsDamaged, IsDamagedBook, IsDamagedCache, IsDamagedEntries, IsDamagedMark, IsDamagedPara, IsDamagedTab, IsFirstDamage, IsItsTable, IsNumber, IsSoundCacheRow, IsSoundMarkRow, IsSoundParaRow, IsWithin, rows_with}
 use Rattle.desk_parts.specs.FileRows.{FileRows, entries_in}
-use Rattle.desk_parts.specs.Rows.{Cached as CacheRow, Mark as MarkRow, NamedCorr as EntryRow, Para as ParaRow, Tab as TabRow}
+use Rattle.desk_parts.specs.Rows.{Mark as MarkRow, NamedCorr as EntryRow, Para as ParaRow, ParaCells, Tab as TabRow}
 use Rattle.desk_model.specs.SameRows.{AreSameCaches, AreSameRows}
 use Rattle.desk_model.proofs.Lists.Permutations.{IsPermutation-filter}
 use Rattle.desk_model.proofs.Rows.SameRows.{entries_in-moved, table_of-moved, turned}
@@ -101,11 +101,11 @@ sound-mark paras paras' marks marks' paras-moved marks-moved row sound = record 
 
 -- ---- cache
 
-sound-cache : (tabs tabs' : List TabRow) (paras paras' : List ParaRow) (caches caches' : List CacheRow)
+sound-cache : (tabs tabs' : List TabRow) (paras paras' : List ParaRow) (caches caches' : List ParaCells)
     → IsPermutation tabs tabs' → IsPermutation paras paras' → IsPermutation caches caches'
-    → (row : CacheRow) → IsSoundCacheRow tabs paras caches row → IsSoundCacheRow tabs' paras' caches' row
+    → (row : ParaCells) → IsSoundCacheRow tabs paras caches row → IsSoundCacheRow tabs' paras' caches' row
 sound-cache tabs tabs' paras paras' caches caches' tabs-moved paras-moved caches-moved row sound = record {
-  once = rows_with-moved (λ (other : CacheRow). other.para) caches caches' caches-moved row.para ∙ sound.once;
+  once = rows_with-moved (λ (other : ParaCells). other.para) caches caches' caches-moved row.para ∙ sound.once;
   paragraph = sound.paragraph;
   there = Contains-permutation paras paras' sound.paragraph paras-moved sound.there;
   named = sound.named;
@@ -156,7 +156,7 @@ module _ (a b : FileRows) (same : AreSameRows a b) where
     λ sound. unsound (sound-mark b.paras a.paras b.marks a.marks back.paras back.marks row sound),
   )
 
-  damaged-cache : (caches others : List CacheRow) → IsPermutation caches others → (id : ℤ) → IsDamagedCache a.tabs a.paras caches id → IsDamagedCache b.tabs b.paras others id
+  damaged-cache : (caches others : List ParaCells) → IsPermutation caches others → (id : ℤ) → IsDamagedCache a.tabs a.paras caches id → IsDamagedCache b.tabs b.paras others id
   damaged-cache caches others moved id (inl (row, there, is, unsound)) =
       let turns = IsPermutation-sym caches others moved in
       inl (
@@ -166,17 +166,17 @@ module _ (a b : FileRows) (same : AreSameRows a b) where
         λ sound. unsound (sound-cache b.tabs a.tabs b.paras a.paras others caches back.tabs back.paras turns row sound),
       )
   damaged-cache caches others moved id (inr (has, none)) =
-      inr (para-moved a.paras b.paras same.paras id has, rows_with-moved (λ (row : CacheRow). row.para) caches others moved id ∙ none)
+      inr (para-moved a.paras b.paras same.paras id has, rows_with-moved (λ (row : ParaCells). row.para) caches others moved id ∙ none)
 
-  damaged-caches : (x y : Option (List CacheRow)) → AreSameCaches x y → (id : ℤ)
-      → (caches : List CacheRow) × (x ≡ Some caches) × IsDamagedCache a.tabs a.paras caches id
-      → (caches : List CacheRow) × (y ≡ Some caches) × IsDamagedCache b.tabs b.paras caches id
+  damaged-caches : (x y : Option (List ParaCells)) → AreSameCaches x y → (id : ℤ)
+      → (caches : List ParaCells) × (x ≡ Some caches) × IsDamagedCache a.tabs a.paras caches id
+      → (caches : List ParaCells) × (y ≡ Some caches) × IsDamagedCache b.tabs b.paras caches id
   damaged-caches None None nothing id (caches, is, damage) = absurd (cc)
   damaged-caches None (Some others) other id damage = absurd other
   damaged-caches (Some some) None other id damage = absurd other
   damaged-caches (Some some) (Some others) moved id (caches, is, damage) =
       let own : some ≡ caches = cc in
-      (others, refl, damaged-cache some others moved id (subst (λ (rows : List CacheRow). IsDamagedCache a.tabs a.paras rows id) (sym own) damage))
+      (others, refl, damaged-cache some others moved id (subst (λ (rows : List ParaCells). IsDamagedCache a.tabs a.paras rows id) (sym own) damage))
 
   pub damaged : (table : FileTable) (id : ℤ) → IsDamaged a table id → IsDamaged b table id
   damaged Book id damage = subst (λ books. IsDamagedBook books id) same.books damage

@@ -24,11 +24,11 @@ use Rattle.desk_model.specs.Damage.{HasPara, HasSoundEntries, IsDamaged, IsDamag
 use Rattle.desk_parts.specs.FileRows.{FileRows, HasEntryTexts, entries_in, spelled_entry, spelled_para}
 use Rattle.desk_model.specs.Limits.{most_print}
 use Rattle.desk_model.specs.Name.{IsProofreaderName}
-use Rattle.desk_model.specs.Print.{corrected}
-use Rattle.desk_parts.specs.Rows.{Cached, NamedCorr, Para}
+use Rattle.desk_model.specs.Print.{corrected_print}
+use Rattle.desk_parts.specs.Rows.{NamedCorr, Para, ParaCells}
 use Rattle.desk_model.specs.Shows.{AreCached, IsCached, Shows, entry_row_of, entry_rows_of, para_of}
 use Rattle.desk_model.specs.Sound.{IsSoundEntry, IsSoundHistory}
-use Rattle.desk_model.specs.Stored.{IsUnbarred}
+use Rattle.desk_model.specs.NormalForm.{IsUnbarred}
 use Rattle.desk_model.proofs.Lists.Items.{Contains-there}
 use Rattle.desk_model.proofs.Lists.Members.{Contains-behind, Contains-cases, Contains-here, Contains-map, Contains-none}
 use Rattle.desk_model.proofs.Rows.OneBook.{from_flat_map, named_in}
@@ -127,7 +127,7 @@ no_text bytes utf8 none = same_bytes bytes [] utf8 ([], (refl, refl)) (sym none 
 
 -- a row of a sound entry is sound
 fits : (original : List ℕ) (before : List Entry) (id n : ℕ) (entry : Entry) (row : NamedCorr) → IsSoundEntry original before entry → entry_row_of id (n, entry) ≡ spelled_entry row
-    → HasEntryTexts row → IsSoundCorrection (corrected original before) row ⊎ IsSoundUndo before row
+    → HasEntryTexts row → IsSoundCorrection (corrected_print original before) row ⊎ IsSoundUndo before row
 fits original before id n (Corrects r who) row sound is texts =
     let start : pos r.start ≡ row.entry.start = ap (λ (e : NamedCorr). e.entry.start) is in
     let len : pos r.count ≡ row.entry.len = ap (λ (e : NamedCorr). e.entry.len) is in
@@ -135,7 +135,7 @@ fits original before id n (Corrects r who) row sound is texts =
       kind = sym (ap (λ (e : NamedCorr). e.entry.kind) is);
       start = subst (λ z. pos 0 ≤ℤ z) start (pos_le 0 r.start (omega arith));
       len = subst (λ z. pos 0 ≤ℤ z) len (pos_le 0 r.count (omega arith));
-      span = subst (λ z. z ≤ℤ pos (length (corrected original before))) (ap₂ (λ (a b : ℤ). a +ℤ b) start len) (pos_le (r.start + r.count) (length (corrected original before)) sound.0);
+      span = subst (λ z. z ≤ℤ pos (length (corrected_print original before))) (ap₂ (λ (a b : ℤ). a +ℤ b) start len) (pos_le (r.start + r.count) (length (corrected_print original before)) sound.0);
       text = subst IsUnbarred (ap (λ (e : NamedCorr). e.entry.body) is) sound.1.unbarred;
       who = subst IsProofreaderName (ap (λ (e : NamedCorr). e.who) is) sound.2;
     })
@@ -194,9 +194,9 @@ module _ (rows : FileRows) (book : Book) (shown : Shows rows book) where
         (record {
           number = sym (ap (λ (e : NamedCorr). e.entry.seq) found.2) ∙ (seq-of p.id (1 + index) found.0 ∙ ap pos next);
           room = omega (arith, within, sound.few);
-          fits = subst (λ h. IsSoundCorrection (corrected p.original h) row ⊎ IsSoundUndo h row) (sym (taken index))
+          fits = subst (λ h. IsSoundCorrection (corrected_print p.original h) row ⊎ IsSoundUndo h row) (sym (taken index))
               (fits p.original (take index p.history) p.id (1 + index) found.0 row (sound.entries index found.0 found.1) found.2 (All-contains HasEntryTexts all_entries row shown.texts.entries among));
-          short = subst (λ h. length (corrected p.original h) ≤ most_print) (sym (taken (index + 1))) (sound.short (index + 1) (omega (arith, within)));
+          short = subst (λ h. length (corrected_print p.original h) ≤ most_print) (sym (taken (index + 1))) (sound.short (index + 1) (omega (arith, within)));
         })
 
   sound-entries_of : (para : Para) → Contains rows.paras para → HasSoundEntries all_entries para
@@ -212,7 +212,7 @@ module _ (rows : FileRows) (book : Book) (shown : Shows rows book) where
         sorted = sorted para p in_book id original;
         its_own = (in_order para p in_book id original).1;
         each = sound-entry_row para p in_book id original s.history;
-        print = ap₂ corrected (sym original) (history-of para p in_book id original) ∙ ap (λ (r : Para). r.print) is;
+        print = ap₂ corrected_print (sym original) (history-of para p in_book id original) ∙ ap (λ (r : Para). r.print) is;
       }
 
   has-para : (p : Paragraph) (id : ℤ) → Contains book.paragraphs p → pos p.id ≡ id → HasPara rows.paras id
@@ -227,20 +227,20 @@ module _ (rows : FileRows) (book : Book) (shown : Shows rows book) where
 
   -- ---- cache
 
-  module _ (caches : List Cached) (are : AreCached book caches) where
+  module _ (caches : List ParaCells) (are : AreCached book caches) where
     cache-keys : IsPermutation (map (λ row. row.para) caches) (map pos (range_with_len 1 (length book.paragraphs)))
     cache-keys =
         IsPermutation-trans (map (λ row. row.para) caches) (map (λ p. pos p.id) book.paragraphs) (map pos (range_with_len 1 (length book.paragraphs))) are.one_each
         (subst (λ (zs : List ℤ). IsPermutation zs (map pos (range_with_len 1 (length book.paragraphs)))) (map-map pos (λ (p : Paragraph). p.id) book.paragraphs)
         (numbers-ids rows book shown))
 
-    once-cached : (row : Cached) → Contains caches row → rows_with (λ other. other.para) row.para caches ≡ 1
+    once-cached : (row : ParaCells) → Contains caches row → rows_with (λ other. other.para) row.para caches ≡ 1
     once-cached row c =
         let number = key-number (λ other. other.para) caches (length book.paragraphs) cache-keys row c in
-        ap (λ z. rows_with (λ (other : Cached). other.para) z caches) number.1
+        ap (λ z. rows_with (λ (other : ParaCells). other.para) z caches) number.1
         ∙ key-once (λ other. other.para) caches (length book.paragraphs) cache-keys number.0 number.2 number.3
 
-    sound-cache_row : (row : Cached) → Contains caches row → IsSoundCacheRow rows.tabs rows.paras caches row
+    sound-cache_row : (row : ParaCells) → Contains caches row → IsSoundCacheRow rows.tabs rows.paras caches row
     sound-cache_row row c =
         let is = All-contains (IsCached book) caches row are.cells c in
         let para = para_row rows book shown is.paragraph is.there in
@@ -264,7 +264,7 @@ module _ (rows : FileRows) (book : Book) (shown : Shows rows book) where
     sound-caches id (inr ((para, c, named), none)) =
         let number = key-number (λ other. other.id) rows.paras (length book.paragraphs) (para-keys rows book shown) para c in
         let one = key-once (λ other. other.para) caches (length book.paragraphs) cache-keys number.0 number.2 number.3 in
-        let zero_rows : rows_with (λ (other : Cached). other.para) (pos number.0) caches ≡ 0 = ap (λ z. rows_with (λ (other : Cached). other.para) z caches) (sym number.1 ∙ named) ∙ none in
+        let zero_rows : rows_with (λ (other : ParaCells). other.para) (pos number.0) caches ≡ 0 = ap (λ z. rows_with (λ (other : ParaCells). other.para) z caches) (sym number.1 ∙ named) ∙ none in
         omega (arith, one, zero_rows)
 
   pub sound : (table : FileTable) (id : ℤ) → ¬ IsDamaged rows table id

@@ -16,11 +16,11 @@ use Rattle.desk_model.specs.Book.{Entry, Corrects, Undoes, Book, Paragraph, Mark
 use Rattle.desk_model.specs.Damage.{IsDamagedMark, IsDamagedPara, IsItsTable, IsPrintText, IsSoundMarkRow, IsSoundParaRow, IsWithin}
 use Rattle.desk_parts.specs.FileRows.{FileRows, HasParaTexts, HasTabText, spelled_mark, spelled_para}
 use Rattle.desk_model.specs.Limits.{most_marks, most_note, most_paragraphs, most_print}
-use Rattle.desk_model.specs.Print.{corrected, print_of}
+use Rattle.desk_model.specs.Print.{corrected_print, print_of}
 use Rattle.desk_parts.specs.Rows.{Para, Mark as MarkRow}
 use Rattle.desk_model.specs.Shows.{Shows, mark_row_of, para_of, paras_of}
 use Rattle.desk_model.specs.Sound.{IsSoundEntry, IsSoundMark, IsSoundParagraph}
-use Rattle.desk_model.specs.Stored.{IsUnbarred, is_barred}
+use Rattle.desk_model.specs.NormalForm.{IsUnbarred, is_barred}
 use Rattle.desk_model.proofs.Lists.Members.{Contains-map}
 use Rattle.desk_model.proofs.Books.ParagraphLists.{Contains-found, id-found, ids_of}
 use Rattle.desk_model.proofs.Books.PrintCharacters.{HasText, print-all}
@@ -44,7 +44,7 @@ module _ (book : Book) (p : Paragraph) (sound : IsSoundParagraph book p) where
   short-original = sound.history.short 0 (omega arith)
 
   pub short-print : length (print_of p) ≤ most_print
-  short-print = subst (λ h. length (corrected p.original h) ≤ most_print) (take-length p.history) (sound.history.short (length p.history) (omega arith))
+  short-print = subst (λ h. length (corrected_print p.original h) ≤ most_print) (take-length p.history) (sound.history.short (length p.history) (omega arith))
 
 -- ---- keys
 

@@ -29,8 +29,8 @@ use Rattle.desk_model.specs.Damage.{HasItsTables, HasSoundEntries, IsDamaged, Is
 use Rattle.desk_parts.specs.FileRows.{AreTexts, EntryRows, FileRows, HasEntryTexts, HasMarkText, HasParaTexts, HasTabText, Named, Unnamed, entries_in, format_of, spelled_entry, spelled_mark, spelled_para, spelled_tab, table_of}
 use Rattle.desk_model.specs.Limits.{most_marks, most_paragraphs, most_version}
 use Rattle.desk_model.specs.Name.{IsTableName, is_name_character}
-use Rattle.desk_model.specs.Print.{corrected, print_of}
-use Rattle.desk_parts.specs.Rows.{Cached, Mark as MarkRow, NamedCorr, Para, Tab}
+use Rattle.desk_model.specs.Print.{corrected_print, print_of}
+use Rattle.desk_parts.specs.Rows.{Mark as MarkRow, NamedCorr, Para, ParaCells, Tab}
 use Rattle.desk_model.specs.Shows.{AreCached, IsCached, Shows, book_row_of, entry_rows_of, mark_row_of, para_of, paras_of, tab_of}
 use Rattle.desk_model.specs.Sound.{IsSound, IsSoundMark, IsSoundParagraph, IsSoundTable}
 use Rattle.desk_model.proofs.Rows.BookRows.{name_low}
@@ -335,7 +335,7 @@ module _ (rows : FileRows) (texts : AreTexts rows) (its : HasItsTables rows) (no
         history-rows (number para.id) 1 h.sorted (λ i row at.
         let s = h.each i row at in
         let next : i + 1 ≡ 1 + i = omega arith in
-        entry-row row (number para.id) (1 + i) (corrected (chars para.original) (history_of (take i h.sorted))) (history_of (take i h.sorted))
+        entry-row row (number para.id) (1 + i) (corrected_print (chars para.original) (history_of (take i h.sorted))) (history_of (take i h.sorted))
         (named-entry para c i row at ∙ sym (id-back para c)) (s.number ∙ ap pos next) s.fits)
 
     groups-made : (ps : List Para) (all : All (Contains rows.paras) ps)
@@ -502,14 +502,14 @@ module _ (rows : FileRows) (texts : AreTexts rows) (its : HasItsTables rows) (no
 
     -- ---- braille
 
-    module _ (caches : List Cached) (no_damage : (id : ℤ) → ¬ IsDamagedCache rows.tabs rows.paras caches id) where
-      abbrev cache_id : Cached → ℤ
+    module _ (caches : List ParaCells) (no_damage : (id : ℤ) → ¬ IsDamagedCache rows.tabs rows.paras caches id) where
+      abbrev cache_id : ParaCells → ℤ
       cache_id row = row.para
 
-      cache-row : (row : Cached) → Contains caches row → IsSoundCacheRow rows.tabs rows.paras caches row
+      cache-row : (row : ParaCells) → Contains caches row → IsSoundCacheRow rows.tabs rows.paras caches row
       cache-row = sound-cache rows.tabs rows.paras caches no_damage
 
-      is-cached : (row : Cached) → Contains caches row → IsCached book row
+      is-cached : (row : ParaCells) → Contains caches row → IsCached book row
       is-cached row c =
           let s = cache-row row c in
           let p = paragraph-of_row s.paragraph s.there in

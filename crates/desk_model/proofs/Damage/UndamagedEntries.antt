@@ -12,7 +12,7 @@ use Rattle.std.proofs.lemmas.Simd.{map-map}
 use Rattle.desk_model.specs.Book.{Entry, Replacement}
 use Rattle.desk_model.specs.Damage.{HasPara, HasSoundEntries, IsDamagedEntries, IsSoundCorrection, IsSoundEntryRow, IsSoundUndo, IsWithin, history_of, rows_with}
 use Rattle.desk_model.specs.Limits.{most_entries, most_print}
-use Rattle.desk_model.specs.Print.{corrected, newest}
+use Rattle.desk_model.specs.Print.{corrected_print, newest}
 use Rattle.desk_parts.specs.Rows.{NamedCorr, Para}
 use Rattle.desk_model.proofs.Commands.Accepted.{IsProofreaderName-stable}
 use Rattle.desk_model.proofs.Lists.Decisions.{at_most, below, given}
@@ -66,8 +66,8 @@ entry-stable : (original : List ℕ) (sorted : List NamedCorr) (index : ℕ) (ro
 entry-stable original sorted index row twice = record {
   number = stable_from (same_int row.entry.seq (pos (index + 1))) (λ (s : IsSoundEntryRow original sorted index row). s.number) twice;
   room = stable_from (below index most_entries) (λ (s : IsSoundEntryRow original sorted index row). s.room) twice;
-  fits = fits-stable (corrected original (history_of (take index sorted))) (history_of (take index sorted)) row (lifted (λ (s : IsSoundEntryRow original sorted index row). s.fits) twice);
-  short = stable_from (at_most (length (corrected original (history_of (take (index + 1) sorted)))) most_print) (λ (s : IsSoundEntryRow original sorted index row). s.short) twice;
+  fits = fits-stable (corrected_print original (history_of (take index sorted))) (history_of (take index sorted)) row (lifted (λ (s : IsSoundEntryRow original sorted index row). s.fits) twice);
+  short = stable_from (at_most (length (corrected_print original (history_of (take (index + 1) sorted)))) most_print) (λ (s : IsSoundEntryRow original sorted index row). s.short) twice;
 }
 
 -- ---- numbers in order
@@ -146,8 +146,8 @@ module _ (entries : List NamedCorr) (para : Para) (twice : ¬ ¬ HasSoundEntries
         (lifted (λ (h : HasSoundEntries entries para).
         subst (λ rows. IsSoundEntryRow (chars para.original) rows index row) (same-order h)
         (h.each index row (subst (λ rows. slice_get rows index ≡ Some row) (sym (same-order h)) at))) twice);
-    print = stable_from (same_text (corrected (chars para.original) (history_of sorted)) (chars para.print))
-        (λ (h : HasSoundEntries entries para). subst (λ rows. corrected (chars para.original) (history_of rows) ≡ chars para.print) (same-order h) h.print) twice;
+    print = stable_from (same_text (corrected_print (chars para.original) (history_of sorted)) (chars para.print))
+        (λ (h : HasSoundEntries entries para). subst (λ rows. corrected_print (chars para.original) (history_of rows) ≡ chars para.print) (same-order h) h.print) twice;
   }
 
 module _ (paras : List Para) (entries : List NamedCorr) (none : (id : ℤ) → ¬ IsDamagedEntries paras entries id) where

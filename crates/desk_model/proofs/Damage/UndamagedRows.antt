@@ -16,7 +16,7 @@ use Rattle.louis_translate.proofs.Tilings.{one_tiling}
 use Rattle.desk_parts.specs.declared.rows.BookRow.{BookRow}
 use Rattle.desk_model.specs.Damage.{IsDamagedBook, IsDamagedCache, IsDamagedMark, IsDamagedPara, IsDamagedTab, IsNumber, IsPrintText, IsSoundBookRow, IsSoundCacheRow, IsSoundMarkRow, IsSoundParaRow, IsSoundTabRow, rows_with}
 use Rattle.desk_model.specs.Limits.{most_marks, most_note, most_paragraphs, most_print, most_tables, most_version}
-use Rattle.desk_parts.specs.Rows.{Cached, Mark, Para, Tab}
+use Rattle.desk_parts.specs.Rows.{Mark, Para, ParaCells, Tab}
 use Rattle.desk_model.proofs.Commands.Accepted.{IsTableName-stable}
 use Rattle.desk_model.proofs.Lists.Decisions.{Decided, at_most, below, both, either, implied}
 use Rattle.desk_model.proofs.Commands.FirstUndefined.{defined_or_first}
@@ -190,14 +190,14 @@ module _ (paras : List Para) (marks : List Mark) (none : (id : ℤ) → ¬ IsDam
 
 -- ---- cache
 
-module _ (tabs : List Tab) (paras : List Para) (caches : List Cached) (none : (id : ℤ) → ¬ IsDamagedCache tabs paras caches id) where
+module _ (tabs : List Tab) (paras : List Para) (caches : List ParaCells) (none : (id : ℤ) → ¬ IsDamagedCache tabs paras caches id) where
   -- by the table, the cells are the braille of the paragraph
-  abbrev Translates : Cached → Para → Tab → Type 0
+  abbrev Translates : ParaCells → Para → Tab → Type 0
   Translates row para table =
       (table.name ≡ para.tab)
       × ((meaning : Meaning) × Means table.body meaning × (row.cells ≡ braille meaning (chars para.print) (one_tiling meaning (chars para.print)).0))
 
-  is_translated : (row : Cached) → Decided ((para : Para) × Contains paras para × ((para.id ≡ row.para) × ((table : Tab) × Contains tabs table × Translates row para table)))
+  is_translated : (row : ParaCells) → Decided ((para : Para) × Contains paras para × ((para.id ≡ row.para) × ((table : Tab) × Contains tabs table × Translates row para table)))
   is_translated row =
       among (λ (para : Para). (para.id ≡ row.para) × ((table : Tab) × Contains tabs table × Translates row para table))
       (λ para. both (same_int para.id row.para)
@@ -206,20 +206,20 @@ module _ (tabs : List Tab) (paras : List Para) (caches : List Cached) (none : (i
       (meant (λ m. row.cells ≡ braille m (chars para.print) (one_tiling m (chars para.print)).0)
       (λ m. same_text row.cells (braille m (chars para.print) (one_tiling m (chars para.print)).0)) table.body)) tabs)) paras
 
-  translated : (row : Cached) → IsSoundCacheRow tabs paras caches row
+  translated : (row : ParaCells) → IsSoundCacheRow tabs paras caches row
       → (para : Para) × Contains paras para × ((para.id ≡ row.para) × ((table : Tab) × Contains tabs table × Translates row para table))
   translated row s =
       let only = (one_tiling s.meaning (chars s.paragraph.print)).2 s.choices s.tiles in
       (s.paragraph, s.there, (s.named, (s.table.table, s.table.there, (s.table.named, (s.meaning, s.table.means, s.cells ∙ ap (braille s.meaning (chars s.paragraph.print)) only)))))
 
-  pub sound-cache : (row : Cached) → Contains caches row → IsSoundCacheRow tabs paras caches row
+  pub sound-cache : (row : ParaCells) → Contains caches row → IsSoundCacheRow tabs paras caches row
   sound-cache row c =
       let twice : ¬ ¬ IsSoundCacheRow tabs paras caches row = λ unsound. none row.para (inl (row, c, refl, unsound)) in
       let by = stable_from (is_translated row) (translated row) twice in
       let its = by.2.1 in
       let tiled = one_tiling its.2.1.0 (chars by.0.print) in
       record {
-        once = stable_from (same_nat (rows_with (λ (other : Cached). other.para) row.para caches) 1) (λ (s : IsSoundCacheRow tabs paras caches row). s.once) twice;
+        once = stable_from (same_nat (rows_with (λ (other : ParaCells). other.para) row.para caches) 1) (λ (s : IsSoundCacheRow tabs paras caches row). s.once) twice;
         paragraph = by.0;
         there = by.1;
         named = by.2.0;
@@ -231,7 +231,7 @@ module _ (tabs : List Tab) (paras : List Para) (caches : List Cached) (none : (i
       }
 
   -- each paragraph has a row
-  pub each-cached : (para : Para) → Contains paras para → (row : Cached) × Contains caches row × (row.para ≡ para.id)
+  pub each-cached : (para : Para) → Contains paras para → (row : ParaCells) × Contains caches row × (row.para ≡ para.id)
   each-cached para c =
-      stable (among (λ (row : Cached). row.para ≡ para.id) (λ row. same_int row.para para.id) caches)
-      (λ lacks. none para.id (inr ((para, c, refl), none-with (λ (row : Cached). row.para) para.id caches lacks)))
+      stable (among (λ (row : ParaCells). row.para ≡ para.id) (λ row. same_int row.para para.id) caches)
+      (λ lacks. none para.id (inr ((para, c, refl), none-with (λ (row : ParaCells). row.para) para.id caches lacks)))

@@ -13,10 +13,10 @@ use Rattle.louis_translate.specs.Braille.{braille}
 use Rattle.louis_translate.proofs.Tilings.{one_tiling}
 use Rattle.desk_parts.specs.declared.file_table.FileTable.TheVariants.{Corr as CorrTable, NamedCorr as NamedCorrTable}
 use Rattle.desk_model.specs.Book.{Entry, Corrects, Undoes, Paragraph, Book}
-use Rattle.desk_parts.specs.FileRows.{FileRows, HasEntryTexts, HasMarkText, HasParaTexts, HasTabText, Named, Unnamed, spelled_entry, spelled_mark, spelled_para, spelled_tab, table_of, unnamed}
+use Rattle.desk_parts.specs.FileRows.{FileRows, HasEntryTexts, HasMarkText, HasParaTexts, HasTabText, Named, Unnamed, spelled_entry, spelled_mark, spelled_para, spelled_tab, table_of, without_name}
 use Rattle.desk_model.specs.Name.{IsTableName, is_name_character}
 use Rattle.desk_model.specs.Print.{print_of}
-use Rattle.desk_parts.specs.Rows.{Corr, Tab, Para, NamedCorr, Mark as MarkRow, Cached}
+use Rattle.desk_parts.specs.Rows.{Corr, Tab, Para, NamedCorr, Mark as MarkRow, ParaCells}
 use Rattle.desk_model.specs.Shows.{AreCached, IsCached, IsUnnamed, Shows, book_row_of, entry_row_of, entry_rows_of, mark_row_of, para_of, paras_of, tab_of}
 use Rattle.desk_model.specs.Sound.{IsSound, IsSoundEntry, IsSoundMark, IsSoundParagraph, IsSoundTable}
 use Rattle.desk_command.specs.Characters.{AreCharacters}
@@ -131,20 +131,20 @@ encoded_corr e = record e.entry { body = encodes e.entry.body }
 abbrev HasNoName : NamedCorr → Type 0
 HasNoName e = e.who ≡ []
 
-unnamed-back : (es : List NamedCorr) → All EntryCharacters es → All HasNoName es → map spelled_entry (map unnamed (map encoded_corr es)) ≡ es
-unnamed-back [] all none = refl
-unnamed-back (e ∷ es) all none =
+without_name-back : (es : List NamedCorr) → All EntryCharacters es → All HasNoName es → map spelled_entry (map without_name (map encoded_corr es)) ≡ es
+without_name-back [] all none = refl
+without_name-back (e ∷ es) all none =
     let texts = All-head EntryCharacters e es all in
     let name : chars [] ≡ e.who = chars-nil ∙ sym (All-head HasNoName e es none) in
-    let rest = unnamed-back es (All-tail EntryCharacters e es all) (All-tail HasNoName e es none) in
+    let rest = without_name-back es (All-tail EntryCharacters e es all) (All-tail HasNoName e es none) in
     λ i. record { entry = record e.entry { body = spelled-encoded e.entry.body texts.0 i }; who = name i } ∷ rest i
 
-unnamed-texts : (es : List NamedCorr) → All EntryCharacters es → All HasEntryTexts (map unnamed (map encoded_corr es))
-unnamed-texts [] all = All-nil HasEntryTexts
-unnamed-texts (e ∷ es) all =
+without_name-texts : (es : List NamedCorr) → All EntryCharacters es → All HasEntryTexts (map without_name (map encoded_corr es))
+without_name-texts [] all = All-nil HasEntryTexts
+without_name-texts (e ∷ es) all =
     let texts = All-head EntryCharacters e es all in
-    All-cons HasEntryTexts (unnamed (encoded_corr e)) (map unnamed (map encoded_corr es)) (encoded-text e.entry.body texts.0, ([], (refl, refl)))
-    (unnamed-texts es (All-tail EntryCharacters e es all))
+    All-cons HasEntryTexts (without_name (encoded_corr e)) (map without_name (map encoded_corr es)) (encoded-text e.entry.body texts.0, ([], (refl, refl)))
+    (without_name-texts es (All-tail EntryCharacters e es all))
 
 module _ (book : Book) (sound : IsSound book) where
   -- ---- the cells of its paragraphs
@@ -155,7 +155,7 @@ module _ (book : Book) (sound : IsSound book) where
   abbrev cells_for : (p : Paragraph) → IsSoundParagraph book p → List ℕ
   cells_for p s = braille s.meaning (print_of p) (one_tiling s.meaning (print_of p)).0
 
-  abbrev cached : (ps : List Paragraph) → All IsIn ps → List Cached
+  abbrev cached : (ps : List Paragraph) → All IsIn ps → List ParaCells
   cached [] all = []
   cached (p ∷ ps) all = record { para = pos p.id; cells = cells_for p (All-head IsIn p ps all).1 } ∷ cached ps (All-tail IsIn p ps all)
 
@@ -186,7 +186,7 @@ module _ (book : Book) (sound : IsSound book) where
     cells = cached-cells book.paragraphs all-in;
   }
 
-  pub book_caches : (caches : List Cached) × AreCached book caches
+  pub book_caches : (caches : List ParaCells) × AreCached book caches
   book_caches = (cached book.paragraphs all-in, are-cached)
 
   -- ---- the characters of its texts
@@ -268,13 +268,13 @@ module _ (book : Book) (sound : IsSound book) where
           texts = record {
             tabs = all.texts.tabs;
             paras = all.texts.paras;
-            entries = unnamed-texts (flat_map entry_rows_of book.paragraphs) entry_characters;
+            entries = without_name-texts (flat_map entry_rows_of book.paragraphs) entry_characters;
             marks = all.texts.marks;
           };
           row = refl;
           tables = all.tables;
           paragraphs = all.paragraphs;
-          entries = IsPermutation-same _ (flat_map entry_rows_of book.paragraphs) (unnamed-back (flat_map entry_rows_of book.paragraphs) entry_characters unnamed_book);
+          entries = IsPermutation-same _ (flat_map entry_rows_of book.paragraphs) (without_name-back (flat_map entry_rows_of book.paragraphs) entry_characters unnamed_book);
           marks = all.marks;
           caches = λ rows same. absurd (cc);
         },

@@ -19,8 +19,8 @@ use Rattle.desk_parts.specs.declared.rows.BookRow.{BookRow}
 use Rattle.desk_model.specs.Book.{Book, Paragraph, empty_book}
 use Rattle.desk_parts.specs.FileRows.{EntryRows, FileRows, HasEntryTexts, HasMarkText, HasParaTexts, HasTabText, Named, entries_in, format_of, table_of}
 use Rattle.desk_model.specs.FilledRows.{AreEntriesOf, Fills, entry_puts, in_second_format, new_rows, second_format_puts, with_caches, with_empty, with_new_entries, with_new_tables}
-use Rattle.desk_parts.specs.Puts.{HasItsTable, HasTheirTables, PutBook, PutCache, PutEntry, RowPuts, put_in, with_put, with_puts}
-use Rattle.desk_parts.specs.Rows.{Cached, NamedCorr}
+use Rattle.desk_parts.specs.Puts.{HasItsTable, HasTheirTables, PutBook, PutCache, PutEntry, RowPuts, put_by_key, with_put, with_puts}
+use Rattle.desk_parts.specs.Rows.{ParaCells, NamedCorr}
 use Rattle.desk_model.specs.Shows.{AreCached, IsCached, IsUnnamed, Shows, book_row_of}
 use Rattle.desk_model.specs.Sound.{IsSound}
 use Rattle.desk_model.proofs.Rows.BookRows.{book_caches, some_rows, some_unnamed_rows}
@@ -50,7 +50,7 @@ new-shown = record {
 
 -- rows that show a book, with these in place of the row of `book`, of the entries and of the braille
 module _ (rows : FileRows) (book : Book) (shown : Shows rows book) where
-  with-others : (books : List BookRow) (entries : EntryRows) (caches : Option (List Cached)) → books ≡ book_row_of (format_of entries) book.version ∷ []
+  with-others : (books : List BookRow) (entries : EntryRows) (caches : Option (List ParaCells)) → books ≡ book_row_of (format_of entries) book.version ∷ []
       → AreEntriesOf book (entries_in entries) → ForSome caches (AreCached book) → Shows (record rows { books = books; entries = entries; caches = caches }) book
   with-others books entries caches row are cached = record {
     sound = shown.sound;
@@ -71,7 +71,7 @@ module _ (rows : FileRows) (book : Book) (shown : Shows rows book) where
       with-others (in_second_format rows).books (Named (entries_in rows.entries)) rows.caches
       (ap (map (λ (row : BookRow). record row { format = pos 2 })) shown.row) its-entries shown.caches
 
-  pub cached-shown : (caches : List Cached) → AreCached book caches → Shows (with_caches caches rows) book
+  pub cached-shown : (caches : List ParaCells) → AreCached book caches → Shows (with_caches caches rows) book
   cached-shown caches are =
       with-others rows.books rows.entries (Some caches) shown.row its-entries (λ others same. subst (AreCached book) (same_some caches others same) are)
 
@@ -103,7 +103,7 @@ put-second : (rows : FileRows) (format version : ℕ) → rows.books ≡ book_ro
 put-second rows format version row entries =
     let book_row = book_row_of 2 version in
     let made = put-entries (record rows { books = book_row ∷ [] }) entries [] in
-    let one : put_in (λ (b : BookRow). int_eq b.id (pos 1)) book_row rows.books ≡ book_row ∷ [] = ap (put_in (λ (b : BookRow). int_eq b.id (pos 1)) book_row) row in (
+    let one : put_by_key (λ (b : BookRow). int_eq b.id (pos 1)) book_row rows.books ≡ book_row ∷ [] = ap (put_by_key (λ (b : BookRow). int_eq b.id (pos 1)) book_row) row in (
       made.0,
       subst (λ (some : List NamedCorr). IsPermutation some made.0) (append-nil entries) made.1,
       ap (λ (books : List BookRow). with_puts (map PutEntry entries) (record (with_new_entries rows) { books = books })) one ∙ made.2,
@@ -117,33 +117,33 @@ module _ (rows : FileRows) (book : Book) (shown : Shows rows book) (entries : Li
 
 -- ---- rows of braille put one by one
 
-abbrev AreDistinct : List Cached → Type 0
+abbrev AreDistinct : List ParaCells → Type 0
 AreDistinct caches = IsDistinct int_eq (map (λ c. c.para) caches)
 
 -- a row of another paragraph than those that are there
-added : (row : Cached) (done : List Cached) → AreDistinct (row ∷ done) → put_in (λ (c : Cached). int_eq c.para row.para) row done ≡ row ∷ done
+added : (row : ParaCells) (done : List ParaCells) → AreDistinct (row ∷ done) → put_by_key (λ (c : ParaCells). int_eq c.para row.para) row done ≡ row ∷ done
 added row done apart =
-    ap (λ (others : List Cached). row ∷ others)
-    (filter-all (λ (c : Cached). not (int_eq c.para row.para)) done
+    ap (λ (others : List ParaCells). row ∷ others)
+    (filter-all (λ (c : ParaCells). not (int_eq c.para row.para)) done
     (others done (All-from_recursion (λ id. int_eq row.para id ≡ false) (map (λ c. c.para) done) (IsDistinct-head int_eq row.para (map (λ c. c.para) done) apart))))
   where
-    others : (caches : List Cached) → All (λ id. int_eq row.para id ≡ false) (map (λ c. c.para) caches) → All (λ c. not (int_eq c.para row.para) ≡ true) caches
+    others : (caches : List ParaCells) → All (λ id. int_eq row.para id ≡ false) (map (λ c. c.para) caches) → All (λ c. not (int_eq c.para row.para) ≡ true) caches
     others [] all = All-nil (λ c. not (int_eq c.para row.para) ≡ true)
     others (c ∷ caches) all =
         All-cons (λ c. not (int_eq c.para row.para) ≡ true) c caches
         (ap not (int_eq_equiv.symm c.para row.para ∙ All-head (λ id. int_eq row.para id ≡ false) c.para (map (λ c. c.para) caches) all))
         (others caches (All-tail (λ id. int_eq row.para id ≡ false) c.para (map (λ c. c.para) caches) all))
 
-AreDistinct-moved : (xs ys : List Cached) → IsPermutation xs ys → AreDistinct xs → AreDistinct ys
+AreDistinct-moved : (xs ys : List ParaCells) → IsPermutation xs ys → AreDistinct xs → AreDistinct ys
 AreDistinct-moved xs ys moved =
-    IsDistinct-IsPermutation int_eq (λ x y. int_eq_equiv.symm x y) (map (λ c. c.para) xs) (map (λ c. c.para) ys) (IsPermutation-map (λ (c : Cached). c.para) xs ys moved)
+    IsDistinct-IsPermutation int_eq (λ x y. int_eq_equiv.symm x y) (map (λ c. c.para) xs) (map (λ c. c.para) ys) (IsPermutation-map (λ (c : ParaCells). c.para) xs ys moved)
 
-AreDistinct-front : (xs ys : List Cached) → AreDistinct (xs ++ ys) → AreDistinct ys
+AreDistinct-front : (xs ys : List ParaCells) → AreDistinct (xs ++ ys) → AreDistinct ys
 AreDistinct-front [] ys apart = apart
 AreDistinct-front (x ∷ xs) ys apart = AreDistinct-front xs ys (IsDistinct-tail int_eq x.para (map (λ c. c.para) (xs ++ ys)) apart)
 
-put-caches : (rows : FileRows) (caches done : List Cached) → AreDistinct (caches ++ done)
-    → (made : List Cached) × IsPermutation (caches ++ done) made × (with_puts (map PutCache caches) (with_caches done rows) ≡ with_caches made rows)
+put-caches : (rows : FileRows) (caches done : List ParaCells) → AreDistinct (caches ++ done)
+    → (made : List ParaCells) × IsPermutation (caches ++ done) made × (with_puts (map PutCache caches) (with_caches done rows) ≡ with_caches made rows)
 put-caches rows [] done apart = (done, IsPermutation-refl done, refl)
 put-caches rows (row ∷ caches) done apart =
     let moved : IsPermutation (row ∷ caches ++ done) (caches ++ row ∷ done) =
@@ -152,7 +152,7 @@ put-caches rows (row ∷ caches) done apart =
     let rest = put-caches rows caches (row ∷ done) onward in (
       rest.0,
       IsPermutation-trans (row ∷ caches ++ done) (caches ++ row ∷ done) rest.0 moved rest.1,
-      ap (λ (all : List Cached). with_puts (map PutCache caches) (with_caches all rows)) (added row done (AreDistinct-front caches (row ∷ done) onward)) ∙ rest.2,
+      ap (λ (all : List ParaCells). with_puts (map PutCache caches) (with_caches all rows)) (added row done (AreDistinct-front caches (row ∷ done) onward)) ∙ rest.2,
     )
 
 IsDistinct-pos : (ids : List ℕ) → IsDistinct nat_eq ids → IsDistinct int_eq (map pos ids)
@@ -162,7 +162,7 @@ IsDistinct-pos ids apart =
     ap₂ int_eq (get_or-map pos ids i 0 d (omega arith)) (get_or-map pos ids j 0 d short)
     ∙ (int_eq-pos (get_or ids i 0) (get_or ids j 0) ∙ apart_from_distinct nat_eq ids i j 0 apart less short))
 
-module _ (book : Book) (sound : IsSound book) (caches : List Cached) (are : AreCached book caches) where
+module _ (book : Book) (sound : IsSound book) (caches : List ParaCells) (are : AreCached book caches) where
   cached-apart : AreDistinct caches
   cached-apart =
       IsDistinct-IsPermutation int_eq (λ x y. int_eq_equiv.symm x y) (map (λ (p : Paragraph). pos p.id) book.paragraphs) (map (λ c. c.para) caches)
@@ -170,16 +170,16 @@ module _ (book : Book) (sound : IsSound book) (caches : List Cached) (are : AreC
       (subst (IsDistinct int_eq) (map-map pos (λ (p : Paragraph). p.id) book.paragraphs) (IsDistinct-pos (ids_of book.paragraphs) (paragraphs-apart book sound)))
 
   -- the rows with these put, one by one, where none was
-  made_caches : (rows : FileRows) → (made : List Cached) × AreCached book made × (with_puts (map PutCache caches) (with_caches [] rows) ≡ with_caches made rows)
+  made_caches : (rows : FileRows) → (made : List ParaCells) × AreCached book made × (with_puts (map PutCache caches) (with_caches [] rows) ≡ with_caches made rows)
   made_caches rows =
       let made = put-caches rows caches [] (subst AreDistinct (sym (append-nil caches)) cached-apart) in
-      (made.0, AreCached-moved book caches made.0 (subst (λ (some : List Cached). IsPermutation some made.0) (append-nil caches) made.1) are, made.2)
+      (made.0, AreCached-moved book caches made.0 (subst (λ (some : List ParaCells). IsPermutation some made.0) (append-nil caches) made.1) are, made.2)
 
 with_puts-append : (some more : RowPuts) (rows : FileRows) → with_puts (some ++ more) rows ≡ with_puts more (with_puts some rows)
 with_puts-append [] more rows = refl
 with_puts-append (put ∷ some) more rows = with_puts-append some more (with_put put rows)
 
-module _ (rows : FileRows) (book : Book) (shown : Shows rows book) (caches : List Cached) (are : AreCached book caches) where
+module _ (rows : FileRows) (book : Book) (shown : Shows rows book) (caches : List ParaCells) (are : AreCached book caches) where
   pub caches-put : Shows (with_puts (map PutCache caches) (with_caches [] rows)) book
   caches-put =
       let made = made_caches book shown.sound caches are rows in
@@ -213,7 +213,7 @@ filled-shown Braille rows book puts shown (caches, cached, is) =
 entries-there : (rows : FileRows) → table_of rows.entries ≡ NamedCorrTable → (entries : List NamedCorr) → HasTheirTables (map PutEntry entries) rows
 entries-there rows named entries = All-map (HasItsTable rows) PutEntry entries (λ k d within. named)
 
-caches-there : (rows : FileRows) → IsSome rows.caches → (caches : List Cached) → HasTheirTables (map PutCache caches) rows
+caches-there : (rows : FileRows) → IsSome rows.caches → (caches : List ParaCells) → HasTheirTables (map PutCache caches) rows
 caches-there rows some caches = All-map (HasItsTable rows) PutCache caches (λ k d within. some)
 
 pub filled-there : (tables : NewTables) (rows : FileRows) (book : Book) (puts : RowPuts) → Fills tables book puts → HasTheirTables puts (with_empty tables rows)

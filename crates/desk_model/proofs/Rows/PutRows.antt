@@ -11,13 +11,13 @@ use Rattle.louis_translate.specs.Braille.{braille}
 use Rattle.louis_translate.specs.Tiling.{Tiles}
 use Rattle.desk_parts.specs.declared.rows.BookRow.{BookRow}
 use Rattle.desk_model.specs.Book.{Book, Paragraph, text_of}
-use Rattle.desk_model.specs.Lent.{row_number}
+use Rattle.desk_model.specs.Loans.{row_number}
 use Rattle.desk_model.specs.Limits.{most_version}
 use Rattle.desk_model.specs.Print.{print_of}
-use Rattle.desk_parts.specs.Puts.{put_in, set_where}
-use Rattle.desk_parts.specs.Rows.{Cached}
+use Rattle.desk_parts.specs.Puts.{put_by_key, set_by_key}
+use Rattle.desk_parts.specs.Rows.{ParaCells}
 use Rattle.desk_model.specs.Shows.{AreCached, IsCached, book_row_of}
-use Rattle.desk_model.specs.Translated.{IsBraille}
+use Rattle.desk_model.specs.Translation.{IsBraille}
 use Rattle.desk_model.proofs.Lists.Permutations.{IsPermutation-filter}
 use Rattle.desk_model.proofs.Lists.RowNumbers.{filter-map}
 
@@ -30,14 +30,14 @@ number-small n small = ap pos (let least : min n 9223372036854775807 ≡ n = ome
 
 -- the version
 pub versioned : (f v w : ℕ) (rows : List BookRow) → w ≤ most_version → rows ≡ book_row_of f v ∷ []
-    → set_where (λ (b : BookRow). int_eq b.id (pos 1)) (λ (b : BookRow). record b { version = row_number w }) rows ≡ book_row_of f w ∷ []
+    → set_by_key (λ (b : BookRow). int_eq b.id (pos 1)) (λ (b : BookRow). record b { version = row_number w }) rows ≡ book_row_of f w ∷ []
 versioned f v w rows small is =
-    ap (set_where (λ (b : BookRow). int_eq b.id (pos 1)) (λ (b : BookRow). record b { version = row_number w })) is
+    ap (set_by_key (λ (b : BookRow). int_eq b.id (pos 1)) (λ (b : BookRow). record b { version = row_number w })) is
     ∙ (λ i. record { id = pos 1; format = pos f; version = number-small w (omega arith) i } ∷ [])
 
 module _ {X : Type 0} (has_key : X → Bool) (set : X → X) where
   -- what setting columns keeps of each row holds of each
-  pub All-set_where : (P : X → Type 0) (xs : List X) → ((x : X) → P x → P (set x)) → All P xs → All P (set_where has_key set xs)
+  pub All-set_where : (P : X → Type 0) (xs : List X) → ((x : X) → P x → P (set x)) → All P xs → All P (set_by_key has_key set xs)
   All-set_where P xs keeps all =
       All-map P (λ x. cond (has_key x) (set x) x) xs
       (All-weaker P (λ x. P (cond (has_key x) (set x) x)) (λ x h. cond_both (has_key x) (set x) x P (λ e. keeps x h) (λ e. h)) xs all)
@@ -62,7 +62,7 @@ filter-all p (x ∷ xs) all =
     ∙ ap (λ (rest : List _). x ∷ rest) (filter-all p xs (All-tail (λ y. p y ≡ true) x xs all))
 
 -- what holds of a row that is put, and of the others by what held of them, holds of all
-pub All-put_apart : {X : Type 0} (P Q : X → Type 0) (has_key : X → Bool) (x : X) (xs : List X) → Q x → ((y : X) → has_key y ≡ false → P y → Q y) → All P xs → All Q (put_in has_key x xs)
+pub All-put_apart : {X : Type 0} (P Q : X → Type 0) (has_key : X → Bool) (x : X) (xs : List X) → Q x → ((y : X) → has_key y ≡ false → P y → Q y) → All P xs → All Q (put_by_key has_key x xs)
 All-put_apart {X} P Q has_key x xs here others all = All-cons Q x (apart xs) here (left xs all)
   where
     apart : List X → List X
@@ -79,12 +79,12 @@ All-put_apart {X} P Q has_key x xs here others all = All-cons Q x (apart xs) her
         ]
 
 -- the numbers of rows of braille once one is put
-pub IsPermutation-put_number : (rows : List Cached) (row : Cached) (old new : List ℤ) → IsPermutation (row.para ∷ filter (λ n. not (int_eq n row.para)) old) new
-    → IsPermutation (map (λ c. c.para) rows) old → IsPermutation (map (λ c. c.para) (put_in (λ c. int_eq c.para row.para) row rows)) new
+pub IsPermutation-put_number : (rows : List ParaCells) (row : ParaCells) (old new : List ℤ) → IsPermutation (row.para ∷ filter (λ n. not (int_eq n row.para)) old) new
+    → IsPermutation (map (λ c. c.para) rows) old → IsPermutation (map (λ c. c.para) (put_by_key (λ c. int_eq c.para row.para) row rows)) new
 IsPermutation-put_number rows row old new ids was =
-    let key : Cached → ℤ = λ c. c.para in
+    let key : ParaCells → ℤ = λ c. c.para in
     let apart : ℤ → Bool = λ n. not (int_eq n row.para) in
-    let left : List Cached = filter (λ c. apart (key c)) rows in
+    let left : List ParaCells = filter (λ c. apart (key c)) rows in
     let keys : map key left ≡ filter apart (map key rows) = sym (filter-map apart key rows) in
     subst (λ (ns : List ℤ). IsPermutation (row.para ∷ ns) new) (sym keys)
     (IsPermutation-trans (row.para ∷ filter apart (map key rows)) (row.para ∷ filter apart old) new
@@ -120,18 +120,18 @@ numbers-same ps qs same = numbers-ids ps ∙ (ap (map pos) same ∙ sym (numbers
 
 module _ (book next : Book) where
   -- each row has the braille of a paragraph of the next book, too
-  pub AreCached-same : (rows : List Cached) → IsPermutation (map id_number book.paragraphs) (map id_number next.paragraphs)
-      → ((row : Cached) → IsCached book row → IsCached next row) → AreCached book rows → AreCached next rows
+  pub AreCached-same : (rows : List ParaCells) → IsPermutation (map id_number book.paragraphs) (map id_number next.paragraphs)
+      → ((row : ParaCells) → IsCached book row → IsCached next row) → AreCached book rows → AreCached next rows
   AreCached-same rows ids same is = record {
-    one_each = IsPermutation-trans (map (λ (row : Cached). row.para) rows) (map id_number book.paragraphs) (map id_number next.paragraphs) is.one_each ids;
+    one_each = IsPermutation-trans (map (λ (row : ParaCells). row.para) rows) (map id_number book.paragraphs) (map id_number next.paragraphs) is.one_each ids;
     cells = All-weaker (IsCached book) (IsCached next) same rows is.cells;
   }
 
   -- one row is put, and the others have the braille of paragraphs of the next book, too
-  pub AreCached-put : (rows : List Cached) (row : Cached)
+  pub AreCached-put : (rows : List ParaCells) (row : ParaCells)
       → IsPermutation (row.para ∷ filter (λ n. not (int_eq n row.para)) (map id_number book.paragraphs)) (map id_number next.paragraphs)
-      → IsCached next row → ((other : Cached) → int_eq other.para row.para ≡ false → IsCached book other → IsCached next other)
-      → AreCached book rows → AreCached next (put_in (λ c. int_eq c.para row.para) row rows)
+      → IsCached next row → ((other : ParaCells) → int_eq other.para row.para ≡ false → IsCached book other → IsCached next other)
+      → AreCached book rows → AreCached next (put_by_key (λ c. int_eq c.para row.para) row rows)
   AreCached-put rows row ids here others is = record {
     one_each = IsPermutation-put_number rows row (map id_number book.paragraphs) (map id_number next.paragraphs) ids is.one_each;
     cells = All-put_apart (IsCached book) (IsCached next) (λ c. int_eq c.para row.para) row rows here others is.cells;

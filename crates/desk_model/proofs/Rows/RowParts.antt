@@ -12,7 +12,7 @@ use Rattle.desk_model.specs.Book.{Entry, Corrects, Undoes}
 use Rattle.desk_model.specs.Damage.{IsFlag, IsSoundCorrection, IsSoundEntryRow, IsSoundUndo, entry_of, history_of}
 use Rattle.desk_parts.specs.FileRows.{HasEntryTexts, spelled_entry}
 use Rattle.desk_model.specs.Limits.{most_entries, most_print}
-use Rattle.desk_model.specs.Print.{corrected}
+use Rattle.desk_model.specs.Print.{corrected_print}
 use Rattle.desk_parts.specs.Rows.{NamedCorr}
 use Rattle.desk_model.specs.Shows.{entry_row_of, flag_number, style_number}
 use Rattle.desk_model.specs.Sound.{IsSoundEntry, IsSoundHistory}
@@ -81,12 +81,12 @@ module _ (row : NamedCorr) where
         who = who i;
       })
 
-  sound-entry : (original : List ℕ) (before : List Entry) → HasEntryTexts row → IsSoundCorrection (corrected original before) row ⊎ IsSoundUndo before row
+  sound-entry : (original : List ℕ) (before : List Entry) → HasEntryTexts row → IsSoundCorrection (corrected_print original before) row ⊎ IsSoundUndo before row
       → IsSoundEntry original before (entry_of row)
   sound-entry original before texts (inl c) =
       subst (IsSoundEntry original before) (sym (entry-corrects c.kind)) (
-        le_from (nat_abs row.entry.start + nat_abs row.entry.len) (length (corrected original before))
-            (subst (λ z. z ≤ℤ pos (length (corrected original before)))
+        le_from (nat_abs row.entry.start + nat_abs row.entry.len) (length (corrected_print original before))
+            (subst (λ z. z ≤ℤ pos (length (corrected_print original before)))
             (ap₂ (λ (a b : ℤ). a +ℤ b) (natural row.entry.start c.start) (natural row.entry.len c.len)) c.span),
         record { characters = characters-of row.entry.body texts.0; unbarred = c.text },
         c.who,
@@ -117,13 +117,13 @@ at-map f (x ∷ xs) (suc i) y at = at-map f xs i y at
 
 module _ (original : List ℕ) (sorted : List NamedCorr) (small : length original ≤ most_print) (texts : All HasEntryTexts sorted)
     (each : (i : ℕ) (row : NamedCorr) → slice_get sorted i ≡ Some row → IsSoundEntryRow original sorted i row) where
-  short-so_far : (i : ℕ) → i ≤ length sorted → length (corrected original (take i (history_of sorted))) ≤ most_print
+  short-so_far : (i : ℕ) → i ≤ length sorted → length (corrected_print original (take i (history_of sorted))) ≤ most_print
   short-so_far zero within = small
   short-so_far (suc i) within =
       let row = slice_get-there sorted i (omega (arith, within)) in
       let next : i + 1 ≡ suc i = omega arith in
-      subst (λ history. length (corrected original history) ≤ most_print) (sym (take-map entry_of (suc i) sorted))
-      (subst (λ k. length (corrected original (history_of (take k sorted))) ≤ most_print) next (each i row.0 row.1).short)
+      subst (λ history. length (corrected_print original history) ≤ most_print) (sym (take-map entry_of (suc i) sorted))
+      (subst (λ k. length (corrected_print original (history_of (take k sorted))) ≤ most_print) next (each i row.0 row.1).short)
 
   pub sound-history : IsSoundHistory original (history_of sorted)
   sound-history =

@@ -5,9 +5,9 @@ use Rattle.std.specs.List.Sorted.{IsPermutation}
 use Rattle.std.specs.Option.{ForSome}
 use Rattle.std.proofs.lemmas.List.Sorted.{All-permutation, IsPermutation-map, IsPermutation-sym, IsPermutation-trans}
 use Rattle.desk_model.specs.Book.{Book, Paragraph}
-use Rattle.desk_parts.specs.FileRows.{AreTexts, EntryRows, FileRows, HasEntryTexts, HasMarkText, HasParaTexts, HasTabText, Named, Unnamed, entries_in, format_of, spelled_entry, spelled_mark, spelled_para, spelled_tab, table_of, unnamed}
+use Rattle.desk_parts.specs.FileRows.{AreTexts, EntryRows, FileRows, HasEntryTexts, HasMarkText, HasParaTexts, HasTabText, Named, Unnamed, entries_in, format_of, spelled_entry, spelled_mark, spelled_para, spelled_tab, table_of, without_name}
 use Rattle.desk_model.specs.FilledRows.{AreEntriesOf}
-use Rattle.desk_parts.specs.Rows.{Cached, NamedCorr}
+use Rattle.desk_parts.specs.Rows.{ParaCells, NamedCorr}
 use Rattle.desk_model.specs.SameRows.{AreSameCaches, AreSameEntries, AreSameRows}
 use Rattle.desk_model.specs.Shows.{AreCached, IsCached, Shows, book_row_of, entry_rows_of}
 use Rattle.desk_model.proofs.Commands.Turns.{same_some}
@@ -20,7 +20,7 @@ entries-turned (Unnamed a) (Named b) other = absurd other
 entries-turned (Named a) (Unnamed b) other = absurd other
 entries-turned (Named a) (Named b) moved = IsPermutation-sym a b moved
 
-caches-turned : (a b : Option (List Cached)) → AreSameCaches a b → AreSameCaches b a
+caches-turned : (a b : Option (List ParaCells)) → AreSameCaches a b → AreSameCaches b a
 caches-turned None None same = tt
 caches-turned None (Some b) other = absurd other
 caches-turned (Some a) None other = absurd other
@@ -39,7 +39,7 @@ turned a b same = record {
 -- ---- entries
 
 pub entries_in-moved : (a b : EntryRows) → AreSameEntries a b → IsPermutation (entries_in a) (entries_in b)
-entries_in-moved (Unnamed a) (Unnamed b) moved = IsPermutation-map unnamed a b moved
+entries_in-moved (Unnamed a) (Unnamed b) moved = IsPermutation-map without_name a b moved
 entries_in-moved (Unnamed a) (Named b) other = absurd other
 entries_in-moved (Named a) (Unnamed b) other = absurd other
 entries_in-moved (Named a) (Named b) moved = moved
@@ -70,13 +70,13 @@ AreEntriesOf-moved book entries all moved are = (
   spelled-moved spelled_entry entries all (flat_map entry_rows_of book.paragraphs) moved are.1,
 )
 
-pub AreCached-moved : (book : Book) (caches all : List Cached) → IsPermutation caches all → AreCached book caches → AreCached book all
+pub AreCached-moved : (book : Book) (caches all : List ParaCells) → IsPermutation caches all → AreCached book caches → AreCached book all
 AreCached-moved book caches all moved are = record {
-  one_each = spelled-moved (λ (c : Cached). c.para) caches all (map (λ (p : Paragraph). pos p.id) book.paragraphs) moved are.one_each;
+  one_each = spelled-moved (λ (c : ParaCells). c.para) caches all (map (λ (p : Paragraph). pos p.id) book.paragraphs) moved are.one_each;
   cells = All-permutation (IsCached book) caches all moved are.cells;
 }
 
-caches-moved : (book : Book) (a b : Option (List Cached)) → AreSameCaches a b → ForSome a (AreCached book) → ForSome b (AreCached book)
+caches-moved : (book : Book) (a b : Option (List ParaCells)) → AreSameCaches a b → ForSome a (AreCached book) → ForSome b (AreCached book)
 caches-moved book None None same are = are
 caches-moved book None (Some b) other are = absurd other
 caches-moved book (Some a) None other are = absurd other

@@ -14,9 +14,9 @@ use Rattle.desk_model.specs.Damage.{IsDamaged, IsDamagedBook, IsDamagedCache, Is
 use Rattle.desk_parts.specs.FileRows.{FileRows, Named}
 use Rattle.desk_model.specs.Limits.{most_marks, most_paragraphs, most_version}
 use Rattle.desk_model.specs.Name.{IsTableName}
-use Rattle.desk_parts.specs.Rows.{Cached, Mark, NamedCorr, Para, Tab}
+use Rattle.desk_parts.specs.Rows.{Mark, NamedCorr, Para, ParaCells, Tab}
 use Rattle.desk_model.specs.Shows.{book_row_of}
-use Rattle.desk_model.specs.Stored.{IsUnbarred, is_barred}
+use Rattle.desk_model.specs.NormalForm.{IsUnbarred, is_barred}
 use Rattle.desk_model.proofs.Lists.Members.{Contains-behind, Contains-cases, Contains-here, Contains-none}
 use Rattle.desk_model.proofs.Commands.Turns.{same_some}
 use Rattle.desk_model.proofs.Lists.RowNumbers.{pos_le, same_number}
@@ -57,7 +57,7 @@ mark_on id para = record { id = id; para = para; start = pos 0; stop = pos 0; no
 abbrev stray_mark : Mark
 stray_mark = mark_on (pos 1) (pos 9)
 
-abbrev stray_cells : Cached
+abbrev stray_cells : ParaCells
 stray_cells = record { para = pos 9; cells = [] }
 
 abbrev file_with : List BookRow → List Tab → List Para → List NamedCorr → List Mark → FileRows
@@ -220,11 +220,11 @@ cells-turn file.Mark id damaged = absurd (no-marks [] id damaged)
 cells-turn file.Cache id damaged = lit≤ tt
 cells-turn file.NamedCorr id damaged = absurd (no-entries id damaged.1)
 
-cells-ids : (caches : List Cached) (id : ℤ) → Some (stray_cells ∷ []) ≡ Some caches → IsDamagedCache [] [] caches id → pos 9 ≤ℤ id
+cells-ids : (caches : List ParaCells) (id : ℤ) → Some (stray_cells ∷ []) ≡ Some caches → IsDamagedCache [] [] caches id → pos 9 ≤ℤ id
 cells-ids caches id is (inl (row, c, named, unsound)) =
     let own : stray_cells ∷ [] ≡ caches = same_some _ _ is in
-    let same = only stray_cells row (subst (λ (rows : List Cached). Contains rows row) (sym own) c) in
-    subst (λ z. pos 9 ≤ℤ z) (ap (λ (r : Cached). r.para) same ∙ named) (pos_le 9 9 (omega arith))
+    let same = only stray_cells row (subst (λ (rows : List ParaCells). Contains rows row) (sym own) c) in
+    subst (λ z. pos 9 ≤ℤ z) (ap (λ (r : ParaCells). r.para) same ∙ named) (pos_le 9 9 (omega arith))
 cells-ids caches id is (inr ((para, c, named), none)) = absurd (Contains-none para c)
 
 -- and the braille last

@@ -25,14 +25,14 @@ use Rattle.desk_command.specs.declared.refusal.Refusal.TheVariants.{Moved, BadNa
 use Rattle.desk_command.specs.declared.command.Command.TheVariants.{Correct, Undo, Strike, Restore}
 use Rattle.desk_command.specs.declared.style.Style.TheVariants.{Body}
 use Rattle.desk_model.specs.Book.{Book, Paragraph, Replacement, Entry, Corrects, Undoes, Mark, paragraph_of}
-use Rattle.desk_model.specs.Print.{corrected, newest, stack}
+use Rattle.desk_model.specs.Print.{corrected_print, newest, stack}
 use Rattle.desk_model.specs.Marks.{mark_moved, mark_moved_back}
 use Rattle.desk_model.specs.Judging.{Passes}
 use Rattle.desk_model.specs.Name.{IsProofreaderName, is_proofreader_character}
 use Rattle.desk_model.specs.Refusals.{IsRefused, print_to_translate, turn}
 use Rattle.desk_command.specs.Numbers.{code_of}
 use Rattle.desk_model.specs.Step.{Makes, number_of}
-use Rattle.desk_model.specs.Stored.{IsUnbarred, is_barred}
+use Rattle.desk_model.specs.NormalForm.{IsUnbarred, is_barred}
 use Rattle.desk_model.proofs.Commands.Expecting.{moved}
 use Rattle.desk_model.proofs.Commands.Judging.{IsRefused-passes, Passes-nothing_to_undo, Passes-bad_reader, Passes-full}
 use Rattle.desk_model.proofs.Commands.Turns.{passes_to, past_text, same_some, to_turn, past_fit, past_lengths, past_one, past_there, past_version, short_print}
@@ -45,10 +45,10 @@ the_cat = 84 ∷ 104 ∷ 101 ∷ 32 ∷ 99 ∷ 97 ∷ 116 ∷ []
 abbrev dog : Replacement
 dog = record { start = 4; count = 3; text = 100 ∷ 111 ∷ 103 ∷ [] }
 
-the-dog : corrected the_cat (Corrects dog [] ∷ []) ≡ 84 ∷ 104 ∷ 101 ∷ 32 ∷ 100 ∷ 111 ∷ 103 ∷ []
+the-dog : corrected_print the_cat (Corrects dog [] ∷ []) ≡ 84 ∷ 104 ∷ 101 ∷ 32 ∷ 100 ∷ 111 ∷ 103 ∷ []
 the-dog = refl
 
-the-cat-again : corrected the_cat (Corrects dog [] ∷ Undoes 1 ∷ []) ≡ the_cat
+the-cat-again : corrected_print the_cat (Corrects dog [] ∷ Undoes 1 ∷ []) ≡ the_cat
 the-cat-again = refl
 
 nothing-to-undo : newest (Corrects dog [] ∷ Undoes 1 ∷ []) ≡ None
@@ -67,7 +67,7 @@ fourth-in-force = refl
 third-in-force : stack (the_s_put ++ Undoes 4 ∷ []) ≡ (3, s_put) ∷ []
 third-in-force = refl
 
-the-cats : corrected the_cat (the_s_put ++ Undoes 4 ∷ []) ≡ the_cat ++ 115 ∷ []
+the-cats : corrected_print the_cat (the_s_put ++ Undoes 4 ∷ []) ≡ the_cat ++ 115 ∷ []
 the-cats = refl
 
 -- ---- marks
@@ -196,8 +196,8 @@ struck-already =
     let there = past_there book (Strike 1) 1 refl refl refl (passes_to book (Strike 1) 30 refl) _ refl in
     IsRefused-passes book None (Strike 1) 60 Struck there refl (record { id = 1; paragraph = _; named = refl; found = refl; struck = refl })
 
-corrected-while-struck : IsRefused (cat_book 3 [] true) None (Correct 1 0 0 (120 ∷ []) []) Struck
-corrected-while-struck =
+corrected_print-while-struck : IsRefused (cat_book 3 [] true) None (Correct 1 0 0 (120 ∷ []) []) Struck
+corrected_print-while-struck =
     let book = cat_book 3 [] true in
     let command = Correct 1 0 0 (120 ∷ []) [] in
     let there = past_there book command 1 refl refl refl (x-passes book 1 0 0) _ refl in

@@ -3,7 +3,7 @@ use Rattle.std.specs.Prelude.{ℕ, zero, suc, ◌+◌, ◌*◌, ◌==◌, nat_lt
 use Rattle.std.specs.Char.{digit_value}
 use Rattle.std.specs.Option.{option_and_then}
 use lib.Utf8.{scalar}
-use Rattle.louis_table.specs.Characters.{digits_behind, escaped}
+use Rattle.louis_table.specs.Characters.{digits_behind, escape_character}
 
 -- ---- escapes
 
@@ -31,7 +31,7 @@ escape_by None None rest = None
 
 abbrev pub escape_at : List ℕ → Option (ℕ × List ℕ)
 escape_at [] = None
-escape_at (letter ∷ rest) = escape_by (escaped letter) (digits_behind letter) rest
+escape_at (letter ∷ rest) = escape_by (escape_character letter) (digits_behind letter) rest
 
 -- ---- operands
 

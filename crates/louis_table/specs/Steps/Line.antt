@@ -6,8 +6,8 @@ use Rattle.louis_table.specs.declared.opcode.Opcode.{Opcode}
 use Rattle.louis_table.specs.declared.opcode.Opcode.TheVariants.{Define, UpLow, Replace, Announce, Collect}
 use Rattle.louis_table.specs.declared.fault.LineFault.{LineFault}
 use Rattle.louis_table.specs.declared.fault.LineFault.TheVariants as line_faults
-use Rattle.louis_table.specs.declared.line.Given.{Given}
-use Rattle.louis_table.specs.declared.line.Given.TheVariants as givens
+use Rattle.louis_table.specs.declared.line_entry.LineEntry.{LineEntry}
+use Rattle.louis_table.specs.declared.line_entry.LineEntry.TheVariants as line_entries
 use Rattle.louis_table.specs.Meaning.{Meaning, sign_cells, set_characters}
 use Rattle.louis_table.specs.Table.{most_rule_characters, most_set_characters, Entry, Defines, Pairs, Replaces, Announces, Collects}
 use Rattle.louis_table.specs.Steps.Fields.{field_at}
@@ -148,16 +148,16 @@ judge_line meaning line = line_verdict meaning (line_gives line)
 -- ---- what is said of the code
 
 -- the entry of a line that was read
-abbrev pub entry_in : Given → Option Entry
-entry_in givens.Nothing = None
-entry_in (givens.Defines character definition) = Some (Defines character definition)
-entry_in (givens.Pairs upper upper_cells lower lower_cells) = Some (Pairs upper upper_cells lower lower_cells)
-entry_in (givens.Replaces kind text cells) = Some (Replaces kind text cells)
-entry_in (givens.Announces sign cells) = Some (Announces sign cells)
-entry_in (givens.Collects set text) = Some (Collects set text)
+abbrev pub entry_in : LineEntry → Option Entry
+entry_in line_entries.Nothing = None
+entry_in (line_entries.Defines character definition) = Some (Defines character definition)
+entry_in (line_entries.Pairs upper upper_cells lower lower_cells) = Some (Pairs upper upper_cells lower lower_cells)
+entry_in (line_entries.Replaces kind text cells) = Some (Replaces kind text cells)
+entry_in (line_entries.Announces sign cells) = Some (Announces sign cells)
+entry_in (line_entries.Collects set text) = Some (Collects set text)
 
 -- the result is the verdict, unless an allocation failed
-abbrev pub IsVerdict : Result Given LineFault → Result (Option Entry) ℕ → Type 0
+abbrev pub IsVerdict : Result LineEntry LineFault → Result (Option Entry) ℕ → Type 0
 IsVerdict (Ok given) verdict = verdict ≡ Ok (entry_in given)
 IsVerdict (Err (line_faults.Bad cause)) verdict = verdict ≡ Err (cause_number cause)
 IsVerdict (Err line_faults.NoMemory) verdict = Unit {0}

@@ -3,7 +3,7 @@ use Rattle.std.specs.Prelude.{◌≡◌, ℕ, ◌+◌, ◌||◌, ◌⊎◌, nat_
 use Rattle.std.specs.List.{flat_map}
 use Rattle.louis_table.specs.declared.sign.Sign.{Sign}
 use Rattle.louis_table.specs.declared.character_set.CharacterSet.{CharacterSet}
-use Rattle.louis_table.specs.declared.written.Written.{Written}
+use Rattle.louis_table.specs.declared.pending.PendingEntry.{PendingEntry}
 use Rattle.louis_table.specs.declared.draft.Draft.{Draft}
 use Rattle.louis_table.specs.declared.fault.LineFault.{LineFault}
 use Rattle.louis_table.specs.declared.fault.LineFault.TheVariants as line_faults
@@ -15,7 +15,7 @@ use Rattle.louis_table.specs.Table.{most_lines, most_line_characters, Entry, Giv
 use Rattle.louis_table.specs.Steps.Fault.{cause_number}
 use Rattle.louis_table.specs.Steps.Line.{judge_line}
 use Rattle.louis_table.specs.Steps.Draft.{written_by, Adds}
-use Rattle.louis_table.specs.Steps.Written.{finished, first_lacking}
+use Rattle.louis_table.specs.Steps.Pending.{complete_rules, first_lacking}
 
 -- ---- one more line
 
@@ -37,7 +37,7 @@ TakesLine (Err line_faults.NoMemory) before old new verdict = Unit {0}
 -- ---- what they mean
 
 -- the lines give a table without rules, and what can be checked only once all definitions are known
-pub record Gathers (lines : List (List ℕ)) (meaning : Meaning) (all : List Written) : Type 0 where
+pub record Gathers (lines : List (List ℕ)) (meaning : Meaning) (all : List PendingEntry) : Type 0 where
   pub entries : List (ℕ × Entry)
   pub given : GiveFrom WithNumericMode 1 lines entries
   pub definitions : meaning.definitions ≡ flat_map (λ e. definitions_in e.1) entries
@@ -47,16 +47,16 @@ pub record Gathers (lines : List (List ℕ)) (meaning : Meaning) (all : List Wri
   pub written : all ≡ flat_map (λ e. written_by e.0 e.1) entries
 
 -- lines without a fault that give this
-pub record LinesGive (lines : List (List ℕ)) (meaning : Meaning) (all : List Written) : Type 0 where
+pub record LinesGive (lines : List (List ℕ)) (meaning : Meaning) (all : List PendingEntry) : Type 0 where
   pub is_sound : (n cause : ℕ) → ¬ HasCause WithNumericMode lines n cause
   pub gathered : Gathers lines meaning all
 
 -- lines without a fault, in whose rules and sets every character is defined, mean this
 pub record LinesMean (lines : List (List ℕ)) (meaning : Meaning) : Type 0 where
-  pub all : List Written
+  pub all : List PendingEntry
   pub gives : LinesGive lines meaning all
   pub complete : first_lacking meaning all ≡ None
-  pub rules : meaning.rules ≡ flat_map (finished meaning) all
+  pub rules : meaning.rules ≡ flat_map (complete_rules meaning) all
 
 -- ---- what is reported
 
@@ -68,7 +68,7 @@ pub record IsTold (lines : List (List ℕ)) (n cause : ℕ) : Type 0 where
 -- a rule or a set of lines without a fault lacks a definition
 pub record IsLackingIn (lines : List (List ℕ)) (n : ℕ) : Type 0 where
   pub meaning : Meaning
-  pub all : List Written
+  pub all : List PendingEntry
   pub gives : LinesGive lines meaning all
   pub lacking : first_lacking meaning all ≡ Some n
 

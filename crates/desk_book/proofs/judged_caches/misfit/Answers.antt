@@ -3,7 +3,7 @@ use Rattle.std.proofs.lemmas.Bool.{cases_lt}
 use Rattle.std.proofs.lemmas.Int.{ints, to_z-of_z}
 use Rattle.std.proofs.lemmas.Option.{slice_get_read, slice_get_past}
 use Rattle.desk_book.specs.JudgedCaches.{IsItsBraille, IsRightAt}
-use Rattle.desk_parts.specs.Rows.{Cached}
+use Rattle.desk_parts.specs.Rows.{ParaCells}
 use Rattle.desk_book.proofs.judged_caches.misfit.Goals.{then-row-id-2-via-then-row-id-2, then-row-id-2-via-else-row-id-2+then-not-is_its_braille}
 use Rattle.desk_book.proofs.judged_caches.misfit.Goals as goal
 use lib.Signed.{lt_z}
@@ -23,7 +23,7 @@ returns-then-row-id-2-clause-some c =
     let row = c.in-Some.row.now in
     let fits : FitsSigned w64 c.row.inside.para = search rules in
     let id : to_z w64 (of_z w64 (to_z w64 index +ℤ pos 1)) ≡ pos (index + 1) = omega (arith, ints, c.loop-index-test.true, c.requires.few) in
-    let own = to_z-of_z w64 c.row.inside.para fits ∙ ap (λ (row : Cached). row.para) c.row.view_is in
+    let own = to_z-of_z w64 c.row.inside.para fits ∙ ap (λ (row : ParaCells). row.para) c.row.view_is in
     record {
       index = index;
       before = c.loop-index.invariant;
@@ -38,7 +38,7 @@ returns-then-row-id-2-clause-some c =
             wrong = λ (is, braille). elim c.then-row-id-2.branch [
               | then-row-id-2-via-then-row-id-2 w ↦ no-later row.para _ _ (index + 1) own id is w.if-row-id-2.true
               | then-row-id-2-via-else-row-id-2+then-not-is_its_braille w ↦
-                  let cells = sym (ap (λ (row : Cached). row.cells) c.row.view_is) ∙ sym w.deref.ensures.value in
+                  let cells = sym (ap (λ (row : ParaCells). row.cells) c.row.view_is) ∙ sym w.deref.ensures.value in
                   let yes = w.is_its_braille.ensures.1 (subst (IsItsBraille c.args.tables.now c.index-paragraphs-index.result) cells braille) in
                   let no = w.if-not-is_its_braille.true in
                   absurd (cc)
@@ -52,8 +52,8 @@ loop-index-preserved c = λ index less.
     let at = c.loop-index.index in
     let fits : FitsSigned w64 c.row.inside.para = search rules in
     let id : to_z w64 (of_z w64 (to_z w64 at +ℤ pos 1)) ≡ pos (at + 1) = omega (arith, ints, c.loop-index-test.true, c.requires.few) in
-    let own = to_z-of_z w64 c.row.inside.para fits ∙ ap (λ (row : Cached). row.para) c.row.view_is in
-    let cells = ap (λ (row : Cached). row.cells) c.row.view_is in
+    let own = to_z-of_z w64 c.row.inside.para fits ∙ ap (λ (row : ParaCells). row.para) c.row.view_is in
+    let cells = ap (λ (row : ParaCells). row.cells) c.row.view_is in
     let here : IsRightAt c.args.tables.now c.args.paragraphs.now c.args.rows.now at = record {
       kept = c.index-paragraphs-index.result;
       at = slice_get_read c.args.paragraphs.now (length c.args.paragraphs.now) at c.index-paragraphs-index.result refl c.loop-index-test.true c.index-paragraphs-index.is;
@@ -89,7 +89,7 @@ returns-clause-some c =
           (inr (record {
             row = row;
             row_at = slice_get_read c.args.rows.now (length c.args.rows.now) place row refl c.in_ok-row.ensures.lookup.3.0 c.in_ok-row.ensures.lookup.1;
-            id_is = to_z-of_z w64 c.row-2.inside.para fits ∙ ap (λ (row : Cached). row.para) c.row-2.view_is;
+            id_is = to_z-of_z w64 c.row-2.inside.para fits ∙ ap (λ (row : ParaCells). row.para) c.row-2.view_is;
             past = inr refl;
           }));
     }

@@ -5,10 +5,10 @@ use Rattle.std.specs.Str.{chars}
 use Rattle.std.proofs.lemmas.Bool.{both_ways}
 use Rattle.std.proofs.lemmas.Int.{ints, to_z-of_z}
 use Rattle.std.proofs.lemmas.Str.{chars_from_encodes}
-use Rattle.desk_book.specs.Corrected.{IsCorrection, replaced_by}
+use Rattle.desk_book.specs.Corrections.{IsCorrection, replaced_by}
 use Rattle.desk_model.specs.Name.{IsProofreaderName}
 use Rattle.desk_parts.specs.Rows.{Corr, NamedCorr}
-use Rattle.desk_model.specs.Stored.{is_barred}
+use Rattle.desk_model.specs.NormalForm.{is_barred}
 use Rattle.desk_command.specs.Characters.{AreCharacters}
 use Rattle.desk_book.proofs.Judged.ReadEntries.{IsCorrecting-made, barred-some, piece, unbarred-none}
 use Rattle.desk_book.proofs.judged_history.correction.Goals as goal

@@ -9,7 +9,7 @@ use Rattle.desk_book.specs.declared.damage.RowsFault.TheVariants.{Damaged}
 use Rattle.desk_model.specs.Damage.{history_of}
 use Rattle.desk_book.specs.Histories.{HaveTaken, entries_kept}
 use Rattle.desk_book.specs.JudgedHistory.{AreSoundRows, CanBeRead}
-use Rattle.desk_model.specs.Print.{corrected}
+use Rattle.desk_model.specs.Print.{corrected_print}
 use Rattle.desk_parts.specs.Rows.{NamedCorr}
 use Rattle.desk_book.proofs.Judged.ReadEntries.{same-print}
 use Rattle.desk_book.proofs.Judged.RowOrder.{AreRising-sorted, print-as_sorted, sound-as_sorted}
@@ -22,7 +22,7 @@ returns-then-not-is_print-clause-damaged c =
       ap Damaged (to_z-of_z w64 c.args.id c.ranges.id),
       λ (h : CanBeRead c.args.rows.items c.args.paragraph.now.original c.args.paragraph.now.print).
           let empty = nil_from_length h.sorted (length_permutation c.args.rows.items h.sorted h.same ∙ ap length none) in
-          let same = ap (λ (t : List NamedCorr). corrected c.args.paragraph.now.original (history_of t)) (sym empty) ∙ h.print_is in
+          let same = ap (λ (t : List NamedCorr). corrected_print c.args.paragraph.now.original (history_of t)) (sym empty) ∙ h.print_is in
           both_ways c.is_print.result c.if-not-is_print.true (c.is_print.ensures.1 (c.as_str.ensures ∙ (same ∙ sym c.as_slice.ensures))),
     )
 
@@ -44,8 +44,8 @@ pub returns-then-ne-clause-damaged : goal.returns-then-ne-clause-damaged
 returns-then-ne-clause-damaged c =
     let read = c.in_ok-reading.ensures.read.1 in
     let rising = AreRising-sorted (λ (row : NamedCorr). row.entry.seq) c.sort_by_key.new.self.items (c.in_ok-sort_by_key.ensures.sorted (λ (row : NamedCorr). row.entry.seq) (answers_always _ _ _ (λ f a r q k. search (rules, to_z-of_z)))) in
-    let made : c.in_ok-reading.reading.print.items ≡ corrected c.args.paragraph.now.original (history_of c.sort_by_key.new.self.items) =
-    read.left.print_is ∙ (ap (corrected (chars c.as_str-2.result.now)) read.entries ∙ ap (λ (t : List ℕ). corrected t (history_of c.sort_by_key.new.self.items)) c.as_str-2.ensures) in
+    let made : c.in_ok-reading.reading.print.items ≡ corrected_print c.args.paragraph.now.original (history_of c.sort_by_key.new.self.items) =
+    read.left.print_is ∙ (ap (corrected_print (chars c.as_str-2.result.now)) read.entries ∙ ap (λ (t : List ℕ). corrected_print t (history_of c.sort_by_key.new.self.items)) c.as_str-2.ensures) in
     inr (
       ap Damaged (to_z-of_z w64 c.args.id c.ranges.id),
       λ (h : CanBeRead c.args.rows.items c.args.paragraph.now.original c.args.paragraph.now.print).
@@ -59,8 +59,8 @@ returns-clause-read c =
     let read = c.in_ok-reading.ensures.read.1 in
     let original = c.args.paragraph.now.original in
     let sorted = c.sort_by_key.new.self.items in
-    let made : c.in_ok-reading.reading.print.items ≡ corrected original (history_of sorted) =
-    read.left.print_is ∙ (ap (corrected (chars c.as_str-2.result.now)) read.entries ∙ ap (λ (t : List ℕ). corrected t (history_of sorted)) c.as_str-2.ensures) in
+    let made : c.in_ok-reading.reading.print.items ≡ corrected_print original (history_of sorted) =
+    read.left.print_is ∙ (ap (corrected_print (chars c.as_str-2.result.now)) read.entries ∙ ap (λ (t : List ℕ). corrected_print t (history_of sorted)) c.as_str-2.ensures) in
     let same = (same-print c.as_slice-2.result.now c.as_slice-3.result.now c.ne.result c.ne.ensures).0 c.if-ne.false in
     record {
       sorted = sorted;

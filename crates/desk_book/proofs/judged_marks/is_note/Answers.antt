@@ -5,7 +5,7 @@ use Rattle.std.specs.Prelude.{IsTrue, not}
 use Rattle.std.specs.Str.{chars}
 use Rattle.desk_book.specs.JudgedMarks.{IsNoteText}
 use Rattle.desk_model.specs.Limits.{most_note}
-use Rattle.desk_model.specs.Stored.{is_barred}
+use Rattle.desk_model.specs.NormalForm.{is_barred}
 use Rattle.desk_model.proofs.Commands.TextTests.{IsFirstBarred-position, IsUnbarred-none, IsUnbarred-position}
 use Rattle.desk_book.proofs.judged_marks.is_note.Goals as goal
 

@@ -5,7 +5,7 @@ use Rattle.std.specs.Prelude.{IsTrue, not}
 use Rattle.std.specs.Str.{chars}
 use Rattle.desk_model.specs.Damage.{IsPrintText}
 use Rattle.desk_model.specs.Limits.{most_print}
-use Rattle.desk_model.specs.Stored.{is_barred}
+use Rattle.desk_model.specs.NormalForm.{is_barred}
 use Rattle.desk_model.proofs.Commands.TextTests.{IsFirstBarred-position, IsUnbarred-none, IsUnbarred-position}
 use Rattle.desk_book.proofs.judged_paras.is_print.Goals as goal
 

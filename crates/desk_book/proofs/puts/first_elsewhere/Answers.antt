@@ -3,7 +3,7 @@ use Rattle.std.specs.Prelude.{slice_index}
 use Rattle.std.proofs.lemmas.Bool.{cond-false, cond-true}
 use Rattle.std.proofs.lemmas.Option.{slice_get-get_or, slice_get_past}
 use Rattle.desk_book.specs.ChangePuts.{elsewhere_from, elsewhere_put, stays_in}
-use Rattle.desk_model.specs.Lent.{row_number}
+use Rattle.desk_model.specs.Loans.{row_number}
 use Rattle.desk_parts.specs.Puts.{RowPut, SetPlace}
 use Rattle.desk_book.proofs.RowPuts.PutLists.{along-past, along-there}
 use Rattle.desk_book.proofs.puts.first_elsewhere.Goals as goal

@@ -1,6 +1,6 @@
 use Rattle.std.proofs.Common.{◌≡◌, encode_utf8_all, ap, ◌∙◌, rules, to_z, of_z, w64}
 use Rattle.std.proofs.Math.Facts.{to_z-of_z}
-use Rattle.desk_model.specs.Lent.{row_number}
+use Rattle.desk_model.specs.Loans.{row_number}
 use Rattle.desk_model.specs.Shows.{flag_number, style_number}
 use Rattle.desk_book.proofs.RowPuts.PutLists.{text-bytes}
 use Rattle.desk_book.proofs.puts.para.Goals as goal

@@ -7,12 +7,12 @@ use Rattle.desk_parts.specs.declared.rows.CacheRow.{CacheRow}
 use Rattle.desk_model.specs.Damage.{IsDamagedCache}
 use Rattle.desk_book.specs.Joined.{IsDamagedBraille, TellsDamageOf}
 use Rattle.desk_book.specs.Judged.{IsWhole, TellsDamage}
-use Rattle.desk_parts.specs.Rows.{Cached}
+use Rattle.desk_parts.specs.Rows.{ParaCells}
 use Rattle.desk_book.proofs.Judged.FirstTables.{braille-told, braille-whole, no-braille, no-braille-told, of-table-fault, of-table-rows, on-any}
 use Rattle.desk_book.proofs.rebuild.give_cells.Goals.{in-Some, in-None}
 use Rattle.desk_book.proofs.rebuild.give_cells.Goals as goal
 
-abbrev rows_of : Option (Vec CacheRow Global) → Option (List Cached)
+abbrev rows_of : Option (Vec CacheRow Global) → Option (List ParaCells)
 rows_of cache = option_map (λ caches. caches.items) cache
 
 pub returns-clause-whole : goal.returns-clause-whole
@@ -20,10 +20,10 @@ returns-clause-whole c = λ tabs paras are of sound. elim c.match-cache.branch [
   | in-Some w ↦
       let some = subst (λ given. OnOk given (IsWhole (IsDamagedBraille tabs paras (Some w.in-Some.rows.items)))) (sym w.given-is)
       (on_ok_weaker w.judged_caches-given.result (braille-whole tabs paras w.in-Some.rows.items) (w.judged_caches-given.ensures.whole tabs paras are of sound)) in
-      subst (λ (caches : Option (List Cached)). OnOk c.of_table.result (IsWhole (IsDamagedBraille tabs paras caches))) (sym (ap rows_of w.in-Some.is))
+      subst (λ (caches : Option (List ParaCells)). OnOk c.of_table.result (IsWhole (IsDamagedBraille tabs paras caches))) (sym (ap rows_of w.in-Some.is))
       (of-table-rows Cache c.match-cache.given c.of_table.result c.of_table.ensures (λ _. IsWhole (IsDamagedBraille tabs paras (Some w.in-Some.rows.items))) some)
   | in-None w ↦
-      subst (λ (caches : Option (List Cached)). OnOk c.of_table.result (IsWhole (IsDamagedBraille tabs paras caches))) (sym (ap rows_of w.in-None.is))
+      subst (λ (caches : Option (List ParaCells)). OnOk c.of_table.result (IsWhole (IsDamagedBraille tabs paras caches))) (sym (ap rows_of w.in-None.is))
       (on-any c.of_table.result (IsWhole (IsDamagedBraille tabs paras None)) (no-braille tabs paras))
 ]
 
@@ -34,12 +34,12 @@ returns-clause-damaged c = λ tabs paras are of sound. elim c.match-cache.branch
       let some = subst (λ given. IfErr given (TellsDamage damaged)) (sym w.given-is)
       (IfErr-weaker w.judged_caches-given.result (TellsDamage (IsDamagedCache tabs paras w.in-Some.rows.items)) (TellsDamage damaged)
       (braille-told tabs paras w.in-Some.rows.items) (w.judged_caches-given.ensures.damaged tabs paras are of sound)) in
-      subst (λ (caches : Option (List Cached)). IfErr c.of_table.result (TellsDamageOf Cache (IsDamagedBraille tabs paras caches))) (sym (ap rows_of w.in-Some.is))
+      subst (λ (caches : Option (List ParaCells)). IfErr c.of_table.result (TellsDamageOf Cache (IsDamagedBraille tabs paras caches))) (sym (ap rows_of w.in-Some.is))
       (of-table-fault Cache c.match-cache.given c.of_table.result c.of_table.ensures damaged some)
   | in-None w ↦
       let damaged = IsDamagedBraille tabs paras None in
       let none = subst (λ given. IfErr given (TellsDamage damaged)) (sym w.given-is)
       (IfErr-weaker w.made_cells-given.result (λ fault. fault ≡ NoMemory) (TellsDamage damaged) (no-braille-told tabs paras) w.made_cells-given.ensures.memory) in
-      subst (λ (caches : Option (List Cached)). IfErr c.of_table.result (TellsDamageOf Cache (IsDamagedBraille tabs paras caches))) (sym (ap rows_of w.in-None.is))
+      subst (λ (caches : Option (List ParaCells)). IfErr c.of_table.result (TellsDamageOf Cache (IsDamagedBraille tabs paras caches))) (sym (ap rows_of w.in-None.is))
       (of-table-fault Cache c.match-cache.given c.of_table.result c.of_table.ensures damaged none)
 ]

@@ -5,7 +5,7 @@ use Rattle.std.proofs.lemmas.Result.{err_from_is_err_and}
 use Rattle.desk_ends.specs.Cells.{text_of}
 use Rattle.desk_model.specs.Book.{Entry, Mark, Paragraph}
 use Rattle.desk_model.specs.ParagraphMarks.{marks_on}
-use Rattle.desk_line.specs.Reply.{braille, entry_line, history, list, listed, mark_line, marks, paragraph_asked, print, shown_line, shown_text, version, where_is, whence}
+use Rattle.desk_line.specs.Reply.{braille, entry_line, history, list, list_line, mark_line, marks, paragraph_asked, print, shown_line, shown_text, version, where_is, whence}
 use Rattle.desk_line.proofs.Putting.{Adds-nothing, Adds-same}
 use Rattle.desk_line.proofs.Replying.{cell-refused, no-paragraph-asked, place-refused, refused-at, shown-one}
 use Rattle.desk_line.proofs.reply.put_shown.Goals as goal
@@ -96,10 +96,10 @@ returns-in_ok-marks-in-Marks-clause-shown g c =
 
 pub returns-in-List-clause-shown : goal.returns-in-List-clause-shown
 returns-in-List-clause-shown g c = (
-  map listed c.args.book.now.paragraphs,
+  map list_line c.args.book.now.paragraphs,
   list c.in-List.is refl,
   Adds-same g.K.Sink.can_fail (g.K.Sink.contents c.args.sink.now) (g.K.Sink.contents c.put_list.new.sink) c.args.waiting.now c.put_list.new.waiting _
-      (flat_map shown_line (map listed c.args.book.now.paragraphs)) (ap (λ (xs : List Paragraph). flat_map shown_line (map listed xs)) c.list.ensures) c.put_list.ensures,
+      (flat_map shown_line (map list_line c.args.book.now.paragraphs)) (ap (λ (xs : List Paragraph). flat_map shown_line (map list_line xs)) c.list.ensures) c.put_list.ensures,
 )
 
 pub returns-in-Version-clause-shown : goal.returns-in-Version-clause-shown

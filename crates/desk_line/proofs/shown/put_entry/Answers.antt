@@ -1,7 +1,7 @@
 use Rattle.std.proofs.Common.{ap, sym, ◌∙◌, subst}
 use Rattle.std.specs.Str.{chars}
 use Rattle.std.proofs.lemmas.Str.{encodes-chars}
-use Rattle.desk_model.specs.Told.{TellsOf}
+use Rattle.desk_model.specs.HistoryItems.{TellsOf}
 use Rattle.desk_line.specs.Reply.{entry_line, shown_line, shown_text}
 use Rattle.desk_line.proofs.Putting.{Adds-same}
 use Rattle.desk_line.proofs.Replying.{unnamed-fields, named-fields, undo-fields, none-there, some-there}

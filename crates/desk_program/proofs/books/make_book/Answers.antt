@@ -1,7 +1,7 @@
 use Rattle.std.proofs.Common.{rules, ◌≡◌, ◌≢◌, ℕ, refl, ap}
 use Rattle.std.specs.Prelude.{Err}
 use Rattle.desk_program.specs.Books.{Makes}
-use Rattle.desk_program.specs.declared.fault.Fault.TheVariants.{Taken}
+use Rattle.desk_program.specs.declared.fault.ProgramFault.TheVariants.{Taken}
 use Rattle.desk_program.specs.declared.stop.Stop.TheVariants.{Refused}
 use Rattle.desk_program.proofs.Outcomes.{Makes-none}
 use Rattle.desk_program.proofs.books.make_book.Goals as goal

@@ -1,6 +1,6 @@
 use Rattle.std.proofs.Common.{refl, inl, inr}
 use Rattle.desk_program.specs.Program.{Does}
-use Rattle.desk_program.specs.declared.fault.Fault.TheVariants.{NoMemory}
+use Rattle.desk_program.specs.declared.fault.ProgramFault.TheVariants.{NoMemory}
 use Rattle.desk_program.proofs.Outcomes.{CarriesOut-refused}
 use Rattle.desk_program.proofs.status.program.Goals as goal
 

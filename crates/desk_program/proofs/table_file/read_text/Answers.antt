@@ -3,7 +3,7 @@ use Rattle.louis_table.specs.Tells.{Tells}
 use Rattle.louis_table.specs.declared.fault.ReadFault.{ReadFault}
 use Rattle.louis_table.specs.declared.fault.ReadFault.TheVariants as reading
 use Rattle.desk_program.specs.Fault.{IsFaultOf, read_as}
-use Rattle.desk_program.specs.declared.fault.Fault.{Fault}
+use Rattle.desk_program.specs.declared.fault.ProgramFault.{ProgramFault}
 use Rattle.desk_program.proofs.table_file.read_text.Goals as goal
 
 tells : (text : List ℕ) (fault : ReadFault) → Tells text fault → IsFaultOf text (read_as fault)
@@ -12,4 +12,4 @@ tells text reading.NoMemory told = tt
 
 pub returns-in-Err : goal.returns-in-Err
 returns-in-Err c =
-    subst (λ (fault : Fault). IsFaultOf c.args.text.now fault) (sym c.from.ensures) (tells c.args.text.now c.in-Err.fault c.in-Err.ensures.err)
+    subst (λ (fault : ProgramFault). IsFaultOf c.args.text.now fault) (sym c.from.ensures) (tells c.args.text.now c.in-Err.fault c.in-Err.ensures.err)

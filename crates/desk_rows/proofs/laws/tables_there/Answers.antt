@@ -1,7 +1,7 @@
 use Rattle.std.proofs.Common.{◌≡◌, ◌&&◌, ◌||◌, ℕ, ◌+◌, Bool, List, [], ◌∷◌, true, false, cond, Some, is_some, refl, true≢false}
 use Rattle.std.specs.List.{list_any, position_from}
 use Rattle.sqlite_schema.specs.Names.{index_named, same_name, table_named, view_named}
-use Rattle.desk_rows.specs.Described.{described}
+use Rattle.desk_rows.specs.Descriptions.{description_of}
 use Rattle.desk_rows.specs.Tables.{is_table_or_view}
 use Rattle.desk_rows.proofs.laws.tables_there.Goals as goal
 
@@ -25,6 +25,6 @@ neither false false c d less none = less none
 
 pub returns-clause-free : goal.returns-clause-free
 returns-clause-free c s w free =
-    let name = (described w).name in
+    let name = (description_of w).name in
     neither (is_some (table_named s name)) (is_some (index_named s name)) (is_some (view_named s name)) _
     (none_there (λ v. same_name v.name name) is_table_or_view s.views 0) free

@@ -4,7 +4,7 @@ use Rattle.sqlite.specs.State.{HasCleanDisk}
 use Rattle.sqlite.proofs.InsideLemmas.{keeps_then}
 use Rattle.sqlite.proofs.StateLemmas.{survives_then}
 use Rattle.sql_tables.specs.States.{seen}
-use Rattle.desk_rows.specs.Described.{described}
+use Rattle.desk_rows.specs.Descriptions.{description_of}
 use Rattle.desk_rows.specs.Making.{AreMade, MakesTables, creation}
 use Rattle.desk_rows.specs.Tables.{which}
 use Rattle.desk_rows.specs.Turns.{RunInTurn}
@@ -15,7 +15,7 @@ use Rattle.desk_rows.proofs.Turns.{one_more_ran}
 use Rattle.desk_rows.proofs.make.create_all.Goals as goal
 
 pub create-requires : goal.create-requires
-create-requires g c = all_at (λ t. (described (which t)).is_written ≡ true) c.args.tables.now c.loop-table.table-index Book c.loop-table-test.true c.requires
+create-requires g c = all_at (λ t. (description_of (which t)).is_written ≡ true) c.args.tables.now c.loop-table.table-index Book c.loop-table-test.true c.requires
 
 -- with the next of the tables
 one_more : (tables : List FileTable) (at : ℕ) → at < length tables → map which (take (at + 1) tables) ≡ map which (take at tables) ++ which (get_or tables at Book) ∷ []

@@ -1,7 +1,7 @@
 use Rattle.std.proofs.Common.{◌≡◌, map, take}
 use Rattle.std.specs.List.{AllByRecursion}
-use Rattle.desk_rows.specs.Asked.{asked, given}
-use Rattle.desk_rows.specs.Rows.{own, shown}
+use Rattle.desk_rows.specs.TableQuery.{query_of, given}
+use Rattle.desk_rows.specs.Rows.{own, shown_columns}
 use Rattle.desk_rows.specs.Whole.{IsUtf8Row}
 use Rattle.desk_rows.proofs.Beginnings.{MayBegin}
 use Rattle.desk_rows.proofs.read.all_of.Given as goal
@@ -11,7 +11,7 @@ abbrev pub invariant-loop-row : goal.invariant-loop-row
 invariant-loop-row g l =
     let w = g.T.TableRow.which in
     record {
-      rows : map (given w) (take l.row-index l.rows) ≡ map (λ x. shown w (g.T.TableRow.view x)) l.all.items;
-      begins : MayBegin (asked w).kinds (take l.row-index l.rows);
+      rows : map (given w) (take l.row-index l.rows) ≡ map (λ x. shown_columns w (g.T.TableRow.view x)) l.all.items;
+      begins : MayBegin (query_of w).kinds (take l.row-index l.rows);
       utf8 : AllByRecursion (λ x. IsUtf8Row w (own w (g.T.TableRow.view x))) l.all.items;
     }

@@ -2,7 +2,7 @@ use Rattle.std.proofs.Common.{◌≢◌, List, MatchBool, [], Err, IfOk, Ok, OnE
 use Rattle.std.proofs.lemmas.Result.{err_from_is_err_and}
 use Rattle.sqlite.specs.Held.{state}
 use Rattle.desk_parts.specs.Rows.{StoredTab}
-use Rattle.desk_rows.specs.Described.{tabs}
+use Rattle.desk_rows.specs.Descriptions.{tabs}
 use Rattle.desk_rows.specs.Whole.{HaveOwnRowids}
 use Rattle.desk_rows.proofs.Answering.{judged, not_read, tabs_begin}
 use Rattle.desk_rows.proofs.read.read_tabs.Goals as goal

@@ -4,7 +4,7 @@ use Rattle.sqlite.specs.Held.{state}
 use Rattle.sqlite.specs.State.{HasCleanDisk}
 use Rattle.desk_rows.specs.Commits.{putting_items}
 use Rattle.desk_rows.specs.Puts.{ArePut, OfItems}
-use Rattle.desk_rows.specs.Turns.{begun}
+use Rattle.desk_rows.specs.Turns.{with_transaction}
 use Rattle.desk_rows.proofs.Commits.{commits}
 use Rattle.desk_rows.proofs.Committing.{file_with, writes_on}
 use Rattle.desk_rows.proofs.Ending.{leaves_what_ran}
@@ -19,7 +19,7 @@ returns-clause-commits g c =
     let same : c.conn-1.given.0 ≡ end = search rules in
     rw same (λ clean.
     let early : HasCleanDisk (state g.S.Store last) = omega (arith, clean, c.end.ensures.survives.clean) in
-    let put : OnOk c.put_all-ran.result (OfItems g.I.Iterator.next_gives c.args.puts (λ xs. ArePut g.S.Store xs (begun old) last)) = rw c.begin-tx.ensures.begun at c.put_all-ran.ensures.put early in
+    let put : OnOk c.put_all-ran.result (OfItems g.I.Iterator.next_gives c.args.puts (λ xs. ArePut g.S.Store xs (with_transaction old) last)) = rw c.begin-tx.ensures.begun at c.put_all-ran.ensures.put early in
     commits g.S.Store old last (state g.S.Store end) (rw c.begin-tx.ensures.begun at c.put_all-ran.ensures.kept early) c.begin-tx.ensures.settled
     (putting_items g.S.Store g.I.Iterator.next_gives c.args.puts) (items_lost g.S.Store g.I.Iterator.next_gives c.args.puts) c.put_all-ran.result c.end.result
     (c.end.ensures.ends clean) clean (rw c.begin-tx.ensures.begun at c.put_all-ran.ensures.survives) c.end.ensures.survives put
@@ -36,5 +36,5 @@ returns-clause-crash g c =
     ((putting_items g.S.Store g.I.Iterator.next_gives c.args.puts).Left old)
     (rw c.begin-tx.ensures.begun at c.put_all-ran.ensures.survives) c.end.ensures.survives
     (λ clean.
-    let put : OnOk c.put_all-ran.result (OfItems g.I.Iterator.next_gives c.args.puts (λ xs. ArePut g.S.Store xs (begun old) last)) = rw c.begin-tx.ensures.begun at c.put_all-ran.ensures.put clean in
+    let put : OnOk c.put_all-ran.result (OfItems g.I.Iterator.next_gives c.args.puts (λ xs. ArePut g.S.Store xs (with_transaction old) last)) = rw c.begin-tx.ensures.begun at c.put_all-ran.ensures.put clean in
     on_ok_weaker c.put_all-ran.result (λ it. (it.0, it.1, (file_with (state g.S.Store old) (state g.S.Store last) it.0 (writes_on g.S.Store old last (state g.S.Store last) it.0 it.2.0 refl), (last, it.2.1, refl)))) put))

@@ -1,6 +1,6 @@
 use Rattle.desk_store.specs.Books.{shown_by}
 use Rattle.desk_ends.proofs.UsedInput.{left_to_use}
-use Rattle.desk_session.specs.Served.{ends_of}
+use Rattle.desk_session.specs.Service.{ends_of}
 use Rattle.desk_session.proofs.Serving.{IsServing}
 use Rattle.desk_session.proofs.session.serve.Given as goal
 

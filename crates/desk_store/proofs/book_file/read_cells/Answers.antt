@@ -2,12 +2,12 @@ use Rattle.std.proofs.Common.{◌≡◌, true, ap, refl, sym, subst, ◌∙◌}
 use Rattle.std.proofs.lemmas.Result.{err_from_is_err_and}
 use Rattle.sqlite.specs.Held.{state}
 use Rattle.sqlite_schema.specs.declared.schema.Schema.{Schema}
-use Rattle.desk_rows.specs.Asked.{AnyRows}
-use Rattle.desk_rows.specs.Described.{caches}
+use Rattle.desk_rows.specs.TableQuery.{AnyRows}
+use Rattle.desk_rows.specs.Descriptions.{caches}
 use Rattle.desk_store.specs.Formats.{Presence}
 use Rattle.desk_store.specs.Found.{IsReadAs}
 use Rattle.desk_store.specs.Opening.{format_read}
-use Rattle.desk_rows.specs.Rows.{shown}
+use Rattle.desk_rows.specs.Rows.{shown_columns}
 use Rattle.desk_rows.specs.Tables.{is_there}
 use Rattle.desk_store.proofs.AnyFile.{never_refused_any, rows_before}
 use Rattle.desk_store.proofs.Opened.{any_apart, as_listed, has_caches, never_refused_optional, optional_caches, read_of, same_state}
@@ -21,7 +21,7 @@ returns-in_err-cells-clause-refused g c clean =
     let f = format_read c.args.format in
     let there : is_there old.now.schema caches ≡ true = sym c.has_table.ensures ∙ c.if-not-has_table.false in
     rw (p.1, p.2)
-    (never_refused_optional (λ xs. xs.items) caches (λ x. x) AnyRows old old new (same_state old) refl f c.in_err-cells.field-0.0 (optional_caches f) (c.in_err-cells.ensures.answers clean) (any_apart caches (shown caches) old)
+    (never_refused_optional (λ xs. xs.items) caches (λ x. x) AnyRows old old new (same_state old) refl f c.in_err-cells.field-0.0 (optional_caches f) (c.in_err-cells.ensures.answers clean) (any_apart caches (shown_columns caches) old)
     (λ l of same. has_caches f l of ∙ ap (λ (s : Schema). is_there s caches) same ∙ there))
 
 pub returns-clause-gives : goal.returns-clause-gives

@@ -1,10 +1,10 @@
 use Rattle.std.proofs.Common.{refl}
 use Rattle.std.proofs.lemmas.Result.{err_from_is_err_and}
 use Rattle.sqlite.specs.Held.{state}
-use Rattle.desk_rows.specs.Asked.{AnyRows}
-use Rattle.desk_rows.specs.Described.{corrs, named_corrs}
+use Rattle.desk_rows.specs.TableQuery.{AnyRows}
+use Rattle.desk_rows.specs.Descriptions.{corrs, named_corrs}
 use Rattle.desk_store.specs.Formats.{named, unnamed}
-use Rattle.desk_rows.specs.Rows.{shown}
+use Rattle.desk_rows.specs.Rows.{shown_columns}
 use Rattle.desk_store.proofs.AnyFile.{never_refused_any, rows_before, texts_of}
 use Rattle.desk_store.proofs.Opened.{any_apart, as_listed, has_needed, never_refused_of, read_of, same_state}
 use Rattle.desk_store.proofs.book_file.read_entries.Goals as goal
@@ -15,7 +15,7 @@ returns-in_err-entries-in-Unnamed-clause-refused g c clean =
     let new = state g.S.Store c.read_rows.new.conn in
     let p = err_from_is_err_and c.from_residual.result c.from_residual.ensures.1 in
     rw (p.1, p.2, c.in-Unnamed.is)
-    (never_refused_of (λ xs. xs.items) corrs (λ x. x) AnyRows old old new (same_state old) refl unnamed c.in_err-entries-in-Unnamed.field-0.0 refl (c.in_err-entries-in-Unnamed.ensures.answers clean) (any_apart corrs (shown corrs) old))
+    (never_refused_of (λ xs. xs.items) corrs (λ x. x) AnyRows old old new (same_state old) refl unnamed c.in_err-entries-in-Unnamed.field-0.0 refl (c.in_err-entries-in-Unnamed.ensures.answers clean) (any_apart corrs (shown_columns corrs) old))
 
 pub returns-in_err-entries-in-Named-clause-refused : goal.returns-in_err-entries-in-Named-clause-refused
 returns-in_err-entries-in-Named-clause-refused g c clean =
@@ -23,7 +23,7 @@ returns-in_err-entries-in-Named-clause-refused g c clean =
     let new = state g.S.Store c.read_rows-in-Named.new.conn in
     let p = err_from_is_err_and c.from_residual-in_err-entries-in-Named.result c.from_residual-in_err-entries-in-Named.ensures.1 in
     rw (p.1, p.2, c.in-Named.is)
-    (never_refused_of (λ xs. xs.items) named_corrs (λ x. x) AnyRows old old new (same_state old) refl named c.in_err-entries-in-Named.field-0.0 refl (c.in_err-entries-in-Named.ensures.answers clean) (any_apart named_corrs (shown named_corrs) old))
+    (never_refused_of (λ xs. xs.items) named_corrs (λ x. x) AnyRows old old new (same_state old) refl named c.in_err-entries-in-Named.field-0.0 refl (c.in_err-entries-in-Named.ensures.answers clean) (any_apart named_corrs (shown_columns named_corrs) old))
 
 pub returns-in_ok-entries-in-Unnamed-clause-gives : goal.returns-in_ok-entries-in-Unnamed-clause-gives
 returns-in_ok-entries-in-Unnamed-clause-gives g c clean =

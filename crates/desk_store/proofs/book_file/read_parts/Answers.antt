@@ -5,8 +5,8 @@ use Rattle.sqlite.proofs.StateLemmas.{survives_then}
 use Rattle.sqlite.specs.Held.{state}
 use Rattle.sqlite.specs.State.{HasCleanDisk}
 use Rattle.desk_parts.specs.declared.rows.BookRow.{BookRow}
-use Rattle.desk_rows.specs.Asked.{AnyRows}
-use Rattle.desk_rows.specs.Described.{books}
+use Rattle.desk_rows.specs.TableQuery.{AnyRows}
+use Rattle.desk_rows.specs.Descriptions.{books}
 use Rattle.desk_store.specs.Formats.{Format, IsOfFormat}
 use Rattle.desk_store.specs.Found.{CanAllAnswer}
 use Rattle.desk_store.specs.Opening.{CanAllBeRead, ShowsReadable, Stays, TellsOfRow, format_in, format_read, has_tables}

@@ -3,10 +3,10 @@ use Rattle.std.proofs.lemmas.Result.{err_from_is_err_and}
 use Rattle.sqlite.specs.Held.{state}
 use Rattle.sqlite.specs.State.{HasCleanDisk}
 use Rattle.desk_parts.specs.Parts.{entry_rows}
-use Rattle.desk_rows.specs.Asked.{AnyRows}
-use Rattle.desk_rows.specs.Described.{marks, paras, tabs}
+use Rattle.desk_rows.specs.TableQuery.{AnyRows}
+use Rattle.desk_rows.specs.Descriptions.{marks, paras, tabs}
 use Rattle.desk_store.specs.Opening.{Stays, format_read}
-use Rattle.desk_rows.specs.Rows.{shown}
+use Rattle.desk_rows.specs.Rows.{shown_columns}
 use Rattle.desk_rows.specs.Whole.{HaveOwnRowids}
 use Rattle.desk_store.proofs.AnyFile.{all_readable, can_all_still, cells_before, entries_before, never_refused_needed, readable_still, rows_before, texts_of}
 use Rattle.desk_store.proofs.Opened.{any_apart, as_listed, has_needed, needs_marks, needs_paras, needs_tabs, never_refused_of, own_rowids, same_state, shows_still, stays_read, stays_then, stops_after}
@@ -31,7 +31,7 @@ returns-in_err-paras-clause-refused g c clean =
     let early : HasCleanDisk one = omega (arith, c.read_rows.ensures.survives.clean) in
     let so_far : Stays old one = stays_read (λ xs. xs.items) tabs (λ x. x) HaveOwnRowids old one c.in_ok-tabs.tabs (c.in_ok-tabs.ensures.answers early) in
     rw (p.1, p.2)
-    (never_refused_of (λ xs. xs.items) paras (λ x. x) AnyRows old one new so_far c.read_tabs.ensures.survives.limit f c.in_err-paras.field-0.0 (needs_paras f) (c.in_err-paras.ensures.answers clean) (any_apart paras (shown paras) one))
+    (never_refused_of (λ xs. xs.items) paras (λ x. x) AnyRows old one new so_far c.read_tabs.ensures.survives.limit f c.in_err-paras.field-0.0 (needs_paras f) (c.in_err-paras.ensures.answers clean) (any_apart paras (shown_columns paras) one))
 
 pub returns-in_err-marks-clause-refused : goal.returns-in_err-marks-clause-refused
 returns-in_err-marks-clause-refused g c clean =
@@ -51,7 +51,7 @@ returns-in_err-marks-clause-refused g c clean =
     (stays_read (λ xs. xs.items) paras (λ x. x) AnyRows one two c.in_ok-paras.paras (c.in_ok-paras.ensures.answers second)) in
     let limit = c.read_entries.ensures.survives.limit ∙ c.read_rows.ensures.survives.limit ∙ c.read_tabs.ensures.survives.limit in
     rw (p.1, p.2)
-    (never_refused_of (λ xs. xs.items) marks (λ x. x) AnyRows old three new (stays_then old two three so_far (c.in_ok-entries.ensures.unchanged third)) limit f c.in_err-marks.field-0.0 (needs_marks f) (c.in_err-marks.ensures.answers clean) (any_apart marks (shown marks) three))
+    (never_refused_of (λ xs. xs.items) marks (λ x. x) AnyRows old three new (stays_then old two three so_far (c.in_ok-entries.ensures.unchanged third)) limit f c.in_err-marks.field-0.0 (needs_marks f) (c.in_err-marks.ensures.answers clean) (any_apart marks (shown_columns marks) three))
 
 pub returns-clause-gives : goal.returns-clause-gives
 returns-clause-gives g c clean l file of was =

@@ -2,9 +2,9 @@ use Rattle.std.proofs.Common.{List, map, refl, subst}
 use Rattle.sqlite.specs.Held.{state}
 use Rattle.sqlite.proofs.StateLemmas.{survives_weaker}
 use Rattle.desk_parts.specs.Puts.{LendsFirst, RowPut}
-use Rattle.desk_rows.specs.Described.{Which}
+use Rattle.desk_rows.specs.Descriptions.{Which}
 use Rattle.desk_rows.specs.Failing.{FailsToChange, of_items}
-use Rattle.desk_rows.specs.Turns.{begun}
+use Rattle.desk_rows.specs.Turns.{with_transaction}
 use Rattle.desk_rows.specs.Making.{IsFileWithTables, WritesWithTables}
 use Rattle.desk_rows.specs.Tables.{which}
 use Rattle.desk_rows.proofs.LentPuts.{all_lent}
@@ -53,7 +53,7 @@ returns-in-Err-clause-stops g c clean = record {
   puts = c.filling.result;
   fill = c.filling.ensures;
   error = c.in-Err.error;
-  fails = subst (λ (ws : List Which). FailsToChange g.S.Store ws (of_items g.S.Store LendsFirst c.filling.result) (begun c.args.conn.now) (state g.S.Store c.write_with_tables.new.conn) c.in-Err.error)
+  fails = subst (λ (ws : List Which). FailsToChange g.S.Store ws (of_items g.S.Store LendsFirst c.filling.result) (with_transaction c.args.conn.now) (state g.S.Store c.write_with_tables.new.conn) c.in-Err.error)
       c.file_tables.ensures (c.in-Err.ensures.commits clean).fails;
   is_told = c.stopped_by.ensures.told;
   as_before = (c.in-Err.ensures.commits clean).as_before;

@@ -2,15 +2,15 @@ use Rattle.std.proofs.Common.{◌≡◌, ◌∙◌, sym}
 use Rattle.sqlite.specs.declared.error.Error.{Error}
 use Rattle.sqlite.specs.Held.{state}
 use Rattle.desk_rows.specs.Fault.{IsToldAs}
-use Rattle.desk_rows.specs.declared.fault.Fault.{Fault}
-use Rattle.desk_rows.specs.declared.fault.Fault.TheVariants as fault
+use Rattle.desk_rows.specs.declared.fault.DatabaseFault.{DatabaseFault}
+use Rattle.desk_rows.specs.declared.fault.DatabaseFault.TheVariants as fault
 use Rattle.desk_store.specs.Opening.{opened_as}
 use Rattle.desk_store.specs.declared.fault.OpenFault.TheVariants.{NotABook}
 use Rattle.sqlite.proofs.StateLemmas.{survives_weaker}
 use Rattle.desk_store.proofs.make.make_book.Goals as goal
 
 -- only a refusal is reported as no book
-is_refused : (e : Error) (why : Fault) → opened_as why ≡ NotABook → IsToldAs e why → IsToldAs e fault.Refused
+is_refused : (e : Error) (why : DatabaseFault) → opened_as why ≡ NotABook → IsToldAs e why → IsToldAs e fault.Refused
 is_refused e fault.NoMemory is told = absurd (cc is)
 is_refused e fault.Lost is told = absurd (cc is)
 is_refused e fault.Refused is told = told

@@ -10,7 +10,7 @@ use Rattle.desk_rows.specs.Layout.{Layout}
 use Rattle.desk_rows.specs.Making.{with_tables}
 use Rattle.sql_tables.specs.States.{Leaves}
 use Rattle.desk_store.specs.Opened.{HasGained, HoldsEitherWith, Stands, filling, rebuilding, which_lacked}
-use Rattle.desk_rows.specs.States.{Shows}
+use Rattle.desk_rows.specs.States.{ShowsContents}
 use Rattle.desk_store.proofs.Openings.{fills, opens, refuses, refuses_damaged, tells, tells_no_refusal}
 use Rattle.desk_model.specs.declared.fault.PartsFault.{PartsFault}
 use Rattle.desk_model.specs.declared.fault.PartsFault.TheVariants as rebuilt
@@ -86,7 +86,7 @@ returns-clause-opens g c clean make =
     let early : HasCleanDisk mid = omega (arith, clean, c.complete.ensures.crash.clean) in
     opens g.S.Store make old c.requires.there (rows_in c.in_ok-parts.parts) (read.found early) (read.read early)
     book c.in_ok-book.ensures.shown mid (read.unchanged early) new
-    (subst (λ (x : Option NewTables). (l : Layout) (stands : Stands l book mid) → HasGained (which_lacked x) l stands.1.0 book mid.now.trees (λ after e. Shows after e new))
+    (subst (λ (x : Option NewTables). (l : Layout) (stands : Stands l book mid) → HasGained (which_lacked x) l stands.1.0 book mid.now.trees (λ after e. ShowsContents after e new))
     c.lacked_by-lacked.ensures (done.filled clean))
     (subst (λ (x : Option NewTables). (l : Layout) → Stands l book mid → Leaves (HoldsEitherWith (which_lacked x) l book) mid → LeavesBook (with_tables (which_lacked x) l) book new)
     c.lacked_by-lacked.ensures (done.leaves clean))

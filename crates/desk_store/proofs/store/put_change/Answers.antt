@@ -4,7 +4,7 @@ use Rattle.sqlite.proofs.StateLemmas.{survives_weaker}
 use Rattle.desk_parts.specs.Puts.{LendsFirst, RowPut}
 use Rattle.desk_rows.specs.Failing.{FailsToPut, of_items}
 use Rattle.desk_rows.specs.Puts.{IsFileWith, Writes, statement}
-use Rattle.desk_rows.specs.Turns.{AreRun, IsLeftBy, begun}
+use Rattle.desk_rows.specs.Turns.{AreRun, IsLeftBy, with_transaction}
 use Rattle.desk_store.proofs.BookKeeps.{holds_next, is_kept}
 use Rattle.desk_rows.proofs.LentPuts.{all_lent}
 use Rattle.desk_rows.proofs.Both.{on_done, on_given_up}
@@ -50,6 +50,6 @@ returns-clause-left g c =
 pub returns-clause-told : goal.returns-clause-told
 returns-clause-told g c clean =
     on_given_up c.write.result _ _ _ (λ e it. record {
-      fails = subst (λ (puts : List RowPut). FailsToPut g.S.Store (of_items g.S.Store LendsFirst puts) (begun c.args.conn.now) (state g.S.Store c.write.new.conn) e) c.puts.ensures.these it.fails;
+      fails = subst (λ (puts : List RowPut). FailsToPut g.S.Store (of_items g.S.Store LendsFirst puts) (with_transaction c.args.conn.now) (state g.S.Store c.write.new.conn) e) c.puts.ensures.these it.fails;
       counts = it.lost;
     }) (c.write.ensures.commits clean)

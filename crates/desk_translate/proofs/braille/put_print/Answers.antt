@@ -5,7 +5,7 @@ use Rattle.std.proofs.lemmas.Result.{err_from_is_err_and}
 use Rattle.louis_table.specs.Meaning.{Meaning}
 use Rattle.louis_translate.specs.declared.choices.Choice.{Choice}
 use Rattle.louis_translate.specs.Braille.{braille}
-use Rattle.louis_translate.specs.Items.{Made, made_by, made_cells}
+use Rattle.louis_translate.specs.Items.{PieceItem, made_by, made_cells}
 use Rattle.louis_translate.proofs.PieceLists.{braille-made}
 use Rattle.std.specs.Prelude.{Option, map}
 use Rattle.desk_ends.specs.Cells.{text_of}
@@ -14,11 +14,11 @@ use Rattle.desk_translate.proofs.Putting.{Putting, Putting-done, Putting-first, 
 use Rattle.desk_translate.proofs.braille.put_print.Goals as goal
 
 -- before anything is put, all is still to come
-start : (meaning : Meaning) (print : List ℕ) (choices : List Choice) (left : List Made) (a : Option (List ℕ)) (block : List ℕ) → left ≡ map (made_by meaning print) choices
+start : (meaning : Meaning) (print : List ℕ) (choices : List Choice) (left : List PieceItem) (a : Option (List ℕ)) (block : List ℕ) → left ≡ map (made_by meaning print) choices
     → Putting left a a block (block ++ text_of (braille meaning print choices))
 start meaning print choices left a block made =
     Sending-none a block _ _
-    (ap (λ (cells : List ℕ). block ++ text_of cells) (ap (λ (rest : List Made). flat_map made_cells rest) made ∙ braille-made meaning print choices))
+    (ap (λ (cells : List ℕ). block ++ text_of cells) (ap (λ (rest : List PieceItem). flat_map made_cells rest) made ∙ braille-made meaning print choices))
 
 pub returns-in_err-put_run : goal.returns-in_err-put_run
 returns-in_err-put_run g c =

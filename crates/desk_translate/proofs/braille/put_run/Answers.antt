@@ -1,6 +1,6 @@
 use Rattle.std.proofs.Common.{◌≡◌, ◌++◌, ◌∷◌, List, [], is_ok, refl, sym, ap, ◌∙◌, append_assoc}
 use Rattle.std.proofs.lemmas.Result.{err_from_is_err_and}
-use Rattle.louis_translate.specs.Items.{Made}
+use Rattle.louis_translate.specs.Items.{PieceItem}
 use Rattle.desk_ends.proofs.Sending.{Sending-done, Sending-none}
 use Rattle.desk_translate.proofs.Putting.{Sending-cell, Sending-no_cell, lone}
 use Rattle.desk_translate.proofs.braille.put_run.Goals as goal
@@ -9,8 +9,8 @@ pub loop-cell-init : goal.loop-cell-init
 loop-cell-init g c = record { taken = []; parts = refl; sending = Sending-none _ _ _ _ refl }
 
 -- one more piece is taken
-more : (all taken left others : List Made) (made : Made) → all ≡ taken ++ left → left ≡ made ∷ others → all ≡ (taken ++ made ∷ []) ++ others
-more all taken left others made e f = e ∙ (ap (λ (t : List Made). taken ++ t) f ∙ sym (append_assoc taken (made ∷ []) others))
+more : (all taken left others : List PieceItem) (made : PieceItem) → all ≡ taken ++ left → left ≡ made ∷ others → all ≡ (taken ++ made ∷ []) ++ others
+more all taken left others made e f = e ∙ (ap (λ (t : List PieceItem). taken ++ t) f ∙ sym (append_assoc taken (made ∷ []) others))
 
 pub returns-in_err-put_cell : goal.returns-in_err-put_cell
 returns-in_err-put_cell g c =
@@ -40,6 +40,6 @@ returns g c =
     let inv = c.loop-cell.invariant in
     record {
       taken = inv.taken;
-      parts = inv.parts ∙ ap (λ (left : List Made). inv.taken ++ left) (sym c.in_default.ensures);
+      parts = inv.parts ∙ ap (λ (left : List PieceItem). inv.taken ++ left) (sym c.in_default.ensures);
       puts = Sending-done g.K.Sink.can_fail _ _ c.loop-cell.block _ _ inv.sending refl;
     }

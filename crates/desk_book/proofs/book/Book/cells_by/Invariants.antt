@@ -1,5 +1,5 @@
 use Rattle.std.proofs.Common.{◌≡◌, length}
-use Rattle.desk_book.proofs.Planned.Users.{RenewsEach}
+use Rattle.desk_book.proofs.Plans.Users.{RenewsEach}
 use Rattle.desk_book.proofs.book.Book.cells_by.Given as goal
 
 -- the paragraphs so far have their new cells

@@ -1,4 +1,4 @@
-use Rattle.desk_book.proofs.Planned.Users.{DefinesUsersBelow}
+use Rattle.desk_book.proofs.Plans.Users.{DefinesUsersBelow}
 use Rattle.desk_book.proofs.book.Book.check_users.Given as goal
 
 -- the rules define the prints of the users so far

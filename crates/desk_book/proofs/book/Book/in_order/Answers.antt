@@ -9,8 +9,8 @@ use Rattle.desk_model.specs.Step.{Makes}
 use Rattle.desk_book.proofs.Kept.Settled.{sound-next, order-reordered, next-reordered, IsKept-reordered}
 use Rattle.desk_book.proofs.book.Book.in_order.Goals as goal
 
-pub reordered-requires : goal.reordered-requires
-reordered-requires c =
+pub with_order-requires : goal.with_order-requires
+with_order-requires c =
     let was = c.self.inside in
     let here : IsEffect (book_kept was.version was.tables was.paragraphs was.marks) c.args.version (Reorder c.args.order) c.requires.0 =
     subst (λ (b : Book). IsEffect b c.args.version (Reorder c.args.order) c.requires.0) (sym c.self.view_is) c.requires.1 in
@@ -27,7 +27,7 @@ invariant_of-result c =
     let sound = sound-next was.version was.tables was.paragraphs was.marks c.self.invariant c.requires.0 c.args.version (Reorder c.args.order) here in
     let makes = subst (λ (command : Command). Makes (book_kept was.version was.tables was.paragraphs was.marks) command c.requires.0) here.does.2 here.makes in
     let accepted = subst (λ (command : Command). IsAccepted (book_kept was.version was.tables was.paragraphs was.marks) None command) here.does.2 here.accepted in
-    subst (λ (paragraphs : KeptParagraphs). IsKept c.args.version was.tables paragraphs was.marks) (sym c.reordered.ensures)
+    subst (λ (paragraphs : KeptParagraphs). IsKept c.args.version was.tables paragraphs was.marks) (sym c.with_order.ensures)
     (IsKept-reordered was.version was.tables was.paragraphs was.marks c.requires.0 c.args.version here.does.0 here.does.1 c.args.order here.at accepted makes here.does.3 c.self.invariant sound)
 
 pub returns : goal.returns
@@ -38,5 +38,5 @@ returns c = λ next given.
     let sound = sound-next was.version was.tables was.paragraphs was.marks c.self.invariant next c.args.version (Reorder c.args.order) here in
     let makes = subst (λ (command : Command). Makes (book_kept was.version was.tables was.paragraphs was.marks) command next) here.does.2 here.makes in
     let accepted = subst (λ (command : Command). IsAccepted (book_kept was.version was.tables was.paragraphs was.marks) None command) here.does.2 here.accepted in
-    ap (λ (paragraphs : KeptParagraphs). book_kept c.args.version was.tables paragraphs was.marks) c.reordered.ensures
+    ap (λ (paragraphs : KeptParagraphs). book_kept c.args.version was.tables paragraphs was.marks) c.with_order.ensures
     ∙ next-reordered was.version was.tables was.paragraphs was.marks next c.args.version here.does.0 here.does.1 c.args.order here.at accepted makes here.does.3 c.self.invariant sound

@@ -6,9 +6,9 @@ use Rattle.desk_model.specs.Judging.{Passes}
 use Rattle.desk_model.specs.Limits.{most_tables, most_version}
 use Rattle.desk_model.specs.Name.{IsTableName}
 use Rattle.desk_book.proofs.Kept.KeptLookups.{count-tables, sound}
-use Rattle.desk_book.proofs.Planned.Planning.{full_version, no_memory}
+use Rattle.desk_book.proofs.Plans.Planning.{full_version, no_memory}
 use Rattle.desk_model.proofs.Commands.Turns.{past_version}
-use Rattle.desk_book.proofs.Planned.TablePlanning.{full_tables, past_reading, past_tables, past_users, unread, unused}
+use Rattle.desk_book.proofs.Plans.TablePlanning.{full_tables, past_reading, past_tables, past_users, unread, unused}
 use Rattle.desk_book.proofs.book.Book.plan_addition.Goals as goal
 
 module _ (book : Book) (name text : List ℕ) (named : IsTableName name) (room : length book.tables < most_tables) where

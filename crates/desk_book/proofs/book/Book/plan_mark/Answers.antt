@@ -4,12 +4,12 @@ use Rattle.desk_model.specs.Book.{Book}
 use Rattle.desk_book.specs.Room.{Suffices}
 use Rattle.desk_command.specs.Characters.{AreCharacters}
 use Rattle.desk_book.proofs.Kept.MarkIndexes.{few-on}
-use Rattle.desk_book.proofs.Planned.MarkPlanning.{accepted_mark, full_marks, full_of_versions, has_cells, long_note, marked_here, no_memory_here}
+use Rattle.desk_book.proofs.Plans.MarkPlanning.{accepted_mark, full_marks, full_of_versions, has_cells, long_note, marked_here, no_memory_here}
 use Rattle.desk_book.proofs.Kept.MarkSettled.{count-marks}
 use Rattle.desk_book.proofs.book.Book.plan_mark.Goals as goal
 
-pub marked-requires-clause-cells : goal.marked-requires-clause-cells
-marked-requires-clause-cells c = has_cells c.args.self.now c.args.id c.args.cell c.args.count c.args.note.now c.in_ok-check_text.ensures.unbarred _ _ c.in_ok-paragraph.ensures.found.0 c.in_ok-paragraph.ensures.found.1 c.as_slice-print.result.now c.as_slice-cells.result.now c.as_slice-print.ensures c.as_slice-cells.ensures
+pub span_of_cells-requires-clause-cells : goal.span_of_cells-requires-clause-cells
+span_of_cells-requires-clause-cells c = has_cells c.args.self.now c.args.id c.args.cell c.args.count c.args.note.now c.in_ok-check_text.ensures.unbarred _ _ c.in_ok-paragraph.ensures.found.0 c.in_ok-paragraph.ensures.found.1 c.as_slice-print.result.now c.as_slice-cells.result.now c.as_slice-print.ensures c.as_slice-cells.ensures
 
 pub returns-in_err-check_note-clause-refused : goal.returns-in_err-check_note-clause-refused
 returns-in_err-check_note-clause-refused c =

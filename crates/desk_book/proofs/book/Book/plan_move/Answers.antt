@@ -6,13 +6,13 @@ use Rattle.desk_book.specs.declared.paragraphs.Paragraph.{Paragraph as KeptParag
 use Rattle.desk_model.specs.Book.{Book}
 use Rattle.desk_model.specs.Judging.{Passes}
 use Rattle.desk_book.specs.Kept.{with_id_moved}
-use Rattle.desk_book.specs.Planned.{AreThere, IsKeptFor}
+use Rattle.desk_book.specs.Plans.{AreThere, IsKeptFor}
 use Rattle.desk_model.specs.Refusals.{paragraph_before}
 use Rattle.desk_model.specs.Step.{with_move}
 use Rattle.desk_book.proofs.Kept.KeptLookups.{ids_of-book}
 use Rattle.desk_book.proofs.Kept.OrderLists.{ids_of-with_move}
 use Rattle.desk_model.proofs.Books.ParagraphLists.{ids_of}
-use Rattle.desk_book.proofs.Planned.Planning.{AreNotAllThere-cons, AreThere-cons, full_version, no_memory, no_paragraph, past_paragraphs, unnamed}
+use Rattle.desk_book.proofs.Plans.Planning.{AreNotAllThere-cons, AreThere-cons, full_version, no_memory, no_paragraph, past_paragraphs, unnamed}
 use Rattle.desk_model.proofs.Commands.Turns.{accepted_after, passes_to, past_version, to_turn}
 use Rattle.desk_book.proofs.book.Book.plan_move.Goals as goal
 

@@ -9,9 +9,9 @@ use Rattle.desk_book.specs.Changes.{AreRenewed}
 use Rattle.desk_model.specs.Judging.{Passes}
 use Rattle.desk_model.specs.Limits.{most_version}
 use Rattle.desk_model.specs.Name.{IsTableName}
-use Rattle.desk_book.proofs.Planned.Planning.{full_version, no_memory}
+use Rattle.desk_book.proofs.Plans.Planning.{full_version, no_memory}
 use Rattle.desk_model.proofs.Commands.Turns.{past_version}
-use Rattle.desk_book.proofs.Planned.TablePlanning.{past_reading, past_tables, past_users, unread, untranslatable}
+use Rattle.desk_book.proofs.Plans.TablePlanning.{past_reading, past_tables, past_users, unread, untranslatable}
 use Rattle.desk_book.proofs.book.Book.plan_replacement.Goals as goal
 
 module _ (book : Book) (name text : List ℕ) (named : IsTableName name) (old : IsSome (text_of book name)) where

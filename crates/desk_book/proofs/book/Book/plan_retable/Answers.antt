@@ -11,11 +11,11 @@ use Rattle.desk_book.specs.Changes.{AreCellsOf}
 use Rattle.desk_model.specs.Judging.{Passes}
 use Rattle.desk_book.specs.Kept.{paragraph_kept}
 use Rattle.desk_model.specs.Limits.{most_version}
-use Rattle.desk_book.specs.Planned.{IsKeptFor, IsTableFor}
+use Rattle.desk_book.specs.Plans.{IsKeptFor, IsTableFor}
 use Rattle.desk_model.specs.Print.{print_of}
 use Rattle.desk_model.specs.Refusals.{print_to_translate}
 use Rattle.desk_model.proofs.Commands.Turns.{accepted_after, past_table, past_version, to_turn}
-use Rattle.desk_book.proofs.Planned.Planning.{full_version, no_memory, no_table, past_named, past_print, past_struck, turned_down, undefined, unnamed}
+use Rattle.desk_book.proofs.Plans.Planning.{full_version, no_memory, no_table, past_named, past_print, past_struck, turned_down, undefined, unnamed}
 use Rattle.desk_book.proofs.book.Book.plan_retable.Goals as goal
 
 module _ (book : Book) (id : ℕ) (name : List ℕ) (kept : KeptParagraph) (found : IsKeptFor book id kept) where

@@ -6,10 +6,10 @@ use Rattle.desk_command.specs.declared.refusal.Refusal.TheVariants.{Struck}
 use Rattle.desk_model.specs.Book.{Book}
 use Rattle.desk_model.specs.Judging.{Passes}
 use Rattle.desk_book.specs.Kept.{paragraph_kept}
-use Rattle.desk_book.specs.Planned.{IsKeptFor}
+use Rattle.desk_book.specs.Plans.{IsKeptFor}
 use Rattle.desk_model.specs.Step.{next_with_paragraphs}
 use Rattle.desk_model.proofs.Commands.Turns.{accepted_after, past_version, to_turn}
-use Rattle.desk_book.proofs.Planned.Planning.{full_version, past_struck, past_named, turned_down, unnamed}
+use Rattle.desk_book.proofs.Plans.Planning.{full_version, past_struck, past_named, turned_down, unnamed}
 use Rattle.desk_model.proofs.Books.ParagraphLists.{with_change-same}
 use Rattle.desk_book.proofs.book.Book.plan_strike.Goals as goal
 

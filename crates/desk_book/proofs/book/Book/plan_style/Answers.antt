@@ -4,7 +4,7 @@ use Rattle.desk_command.specs.declared.command.Command.TheVariants.{Style}
 use Rattle.desk_book.specs.Kept.{paragraph_kept}
 use Rattle.desk_model.specs.Step.{next_with_paragraphs}
 use Rattle.desk_model.proofs.Commands.Turns.{accepted_after, past_version}
-use Rattle.desk_book.proofs.Planned.Planning.{full_version, past_named, unnamed}
+use Rattle.desk_book.proofs.Plans.Planning.{full_version, past_named, unnamed}
 use Rattle.desk_model.proofs.Books.ParagraphLists.{with_change-same}
 use Rattle.desk_book.proofs.book.Book.plan_style.Goals as goal
 

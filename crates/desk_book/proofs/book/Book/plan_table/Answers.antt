@@ -1,5 +1,5 @@
 use Rattle.std.proofs.lemmas.Result.{err_from_is_err_and}
-use Rattle.desk_book.proofs.Planned.TablePlanning.{bad_name}
+use Rattle.desk_book.proofs.Plans.TablePlanning.{bad_name}
 use Rattle.desk_book.proofs.book.Book.plan_table.Goals as goal
 
 pub returns-in_err-check_name : goal.returns-in_err-check_name

@@ -9,17 +9,17 @@ use Rattle.desk_model.specs.Book.{Book}
 use Rattle.desk_model.specs.Judging.{Passes}
 use Rattle.desk_book.specs.Kept.{with_id}
 use Rattle.desk_model.specs.Limits.{most_paragraphs, most_print, most_version}
-use Rattle.desk_book.specs.Planned.{AreThere, IsNewParagraph, IsTableFor}
+use Rattle.desk_book.specs.Plans.{AreThere, IsNewParagraph, IsTableFor}
 use Rattle.desk_model.specs.Refusals.{paragraph_before}
 use Rattle.desk_book.specs.Room.{Suffices}
-use Rattle.desk_model.specs.Step.{next_id, typed, with_paragraph}
-use Rattle.desk_model.specs.Stored.{IsUnbarred, stored}
+use Rattle.desk_model.specs.Step.{new_paragraph, next_id, with_paragraph}
+use Rattle.desk_model.specs.NormalForm.{IsUnbarred, normal_form}
 use Rattle.desk_book.proofs.Kept.KeptLookups.{Contains-there, count-paragraphs, ids_of-book}
-use Rattle.desk_book.proofs.Planned.NewParagraphs.{IsKeptTyped-new}
+use Rattle.desk_book.proofs.Plans.NewParagraphs.{IsKeptTyped-new}
 use Rattle.desk_book.proofs.Kept.OrderLists.{ids_of-with_paragraph}
 use Rattle.desk_model.proofs.Books.ParagraphLists.{ids_of}
 use Rattle.desk_model.proofs.Commands.Turns.{accepted_after, passes_to, past_length, past_room, past_table, past_text, past_version, to_turn}
-use Rattle.desk_book.proofs.Planned.Planning.{bad_text, full_paragraphs, full_version, no_memory, no_paragraph, no_table, past_paragraphs, past_print, too_long, undefined}
+use Rattle.desk_book.proofs.Plans.Planning.{bad_text, full_paragraphs, full_version, no_memory, no_paragraph, no_table, past_paragraphs, past_print, too_long, undefined}
 use Rattle.desk_book.proofs.book.Book.plan_type.Goals as goal
 
 module _ (book : Book) (anchor : Anchor) (name text : List ℕ) (unbarred : IsUnbarred text) where
@@ -34,9 +34,9 @@ module _ (book : Book) (anchor : Anchor) (name text : List ℕ) (unbarred : IsUn
       tabled : Passes book None (TypeIn anchor name text) 110
       tabled = to_turn book (TypeIn anchor name text) 50 110 refl (past_table book (TypeIn anchor name text) name table.text anchored refl found.found)
 
-      module _ (short : length (stored text) ≤ most_print) where
+      module _ (short : length (normal_form text) ≤ most_print) where
         shortened : Passes book None (TypeIn anchor name text) 130
-        shortened = to_turn book (TypeIn anchor name text) 120 130 refl (past_length book (TypeIn anchor name text) (stored text) tabled refl refl refl short)
+        shortened = to_turn book (TypeIn anchor name text) 120 130 refl (past_length book (TypeIn anchor name text) (normal_form text) tabled refl refl refl short)
 
         module _ (room : length book.paragraphs < most_paragraphs) where
           roomy : Passes book None (TypeIn anchor name text) 140
@@ -75,7 +75,7 @@ returns-in_err-print c =
 pub returns-in_err-check_length : goal.returns-in_err-check_length
 returns-in_err-check_length c =
     let p = err_from_is_err_and c.from_residual-in_err-check_length.result c.from_residual-in_err-check_length.ensures.1 in
-    let printed : c.in_ok-print.print.items ≡ stored c.args.text.now = c.in_ok-print.ensures ∙ ap stored c.as_str.ensures in
+    let printed : c.in_ok-print.print.items ≡ normal_form c.args.text.now = c.in_ok-print.ensures ∙ ap normal_form c.as_str.ensures in
     let told = c.in_err-check_length.ensures.long in
     let passes = tabled c.args.self.now c.args.anchor c.args.table.now c.args.text.now c.in_ok-check_text.ensures.unbarred c.in_ok-check_anchor.ensures.there _ c.in_ok-kept.ensures.found in
     let long = subst (λ (t : List ℕ). most_print < length t) (c.deref.ensures.value ∙ printed) told.1 in
@@ -84,7 +84,7 @@ returns-in_err-check_length c =
 pub returns-in_err-check_room : goal.returns-in_err-check_room
 returns-in_err-check_room c =
     let p = err_from_is_err_and c.from_residual-in_err-check_room.result c.from_residual-in_err-check_room.ensures.1 in
-    let printed : c.in_ok-print.print.items ≡ stored c.args.text.now = c.in_ok-print.ensures ∙ ap stored c.as_str.ensures in
+    let printed : c.in_ok-print.print.items ≡ normal_form c.args.text.now = c.in_ok-print.ensures ∙ ap normal_form c.as_str.ensures in
     let short = subst (λ (t : List ℕ). length t ≤ most_print) (c.deref.ensures.value ∙ printed) c.in_ok-check_length.ensures.short in
     let told = c.in_err-check_room.ensures.full in
     let passes = shortened c.args.self.now c.args.anchor c.args.table.now c.args.text.now c.in_ok-check_text.ensures.unbarred c.in_ok-check_anchor.ensures.there _ c.in_ok-kept.ensures.found short in
@@ -93,7 +93,7 @@ returns-in_err-check_room c =
 pub returns-in_err-check_version : goal.returns-in_err-check_version
 returns-in_err-check_version c =
     let p = err_from_is_err_and c.from_residual-in_err-check_version.result c.from_residual-in_err-check_version.ensures.1 in
-    let printed : c.in_ok-print.print.items ≡ stored c.args.text.now = c.in_ok-print.ensures ∙ ap stored c.as_str.ensures in
+    let printed : c.in_ok-print.print.items ≡ normal_form c.args.text.now = c.in_ok-print.ensures ∙ ap normal_form c.as_str.ensures in
     let short = subst (λ (t : List ℕ). length t ≤ most_print) (c.deref.ensures.value ∙ printed) c.in_ok-check_length.ensures.short in
     let told = c.in_err-check_version.ensures.full in
     let passes = roomy c.args.self.now c.args.anchor c.args.table.now c.args.text.now c.in_ok-check_text.ensures.unbarred c.in_ok-check_anchor.ensures.there _ c.in_ok-kept.ensures.found short c.in_ok-check_room.ensures.left in
@@ -102,12 +102,12 @@ returns-in_err-check_version c =
 pub returns-in_err-check_print : goal.returns-in_err-check_print
 returns-in_err-check_print c =
     let p = err_from_is_err_and c.from_residual-in_err-check_print.result c.from_residual-in_err-check_print.ensures.1 in
-    let printed : c.in_ok-print.print.items ≡ stored c.args.text.now = c.in_ok-print.ensures ∙ ap stored c.as_str.ensures in
+    let printed : c.in_ok-print.print.items ≡ normal_form c.args.text.now = c.in_ok-print.ensures ∙ ap normal_form c.as_str.ensures in
     let short = subst (λ (t : List ℕ). length t ≤ most_print) (c.deref.ensures.value ∙ printed) c.in_ok-check_length.ensures.short in
     let told = c.in_err-check_print.ensures.undefined in
     let passes = left c.args.self.now c.args.anchor c.args.table.now c.args.text.now c.in_ok-check_text.ensures.unbarred c.in_ok-check_anchor.ensures.there _ c.in_ok-kept.ensures.found short c.in_ok-check_room.ensures.left c.in_ok-check_version.ensures.left in
     let first = subst (λ (t : List ℕ). IsFirstUndefined c.in_ok-kept.kept.now.rules t told.0) (c.deref-2.ensures.value ∙ printed) told.2 in
-    rw (p.1, p.2) (record { planned = tt; refused = undefined c.args.self.now (TypeIn c.args.anchor c.args.table.now c.args.text.now) c.args.table.now (stored c.args.text.now) _ refl c.in_ok-kept.ensures.found _ told.0 passes told.1 first })
+    rw (p.1, p.2) (record { planned = tt; refused = undefined c.args.self.now (TypeIn c.args.anchor c.args.table.now c.args.text.now) c.args.table.now (normal_form c.args.text.now) _ refl c.in_ok-kept.ensures.found _ told.0 passes told.1 first })
 
 pub returns-in_err-new_paragraph : goal.returns-in_err-new_paragraph
 returns-in_err-new_paragraph c =
@@ -147,18 +147,18 @@ returns-clause-planned c =
     let book = c.args.self.now in
     let rules = c.in_ok-kept.kept.now.rules in
     let kept = c.in_ok-new_paragraph.field-0 in
-    let printed : c.in_ok-print.print.items ≡ stored c.args.text.now = c.in_ok-print.ensures ∙ ap stored c.as_str.ensures in
+    let printed : c.in_ok-print.print.items ≡ normal_form c.args.text.now = c.in_ok-print.ensures ∙ ap normal_form c.as_str.ensures in
     let short = subst (λ (t : List ℕ). length t ≤ most_print) (c.deref.ensures.value ∙ printed) c.in_ok-check_length.ensures.short in
     let passes = left c.args.self.now c.args.anchor c.args.table.now c.args.text.now c.in_ok-check_text.ensures.unbarred c.in_ok-check_anchor.ensures.there _ c.in_ok-kept.ensures.found short c.in_ok-check_room.ensures.left c.in_ok-check_version.ensures.left in
     let defined = subst (AreDefined rules) (c.deref-2.ensures.value ∙ printed) c.in_ok-check_print.ensures.defined in
-    let judged = past_print book (TypeIn c.args.anchor c.args.table.now c.args.text.now) c.args.table.now (stored c.args.text.now) _ refl c.in_ok-kept.ensures.found passes defined in
+    let judged = past_print book (TypeIn c.args.anchor c.args.table.now c.args.text.now) c.args.table.now (normal_form c.args.text.now) _ refl c.in_ok-kept.ensures.found passes defined in
     let new = subst (λ (t : List ℕ). IsNewParagraph c.args.table.now t rules kept) printed c.in_ok-new_paragraph.ensures in
     let count = count-paragraphs _ _ _ _ book c.self.view_is in
-    let order : insert (ids_of book.paragraphs) c.place_for.result (next_id book) ≡ ids_of (with_paragraph c.args.anchor (typed (next_id book) c.args.table.now c.args.text.now) book.paragraphs) =
+    let order : insert (ids_of book.paragraphs) c.place_for.result (next_id book) ≡ ids_of (with_paragraph c.args.anchor (new_paragraph (next_id book) c.args.table.now c.args.text.now) book.paragraphs) =
     ap (λ (list : List ℕ). insert list c.place_for.result (next_id book)) (ids_of-book _ _ _ _ book c.self.view_is)
     ∙ (c.place_for.ensures.place (next_id book)
     ∙ (ap (with_id c.args.anchor (next_id book)) (sym (ids_of-book _ _ _ _ book c.self.view_is))
-    ∙ sym (ids_of-with_paragraph c.args.anchor (typed (next_id book) c.args.table.now c.args.text.now) book.paragraphs))) in (
+    ∙ sym (ids_of-with_paragraph c.args.anchor (new_paragraph (next_id book) c.args.table.now c.args.text.now) book.paragraphs))) in (
       accepted_after book (TypeIn c.args.anchor c.args.table.now c.args.text.now) 190 judged refl,
       (
         _,

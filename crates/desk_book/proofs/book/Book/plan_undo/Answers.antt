@@ -1,10 +1,10 @@
 use Rattle.std.proofs.Common.{◌≡◌, ℕ, ◌+◌, ◌≤◌, List, length, sym, ap, subst, ◌∙◌, refl, arith}
 use Rattle.std.proofs.lemmas.Result.{err_from_is_err_and}
-use Rattle.desk_book.specs.Corrected.{HaltsEntry, TakesEntry, replaced_by}
+use Rattle.desk_book.specs.Corrections.{HaltsEntry, TakesEntry, replaced_by}
 use Rattle.desk_book.specs.Histories.{IsNewestInForce, entries_kept}
 use Rattle.desk_model.specs.Sound.{AreSoundEntries}
 use Rattle.desk_book.proofs.Kept.KeptLookups.{IfErr-weaker, IfOk-weaker}
-use Rattle.desk_book.proofs.Planned.UndoPlanning.{back, counted, halted_here, no_memory_here, planned_here, sound_kept, span_here, undefined_here}
+use Rattle.desk_book.proofs.Plans.UndoPlanning.{back, counted, halted_here, no_memory_here, planned_here, sound_kept, span_here, undefined_here}
 use Rattle.desk_book.proofs.book.Book.plan_undo.Goals as goal
 
 pub newest-requires : goal.newest-requires
@@ -34,8 +34,8 @@ returns-clause-planned c =
     let correction = c.in-Some.correction.now in
     let force = subst (λ h. IsNewestInForce h c.in-Some.number correction) c.as_slice.ensures c.in-Some.ensures.found in
     let printed = c.in_ok-undone.ensures ∙ (ap (replaced_by correction.start (length correction.text) correction.taken) c.as_slice-old.ensures ∙ back c.args.self.now c.args.id _ _ found.0 found.1 c.in-Some.number correction force) in
-    IfOk-weaker c.entered.result _ _
-    (λ effect is. planned_here c.args.self.now c.args.id _ _ found.0 found.1 c.in-Some.number correction force c.in_ok-undone.field-0.items printed _ effect refl is refl refl c.count-count.ensures (ap length c.as_slice-taken.ensures)) c.entered.ensures.planned
+    IfOk-weaker c.entry_effect.result _ _
+    (λ effect is. planned_here c.args.self.now c.args.id _ _ found.0 found.1 c.in-Some.number correction force c.in_ok-undone.field-0.items printed _ effect refl is refl refl c.count-count.ensures (ap length c.as_slice-taken.ensures)) c.entry_effect.ensures.planned
 
 pub returns-in_err-check_entry-clause-refused : goal.returns-in_err-check_entry-clause-refused
 returns-in_err-check_entry-clause-refused c =
@@ -47,8 +47,8 @@ returns-in_err-check_entry-clause-refused c =
     rw (p.1, p.2) (halted_here c.args.self.now c.args.id _ _ found.0 found.1 c.in-Some.number correction force _ refl _
     (subst (λ n. HaltsEntry c.args.self.now c.in_ok-paragraph.paragraph.now n c.in_err-check_entry.field-0.0) many c.in_err-check_entry.ensures.halted))
 
-pub entered-requires : goal.entered-requires
-entered-requires c =
+pub entry_effect-requires : goal.entry_effect-requires
+entry_effect-requires c =
     let found = c.in_ok-paragraph.ensures.found in
     let correction = c.in-Some.correction.now in
     let force = subst (λ h. IsNewestInForce h c.in-Some.number correction) c.as_slice.ensures c.in-Some.ensures.found in
@@ -64,8 +64,8 @@ returns-clause-refused c =
     let many = counted c.args.self.now c.args.id _ _ found.0 found.1 c.in-Some.number correction force _ _ _ (ap length c.as_slice-old.ensures) c.count-count.ensures (ap length c.as_slice-taken.ensures) in
     let printed = c.in_ok-undone.ensures ∙ (ap (replaced_by correction.start (length correction.text) correction.taken) c.as_slice-old.ensures ∙ back c.args.self.now c.args.id _ _ found.0 found.1 c.in-Some.number correction force) in
     let takes = subst (TakesEntry c.args.self.now c.in_ok-paragraph.paragraph.now) (many ∙ sym (ap length printed)) c.in_ok-check_entry.ensures.takes in
-    IfErr-weaker c.entered.result _ _
-    (λ told halts. undefined_here c.args.self.now c.args.id _ _ found.0 found.1 c.in-Some.number correction force c.in_ok-undone.field-0.items printed takes told halts) c.entered.ensures.refused
+    IfErr-weaker c.entry_effect.result _ _
+    (λ told halts. undefined_here c.args.self.now c.args.id _ _ found.0 found.1 c.in-Some.number correction force c.in_ok-undone.field-0.items printed takes told halts) c.entry_effect.ensures.refused
 
 pub returns-in_err-undone-clause-refused : goal.returns-in_err-undone-clause-refused
 returns-in_err-undone-clause-refused c =

@@ -8,7 +8,7 @@ use Rattle.desk_model.specs.Damage.{IsDamagedMark, IsDamagedPara, IsDamagedTab, 
 use Rattle.desk_parts.specs.FileRows.{HasMarkText}
 use Rattle.desk_book.specs.Judged.{AreInPlaces, AreMarksOf, AreOf, AreTables, HaveMarks, IsWhole, without_marks}
 use Rattle.desk_model.specs.Limits.{most_version}
-use Rattle.desk_model.specs.Rebuilt.{IsFaultOf}
+use Rattle.desk_model.specs.Rebuilding.{IsFaultOf}
 use Rattle.desk_parts.specs.Parts.{rows_in}
 use Rattle.desk_model.specs.Shows.{Shows}
 use Rattle.desk_book.proofs.Judged.FirstTables.{of-table-fault, of-table-rows}
@@ -122,8 +122,8 @@ returns-in_err-give_cells-clause-damaged c =
     (cache-fault c.args.parts within no_tab no_para no_entry no_mark c.in_err-give_cells.field-0.0
     (c.in_err-give_cells.ensures.damaged rows.tabs rows.paras tables with_marks no_para))
 
-pub joined-requires-clause-order : goal.joined-requires-clause-order
-joined-requires-clause-order c =
+pub book_of_parts-requires-clause-order : goal.book_of_parts-requires-clause-order
+book_of_parts-requires-clause-order c =
     let rows = rows_in c.args.parts in
     let tables = of-table-rows Tab c.judged_tabs.result (Ok c.in_ok-tables.tables) c.in_ok-tables.ensures (AreTables rows.tabs) c.judged_tabs.ensures.tables in
     let of = of-table-rows Para c.judged_paras.result (Ok c.in_ok-paras.paras) c.in_ok-paras.ensures (λ judged. AreOf rows.paras judged.items.items) (c.judged_paras.ensures.items rows.tabs tables) in
@@ -134,8 +134,8 @@ joined-requires-clause-order c =
     let last = of-with_cells rows.paras c.judged_marks.new.items.items c.give_cells.new.items.items c.in_ok-give_cells.ensures.same with_marks in
     order-permutes rows.paras c.give_cells.new.items.items c.in_ok-paras.paras.order.items last places
 
-pub joined-requires-clause-kept : goal.joined-requires-clause-kept
-joined-requires-clause-kept c =
+pub book_of_parts-requires-clause-kept : goal.book_of_parts-requires-clause-kept
+book_of_parts-requires-clause-kept c =
     let rows = rows_in c.args.parts in
     let fits : SFits w64 c.args.parts.version = search rules in
     let plain = to_z-of_z w64 c.args.parts.version fits in

@@ -10,36 +10,36 @@ use Rattle.desk_model.specs.Step.{Makes}
 use Rattle.desk_book.proofs.Kept.Settled.{few-placed, order-placed, room-placed, sound-next, order-typed, next-typed, within-placed, IsKept-typed}
 use Rattle.desk_book.proofs.book.Book.with_new_paragraph.Goals as goal
 
-pub typed-requires-clause-few : goal.typed-requires-clause-few
-typed-requires-clause-few c =
+pub with_paragraph-requires-clause-few : goal.with_paragraph-requires-clause-few
+with_paragraph-requires-clause-few c =
     let was = c.self.inside in
     let here : IsEffect (book_kept was.version was.tables was.paragraphs was.marks) c.args.version (AddParagraph c.args.paragraph c.args.room c.args.order_room c.args.place) c.requires.0 =
     subst (λ (b : Book). IsEffect b c.args.version (AddParagraph c.args.paragraph c.args.room c.args.order_room c.args.place) c.requires.0) (sym c.self.view_is) c.requires.1 in
     few-placed was.version was.tables was.paragraphs was.marks here.does.few
 
-pub typed-requires-clause-room : goal.typed-requires-clause-room
-typed-requires-clause-room c =
+pub with_paragraph-requires-clause-room : goal.with_paragraph-requires-clause-room
+with_paragraph-requires-clause-room c =
     let was = c.self.inside in
     let here : IsEffect (book_kept was.version was.tables was.paragraphs was.marks) c.args.version (AddParagraph c.args.paragraph c.args.room c.args.order_room c.args.place) c.requires.0 =
     subst (λ (b : Book). IsEffect b c.args.version (AddParagraph c.args.paragraph c.args.room c.args.order_room c.args.place) c.requires.0) (sym c.self.view_is) c.requires.1 in
     room-placed was.version was.tables was.paragraphs was.marks c.args.room here.does.room_is
 
-pub typed-requires-clause-order_room : goal.typed-requires-clause-order_room
-typed-requires-clause-order_room c =
+pub with_paragraph-requires-clause-order_room : goal.with_paragraph-requires-clause-order_room
+with_paragraph-requires-clause-order_room c =
     let was = c.self.inside in
     let here : IsEffect (book_kept was.version was.tables was.paragraphs was.marks) c.args.version (AddParagraph c.args.paragraph c.args.room c.args.order_room c.args.place) c.requires.0 =
     subst (λ (b : Book). IsEffect b c.args.version (AddParagraph c.args.paragraph c.args.room c.args.order_room c.args.place) c.requires.0) (sym c.self.view_is) c.requires.1 in
     room-placed was.version was.tables was.paragraphs was.marks c.args.order_room here.does.order_room_is
 
-pub typed-requires-clause-place : goal.typed-requires-clause-place
-typed-requires-clause-place c =
+pub with_paragraph-requires-clause-place : goal.with_paragraph-requires-clause-place
+with_paragraph-requires-clause-place c =
     let was = c.self.inside in
     let here : IsEffect (book_kept was.version was.tables was.paragraphs was.marks) c.args.version (AddParagraph c.args.paragraph c.args.room c.args.order_room c.args.place) c.requires.0 =
     subst (λ (b : Book). IsEffect b c.args.version (AddParagraph c.args.paragraph c.args.room c.args.order_room c.args.place) c.requires.0) (sym c.self.view_is) c.requires.1 in
     within-placed was.version was.tables was.paragraphs was.marks c.args.place here.does.within
 
-pub typed-requires-clause-order : goal.typed-requires-clause-order
-typed-requires-clause-order c =
+pub with_paragraph-requires-clause-order : goal.with_paragraph-requires-clause-order
+with_paragraph-requires-clause-order c =
     let was = c.self.inside in
     let here : IsEffect (book_kept was.version was.tables was.paragraphs was.marks) c.args.version (AddParagraph c.args.paragraph c.args.room c.args.order_room c.args.place) c.requires.0 =
     subst (λ (b : Book). IsEffect b c.args.version (AddParagraph c.args.paragraph c.args.room c.args.order_room c.args.place) c.requires.0) (sym c.self.view_is) c.requires.1 in
@@ -58,7 +58,7 @@ invariant_of-result c =
     let sound = sound-next was.version was.tables was.paragraphs was.marks c.self.invariant c.requires.0 c.args.version (AddParagraph c.args.paragraph c.args.room c.args.order_room c.args.place) here in
     let makes = subst (λ (command : Command). Makes (book_kept was.version was.tables was.paragraphs was.marks) command c.requires.0) here.does.command_is here.makes in
     let accepted = subst (λ (command : Command). IsAccepted (book_kept was.version was.tables was.paragraphs was.marks) None command) here.does.command_is here.accepted in
-    subst (λ (paragraphs : KeptParagraphs). IsKept c.args.version was.tables paragraphs was.marks) (sym c.typed.ensures)
+    subst (λ (paragraphs : KeptParagraphs). IsKept c.args.version was.tables paragraphs was.marks) (sym c.with_paragraph.ensures)
     (IsKept-typed was.version was.tables was.paragraphs was.marks c.requires.0 c.args.version here.does.anchor here.does.text (insert (ids was.paragraphs) c.args.place (length was.paragraphs + 1)) c.args.paragraph here.at accepted makes here.does.typed_is order c.self.invariant sound)
 
 pub returns : goal.returns
@@ -70,5 +70,5 @@ returns c = λ next given.
     let sound = sound-next was.version was.tables was.paragraphs was.marks c.self.invariant next c.args.version (AddParagraph c.args.paragraph c.args.room c.args.order_room c.args.place) here in
     let makes = subst (λ (command : Command). Makes (book_kept was.version was.tables was.paragraphs was.marks) command next) here.does.command_is here.makes in
     let accepted = subst (λ (command : Command). IsAccepted (book_kept was.version was.tables was.paragraphs was.marks) None command) here.does.command_is here.accepted in
-    ap (λ (paragraphs : KeptParagraphs). book_kept c.args.version was.tables paragraphs was.marks) c.typed.ensures
+    ap (λ (paragraphs : KeptParagraphs). book_kept c.args.version was.tables paragraphs was.marks) c.with_paragraph.ensures
     ∙ next-typed was.version was.tables was.paragraphs was.marks next c.args.version here.does.anchor here.does.text (insert (ids was.paragraphs) c.args.place (length was.paragraphs + 1)) c.args.paragraph here.at accepted makes here.does.typed_is order c.self.invariant sound

@@ -6,7 +6,7 @@ use Rattle.desk_book.specs.declared.change.Effect.TheVariants.{ReplaceTable}
 use Rattle.desk_command.specs.declared.command.Command.{Command}
 use Rattle.desk_model.specs.Book.{Book}
 use Rattle.desk_book.specs.Changes.{IsEffect}
-use Rattle.desk_book.specs.Kept.{KeptTables, KeptParagraphs, IsKept, book_kept, renewed, with_table}
+use Rattle.desk_book.specs.Kept.{KeptTables, KeptParagraphs, IsKept, book_kept, with_new_cells, with_table}
 use Rattle.desk_model.specs.Step.{Makes}
 use Rattle.desk_book.proofs.Kept.Settled.{sound-next, there-replaced, next-replaced, IsKept-replaced}
 use Rattle.desk_book.proofs.book.Book.with_table_replaced.Goals as goal
@@ -28,7 +28,7 @@ invariant_of-result c =
     let tables : c.replace.new.self ≡ with_table c.args.name c.args.table was.tables =
     c.replace.ensures ∙ ap (λ (name : List ℕ). with_table name c.args.table was.tables) c.as_str.ensures in
     subst (λ (paragraphs : KeptParagraphs). IsKept c.args.version c.replace.new.self paragraphs was.marks) (sym c.renew.ensures)
-    (subst (λ (t : KeptTables). IsKept c.args.version t (map (renewed c.args.cells.items) was.paragraphs) was.marks) (sym tables)
+    (subst (λ (t : KeptTables). IsKept c.args.version t (map (with_new_cells c.args.cells.items) was.paragraphs) was.marks) (sym tables)
     (IsKept-replaced was.version was.tables was.paragraphs was.marks c.requires.0 c.args.version c.args.name c.args.table c.args.cells.items here.at makes here.does.2 here.does.3 c.self.invariant sound))
 
 pub returns : goal.returns

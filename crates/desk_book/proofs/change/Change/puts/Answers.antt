@@ -1,6 +1,6 @@
 use Rattle.std.proofs.Common.{List, ap, refl, subst, sym, ◌∙◌}
 use Rattle.desk_parts.specs.Puts.{RowPut}
-use Rattle.desk_model.specs.Lent.{AreLent, LeadTo}
+use Rattle.desk_model.specs.Loans.{AreLent, LeadTo}
 use Rattle.desk_book.specs.Changes.{change_puts, puts-change_by}
 use Rattle.desk_book.proofs.Kept.KeptLookups.{sound}
 use Rattle.desk_book.proofs.RowPuts.LentRows.{change-lent}

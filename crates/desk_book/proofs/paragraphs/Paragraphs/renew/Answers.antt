@@ -2,8 +2,8 @@ use Rattle.std.proofs.Common.{◌≡◌, length, map, vec_len, sym, ap, ap₂, �
 use Rattle.std.proofs.lemmas.List.{with_items_is}
 use Rattle.std.specs.List.{flat_map}
 use Rattle.desk_book.specs.declared.paragraphs.Paragraphs.TheInside.{Inside}
-use Rattle.desk_book.specs.Kept.{numbered, renewed, renewed_items}
-use Rattle.desk_book.proofs.Kept.Renewing.{length-renewed_items, renewed-in_order}
+use Rattle.desk_book.specs.Kept.{paragraph_with_id, renewed_items, with_new_cells}
+use Rattle.desk_book.proofs.Kept.Renewing.{length-renewed_items, with_new_cells-in_order}
 use Rattle.desk_book.proofs.paragraphs.Paragraphs.renew.Goals as goal
 
 pub returns : goal.returns
@@ -17,5 +17,5 @@ returns c =
     let was = c.deref_mut.ensures.value in
     let long : length c.renew.new.paragraphs ≡ vec_len vector =
     ap length c.renew.ensures ∙ (length-renewed_items cells c.deref_mut.result.now ∙ (ap length was ∙ sym vector.ok.0)) in
-    ap₂ (λ list ids. flat_map (numbered list) ids) (with_items_is vector c.renew.new.paragraphs long ∙ (c.renew.ensures ∙ ap (renewed_items cells) (was ∙ shown))) placed
-    ∙ (sym (renewed-in_order cells items order c.self.invariant) ∙ ap (map (renewed cells)) c.self.view_is)
+    ap₂ (λ list ids. flat_map (paragraph_with_id list) ids) (with_items_is vector c.renew.new.paragraphs long ∙ (c.renew.ensures ∙ ap (renewed_items cells) (was ∙ shown))) placed
+    ∙ (sym (with_new_cells-in_order cells items order c.self.invariant) ∙ ap (map (with_new_cells cells)) c.self.view_is)

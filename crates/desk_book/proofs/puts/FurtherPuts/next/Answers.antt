@@ -3,7 +3,7 @@ use Rattle.std.specs.Option.{option_copied}
 use Rattle.std.specs.Prelude.{slice_get}
 use Rattle.std.proofs.Math.Facts.{to_z-of_z}
 use Rattle.desk_book.specs.ChangePuts.{further_from, further_put}
-use Rattle.desk_model.specs.Lent.{row_number}
+use Rattle.desk_model.specs.Loans.{row_number}
 use Rattle.desk_parts.specs.Puts.{SetPlace}
 use Rattle.desk_model.proofs.Lists.Items.{option_copied-item}
 use Rattle.desk_book.proofs.RowPuts.PutLists.{numbered-past, numbered-there}

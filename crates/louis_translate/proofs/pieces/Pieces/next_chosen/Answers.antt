@@ -6,7 +6,7 @@ use Rattle.louis_table.specs.declared.definition.Definition.{Definition}
 use Rattle.louis_table.specs.Meaning.{Meaning, definition_of}
 use Rattle.louis_translate.specs.Position.{class_at, class_of}
 use Rattle.louis_translate.specs.Braille.{chosen_cells, own_cells}
-use Rattle.louis_translate.specs.Items.{Made, made_by}
+use Rattle.louis_translate.specs.Items.{PieceItem, made_by}
 use Rattle.louis_translate.specs.Left.{choices_from}
 use Rattle.louis_translate.specs.Piece.{IsFree}
 use Rattle.louis_translate.proofs.LonePieces.{made_is, no_sign, own, own_or_lone}
@@ -60,7 +60,7 @@ returns-in-Some g c =
     let step = choices_from-next meaning print c.self.inside.at choice at c.choose-choice.ensures.choice in
     let sign = sym (no_sign meaning print choice.start _ cell there lone.1 free) in
     let own = own_or_lone meaning _ print choice.start cell choice.rule _ c.table-table.ensures (own meaning print choice.start _ cell there lone.1) c.own_or_lone.ensures in
-    rw (← c.self.view_is) (ap (map (made_by meaning print)) step ∙ ap (λ (m : Made). m ∷ map (made_by meaning print) (choices_from meaning print choice.end)) (made_is meaning print choice _ _ sign own))
+    rw (← c.self.view_is) (ap (map (made_by meaning print)) step ∙ ap (λ (m : PieceItem). m ∷ map (made_by meaning print) (choices_from meaning print choice.end)) (made_is meaning print choice _ _ sign own))
 
 pub returns : goal.returns
 returns g c =
@@ -76,4 +76,4 @@ returns g c =
     let step = choices_from-next meaning print c.self.inside.at choice at c.choose-choice.ensures.choice in
     let sign = c.at_class.ensures.sign ∙ sign_at-same meaning _ print _ choice.start _ (sym inv.3) (sym inv.4) refl in
     let own = c.own_cells.ensures ∙ own_is meaning _ print choice.start choice.rule _ (sym c.table-table.ensures) lt c.definition-definition.ensures in
-    rw (← c.self.view_is) (ap (map (made_by meaning print)) step ∙ ap (λ (m : Made). m ∷ map (made_by meaning print) (choices_from meaning print choice.end)) (made_is meaning print choice _ _ sign own))
+    rw (← c.self.view_is) (ap (map (made_by meaning print)) step ∙ ap (λ (m : PieceItem). m ∷ map (made_by meaning print) (choices_from meaning print choice.end)) (made_is meaning print choice _ _ sign own))

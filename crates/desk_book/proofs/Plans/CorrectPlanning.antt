@@ -1,0 +1,130 @@
+-- How a correction is checked while no version is expected.
+use Rattle.std.proofs.Common.{◌≡◌, ℕ, ◌+◌, ◌-◌, ◌<◌, ◌≤◌, false, List, length, Some, None, refl, sym, ap, subst, ◌∙◌, arith, inl, lit≤}
+use Rattle.std.specs.Prelude.{option_map}
+use Rattle.louis_table.specs.Meaning.{Meaning}
+use Rattle.louis_translate.specs.Position.{AreDefined}
+use Rattle.desk_book.specs.declared.change.Effect.{Effect}
+use Rattle.desk_book.specs.declared.corrections.NewEntry.{NewEntry}
+use Rattle.desk_command.specs.declared.command.Command.{Command}
+use Rattle.desk_command.specs.declared.command.Command.TheVariants.{Correct}
+use Rattle.desk_book.specs.declared.paragraphs.Paragraph.{Paragraph as KeptParagraph}
+use Rattle.desk_command.specs.declared.refusal.Refusal.{Refusal}
+use Rattle.desk_command.specs.declared.refusal.Refusal.TheVariants.{BadReader, BadSpan, NoMemory, TooLong}
+use Rattle.desk_model.specs.Book.{Book, Corrects, Paragraph, Replacement, paragraph_of}
+use Rattle.desk_book.specs.Changes.{Does}
+use Rattle.desk_book.specs.Corrections.{HaltsEntry, HaltsPrint, IsEntered, IsUnfit, TakesEntry}
+use Rattle.desk_book.specs.Histories.{TookFrom, entry_kept}
+use Rattle.desk_model.specs.Judging.{Passes}
+use Rattle.desk_model.specs.Limits.{most_print}
+use Rattle.desk_model.specs.Marks.{mark_moved, mark_moved_by}
+use Rattle.desk_model.specs.Name.{IsProofreaderName}
+use Rattle.desk_book.specs.Plans.{IsPlanned, IsTurnedDown}
+use Rattle.desk_model.specs.Print.{print_of, with_entry, with_replacement}
+use Rattle.desk_model.specs.Refusals.{HasLongNote}
+use Rattle.desk_book.specs.Display.{IsShown}
+use Rattle.desk_model.specs.Step.{next_with_entry, replacement_by}
+use Rattle.desk_model.specs.NormalForm.{IsUnbarred, normal_form}
+use Rattle.desk_command.specs.Characters.{AreCharacters}
+use Rattle.desk_book.proofs.Plans.EntryPlanned.{ChangesPrint-entered}
+use Rattle.desk_model.proofs.Books.SoundBooks.{short-sound}
+use Rattle.desk_book.proofs.Plans.EntryPlanning.{accepts_entry, halted, undefined, unfit}
+use Rattle.desk_model.proofs.Commands.Turns.{passes_to, past_fit, past_text, same_some, short_text, to_turn}
+use Rattle.desk_model.proofs.Books.HistoryLists.{corrected_print-corrects}
+use Rattle.desk_model.proofs.Commands.Judging.{Passes-bad_reader, Passes-bad_span}
+use Rattle.desk_book.proofs.Plans.Planning.{no_memory, turned_down}
+use Rattle.desk_model.proofs.Books.SoundEntries.{length-replaced}
+
+module _ (book : Book) (id start count : ℕ) (text who : List ℕ) where
+  abbrev command : Command
+  command = Correct id start count text who
+
+  abbrev r : Replacement
+  r = replacement_by start count text
+
+  pub bad_reader : (told : Refusal) → (told ≡ BadReader) × (¬ IsProofreaderName who) → IsTurnedDown book command told
+  bad_reader told (is, bad) = turned_down book command 15 BadReader told (passes_to book command 15 refl) refl (record { name = who; given = refl; bad = bad }) is
+
+  module _ (named : IsProofreaderName who) where
+    pub past_proofreader : Passes book None command 20
+    past_proofreader = Passes-bad_reader book None command (passes_to book command 15 refl) (λ b. b.bad (subst IsProofreaderName (same_some who b.name b.given) named))
+
+    module _ (unbarred : IsUnbarred text) where
+      cleaned : Passes book None command 30
+      cleaned = past_text book command text past_proofreader refl unbarred
+
+      pub unfit_here : (told : Refusal) → IsUnfit book id told → IsTurnedDown book command told
+      unfit_here told = unfit book command id refl refl refl cleaned told
+
+      module _ (kept : KeptParagraph) (meaning : Meaning) (shown : IsShown book id kept meaning) (free : kept.struck ≡ false) where
+        abbrev p : Paragraph
+        p = shown.paragraph
+
+        fit : Passes book None command 90
+        fit = to_turn book command 70 90 refl (past_fit book command id refl refl refl cleaned p shown.found (ap (λ (q : Paragraph). q.struck) shown.kept_is ∙ free))
+
+        pub bad_span : (told : Refusal) → (told ≡ BadSpan) × (length kept.print < start + count) → IsTurnedDown book command told
+        bad_span told (is, past) =
+            turned_down book command 90 BadSpan told fit refl (record { paragraph = p; found = shown.found; past = subst (λ (t : List ℕ). length t < start + count) shown.print past }) is
+
+        module _ (span : start + count ≤ length kept.print) where
+          spanned : Passes book None command 110
+          spanned =
+              to_turn book command 100 110 refl
+              (Passes-bad_span book None command fit
+              (λ b. let both : Some p ≡ Some b.paragraph = sym shown.found ∙ b.found in
+              let same : p ≡ b.paragraph = cc in
+              let one = ap length shown.print in
+              let two = ap (λ (q : Paragraph). length (print_of q)) same in
+              let past = b.past in
+              omega arith))
+
+          -- so many characters the print has after it
+          pub counted : (len put : ℕ) → len ≡ length kept.print → put ≡ length (normal_form text) → (len - count) + put ≡ length (with_replacement (print_of p) r)
+          counted len put a b =
+              let same = ap length shown.print in
+              let sum = length-replaced (print_of p) r (subst (λ (t : List ℕ). start + count ≤ length t) shown.print span) in
+              omega (arith, a, b)
+
+          pub no_memory_here : (told : Refusal) → told ≡ NoMemory → IsTurnedDown book command told
+          no_memory_here told is = no_memory book command told 110 refl spanned is
+
+          pub long_text : (told : Refusal) (put : List ℕ) → put ≡ normal_form text → (told ≡ TooLong) × (most_print < length put) → IsTurnedDown book command told
+          long_text told put same (is, long) =
+              turned_down book command 110 TooLong told spanned refl (inl (record { text = normal_form text; given = refl; long = subst (λ (t : List ℕ). most_print < length t) same long })) is
+
+          module _ (print : List ℕ) (print_is : print ≡ with_replacement (print_of p) r) (short : length (normal_form text) ≤ most_print) where
+            made : option_map (λ (q : Paragraph). with_replacement (print_of q) r) (paragraph_of book id) ≡ Some print
+            made = ap (option_map (λ (q : Paragraph). with_replacement (print_of q) r)) shown.found ∙ ap Some (sym print_is)
+
+            to_show : option_map {U = List ℕ × List ℕ} (λ (q : Paragraph). (with_replacement (print_of q) r, q.table)) (paragraph_of book id) ≡ Some (print, p.table)
+            to_show = ap (option_map {U = List ℕ × List ℕ} (λ (q : Paragraph). (with_replacement (print_of q) r, q.table))) shown.found ∙ ap (λ (t : List ℕ). Some (t, p.table)) (sym print_is)
+
+            no_note : ¬ HasLongNote command
+            no_note l = let given = l.given in cc
+
+            pub halted_here : (told : Refusal) → HaltsEntry book kept (length print) told → IsTurnedDown book command told
+            halted_here told =
+                halted book command id p shown.found kept shown.kept_is print shown.translated.text meaning shown.translated.found shown.translated.means refl made to_show
+                (short_text book command (normal_form text) refl short) no_note spanned refl refl refl refl told
+
+            pub undefined_here : TakesEntry book kept (length print) → (told : Refusal) → HaltsPrint meaning print told → IsTurnedDown book command told
+            undefined_here takes told =
+                undefined book command id p shown.found kept shown.kept_is print shown.translated.text meaning shown.translated.found shown.translated.means refl made to_show
+                (short_text book command (normal_form text) refl short) no_note spanned refl refl refl refl 110 refl (lit≤ tt) takes told
+
+            pub planned_here : (new : NewEntry) (effect : Effect) → new.print.items ≡ print → IsEntered book id kept meaning new effect → entry_kept new.entry ≡ Corrects r who → TookFrom (print_of p) new.entry
+                → new.start ≡ start → new.removed ≡ count → new.added ≡ length (normal_form text) → AreCharacters (normal_form text) × AreCharacters who → IsPlanned book command effect
+            planned_here new effect printed is entry_is taken starts removes adds written =
+                let shorts : length print ≤ most_print = subst (λ (t : List ℕ). length t ≤ most_print) printed is.short in
+                let defined = subst (AreDefined meaning) printed is.defined in
+                let within : length (print_of p) ≤ most_print = short-sound book p shown.sound in
+                let same = ap length shown.print in
+                let after : new.print.items ≡ print_of (with_entry (Corrects r who) p) = printed ∙ (print_is ∙ sym (corrected_print-corrects p.original p.history r who shown.sound.history.entries)) in
+                let change = ChangesPrint-entered book id kept meaning new effect shown is (Corrects r who) entry_is after taken (omega arith) (omega arith) in
+                let moves : next_with_entry book id (Corrects r who) (mark_moved_by new.start new.removed new.added) ≡ next_with_entry book id (Corrects r who) (mark_moved r) =
+                λ i. next_with_entry book id (Corrects r who) (mark_moved_by (starts i) (removes i) (adds i)) in (
+                  accepts_entry book command id p shown.found kept shown.kept_is print shown.translated.text meaning shown.translated.found shown.translated.means refl made to_show
+                      (short_text book command (normal_form text) refl short) no_note spanned refl refl refl refl shorts is.few is.left defined,
+                  (next_with_entry book id (Corrects r who) (mark_moved_by new.start new.removed new.added), moves, subst (Does book command _) (sym is.effect_is) change),
+                  written,
+                )

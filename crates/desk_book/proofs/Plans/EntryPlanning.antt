@@ -1,0 +1,76 @@
+-- How a command that brings an entry into a history is checked while no version is expected.
+use Rattle.std.proofs.Common.{◌≡◌, ℕ, ◌<◌, ◌≤◌, true, List, [], ◌∷◌, length, Some, None, refl, sym, ap, subst, ◌∙◌, arith, inl, inr}
+use Rattle.std.proofs.lemmas.List.{length-map}
+use Rattle.louis_table.specs.Meaning.{Meaning}
+use Rattle.louis_table.specs.Table.{Means}
+use Rattle.louis_translate.specs.Position.{AreDefined}
+use Rattle.desk_command.specs.declared.command.Command.{Command}
+use Rattle.desk_book.specs.declared.paragraphs.Paragraph.{Paragraph as KeptParagraph}
+use Rattle.desk_book.specs.declared.tables.BookTable.{BookTable}
+use Rattle.desk_command.specs.declared.refusal.Limit.TheVariants.{Entries}
+use Rattle.desk_command.specs.declared.refusal.Refusal.{Refusal}
+use Rattle.desk_command.specs.declared.refusal.Refusal.TheVariants.{Full, NoMemory, Struck, Undefined}
+use Rattle.desk_model.specs.Book.{Book, Paragraph, paragraph_of, text_of}
+use Rattle.desk_book.specs.Corrections.{HaltsEntry, HaltsPrint, IsUnfit, TakesEntry}
+use Rattle.desk_book.specs.Histories.{entry_kept}
+use Rattle.desk_model.specs.Judging.{Passes, first_turn_after_asking}
+use Rattle.desk_book.specs.Kept.{paragraph_kept}
+use Rattle.desk_model.specs.Limits.{most_entries, most_print, most_version}
+use Rattle.desk_book.specs.Plans.{AreNotAllThere, IsTurnedDown}
+use Rattle.desk_model.specs.Refusals.{HasLongNote, HasLongText, IsAccepted, history_grown, live_paragraph, new_print, paragraphs_named, print_to_translate}
+use Rattle.desk_model.proofs.Commands.Judging.{Passes-full, skips}
+use Rattle.desk_book.proofs.Plans.Planning.{AreNotAllThere-first, full_version, no_memory, no_paragraph, past_print, too_long, turned_down}
+use Rattle.desk_model.proofs.Commands.Turns.{accepted_after, past_lengths, past_there, past_version, short_print, to_turn}
+
+module _ (book : Book) (command : Command) (id : ℕ) (named : paragraphs_named command ≡ id ∷ []) (live : live_paragraph command ≡ Some id) (skip : skips command 40 60 ≡ true)
+    (passes : Passes book None command 30) where
+  -- the paragraph isn't there, or is struck
+  pub unfit : (told : Refusal) → IsUnfit book id told → IsTurnedDown book command told
+  unfit told (inl (is, missing)) = no_paragraph book command told passes (subst (AreNotAllThere book) (sym named) (AreNotAllThere-first book id [] missing)) is
+  unfit told (inr (is, (p, found, struck))) = turned_down book command 60 Struck told (past_there book command id named live skip passes p found) refl (record { id = id; paragraph = p; named = live; found = found; struck = struck }) is
+
+module _ (book : Book) (command : Command) (id : ℕ) (p : Paragraph) (there : paragraph_of book id ≡ Some p) (kept : KeptParagraph) (kept_is : p ≡ paragraph_kept (id, kept)) (print source : List ℕ) (meaning : Meaning)
+    (found : text_of book p.table ≡ Some source) (means : Means source meaning) (grows : history_grown command ≡ Some id) (made : new_print book command ≡ Some print)
+    (shown : print_to_translate book command ≡ Some (print, p.table)) (text : ¬ HasLongText command) (note : ¬ HasLongNote command) (passes : Passes book None command 110)
+    (to_entries : skips command 120 140 ≡ true) (to_version : skips command 150 160 ≡ true) (to_print : skips command 170 180 ≡ true) (to_end : skips command 190 200 ≡ true) where
+  abbrev table : BookTable
+  table = record { text = source; rules = meaning }
+
+  count : length p.history ≡ length kept.history
+  count = ap (λ (q : Paragraph). length q.history) kept_is ∙ length-map kept.history entry_kept
+
+  short : length print ≤ most_print → Passes book None command 140
+  short h = to_turn book command 120 140 to_entries (past_lengths book command passes text (short_print book command print made h) note)
+
+  few : length print ≤ most_print → length kept.history < most_entries → Passes book None command 150
+  few h room =
+      Passes-full book None command Entries (short h)
+      (λ f. let given = f.grows in let same : id ≡ f.id = cc in
+      let both : Some p ≡ Some f.paragraph = sym there ∙ (ap (paragraph_of book) same ∙ f.found) in
+      let is : p ≡ f.paragraph = cc in
+      let many = ap (λ (q : Paragraph). length q.history) is in
+      let full = f.full in
+      omega (arith, count))
+
+  left : length print ≤ most_print → length kept.history < most_entries → book.version < most_version → Passes book None command 180
+  left h room version = to_turn book command 170 180 to_print (past_version book command 150 (few h room) to_version version)
+
+  pub halted : (told : Refusal) → HaltsEntry book kept (length print) told → IsTurnedDown book command told
+  halted told (inl (is, long)) = too_long book command told print passes made long is
+  halted told (inr (inl (is, h, full))) =
+      turned_down book command 140 (Full Entries) told (short h) refl (record { id = id; paragraph = p; grows = grows; found = there; full = omega (arith, count, full) }) is
+  halted told (inr (inr (is, h, room, full))) = full_version book command 150 told (few h room) to_version full is
+
+  module _ (n : ℕ) (asks : first_turn_after_asking command ≡ Some n) (soon : n ≤ 180) (takes : TakesEntry book kept (length print)) where
+    pub lacking : (told : Refusal) → told ≡ NoMemory → IsTurnedDown book command told
+    lacking told is = no_memory book command told n asks (λ other h. let after = left takes.short takes.few takes.left other h in omega arith) is
+
+    pub undefined : (told : Refusal) → HaltsPrint meaning print told → IsTurnedDown book command told
+    undefined told (inl (place, is, first)) =
+        turned_down book command 180 (Undefined place) told (left takes.short takes.few takes.left) refl
+        (record { print = print; name = p.table; print_is = shown; text = source; meaning = meaning; found = found; means = means; first = first }) is
+    undefined told (inr is) = lacking told is
+
+  pub accepts_entry : length print ≤ most_print → length kept.history < most_entries → book.version < most_version → AreDefined meaning print → IsAccepted book None command
+  accepts_entry h room version defined =
+      accepted_after book command 190 (past_print book command p.table print table shown (record { found = found; means = means }) (left h room version) defined) to_end

@@ -1,0 +1,111 @@
+-- How a command is checked while no version is expected, by what was found in the book.
+use Rattle.std.proofs.Common.{◌≡◌, ℕ, zero, suc, ◌<◌, ◌≤◌, true, false, List, [], ◌∷◌, length, Some, None, refl, sym, ap, subst, ◌∙◌, arith, inl, inr}
+use Rattle.std.specs.Prelude.{IsSome, is_some}
+use Rattle.std.proofs.lemmas.Bool.{both_ways}
+use Rattle.louis_table.specs.Table.{Means}
+use Rattle.louis_table.proofs.OneMeaning.{one_meaning}
+use Rattle.louis_translate.specs.Position.{AreDefined, IsFirstUndefined}
+use Rattle.desk_command.specs.declared.command.Command.{Command}
+use Rattle.desk_book.specs.declared.paragraphs.Paragraph.{Paragraph as KeptParagraph}
+use Rattle.desk_book.specs.declared.tables.BookTable.{BookTable}
+use Rattle.desk_command.specs.declared.refusal.Limit.TheVariants.{Paragraphs, Version}
+use Rattle.desk_command.specs.declared.refusal.Refusal.{Refusal}
+use Rattle.desk_command.specs.declared.refusal.Refusal.TheVariants.{BadText, NoMemory, NoParagraph, NoTable, TooLong, Full, Undefined}
+use Rattle.desk_model.specs.Book.{Book, Paragraph, paragraph_of, text_of}
+use Rattle.desk_model.specs.Judging.{Passes, first_turn_after_asking}
+use Rattle.desk_book.specs.Kept.{paragraph_kept}
+use Rattle.desk_model.specs.Limits.{most_paragraphs, most_print, most_version}
+use Rattle.desk_book.specs.Plans.{AreNotAllThere, AreThere, IsKeptFor, IsTableFor, IsTurnedDown}
+use Rattle.desk_model.specs.Refusals.{Holds, turn, IsUndefined, adds_paragraph, live_paragraph, new_print, print_to_translate, text_given, struck_paragraph, paragraphs_named, table_named}
+use Rattle.desk_model.specs.NormalForm.{IsFirstBarred}
+use Rattle.desk_model.proofs.Commands.Judging.{IsRefused-passes, Passes-no_paragraph, Passes-not_struck, Passes-skip, Passes-struck, Passes-undefined, skips}
+use Rattle.desk_model.proofs.Commands.Turns.{defined_not_first, passes_to, same_some}
+
+-- ---- paragraphs that are named
+
+module _ (book : Book) where
+  pub AreNotAllThere-first : (id : ℕ) (ids : List ℕ) → paragraph_of book id ≡ None → AreNotAllThere book (id ∷ ids)
+  AreNotAllThere-first id ids missing = (id, (0, omega arith, refl), missing)
+
+  pub AreNotAllThere-cons : (id : ℕ) (ids : List ℕ) → AreNotAllThere book ids → AreNotAllThere book (id ∷ ids)
+  AreNotAllThere-cons id ids (other, (k, within, at), missing) = (other, (suc k, omega arith, at), missing)
+
+  pub AreThere-none : AreThere book []
+  AreThere-none id (k, within, at) = absurd (omega arith)
+
+  pub AreThere-cons : (id : ℕ) (kept : KeptParagraph) (ids : List ℕ) → IsKeptFor book id kept → AreThere book ids → AreThere book (id ∷ ids)
+  AreThere-cons id kept ids k rest other (zero, within, at) = subst (λ (n : ℕ). IsSome (paragraph_of book n)) at (ap is_some k.found)
+  AreThere-cons id kept ids k rest other (suc i, within, at) = rest other (i, omega arith, at)
+
+-- ---- turns
+
+module _ (book : Book) (command : Command) where
+  pub turned_down : (n : ℕ) (refusal told : Refusal) → Passes book None command n → turn refusal ≡ n → Holds book None command refusal → told ≡ refusal → IsTurnedDown book command told
+  turned_down n refusal told passes at holds same = subst (IsTurnedDown book command) (sym same) (inl (IsRefused-passes book None command n refusal passes at holds))
+
+  pub no_memory : (told : Refusal) (n : ℕ) → first_turn_after_asking command ≡ Some n → Passes book None command n → told ≡ NoMemory → IsTurnedDown book command told
+  no_memory told n asks passes is = inr (is, record { from = n; asks = asks; passes = passes })
+
+  pub no_paragraph : (told : Refusal) → Passes book None command 30 → AreNotAllThere book (paragraphs_named command) → told ≡ NoParagraph → IsTurnedDown book command told
+  no_paragraph told passes lacks = turned_down 30 NoParagraph told passes refl (record { id = lacks.0; named = lacks.1; missing = lacks.2 })
+
+  pub past_paragraphs : Passes book None command 30 → AreThere book (paragraphs_named command) → Passes book None command 40
+  past_paragraphs passes there = Passes-no_paragraph book None command passes (λ lacks. let found = there lacks.id lacks.named in let missing = lacks.missing in cc (ap is_some missing))
+
+  pub no_table : (told : Refusal) (name : List ℕ) → Passes book None command 40 → table_named command ≡ Some name → text_of book name ≡ None → told ≡ NoTable → IsTurnedDown book command told
+  no_table told name passes named missing = turned_down 40 NoTable told passes refl (record { name = name; named = named; missing = missing })
+
+  pub bad_text : (told : Refusal) (text : List ℕ) (place : ℕ) → Passes book None command 20 → text_given command ≡ Some text → told ≡ BadText place → IsFirstBarred text place → IsTurnedDown book command told
+  bad_text told text place passes given is first = turned_down 20 (BadText place) told passes refl (record { text = text; given = given; first = first }) is
+
+  pub too_long : (told : Refusal) (print : List ℕ) → Passes book None command 110 → new_print book command ≡ Some print → most_print < length print → told ≡ TooLong → IsTurnedDown book command told
+  too_long told print passes made long = turned_down 110 TooLong told passes refl (inr (inl (record { print = print; made = made; long = long })))
+
+  pub full_paragraphs : (told : Refusal) → Passes book None command 130 → adds_paragraph command ≡ true → most_paragraphs ≤ length book.paragraphs → told ≡ Full Paragraphs → IsTurnedDown book command told
+  full_paragraphs told passes adds full = turned_down 130 (Full Paragraphs) told passes refl (record { adds = adds; full = full })
+
+  pub full_version : (n : ℕ) (told : Refusal) → Passes book None command n → skips command n 160 ≡ true → most_version ≤ book.version → told ≡ Full Version → IsTurnedDown book command told
+  full_version n told passes skip full = turned_down 160 (Full Version) told (Passes-skip book None command n 160 skip passes) refl full
+
+  -- ---- a print by a table
+
+  module _ (name print : List ℕ) (table : BookTable) (given : print_to_translate book command ≡ Some (print, name)) (found : IsTableFor book name table) where
+    pub undefined : (told : Refusal) (place : ℕ) → Passes book None command 180 → told ≡ Undefined place → IsFirstUndefined table.rules print place → IsTurnedDown book command told
+    undefined told place passes is first =
+        turned_down 180 (Undefined place) told passes refl
+        (record { print = print; name = name; print_is = given; text = table.text; meaning = table.rules; found = found.found; means = found.means; first = first }) is
+
+    pub past_print : Passes book None command 180 → AreDefined table.rules print → Passes book None command 190
+    past_print passes defined = Passes-undefined book None command passes none
+      where
+        none : (place : ℕ) → ¬ IsUndefined book command place
+        none place u =
+            let pair = same_some (u.print, u.name) (print, name) (sym u.print_is ∙ given) in
+            let same_print : u.print ≡ print = ap (λ (p : List ℕ × List ℕ). p.0) pair in
+            let same_name : u.name ≡ name = ap (λ (p : List ℕ × List ℕ). p.1) pair in
+            let text : u.text ≡ table.text = same_some u.text table.text (sym u.found ∙ (ap (text_of book) same_name ∙ found.found)) in
+            let meaning = one_meaning table.text u.meaning table.rules (subst (λ (t : List ℕ). Means t u.meaning) text u.means) found.means in
+            defined_not_first table.rules print place defined (rw (meaning, same_print) at u.first)
+
+  -- ---- a paragraph that is named first
+
+  pub unnamed : (told : Refusal) (id : ℕ) (ids : List ℕ) → skips command 10 30 ≡ true → paragraphs_named command ≡ id ∷ ids → (told ≡ NoParagraph) × (paragraph_of book id ≡ None) → IsTurnedDown book command told
+  unnamed told id ids skip named (is, missing) = no_paragraph told (passes_to book command 30 skip) (subst (AreNotAllThere book) (sym named) (AreNotAllThere-first book id ids missing)) is
+
+  module _ (id : ℕ) (kept : KeptParagraph) (k : IsKeptFor book id kept) where
+    pub past_named : skips command 10 30 ≡ true → paragraphs_named command ≡ id ∷ [] → Passes book None command 40
+    past_named skip named = past_paragraphs (passes_to book command 30 skip) (subst (AreThere book) (sym named) (AreThere-cons book id kept [] k (AreThere-none book)))
+
+    pub past_struck : Passes book None command 60 → live_paragraph command ≡ Some id → kept.struck ≡ false → Passes book None command 70
+    past_struck passes named live =
+        Passes-struck book None command passes
+        (λ s. let given = s.named in let found = s.found in let same : id ≡ s.id = cc in
+        let is : paragraph_kept (id, kept) ≡ s.paragraph = cc (ap (paragraph_of book) same, k.found) in
+        both_ways kept.struck live (ap (λ (p : Paragraph). p.struck) is ∙ s.struck))
+
+    pub past_live : Passes book None command 70 → struck_paragraph command ≡ Some id → kept.struck ≡ true → Passes book None command 80
+    past_live passes named struck =
+        Passes-not_struck book None command passes
+        (λ s. let given = s.named in let found = s.found in let same : id ≡ s.id = cc in
+        let is : paragraph_kept (id, kept) ≡ s.paragraph = cc (ap (paragraph_of book) same, k.found) in
+        both_ways kept.struck (ap (λ (p : Paragraph). p.struck) is ∙ s.live) struck)

@@ -1,0 +1,100 @@
+-- How a command that gives a table is checked while no version is expected.
+use Rattle.std.proofs.Common.{◌≡◌, ◌⊎◌, ℕ, ◌<◌, ◌≤◌, List, ◌∷◌, length, None, refl, sym, ap, subst, ◌∙◌, arith, inl, inr}
+use Rattle.std.specs.List.{All, Contains}
+use Rattle.std.specs.Prelude.{IsSome, is_some}
+use Rattle.std.proofs.lemmas.List.Elements.{All-contains, Contains-append_right}
+use Rattle.louis_table.specs.Meaning.{Meaning}
+use Rattle.louis_table.specs.Table.{Bad, Means}
+use Rattle.louis_table.specs.declared.fault.TableFault.{TableFault}
+use Rattle.louis_table.proofs.OneMeaning.{means_or_bad, one_meaning}
+use Rattle.desk_command.specs.declared.command.Command.TheVariants.{Table}
+use Rattle.desk_command.specs.declared.refusal.Limit.TheVariants.{Tables}
+use Rattle.desk_command.specs.declared.refusal.Refusal.{Refusal}
+use Rattle.desk_command.specs.declared.refusal.Refusal.TheVariants.{BadName, Full, BadTable, Untranslatable, NoMemory}
+use Rattle.desk_model.specs.Book.{Book, Paragraph, text_of}
+use Rattle.desk_model.specs.Judging.{Passes}
+use Rattle.desk_model.specs.Limits.{most_tables}
+use Rattle.desk_model.specs.Name.{IsTableName}
+use Rattle.desk_model.specs.Refusals.{DefinesUser, IsAccepted, IsUntranslatable}
+use Rattle.desk_book.specs.Plans.{IsFirstUser, IsTurnedDown}
+use Rattle.desk_model.specs.Print.{print_of}
+use Rattle.desk_model.specs.Sound.{IsSound}
+use Rattle.desk_model.proofs.Commands.Judging.{Passes-bad_name, Passes-bad_table, Passes-full, Passes-untranslatable}
+use Rattle.desk_model.proofs.Lists.Members.{Contains-here}
+use Rattle.desk_book.proofs.Plans.Planning.{no_memory, turned_down}
+use Rattle.desk_model.proofs.Commands.Turns.{defined_not_first, passes_to, same_some, to_turn}
+
+-- a table that isn't there has no users
+pub unused : (book : Book) (name : List ℕ) (meaning : Meaning) → IsSound book → text_of book name ≡ None → All (DefinesUser meaning name) book.paragraphs
+unused book name meaning sound none k d lt uses =
+    let found = (sound.paragraphs k d lt).found in
+    absurd (cc (ap (text_of book) uses))
+
+module _ (book : Book) (name text : List ℕ) where
+  pub bad_name : (told : Refusal) → (told ≡ BadName) × (¬ IsTableName name) → IsTurnedDown book (Table name text) told
+  bad_name told (is, bad) = turned_down book (Table name text) 10 BadName told (passes_to book (Table name text) 10 refl) refl (record { name = name; text = text; given = refl; bad = bad }) is
+
+  module _ (named : IsTableName name) where
+    pub past_name : Passes book None (Table name text) 120
+    past_name =
+        to_turn book (Table name text) 15 120 refl
+        (Passes-bad_name book None (Table name text) (passes_to book (Table name text) 10 refl)
+        (λ b. b.bad (subst IsTableName (ap (λ (given : List ℕ × List ℕ). given.0) (same_some (name, text) (b.name, b.text) b.given)) named)))
+
+    pub full_tables : (told : Refusal) → text_of book name ≡ None → (told ≡ Full Tables) × (most_tables ≤ length book.tables) → IsTurnedDown book (Table name text) told
+    full_tables told new (is, full) =
+        turned_down book (Table name text) 120 (Full Tables) told past_name refl (record { name = name; text = text; given = refl; new = new; full = full }) is
+
+    pub past_tables : IsSome (text_of book name) ⊎ (length book.tables < most_tables) → Passes book None (Table name text) 130
+    past_tables (inr left) = Passes-full book None (Table name text) Tables past_name (λ f. let full = f.full in omega arith)
+    past_tables (inl old) =
+        Passes-full book None (Table name text) Tables past_name
+        (λ f. let same = ap (λ (given : List ℕ × List ℕ). given.0) (same_some (name, text) (f.name, f.text) f.given) in let none = ap is_some (ap (text_of book) same ∙ f.new) in cc)
+
+  bad_table : (told : Refusal) (fault : TableFault) → Passes book None (Table name text) 170 → told ≡ BadTable fault → Bad text fault.line fault.cause → IsTurnedDown book (Table name text) told
+  bad_table told fault passes is bad = turned_down book (Table name text) 170 (BadTable fault) told passes refl (record { name = name; text = text; given = refl; bad = bad }) is
+
+  -- what reading the text may answer
+  pub unread : (told : Refusal) → Passes book None (Table name text) 170 → ((fault : TableFault) × (told ≡ BadTable fault) × Bad text fault.line fault.cause) ⊎ (told ≡ NoMemory) → IsTurnedDown book (Table name text) told
+  unread told passes (inl (fault, is, bad)) = bad_table told fault passes is bad
+  unread told passes (inr is) = no_memory book (Table name text) told 170 refl passes is
+
+  module _ (meaning : Meaning) (means : Means text meaning) where
+    pub past_reading : Passes book None (Table name text) 170 → Passes book None (Table name text) 190
+    past_reading passes =
+        to_turn book (Table name text) 180 190 refl
+        (Passes-bad_table book None (Table name text) passes
+        (λ fault b. means_or_bad text meaning fault.line fault.cause means
+        (subst (λ (t : List ℕ). Bad t fault.line fault.cause) (sym (ap (λ (given : List ℕ × List ℕ). given.1) (same_some (name, text) (b.name, b.text) b.given))) b.bad)))
+
+    pub untranslatable : (told : Refusal) (id place : ℕ) → Passes book None (Table name text) 190 → told ≡ Untranslatable id place → IsFirstUser meaning name book.paragraphs id place → IsTurnedDown book (Table name text) told
+    untranslatable told id place passes is user =
+        turned_down book (Table name text) 190 (Untranslatable id place) told passes refl
+        (record {
+          name = name;
+          text = text;
+          given = refl;
+          meaning = meaning;
+          means = means;
+          before = user.before;
+          paragraph = user.paragraph;
+          after = user.after;
+          parts = user.parts;
+          uses = user.uses;
+          told = user.told;
+          first = user.first;
+          others = user.others;
+        }) is
+
+    pub past_users : Passes book None (Table name text) 190 → All (DefinesUser meaning name) book.paragraphs → IsAccepted book None (Table name text)
+    past_users passes defined = Passes-untranslatable book None (Table name text) passes none
+      where
+        none : (id place : ℕ) → ¬ IsUntranslatable book (Table name text) id place
+        none id place u =
+            let given = same_some (name, text) (u.name, u.text) u.given in
+            let same_name = ap (λ (pair : List ℕ × List ℕ). pair.0) given in
+            let same_text = ap (λ (pair : List ℕ × List ℕ). pair.1) given in
+            let same = one_meaning text u.meaning meaning (subst (λ (t : List ℕ). Means t u.meaning) (sym same_text) u.means) means in
+            let there : Contains book.paragraphs u.paragraph = subst (λ (ps : List Paragraph). Contains ps u.paragraph) (sym u.parts) (Contains-append_right u.before (u.paragraph ∷ u.after) u.paragraph (Contains-here u.paragraph u.after)) in
+            let shown = All-contains (DefinesUser meaning name) book.paragraphs u.paragraph defined there (u.uses ∙ sym same_name) in
+            defined_not_first meaning (print_of u.paragraph) place shown (rw same at u.first)

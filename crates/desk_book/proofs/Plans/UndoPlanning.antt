@@ -1,0 +1,153 @@
+-- How an undo is checked while no version is expected.
+use Rattle.std.proofs.Common.{◌≡◌, ℕ, ◌+◌, ◌-◌, ◌≤◌, false, List, [], ◌∷◌, ◌++◌, length, Some, None, refl, sym, ap, subst, ◌∙◌, arith, lit≤}
+use Rattle.std.specs.Option.{option_and_then}
+use Rattle.std.specs.Prelude.{option_map}
+use Rattle.louis_table.specs.Meaning.{Meaning}
+use Rattle.louis_translate.specs.Position.{AreDefined}
+use Rattle.desk_book.specs.declared.change.Effect.{Effect}
+use Rattle.desk_book.specs.declared.corrections.NewEntry.{NewEntry}
+use Rattle.desk_command.specs.declared.command.Command.{Command}
+use Rattle.desk_command.specs.declared.command.Command.TheVariants.{Undo}
+use Rattle.desk_book.specs.declared.history.Correction.{Correction}
+use Rattle.desk_book.specs.declared.history.KeptEntry.TheVariants.{Undoes as KeptUndoes}
+use Rattle.desk_book.specs.declared.paragraphs.Paragraph.{Paragraph as KeptParagraph}
+use Rattle.desk_command.specs.declared.refusal.Refusal.{Refusal}
+use Rattle.desk_command.specs.declared.refusal.Refusal.TheVariants.{NoMemory, NothingToUndo}
+use Rattle.desk_model.specs.Book.{Book, Undoes, Paragraph, Replacement, paragraph_of}
+use Rattle.desk_book.specs.Changes.{Does}
+use Rattle.desk_book.specs.Corrections.{HaltsEntry, HaltsPrint, IsEntered, IsUnfit, TakesEntry, replaced_by}
+use Rattle.desk_book.specs.Histories.{IsNewestInForce, LeavePrint, TookFrom, entries_kept, entry_kept, replacement_kept}
+use Rattle.desk_model.specs.Judging.{Passes}
+use Rattle.desk_model.specs.Limits.{most_print}
+use Rattle.desk_model.specs.Marks.{mark_moved_back, mark_moved_by}
+use Rattle.desk_book.specs.Plans.{IsPlanned, IsTurnedDown}
+use Rattle.desk_model.specs.Print.{corrected_print, newest, print_of, print_undone, with_entry}
+use Rattle.desk_model.specs.Refusals.{HasLongNote, HasLongText}
+use Rattle.desk_book.specs.Display.{IsShown}
+use Rattle.desk_model.specs.Sound.{AreSoundEntries}
+use Rattle.desk_model.specs.Step.{next_with_entry}
+use Rattle.desk_book.proofs.Plans.EntryPlanned.{ChangesPrint-entered}
+use Rattle.desk_model.proofs.Books.SoundBooks.{short-sound}
+use Rattle.desk_book.proofs.Plans.EntryPlanning.{accepts_entry, halted, lacking, undefined, unfit}
+use Rattle.desk_model.proofs.Commands.Turns.{passes_to, past_fit, to_turn}
+use Rattle.desk_model.proofs.Commands.Judging.{Passes-nothing_to_undo}
+use Rattle.desk_book.proofs.Plans.Planning.{turned_down}
+use Rattle.desk_book.proofs.Kept.UndonePrints.{taken-span, text-span, undone-length, undone-print}
+
+module _ (book : Book) (id : ℕ) where
+  abbrev command : Command
+  command = Undo id
+
+  start_here : Passes book None command 30
+  start_here = passes_to book command 30 refl
+
+  pub unfit_here : (told : Refusal) → IsUnfit book id told → IsTurnedDown book command told
+  unfit_here told = unfit book command id refl refl refl start_here told
+
+  module _ (kept : KeptParagraph) (meaning : Meaning) (shown : IsShown book id kept meaning) (free : kept.struck ≡ false) where
+    abbrev p : Paragraph
+    p = shown.paragraph
+
+    pub history_is : p.history ≡ entries_kept kept.history
+    history_is = ap (λ (q : Paragraph). q.history) shown.kept_is
+
+    original_is : p.original ≡ kept.original
+    original_is = ap (λ (q : Paragraph). q.original) shown.kept_is
+
+    pub sound_kept : AreSoundEntries kept.original (entries_kept kept.history)
+    sound_kept = subst (λ (q : Paragraph). AreSoundEntries q.original q.history) shown.kept_is shown.sound.history.entries
+
+    fit : Passes book None command 100
+    fit = to_turn book command 70 100 refl (past_fit book command id refl refl refl start_here p shown.found (ap (λ (q : Paragraph). q.struck) shown.kept_is ∙ free))
+
+    pub nothing_here : (told : Refusal) → newest (entries_kept kept.history) ≡ None → told ≡ NothingToUndo → IsTurnedDown book command told
+    nothing_here told none is =
+        turned_down book command 100 NothingToUndo told fit refl (record { paragraph = p; found = shown.found; none = ap newest history_is ∙ none }) is
+
+    module _ (number : ℕ) (c : Correction) (force : IsNewestInForce kept.history number c) where
+      abbrev r : Replacement
+      r = replacement_kept c
+
+      abbrev before : List ℕ
+      before = print_of (with_entry (Undoes number) p)
+
+      newest_is : newest p.history ≡ Some (number, r)
+      newest_is = ap newest history_is ∙ force.newest_is
+
+      left : LeavePrint kept.original kept.history kept.print
+      left = record { sound = sound_kept; taken = shown.taken; print_is = shown.print ∙ (λ i. corrected_print (original_is i) (history_is i)) }
+
+      before_is : corrected_print kept.original (entries_kept kept.history ++ Undoes number ∷ []) ≡ before
+      before_is = λ i. corrected_print (sym original_is i) (sym history_is i ++ Undoes number ∷ [])
+
+      span_before : c.start + length c.taken ≤ length before
+      span_before = subst (λ (t : List ℕ). c.start + length c.taken ≤ length t) before_is (taken-span kept.original kept.history kept.print left number c force)
+
+      long : length kept.print + length c.taken ≡ length before + length c.text
+      long = undone-length kept.original kept.history kept.print left number c force ∙ ap (λ (t : List ℕ). length t + length c.text) before_is
+
+      -- so many characters the print has after it
+      pub counted : (len count taken : ℕ) → len ≡ length kept.print → count ≡ length c.text → taken ≡ length c.taken → (len - count) + taken ≡ length before
+      counted len count taken a b d = let within = span_before in let sum = long in omega (arith, a, b, d)
+
+      pub span_here : c.start + length c.text ≤ length kept.print
+      span_here = text-span kept.original kept.history kept.print left number c force
+
+      pub back : replaced_by c.start (length c.text) c.taken kept.print ≡ before
+      back = undone-print kept.original kept.history kept.print left number c force ∙ before_is
+
+      undone : print_undone p ≡ Some before
+      undone = ap (option_map (λ (correction : ℕ × Replacement). print_of (with_entry (Undoes correction.0) p))) newest_is
+
+      passed : Passes book None command 110
+      passed = Passes-nothing_to_undo book None command fit
+          (λ n. let both : Some p ≡ Some n.paragraph = sym shown.found ∙ n.found in
+          let same : p ≡ n.paragraph = cc in
+          let none = sym newest_is ∙ (ap (λ (q : Paragraph). newest q.history) same ∙ n.none) in
+          cc)
+
+      no_text : ¬ HasLongText command
+      no_text l = let given = l.given in cc
+
+      no_note : ¬ HasLongNote command
+      no_note l = let given = l.given in cc
+
+      module _ (print : List ℕ) (print_is : print ≡ before) where
+        made : option_and_then print_undone (paragraph_of book id) ≡ Some print
+        made = ap (option_and_then print_undone) shown.found ∙ (undone ∙ ap Some (sym print_is))
+
+        abbrev pair : Paragraph → List ℕ → List ℕ × List ℕ
+        pair q t = (t, q.table)
+
+        to_show : option_and_then (λ (q : Paragraph). option_map (pair q) (print_undone q)) (paragraph_of book id) ≡ Some (print, p.table)
+        to_show = ap (option_and_then (λ (q : Paragraph). option_map (pair q) (print_undone q))) shown.found ∙ (ap (option_map (pair p)) undone ∙ ap (λ (t : List ℕ). Some (pair p t)) (sym print_is))
+
+        pub halted_here : (told : Refusal) → HaltsEntry book kept (length print) told → IsTurnedDown book command told
+        halted_here told =
+            halted book command id p shown.found kept shown.kept_is print shown.translated.text meaning shown.translated.found shown.translated.means refl made to_show no_text no_note passed refl refl refl refl told
+
+        pub no_memory_here : TakesEntry book kept (length print) → (told : Refusal) → told ≡ NoMemory → IsTurnedDown book command told
+        no_memory_here takes told =
+            lacking book command id p shown.found kept shown.kept_is print shown.translated.text meaning shown.translated.found shown.translated.means refl made to_show no_text no_note passed refl refl refl refl 180 refl (lit≤ tt) takes told
+
+        pub undefined_here : TakesEntry book kept (length print) → (told : Refusal) → HaltsPrint meaning print told → IsTurnedDown book command told
+        undefined_here takes told =
+            undefined book command id p shown.found kept shown.kept_is print shown.translated.text meaning shown.translated.found shown.translated.means refl made to_show no_text no_note passed refl refl refl refl 180 refl (lit≤ tt) takes told
+
+        pub planned_here : (new : NewEntry) (effect : Effect) → new.print.items ≡ print → IsEntered book id kept meaning new effect → new.entry ≡ KeptUndoes number
+            → new.start ≡ c.start → new.removed ≡ length c.text → new.added ≡ length c.taken → IsPlanned book command effect
+        planned_here new effect printed is entry_is starts removes adds =
+            let shorts : length print ≤ most_print = subst (λ (t : List ℕ). length t ≤ most_print) printed is.short in
+            let defined = subst (AreDefined meaning) printed is.defined in
+            let now_short : length kept.print ≤ most_print = subst (λ (t : List ℕ). length t ≤ most_print) (sym shown.print) (short-sound book p shown.sound) in
+            let then_short : length before ≤ most_print = subst (λ (t : List ℕ). length t ≤ most_print) print_is shorts in
+            let span = span_before in
+            let sum = long in
+            let change = ChangesPrint-entered book id kept meaning new effect shown is (Undoes number) (ap entry_kept entry_is) (printed ∙ print_is) (subst (TookFrom (print_of p)) (sym entry_is) tt) (omega arith) (omega arith) in
+            let moves : next_with_entry book id (Undoes number) (mark_moved_by new.start new.removed new.added) ≡ next_with_entry book id (Undoes number) (mark_moved_back r) =
+            λ i. next_with_entry book id (Undoes number) (mark_moved_by (starts i) (removes i) (adds i)) in (
+              accepts_entry book command id p shown.found kept shown.kept_is print shown.translated.text meaning shown.translated.found shown.translated.means refl made to_show no_text no_note passed refl refl refl refl
+                  shorts is.few is.left defined,
+              (next_with_entry book id (Undoes number) (mark_moved_by new.start new.removed new.added), (number, r, record { paragraph = p; found = shown.found; newest_is = newest_is }, moves), subst (Does book command _) (sym is.effect_is) change),
+              tt,
+            )

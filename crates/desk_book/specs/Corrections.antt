@@ -1,0 +1,72 @@
+-- What is said of corrections and undos while they are planned.
+use Rattle.std.specs.Prelude.{◌≡◌, ◌⊎◌, ℕ, ◌<◌, ◌≤◌, true, List, length, take, drop, Some, None}
+use Rattle.louis_table.specs.Meaning.{Meaning}
+use Rattle.louis_translate.specs.Position.{AreDefined, IsFirstUndefined}
+use Rattle.desk_book.specs.declared.change.Effect.{Effect}
+use Rattle.desk_book.specs.declared.change.Effect.TheVariants.{ChangePrint}
+use Rattle.desk_book.specs.declared.change.PrintChange.{PrintChange}
+use Rattle.desk_book.specs.declared.corrections.NewEntry.{NewEntry}
+use Rattle.desk_book.specs.declared.history.Correction.{Correction}
+use Rattle.desk_book.specs.declared.paragraphs.Paragraph.{Paragraph as KeptParagraph}
+use Rattle.desk_command.specs.declared.refusal.Limit.TheVariants.{Entries, Version}
+use Rattle.desk_command.specs.declared.refusal.Refusal.{Refusal}
+use Rattle.desk_command.specs.declared.refusal.Refusal.TheVariants.{Full, NoMemory, NoParagraph, Struck, TooLong, Undefined}
+use Rattle.desk_model.specs.Book.{Book, Paragraph, paragraph_of}
+use Rattle.desk_book.specs.Changes.{AreCellsOf}
+use Rattle.desk_model.specs.Limits.{most_entries, most_print, most_version}
+use Rattle.desk_model.specs.Print.{with_replacement}
+use Rattle.desk_book.specs.Room.{Suffices}
+use Rattle.desk_command.specs.Characters.{AreCharacters}
+
+-- the print with a text in place of so many characters from a place on
+abbrev pub replaced_by : (start count : ℕ) (text print : List ℕ) → List ℕ
+replaced_by start count text print = with_replacement print (record { start = start; count = count; text = text })
+
+-- the correction puts this text in place of so many characters of the print from a place on, and keeps those
+pub record IsCorrection (print : List ℕ) (start count : ℕ) (text who : List ℕ) (c : Correction) : Type 0 where
+  pub start_is : c.start ≡ start
+  pub text_is : c.text ≡ text
+  pub who_is : c.who ≡ who
+  pub taken_is : c.taken ≡ take count (drop start print)
+  pub characters : AreCharacters text
+  pub who_characters : AreCharacters who
+
+-- the paragraph isn't there, or is struck
+abbrev pub IsUnfit : Book → ℕ → Refusal → Type 0
+IsUnfit book id refusal =
+    ((refusal ≡ NoParagraph) × (paragraph_of book id ≡ None))
+    ⊎ ((refusal ≡ Struck) × ((paragraph : Paragraph) × (paragraph_of book id ≡ Some paragraph) × (paragraph.struck ≡ true)))
+
+-- the effect brings the entry into the history, and its print is short and defined
+pub record IsEntered (book : Book) (id : ℕ) (kept : KeptParagraph) (meaning : Meaning) (new : NewEntry) (effect : Effect) : Type 0 where
+  pub change : PrintChange
+  pub effect_is : effect ≡ ChangePrint id change
+  pub entry : change.entry ≡ new.entry
+  pub room : Suffices (length kept.history) change.room
+  pub print : change.print ≡ new.print.items
+  pub cells : AreCellsOf meaning new.print.items change.cells
+  pub start : change.start ≡ new.start
+  pub removed : change.removed ≡ new.removed
+  pub added : change.added ≡ new.added
+  pub short : length new.print.items ≤ most_print
+  pub few : length kept.history < most_entries
+  pub left : book.version < most_version
+  pub defined : AreDefined meaning new.print.items
+
+-- a print of so many characters is too long; or it isn't, and the history is full; or it isn't either, and the version is
+abbrev pub HaltsEntry : Book → KeptParagraph → ℕ → Refusal → Type 0
+HaltsEntry book kept count refusal =
+    ((refusal ≡ TooLong) × (most_print < count))
+    ⊎ (((refusal ≡ Full Entries) × (count ≤ most_print) × (most_entries ≤ length kept.history))
+    ⊎ ((refusal ≡ Full Version) × (count ≤ most_print) × (length kept.history < most_entries) × (most_version ≤ book.version)))
+
+-- the history may have an entry more, after which the print has so many characters
+pub record TakesEntry (book : Book) (kept : KeptParagraph) (count : ℕ) : Type 0 where
+  pub short : count ≤ most_print
+  pub few : length kept.history < most_entries
+  pub left : book.version < most_version
+
+-- the table doesn't define the print, or an allocation failed
+abbrev pub HaltsPrint : Meaning → List ℕ → Refusal → Type 0
+HaltsPrint meaning print refusal =
+    ((place : ℕ) × (refusal ≡ Undefined place) × IsFirstUndefined meaning print place) ⊎ (refusal ≡ NoMemory)

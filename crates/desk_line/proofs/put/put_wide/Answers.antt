@@ -1,8 +1,0 @@
-use Rattle.std.proofs.Common.{◌∙◌}
-use Rattle.desk_line.proofs.Putting.{Adds-same}
-use Rattle.desk_line.proofs.put.put_wide.Goals as goal
-
-pub returns : goal.returns
-returns g c =
-    Adds-same g.K.Sink.can_fail (g.K.Sink.contents c.args.sink.now) (g.K.Sink.contents c.put_bytes.new.sink) c.args.waiting.now c.put_bytes.new.waiting _ _
-    (c.as_bytes.ensures.value ∙ c.encode_utf8.ensures.value) c.put_bytes.ensures

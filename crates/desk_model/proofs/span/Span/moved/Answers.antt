@@ -1,5 +1,0 @@
-use Rattle.std.proofs.Common.{rules}
-use Rattle.desk_model.proofs.span.Span.moved.Goals as goal
-
-pub returns-then-start-removed : goal.returns-then-start-removed
-returns-then-start-removed c = search rules

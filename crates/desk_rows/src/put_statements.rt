@@ -1,0 +1,203 @@
+//! The statements that put rows.
+//!
+//! Each runs within a transaction, deletes no row and commits nothing. At `Ok` the rows of its table are those before with the row in
+//! place of the one with its key, or with it more, or with the columns set of the row with that key, those of the other tables stay, and
+//! the transaction goes on. The error is the database's; if an allocation for a print or for cells fails, that is the error, and nothing
+//! was done.
+
+ghost use Rattle.std.specs.Prelude.{◌≡◌, true, [], ◌∷◌, IfErr, IfOk, OnErr, OnOk, encode_utf8_all, string_bytes};
+ghost use Rattle.std.specs.Iterator.{IsFinite};
+ghost use Rattle.sqlite_value.specs.declared.value.Value.TheVariants.{Blob, Int, Text};
+ghost use Rattle.sqlite.specs.State.{HasCleanDisk, KeepsCommit, Survives};
+ghost use Rattle.sqlite.specs.Values.{bound};
+ghost use Rattle.sql_tables.specs.States.{seen};
+ghost use Rattle.desk_parts.specs.Puts.{PutBook, PutPara, lent_entry, lent_mark, lent_para, put_of};
+ghost use Rattle.desk_rows.specs.Descriptions.{marks, named_corrs};
+ghost use Rattle.desk_rows.specs.Failing.{of_items};
+ghost use Rattle.desk_rows.specs.Puts.{ArePut, IsPut, OfItems, RunsTo};
+ghost use Rattle.desk_rows.specs.Rows.{columns_of};
+
+use crate::texts::{
+    PUT_BOOK, PUT_CACHE, PUT_MARK, PUT_NAMED_CORR, PUT_PARA, PUT_TAB, SET_FLAGS, SET_PLACE,
+    SET_PRINT, SET_RESOLVED, SET_SPAN, SET_TABLE, SET_VERSION,
+};
+use cell_core::Cell;
+use desk_parts::{BookRow, MarkPut, NamedCorrPut, ParaPut, Put};
+use sqlite::types::{ToSql, ValueRef};
+use sqlite::{Alter, Error, Transaction};
+use std::alloc::{AllocError, Global};
+
+/// Runs a statement within a transaction.
+pub(crate) fn run<S: Alter>(
+    tx: &mut Transaction<'_, S>,
+    text: &str,
+    params: &[ValueRef<'_>],
+) -> Result<(), Error>
+    ensures same_reference { tx.new.conn.ghost_name ≡ tx.old.conn.ghost_name }
+    ensures runs { HasCleanDisk (seen S.Store tx.new)
+        → RunsTo result text.now (bound params.now) (seen S.Store tx.old) (seen S.Store tx.new) }
+    ensures survives { Survives (seen S.Store tx.old) (seen S.Store tx.new) (λ _. ⊥) }
+{
+    tx.execute(text, params)?;
+    Ok(())
+}
+
+/// A print as a text.
+fn encoded(alloc: Global, print: &[char]) -> Result<String, AllocError>
+    ensures { IfOk result (λ text. string_bytes text ≡ encode_utf8_all print.now) }
+{
+    print.iter().copied().collect(alloc)
+}
+
+/// The masks of cells.
+fn masks(alloc: Global, cells: &[Cell]) -> Result<Vec<u8>, AllocError>
+    ensures { IfOk result (λ bytes. bytes.items ≡ cells.now) }
+{
+    cells.iter().map(|cell| cell.mask()).collect(alloc)
+}
+
+/// Puts the row of a book by its key.
+pub(crate) fn put_book<S: Alter>(tx: &mut Transaction<'_, S>, row: &BookRow) -> Result<(), Error>
+    ensures same_reference { tx.new.conn.ghost_name ≡ tx.old.conn.ghost_name }
+    ensures put { HasCleanDisk (seen S.Store tx.new)
+        → IsPut result (PutBook row.now) (seen S.Store tx.old) (seen S.Store tx.new) }
+    ensures survives { Survives (seen S.Store tx.old) (seen S.Store tx.new) (λ _. ⊥) }
+{
+    let columns = [row.id.to_sql(), row.format.to_sql(), row.version.to_sql()];
+    run(tx, PUT_BOOK, &columns)
+}
+
+/// Puts the row of a paragraph by its key, with its print as a text.
+fn put_para<S: Alter>(
+    alloc: Global,
+    tx: &mut Transaction<'_, S>,
+    row: &ParaPut<'_>,
+) -> Result<(), Error>
+    ensures same_reference { tx.new.conn.ghost_name ≡ tx.old.conn.ghost_name }
+    ensures put { HasCleanDisk (seen S.Store tx.new)
+        → IsPut result (PutPara (lent_para row.now)) (seen S.Store tx.old) (seen S.Store tx.new) }
+    ensures survives { Survives (seen S.Store tx.old) (seen S.Store tx.new) (λ _. ⊥) }
+{
+    let print = encoded(alloc, row.print)?;
+    let columns = [
+        row.id.to_sql(),
+        row.place.to_sql(),
+        row.tab.to_sql(),
+        row.original.to_sql(),
+        print.as_str().to_sql(),
+        row.style.to_sql(),
+        row.volume.to_sql(),
+        row.struck.to_sql(),
+    ];
+    run(tx, PUT_PARA, &columns)
+}
+
+/// The columns of a mark.
+fn mark_columns<'a>(row: &MarkPut<'a>) -> [ValueRef<'a>; 7]
+    ensures { bound result ≡ columns_of marks (lent_mark row.now) }
+{
+    [
+        row.id.to_sql(),
+        row.para.to_sql(),
+        row.start.to_sql(),
+        row.stop.to_sql(),
+        row.note.to_sql(),
+        row.touched.to_sql(),
+        row.resolved.to_sql(),
+    ]
+}
+
+/// The columns of an entry of a history.
+fn entry_columns<'a>(row: &NamedCorrPut<'a>) -> [ValueRef<'a>; 7]
+    ensures { bound result ≡ columns_of named_corrs (lent_entry row.now) }
+{
+    [
+        row.para.to_sql(),
+        row.seq.to_sql(),
+        row.kind.to_sql(),
+        row.start.to_sql(),
+        row.len.to_sql(),
+        row.body.to_sql(),
+        row.who.to_sql(),
+    ]
+}
+
+/// Puts a row by its key, or sets columns of the row with a key, if it is there. If a history has an entry of that number, the database
+/// refuses it.
+fn put<S: Alter>(alloc: Global, tx: &mut Transaction<'_, S>, put: Put<'_>) -> Result<(), Error>
+    ensures same_reference { tx.new.conn.ghost_name ≡ tx.old.conn.ghost_name }
+    ensures put { HasCleanDisk (seen S.Store tx.new)
+        → IsPut result (put_of put.entry) (seen S.Store tx.old) (seen S.Store tx.new) }
+    ensures survives { Survives (seen S.Store tx.old) (seen S.Store tx.new) (λ _. ⊥) }
+{
+    match put {
+        Put::Book(row) => put_book(tx, &row),
+        Put::Tab(row) => run(tx, PUT_TAB, &[row.name.to_sql(), row.body.to_sql()]),
+        Put::Para(row) => put_para(alloc, tx, &row),
+        Put::Mark(row) => run(tx, PUT_MARK, &mark_columns(&row)),
+        Put::Cache(row) => {
+            let cells = masks(alloc, row.cells)?;
+            run(tx, PUT_CACHE, &[row.para.to_sql(), cells.to_sql()])
+        }
+        Put::NamedCorr(row) => run(tx, PUT_NAMED_CORR, &entry_columns(&row)),
+        Put::Place { id, place } => run(tx, SET_PLACE, &[id.to_sql(), place.to_sql()]),
+        Put::Flags {
+            id,
+            style,
+            volume,
+            struck,
+        } => {
+            let columns = [
+                id.to_sql(),
+                style.to_sql(),
+                volume.to_sql(),
+                struck.to_sql(),
+            ];
+            run(tx, SET_FLAGS, &columns)
+        }
+        Put::Table { id, tab } => run(tx, SET_TABLE, &[id.to_sql(), tab.to_sql()]),
+        Put::Print { id, print } => {
+            let print = encoded(alloc, print)?;
+            run(tx, SET_PRINT, &[id.to_sql(), print.as_str().to_sql()])
+        }
+        Put::Span {
+            id,
+            start,
+            stop,
+            touched,
+        } => {
+            let columns = [id.to_sql(), start.to_sql(), stop.to_sql(), touched.to_sql()];
+            run(tx, SET_SPAN, &columns)
+        }
+        Put::Resolved { id, resolved } => run(tx, SET_RESOLVED, &[id.to_sql(), resolved.to_sql()]),
+        Put::Version(version) => run(tx, SET_VERSION, &[1i64.to_sql(), version.to_sql()]),
+    }
+}
+
+/// Puts in turn what an iterator lends.
+pub(crate) fn put_all<'a, S: Alter, I: Iterator<Item = Put<'a>> + Drop>(
+    alloc: Global,
+    tx: &mut Transaction<'_, S>,
+    puts: I,
+) -> Result<(), Error>
+    requires can { I.can_next puts }
+    requires ends { IsFinite (I.remaining puts) }
+    ensures same_reference { tx.new.conn.ghost_name ≡ tx.old.conn.ghost_name }
+    ensures put { HasCleanDisk (seen S.Store tx.new)
+        → OnOk result (OfItems I.next_gives puts
+        (λ xs. ArePut S.Store xs tx.old.conn.now tx.new.conn.now)) }
+    ensures inside { HasCleanDisk (seen S.Store tx.new)
+        → (seen S.Store tx.old).in_transaction ≡ true
+        → OnOk result ((seen S.Store tx.new).in_transaction ≡ true) }
+    ensures told { HasCleanDisk (seen S.Store tx.new) → (seen S.Store tx.old).in_transaction ≡ true
+        → IfErr result ((of_items S.Store I.next_gives puts).stops tx.old.conn.now
+        (seen S.Store tx.new)) }
+    ensures kept { HasCleanDisk (seen S.Store tx.new)
+        → KeepsCommit (seen S.Store tx.old) (seen S.Store tx.new) }
+    ensures survives { Survives (seen S.Store tx.old) (seen S.Store tx.new) (λ _. ⊥) }
+{
+    for one in puts {
+        put(alloc, tx, one)?;
+    }
+    Ok(())
+}

@@ -1,0 +1,46 @@
+use Rattle.std.proofs.Common.{◌≡◌, ◌<◌, ◌≤◌, List, ℕ, length, true, false, not, eqb, refl, arith, Some, Ok, sym, ap, subst, ◌∙◌}
+use Rattle.std.proofs.lemmas.Bool.{lt-ltb, le-ltb}
+use Rattle.louis_table.specs.declared.opcode.Opcode.TheVariants.{Collect}
+use Rattle.louis_table.specs.Table.{Collects, most_set_characters}
+use Rattle.louis_table.specs.Steps.Line.{judge_opcode}
+use Rattle.louis_table.proofs.StepLaws.{nil_from_test, not_nil_from_test, judged, set_missing, set_bad, set_at}
+use Rattle.louis_table.proofs.line_entry.read_set.Goals as goal
+
+pub returns-then-is_empty : goal.returns-then-is_empty
+returns-then-is_empty c =
+    set_missing c.args.set c.args.operands.now c.next_field.result.0.now c.next_field.ensures.field c.args.table.now (nil_from_test _ _ c.is_empty.ensures c.if-is_empty.true)
+
+pub returns-in_default-read : goal.returns-in_default-read
+returns-in_default-read c =
+    set_bad c.args.set c.args.operands.now c.next_field.result.0.now c.next_field.ensures.field c.args.table.now (not_nil_from_test _ _ c.is_empty.ensures c.if-is_empty.false)
+    (sym (rw c.in_default-read.is at c.in-Ok.ensures))
+
+pub returns-then-not-is_empty : goal.returns-then-not-is_empty
+returns-then-not-is_empty c =
+    judged c.args.table.now (Collect c.args.set) c.args.operands.now (Collects c.args.set c.in-Some.characters.items) false true _
+    (set_at c.args.set c.args.operands.now c.next_field.result.0.now c.next_field.ensures.field c.in-Some.characters.items (not_nil_from_test _ _ c.is_empty.ensures c.if-is_empty.false)
+    (sym (rw c.in-Some.is at c.in-Ok.ensures)))
+    refl
+    (ap (λ (t : List ℕ). not (eqb (length t) 0)) (sym c.set.ensures) ∙ (ap not (sym c.is_empty-2.ensures) ∙ ap not c.if-not-is_empty.true))
+    refl
+
+pub returns-then-len-gt-MOST_SET_CHARACTERS : goal.returns-then-len-gt-MOST_SET_CHARACTERS
+returns-then-len-gt-MOST_SET_CHARACTERS c =
+    let long : most_set_characters < length c.in-Some.characters.items = omega (arith, c.in-Some.characters.ok.0) in
+    judged c.args.table.now (Collect c.args.set) c.args.operands.now (Collects c.args.set c.in-Some.characters.items) false false true
+    (set_at c.args.set c.args.operands.now c.next_field.result.0.now c.next_field.ensures.field c.in-Some.characters.items (not_nil_from_test _ _ c.is_empty.ensures c.if-is_empty.false)
+    (sym (rw c.in-Some.is at c.in-Ok.ensures)))
+    refl
+    (ap (λ (t : List ℕ). not (eqb (length t) 0)) (sym c.set.ensures) ∙ (ap not (sym c.is_empty-2.ensures) ∙ ap not c.if-not-is_empty.false))
+    (lt-ltb _ _ long)
+
+pub returns : goal.returns
+returns c =
+    let short : length c.in-Some.characters.items ≤ most_set_characters = omega (arith, c.in-Some.characters.ok.0) in
+    subst (λ (t : List ℕ). judge_opcode c.args.table.now (Collect c.args.set) c.args.operands.now ≡ Ok (Some (Collects c.args.set t))) (sym c.from_vec.ensures)
+    (judged c.args.table.now (Collect c.args.set) c.args.operands.now (Collects c.args.set c.in-Some.characters.items) false false false
+    (set_at c.args.set c.args.operands.now c.next_field.result.0.now c.next_field.ensures.field c.in-Some.characters.items (not_nil_from_test _ _ c.is_empty.ensures c.if-is_empty.false)
+    (sym (rw c.in-Some.is at c.in-Ok.ensures)))
+    refl
+    (ap (λ (t : List ℕ). not (eqb (length t) 0)) (sym c.set.ensures) ∙ (ap not (sym c.is_empty-2.ensures) ∙ ap not c.if-not-is_empty.false))
+    (le-ltb _ _ short))

@@ -1,0 +1,45 @@
+use Rattle.std.proofs.Common.{List, ℕ, true, false, not, eqb, length, refl, Some, Err, sym, ap, subst, ◌∙◌}
+use Rattle.std.proofs.lemmas.Result.{err_from_is_err_and}
+use Rattle.louis_table.specs.declared.opcode.Opcode.TheVariants.{Announce}
+use Rattle.louis_table.specs.Table.{Announces}
+use Rattle.louis_table.specs.Steps.Dots.{are_many}
+use Rattle.louis_table.specs.Steps.Line.{IsVerdict, judge_opcode}
+use Rattle.louis_table.proofs.StepLaws.{nil_from_test, not_nil_from_test, judged, sign_missing, sign_fault, sign_at}
+use Rattle.louis_table.proofs.line_entry.read_sign.Goals as goal
+
+pub returns-then-is_empty : goal.returns-then-is_empty
+returns-then-is_empty c =
+    sign_missing c.args.sign c.args.operands.now c.next_field.result.0.now c.next_field.ensures.field c.args.table.now (nil_from_test _ _ c.is_empty.ensures c.if-is_empty.true)
+
+pub returns-in_err-cells : goal.returns-in_err-cells
+returns-in_err-cells c =
+    let exit = err_from_is_err_and c.from_residual.result c.from_residual.ensures.1 in
+    subst (λ r. IsVerdict r (judge_opcode c.args.table.now (Announce c.args.sign) c.args.operands.now)) (sym (exit.1 ∙ ap (λ e. Err e) exit.2))
+    (sign_fault c.args.sign c.args.operands.now c.next_field.result.0.now c.next_field.ensures.field c.args.table.now c.in_err-cells.field-0.0
+    (not_nil_from_test _ _ c.is_empty.ensures c.if-is_empty.false) c.in_err-cells.ensures)
+
+pub returns-then-not-is_empty : goal.returns-then-not-is_empty
+returns-then-not-is_empty c =
+    judged c.args.table.now (Announce c.args.sign) c.args.operands.now (Announces c.args.sign c.in_ok-cells.ensures.0) false true _
+    (sign_at c.args.sign c.args.operands.now c.next_field.result.0.now c.next_field.ensures.field _ (not_nil_from_test _ _ c.is_empty.ensures c.if-is_empty.false) c.in_ok-cells.ensures.1)
+    refl
+    (ap (λ (t : List ℕ). not (eqb (length t) 0)) (sym c.sign.ensures) ∙ (ap not (sym c.is_empty-2.ensures) ∙ ap not c.if-not-is_empty.true))
+    refl
+
+pub returns-in_default : goal.returns-in_default
+returns-in_default c =
+    let told = rw c.in_default.is at c.in_ok-cells.ensures in
+    judged c.args.table.now (Announce c.args.sign) c.args.operands.now (Announces c.args.sign told.0) false false true
+    (sign_at c.args.sign c.args.operands.now c.next_field.result.0.now c.next_field.ensures.field told.0 (not_nil_from_test _ _ c.is_empty.ensures c.if-is_empty.false) told.1)
+    refl
+    (ap (λ (t : List ℕ). not (eqb (length t) 0)) (sym c.sign.ensures) ∙ (ap not (sym c.is_empty-2.ensures) ∙ ap not c.if-not-is_empty.false))
+    told.2
+
+pub returns : goal.returns
+returns c =
+    let told = rw c.in-Some.is at c.in_ok-cells.ensures in
+    judged c.args.table.now (Announce c.args.sign) c.args.operands.now (Announces c.args.sign c.in-Some.cells) false false false
+    (sign_at c.args.sign c.args.operands.now c.next_field.result.0.now c.next_field.ensures.field c.in-Some.cells (not_nil_from_test _ _ c.is_empty.ensures c.if-is_empty.false) (told.1 ∙ ap Some told.2.0))
+    refl
+    (ap (λ (t : List ℕ). not (eqb (length t) 0)) (sym c.sign.ensures) ∙ (ap not (sym c.is_empty-2.ensures) ∙ ap not c.if-not-is_empty.false))
+    (sym (ap are_many told.2.0) ∙ told.2.1)
