@@ -1,4 +1,4 @@
 pub mod Plans
 pub mod Kept
 pub mod RowPuts
-pub mod Judged
+pub mod Rebuilding

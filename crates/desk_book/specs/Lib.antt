@@ -9,15 +9,8 @@ pub mod Corrections
 pub mod Marking
 pub mod Room
 pub mod ItemsLeft
-pub mod Judged
-pub mod JudgedTabs
 pub mod OrderedRows
-pub mod JudgedMarks
-pub mod JudgedHistory
-pub mod JudgedEntries
-pub mod Joined
-pub mod JudgedParas
 pub mod Filling
 pub mod ChangePuts
 pub mod PutsLeft
-pub mod JudgedCaches
+pub mod Rebuilding

@@ -2,8 +2,8 @@
 use Rattle.std.specs.Prelude.{◌≡◌, ℕ, ℤ, pos, ◌+◌, ◌<◌, List, length, slice_get, Some, ⊤}
 use Rattle.std.specs.List.Sorted.{IsSortedByKey}
 use Rattle.std.specs.Ordering.{int_cmp}
-use Rattle.desk_book.specs.declared.damage.RowsFault.{RowsFault}
-use Rattle.desk_book.specs.declared.damage.RowsFault.TheVariants.{Damaged, NoMemory}
+use Rattle.desk_book.specs.declared.rebuild.damage.RowsFault.{RowsFault}
+use Rattle.desk_book.specs.declared.rebuild.damage.RowsFault.TheVariants.{Damaged, NoMemory}
 
 -- what is asked of the rows of a table: the id of each, how many there may be, and when one at an index, from 0, is sound
 -- whatever its id; and what is so of the texts of each row that was read

@@ -1,8 +1,8 @@
 //! A book from the rows of its file.
 ghost use Rattle.desk_model.specs.Damage.{IsDamagedEntries, IsDamagedPara, IsWithin};
 ghost use Rattle.desk_parts.specs.FileRows.{HasEntryTexts, entries_in, table_of, without_name};
-ghost use Rattle.desk_book.specs.Joined.{IsDamagedBraille, TellsDamageOf, fault_in};
-ghost use Rattle.desk_book.specs.Judged.{AreOf, AreTables, HasCells, HasHistory, IsWhole, without_cells, without_history};
+ghost use Rattle.desk_book.specs.Rebuilding.Faults.{IsDamagedBraille, TellsDamageOf, fault_in};
+ghost use Rattle.desk_book.specs.Rebuilding.Rows.{AreOf, AreTables, HasCells, HasHistory, IsWhole, without_cells, without_history};
 ghost use Rattle.desk_book.specs.Kept.{IsKept, book_kept, paragraph_with_id};
 ghost use Rattle.desk_model.specs.Limits.{most_version};
 ghost use Rattle.desk_model.specs.Rebuilding.{IsFaultOf};
@@ -14,20 +14,28 @@ ghost use Rattle.std.specs.List.{All, flat_map, range_with_len};
 ghost use Rattle.std.specs.List.Sorted.{IsPermutation};
 ghost use Rattle.std.specs.Prelude.{◌≡◌, Err, List, IfErr, IfOk, MatchOption, MatchResult, Ok, OnOk, length, map, option_map, pos};
 
+mod caches;
+mod damage;
+mod entries;
+mod history;
+mod marks;
+mod paras;
+mod tabs;
+
 use super::book::Book;
-use super::damage::RowsFault;
-use super::judged_caches::{judged_caches, made_cells};
-use super::judged_entries::judged_entries;
-use super::judged_marks::judged_marks;
-use super::judged_paras::{JudgedParas, judged_paras};
-use super::judged_tabs::judged_tabs;
 use super::limits::MOST_VERSION;
 use super::marks::{KeptMark, Marks};
 use super::paragraphs::{Paragraph, Paragraphs};
 use super::tables::Tables;
+use caches::{made_cells, read_caches};
+use damage::RowsFault;
 use desk_model::PartsFault;
 use desk_parts::{CacheRow, CorrRow, EntryRows, FileTable, NamedCorrRow, Parts};
+use entries::read_entries;
+use marks::read_marks;
+use paras::{OrderedParas, read_paras};
 use std::alloc::{AllocError, Global};
+use tabs::read_tabs;
 
 /// The version in the row of `book`, if a book may have it.
 fn version_of(version: i64) -> Option<u64>
@@ -105,7 +113,7 @@ fn give_histories(
     let table = entries.table();
     let rows = with_names(alloc, entries)?;
     look_at_entries(&rows);
-    of_table(table, judged_entries(alloc, items, rows))
+    of_table(table, read_entries(alloc, items, rows))
 }
 
 /// Gives the paragraphs, which are in the order of their ids, the braille of rows, or else that of their prints.
@@ -129,7 +137,7 @@ fn give_cells(
         (IsDamagedBraille tabs paras (option_map (λ caches. caches.items) cache))) }
 {
     let given = match cache {
-        Some(rows) => judged_caches(alloc, tables, items, rows),
+        Some(rows) => read_caches(alloc, tables, items, rows),
         None => made_cells(alloc, tables, items),
     };
     of_table(FileTable::Cache, given)
@@ -173,14 +181,11 @@ impl Book {
                 id: 1,
             });
         };
-        let tables = of_table(FileTable::Tab, judged_tabs(alloc, parts.tabs))?;
-        let paras = of_table(FileTable::Para, judged_paras(alloc, &tables, parts.paras))?;
-        let JudgedParas { mut items, order } = paras;
+        let tables = of_table(FileTable::Tab, read_tabs(alloc, parts.tabs))?;
+        let paras = of_table(FileTable::Para, read_paras(alloc, &tables, parts.paras))?;
+        let OrderedParas { mut items, order } = paras;
         give_histories(alloc, &mut items, parts.entries)?;
-        let marks = of_table(
-            FileTable::Mark,
-            judged_marks(alloc, &mut items, parts.marks),
-        )?;
+        let marks = of_table(FileTable::Mark, read_marks(alloc, &mut items, parts.marks))?;
         give_cells(alloc, &tables, &mut items, parts.cache)?;
         let book = book_of_parts(version, tables, items, order, marks)?;
         Ok(book)

@@ -13,8 +13,8 @@ use Rattle.desk_rows.specs.Failing.{FailsToPut, Putting, at_commit, at_put}
 use Rattle.desk_rows.specs.Fault.{IsToldAs}
 use Rattle.desk_rows.specs.Turns.{with_transaction}
 use Rattle.desk_rows.specs.declared.fault.DatabaseFault.TheVariants.{Refused}
-use Rattle.desk_rows.proofs.Ending.{fails_to_put, shows_what_ran}
-use Rattle.desk_rows.proofs.LostStores.{StopsLost, put_lost}
+use Rattle.desk_rows.proofs.Transactions.Ending.{fails_to_put, shows_what_ran}
+use Rattle.desk_rows.proofs.Transactions.LostStores.{StopsLost, put_lost}
 
 module _ {S : Type 0} (g : Ghosts S) (old : Held S) where
   -- after a refusal a crash leaves nothing new

@@ -3,7 +3,7 @@ use Rattle.std.proofs.Common.{◌≡◌, ◌≢◌, ◌⊎◌, ℕ, ◌+◌, ◌
 use Rattle.std.specs.Io.KnownBytes.{Appends, IsAtEnd}
 use Rattle.std.specs.List.{AllByRecursion}
 use Rattle.std.proofs.KnownBytes.{Appends-nil, Appends-trans}
-use Rattle.std.proofs.lemmas.List.{append-nil, map-append}
+use Rattle.std.proofs.lemmas.List.{append-nil, length-append, map-append}
 use Rattle.sqlite_trees.specs.Tree.{Trees}
 use Rattle.sqlite.specs.State.{HasCleanDisk, State}
 use Rattle.desk_command.specs.declared.command.Command.{Command}
@@ -14,7 +14,7 @@ use Rattle.desk_ends.specs.declared.ends.Failure.{Failure}
 use Rattle.desk_ends.specs.declared.ends.Sink.{Ghosts as Sink}
 use Rattle.desk_ends.specs.declared.ends.Source.{Ghosts as Source}
 use Rattle.desk_ends.specs.Ends.{IsFlushed}
-use Rattle.desk_ends.specs.Input.{Input, UsesInput, unread}
+use Rattle.desk_ends.specs.Input.{Input, KnowsEnd, UsesInput, unread}
 use Rattle.desk_ends.specs.Limits.{most_input}
 use Rattle.desk_ends.proofs.UsedInput.{UsesInput-none, UsesInput-then, left_to_use, left_to_use-fewer, no-parts, unread-knows}
 use Rattle.desk_line.specs.declared.answer.Answer.{Answer}
@@ -138,7 +138,7 @@ IsServing-none book source r sink w s = record {
   kept = λ clean l may. may.kept;
 }
 
-module _ (start book : Book) (over : SessionEnds) (c : Option (List ℕ)) (input new : Input) (line : Option (List ℕ))
+module _ (start book : Book) (over : SessionEnds) (c : Option (List ℕ)) (input new : Input)
     (so_far : IsServing start book over input) where
   -- the ends once more was read
   abbrev having_read : SessionEnds
@@ -149,7 +149,7 @@ module _ (start book : Book) (over : SessionEnds) (c : Option (List ℕ)) (input
       held-left l start book e so_far.turns so_far.given over.new so_far.session (goes-held so_far.turns so_far.goes) lacks (so_far.kept clean l may)
 
   -- the input is at its end
-  pub Serves-done : ReadsRequest over.ReadsFail over.left c input new line (Ok None) → Serves start book ended.Done having_read
+  pub Serves-done : ReadsRequest over.ReadsFail over.left c input new (Ok None) → Serves start book ended.Done having_read
   Serves-done read =
       let used = UsesInput-then over.unread over.left c unread input new so_far.bytes read.bytes so_far.used read.used in
       let knows = used.ends (unread-knows over.unread) read.found.1 in
@@ -174,7 +174,7 @@ module _ (start book : Book) (over : SessionEnds) (c : Option (List ℕ)) (input
       }
 
   -- a read failed
-  pub Serves-input : (failed : Failure) → ReadsRequest over.ReadsFail over.left c input new line (Err failed) → Serves start book ended.Input having_read
+  pub Serves-input : (failed : Failure) → ReadsRequest over.ReadsFail over.left c input new (Err failed) → Serves start book ended.Input having_read
   Serves-input failed read =
       let used = UsesInput-then over.unread over.left c unread input new so_far.bytes read.bytes so_far.used read.used in
       let going : ¬ (input.is_over ≡ true) = λ at_end. let h = sym (read.used.over at_end).1 ∙ read.found.2 in cc h in
@@ -201,8 +201,8 @@ module _ (start book : Book) (over : SessionEnds) (c : Option (List ℕ)) (input
 
   -- ---- one turn more
 
-  module _ (found : Found) (next : Book) (answer : Answer) (s' : State) (x passed : Option (List ℕ)) (ok : Bool)
-      (read : ReadsRequest over.ReadsFail over.left c input new line (Ok (Some found)))
+  module _ (found : Result Request Fault) (next : Book) (answer : Answer) (s' : State) (x passed : Option (List ℕ)) (ok : Bool)
+      (read : ReadsRequest over.ReadsFail over.left c input new (Ok (Some found)))
       (took : TakesTurn read.bytes book next answer over.new s') (sends : SendsReply over.WritesFail over.written x passed next answer ok) where
     -- the ends after that
     abbrev after : SessionEnds

@@ -27,19 +27,13 @@ AreFed bytes = (bytes ≡ []) ⊎ EndsLine bytes
 
 -- so many of them
 abbrev pub AreLines : ℕ → List ℕ → Type 0
-AreLines count block = (feeds block ≡ count) × ((block ≡ []) ⊎ EndsLine block)
-
--- what was held of a request's bytes is held with the block
-abbrev pub HoldsBlock : (text held : Result (Vec ℕ Global) Fault) → List ℕ → Type 0
-HoldsBlock text held block =
-    (head : List ℕ) → EndsLine head → HoldsText text head → HoldsText held (head ++ block)
+AreLines count block = (feeds block ≡ count) × AreFed block
 
 -- how a block ends: after so many lines, with fewer at the end of the input, or with fewer where a read failed
-abbrev pub BlockEnds : Type 0 → Input → ℕ → Result (Vec ℕ Global) Fault → List ℕ
-    → Result (Result (Vec ℕ Global) Fault) Failure → Type 0
-BlockEnds CanFail new count text block (Ok held) = HoldsBlock text held block
+abbrev pub BlockEnds : Type 0 → Input → ℕ → List ℕ → Result (Result (Vec ℕ Global) Fault) Failure → Type 0
+BlockEnds CanFail new count block (Ok text) = HoldsText text block
     × (AreLines count block ⊎ ((feeds block < count) × (new.is_over ≡ true) × (new.waiting ≡ [])))
-BlockEnds CanFail new count text block (Err failed) =
+BlockEnds CanFail new count block (Err failed) =
     (feeds block < count) × (new.waiting ≡ []) × (new.is_over ≡ false) × IsStopped CanFail new
 
 -- so many lines were read, or those that are left
@@ -55,23 +49,18 @@ pub record ReadsBlock (CanFail : Type 0) (left_old left_new : Option (List ℕ))
 abbrev pub BeginsWithNone : List ℕ → Type 0
 BeginsWithNone bytes = (request later : List ℕ) → bytes ≡ request ++ later → ¬ IsWhole request
 
--- the bytes of a request were found: in the line that is held, in a text, or not, for this fault
-abbrev pub HoldsRequest : Option (List ℕ) → List ℕ → Found → Type 0
-HoldsRequest line bytes found.Head = line ≡ Some bytes
-HoldsRequest line bytes (found.Whole text) = text.items ≡ bytes
-HoldsRequest line bytes (found.Fault fault) = IsFaultOf bytes fault
-
--- what the bytes are that were used: none at the end of the input, or the next request, or a beginning of it where a read failed
-abbrev pub Finds : Type 0 → Input → Option (List ℕ) → List ℕ → Result (Option Found) Failure → Type 0
-Finds CanFail new line bytes (Ok None) = (bytes ≡ []) × (new.is_over ≡ true) × (new.waiting ≡ [])
-Finds CanFail new line bytes (Ok (Some found)) =
-    IsNext (new.is_over ≡ true) new.waiting bytes × HoldsRequest line bytes found
-Finds CanFail new line bytes (Err failed) =
+-- what the bytes are that were used: none at the end of the input, or the next request, which they are read as or not, for this
+-- fault, or a beginning of it where a read failed
+abbrev pub Finds : Type 0 → Input → List ℕ → Result (Option (Result Request Fault)) Failure → Type 0
+Finds CanFail new bytes (Ok None) = (bytes ≡ []) × (new.is_over ≡ true) × (new.waiting ≡ [])
+Finds CanFail new bytes (Ok (Some found)) =
+    IsNext (new.is_over ≡ true) new.waiting bytes × MatchResult found (Reads bytes) (IsFaultOf bytes)
+Finds CanFail new bytes (Err failed) =
     BeginsWithNone bytes × (new.waiting ≡ []) × (new.is_over ≡ false) × IsStopped CanFail new
 
 -- the next request was read
 pub record ReadsRequest (CanFail : Type 0) (left_old left_new : Option (List ℕ)) (old new : Input)
-    (line : Option (List ℕ)) (result : Result (Option Found) Failure) : Type 0 where
+    (result : Result (Option (Result Request Fault)) Failure) : Type 0 where
   pub bytes : List ℕ
   pub used : UsesInput left_old left_new old new bytes
   pub found : Finds CanFail new bytes result

@@ -28,7 +28,7 @@ use Rattle.desk_rows.specs.Whole.{IsUtf8Row}
 use Rattle.desk_rows.specs.declared.fault.DatabaseFault.{DatabaseFault}
 use Rattle.desk_rows.specs.declared.fault.DatabaseFault.TheVariants.{Refused}
 use Rattle.desk_store.proofs.Opened.{shows_still}
-use Rattle.desk_rows.proofs.WholeReads.{reads_only}
+use Rattle.desk_rows.proofs.TableReads.WholeReads.{reads_only}
 
 -- ---- a query
 

@@ -35,7 +35,7 @@ use Rattle.desk_store.specs.declared.fault.OpenFault.{OpenFault}
 use Rattle.desk_store.specs.declared.fault.OpenFault.TheVariants.{NotABook, Damaged, NewerFormat, Lost, NoMemory}
 use Rattle.desk_store.proofs.AnyFile.{cells_before, entries_before, gives_before, shown_before}
 use Rattle.desk_store.proofs.Opened.{as_listed, same_state, stays_read}
-use Rattle.desk_rows.proofs.WholeReads.{reads_only}
+use Rattle.desk_rows.proofs.TableReads.WholeReads.{reads_only}
 
 -- ---- one row
 

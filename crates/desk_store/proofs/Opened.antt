@@ -20,8 +20,8 @@ use Rattle.desk_rows.specs.States.{IsFile, ShowsContents}
 use Rattle.desk_rows.specs.Whole.{HaveOwnRowids, IsUtf8Row}
 use Rattle.desk_rows.specs.declared.fault.DatabaseFault.{DatabaseFault}
 use Rattle.desk_rows.specs.declared.fault.DatabaseFault.TheVariants.{Refused}
-use Rattle.desk_rows.proofs.FileTexts.{readable_table}
-use Rattle.desk_rows.proofs.WholeFile.{tabs_apart}
+use Rattle.desk_rows.proofs.TableReads.FileTexts.{readable_table}
+use Rattle.desk_rows.proofs.TableReads.WholeFile.{tabs_apart}
 
 -- ---- a connection that stays as it was
 

@@ -18,7 +18,7 @@ use Rattle.desk_rows.specs.Descriptions.{Which, books, tabs, paras, corrs, marks
 use Rattle.desk_rows.specs.Layout.{Layout}
 use Rattle.desk_rows.specs.States.{IsFile}
 use Rattle.desk_rows.specs.Tables.{is_there}
-use Rattle.desk_rows.proofs.Schemas.{shows_committed}
+use Rattle.desk_rows.proofs.Schema.Schemas.{shows_committed}
 use Rattle.desk_store.specs.Formats.{Format, IsOfFormat, named}
 use Rattle.desk_store.specs.Found.{HasNone}
 use Rattle.desk_store.specs.Opened.{FindsBook, HoldsEither, HoldsEmpty, HoldsNone, OpensBook, Stands, with_missing_tables}

@@ -28,12 +28,12 @@ use Rattle.desk_rows.specs.Rows.{RowOf, ShownOf, columns_of, own, shown_columns}
 use Rattle.desk_rows.specs.States.{ShowsContents}
 use Rattle.desk_rows.specs.Tables.{is_there}
 use Rattle.desk_rows.specs.Whole.{IsUtf8Row}
-use Rattle.desk_rows.proofs.Answering.{has_table}
-use Rattle.desk_rows.proofs.FileTexts.{readable_table, rowids}
-use Rattle.desk_rows.proofs.OneList.{one_list}
-use Rattle.desk_rows.proofs.PlainReads.{is_read}
-use Rattle.desk_rows.proofs.WholeFile.{own_listed, tabs_apart}
-use Rattle.desk_rows.proofs.WholeReads.{rows_cmp, table_kinds, table_read}
+use Rattle.desk_rows.proofs.TableReads.Answering.{has_table}
+use Rattle.desk_rows.proofs.TableReads.FileTexts.{readable_table, rowids}
+use Rattle.desk_rows.proofs.TableReads.OneList.{one_list}
+use Rattle.desk_rows.proofs.TableReads.PlainReads.{is_read}
+use Rattle.desk_rows.proofs.TableReads.WholeFile.{own_listed, tabs_apart}
+use Rattle.desk_rows.proofs.TableReads.WholeReads.{rows_cmp, table_kinds, table_read}
 use Rattle.desk_store.specs.BookFile.{rows_of}
 use Rattle.desk_store.specs.Formats.{Format, IsOfFormat, IsPresent, Presence, foreign, named, needed, optional, presence, unnamed, unread}
 use Rattle.desk_store.specs.Found.{AreCellsIn, AreEntriesIn, AreFileRows, AreOtherRows, AreRowsIn, AreToldApart, CanAllAnswer, CanAnswer, IsReadAs, RowsShowIn, format_kept}

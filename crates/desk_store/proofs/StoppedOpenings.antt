@@ -11,7 +11,7 @@ use Rattle.sql_tables.proofs.Quiet.{never_returns, shown_quietly}
 use Rattle.desk_rows.specs.TableQuery.{FailsAs, failed, no_memory, query_of, together, unreadable}
 use Rattle.desk_rows.specs.Descriptions.{Which, description_of}
 use Rattle.desk_rows.specs.declared.fault.DatabaseFault.{DatabaseFault}
-use Rattle.desk_rows.proofs.WholeReads.{reads_only}
+use Rattle.desk_rows.proofs.TableReads.WholeReads.{reads_only}
 use Rattle.desk_store.specs.Opened.{StopsOpening, filling, reading, rebuilding}
 use Rattle.desk_store.specs.declared.fault.OpenFault.{OpenFault}
 

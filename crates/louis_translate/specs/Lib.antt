@@ -1,8 +1,6 @@
 pub mod Position
 pub mod Sign
-pub mod LoneCell
 pub mod Known
-pub mod Covering
 pub mod Choice
 pub mod Tree
 pub mod Search

@@ -1,8 +1,8 @@
 -- The indexes of a paragraph's marks.
-use Rattle.std.proofs.Common.{◌≡◌, ℕ, zero, suc, ◌+◌, ◌-◌, ◌<◌, ◌≤◌, Bool, true, false, cond, List, [], ◌∷◌, ◌++◌, length, map, set, min, max, drop, slice_get, Option, Some, None, refl, sym, ap, subst, ◌∙◌, arith, inl, inr}
+use Rattle.std.proofs.Common.{◌≡◌, ℕ, zero, suc, ◌+◌, ◌-◌, ◌<◌, ◌≤◌, Bool, true, false, cond, List, [], ◌∷◌, ◌++◌, length, map, set, drop, slice_get, Option, Some, None, refl, sym, ap, subst, ◌∙◌, arith, inl, inr}
 use Rattle.std.specs.List.{All, enumerate_from, flat_map}
 use Rattle.std.specs.Option.{option_map_or}
-use Rattle.std.specs.Prelude.{nat_eq, nat_le, option_map, option_to_list}
+use Rattle.std.specs.Prelude.{nat_eq, option_map, option_to_list}
 use Rattle.std.proofs.lemmas.Bool.{cases_Bool, cond-false, cond-true, cond_both, eq-eqb}
 use Rattle.std.proofs.lemmas.List.{append-nil, length-drop, length-map}
 use Rattle.std.proofs.lemmas.List.Elements.{All-cons, All-head, All-nil, All-tail}
@@ -50,15 +50,11 @@ indexes-set id n zero (k ∷ ms) m new at same =
 indexes-set id n (suc i) (k ∷ ms) m new at same = ap (λ (rest : List ℕ). cond (nat_eq k.paragraph id) (n ∷ rest) rest) (indexes-set id (n + 1) i ms m new at same)
 
 moved-keeps : (id start removed added : ℕ) (m : KeptMark) → (moved_kept_of id start removed added m).paragraph ≡ m.paragraph
-moved-keeps id start removed added m = by (nat_eq m.paragraph id) (nat_le m.end start) (nat_le (start + removed) m.start)
+moved-keeps id start removed added m = by (nat_eq m.paragraph id)
   where
-    by : (b c d : Bool)
-        → (cond b (cond c m (cond d (record m { start = m.start - removed + added; end = m.end - removed + added })
-        (record m { start = min m.start start; end = max m.end (start + removed) - removed + added; touched = true }))) m).paragraph ≡ m.paragraph
-    by true true d = refl
-    by true false true = refl
-    by true false false = refl
-    by false c d = refl
+    by : (b : Bool) → (cond b (moved_kept start removed added m) m).paragraph ≡ m.paragraph
+    by true = refl
+    by false = refl
 
 pub indexes-moved : (id start removed added other : ℕ) (ms : List KeptMark) → indexes_on other (with_kept_moved id start removed added ms) ≡ indexes_on other ms
 indexes-moved id start removed added other ms = indexes-map (moved_kept_of id start removed added) (moved-keeps id start removed added) other 0 ms

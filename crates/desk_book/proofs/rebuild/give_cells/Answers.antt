@@ -2,13 +2,13 @@ use Rattle.std.proofs.Common.{◌≡◌, List, Option, Some, None, Vec, Global, 
 use Rattle.std.specs.Prelude.{IfErr, OnOk}
 use Rattle.std.proofs.lemmas.Result.{IfErr-weaker, on_ok_weaker}
 use Rattle.desk_parts.specs.declared.file_table.FileTable.TheVariants.{Cache}
-use Rattle.desk_book.specs.declared.damage.RowsFault.TheVariants.{NoMemory}
+use Rattle.desk_book.specs.declared.rebuild.damage.RowsFault.TheVariants.{NoMemory}
 use Rattle.desk_parts.specs.declared.rows.CacheRow.{CacheRow}
 use Rattle.desk_model.specs.Damage.{IsDamagedCache}
-use Rattle.desk_book.specs.Joined.{IsDamagedBraille, TellsDamageOf}
-use Rattle.desk_book.specs.Judged.{IsWhole, TellsDamage}
+use Rattle.desk_book.specs.Rebuilding.Faults.{IsDamagedBraille, TellsDamageOf}
+use Rattle.desk_book.specs.Rebuilding.Rows.{IsWhole, TellsDamage}
 use Rattle.desk_parts.specs.Rows.{ParaCells}
-use Rattle.desk_book.proofs.Judged.FirstTables.{braille-told, braille-whole, no-braille, no-braille-told, of-table-fault, of-table-rows, on-any}
+use Rattle.desk_book.proofs.Rebuilding.FirstTables.{braille-told, braille-whole, no-braille, no-braille-told, of-table-fault, of-table-rows, on-any}
 use Rattle.desk_book.proofs.rebuild.give_cells.Goals.{in-Some, in-None}
 use Rattle.desk_book.proofs.rebuild.give_cells.Goals as goal
 
@@ -19,7 +19,7 @@ pub returns-clause-whole : goal.returns-clause-whole
 returns-clause-whole c = λ tabs paras are of sound. elim c.match-cache.branch [
   | in-Some w ↦
       let some = subst (λ given. OnOk given (IsWhole (IsDamagedBraille tabs paras (Some w.in-Some.rows.items)))) (sym w.given-is)
-      (on_ok_weaker w.judged_caches-given.result (braille-whole tabs paras w.in-Some.rows.items) (w.judged_caches-given.ensures.whole tabs paras are of sound)) in
+      (on_ok_weaker w.read_caches-given.result (braille-whole tabs paras w.in-Some.rows.items) (w.read_caches-given.ensures.whole tabs paras are of sound)) in
       subst (λ (caches : Option (List ParaCells)). OnOk c.of_table.result (IsWhole (IsDamagedBraille tabs paras caches))) (sym (ap rows_of w.in-Some.is))
       (of-table-rows Cache c.match-cache.given c.of_table.result c.of_table.ensures (λ _. IsWhole (IsDamagedBraille tabs paras (Some w.in-Some.rows.items))) some)
   | in-None w ↦
@@ -32,8 +32,8 @@ returns-clause-damaged c = λ tabs paras are of sound. elim c.match-cache.branch
   | in-Some w ↦
       let damaged = IsDamagedBraille tabs paras (Some w.in-Some.rows.items) in
       let some = subst (λ given. IfErr given (TellsDamage damaged)) (sym w.given-is)
-      (IfErr-weaker w.judged_caches-given.result (TellsDamage (IsDamagedCache tabs paras w.in-Some.rows.items)) (TellsDamage damaged)
-      (braille-told tabs paras w.in-Some.rows.items) (w.judged_caches-given.ensures.damaged tabs paras are of sound)) in
+      (IfErr-weaker w.read_caches-given.result (TellsDamage (IsDamagedCache tabs paras w.in-Some.rows.items)) (TellsDamage damaged)
+      (braille-told tabs paras w.in-Some.rows.items) (w.read_caches-given.ensures.damaged tabs paras are of sound)) in
       subst (λ (caches : Option (List ParaCells)). IfErr c.of_table.result (TellsDamageOf Cache (IsDamagedBraille tabs paras caches))) (sym (ap rows_of w.in-Some.is))
       (of-table-fault Cache c.match-cache.given c.of_table.result c.of_table.ensures damaged some)
   | in-None w ↦

@@ -5,8 +5,8 @@ use Rattle.sqlite_catalog.specs.Listing.{IsSound}
 use Rattle.sqlite_schema.specs.declared.schema.Schema.{Schema}
 use Rattle.sqlite_trees.specs.Tree.{Trees}
 use Rattle.sqlite_trees.specs.View.{IsClean}
-use Rattle.desk_rows.proofs.Reopening.{fails_each, fails_again}
-use Rattle.desk_rows.proofs.Schemas.{shows_own}
+use Rattle.desk_rows.proofs.Transactions.Reopening.{fails_each, fails_again}
+use Rattle.desk_rows.proofs.Schema.Schemas.{shows_own}
 use Rattle.desk_rows.proofs.crash.reopen.Goals as goal
 
 pub returns-in-Ok-clause-shows : goal.returns-in-Ok-clause-shows

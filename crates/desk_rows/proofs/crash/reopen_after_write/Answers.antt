@@ -2,8 +2,8 @@ use Rattle.std.proofs.Common.{arith, inl, inr, subst, sym}
 use Rattle.sqlite.specs.Held.{state}
 use Rattle.desk_rows.specs.Puts.{puts_into}
 use Rattle.desk_rows.specs.States.{IsFile}
-use Rattle.desk_rows.proofs.Both.{on_done}
-use Rattle.desk_rows.proofs.Schemas.{shows_own}
+use Rattle.desk_rows.proofs.Transactions.Both.{on_done}
+use Rattle.desk_rows.proofs.Schema.Schemas.{shows_own}
 use Rattle.desk_rows.proofs.crash.reopen_after_write.Goals as goal
 
 pub returns-clause-crash : goal.returns-clause-crash

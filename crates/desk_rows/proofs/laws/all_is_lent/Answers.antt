@@ -1,5 +1,5 @@
 use Rattle.desk_rows.proofs.laws.all_is_lent.Goals as goal
-use Rattle.desk_rows.proofs.LentPuts.{all_lent}
+use Rattle.desk_rows.proofs.RowPuts.LentPuts.{all_lent}
 
 pub returns : goal.returns
 returns c = all_lent

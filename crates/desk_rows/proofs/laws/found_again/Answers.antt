@@ -1,5 +1,5 @@
 use Rattle.sqlite.specs.Held.{state}
-use Rattle.desk_rows.proofs.Schemas.{shows_committed, still_left}
+use Rattle.desk_rows.proofs.Schema.Schemas.{shows_committed, still_left}
 use Rattle.desk_rows.proofs.laws.found_again.Goals as goal
 
 pub returns-clause-left : goal.returns-clause-left

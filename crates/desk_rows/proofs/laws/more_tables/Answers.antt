@@ -1,5 +1,5 @@
 use Rattle.sqlite.specs.Held.{state}
-use Rattle.desk_rows.proofs.MoreTables.{more_made}
+use Rattle.desk_rows.proofs.Schema.MoreTables.{more_made}
 use Rattle.desk_rows.proofs.laws.more_tables.Goals as goal
 
 pub returns : goal.returns

@@ -1,4 +1,4 @@
-use Rattle.desk_rows.proofs.WholeFile.{one_contents}
+use Rattle.desk_rows.proofs.TableReads.WholeFile.{one_contents}
 use Rattle.desk_rows.proofs.laws.one_contents.Goals as goal
 
 pub returns : goal.returns

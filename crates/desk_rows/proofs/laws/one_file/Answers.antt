@@ -1,5 +1,5 @@
 use Rattle.sqlite.specs.Held.{state}
-use Rattle.desk_rows.proofs.Schemas.{shows_own}
+use Rattle.desk_rows.proofs.Schema.Schemas.{shows_own}
 use Rattle.desk_rows.proofs.laws.one_file.Goals as goal
 
 pub returns : goal.returns

@@ -1,5 +1,5 @@
-use Rattle.desk_rows.proofs.FileTexts.{readable, rowids}
-use Rattle.desk_rows.proofs.WholeFile.{tabs_apart}
+use Rattle.desk_rows.proofs.TableReads.FileTexts.{readable, rowids}
+use Rattle.desk_rows.proofs.TableReads.WholeFile.{tabs_apart}
 use Rattle.desk_rows.proofs.laws.texts_as_written.Goals as goal
 
 pub returns-clause-readable : goal.returns-clause-readable

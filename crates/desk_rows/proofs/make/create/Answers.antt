@@ -2,7 +2,7 @@ use Rattle.std.proofs.Common.{[]}
 use Rattle.sql_tables.specs.States.{seen}
 use Rattle.desk_rows.specs.Descriptions.{description_of}
 use Rattle.desk_rows.specs.Tables.{which}
-use Rattle.desk_rows.proofs.Creates.{creates, runs_inside, runs_keeps, runs_ran, runs_told}
+use Rattle.desk_rows.proofs.Schema.Creates.{creates, runs_inside, runs_keeps, runs_ran, runs_told}
 use Rattle.desk_rows.proofs.make.create.Goals as goal
 
 pub returns-clause-makes : goal.returns-clause-makes

@@ -10,8 +10,8 @@ use Rattle.desk_rows.specs.Tables.{which}
 use Rattle.desk_rows.specs.Turns.{RunInTurn}
 use Rattle.desk_parts.specs.declared.file_table.FileTable.{FileTable}
 use Rattle.desk_parts.specs.declared.file_table.FileTable.TheVariants.{Book}
-use Rattle.desk_rows.proofs.MadeTables.{all_at, makes_then, map_split, map_more}
-use Rattle.desk_rows.proofs.Turns.{one_more_ran}
+use Rattle.desk_rows.proofs.Schema.MadeTables.{all_at, makes_then, map_split, map_more}
+use Rattle.desk_rows.proofs.Transactions.Turns.{one_more_ran}
 use Rattle.desk_rows.proofs.make.create_all.Goals as goal
 
 pub create-requires : goal.create-requires

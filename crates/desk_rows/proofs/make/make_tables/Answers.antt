@@ -7,13 +7,13 @@ use Rattle.desk_rows.specs.Failing.{after_tables, of_first_row}
 use Rattle.desk_rows.specs.Making.{creation, first_contents, first_row, new_layout, new_tables}
 use Rattle.desk_rows.specs.Puts.{row_put}
 use Rattle.desk_rows.specs.Turns.{with_transaction}
-use Rattle.desk_rows.proofs.Both.{on_ok_both}
+use Rattle.desk_rows.proofs.Transactions.Both.{on_ok_both}
 use Rattle.desk_rows.proofs.Commits.{commits}
-use Rattle.desk_rows.proofs.Committing.{shows_on}
-use Rattle.desk_rows.proofs.Ending.{leaves_what_ran}
-use Rattle.desk_rows.proofs.LostStores.{first_row_lost, tables_lost}
-use Rattle.desk_rows.proofs.MadeTables.{whole}
-use Rattle.desk_rows.proofs.Turns.{one_ran, run_then}
+use Rattle.desk_rows.proofs.Transactions.Committing.{shows_on}
+use Rattle.desk_rows.proofs.Transactions.Ending.{leaves_what_ran}
+use Rattle.desk_rows.proofs.Transactions.LostStores.{first_row_lost, tables_lost}
+use Rattle.desk_rows.proofs.Schema.MadeTables.{whole}
+use Rattle.desk_rows.proofs.Transactions.Turns.{one_ran, run_then}
 use Rattle.desk_rows.proofs.make.make_tables.Goals as goal
 
 pub returns-clause-commits : goal.returns-clause-commits

@@ -1,6 +1,6 @@
 use Rattle.sql_tables.specs.States.{seen}
 use Rattle.desk_rows.specs.Making.{first_row}
-use Rattle.desk_rows.proofs.Changing.{puts_row, row_told}
+use Rattle.desk_rows.proofs.RowPuts.Changing.{puts_row, row_told}
 use Rattle.desk_rows.proofs.make.put_first_row.Goals as goal
 
 pub returns-clause-put : goal.returns-clause-put

@@ -1,7 +1,7 @@
 use Rattle.std.proofs.Common.{sym, ap, ◌∙◌}
 use Rattle.sqlite.specs.Effect.{Database}
 use Rattle.sqlite.specs.Held.{state}
-use Rattle.desk_rows.proofs.Schemas.{shows_file}
+use Rattle.desk_rows.proofs.Schema.Schemas.{shows_file}
 use Rattle.desk_rows.proofs.open.open_file.Goals as goal
 
 pub returns-in-Ok-clause-shows : goal.returns-in-Ok-clause-shows

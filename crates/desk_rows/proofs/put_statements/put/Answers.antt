@@ -3,7 +3,7 @@ use Rattle.std.proofs.Math.Facts.{to_z-of_z}
 use Rattle.desk_parts.specs.declared.put.Put.TheVariants as lent
 use Rattle.desk_parts.specs.Puts.{put_of}
 use Rattle.sql_tables.specs.States.{seen}
-use Rattle.desk_rows.proofs.Changing.{put_as}
+use Rattle.desk_rows.proofs.RowPuts.Changing.{put_as}
 use Rattle.desk_rows.proofs.put_statements.put.Goals as goal
 
 pub returns-in-Tab-clause-put : goal.returns-in-Tab-clause-put

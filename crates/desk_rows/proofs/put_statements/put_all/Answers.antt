@@ -8,8 +8,8 @@ use Rattle.sql_tables.specs.States.{seen}
 use Rattle.desk_parts.specs.Puts.{put_of}
 use Rattle.desk_rows.specs.Puts.{PutsAll, statement}
 use Rattle.desk_rows.specs.Turns.{RunInTurn}
-use Rattle.desk_rows.proofs.Changing.{puts_more}
-use Rattle.desk_rows.proofs.Turns.{map_then, one_more_ran}
+use Rattle.desk_rows.proofs.RowPuts.Changing.{puts_more}
+use Rattle.desk_rows.proofs.Transactions.Turns.{map_then, one_more_ran}
 use Rattle.desk_rows.proofs.put_statements.put_all.Goals as goal
 
 pub loop-one-preserved : goal.loop-one-preserved

@@ -2,7 +2,7 @@ use Rattle.std.proofs.Common.{rules}
 use Rattle.std.proofs.Math.Facts.{to_z-of_z}
 use Rattle.desk_parts.specs.Puts.{PutPara, lent_para}
 use Rattle.sql_tables.specs.States.{seen}
-use Rattle.desk_rows.proofs.Changing.{put_as}
+use Rattle.desk_rows.proofs.RowPuts.Changing.{put_as}
 use Rattle.desk_rows.proofs.put_statements.put_para.Goals as goal
 
 pub returns-clause-put : goal.returns-clause-put

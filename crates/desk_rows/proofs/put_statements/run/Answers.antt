@@ -4,7 +4,7 @@ use Rattle.sqlite.specs.Held.{state}
 use Rattle.sql_tables.specs.States.{seen}
 use Rattle.sql_tables.proofs.Taking.{within}
 use Rattle.sqlite.specs.Values.{bound}
-use Rattle.desk_rows.proofs.Creates.{err_runs}
+use Rattle.desk_rows.proofs.Schema.Creates.{err_runs}
 use Rattle.desk_rows.proofs.put_statements.run.Goals as goal
 
 pub returns-clause-runs : goal.returns-clause-runs

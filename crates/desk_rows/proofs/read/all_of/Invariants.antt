@@ -3,7 +3,7 @@ use Rattle.std.specs.List.{AllByRecursion}
 use Rattle.desk_rows.specs.TableQuery.{query_of, given}
 use Rattle.desk_rows.specs.Rows.{own, shown_columns}
 use Rattle.desk_rows.specs.Whole.{IsUtf8Row}
-use Rattle.desk_rows.proofs.Beginnings.{MayBegin}
+use Rattle.desk_rows.proofs.TableReads.Beginnings.{MayBegin}
 use Rattle.desk_rows.proofs.read.all_of.Given as goal
 
 -- the rows so far are read

@@ -6,8 +6,8 @@ use Rattle.std.specs.Ordering.{int_cmp, int_eq}
 use Rattle.std.specs.BTreeMap.{is_at}
 use Rattle.std.specs.BTreeSet.{contains}
 use Rattle.desk_parts.specs.Rows.{StoredTab}
-use Rattle.desk_rows.proofs.Distinct.{among_more, more_apart, not_apart}
-use Rattle.desk_rows.proofs.MadeTables.{map_more, map_split}
+use Rattle.desk_rows.proofs.RowPuts.Distinct.{among_more, more_apart, not_apart}
+use Rattle.desk_rows.proofs.Schema.MadeTables.{map_more, map_split}
 use Rattle.desk_rows.proofs.read.have_own_rowids.Goals as goal
 
 was_there : (b new : Bool) → new ≡ not b → new ≡ false → b ≡ true

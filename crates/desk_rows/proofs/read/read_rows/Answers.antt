@@ -6,8 +6,8 @@ use Rattle.sql_tables.specs.Kinds.{HasKinds}
 use Rattle.sql_tables.proofs.Quiet.{commits_nothing}
 use Rattle.desk_rows.specs.TableQuery.{BeginWith, given, query_of}
 use Rattle.desk_rows.specs.Descriptions.{description_of}
-use Rattle.desk_rows.proofs.Answering.{answers, fails}
-use Rattle.desk_rows.proofs.WholeReads.{reads_only}
+use Rattle.desk_rows.proofs.TableReads.Answering.{answers, fails}
+use Rattle.desk_rows.proofs.TableReads.WholeReads.{reads_only}
 use Rattle.desk_rows.proofs.read.read_rows.Goals as goal
 
 pub returns-clause-answers : goal.returns-clause-answers

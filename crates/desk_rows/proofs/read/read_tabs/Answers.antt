@@ -4,7 +4,7 @@ use Rattle.sqlite.specs.Held.{state}
 use Rattle.desk_parts.specs.Rows.{StoredTab}
 use Rattle.desk_rows.specs.Descriptions.{tabs}
 use Rattle.desk_rows.specs.Whole.{HaveOwnRowids}
-use Rattle.desk_rows.proofs.Answering.{judged, not_read, tabs_begin}
+use Rattle.desk_rows.proofs.TableReads.Answering.{judged, not_read, tabs_begin}
 use Rattle.desk_rows.proofs.read.read_tabs.Goals as goal
 
 on_err_so : {X E : Type 0} (r : Result X E) (P Q : Type 0) → (P → Q) → OnErr r P → OnErr r Q

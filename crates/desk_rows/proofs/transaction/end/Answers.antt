@@ -2,7 +2,7 @@ use Rattle.std.proofs.Common.{IsOk, ap, refl, subst, sym, ◌∙◌}
 use Rattle.sqlite.specs.Effect.{Database}
 use Rattle.sqlite.specs.Held.{state}
 use Rattle.sql_tables.specs.States.{seen}
-use Rattle.desk_rows.proofs.Ending.{commit_ends}
+use Rattle.desk_rows.proofs.Transactions.Ending.{commit_ends}
 use Rattle.desk_rows.proofs.transaction.end.Goals as goal
 
 pub returns-clause-ends : goal.returns-clause-ends

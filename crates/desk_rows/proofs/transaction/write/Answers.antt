@@ -6,9 +6,9 @@ use Rattle.desk_rows.specs.Commits.{putting_items}
 use Rattle.desk_rows.specs.Puts.{ArePut, OfItems}
 use Rattle.desk_rows.specs.Turns.{with_transaction}
 use Rattle.desk_rows.proofs.Commits.{commits}
-use Rattle.desk_rows.proofs.Committing.{file_with, writes_on}
-use Rattle.desk_rows.proofs.Ending.{leaves_what_ran}
-use Rattle.desk_rows.proofs.LostStores.{items_lost}
+use Rattle.desk_rows.proofs.Transactions.Committing.{file_with, writes_on}
+use Rattle.desk_rows.proofs.Transactions.Ending.{leaves_what_ran}
+use Rattle.desk_rows.proofs.Transactions.LostStores.{items_lost}
 use Rattle.desk_rows.proofs.transaction.write.Goals as goal
 
 pub returns-clause-commits : goal.returns-clause-commits

@@ -9,10 +9,10 @@ use Rattle.desk_rows.specs.Puts.{statement}
 use Rattle.desk_rows.specs.Tables.{which}
 use Rattle.desk_rows.specs.Turns.{with_transaction}
 use Rattle.desk_rows.proofs.Commits.{commits}
-use Rattle.desk_rows.proofs.Ending.{leaves_what_ran}
-use Rattle.desk_rows.proofs.LostStores.{items_lost, tables_lost}
-use Rattle.desk_rows.proofs.MoreTables.{file_with_tables, grows}
-use Rattle.desk_rows.proofs.Turns.{run_then}
+use Rattle.desk_rows.proofs.Transactions.Ending.{leaves_what_ran}
+use Rattle.desk_rows.proofs.Transactions.LostStores.{items_lost, tables_lost}
+use Rattle.desk_rows.proofs.Schema.MoreTables.{file_with_tables, grows}
+use Rattle.desk_rows.proofs.Transactions.Turns.{run_then}
 use Rattle.desk_rows.proofs.transaction.write_with_tables.Goals as goal
 
 pub returns-clause-commits : goal.returns-clause-commits

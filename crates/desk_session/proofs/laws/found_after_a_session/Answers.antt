@@ -1,5 +1,5 @@
 use Rattle.sqlite.specs.Held.{state}
-use Rattle.desk_rows.proofs.Schemas.{shows_committed}
+use Rattle.desk_rows.proofs.Schema.Schemas.{shows_committed}
 use Rattle.desk_session.proofs.FoundAgain.{is_found}
 use Rattle.desk_session.proofs.laws.found_after_a_session.Goals as goal
 

@@ -8,17 +8,17 @@ loop-found-init g c = rw c.new-reader.ensures (IsServing-none c.args.book g.R.So
 
 pub returns-in-Ok-None-clause-served : goal.returns-in-Ok-None-clause-served
 returns-in-Ok-None-clause-served g c =
-    Serves-done _ _ _ _ _ _ c.read.new.self.line c.loop-found.invariant (rw (c.in-Ok-None.is ∙ ap Ok c.in-Ok-None.field-0-is) at c.read.ensures)
+    Serves-done _ _ _ _ _ _ c.loop-found.invariant (rw (c.in-Ok-None.is ∙ ap Ok c.in-Ok-None.field-0-is) at c.read.ensures)
 
 pub returns-in-Err-clause-served : goal.returns-in-Err-clause-served
 returns-in-Err-clause-served g c =
-    Serves-input _ _ _ _ _ _ c.read.new.self.line c.loop-found.invariant c.in-Err.field-0 (rw c.in-Err.is at c.read.ensures)
+    Serves-input _ _ _ _ _ _ c.loop-found.invariant c.in-Err.field-0 (rw c.in-Err.is at c.read.ensures)
 
 pub returns-then-is_lost-clause-served : goal.returns-then-is_lost-clause-served
 returns-then-is_lost-clause-served g c =
     let read = rw (c.in-Ok-Some.is ∙ ap Ok c.in-Ok-Some.field-0-is) at c.read.ensures in
     let took = c.answer_found-answer.ensures.taken read.bytes read.found.1 in
-    Serves-lost _ _ _ _ _ _ c.read.new.self.line c.loop-found.invariant
+    Serves-lost _ _ _ _ _ _ c.loop-found.invariant
     _ _ _ _ _ _ _ read took c.reply-sent.ensures (c.is_lost.ensures.0 c.if-is_lost.true)
 
 pub returns-then-is_err-clause-served : goal.returns-then-is_err-clause-served
@@ -26,14 +26,14 @@ returns-then-is_err-clause-served g c =
     let read = rw (c.in-Ok-Some.is ∙ ap Ok c.in-Ok-Some.field-0-is) at c.read.ensures in
     let took = c.answer_found-answer.ensures.taken read.bytes read.found.1 in
     let broken : is_ok c.reply-sent.result ≡ false = c.is_err.ensures.negation ∙ ap not c.if-is_err.true in
-    Serves-output _ _ _ _ _ _ c.read.new.self.line c.loop-found.invariant
+    Serves-output _ _ _ _ _ _ c.loop-found.invariant
     _ _ _ _ _ _ _ read took c.reply-sent.ensures (λ lost. both_ways _ c.if-is_lost.false (c.is_lost.ensures.1 lost)) broken
 
 pub loop-found-smaller : goal.loop-found-smaller
 loop-found-smaller g c =
     let read = rw (c.in-Ok-Some.is ∙ ap Ok c.in-Ok-Some.field-0-is) at c.read.ensures in
     let took = c.answer_found-answer.ensures.taken read.bytes read.found.1 in
-    fewer-left _ _ _ _ _ _ c.read.new.self.line c.loop-found.invariant
+    fewer-left _ _ _ _ _ _ c.loop-found.invariant
     _ _ _ _ _ _ _ read took c.reply-sent.ensures
 
 pub loop-found-preserved : goal.loop-found-preserved
@@ -41,7 +41,7 @@ loop-found-preserved g c =
     let read = rw (c.in-Ok-Some.is ∙ ap Ok c.in-Ok-Some.field-0-is) at c.read.ensures in
     let took = c.answer_found-answer.ensures.taken read.bytes read.found.1 in
     let whole : is_ok c.reply-sent.result ≡ true = c.is_err.ensures.negation ∙ ap not c.if-is_err.false in
-    IsServing-more _ _ _ _ _ _ c.read.new.self.line c.loop-found.invariant
+    IsServing-more _ _ _ _ _ _ c.loop-found.invariant
     _ _ _ _ _ _ _ read took c.reply-sent.ensures (λ lost. both_ways _ c.if-is_lost.false (c.is_lost.ensures.1 lost)) whole
 
 pub returns-then-is_lost-clause-lost : goal.returns-then-is_lost-clause-lost

@@ -7,7 +7,7 @@ use Rattle.desk_rows.specs.Failing.{FailsToChange, of_items}
 use Rattle.desk_rows.specs.Turns.{with_transaction}
 use Rattle.desk_rows.specs.Making.{IsFileWithTables, WritesWithTables}
 use Rattle.desk_rows.specs.Tables.{which}
-use Rattle.desk_rows.proofs.LentPuts.{all_lent}
+use Rattle.desk_rows.proofs.RowPuts.LentPuts.{all_lent}
 use Rattle.desk_store.proofs.Filled.{are_written, holds_gained, shows_gained}
 use Rattle.desk_store.proofs.fill.fill.Goals as goal
 

@@ -1,6 +1,6 @@
 use Rattle.std.proofs.Common.{inl, inr}
 use Rattle.sqlite.specs.Held.{state}
-use Rattle.desk_rows.proofs.Schemas.{shows_committed}
+use Rattle.desk_rows.proofs.Schema.Schemas.{shows_committed}
 use Rattle.desk_store.proofs.laws.kept_then_opened.Goals as goal
 
 pub returns-clause-book : goal.returns-clause-book

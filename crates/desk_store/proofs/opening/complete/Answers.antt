@@ -1,7 +1,7 @@
 use Rattle.std.proofs.lemmas.Result.{IfErr-weaker}
 use Rattle.sqlite.specs.Held.{state}
 use Rattle.desk_store.specs.Opened.{which_new}
-use Rattle.desk_rows.proofs.Both.{on_ok_both}
+use Rattle.desk_rows.proofs.Transactions.Both.{on_ok_both}
 use Rattle.desk_store.proofs.GainedTables.{gains_none, leaves_gained, left_whole}
 use Rattle.desk_store.proofs.opening.complete.Goals as goal
 

@@ -6,8 +6,8 @@ use Rattle.desk_rows.specs.Failing.{FailsToPut, of_items}
 use Rattle.desk_rows.specs.Puts.{IsFileWith, Writes, statement}
 use Rattle.desk_rows.specs.Turns.{AreRun, IsLeftBy, with_transaction}
 use Rattle.desk_store.proofs.BookKeeps.{holds_next, is_kept}
-use Rattle.desk_rows.proofs.LentPuts.{all_lent}
-use Rattle.desk_rows.proofs.Both.{on_done, on_given_up}
+use Rattle.desk_rows.proofs.RowPuts.LentPuts.{all_lent}
+use Rattle.desk_rows.proofs.Transactions.Both.{on_done, on_given_up}
 use Rattle.desk_store.proofs.store.put_change.Goals as goal
 
 pub returns-clause-kept : goal.returns-clause-kept
@@ -34,11 +34,11 @@ returns-clause-survives g c =
 
 pub returns-clause-ran : goal.returns-clause-ran
 returns-clause-ran g c clean =
-    let new = state g.S.Store c.write.new.conn in
-    let ran = c.write.ensures.ran clean in
-    on_ok_both c.write.result _ _ _ (λ turns _.
-    subst (λ (xs : List RowPut). AreRun g.S.Store (map statement xs) c.args.conn.now new)
-    (all_lent c.puts.result turns.0 turns.1 ∙ c.puts.ensures.these) turns.2) ran ran
+    on_done c.write.result _ _ _ (λ done.
+    let ran = done.shown in
+    subst (λ (xs : List RowPut). AreRun g.S.Store (map statement xs) c.args.conn.now (state g.S.Store c.write.new.conn))
+    (all_lent c.puts.result ran.0 ran.1 ∙ c.puts.ensures.these) ran.2.1)
+    (c.write.ensures.commits clean)
 
 pub returns-clause-left : goal.returns-clause-left
 returns-clause-left g c =

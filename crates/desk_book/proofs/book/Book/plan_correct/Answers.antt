@@ -66,7 +66,7 @@ returns-in_err-check_entry-clause-refused c =
 
 pub entry_effect-requires : goal.entry_effect-requires
 entry_effect-requires c =
-    let at = goal.at.entered-requires c in
+    let at = goal.at.entry_effect-requires c in
     let many = many_is at.After-len (span_is at.In_ok-check_span) in
     let printed = printed_is at.After-len-2 (put_is at.After-len) in
     subst (TakesEntry c.args.self.now c.in_ok-paragraph.paragraph.now) (many ∙ sym (ap length printed)) c.in_ok-check_entry.ensures.takes

@@ -5,7 +5,7 @@ use Rattle.desk_book.specs.KeptPrints.{with_print_changed}
 use Rattle.desk_book.specs.Room.{Suffices}
 use Rattle.desk_book.proofs.Kept.Arranging.{with_kept_change-missing}
 use Rattle.desk_model.proofs.Commands.Turns.{same_some}
-use Rattle.desk_book.proofs.Judged.ReadParagraphs.{index_below, read_paragraph, written_paragraph}
+use Rattle.desk_book.proofs.Rebuilding.ReadParagraphs.{index_below, read_paragraph, written_paragraph}
 use Rattle.desk_book.proofs.paragraphs.Paragraphs.change_print.Goals as goal
 
 pub returns-in_default : goal.returns-in_default

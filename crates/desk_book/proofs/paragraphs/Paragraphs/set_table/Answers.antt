@@ -2,7 +2,7 @@ use Rattle.std.proofs.Common.{sym, ap, arith}
 use Rattle.desk_book.specs.declared.paragraphs.Paragraphs.TheInside.{Inside}
 use Rattle.desk_book.specs.declared.paragraphs.Paragraph.{Paragraph as KeptParagraph}
 use Rattle.desk_book.proofs.Kept.Arranging.{with_kept_change-missing}
-use Rattle.desk_book.proofs.Judged.ReadParagraphs.{index_below, written_paragraph}
+use Rattle.desk_book.proofs.Rebuilding.ReadParagraphs.{index_below, written_paragraph}
 use Rattle.desk_book.proofs.paragraphs.Paragraphs.set_table.Goals as goal
 
 pub returns-in_default : goal.returns-in_default

@@ -16,20 +16,20 @@ pub push-requires-clause-room : goal.push-requires-clause-room
 push-requires-clause-room c =
     subst (λ n. Suffices n c.args.room) (length-shown c.self.inside.items c.self.inside.order c.args.self c.self.invariant c.self.view_is) c.requires.room
 
-pub inserted-order-requires-clause-few : goal.inserted-order-requires-clause-few
-inserted-order-requires-clause-few c =
+pub with_item_at-order-requires-clause-few : goal.with_item_at-order-requires-clause-few
+with_item_at-order-requires-clause-few c =
     let count = length-shown c.self.inside.items c.self.inside.order c.args.self c.self.invariant c.self.view_is in
     let ordered = length-order (length c.self.inside.items) c.self.inside.order c.self.invariant in
     omega (arith, count, ordered, c.requires.few)
 
-pub inserted-order-requires-clause-room : goal.inserted-order-requires-clause-room
-inserted-order-requires-clause-room c =
+pub with_item_at-order-requires-clause-room : goal.with_item_at-order-requires-clause-room
+with_item_at-order-requires-clause-room c =
     let count = length-shown c.self.inside.items c.self.inside.order c.args.self c.self.invariant c.self.view_is in
     let ordered = length-order (length c.self.inside.items) c.self.inside.order c.self.invariant in
     subst (λ n. Suffices n c.args.order_room) (count ∙ sym ordered) c.requires.order_room
 
-pub inserted-order-requires-clause-place : goal.inserted-order-requires-clause-place
-inserted-order-requires-clause-place c =
+pub with_item_at-order-requires-clause-place : goal.with_item_at-order-requires-clause-place
+with_item_at-order-requires-clause-place c =
     let count = length-shown c.self.inside.items c.self.inside.order c.args.self c.self.invariant c.self.view_is in
     let ordered = length-order (length c.self.inside.items) c.self.inside.order c.self.invariant in
     omega (arith, count, ordered, c.requires.place)

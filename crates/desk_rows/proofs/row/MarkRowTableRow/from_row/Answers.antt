@@ -2,7 +2,7 @@ use Rattle.std.proofs.Common.{arith, refl, rules}
 use Rattle.std.proofs.lemmas.Str.{IsUtf8-string_bytes}
 use Rattle.desk_rows.specs.TableQuery.{query_of}
 use Rattle.desk_rows.specs.Descriptions.{marks}
-use Rattle.desk_rows.proofs.Beginnings.{int_there}
+use Rattle.desk_rows.proofs.TableReads.Beginnings.{int_there}
 use Rattle.desk_rows.proofs.row.MarkRowTableRow.from_row.Goals as goal
 
 pub returns-clause-utf8 : goal.returns-clause-utf8

@@ -3,7 +3,7 @@ use Rattle.std.proofs.lemmas.Result.{err_from_is_err_and}
 use Rattle.std.proofs.lemmas.Str.{IsUtf8-string_bytes}
 use Rattle.desk_rows.specs.TableQuery.{query_of}
 use Rattle.desk_rows.specs.Descriptions.{paras}
-use Rattle.desk_rows.proofs.Beginnings.{int_there, kind_there, value_told}
+use Rattle.desk_rows.proofs.TableReads.Beginnings.{int_there, kind_there, value_told}
 use Rattle.desk_rows.proofs.row.ParaRowTableRow.from_row.Goals as goal
 
 pub returns-clause-utf8 : goal.returns-clause-utf8

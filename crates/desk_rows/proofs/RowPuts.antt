@@ -1,0 +1,8 @@
+pub mod ByName
+pub mod Changing
+pub mod Distinct
+pub mod LentPuts
+pub mod Named
+pub mod PutTables
+pub mod TabNames
+pub mod Utf8Puts

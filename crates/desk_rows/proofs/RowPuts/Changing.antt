@@ -1,0 +1,148 @@
+-- What a statement that puts rows does to the contents.
+use Rattle.std.proofs.Common.{◌≡◌, ◌++◌, ◌≢◌, ◌⊎◌, inl, inr, ℕ, true, false, List, [], ◌∷◌, Ok, Err, IfErr, OnOk, refl, sym, subst, ◌∙◌, true≢false, bytes_eq, Result}
+use Rattle.std.specs.List.{AllByRecursion}
+use Rattle.sqlite_trees.specs.Tree.{Trees}
+use Rattle.sqlite_value.specs.Order.{Row}
+use Rattle.sqlite_rules.proofs.ListLemmas.{all_has}
+use Rattle.sqlite_schema.specs.declared.schema.Table.{Table}
+use Rattle.sqlite_catalog.specs.Listing.{IsSound}
+use Rattle.sqlite.specs.declared.error.Error.{Error}
+use Rattle.sqlite.specs.Effect.{Database}
+use Rattle.sqlite.specs.State.{State, ExecutesInside}
+use Rattle.sqlite.proofs.InsideLemmas.{inside_keeps}
+use Rattle.desk_parts.specs.declared.rows.BookRow.{BookRow}
+use Rattle.desk_parts.specs.Puts.{PutBook, RowPut}
+use Rattle.sql_tables.specs.Rows.{HaveRowids, Lists, columns_at}
+use Rattle.sql_tables.proofs.Declaring.{has_table}
+use Rattle.sql_tables.proofs.PutLists.{apart, differ}
+use Rattle.sql_tables.proofs.Running.{Wrote}
+use Rattle.sql_tables.proofs.Writing.{Spares}
+use Rattle.desk_rows.specs.Descriptions.{Which, books, tabs, paras, corrs, marks, caches, named_corrs, description_of, table_of}
+use Rattle.desk_rows.specs.Layout.{Layout, AreDeclared, IsOther}
+use Rattle.desk_rows.specs.Contents.{Contents, Holds, with_rows}
+use Rattle.desk_rows.specs.Puts.{HasThem, IsPut, PutsAll, PutsRow, RunsTo, change_of, put_into, puts_into, row_put, statement, table_put}
+use Rattle.desk_rows.specs.Turns.{FailsWith, Ran}
+use Rattle.desk_rows.specs.Rows.{RowOf, columns_of, set_at}
+use Rattle.desk_rows.specs.States.{IsUnder}
+use Rattle.desk_rows.proofs.RowPuts.PutTables.{does}
+
+-- ---- each table
+
+pub same : (v w : Which) → (v ≡ w) ⊎ (bytes_eq (description_of v).name (description_of w).name ≡ false)
+same books books = inl refl
+same tabs tabs = inl refl
+same paras paras = inl refl
+same corrs corrs = inl refl
+same marks marks = inl refl
+same caches caches = inl refl
+same named_corrs named_corrs = inl refl
+same v w = inr refl
+
+pub set_own : (w : Which) (f : List (RowOf w) → List (RowOf w)) (rows : (v : Which) → List (RowOf v)) → set_at w f rows w ≡ f (rows w)
+set_own books f rows = refl
+set_own tabs f rows = refl
+set_own paras f rows = refl
+set_own corrs f rows = refl
+set_own marks f rows = refl
+set_own caches f rows = refl
+set_own named_corrs f rows = refl
+
+pub set_other : (w v : Which) (f : List (RowOf w) → List (RowOf w)) (rows : (v : Which) → List (RowOf v)) → bytes_eq (description_of v).name (description_of w).name ≡ false → set_at w f rows v ≡ rows v
+set_other books books f rows other = absurd (true≢false other)
+set_other tabs tabs f rows other = absurd (true≢false other)
+set_other paras paras f rows other = absurd (true≢false other)
+set_other corrs corrs f rows other = absurd (true≢false other)
+set_other marks marks f rows other = absurd (true≢false other)
+set_other caches caches f rows other = absurd (true≢false other)
+set_other named_corrs named_corrs f rows other = absurd (true≢false other)
+set_other w v f rows other = refl
+
+-- ---- all tables
+
+-- the rows of other tables stay
+others_stay : (l : Layout) (w : Which) → l.has w ≡ true → (c : Contents) (old new : Trees) (tables : List Table)
+    → AllByRecursion (λ t. IsOther l t.tree → old t.tree ≡ c.others t.tree) tables → AllByRecursion (λ t. t.tree ≢ l.tree w → new t.tree ≡ old t.tree) tables
+    → AllByRecursion (λ t. IsOther l t.tree → new t.tree ≡ c.others t.tree) tables
+others_stay l w there c old new [] had spared = tt
+others_stay l w there c old new (t ∷ ts) had spared = (λ other. spared.0 (other w there) ∙ had.0 other, others_stay l w there c old new ts had.1 spared.1)
+
+module _ (l : Layout) (c : Contents) (d : AreDeclared l) (old new : Trees) (h : Holds l c old) where
+  -- the rows of one table change, and others stay
+  pub holds : (w : Which) (f : List (RowOf w) → List (RowOf w)) → l.has w ≡ true → Spares l.schema (l.tree w) old new → Lists (columns_of w) (columns_at (description_of w).own) (f (c.rows w)) (new (l.tree w)) → ((description_of w).is_changed ≡ true → HaveRowids (new (l.tree w)))
+      → Holds l (with_rows w f c) new
+  holds w f there spares lists ids =
+      let stays = λ (v : Which) (is : l.has v ≡ true) (other : bytes_eq (description_of v).name (description_of w).name ≡ false).
+      all_has _ l.schema.tables (table_of v (l.tree v)) spares.tables (has_table l.schema (table_of v (l.tree v)) (d v is))
+      (apart l.schema (table_of v (l.tree v)) (table_of w (l.tree w)) (d v is) (d w there) (differ (description_of v).name (description_of w).name other)) in record {
+        tables = λ v has. elim (same v w) [
+          | inl is ↦ subst (λ (v : Which). Lists (columns_of v) (columns_at (description_of v).own) (set_at w f c.rows v) (new (l.tree v))) (sym is) (rw (set_own w f c.rows) lists)
+          | inr other ↦ rw (set_other w v f c.rows other, stays v has other) (h.tables v has)
+        ];
+        ids = λ v has. elim (same v w) [
+          | inl is ↦ subst (λ (v : Which). (description_of v).is_changed ≡ true → HaveRowids (new (l.tree v))) (sym is) ids
+          | inr other ↦ rw (stays v has other) (h.ids v has)
+        ];
+        others = others_stay l w there c old new l.schema.tables h.others spares.tables;
+        aside = λ t other none. spares.aside t (other w there) none ∙ h.aside t other none;
+      }
+
+goes_on : (old new : State) (l : Layout) (c next : Contents) (committed : _) → IsUnder committed l c old → Wrote old new → Holds l next new.now.trees → IsUnder committed l next new
+goes_on old new l c next committed was wrote all = record {
+  shows = record {
+    schema = wrote.schema ∙ was.shows.schema;
+    is = record { declared = was.shows.is.declared; sound = subst (λ s. IsSound s new.now.trees) (wrote.schema ∙ was.shows.schema) wrote.sound; holds = all };
+  };
+  inside = wrote.shown.mode ∙ was.inside;
+  over = (rw was.inside at wrote.shown.committed_is) ∙ was.over;
+}
+
+module _ (it : RowPut) (old new : State) where
+  put_ok : (v : Unit {0}) (count : ℕ) → ExecutesInside 0 (statement it).text (statement it).params old new (Ok count) → IsPut {V = Unit {0}} (Ok v) it old new
+  put_ok v count h = record {
+    put = λ committed l c there was.
+        let w = table_put it in
+        let file = was.shows.is in
+        let did = does it l.schema (l.tree w) (file.declared w there) old new count (c.rows w) was.shows.schema file.sound (file.holds.ids w there) (file.holds.tables w there) h.0 in
+        goes_on old new l c (put_into c it) committed was did.wrote (holds l c file.declared old.now.trees new.now.trees file.holds w (change_of it) there did.spares did.lists did.ids);
+    ran = (count, h);
+    is_open = h.1.was_open;
+    inside = h.1.mode;
+    kept = inside_keeps old new 0 false (statement it).text (statement it).params (Ok count) h;
+    told = λ was. tt;
+  }
+
+  -- its statement ran, or failed
+  pub put_ran : (r : Result (Unit {0}) Error) → RunsTo r (statement it).text (statement it).params old new → IsPut r it old new
+  put_ran (Ok v) ran = put_ok v ran.0 ran.1
+  put_ran (Err e) ran = record { put = λ committed l c there was. tt; ran = tt; is_open = tt; inside = tt; kept = ran.0; told = λ was. inl (ran.1 was) }
+
+  -- it ran, or failed, with what are its parameters
+  pub put_as : (r : Result (Unit {0}) Error) (params : Row) → RunsTo r (statement it).text params old new → params ≡ (statement it).params → IsPut r it old new
+  put_as r params ran same = put_ran r (subst (λ p. RunsTo r (statement it).text p old new) same ran)
+
+module _ (x : BookRow) (old new : State) where
+  pub puts_row : (r : Result (Unit {0}) Error) → IsPut r (PutBook x) old new → OnOk r (PutsRow books x old new × Ran (row_put books x) old new)
+  puts_row (Ok v) it = (it.put, it.ran)
+  puts_row (Err e) it = tt
+
+  -- it allocates nothing of its own
+  pub row_told : (r : Result (Unit {0}) Error) → IsPut r (PutBook x) old new → old.in_transaction ≡ true → IfErr r (FailsWith (row_put books x) old new)
+  row_told (Ok v) it was = tt
+  row_told (Err e) it was = elim (it.told was) [ inl failed ↦ failed | inr none ↦ absurd none.0 ]
+
+-- ---- puts in turn
+
+with_one_more : (xs : List RowPut) (x : RowPut) (c : Contents) → puts_into (xs ++ x ∷ []) c ≡ put_into (puts_into xs c) x
+with_one_more [] x c = refl
+with_one_more (y ∷ ys) x c = with_one_more ys x (put_into c y)
+
+have_one_more : (l : Layout) (xs : List RowPut) (x : RowPut) → HasThem l (xs ++ x ∷ []) → HasThem l xs × (l.has (table_put x) ≡ true)
+have_one_more l [] x all = (tt, all.0)
+have_one_more l (y ∷ ys) x all = let more = have_one_more l ys x all.1 in ((all.0, more.0), more.1)
+
+-- one is put after others
+pub puts_more : (xs : List RowPut) (x : RowPut) (old mid new : State) → PutsAll xs old mid
+    → ((committed : Database) (l : Layout) (c : Contents) → l.has (table_put x) ≡ true → IsUnder committed l c mid → IsUnder committed l (put_into c x) new) → PutsAll (xs ++ x ∷ []) old new
+puts_more xs x old mid new first last committed l c there was =
+    let have = have_one_more l xs x there in
+    subst (λ d. IsUnder committed l d new) (sym (with_one_more xs x c)) (last committed l (puts_into xs c) have.1 (first committed l c have.0 was))

@@ -1,0 +1,5 @@
+pub mod Creates
+pub mod Kept
+pub mod MadeTables
+pub mod MoreTables
+pub mod Schemas

@@ -1,0 +1,8 @@
+pub mod Answering
+pub mod Asking
+pub mod Beginnings
+pub mod FileTexts
+pub mod OneList
+pub mod PlainReads
+pub mod WholeFile
+pub mod WholeReads

@@ -1,0 +1,136 @@
+-- What is read of any of the tables.
+use Rattle.std.proofs.Common.{◌≡◌, drop, Bool, IsTrue, ℕ, true, List, [], ◌∷◌, map, None, refl, ap, ◌∙◌, is_lt, IsPermutation}
+use Rattle.std.specs.List.{AllByRecursion}
+use Rattle.std.specs.List.Sorted.{IsSortedBy}
+use Rattle.std.specs.Ordering.{ordering_then}
+use Rattle.std.specs.declared.cmp.Ordering.{Ordering}
+use Rattle.std.specs.declared.cmp.Ordering.TheVariants.{Equal}
+use Rattle.sqlite_value.specs.declared.keys.Collation.TheVariants.{Binary}
+use Rattle.sqlite_value.specs.Keys.{ascending}
+use Rattle.sqlite_value.specs.Order.{Row, column, value_cmp}
+use Rattle.sqlite_schema.specs.declared.schema.Schema.{Schema}
+use Rattle.sqlite_trees.specs.Tree.{rowid}
+use Rattle.sqlite_trees.specs.View.{is_int}
+use Rattle.sqlite_sql.specs.Term.{col, eval_all}
+use Rattle.sqlite_sql.specs.Query.{output_cmp}
+use Rattle.sqlite_resolve.specs.Compile.{first}
+use Rattle.sqlite_catalog.specs.Listing.{IsSound}
+use Rattle.sqlite.specs.declared.error.Error.{Error}
+use Rattle.sqlite.specs.State.{State, Shown, FailsToQuery}
+use Rattle.sql_tables.specs.Rows.{Lists}
+use Rattle.sql_tables.specs.Kinds.{IsUtf8Text, HasKinds}
+use Rattle.sql_tables.specs.Tables.{IsDeclared}
+use Rattle.sql_tables.proofs.Faults.{IsStoreFailure}
+use Rattle.sql_tables.proofs.OneTable.{query_on}
+use Rattle.sql_tables.proofs.Orders.{Rises}
+use Rattle.sql_tables.proofs.Parsing.{parsed}
+use Rattle.sql_tables.proofs.Quiet.{reads}
+use Rattle.sql_tables.proofs.RowKinds.{IsKept, integer_of, numbered_kinds, hidden_kinds, all_texts, all_both, all_shown}
+use Rattle.sql_tables.proofs.WholeTables.{rows_are, fails_by_store}
+use Rattle.sql_tables.specs.Rows.{columns_at}
+use Rattle.desk_rows.specs.TableQuery.{AreReadable, given, query_of}
+use Rattle.desk_rows.specs.Descriptions.{Which, books, tabs, paras, corrs, marks, caches, named_corrs, description_of, table_of, shows_rowid, has_texts}
+use Rattle.desk_rows.proofs.TableReads.PlainReads.{is_read, stored_at}
+
+-- ---- each table
+
+keys_are : (w : Which) (r : Row) → eval_all (map (λ k. col 1 (stored_at w k)) (description_of w).sorted) ([] ∷ r ∷ []) ≡ columns_at (description_of w).sorted (columns_at (description_of w).shown r)
+keys_are books r = refl
+keys_are tabs r = refl
+keys_are paras r = refl
+keys_are corrs r = refl
+keys_are marks r = refl
+keys_are caches r = refl
+keys_are named_corrs r = refl
+
+given_again : (w : Which) (r : Row) → given w (columns_at (description_of w).shown r) ≡ columns_at (description_of w).shown r
+given_again books r = refl
+given_again tabs r = refl
+given_again paras r = refl
+given_again corrs r = refl
+given_again marks r = refl
+given_again caches r = refl
+given_again named_corrs r = refl
+
+-- what a row needs to be read
+abbrev IsReadable : Which → Row → Type 0
+IsReadable w row = (shows_rowid w ≡ true → IsTrue (is_int (rowid row))) × (has_texts w ≡ true → AllByRecursion IsUtf8Text (drop 1 row))
+
+row_kinds : (w : Which) (tree : ℕ) (row : Row) → IsKept (table_of w tree) row → IsReadable w row → HasKinds (query_of w).kinds (columns_at (description_of w).shown row)
+row_kinds books tree row kept is = (integer_of (rowid row) (is.0 refl), numbered_kinds (table_of books tree) row _ _ kept refl refl refl ((λ text. absurd (cc)), ((λ text. absurd (cc)), tt)))
+row_kinds tabs tree row kept is = (integer_of (rowid row) (is.0 refl), hidden_kinds (table_of tabs tree) row kept refl refl (all_texts _ (description_of tabs).columns (is.1 refl)))
+row_kinds paras tree row kept is = (integer_of (rowid row) (is.0 refl), numbered_kinds (table_of paras tree) row _ _ kept refl refl refl (all_texts _ (drop 1 (description_of paras).columns) (is.1 refl)))
+row_kinds corrs tree row kept is = hidden_kinds (table_of corrs tree) row kept refl refl (all_texts _ (description_of corrs).columns (is.1 refl))
+row_kinds marks tree row kept is = (integer_of (rowid row) (is.0 refl), numbered_kinds (table_of marks tree) row _ _ kept refl refl refl (all_texts _ (drop 1 (description_of marks).columns) (is.1 refl)))
+row_kinds caches tree row kept is = (integer_of (rowid row) (is.0 refl), numbered_kinds (table_of caches tree) row _ _ kept refl refl refl ((λ text. absurd (cc)), tt))
+row_kinds named_corrs tree row kept is = hidden_kinds (table_of named_corrs tree) row kept refl refl (all_texts _ (description_of named_corrs).columns (is.1 refl))
+
+-- by the columns at these places in turn
+abbrev places_cmp : List ℕ → Row → Row → Ordering
+places_cmp [] a b = Equal
+places_cmp (k ∷ ks) a b = ordering_then (value_cmp (column a k) (column b k)) (places_cmp ks a b)
+
+-- in the order of the query
+abbrev pub rows_cmp : Which → Row → Row → Ordering
+rows_cmp w = places_cmp (description_of w).sorted
+
+-- how the query compares two rows
+abbrev cmp : Which → ℕ → Row → Row → Ordering
+cmp w tree a b =
+    output_cmp (query_on tree (record { tests = []; project = map (col 1) (description_of w).shown; order = map (λ t. (t, ascending Binary)) (map (λ k. col 1 (stored_at w k)) (description_of w).sorted) }))
+    (columns_at (description_of w).sorted a, a) (columns_at (description_of w).sorted b, b)
+
+cmp_is : (w : Which) (tree : ℕ) (a b : Row) → cmp w tree a b ≡ rows_cmp w a b
+cmp_is books tree a b = refl
+cmp_is tabs tree a b = refl
+cmp_is paras tree a b = refl
+cmp_is corrs tree a b = refl
+cmp_is marks tree a b = refl
+cmp_is caches tree a b = refl
+cmp_is named_corrs tree a b = refl
+
+cmp_given : (w : Which) (tree : ℕ) (a b : Row) → is_lt (cmp w tree a b) ≡ is_lt (cmp w tree (given w a) (given w b))
+cmp_given books tree a b = refl
+cmp_given tabs tree a b = refl
+cmp_given paras tree a b = refl
+cmp_given corrs tree a b = refl
+cmp_given marks tree a b = refl
+cmp_given caches tree a b = refl
+cmp_given named_corrs tree a b = refl
+
+-- ---- all tables
+
+all_if : (b : Bool) (P : Row → Type 0) (rows : List Row) → (b ≡ true → AllByRecursion P rows) → AllByRecursion (λ r. b ≡ true → P r) rows
+all_if b P [] all = tt
+all_if b P (r ∷ rows) all = ((λ is. (all is).0), all_if b P rows (λ is. (all is).1))
+
+shows_are : (ps : List ℕ) (r : Row) → eval_all (map (col 1) ps) ([] ∷ r ∷ []) ≡ columns_at ps r
+shows_are [] r = refl
+shows_are (p ∷ ps) r = ap (λ vs. column r p ∷ vs) (shows_are ps r)
+
+pub reads_only : (w : Which) → reads (first (description_of w).read) ≡ true
+reads_only w = (is_read w).reads_only
+
+module _ (w : Which) (schema : Schema) (tree : ℕ) (d : IsDeclared schema (table_of w tree)) (old new : State) (has : old.now.schema ≡ schema) (sound : IsSound schema old.now.trees) where
+  found : (rows : List Row) → Shown (description_of w).read [] old new rows → IsPermutation (map (columns_at (description_of w).shown) (old.now.trees tree)) rows × Rises (λ a b. is_lt (cmp w tree a b)) rows
+  unfolding is_read
+  found rows h = rows_are (description_of w).name (description_of w).columns (description_of w).key (description_of w).primary (description_of w).uniques (description_of w).orders (description_of w).read (is_read w) schema tree d old new has sound
+      (columns_at (description_of w).shown) (columns_at (description_of w).sorted) (shows_are (description_of w).shown) (keys_are w) rows h
+
+  -- what is read are the rows of the tree, in order
+  pub table_read : {X : Type 0} (written : X → Row) (order : X → X → Ordering) → ((a b : X) → rows_cmp w (written a) (written b) ≡ order a b)
+      → (rows : List Row) (xs : List X) → Shown (description_of w).read [] old new rows → map (given w) rows ≡ map written xs → Lists written (columns_at (description_of w).shown) xs (old.now.trees tree) × IsSortedBy (λ a b. is_lt (order a b)) xs
+  unfolding is_read
+  table_read written order ordered rows xs h is =
+      let all = found rows h in
+      parsed (columns_at (description_of w).shown) (given w) written (given_again w) (λ a b. is_lt (cmp w tree a b)) (cmp_given w tree) (λ a b. is_lt (order a b)) (λ a b. ap is_lt (cmp_is w tree (written a) (written b) ∙ ordered a b)) (old.now.trees tree) rows xs all.0 all.1 is
+
+  -- the values that are read have the kinds of their columns
+  pub table_kinds : (rows : List Row) → Shown (description_of w).read [] old new rows → AreReadable w (old.now.trees tree) → AllByRecursion (HasKinds (query_of w).kinds) rows
+  table_kinds rows h readable =
+      all_shown schema (table_of w tree) d old.now.trees sound (IsReadable w) (columns_at (description_of w).shown) (query_of w).kinds (row_kinds w tree) rows
+      (all_both _ _ _ (all_if (shows_rowid w) _ _ readable.ids) (all_if (has_texts w) _ _ readable.texts)) (found rows h).0
+
+  -- only the store makes the reading fail
+  pub table_fails : old.step_limit ≡ None → (e : Error) → FailsToQuery (description_of w).read [] old new e → IsStoreFailure e
+  table_fails = fails_by_store (description_of w).name (description_of w).columns (description_of w).key (description_of w).primary (description_of w).uniques (description_of w).orders (description_of w).read (is_read w) schema tree d old new has sound

@@ -1,0 +1,6 @@
+pub mod Both
+pub mod Committing
+pub mod Ending
+pub mod LostStores
+pub mod Reopening
+pub mod Turns
