@@ -2,6 +2,7 @@
 use Rattle.std.specs.Coded.{Coded, code_by, coded×, coded_option, coded_ℕ}
 use Rattle.std.specs.Prelude.{refl, ◌≡◌, ◌≢◌, ℕ, ◌+◌, ◌<◌, ◌≤◌, List, [], ◌∷◌, ◌++◌, length, map, Option, Some, None, IsSome, MatchOption}
 use Rattle.std.specs.List.{All, insert}
+use Rattle.std.specs.List.Sorted.{IsPermutation}
 use Rattle.louis_table.specs.Meaning.{Meaning}
 use Rattle.louis_table.specs.Table.{Means}
 use Rattle.louis_translate.specs.declared.choices.Choice.{Choice}
@@ -12,11 +13,11 @@ use Rattle.desk_book.specs.declared.change.Effect.TheVariants.{AddTable, Replace
 use Rattle.desk_book.specs.declared.change.PrintChange.{PrintChange}
 use Rattle.desk_command.specs.declared.command.Anchor.{Anchor}
 use Rattle.desk_command.specs.declared.command.Command.{Command}
-use Rattle.desk_command.specs.declared.command.Command.TheVariants.{Table, TypeIn, Retable, Move}
+use Rattle.desk_command.specs.declared.command.Command.TheVariants.{TypeIn}
 use Rattle.desk_book.specs.declared.paragraphs.Paragraph.{Paragraph as KeptParagraph}
 use Rattle.desk_model.specs.Book.{Book, Paragraph, text_of, paragraph_of}
 use Rattle.desk_book.specs.ChangePuts.{effect_puts}
-use Rattle.desk_model.specs.Loans.{row_number}
+use Rattle.desk_model.specs.Loans.{GetsTable, Reorders, row_number}
 use Rattle.desk_book.specs.Histories.{HaveTaken, TookFrom, entry_kept}
 use Rattle.desk_book.specs.Kept.{mark_kept, new_cells, paragraph_kept}
 use Rattle.desk_model.specs.Limits.{most_entries, most_marks, most_paragraphs, most_print}
@@ -24,9 +25,10 @@ use Rattle.desk_model.specs.Marks.{mark_moved_by}
 use Rattle.desk_model.specs.ParagraphMarks.{marks_on}
 use Rattle.desk_parts.specs.Puts.{RowPut, SetVersion}
 use Rattle.desk_model.specs.Print.{print_of, with_entry}
+use Rattle.desk_model.specs.Named.{HasCharacters, number_of, table_given}
 use Rattle.desk_model.specs.Refusals.{IsAccepted}
 use Rattle.desk_book.specs.Room.{Suffices}
-use Rattle.desk_model.specs.Step.{HasCharacters, Makes, new_paragraph, next_id, next_mark, next_with_entry, next_with_marks, next_with_paragraphs, number_of, with_change, with_resolved}
+use Rattle.desk_model.specs.Step.{Makes, new_paragraph, next_id, next_mark, next_with_entry, next_with_marks, next_with_paragraphs, next_with_table, with_change, with_resolved}
 use Rattle.desk_model.specs.NormalForm.{normal_form}
 
 -- the cells are the braille of the print by this meaning
@@ -93,12 +95,27 @@ pub record AddsParagraph (book next : Book) (command : Command) (kept : KeptPara
   pub within : place ≤ length book.paragraphs
   pub order : insert (map (λ other. other.id) book.paragraphs) place (next_id book) ≡ map (λ other. other.id) next.paragraphs
 
+-- the command gives the table with this name this text, and changes nothing else
+abbrev pub GivesText : Book → Command → Book → (name text : List ℕ) → Type 0
+GivesText book command next name text = (table_given command ≡ Some (name, text)) × (next ≡ next_with_table book name text)
+
+-- the command gives the paragraph with this id the table with this name, and changes nothing else
+abbrev pub GivesTable : Book → Command → Book → ℕ → List ℕ → Type 0
+GivesTable book command next id table =
+    GetsTable command id table × (next ≡ next_with_paragraphs book (with_change id (λ p. record p { table = table }) book.paragraphs))
+
+-- the command puts a paragraph elsewhere: the next book has the same paragraphs, and changes in nothing but their order
+abbrev pub MovesParagraph : Book → Command → Book → Type 0
+MovesParagraph book command next =
+    Reorders command × IsPermutation book.paragraphs next.paragraphs × (next ≡ next_with_paragraphs book next.paragraphs)
+
 -- the effect makes the next book by the command, with room for all that it adds
 abbrev pub Does : Book → Command → Book → Effect → Type 0
 Does book command next (AddTable name table room) =
-    (command ≡ Table name table.text) × (text_of book name ≡ None) × (length book.tables < room) × Means table.text table.rules
+    GivesText book command next name table.text × (text_of book name ≡ None) × (length book.tables < room)
+    × Means table.text table.rules
 Does book command next (ReplaceTable name table cells) =
-    (command ≡ Table name table.text) × IsSome (text_of book name) × Means table.text table.rules
+    GivesText book command next name table.text × IsSome (text_of book name) × Means table.text table.rules
     × AreRenewed book name table.rules cells.items × (length cells.items ≤ length book.paragraphs)
 Does book command next (AddParagraph paragraph room order_room place) =
     AddsParagraph book next command paragraph room order_room place
@@ -110,9 +127,10 @@ Does book command next (ResolveMark id) = next ≡ next_with_marks book (with_re
 Does book command next (SetFlags id style begins struck) =
     next ≡ next_with_paragraphs book
     (with_change id (λ p. record p { style = style; begins_volume = begins; struck = struck }) book.paragraphs)
-Does book command next (ChangeTable id table cells) = (command ≡ Retable id table) × AreCellsByTable book id table cells
+Does book command next (ChangeTable id table cells) =
+    GivesTable book command next id table × AreCellsByTable book id table cells
 Does book command next (Reorder order) =
-    (id : ℕ) × (anchor : Anchor) × (command ≡ Move id anchor) × (order ≡ map (λ other. other.id) next.paragraphs)
+    MovesParagraph book command next × (order ≡ map (λ other. other.id) next.paragraphs)
 
 -- some accepted command makes the next book of this one, at the version given, by the effect
 pub record IsEffect (book : Book) (version : ℕ) (effect : Effect) (next : Book) : Type 0 where

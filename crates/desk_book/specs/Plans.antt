@@ -15,9 +15,10 @@ use Rattle.desk_model.specs.Book.{Book, Paragraph, paragraph_of, text_of}
 use Rattle.desk_book.specs.Changes.{AreCellsOf, Does}
 use Rattle.desk_model.specs.Judging.{MayLackMemory}
 use Rattle.desk_book.specs.Kept.{paragraph_kept}
+use Rattle.desk_model.specs.Named.{HasCharacters}
 use Rattle.desk_model.specs.Print.{print_of}
 use Rattle.desk_model.specs.Refusals.{DefinesUser, IsAccepted, IsRefused}
-use Rattle.desk_model.specs.Step.{HasCharacters, Makes}
+use Rattle.desk_model.specs.Step.{Makes}
 use Rattle.desk_command.specs.Characters.{AreCharacters}
 
 -- the command is accepted, the effect is what it does, and what it puts into the book is of characters

@@ -1,7 +1,7 @@
 //! The paragraphs of a book.
 ghost use Rattle.desk_book.specs.Kept.{ids, in_order_of, paragraph_with_id, renewed_items, with_id, with_id_moved, with_kept_change, with_new_cells};
 ghost use Rattle.desk_book.specs.KeptPrints.{HasRoomFor, HasRoomForMark, with_mark, with_print_changed};
-ghost use Rattle.desk_model.specs.Refusals.{paragraph_before};
+ghost use Rattle.desk_model.specs.Named.{paragraph_before};
 ghost use Rattle.desk_book.specs.Room.{Suffices};
 ghost use Rattle.desk_model.specs.Step.{is_after};
 ghost use Rattle.std.specs.List.{Contains, filter, flat_map, insert, position, range_with_len};

@@ -5,8 +5,9 @@ use Rattle.desk_command.specs.declared.refusal.Refusal.{Refusal}
 use Rattle.desk_command.specs.declared.refusal.Refusal.TheVariants as refusals
 use Rattle.desk_model.specs.Book.{Book}
 use Rattle.desk_model.specs.Judging.{MayLackMemory}
+use Rattle.desk_model.specs.Named.{number_of}
 use Rattle.desk_model.specs.Refusals.{IsAccepted, IsRefused}
-use Rattle.desk_model.specs.Step.{Makes, number_of}
+use Rattle.desk_model.specs.Step.{Makes}
 use Rattle.desk_line.specs.declared.answer.Answer.{Answer}
 use Rattle.desk_line.specs.declared.answer.Answer.TheVariants as answers
 use Rattle.desk_line.specs.declared.fault.Fault.TheVariants.{Syntax}

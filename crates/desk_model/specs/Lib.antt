@@ -7,6 +7,7 @@ pub mod NormalForm
 pub mod Sound
 pub mod Translation
 pub mod Step
+pub mod Named
 pub mod Refusals
 pub mod Judging
 pub mod After

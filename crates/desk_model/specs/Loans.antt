@@ -1,12 +1,10 @@
 -- Which rows a change may lend: those of what its command changes, and no others.
-use Rattle.std.specs.Prelude.{◌≡◌, ◌⊎◌, ℕ, ℤ, ◌+◌, true, List, Some, encode_utf8_all, pos, min, length, option_map, unwrap_or}
+use Rattle.std.specs.Prelude.{◌≡◌, ◌⊎◌, ℕ, ℤ, ◌+◌, true, IsSome, List, Some, encode_utf8_all, pos, min, length, option_map, unwrap_or}
 use Rattle.std.specs.List.{All, Contains}
-use Rattle.desk_command.specs.declared.command.Anchor.{Anchor}
 use Rattle.desk_command.specs.declared.command.Command.{Command}
-use Rattle.desk_command.specs.declared.command.Command.TheVariants.{Table, Retable, Move}
 use Rattle.desk_model.specs.Book.{Book, Entry, Mark, Paragraph, paragraph_of}
 use Rattle.desk_parts.specs.Puts.{PutBook, PutCache, PutEntry, PutMark, PutPara, PutTab, RowPut, SetFlags, SetPlace, SetPrint, SetResolved, SetSpan, SetTable, SetVersion, with_puts}
-use Rattle.desk_model.specs.Refusals.{adds_paragraph}
+use Rattle.desk_model.specs.Named.{Retabled, adds_paragraph, paragraph_translated, place_given, table_given}
 use Rattle.desk_model.specs.Step.{next_id, next_mark, next_with_entry, next_with_marks, next_with_paragraphs, with_change, with_resolved}
 use Rattle.desk_parts.specs.declared.file_table.FileTable.TheVariants.{NamedCorr as NamedCorrTable}
 use Rattle.desk_parts.specs.FileRows.{FileRows, table_of}
@@ -38,10 +36,14 @@ GetsFlags book next id =
 abbrev pub GetsResolved : (book next : Book) → ℕ → Type 0
 GetsResolved book next id = next ≡ next_with_marks book (with_resolved id book.marks)
 
+-- the paragraph with this id gets the table with this name
+abbrev pub GetsTable : Command → ℕ → List ℕ → Type 0
+GetsTable command id table = paragraph_translated command ≡ Some (Retabled id table)
+
 -- the paragraph with this id uses the table whose text the command replaces
 abbrev pub UsesReplaced : Book → Command → ℕ → Type 0
 UsesReplaced book command id =
-    (name : List ℕ) × (text : List ℕ) × (paragraph : Paragraph) × (command ≡ Table name text)
+    (name : List ℕ) × (text : List ℕ) × (paragraph : Paragraph) × (table_given command ≡ Some (name, text))
     × (paragraph_of book id ≡ Some paragraph) × (paragraph.table ≡ name)
 
 -- the paragraph with this id gets other braille: it comes, its print changes, it gets another table, or its table another
@@ -49,17 +51,17 @@ UsesReplaced book command id =
 abbrev pub GetsCells : (book next : Book) → Command → ℕ → Type 0
 GetsCells book next command id =
     Comes book command id ⊎ (GetsEntry book next id
-    ⊎ (((table : List ℕ) × (command ≡ Retable id table)) ⊎ UsesReplaced book command id))
+    ⊎ (((table : List ℕ) × GetsTable command id table) ⊎ UsesReplaced book command id))
 
 -- paragraphs stand at other places: one comes, or is moved
 abbrev pub Reorders : Command → Type 0
-Reorders command = (adds_paragraph command ≡ true) ⊎ ((id : ℕ) × (anchor : Anchor) × (command ≡ Move id anchor))
+Reorders command = IsSome (place_given command)
 
 -- the command, which makes the next book of this one, changes what this is put for
 abbrev pub IsLent : (book next : Book) → Command → RowPut → Type 0
 IsLent book next command (PutBook row) = ⊥
 IsLent book next command (PutTab row) =
-    (name : List ℕ) × (text : List ℕ) × (command ≡ Table name text) × (row.name ≡ encode_utf8_all name) × (row.body ≡ text)
+    (name : List ℕ) × (text : List ℕ) × (table_given command ≡ Some (name, text)) × (row.name ≡ encode_utf8_all name) × (row.body ≡ text)
 IsLent book next command (PutPara row) = (id : ℕ) × (row.id ≡ row_number id) × Comes book command id
 IsLent book next command (PutMark row) = row.id ≡ row_number (next_mark book)
 IsLent book next command (PutCache row) = (id : ℕ) × (row.para ≡ row_number id) × GetsCells book next command id
@@ -68,7 +70,7 @@ IsLent book next command (PutEntry row) =
 IsLent book next command (SetPlace id place) = Reorders command
 IsLent book next command (SetFlags id style volume struck) = (named : ℕ) × (id ≡ row_number named) × GetsFlags book next named
 IsLent book next command (SetTable id tab) =
-    (named : ℕ) × (table : List ℕ) × (id ≡ row_number named) × (tab ≡ encode_utf8_all table) × (command ≡ Retable named table)
+    (named : ℕ) × (table : List ℕ) × (id ≡ row_number named) × (tab ≡ encode_utf8_all table) × GetsTable command named table
 IsLent book next command (SetPrint id print) = (named : ℕ) × (id ≡ row_number named) × GetsEntry book next named
 IsLent book next command (SetSpan id start stop touched) =
     (mark : Mark) × Contains book.marks mark × (id ≡ row_number mark.id) × GetsEntry book next mark.paragraph

@@ -1,168 +1,24 @@
 -- When a command is refused, and with which refusal. Only the first that holds is reported.
-use Rattle.std.specs.Prelude.{◌≡◌, ◌≢◌, ℕ, ◌⊎◌, ◌+◌, ◌*◌, ◌<◌, ◌≤◌, Bool, true, false, List, [], ◌∷◌, ◌++◌, length, Option, Some, None, MatchOption, option_map}
+use Rattle.std.specs.Prelude.{◌≡◌, ◌≢◌, ℕ, ◌⊎◌, ◌+◌, ◌*◌, ◌<◌, ◌≤◌, true, false, List, ◌∷◌, ◌++◌, length, Option, Some, None, MatchOption, option_map}
 use Rattle.std.specs.List.{All, Contains}
 use Rattle.std.specs.Option.{option_and_then}
 use Rattle.louis_table.specs.Meaning.{Meaning}
 use Rattle.louis_table.specs.Table.{Means, Bad}
 use Rattle.louis_table.specs.declared.fault.TableFault.{TableFault}
 use Rattle.louis_translate.specs.Position.{AreDefined, IsFirstUndefined}
-use Rattle.desk_command.specs.declared.command.Anchor.{Anchor}
-use Rattle.desk_command.specs.declared.command.Anchor.TheVariants.{Front, End, Para}
 use Rattle.desk_command.specs.declared.command.Command.{Command}
-use Rattle.desk_command.specs.declared.command.Command.TheVariants.{Table, TypeIn, Correct, Undo, Mark, Resolve, Strike, Restore, Style, Volume, Retable, Move}
 use Rattle.desk_command.specs.declared.refusal.Limit.{Limit}
 use Rattle.desk_command.specs.declared.refusal.Limit.TheVariants.{Tables, Paragraphs, Entries, Marks, Version}
 use Rattle.desk_command.specs.declared.refusal.Refusal.{Refusal}
 use Rattle.desk_command.specs.declared.refusal.Refusal.TheVariants.{Moved, BadName, BadReader, BadText, NoParagraph, NoTable, NoMark, Struck, NotStruck, Resolved, BadSpan, NothingToUndo, TooLong, Full, BadTable, Undefined, Untranslatable, NoMemory}
 use Rattle.desk_command.specs.Numbers.{limit_number}
 use Rattle.desk_model.specs.Book.{Book, Paragraph, Mark as BookMark, text_of, paragraph_of, mark_of}
-use Rattle.desk_model.specs.Print.{newest, print_of, print_undone, with_replacement}
+use Rattle.desk_model.specs.Print.{newest, print_of}
 use Rattle.desk_model.specs.Limits.{most_entries, most_marks, most_note, most_version, most_tables, most_paragraphs, most_print}
 use Rattle.desk_model.specs.Name.{IsProofreaderName, IsTableName}
-use Rattle.desk_model.specs.Step.{replacement_by}
-use Rattle.desk_model.specs.NormalForm.{IsFirstBarred, normal_form}
+use Rattle.desk_model.specs.Named.{Cells, Changed, Characters, Retabled, Span, Translated, Typed, adds_paragraph, history_grown, live_paragraph, mark_named, named_by, note_given, paragraph_translated, paragraphs_named, proofreader_given, struck_paragraph, table_given, table_named, text_given, text_stored}
+use Rattle.desk_model.specs.NormalForm.{IsFirstBarred}
 use Rattle.desk_model.specs.Translation.{LacksCells}
-
--- ---- what a command names
-
--- characters of a paragraph's print, up to a place, or cells of its braille, from a place, so many
-pub data Span : Type 0 where
-  Characters : (id end : ℕ) → Span
-  Cells : (id cell count : ℕ) → Span
-
--- What a command gives and names that a refusal may speak of. What it doesn't name is None, [] or false.
-pub record Named : Type 0 where
-  -- the name of the table that it adds or replaces, and the text
-  pub table_given : Option (List ℕ × List ℕ)
-  -- a text that is given, which may have no barred character
-  pub text_given : Option (List ℕ)
-  -- the name of a proofreader that is given
-  pub proofreader_given : Option (List ℕ)
-  -- a text that is typed or put in place of another, as it is stored
-  pub text_stored : Option (List ℕ)
-  -- the note of a new mark
-  pub note_given : Option (List ℕ)
-  -- the mark that it speaks of
-  pub mark_named : Option ℕ
-  -- the paragraph whose history gets an entry
-  pub history_grown : Option ℕ
-  -- whether it makes a new paragraph
-  pub adds_paragraph : Bool
-  -- the paragraphs that it speaks of
-  pub paragraphs_named : List ℕ
-  -- the table that a paragraph is to use
-  pub table_named : Option (List ℕ)
-  -- the paragraph that it can't act on while that is struck
-  pub live_paragraph : Option ℕ
-  -- the paragraph that it can't act on unless that is struck
-  pub struck_paragraph : Option ℕ
-  -- the characters that it replaces or the cells that it marks
-  pub span_named : Option Span
-  -- the paragraph whose newest correction it takes back
-  pub paragraph_undone : Option ℕ
-
-abbrev pub nothing_named : Named
-nothing_named = record {
-  table_given = None;
-  text_given = None;
-  proofreader_given = None;
-  text_stored = None;
-  note_given = None;
-  mark_named = None;
-  history_grown = None;
-  adds_paragraph = false;
-  paragraphs_named = [];
-  table_named = None;
-  live_paragraph = None;
-  struck_paragraph = None;
-  span_named = None;
-  paragraph_undone = None;
-}
-
--- the paragraph that something is put after
-abbrev pub paragraph_before : Anchor → List ℕ
-paragraph_before Front = []
-paragraph_before End = []
-paragraph_before (Para id) = id ∷ []
-
-abbrev pub named_by : Command → Named
-named_by (Table name text) = record nothing_named { table_given = Some (name, text) }
-named_by (TypeIn anchor table text) = record nothing_named {
-  text_given = Some text;
-  text_stored = Some (normal_form text);
-  adds_paragraph = true;
-  paragraphs_named = paragraph_before anchor;
-  table_named = Some table;
-}
-named_by (Correct id start count text who) = record nothing_named {
-  text_given = Some text;
-  proofreader_given = Some who;
-  text_stored = Some (normal_form text);
-  history_grown = Some id;
-  paragraphs_named = id ∷ [];
-  live_paragraph = Some id;
-  span_named = Some (Characters id (start + count));
-}
-named_by (Undo id) = record nothing_named {
-  history_grown = Some id;
-  paragraphs_named = id ∷ [];
-  live_paragraph = Some id;
-  paragraph_undone = Some id;
-}
-named_by (Mark id cell count note) = record nothing_named {
-  text_given = Some note;
-  note_given = Some note;
-  paragraphs_named = id ∷ [];
-  live_paragraph = Some id;
-  span_named = Some (Cells id cell count);
-}
-named_by (Resolve id) = record nothing_named { mark_named = Some id }
-named_by (Strike id) = record nothing_named { paragraphs_named = id ∷ []; live_paragraph = Some id }
-named_by (Restore id) = record nothing_named { paragraphs_named = id ∷ []; struck_paragraph = Some id }
-named_by (Style id style) = record nothing_named { paragraphs_named = id ∷ [] }
-named_by (Volume id begins) = record nothing_named { paragraphs_named = id ∷ [] }
-named_by (Retable id table) = record nothing_named {
-  paragraphs_named = id ∷ [];
-  table_named = Some table;
-  live_paragraph = Some id;
-}
-named_by (Move id anchor) = record nothing_named { paragraphs_named = id ∷ paragraph_before anchor }
-
-abbrev pub table_given : Command → Option (List ℕ × List ℕ)
-table_given command = (named_by command).table_given
-
-abbrev pub text_given : Command → Option (List ℕ)
-text_given command = (named_by command).text_given
-
-abbrev pub proofreader_given : Command → Option (List ℕ)
-proofreader_given command = (named_by command).proofreader_given
-
-abbrev pub text_stored : Command → Option (List ℕ)
-text_stored command = (named_by command).text_stored
-
-abbrev pub note_given : Command → Option (List ℕ)
-note_given command = (named_by command).note_given
-
-abbrev pub mark_named : Command → Option ℕ
-mark_named command = (named_by command).mark_named
-
-abbrev pub history_grown : Command → Option ℕ
-history_grown command = (named_by command).history_grown
-
-abbrev pub adds_paragraph : Command → Bool
-adds_paragraph command = (named_by command).adds_paragraph
-
-abbrev pub paragraphs_named : Command → List ℕ
-paragraphs_named command = (named_by command).paragraphs_named
-
-abbrev pub table_named : Command → Option (List ℕ)
-table_named command = (named_by command).table_named
-
-abbrev pub live_paragraph : Command → Option ℕ
-live_paragraph command = (named_by command).live_paragraph
-
-abbrev pub struck_paragraph : Command → Option ℕ
-struck_paragraph command = (named_by command).struck_paragraph
 
 -- ---- the refusals, each by what makes it hold
 
@@ -259,20 +115,15 @@ pub record HasNoCorrection (book : Book) (id : ℕ) : Type 0 where
 abbrev pub HasNothingToUndo : Book → Command → Type 0
 HasNothingToUndo book command = MatchOption (named_by command).paragraph_undone ⊥ (HasNoCorrection book)
 
+-- the print that the paragraph would have, if that is a new one
+abbrev pub print_made : Book → Translated → Option (List ℕ)
+print_made book (Typed print table) = Some print
+print_made book (Changed id change) = option_and_then change (paragraph_of book id)
+print_made book (Retabled id table) = None
+
 -- the print that a paragraph would have by the command, if that changes one
 abbrev pub new_print : Book → Command → Option (List ℕ)
-new_print book (Table name text) = None
-new_print book (TypeIn anchor table text) = Some (normal_form text)
-new_print book (Correct id start count text who) = option_map (λ paragraph. with_replacement (print_of paragraph) (replacement_by start count text)) (paragraph_of book id)
-new_print book (Undo id) = option_and_then print_undone (paragraph_of book id)
-new_print book (Mark id cell count note) = None
-new_print book (Resolve id) = None
-new_print book (Strike id) = None
-new_print book (Restore id) = None
-new_print book (Style id style) = None
-new_print book (Volume id begins) = None
-new_print book (Retable id table) = None
-new_print book (Move id anchor) = None
+new_print book command = option_and_then (print_made book) (paragraph_translated command)
 
 -- that print is over its limit
 pub record HasLongPrint (book : Book) (command : Command) : Type 0 where
@@ -338,22 +189,16 @@ pub record IsBadTable (command : Command) (fault : TableFault) : Type 0 where
   pub given : table_given command ≡ Some (name, text)
   pub bad : Bad text fault.line fault.cause
 
+-- the print that the paragraph would have, and the name of the table that it would use
+abbrev pub print_and_table : Book → Translated → Option (List ℕ × List ℕ)
+print_and_table book (Typed print table) = Some (print, table)
+print_and_table book (Changed id change) =
+    option_and_then (λ paragraph. option_map (λ print. (print, paragraph.table)) (change paragraph)) (paragraph_of book id)
+print_and_table book (Retabled id table) = option_map (λ paragraph. (print_of paragraph, table)) (paragraph_of book id)
+
 -- the print that a paragraph would have, and the name of the table that it would use, if the command changes one
 abbrev pub print_to_translate : Book → Command → Option (List ℕ × List ℕ)
-print_to_translate book (Table name text) = None
-print_to_translate book (TypeIn anchor table text) = Some (normal_form text, table)
-print_to_translate book (Correct id start count text who) =
-    option_map (λ paragraph. (with_replacement (print_of paragraph) (replacement_by start count text), paragraph.table)) (paragraph_of book id)
-print_to_translate book (Undo id) =
-    option_and_then (λ paragraph. option_map (λ print. (print, paragraph.table)) (print_undone paragraph)) (paragraph_of book id)
-print_to_translate book (Mark id cell count note) = None
-print_to_translate book (Resolve id) = None
-print_to_translate book (Strike id) = None
-print_to_translate book (Restore id) = None
-print_to_translate book (Style id style) = None
-print_to_translate book (Volume id begins) = None
-print_to_translate book (Retable id table) = option_map (λ paragraph. (print_of paragraph, table)) (paragraph_of book id)
-print_to_translate book (Move id anchor) = None
+print_to_translate book command = option_and_then (print_and_table book) (paragraph_translated command)
 
 -- the table doesn't define that print, first at this place
 pub record IsUndefined (book : Book) (command : Command) (place : ℕ) : Type 0 where

@@ -1,5 +1,5 @@
 -- What an accepted command makes of a book.
-use Rattle.std.specs.Prelude.{◌≡◌, ℕ, ◌+◌, ◌==◌, Bool, true, false, not, if◌then◌else◌, List, [], ◌∷◌, ◌++◌, length, map, Option, Some, None, option_map}
+use Rattle.std.specs.Prelude.{◌≡◌, ℕ, ◌+◌, ◌==◌, Bool, true, false, not, if◌then◌else◌, List, [], ◌∷◌, ◌++◌, length, map, Some}
 use Rattle.std.specs.Ordering.{nat_cmp}
 use Rattle.std.specs.List.{filter, flat_map}
 use Rattle.std.specs.Cmp.Lexicographic.{slice_cmp}
@@ -14,7 +14,6 @@ use Rattle.desk_model.specs.Book.{Replacement, Entry, Corrects, Undoes, Book, Pa
 use Rattle.desk_model.specs.Marks.{mark_moved, mark_moved_back}
 use Rattle.desk_model.specs.Print.{newest, with_entry}
 use Rattle.desk_model.specs.NormalForm.{normal_form}
-use Rattle.desk_command.specs.Characters.{AreCharacters}
 use Rattle.desk_model.specs.Translation.{AreMarked}
 
 -- the paragraphs with this one more, put where the command says
@@ -69,6 +68,10 @@ next_with_paragraphs book paragraphs = record book { version = book.version + 1;
 
 abbrev pub next_with_marks : Book → List BookMark → Book
 next_with_marks book marks = record book { version = book.version + 1; marks = marks }
+
+-- the book at its next version, in which the table with this name has this text
+abbrev pub next_with_table : Book → (name text : List ℕ) → Book
+next_with_table book name text = next_with_tables book (put (slice_cmp nat_cmp) name text book.tables)
 
 -- ---- corrections and marks
 
@@ -126,7 +129,7 @@ with_resolved id marks = map (resolved_by id) marks
 
 -- the command, if it is accepted, makes the next book of this one
 abbrev pub Makes : Book → Command → Book → Type 0
-Makes book (Table name text) next = next ≡ next_with_tables book (put (slice_cmp nat_cmp) name text book.tables)
+Makes book (Table name text) next = next ≡ next_with_table book name text
 Makes book (TypeIn anchor table text) next =
     next ≡ next_with_paragraphs book (with_paragraph anchor (new_paragraph (next_id book) table text) book.paragraphs)
 Makes book (Correct id start count text who) next =
@@ -144,33 +147,3 @@ Makes book (Volume id begins) next =
     next ≡ next_with_paragraphs book (with_change id (λ p. record p { begins_volume = begins }) book.paragraphs)
 Makes book (Retable id table) next = next ≡ next_with_paragraphs book (with_change id (λ p. record p { table = table }) book.paragraphs)
 Makes book (Move id anchor) next = next ≡ next_with_paragraphs book (with_move id anchor book)
-
--- the number that is answered: a new paragraph's or mark's id, or the number of a new entry of a history
-abbrev pub number_of : Book → Command → Option ℕ
-number_of book (Table name text) = None
-number_of book (TypeIn anchor table text) = Some (next_id book)
-number_of book (Correct id start count text who) = option_map (λ paragraph. length paragraph.history + 1) (paragraph_of book id)
-number_of book (Undo id) = option_map (λ paragraph. length paragraph.history + 1) (paragraph_of book id)
-number_of book (Mark id cell count note) = Some (next_mark book)
-number_of book (Resolve id) = None
-number_of book (Strike id) = None
-number_of book (Restore id) = None
-number_of book (Style id style) = None
-number_of book (Volume id begins) = None
-number_of book (Retable id table) = None
-number_of book (Move id anchor) = None
-
--- each text that the command puts into the book is of characters
-abbrev pub HasCharacters : Command → Type 0
-HasCharacters (Table name text) = Unit {0}
-HasCharacters (TypeIn anchor table text) = AreCharacters (normal_form text)
-HasCharacters (Correct id start count text who) = AreCharacters (normal_form text) × AreCharacters who
-HasCharacters (Undo id) = Unit {0}
-HasCharacters (Mark id cell count note) = AreCharacters note
-HasCharacters (Resolve id) = Unit {0}
-HasCharacters (Strike id) = Unit {0}
-HasCharacters (Restore id) = Unit {0}
-HasCharacters (Style id style) = Unit {0}
-HasCharacters (Volume id begins) = Unit {0}
-HasCharacters (Retable id table) = Unit {0}
-HasCharacters (Move id anchor) = Unit {0}

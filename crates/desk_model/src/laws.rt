@@ -7,6 +7,7 @@ ghost use Rattle.desk_model.specs.declared.new_tables.NewTables.{NewTables};
 ghost use Rattle.desk_parts.specs.declared.file_table.FileTable.{FileTable};
 ghost use Rattle.desk_parts.specs.FileRows.{AreTexts, FileRows, table_of};
 ghost use Rattle.desk_model.specs.FilledRows.{AreEntriesOf, Fills, in_second_format, new_rows, second_format_puts, with_caches, with_empty, with_new_entries, with_new_tables};
+ghost use Rattle.desk_model.specs.Named.{HasCharacters};
 ghost use Rattle.desk_model.specs.Outcome.{HasOneOutcome};
 ghost use Rattle.desk_parts.specs.Puts.{HasTheirTables, PutBook, PutCache, PutEntry, RowPuts, with_puts};
 ghost use Rattle.desk_model.specs.Refusals.{IsAccepted};
@@ -15,7 +16,7 @@ ghost use Rattle.desk_parts.specs.Rows.{ParaCells, NamedCorr};
 ghost use Rattle.desk_model.specs.SameRows.{AreSameRows};
 ghost use Rattle.desk_model.specs.Shows.{AreCached, IsUnnamed, Shows, book_row_of};
 ghost use Rattle.desk_model.specs.Sound.{IsSound};
-ghost use Rattle.desk_model.specs.Step.{HasCharacters, Makes};
+ghost use Rattle.desk_model.specs.Step.{Makes};
 ghost use Rattle.std.specs.List.{All};
 ghost use Rattle.std.specs.Prelude.{IsNone, IsSome, List, None, Option, [], ◌∷◌, map, ℕ, ℤ, ◌++◌, ◌↔◌, ◌≡◌};
 

@@ -28,7 +28,7 @@ use Rattle.desk_book.specs.declared.history.KeptEntry.{KeptEntry}
 use Rattle.desk_book.specs.declared.change.Effect.TheVariants.{AddTable}
 use Rattle.desk_command.specs.declared.command.Anchor.{Anchor}
 use Rattle.desk_command.specs.declared.command.Command.{Command}
-use Rattle.desk_command.specs.declared.command.Command.TheVariants.{Table, TypeIn, Retable, Move}
+use Rattle.desk_command.specs.declared.command.Command.TheVariants.{TypeIn}
 use Rattle.desk_book.specs.declared.marks.KeptMark.{KeptMark}
 use Rattle.desk_book.specs.declared.paragraphs.Paragraph.{Paragraph as KeptParagraph}
 use Rattle.desk_command.specs.declared.style.Style.{Style}
@@ -47,14 +47,15 @@ use Rattle.desk_book.proofs.Kept.MarkSettled.{AreWithin-sound, marks-elsewhere, 
 use Rattle.desk_model.specs.ParagraphMarks.{marks_on}
 use Rattle.desk_book.specs.Kept.{HasMarks, mark_kept, KeptTables, KeptParagraphs, with_table, in_order_of, ids, in_order, new_cells, with_new_cells, with_kept_change, marks_kept, paragraph_kept, book_kept, IsKeptParagraph, IsKept}
 use Rattle.desk_model.specs.Print.{corrected_print, print_of, with_entry}
-use Rattle.desk_model.specs.Refusals.{IsAccepted, paragraph_before}
+use Rattle.desk_model.specs.Named.{paragraph_before}
+use Rattle.desk_model.specs.Refusals.{IsAccepted}
 use Rattle.desk_model.specs.Sound.{IsSound, IsSoundMark}
-use Rattle.desk_model.specs.Step.{Makes, new_paragraph, next_id, next_mark, next_with_marks, next_with_paragraphs, with_marks_moved, with_paragraph, with_move, with_change}
+use Rattle.desk_model.specs.Step.{Makes, new_paragraph, next_id, next_mark, next_with_marks, next_with_paragraphs, next_with_table, with_marks_moved, with_paragraph, with_change}
 use Rattle.desk_book.proofs.Kept.KeptBooks.{found-kept, All-found, means-kept}
 use Rattle.desk_model.proofs.Commands.Accepted.{named_paragraph}
 use Rattle.desk_model.proofs.Lists.Members.{Contains-here, Contains-behind, Contains-map}
 use Rattle.desk_book.proofs.Kept.OrderLists.{ids_of-kept}
-use Rattle.desk_model.proofs.Books.ParagraphLists.{ids_of, AreApart, found, AreApart-permutation, id-found, Contains-found, found-own, IsPermutation-with_paragraph, IsPermutation-with_move}
+use Rattle.desk_model.proofs.Books.ParagraphLists.{ids_of, AreApart, found, AreApart-permutation, id-found, Contains-found, found-own, IsPermutation-with_paragraph}
 use Rattle.desk_model.proofs.Books.SoundBooks.{paragraphs-apart}
 use Rattle.desk_model.proofs.Books.SoundSteps.{IsSound-makes}
 use Rattle.desk_model.proofs.Lists.TableEntries.{All-put, lookup-put, same_name}
@@ -212,7 +213,7 @@ module _ (version : ℕ) (tables : KeptTables) (paragraphs : KeptParagraphs) (ma
 
   -- a book with other tables
   next-with_table : (next : Book) (w : ℕ) (name : List ℕ) (table : BookTable) (kept : KeptParagraphs)
-      → w ≡ next.version → Makes book (Table name table.text) next → map paragraph_kept kept ≡ before
+      → w ≡ next.version → next ≡ next_with_table book name table.text → map paragraph_kept kept ≡ before
       → book_kept w (with_table name table tables) kept marks ≡ next
   next-with_table next w name table kept at makes same =
       same_book w (version + 1) (texts (with_table name table tables)) (put (slice_cmp nat_cmp) name table.text (texts tables)) (map paragraph_kept kept) before (marks_kept marks) (marks_kept marks)
@@ -242,7 +243,7 @@ module _ (version : ℕ) (tables : KeptTables) (paragraphs : KeptParagraphs) (ma
             absurd (cc)
 
     pub next-added : book_kept w (with_table name table tables) paragraphs marks ≡ next
-    next-added = next-with_table next w name table paragraphs puts.at (subst (λ (command : Command). Makes book command next) puts.does.0 puts.makes) refl
+    next-added = next-with_table next w name table paragraphs puts.at puts.does.0.1 refl
 
     pub IsKept-added : IsKept version tables paragraphs marks → IsKept w (with_table name table tables) paragraphs marks
     IsKept-added is = record {
@@ -258,7 +259,7 @@ module _ (version : ℕ) (tables : KeptTables) (paragraphs : KeptParagraphs) (ma
   -- ---- another text of a table
 
   module _ (next : Book) (w : ℕ) (name : List ℕ) (table : BookTable) (cells : List (Option (List ℕ))) (at : w ≡ next.version)
-      (makes : Makes book (Table name table.text) next) (means : Means table.text table.rules) (renews : AreRenewed book name table.rules cells) where
+      (makes : next ≡ next_with_table book name table.text) (means : Means table.text table.rules) (renews : AreRenewed book name table.rules cells) where
     kept-renewed : (entry : ℕ × KeptParagraph) → paragraph_kept (with_new_cells cells entry) ≡ paragraph_kept entry
     kept-renewed (id, kept) = by (new_cells cells id)
       where
@@ -478,7 +479,7 @@ module _ (version : ℕ) (tables : KeptTables) (paragraphs : KeptParagraphs) (ma
   -- ---- another table of a paragraph
 
   module _ (next : Book) (w id : ℕ) (name cells : List ℕ) (at : w ≡ next.version)
-      (makes : Makes book (Retable id name) next) (given : AreCellsByTable book id name cells) where
+      (makes : next ≡ next_with_paragraphs book (with_change id (λ p. record p { table = name }) book.paragraphs)) (given : AreCellsByTable book id name cells) where
     abbrev retabled : KeptParagraph → KeptParagraph
     retabled k = record k { table = name; cells = cells }
 
@@ -508,16 +509,11 @@ module _ (version : ℕ) (tables : KeptTables) (paragraphs : KeptParagraphs) (ma
 
   -- ---- another order
 
-  module _ (next : Book) (w id : ℕ) (anchor : Anchor) (order : List ℕ) (at : w ≡ next.version)
-      (accepted : IsAccepted book None (Move id anchor)) (makes : Makes book (Move id anchor) next)
+  module _ (next : Book) (w : ℕ) (order : List ℕ) (at : w ≡ next.version)
+      (moved : IsPermutation before next.paragraphs) (makes : next ≡ next_with_paragraphs book next.paragraphs)
       (order_is : order ≡ ids_of next.paragraphs) (is : IsKept version tables paragraphs marks) (sound : IsSound next) where
     moved-reordered : IsPermutation next.paragraphs before
-    moved-reordered =
-        let named = named_paragraph book None (Move id anchor) accepted in
-        let p = named id (Contains-here id (paragraph_before anchor)) in
-        subst (λ (qs : List Paragraph). IsPermutation qs before) (sym (ap (λ (b : Book). b.paragraphs) makes))
-        (IsPermutation-sym before (with_move id anchor book)
-        (IsPermutation-with_move book id anchor p.0 (paragraphs-apart book is.sound) p.1 (λ other c. named other (Contains-behind id other (paragraph_before anchor) c))))
+    moved-reordered = IsPermutation-sym before next.paragraphs moved
 
     pub order-reordered : IsPermutation (range_with_len 1 (length paragraphs)) order
     order-reordered =
@@ -529,11 +525,10 @@ module _ (version : ℕ) (tables : KeptTables) (paragraphs : KeptParagraphs) (ma
 
     pub next-reordered : book_kept w tables (in_order_of order paragraphs) marks ≡ next
     next-reordered =
-        next-with_paragraphs next w (with_move id anchor book) (in_order_of order paragraphs) at makes
+        next-with_paragraphs next w next.paragraphs (in_order_of order paragraphs) at makes
         (kept-arranged order paragraphs
         ∙ (ap (λ (o : List ℕ). in_order o before) order_is
-        ∙ (in_order-permutation next.paragraphs before (paragraphs-apart next sound) moved-reordered
-        ∙ ap (λ (b : Book). b.paragraphs) makes)))
+        ∙ in_order-permutation next.paragraphs before (paragraphs-apart next sound) moved-reordered))
 
     pub IsKept-reordered : IsKept w tables (in_order_of order paragraphs) marks
     IsKept-reordered = record {

@@ -1,6 +1,5 @@
 -- How a correction is checked while no version is expected.
-use Rattle.std.proofs.Common.{◌≡◌, ℕ, ◌+◌, ◌-◌, ◌<◌, ◌≤◌, false, List, length, Some, None, refl, sym, ap, subst, ◌∙◌, arith, inl, lit≤}
-use Rattle.std.specs.Prelude.{option_map}
+use Rattle.std.proofs.Common.{◌≡◌, ℕ, ◌+◌, ◌-◌, ◌<◌, ◌≤◌, false, List, length, Option, Some, None, refl, sym, ap, subst, ◌∙◌, arith, inl, lit≤}
 use Rattle.louis_table.specs.Meaning.{Meaning}
 use Rattle.louis_translate.specs.Position.{AreDefined}
 use Rattle.desk_book.specs.declared.change.Effect.{Effect}
@@ -10,7 +9,7 @@ use Rattle.desk_command.specs.declared.command.Command.TheVariants.{Correct}
 use Rattle.desk_book.specs.declared.paragraphs.Paragraph.{Paragraph as KeptParagraph}
 use Rattle.desk_command.specs.declared.refusal.Refusal.{Refusal}
 use Rattle.desk_command.specs.declared.refusal.Refusal.TheVariants.{BadReader, BadSpan, NoMemory, TooLong}
-use Rattle.desk_model.specs.Book.{Book, Corrects, Paragraph, Replacement, paragraph_of}
+use Rattle.desk_model.specs.Book.{Book, Corrects, Paragraph, Replacement}
 use Rattle.desk_book.specs.Changes.{Does}
 use Rattle.desk_book.specs.Corrections.{HaltsEntry, HaltsPrint, IsEntered, IsUnfit, TakesEntry}
 use Rattle.desk_book.specs.Histories.{TookFrom, entry_kept}
@@ -30,7 +29,7 @@ use Rattle.desk_model.proofs.Books.SoundBooks.{short-sound}
 use Rattle.desk_book.proofs.Plans.EntryPlanning.{accepts_entry, halted, undefined, unfit}
 use Rattle.desk_model.proofs.Commands.Turns.{passes_to, past_fit, past_text, same_some, short_text, to_turn}
 use Rattle.desk_model.proofs.Books.HistoryLists.{corrected_print-corrects}
-use Rattle.desk_model.proofs.Commands.Judging.{Passes-bad_reader, Passes-bad_span}
+use Rattle.desk_model.proofs.Commands.Judging.{Passes-past}
 use Rattle.desk_book.proofs.Plans.Planning.{no_memory, turned_down}
 use Rattle.desk_model.proofs.Books.SoundEntries.{length-replaced}
 
@@ -46,7 +45,7 @@ module _ (book : Book) (id start count : ℕ) (text who : List ℕ) where
 
   module _ (named : IsProofreaderName who) where
     pub past_proofreader : Passes book None command 20
-    past_proofreader = Passes-bad_reader book None command (passes_to book command 15 refl) (λ b. b.bad (subst IsProofreaderName (same_some who b.name b.given) named))
+    past_proofreader = Passes-past book None command BadReader 20 refl (passes_to book command 15 refl) (λ b. b.bad (subst IsProofreaderName (same_some who b.name b.given) named))
 
     module _ (unbarred : IsUnbarred text) where
       cleaned : Passes book None command 30
@@ -69,14 +68,13 @@ module _ (book : Book) (id start count : ℕ) (text who : List ℕ) where
         module _ (span : start + count ≤ length kept.print) where
           spanned : Passes book None command 110
           spanned =
-              to_turn book command 100 110 refl
-              (Passes-bad_span book None command fit
+              Passes-past book None command BadSpan 110 refl fit
               (λ b. let both : Some p ≡ Some b.paragraph = sym shown.found ∙ b.found in
               let same : p ≡ b.paragraph = cc in
               let one = ap length shown.print in
               let two = ap (λ (q : Paragraph). length (print_of q)) same in
               let past = b.past in
-              omega arith))
+              omega arith)
 
           -- so many characters the print has after it
           pub counted : (len put : ℕ) → len ≡ length kept.print → put ≡ length (normal_form text) → (len - count) + put ≡ length (with_replacement (print_of p) r)
@@ -93,23 +91,23 @@ module _ (book : Book) (id start count : ℕ) (text who : List ℕ) where
               turned_down book command 110 TooLong told spanned refl (inl (record { text = normal_form text; given = refl; long = subst (λ (t : List ℕ). most_print < length t) same long })) is
 
           module _ (print : List ℕ) (print_is : print ≡ with_replacement (print_of p) r) (short : length (normal_form text) ≤ most_print) where
-            made : option_map (λ (q : Paragraph). with_replacement (print_of q) r) (paragraph_of book id) ≡ Some print
-            made = ap (option_map (λ (q : Paragraph). with_replacement (print_of q) r)) shown.found ∙ ap Some (sym print_is)
+            abbrev replaced : Paragraph → Option (List ℕ)
+            replaced q = Some (with_replacement (print_of q) r)
 
-            to_show : option_map {U = List ℕ × List ℕ} (λ (q : Paragraph). (with_replacement (print_of q) r, q.table)) (paragraph_of book id) ≡ Some (print, p.table)
-            to_show = ap (option_map {U = List ℕ × List ℕ} (λ (q : Paragraph). (with_replacement (print_of q) r, q.table))) shown.found ∙ ap (λ (t : List ℕ). Some (t, p.table)) (sym print_is)
+            made : replaced p ≡ Some print
+            made = ap Some (sym print_is)
 
             no_note : ¬ HasLongNote command
             no_note l = let given = l.given in cc
 
             pub halted_here : (told : Refusal) → HaltsEntry book kept (length print) told → IsTurnedDown book command told
             halted_here told =
-                halted book command id p shown.found kept shown.kept_is print shown.translated.text meaning shown.translated.found shown.translated.means refl made to_show
+                halted book command id p shown.found kept shown.kept_is print shown.translated.text meaning shown.translated.found shown.translated.means refl replaced refl made
                 (short_text book command (normal_form text) refl short) no_note spanned refl refl refl refl told
 
             pub undefined_here : TakesEntry book kept (length print) → (told : Refusal) → HaltsPrint meaning print told → IsTurnedDown book command told
             undefined_here takes told =
-                undefined book command id p shown.found kept shown.kept_is print shown.translated.text meaning shown.translated.found shown.translated.means refl made to_show
+                undefined book command id p shown.found kept shown.kept_is print shown.translated.text meaning shown.translated.found shown.translated.means refl replaced refl made
                 (short_text book command (normal_form text) refl short) no_note spanned refl refl refl refl 110 refl (lit≤ tt) takes told
 
             pub planned_here : (new : NewEntry) (effect : Effect) → new.print.items ≡ print → IsEntered book id kept meaning new effect → entry_kept new.entry ≡ Corrects r who → TookFrom (print_of p) new.entry
@@ -123,8 +121,8 @@ module _ (book : Book) (id start count : ℕ) (text who : List ℕ) where
                 let change = ChangesPrint-entered book id kept meaning new effect shown is (Corrects r who) entry_is after taken (omega arith) (omega arith) in
                 let moves : next_with_entry book id (Corrects r who) (mark_moved_by new.start new.removed new.added) ≡ next_with_entry book id (Corrects r who) (mark_moved r) =
                 λ i. next_with_entry book id (Corrects r who) (mark_moved_by (starts i) (removes i) (adds i)) in (
-                  accepts_entry book command id p shown.found kept shown.kept_is print shown.translated.text meaning shown.translated.found shown.translated.means refl made to_show
+                  accepts_entry book command id p shown.found kept shown.kept_is print shown.translated.text meaning shown.translated.found shown.translated.means refl replaced refl made
                       (short_text book command (normal_form text) refl short) no_note spanned refl refl refl refl shorts is.few is.left defined,
                   (next_with_entry book id (Corrects r who) (mark_moved_by new.start new.removed new.added), moves, subst (Does book command _) (sym is.effect_is) change),
-                  written,
+                  (written.0, written.1, tt),
                 )

@@ -1,5 +1,6 @@
 -- How a command that brings an entry into a history is checked while no version is expected.
-use Rattle.std.proofs.Common.{◌≡◌, ℕ, ◌<◌, ◌≤◌, true, List, [], ◌∷◌, length, Some, None, refl, sym, ap, subst, ◌∙◌, arith, inl, inr}
+use Rattle.std.proofs.Common.{◌≡◌, ℕ, ◌<◌, ◌≤◌, true, List, [], ◌∷◌, length, Option, Some, None, refl, sym, ap, subst, ◌∙◌, arith, inl, inr}
+use Rattle.std.specs.Option.{option_and_then}
 use Rattle.std.proofs.lemmas.List.{length-map}
 use Rattle.louis_table.specs.Meaning.{Meaning}
 use Rattle.louis_table.specs.Table.{Means}
@@ -17,10 +18,11 @@ use Rattle.desk_model.specs.Judging.{Passes, first_turn_after_asking}
 use Rattle.desk_book.specs.Kept.{paragraph_kept}
 use Rattle.desk_model.specs.Limits.{most_entries, most_print, most_version}
 use Rattle.desk_book.specs.Plans.{AreNotAllThere, IsTurnedDown}
-use Rattle.desk_model.specs.Refusals.{HasLongNote, HasLongText, IsAccepted, history_grown, live_paragraph, new_print, paragraphs_named, print_to_translate}
-use Rattle.desk_model.proofs.Commands.Judging.{Passes-full, skips}
+use Rattle.desk_model.specs.Named.{Changed, history_grown, live_paragraph, paragraph_translated, paragraphs_named}
+use Rattle.desk_model.specs.Refusals.{HasLongNote, HasLongText, IsAccepted, new_print, print_and_table, print_made, print_to_translate}
+use Rattle.desk_model.proofs.Commands.Judging.{Passes-past, skips}
 use Rattle.desk_book.proofs.Plans.Planning.{AreNotAllThere-first, full_version, no_memory, no_paragraph, past_print, too_long, turned_down}
-use Rattle.desk_model.proofs.Commands.Turns.{accepted_after, past_lengths, past_there, past_version, short_print, to_turn}
+use Rattle.desk_model.proofs.Commands.Turns.{accepted_after, changed-print, changed-translated, past_lengths, past_there, past_version, short_print, to_turn}
 
 module _ (book : Book) (command : Command) (id : ℕ) (named : paragraphs_named command ≡ id ∷ []) (live : live_paragraph command ≡ Some id) (skip : skips command 40 60 ≡ true)
     (passes : Passes book None command 30) where
@@ -30,11 +32,17 @@ module _ (book : Book) (command : Command) (id : ℕ) (named : paragraphs_named 
   unfit told (inr (is, (p, found, struck))) = turned_down book command 60 Struck told (past_there book command id named live skip passes p found) refl (record { id = id; paragraph = p; named = live; found = found; struck = struck }) is
 
 module _ (book : Book) (command : Command) (id : ℕ) (p : Paragraph) (there : paragraph_of book id ≡ Some p) (kept : KeptParagraph) (kept_is : p ≡ paragraph_kept (id, kept)) (print source : List ℕ) (meaning : Meaning)
-    (found : text_of book p.table ≡ Some source) (means : Means source meaning) (grows : history_grown command ≡ Some id) (made : new_print book command ≡ Some print)
-    (shown : print_to_translate book command ≡ Some (print, p.table)) (text : ¬ HasLongText command) (note : ¬ HasLongNote command) (passes : Passes book None command 110)
+    (found : text_of book p.table ≡ Some source) (means : Means source meaning) (grows : history_grown command ≡ Some id) (change : Paragraph → Option (List ℕ))
+    (changed : paragraph_translated command ≡ Some (Changed id change)) (makes : change p ≡ Some print) (text : ¬ HasLongText command) (note : ¬ HasLongNote command) (passes : Passes book None command 110)
     (to_entries : skips command 120 140 ≡ true) (to_version : skips command 150 160 ≡ true) (to_print : skips command 170 180 ≡ true) (to_end : skips command 190 200 ≡ true) where
   abbrev table : BookTable
   table = record { text = source; rules = meaning }
+
+  made : new_print book command ≡ Some print
+  made = ap (option_and_then (print_made book)) changed ∙ changed-print book id change p print there makes
+
+  shown : print_to_translate book command ≡ Some (print, p.table)
+  shown = ap (option_and_then (print_and_table book)) changed ∙ changed-translated book id change p print there makes
 
   count : length p.history ≡ length kept.history
   count = ap (λ (q : Paragraph). length q.history) kept_is ∙ length-map kept.history entry_kept
@@ -44,7 +52,7 @@ module _ (book : Book) (command : Command) (id : ℕ) (p : Paragraph) (there : p
 
   few : length print ≤ most_print → length kept.history < most_entries → Passes book None command 150
   few h room =
-      Passes-full book None command Entries (short h)
+      Passes-past book None command (Full Entries) 150 refl (short h)
       (λ f. let given = f.grows in let same : id ≡ f.id = cc in
       let both : Some p ≡ Some f.paragraph = sym there ∙ (ap (paragraph_of book) same ∙ f.found) in
       let is : p ≡ f.paragraph = cc in

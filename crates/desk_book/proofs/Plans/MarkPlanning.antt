@@ -28,7 +28,7 @@ use Rattle.desk_model.specs.NormalForm.{IsUnbarred}
 use Rattle.desk_model.specs.Translation.{AreMarked, LacksCells}
 use Rattle.desk_model.proofs.Commands.Turns.{accepted_after, passes_to, past_fit, past_lengths, past_text, past_version, same_some, to_turn}
 use Rattle.desk_book.proofs.Plans.EntryPlanning.{unfit}
-use Rattle.desk_model.proofs.Commands.Judging.{Passes-accepted, Passes-bad_span, Passes-full, Passes-no_mark, Passes-resolved}
+use Rattle.desk_model.proofs.Commands.Judging.{Passes-accepted, Passes-past}
 use Rattle.desk_book.proofs.Plans.Planning.{full_version, no_memory, turned_down}
 
 module _ (book : Book) (id cell count : ℕ) (note : List ℕ) where
@@ -88,7 +88,7 @@ module _ (book : Book) (id cell count : ℕ) (note : List ℕ) where
             ]
 
         spanned : Passes book None command 110
-        spanned = to_turn book command 100 110 refl (Passes-bad_span book None command fit not_lacking)
+        spanned = Passes-past book None command BadSpan 110 refl fit not_lacking
 
         pub long_note : (told : Refusal) → (told ≡ TooLong) × (most_note < length note) → IsTurnedDown book command told
         long_note told (is, long) = turned_down book command 110 TooLong told spanned refl (inr (inr (record { note = note; given = refl; long = long }))) is
@@ -105,7 +105,7 @@ module _ (book : Book) (id cell count : ℕ) (note : List ℕ) where
 
           module _ (room : length book.marks < most_marks) where
             roomy : Passes book None command 160
-            roomy = Passes-full book None command Marks shortened (λ f. let full = f.full in omega arith)
+            roomy = Passes-past book None command (Full Marks) 160 refl shortened (λ f. let full = f.full in omega arith)
 
             pub full_of_versions : (told : Refusal) → (told ≡ Full Version) × (most_version ≤ book.version) → IsTurnedDown book command told
             full_of_versions told (is, full) = full_version book command 160 told roomy refl full is
@@ -125,9 +125,8 @@ module _ (book : Book) (id : ℕ) where
   module _ (kept : KeptMark) (found : IsKeptMarkFor book id kept) where
     there : Passes book None (Resolve id) 80
     there =
-        to_turn book (Resolve id) 60 80 refl
-        (Passes-no_mark book None (Resolve id) (passes_to book (Resolve id) 50 refl)
-        (λ l. let given = l.named in let same : id ≡ l.id = cc in let both = sym found ∙ (ap (mark_of book) same ∙ l.missing) in cc))
+        Passes-past book None (Resolve id) NoMark 80 refl (passes_to book (Resolve id) 50 refl)
+        (λ l. let given = l.named in let same : id ≡ l.id = cc in let both = sym found ∙ (ap (mark_of book) same ∙ l.missing) in cc)
 
     pub resolved_already : (told : Refusal) → told ≡ Resolved → kept.resolved ≡ true → IsTurnedDown book (Resolve id) told
     resolved_already told is resolved = turned_down book (Resolve id) 80 Resolved told there refl (record { id = id; mark = mark_kept (id, kept); named = refl; found = found; resolved = resolved }) is
@@ -135,7 +134,7 @@ module _ (book : Book) (id : ℕ) where
     module _ (open_still : kept.resolved ≡ false) where
       opened : Passes book None (Resolve id) 90
       opened =
-          Passes-resolved book None (Resolve id) there
+          Passes-past book None (Resolve id) Resolved 90 refl there
           (λ r. let given = r.named in let same : id ≡ r.id = cc in
           let both : Some (mark_kept (id, kept)) ≡ Some r.mark = sym found ∙ (ap (mark_of book) same ∙ r.found) in
           let is : mark_kept (id, kept) ≡ r.mark = cc in

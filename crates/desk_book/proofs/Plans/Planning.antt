@@ -10,15 +10,16 @@ use Rattle.desk_book.specs.declared.paragraphs.Paragraph.{Paragraph as KeptParag
 use Rattle.desk_book.specs.declared.tables.BookTable.{BookTable}
 use Rattle.desk_command.specs.declared.refusal.Limit.TheVariants.{Paragraphs, Version}
 use Rattle.desk_command.specs.declared.refusal.Refusal.{Refusal}
-use Rattle.desk_command.specs.declared.refusal.Refusal.TheVariants.{BadText, NoMemory, NoParagraph, NoTable, TooLong, Full, Undefined}
+use Rattle.desk_command.specs.declared.refusal.Refusal.TheVariants.{BadText, Full, NoMemory, NoParagraph, NoTable, NotStruck, Struck, TooLong, Undefined}
 use Rattle.desk_model.specs.Book.{Book, Paragraph, paragraph_of, text_of}
 use Rattle.desk_model.specs.Judging.{Passes, first_turn_after_asking}
 use Rattle.desk_book.specs.Kept.{paragraph_kept}
 use Rattle.desk_model.specs.Limits.{most_paragraphs, most_print, most_version}
 use Rattle.desk_book.specs.Plans.{AreNotAllThere, AreThere, IsKeptFor, IsTableFor, IsTurnedDown}
-use Rattle.desk_model.specs.Refusals.{Holds, turn, IsUndefined, adds_paragraph, live_paragraph, new_print, print_to_translate, text_given, struck_paragraph, paragraphs_named, table_named}
+use Rattle.desk_model.specs.Named.{adds_paragraph, live_paragraph, paragraphs_named, struck_paragraph, table_named, text_given}
+use Rattle.desk_model.specs.Refusals.{Holds, turn, IsUndefined, new_print, print_to_translate}
 use Rattle.desk_model.specs.NormalForm.{IsFirstBarred}
-use Rattle.desk_model.proofs.Commands.Judging.{IsRefused-passes, Passes-no_paragraph, Passes-not_struck, Passes-skip, Passes-struck, Passes-undefined, skips}
+use Rattle.desk_model.proofs.Commands.Judging.{IsRefused-passes, Passes-past, Passes-skip, skips}
 use Rattle.desk_model.proofs.Commands.Turns.{defined_not_first, passes_to, same_some}
 
 -- ---- paragraphs that are named
@@ -50,7 +51,7 @@ module _ (book : Book) (command : Command) where
   no_paragraph told passes lacks = turned_down 30 NoParagraph told passes refl (record { id = lacks.0; named = lacks.1; missing = lacks.2 })
 
   pub past_paragraphs : Passes book None command 30 → AreThere book (paragraphs_named command) → Passes book None command 40
-  past_paragraphs passes there = Passes-no_paragraph book None command passes (λ lacks. let found = there lacks.id lacks.named in let missing = lacks.missing in cc (ap is_some missing))
+  past_paragraphs passes there = Passes-past book None command NoParagraph 40 refl passes (λ lacks. let found = there lacks.id lacks.named in let missing = lacks.missing in cc (ap is_some missing))
 
   pub no_table : (told : Refusal) (name : List ℕ) → Passes book None command 40 → table_named command ≡ Some name → text_of book name ≡ None → told ≡ NoTable → IsTurnedDown book command told
   no_table told name passes named missing = turned_down 40 NoTable told passes refl (record { name = name; named = named; missing = missing })
@@ -76,7 +77,7 @@ module _ (book : Book) (command : Command) where
         (record { print = print; name = name; print_is = given; text = table.text; meaning = table.rules; found = found.found; means = found.means; first = first }) is
 
     pub past_print : Passes book None command 180 → AreDefined table.rules print → Passes book None command 190
-    past_print passes defined = Passes-undefined book None command passes none
+    past_print passes defined = Passes-past book None command (Undefined 0) 190 refl passes none
       where
         none : (place : ℕ) → ¬ IsUndefined book command place
         none place u =
@@ -98,14 +99,14 @@ module _ (book : Book) (command : Command) where
 
     pub past_struck : Passes book None command 60 → live_paragraph command ≡ Some id → kept.struck ≡ false → Passes book None command 70
     past_struck passes named live =
-        Passes-struck book None command passes
+        Passes-past book None command Struck 70 refl passes
         (λ s. let given = s.named in let found = s.found in let same : id ≡ s.id = cc in
         let is : paragraph_kept (id, kept) ≡ s.paragraph = cc (ap (paragraph_of book) same, k.found) in
         both_ways kept.struck live (ap (λ (p : Paragraph). p.struck) is ∙ s.struck))
 
     pub past_live : Passes book None command 70 → struck_paragraph command ≡ Some id → kept.struck ≡ true → Passes book None command 80
     past_live passes named struck =
-        Passes-not_struck book None command passes
+        Passes-past book None command NotStruck 80 refl passes
         (λ s. let given = s.named in let found = s.found in let same : id ≡ s.id = cc in
         let is : paragraph_kept (id, kept) ≡ s.paragraph = cc (ap (paragraph_of book) same, k.found) in
         both_ways kept.struck (ap (λ (p : Paragraph). p.struck) is ∙ s.live) struck)

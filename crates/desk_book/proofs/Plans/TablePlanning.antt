@@ -19,10 +19,10 @@ use Rattle.desk_model.specs.Refusals.{DefinesUser, IsAccepted, IsUntranslatable}
 use Rattle.desk_book.specs.Plans.{IsFirstUser, IsTurnedDown}
 use Rattle.desk_model.specs.Print.{print_of}
 use Rattle.desk_model.specs.Sound.{IsSound}
-use Rattle.desk_model.proofs.Commands.Judging.{Passes-bad_name, Passes-bad_table, Passes-full, Passes-untranslatable}
+use Rattle.desk_model.proofs.Commands.Judging.{IsAccepted-passes, Passes-past}
 use Rattle.desk_model.proofs.Lists.Members.{Contains-here}
 use Rattle.desk_book.proofs.Plans.Planning.{no_memory, turned_down}
-use Rattle.desk_model.proofs.Commands.Turns.{defined_not_first, passes_to, same_some, to_turn}
+use Rattle.desk_model.proofs.Commands.Turns.{defined_not_first, passes_to, same_some}
 
 -- a table that isn't there has no users
 pub unused : (book : Book) (name : List ℕ) (meaning : Meaning) → IsSound book → text_of book name ≡ None → All (DefinesUser meaning name) book.paragraphs
@@ -37,18 +37,17 @@ module _ (book : Book) (name text : List ℕ) where
   module _ (named : IsTableName name) where
     pub past_name : Passes book None (Table name text) 120
     past_name =
-        to_turn book (Table name text) 15 120 refl
-        (Passes-bad_name book None (Table name text) (passes_to book (Table name text) 10 refl)
-        (λ b. b.bad (subst IsTableName (ap (λ (given : List ℕ × List ℕ). given.0) (same_some (name, text) (b.name, b.text) b.given)) named)))
+        Passes-past book None (Table name text) BadName 120 refl (passes_to book (Table name text) 10 refl)
+        (λ b. b.bad (subst IsTableName (ap (λ (given : List ℕ × List ℕ). given.0) (same_some (name, text) (b.name, b.text) b.given)) named))
 
     pub full_tables : (told : Refusal) → text_of book name ≡ None → (told ≡ Full Tables) × (most_tables ≤ length book.tables) → IsTurnedDown book (Table name text) told
     full_tables told new (is, full) =
         turned_down book (Table name text) 120 (Full Tables) told past_name refl (record { name = name; text = text; given = refl; new = new; full = full }) is
 
     pub past_tables : IsSome (text_of book name) ⊎ (length book.tables < most_tables) → Passes book None (Table name text) 130
-    past_tables (inr left) = Passes-full book None (Table name text) Tables past_name (λ f. let full = f.full in omega arith)
+    past_tables (inr left) = Passes-past book None (Table name text) (Full Tables) 130 refl past_name (λ f. let full = f.full in omega arith)
     past_tables (inl old) =
-        Passes-full book None (Table name text) Tables past_name
+        Passes-past book None (Table name text) (Full Tables) 130 refl past_name
         (λ f. let same = ap (λ (given : List ℕ × List ℕ). given.0) (same_some (name, text) (f.name, f.text) f.given) in let none = ap is_some (ap (text_of book) same ∙ f.new) in cc)
 
   bad_table : (told : Refusal) (fault : TableFault) → Passes book None (Table name text) 170 → told ≡ BadTable fault → Bad text fault.line fault.cause → IsTurnedDown book (Table name text) told
@@ -62,10 +61,9 @@ module _ (book : Book) (name text : List ℕ) where
   module _ (meaning : Meaning) (means : Means text meaning) where
     pub past_reading : Passes book None (Table name text) 170 → Passes book None (Table name text) 190
     past_reading passes =
-        to_turn book (Table name text) 180 190 refl
-        (Passes-bad_table book None (Table name text) passes
+        Passes-past book None (Table name text) (BadTable (record { line = 0; cause = 0 })) 190 refl passes
         (λ fault b. means_or_bad text meaning fault.line fault.cause means
-        (subst (λ (t : List ℕ). Bad t fault.line fault.cause) (sym (ap (λ (given : List ℕ × List ℕ). given.1) (same_some (name, text) (b.name, b.text) b.given))) b.bad)))
+        (subst (λ (t : List ℕ). Bad t fault.line fault.cause) (sym (ap (λ (given : List ℕ × List ℕ). given.1) (same_some (name, text) (b.name, b.text) b.given))) b.bad))
 
     pub untranslatable : (told : Refusal) (id place : ℕ) → Passes book None (Table name text) 190 → told ≡ Untranslatable id place → IsFirstUser meaning name book.paragraphs id place → IsTurnedDown book (Table name text) told
     untranslatable told id place passes is user =
@@ -87,7 +85,7 @@ module _ (book : Book) (name text : List ℕ) where
         }) is
 
     pub past_users : Passes book None (Table name text) 190 → All (DefinesUser meaning name) book.paragraphs → IsAccepted book None (Table name text)
-    past_users passes defined = Passes-untranslatable book None (Table name text) passes none
+    past_users passes defined = IsAccepted-passes book None (Table name text) (Passes-past book None (Table name text) (Untranslatable 0 0) 200 refl passes none)
       where
         none : (id place : ℕ) → ¬ IsUntranslatable book (Table name text) id place
         none id place u =

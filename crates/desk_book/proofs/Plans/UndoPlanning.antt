@@ -1,6 +1,5 @@
 -- How an undo is checked while no version is expected.
 use Rattle.std.proofs.Common.{◌≡◌, ℕ, ◌+◌, ◌-◌, ◌≤◌, false, List, [], ◌∷◌, ◌++◌, length, Some, None, refl, sym, ap, subst, ◌∙◌, arith, lit≤}
-use Rattle.std.specs.Option.{option_and_then}
 use Rattle.std.specs.Prelude.{option_map}
 use Rattle.louis_table.specs.Meaning.{Meaning}
 use Rattle.louis_translate.specs.Position.{AreDefined}
@@ -13,7 +12,7 @@ use Rattle.desk_book.specs.declared.history.KeptEntry.TheVariants.{Undoes as Kep
 use Rattle.desk_book.specs.declared.paragraphs.Paragraph.{Paragraph as KeptParagraph}
 use Rattle.desk_command.specs.declared.refusal.Refusal.{Refusal}
 use Rattle.desk_command.specs.declared.refusal.Refusal.TheVariants.{NoMemory, NothingToUndo}
-use Rattle.desk_model.specs.Book.{Book, Undoes, Paragraph, Replacement, paragraph_of}
+use Rattle.desk_model.specs.Book.{Book, Undoes, Paragraph, Replacement}
 use Rattle.desk_book.specs.Changes.{Does}
 use Rattle.desk_book.specs.Corrections.{HaltsEntry, HaltsPrint, IsEntered, IsUnfit, TakesEntry, replaced_by}
 use Rattle.desk_book.specs.Histories.{IsNewestInForce, LeavePrint, TookFrom, entries_kept, entry_kept, replacement_kept}
@@ -30,7 +29,7 @@ use Rattle.desk_book.proofs.Plans.EntryPlanned.{ChangesPrint-entered}
 use Rattle.desk_model.proofs.Books.SoundBooks.{short-sound}
 use Rattle.desk_book.proofs.Plans.EntryPlanning.{accepts_entry, halted, lacking, undefined, unfit}
 use Rattle.desk_model.proofs.Commands.Turns.{passes_to, past_fit, to_turn}
-use Rattle.desk_model.proofs.Commands.Judging.{Passes-nothing_to_undo}
+use Rattle.desk_model.proofs.Commands.Judging.{Passes-past}
 use Rattle.desk_book.proofs.Plans.Planning.{turned_down}
 use Rattle.desk_book.proofs.Kept.UndonePrints.{taken-span, text-span, undone-length, undone-print}
 
@@ -100,7 +99,7 @@ module _ (book : Book) (id : ℕ) where
       undone = ap (option_map (λ (correction : ℕ × Replacement). print_of (with_entry (Undoes correction.0) p))) newest_is
 
       passed : Passes book None command 110
-      passed = Passes-nothing_to_undo book None command fit
+      passed = Passes-past book None command NothingToUndo 110 refl fit
           (λ n. let both : Some p ≡ Some n.paragraph = sym shown.found ∙ n.found in
           let same : p ≡ n.paragraph = cc in
           let none = sym newest_is ∙ (ap (λ (q : Paragraph). newest q.history) same ∙ n.none) in
@@ -113,26 +112,20 @@ module _ (book : Book) (id : ℕ) where
       no_note l = let given = l.given in cc
 
       module _ (print : List ℕ) (print_is : print ≡ before) where
-        made : option_and_then print_undone (paragraph_of book id) ≡ Some print
-        made = ap (option_and_then print_undone) shown.found ∙ (undone ∙ ap Some (sym print_is))
-
-        abbrev pair : Paragraph → List ℕ → List ℕ × List ℕ
-        pair q t = (t, q.table)
-
-        to_show : option_and_then (λ (q : Paragraph). option_map (pair q) (print_undone q)) (paragraph_of book id) ≡ Some (print, p.table)
-        to_show = ap (option_and_then (λ (q : Paragraph). option_map (pair q) (print_undone q))) shown.found ∙ (ap (option_map (pair p)) undone ∙ ap (λ (t : List ℕ). Some (pair p t)) (sym print_is))
+        made : print_undone p ≡ Some print
+        made = undone ∙ ap Some (sym print_is)
 
         pub halted_here : (told : Refusal) → HaltsEntry book kept (length print) told → IsTurnedDown book command told
         halted_here told =
-            halted book command id p shown.found kept shown.kept_is print shown.translated.text meaning shown.translated.found shown.translated.means refl made to_show no_text no_note passed refl refl refl refl told
+            halted book command id p shown.found kept shown.kept_is print shown.translated.text meaning shown.translated.found shown.translated.means refl print_undone refl made no_text no_note passed refl refl refl refl told
 
         pub no_memory_here : TakesEntry book kept (length print) → (told : Refusal) → told ≡ NoMemory → IsTurnedDown book command told
         no_memory_here takes told =
-            lacking book command id p shown.found kept shown.kept_is print shown.translated.text meaning shown.translated.found shown.translated.means refl made to_show no_text no_note passed refl refl refl refl 180 refl (lit≤ tt) takes told
+            lacking book command id p shown.found kept shown.kept_is print shown.translated.text meaning shown.translated.found shown.translated.means refl print_undone refl made no_text no_note passed refl refl refl refl 180 refl (lit≤ tt) takes told
 
         pub undefined_here : TakesEntry book kept (length print) → (told : Refusal) → HaltsPrint meaning print told → IsTurnedDown book command told
         undefined_here takes told =
-            undefined book command id p shown.found kept shown.kept_is print shown.translated.text meaning shown.translated.found shown.translated.means refl made to_show no_text no_note passed refl refl refl refl 180 refl (lit≤ tt) takes told
+            undefined book command id p shown.found kept shown.kept_is print shown.translated.text meaning shown.translated.found shown.translated.means refl print_undone refl made no_text no_note passed refl refl refl refl 180 refl (lit≤ tt) takes told
 
         pub planned_here : (new : NewEntry) (effect : Effect) → new.print.items ≡ print → IsEntered book id kept meaning new effect → new.entry ≡ KeptUndoes number
             → new.start ≡ c.start → new.removed ≡ length c.text → new.added ≡ length c.taken → IsPlanned book command effect
@@ -146,8 +139,8 @@ module _ (book : Book) (id : ℕ) where
             let change = ChangesPrint-entered book id kept meaning new effect shown is (Undoes number) (ap entry_kept entry_is) (printed ∙ print_is) (subst (TookFrom (print_of p)) (sym entry_is) tt) (omega arith) (omega arith) in
             let moves : next_with_entry book id (Undoes number) (mark_moved_by new.start new.removed new.added) ≡ next_with_entry book id (Undoes number) (mark_moved_back r) =
             λ i. next_with_entry book id (Undoes number) (mark_moved_by (starts i) (removes i) (adds i)) in (
-              accepts_entry book command id p shown.found kept shown.kept_is print shown.translated.text meaning shown.translated.found shown.translated.means refl made to_show no_text no_note passed refl refl refl refl
+              accepts_entry book command id p shown.found kept shown.kept_is print shown.translated.text meaning shown.translated.found shown.translated.means refl print_undone refl made no_text no_note passed refl refl refl refl
                   shorts is.few is.left defined,
               (next_with_entry book id (Undoes number) (mark_moved_by new.start new.removed new.added), (number, r, record { paragraph = p; found = shown.found; newest_is = newest_is }, moves), subst (Does book command _) (sym is.effect_is) change),
-              tt,
+              (tt, tt, tt),
             )

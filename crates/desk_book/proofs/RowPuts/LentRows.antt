@@ -1,7 +1,7 @@
 -- What a change lends is put for what its command changes.
 use Rattle.std.proofs.Common.{◌≡◌, ℕ, ℤ, ◌+◌, ◌≤◌, Bool, true, false, cond, List, [], ◌∷◌, length, map, drop, Option, Some, None, Contains, refl, sym, ap, subst, ◌∙◌, arith, inl, inr, get_or}
 use Rattle.std.specs.List.{All, enumerate_from, filter, flat_map}
-use Rattle.std.specs.Prelude.{◌==◌, encode_utf8_all}
+use Rattle.std.specs.Prelude.{◌==◌, encode_utf8_all, is_some}
 use Rattle.std.proofs.lemmas.Bool.{cases_Bool, eqb-true}
 use Rattle.std.proofs.lemmas.List.Elements.{All-append, All-cons, All-map, All-nil}
 use Rattle.louis_table.specs.Meaning.{Meaning}
@@ -11,7 +11,6 @@ use Rattle.desk_book.specs.declared.change.Effect.TheVariants as effect
 use Rattle.desk_book.specs.declared.history.KeptEntry.{KeptEntry}
 use Rattle.desk_book.specs.declared.history.KeptEntry.TheVariants.{Corrects, Undoes}
 use Rattle.desk_command.specs.declared.command.Command.{Command}
-use Rattle.desk_command.specs.declared.command.Command.TheVariants.{Table}
 use Rattle.desk_parts.specs.Puts.{RowPut, SetPlace, SetPrint, SetVersion}
 use Rattle.desk_model.specs.Book.{Book, Mark}
 use Rattle.desk_book.specs.ChangePuts.{cache_put, cells_from, cells_put, effect_puts, elsewhere_from, elsewhere_put, entry_row, further_from, further_put, span_put, stays_in, tab_put}
@@ -20,7 +19,7 @@ use Rattle.desk_book.specs.Changes.{Carries, Change, Does, change_puts, puts-cha
 use Rattle.desk_book.specs.Histories.{entry_kept}
 use Rattle.desk_model.specs.Marks.{mark_moved_by}
 use Rattle.desk_model.specs.ParagraphMarks.{marks_on}
-use Rattle.desk_model.specs.Refusals.{adds_paragraph}
+use Rattle.desk_model.specs.Named.{adds_paragraph, place_given, table_given}
 use Rattle.desk_model.specs.Sound.{IsSound}
 use Rattle.desk_model.specs.Step.{next_id}
 use Rattle.desk_model.proofs.Lists.Members.{Contains-behind, Contains-here}
@@ -74,7 +73,7 @@ module _ (book next : Book) (command : Command) where
 
   -- ---- cells
 
-  module _ (name text : List ℕ) (meaning : Meaning) (sound : IsSound book) (means : Means text meaning) (is : command ≡ Table name text) where
+  module _ (name text : List ℕ) (meaning : Meaning) (sound : IsSound book) (means : Means text meaning) (is : table_given command ≡ Some (name, text)) where
     cells-lent : (n : ℕ) (cells : List (Option (List ℕ))) → 1 ≤ n → n + length cells ≤ length book.paragraphs + 1 → RenewsFrom book meaning name n cells
         → All P (flat_map cells_put (enumerate_from n cells))
     cells-lent n [] one few renews = All-nil P
@@ -90,17 +89,18 @@ module _ (book next : Book) (command : Command) where
 
   pub effect-lent : IsSound book → (e : Effect) → Does book command next e → All P (effect_puts book e)
   effect-lent sound (effect.AddTable name table room) does =
-      All-cons P (tab_put name table) [] (name, table.text, does.0, refl, refl) (All-nil P)
+      All-cons P (tab_put name table) [] (name, table.text, does.0.0, refl, refl) (All-nil P)
   effect-lent sound (effect.ReplaceTable name table cells) does =
-      All-cons P (tab_put name table) (cells_from 0 cells.items) (name, table.text, does.0, refl, refl)
-      (cells-lent name table.text table.rules sound does.2 does.0 1 cells.items (omega arith) (let few = does.4 in omega arith)
+      All-cons P (tab_put name table) (cells_from 0 cells.items) (name, table.text, does.0.0, refl, refl)
+      (cells-lent name table.text table.rules sound does.2 does.0.0 1 cells.items (omega arith) (let few = does.4 in omega arith)
       (renews-all book name table.text table.rules sound does.2 cells.items does.3))
   effect-lent sound (effect.AddParagraph kept room order_room place) does =
       let adds : adds_paragraph command ≡ true = ap adds_paragraph does.command_is in
       let comes : Comes book command (next_id book) = (refl, adds) in
+      let reorders : Reorders command = ap (λ (c : Command). is_some (place_given c)) does.command_is in
       let ids : List ℕ = map (λ other. other.id) book.paragraphs in
       All-cons P _ (cache_put (next_id book) kept.cells ∷ further_from place ids) (next_id book, refl, comes)
-      (All-cons P (cache_put (next_id book) kept.cells) (further_from place ids) (next_id book, refl, inl comes) (further-lent (inl adds) place ids))
+      (All-cons P (cache_put (next_id book) kept.cells) (further_from place ids) (next_id book, refl, inl comes) (further-lent reorders place ids))
   effect-lent sound (effect.ChangePrint id change) does =
       let grows : GetsEntry book next id = (entry_kept change.entry, mark_moved_by change.start change.removed change.added, does.next_is) in
       let row = entry-row id (next_entry_number book id) change.entry in
@@ -113,10 +113,10 @@ module _ (book next : Book) (command : Command) where
   effect-lent sound (effect.ResolveMark id) does = All-cons P _ [] (id, refl, does) (All-nil P)
   effect-lent sound (effect.SetFlags id style begins struck) does = All-cons P _ [] (id, refl, (_, does)) (All-nil P)
   effect-lent sound (effect.ChangeTable id table cells) does =
-      All-cons P _ (cache_put id cells ∷ []) (id, table, refl, refl, does.0)
-      (All-cons P (cache_put id cells) [] (id, refl, inr (inr (inl (table, does.0)))) (All-nil P))
+      All-cons P _ (cache_put id cells ∷ []) (id, table, refl, refl, does.0.0)
+      (All-cons P (cache_put id cells) [] (id, refl, inr (inr (inl (table, does.0.0)))) (All-nil P))
   effect-lent sound (effect.Reorder order) does =
-      elsewhere-lent (inr (does.0, does.1, does.2)) (map (λ other. other.id) book.paragraphs) order
+      elsewhere-lent does.0.0 (map (λ other. other.id) book.paragraphs) order
 
   pub puts-lent : IsSound book → (version : ℕ) → version ≡ next.version → (e : Effect) → Does book command next e
       → AreLent book next command (SetVersion (row_number version) ∷ effect_puts book e)

@@ -6,7 +6,7 @@ use Rattle.std.specs.Prelude.{option_map, unwrap_or}
 use Rattle.desk_book.specs.declared.change.Effect.{Effect}
 use Rattle.desk_book.specs.declared.change.Effect.TheVariants as effect
 use Rattle.desk_command.specs.declared.command.Command.{Command}
-use Rattle.desk_command.specs.declared.command.Command.TheVariants.{TypeIn, Move}
+use Rattle.desk_command.specs.declared.command.Command.TheVariants.{TypeIn}
 use Rattle.desk_book.specs.declared.history.KeptEntry.{KeptEntry}
 use Rattle.desk_model.specs.Book.{Book, Paragraph, paragraph_of}
 use Rattle.desk_model.specs.Loans.{LeadTo, row_number}
@@ -17,13 +17,14 @@ use Rattle.desk_book.specs.Kept.{paragraph_kept}
 use Rattle.desk_model.specs.Marks.{mark_moved_by}
 use Rattle.desk_model.specs.ParagraphMarks.{marks_on}
 use Rattle.desk_parts.specs.Puts.{PutEntry, RowPut, SetPrint, SetVersion}
-use Rattle.desk_model.specs.Refusals.{IsAccepted, paragraph_before}
+use Rattle.desk_model.specs.Named.{paragraph_before}
+use Rattle.desk_model.specs.Refusals.{IsAccepted}
 use Rattle.desk_model.specs.Sound.{IsSound}
-use Rattle.desk_model.specs.Step.{Makes, new_paragraph, next_id, next_with_entry, next_with_paragraphs, next_with_tables, with_change, with_move, with_paragraph}
+use Rattle.desk_model.specs.Step.{Makes, new_paragraph, next_id, next_with_entry, next_with_paragraphs, next_with_tables, with_paragraph}
 use Rattle.desk_model.specs.NormalForm.{normal_form}
 use Rattle.desk_model.proofs.Commands.Accepted.{named_paragraph}
-use Rattle.desk_model.proofs.Lists.Members.{Contains-behind, Contains-here, Contains-map}
-use Rattle.desk_model.proofs.Books.ParagraphLists.{Contains-found, IsPermutation-with_move, IsPermutation-with_paragraph, id-found, ids_of}
+use Rattle.desk_model.proofs.Lists.Members.{Contains-map}
+use Rattle.desk_model.proofs.Books.ParagraphLists.{Contains-found, IsPermutation-with_paragraph, id-found, ids_of}
 use Rattle.desk_book.proofs.RowPuts.PutAdditions.{mark-lead}
 use Rattle.desk_book.proofs.RowPuts.PutCells.{retabled-lead}
 use Rattle.desk_book.proofs.RowPuts.PutChanges.{flags-lead, resolved-lead}
@@ -48,10 +49,10 @@ module _ (book next : Book) (command : Command) (sound : IsSound book) (accepted
 
   pub leads : (e : Effect) → Does book command next e → Leads e next
   leads (effect.AddTable name table room) does =
-      let is : next ≡ next_with_tables book (with_text name table.text book.tables) = subst (λ (c : Command). Makes book c next) does.0 makes in
+      let is : next ≡ next_with_tables book (with_text name table.text book.tables) = does.0.1 in
       subst (Leads (effect.AddTable name table room)) (sym is) (table-lead book name table.text sound does.1 (subst IsSound is after))
   leads (effect.ReplaceTable name table cells) does =
-      let is : next ≡ next_with_tables book (with_text name table.text book.tables) = subst (λ (c : Command). Makes book c next) does.0 makes in
+      let is : next ≡ next_with_tables book (with_text name table.text book.tables) = does.0.1 in
       subst (Leads (effect.ReplaceTable name table cells)) (sym is)
       (replaced-lead book name table.text table.rules sound does.2 cells.items does.3 does.4 (subst IsSound is after))
   leads (effect.AddParagraph kept room order_room place) does =
@@ -88,19 +89,13 @@ module _ (book next : Book) (command : Command) (sound : IsSound book) (accepted
   leads (effect.SetFlags id style begins struck) does =
       subst (Leads (effect.SetFlags id style begins struck)) (sym does) (flags-lead book id style begins struck sound (subst IsSound does after))
   leads (effect.ChangeTable id table cells) does =
-      let is : next ≡ next_with_paragraphs book (with_change id (λ p. record p { table = table }) book.paragraphs) = subst (λ (c : Command). Makes book c next) does.0 makes in
+      let is = does.0.1 in
       subst (Leads (effect.ChangeTable id table cells)) (sym is) (retabled-lead book id table cells sound does.1 (subst IsSound is after))
   leads (effect.Reorder order) does =
-      let id : ℕ = does.0 in
-      let anchor = does.1 in
-      let ps : List Paragraph = with_move id anchor book in
-      let is : next ≡ next_with_paragraphs book ps = subst (λ (c : Command). Makes book c next) does.2 makes in
-      let named = named_paragraph book None (Move id anchor) (subst (IsAccepted book None) does.2 accepted) in
-      let p = named id (Contains-here id (paragraph_before anchor)) in
-      let moved : IsPermutation book.paragraphs ps = IsPermutation-with_move book id anchor p.0 (paragraphs-apart book sound) p.1 (λ other c. named other (Contains-behind id other (paragraph_before anchor) c)) in
-      let ids : order ≡ ids_of ps = does.3 ∙ ap (λ (b : Book). ids_of b.paragraphs) is in
-      subst (λ (o : List ℕ). Leads (effect.Reorder o) next) (sym ids)
-      (subst (Leads (effect.Reorder (ids_of ps))) (sym is) (order-lead book ps sound moved (subst IsSound is after)))
+      let ps : List Paragraph = next.paragraphs in
+      let is : next ≡ next_with_paragraphs book ps = does.0.2 in
+      subst (λ (o : List ℕ). Leads (effect.Reorder o) next) (sym does.1)
+      (subst (Leads (effect.Reorder (ids_of ps))) (sym is) (order-lead book ps sound does.0.1 (subst IsSound is after)))
 
 pub puts-lead : (book next : Book) (version : ℕ) (effect : Effect) → IsSound book → IsEffect book version effect next
     → LeadTo book (SetVersion (row_number version) ∷ effect_puts book effect) next

@@ -12,7 +12,7 @@ use Rattle.std.proofs.lemmas.Map.Keys.{IsDistinct-head, IsDistinct-tail, IsDisti
 use Rattle.desk_command.specs.declared.command.Anchor.{Anchor}
 use Rattle.desk_command.specs.declared.command.Anchor.TheVariants.{Front, End, Para}
 use Rattle.desk_model.specs.Book.{Book, Paragraph, paragraph_of}
-use Rattle.desk_model.specs.Refusals.{paragraph_before}
+use Rattle.desk_model.specs.Named.{paragraph_before}
 use Rattle.desk_model.specs.Step.{with_paragraph, without_paragraph, with_change, is_after, with_move}
 use Rattle.desk_model.proofs.Lists.Members.{Contains-here, Contains-behind, Contains-cases, Contains-none, Contains-map, find-passes, Contains-find, find-map}
 

@@ -11,7 +11,7 @@ use Rattle.louis_translate.specs.Position.{AreDefined}
 use Rattle.desk_command.specs.declared.command.Anchor.{Anchor}
 use Rattle.desk_model.specs.Book.{Book, Paragraph, Mark, text_of, paragraph_of}
 use Rattle.desk_model.specs.Print.{corrected_print, print_of}
-use Rattle.desk_model.specs.Refusals.{paragraph_before}
+use Rattle.desk_model.specs.Named.{paragraph_before}
 use Rattle.desk_model.specs.Limits.{most_version, most_paragraphs}
 use Rattle.desk_model.specs.Sound.{IsSoundHistory, IsSoundParagraph, IsSoundMark, IsSound}
 use Rattle.desk_model.specs.Step.{with_paragraph, with_change, next_id, next_with_paragraphs}

@@ -6,6 +6,7 @@ use Rattle.std.specs.Prelude.{nat_eq, not, option_map}
 use Rattle.std.proofs.lemmas.Bool.{cases_Bool, both_ways, not-true}
 use Rattle.std.specs.List.{All}
 use Rattle.std.proofs.lemmas.List.Elements.{All-head, All-nil, All-tail, All-weaker, filter_passes}
+use Rattle.std.specs.List.Sorted.{IsPermutation}
 use Rattle.std.proofs.lemmas.List.Sorted.{IsPermutation-refl}
 use Rattle.louis_table.specs.Meaning.{Meaning}
 use Rattle.louis_table.specs.Table.{Means}
@@ -15,7 +16,6 @@ use Rattle.desk_command.specs.declared.command.Command.{Command}
 use Rattle.desk_command.specs.declared.command.Command.TheVariants.{Table, TypeIn, Correct, Undo, Mark, Resolve, Strike, Restore, Style, Volume, Retable, Move}
 use Rattle.desk_model.specs.After.{After}
 use Rattle.std.specs.List.{range_with_len}
-use Rattle.std.specs.Option.{option_and_then}
 use Rattle.std.proofs.lemmas.Bool.{cases_lt}
 use Rattle.std.proofs.lemmas.List.{length-append, map-append}
 use Rattle.std.proofs.lemmas.List.Elements.{All-push}
@@ -30,14 +30,16 @@ use Rattle.desk_model.proofs.Lists.Items.{range_with_len-push}
 use Rattle.desk_model.proofs.Commands.CellPlaces.{begins-before, end-within}
 use Rattle.desk_model.proofs.Books.HistoryLists.{IsLast-parts, corrected_print-before, corrected_print-corrects, corrected_print-undone, newest-parts}
 use Rattle.desk_model.proofs.Books.SoundEntries.{IsSound-resolved, IsSound-with_entry, IsSound-with_marks, IsSoundParagraph-entry, MovesTo-mark_moved_by, length-replaced}
-use Rattle.desk_model.specs.Refusals.{IsAccepted, paragraph_before}
+use Rattle.desk_model.specs.Named.{HasCharacters, paragraph_before}
+use Rattle.desk_model.specs.Refusals.{IsAccepted}
 use Rattle.desk_model.specs.Limits.{most_tables, most_print}
 use Rattle.desk_model.specs.Sound.{IsSoundHistory, IsSoundTable, IsSoundParagraph, IsSoundMark, IsSound}
-use Rattle.desk_model.specs.Step.{new_paragraph, with_change, with_paragraph, with_move, next_id, IsNewest, new_mark, next_mark, next_with_entry, next_with_marks, next_with_paragraphs, next_with_tables, replacement_by, HasCharacters, Makes}
+use Rattle.desk_model.specs.Step.{new_paragraph, with_change, with_paragraph, with_move, next_id, IsNewest, new_mark, next_mark, next_with_entry, next_with_marks, next_with_paragraphs, next_with_tables, replacement_by, Makes}
 use Rattle.desk_model.specs.NormalForm.{is_barred, IsClean, IsUnbarred, normal_form}
 use Rattle.desk_command.specs.Characters.{AreCharacters}
 use Rattle.desk_model.proofs.Commands.Accepted.{given_proofreader, given_unbarred, room_for_entry, room_for_mark, short_note, room_for_version, named_paragraph, named_table, shown_defined, short_print, room_for_paragraph, given_name, given_meaning, room_for_table, users_defined}
 use Rattle.desk_model.proofs.Commands.FirstUndefined.{DefinesUser}
+use Rattle.desk_model.proofs.Commands.Turns.{changed-print, changed-translated}
 use Rattle.desk_model.proofs.Lists.Members.{Contains-here, Contains-behind, Contains-map}
 use Rattle.desk_model.proofs.Books.SoundParagraphs.{KeepsText, IsSoundMark-kept, IsSound-changed, IsSound-kept_text, IsSound-reordered, IsSound-with_paragraph}
 use Rattle.desk_model.proofs.Books.ParagraphLists.{IsPermutation-with_move, ids_of, id-found, Contains-found}
@@ -158,13 +160,16 @@ sound_retable book expect id table sound accepted =
 
 -- ---- another place
 
+-- a move that is accepted leaves the same paragraphs
+pub IsPermutation-moved : (book : Book) (expect : Option ℕ) (id : ℕ) (anchor : Anchor) → IsSound book → IsAccepted book expect (Move id anchor) → IsPermutation book.paragraphs (with_move id anchor book)
+IsPermutation-moved book expect id anchor sound accepted =
+    let named = named_paragraph book expect (Move id anchor) accepted in
+    let p = named id (Contains-here id (paragraph_before anchor)) in
+    IsPermutation-with_move book id anchor p.0 (paragraphs-apart book sound) p.1 (λ other c. named other (Contains-behind id other (paragraph_before anchor) c))
+
 sound_move : (book : Book) (expect : Option ℕ) (id : ℕ) (anchor : Anchor) → IsSound book → IsAccepted book expect (Move id anchor) → IsSound (next_with_paragraphs book (with_move id anchor book))
 sound_move book expect id anchor sound accepted =
-    let command : Command = Move id anchor in
-    let named = named_paragraph book expect command accepted in
-    let p = named id (Contains-here id (paragraph_before anchor)) in
-    IsSound-reordered book (with_move id anchor book) sound (room_for_version book expect command accepted)
-    (IsPermutation-with_move book id anchor p.0 (paragraphs-apart book sound) p.1 (λ other c. named other (Contains-behind id other (paragraph_before anchor) c)))
+    IsSound-reordered book (with_move id anchor book) sound (room_for_version book expect (Move id anchor) accepted) (IsPermutation-moved book expect id anchor sound accepted)
 
 -- ---- corrections
 
@@ -181,8 +186,9 @@ sound_correct book expect id start count text who sound accepted written =
       | inl past ↦ absurd (accepted BadSpan (record { paragraph = p; found = named.1; past = past }))
       | inr h ↦ h
     ] in
-    let short = short_print book expect command accepted (with_replacement (print_of p) r) (ap (option_map (λ (q : Paragraph). with_replacement (print_of q) r)) named.1) in
-    let defined = shown_defined book expect command accepted (with_replacement (print_of p) r) p.table s.text s.meaning (ap (option_map (λ (q : Paragraph). (with_replacement (print_of q) r, q.table))) named.1) s.found s.means in
+    let change : Paragraph → Option (List ℕ) = λ q. Some (with_replacement (print_of q) r) in
+    let short = short_print book expect command accepted (with_replacement (print_of p) r) (changed-print book id change p (with_replacement (print_of p) r) named.1 refl) in
+    let defined = shown_defined book expect command accepted (with_replacement (print_of p) r) p.table s.text s.meaning (changed-translated book id change p (with_replacement (print_of p) r) named.1 refl) s.found s.means in
     let clean : IsClean (normal_form text) = record { characters = written.0; unbarred = IsUnbarred-stored text } in
     let long : length (print_of (with_entry (Corrects r who) p)) + count ≡ length (print_of p) + length (normal_form text) = ap (λ (t : List ℕ). length t + count) print ∙ length-replaced (print_of p) r span in
     IsSound-with_entry book id (Corrects r who) (mark_moved r) p sound (room_for_version book expect command accepted) named.1
@@ -199,9 +205,8 @@ sound_undo book expect id n r sound accepted is =
     let s = IsSoundParagraph-found book sound id p there in
     let new : List ℕ = print_of (with_entry (Undoes n) p) in
     let undone : print_undone p ≡ Some new = ap (option_map (λ (correction : ℕ × Replacement). print_of (with_entry (Undoes correction.0) p))) e in
-    let short = short_print book expect command accepted new (ap (option_and_then print_undone) there ∙ undone) in
-    let defined = shown_defined book expect command accepted new p.table s.text s.meaning
-    (ap (option_and_then (λ (q : Paragraph). option_map (λ (print : List ℕ). (print, q.table)) (print_undone q))) there ∙ ap (option_map (λ (print : List ℕ). (print, p.table))) undone) s.found s.means in
+    let short = short_print book expect command accepted new (changed-print book id print_undone p new there undone) in
+    let defined = shown_defined book expect command accepted new p.table s.text s.meaning (changed-translated book id print_undone p new there undone) s.found s.means in
     let parts = newest-parts p.history n r e in
     let last = IsLast-parts p.history 1 p.history parts.0 n r parts.1 in
     let before : new ≡ corrected_print p.original (take (n - 1) p.history) = corrected_print-before p.original p.history s.history.entries n r e in
@@ -256,10 +261,10 @@ keeps_text book expect command id change keeps sound accepted = IsSound-kept_tex
 
 pub IsSound-makes : (book next : Book) (expect : Option ℕ) (command : Command) → IsSound book → IsAccepted book expect command → HasCharacters command → Makes book command next → IsSound next
 IsSound-makes book next expect (Table name text) sound accepted written e = subst IsSound (sym e) (sound_table book expect name text sound accepted)
-IsSound-makes book next expect (TypeIn anchor table text) sound accepted written e = subst IsSound (sym e) (sound_type book expect anchor table text sound accepted written)
-IsSound-makes book next expect (Correct id start count text who) sound accepted written e = subst IsSound (sym e) (sound_correct book expect id start count text who sound accepted written)
+IsSound-makes book next expect (TypeIn anchor table text) sound accepted written e = subst IsSound (sym e) (sound_type book expect anchor table text sound accepted written.0)
+IsSound-makes book next expect (Correct id start count text who) sound accepted written e = subst IsSound (sym e) (sound_correct book expect id start count text who sound accepted (written.0, written.1))
 IsSound-makes book next expect (Undo id) sound accepted written (n, r, newest, e) = subst IsSound (sym e) (sound_undo book expect id n r sound accepted newest)
-IsSound-makes book next expect (Mark id cell count note) sound accepted written (start, end, marked, e) = subst IsSound (sym e) (sound_mark book expect id cell count start end note sound accepted written marked)
+IsSound-makes book next expect (Mark id cell count note) sound accepted written (start, end, marked, e) = subst IsSound (sym e) (sound_mark book expect id cell count start end note sound accepted written.2 marked)
 IsSound-makes book next expect (Resolve id) sound accepted written e = subst IsSound (sym e) (IsSound-resolved book id sound (room_for_version book expect (Resolve id) accepted))
 IsSound-makes book next expect (Strike id) sound accepted written e =
     subst IsSound (sym e) (keeps_text book expect (Strike id) id (λ p. record p { struck = true }) (record { id = λ p. refl; table = λ p. refl; original = λ p. refl; history = λ p. refl }) sound accepted)

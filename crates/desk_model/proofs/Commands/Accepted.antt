@@ -13,7 +13,8 @@ use Rattle.desk_model.specs.Book.{Book, Paragraph, text_of, paragraph_of}
 use Rattle.desk_model.specs.Limits.{most_entries, most_marks, most_note, most_proofreader, most_version, most_tables, most_name, most_paragraphs, most_print}
 use Rattle.desk_model.specs.Name.{IsProofreaderName, IsTableName, is_name_character, is_proofreader_character}
 use Rattle.desk_model.specs.NormalForm.{IsUnbarred, is_barred}
-use Rattle.desk_model.specs.Refusals.{history_grown, note_given, proofreader_given, text_given, IsAccepted, table_given, adds_paragraph, paragraphs_named, table_named, new_print, print_to_translate}
+use Rattle.desk_model.specs.Named.{adds_paragraph, history_grown, note_given, paragraphs_named, proofreader_given, table_given, table_named, text_given}
+use Rattle.desk_model.specs.Refusals.{IsAccepted, new_print, print_to_translate}
 use Rattle.desk_model.proofs.Commands.TextTests.{IsFirstBarred-position, IsUnbarred-position}
 use Rattle.desk_model.proofs.Commands.FirstUndefined.{DefinesUser, defined_or_first, all_or_first_user}
 

@@ -1,12 +1,13 @@
--- How a command is checked, one turn after the other, and the turns that each command skips.
-use Rattle.std.proofs.Common.{◌≡◌, ℕ, ◌+◌, ◌<◌, ◌≤◌, Bool, true, List, [], ◌∷◌, Option, refl, ap, subst, ◌∙◌, arith, inl, inr}
-use Rattle.std.specs.Prelude.{nat_eq, nat_lt, nat_le, ◌||◌}
+-- How a command is checked, one turn after the other, and the turns that it skips.
+use Rattle.std.proofs.Common.{◌≡◌, ◌⊎◌, ℕ, ◌+◌, ◌<◌, ◌≤◌, Bool, true, false, List, [], ◌∷◌, Option, Some, None, Contains, refl, sym, ap, subst, arith, inl, inr}
+use Rattle.std.specs.Prelude.{nat_eq, nat_lt, nat_le, ◌||◌, not, is_some, MatchOption}
 use Rattle.std.specs.List.{list_all, list_any}
+use Rattle.std.specs.Map.{lookup}
+use Rattle.std.specs.Option.{option_and_then}
 use Rattle.std.specs.Cmp.{first_so, second_so}
-use Rattle.std.proofs.lemmas.Bool.{cases_Bool}
+use Rattle.std.proofs.lemmas.Bool.{cases_Bool, cases_lt, or_left, or_right}
 use Rattle.std.proofs.lemmas.Bool.Decides.{nat_tests}
 use Rattle.desk_command.specs.declared.command.Command.{Command}
-use Rattle.desk_command.specs.declared.command.Command.TheVariants.{Table, TypeIn, Correct, Undo, Mark, Resolve, Strike, Restore, Style, Volume, Retable, Move}
 use Rattle.desk_command.specs.declared.refusal.Limit.{Limit}
 use Rattle.desk_command.specs.declared.refusal.Limit.TheVariants.{Tables, Paragraphs, Entries, Marks, Version}
 use Rattle.desk_command.specs.declared.refusal.Refusal.{Refusal}
@@ -14,7 +15,8 @@ use Rattle.desk_command.specs.declared.refusal.Refusal.TheVariants.{Moved, BadNa
 use Rattle.louis_table.specs.declared.fault.TableFault.{TableFault}
 use Rattle.desk_model.specs.Book.{Book}
 use Rattle.desk_model.specs.Judging.{Passes}
-use Rattle.desk_model.specs.Refusals.{Holds, turn, IsRefused, IsAccepted, HasNothingToUndo, IsBadReader, IsBadSpan, IsFullOfEntries, IsFullOfMarks, IsResolved, LacksMark, IsMoved, IsBadName, IsBadText, LacksParagraph, LacksTable, IsStruck, IsNotStruck, IsTooLong, IsFull, IsFullOfTables, IsFullOfParagraphs, IsBadTable, IsUndefined, IsUntranslatable}
+use Rattle.desk_model.specs.Named.{Changed, Named, Retabled, Translated, Typed, named_by, note_given, paragraph_translated, paragraphs_named, text_stored}
+use Rattle.desk_model.specs.Refusals.{Holds, turn, IsRefused, IsAccepted, HasLongNote, HasLongPrint, HasNoCorrection, IsBadTable, IsBadText, IsFull, IsMoved, IsTooLong, IsUndefined, IsUntranslatable, LacksSpan, print_and_table, print_made}
 
 -- ---- limits
 
@@ -68,247 +70,151 @@ module _ (book : Book) (expect : Option ℕ) (command : Command) where
   pub Passes-accepted : IsAccepted book expect command → (n : ℕ) → Passes book expect command n
   Passes-accepted a n other h = absurd (a other h)
 
-  -- ---- one turn more
-
-  pub Passes-moved : ((version : ℕ) → ¬ IsMoved book expect version) → Passes book expect command 10
-  Passes-moved none (Moved version) h = absurd (none version h)
-  Passes-moved none other h = omega arith
-
-  pub Passes-bad_name : Passes book expect command 10 → ¬ IsBadName command → Passes book expect command 15
-  Passes-bad_name p none BadName h = absurd (none h)
-  Passes-bad_name p none other h = let after = p other h in omega arith
-
-  pub Passes-bad_reader : Passes book expect command 15 → ¬ IsBadReader command → Passes book expect command 20
-  Passes-bad_reader p none BadReader h = absurd (none h)
-  Passes-bad_reader p none other h = let after = p other h in omega arith
-
-  pub Passes-bad_text : Passes book expect command 20 → ((place : ℕ) → ¬ IsBadText command place) → Passes book expect command 30
-  Passes-bad_text p none (BadText place) h = absurd (none place h)
-  Passes-bad_text p none other h = let after = p other h in omega arith
-
-  pub Passes-no_paragraph : Passes book expect command 30 → ¬ LacksParagraph book command → Passes book expect command 40
-  Passes-no_paragraph p none NoParagraph h = absurd (none h)
-  Passes-no_paragraph p none other h = let after = p other h in omega arith
-
-  pub Passes-no_table : Passes book expect command 40 → ¬ LacksTable book command → Passes book expect command 50
-  Passes-no_table p none NoTable h = absurd (none h)
-  Passes-no_table p none other h = let after = p other h in omega arith
-
-  pub Passes-no_mark : Passes book expect command 50 → ¬ LacksMark book command → Passes book expect command 60
-  Passes-no_mark p none NoMark h = absurd (none h)
-  Passes-no_mark p none other h = let after = p other h in omega arith
-
-  pub Passes-struck : Passes book expect command 60 → ¬ IsStruck book command → Passes book expect command 70
-  Passes-struck p none Struck h = absurd (none h)
-  Passes-struck p none other h = let after = p other h in omega arith
-
-  pub Passes-not_struck : Passes book expect command 70 → ¬ IsNotStruck book command → Passes book expect command 80
-  Passes-not_struck p none NotStruck h = absurd (none h)
-  Passes-not_struck p none other h = let after = p other h in omega arith
-
-  pub Passes-resolved : Passes book expect command 80 → ¬ IsResolved book command → Passes book expect command 90
-  Passes-resolved p none Resolved h = absurd (none h)
-  Passes-resolved p none other h = let after = p other h in omega arith
-
-  pub Passes-bad_span : Passes book expect command 90 → ¬ IsBadSpan book command → Passes book expect command 100
-  Passes-bad_span p none BadSpan h = absurd (none h)
-  Passes-bad_span p none other h = let after = p other h in omega arith
-
-  pub Passes-nothing_to_undo : Passes book expect command 100 → ¬ HasNothingToUndo book command → Passes book expect command 110
-  Passes-nothing_to_undo p none NothingToUndo h = absurd (none h)
-  Passes-nothing_to_undo p none other h = let after = p other h in omega arith
-
-  pub Passes-too_long : Passes book expect command 110 → ¬ IsTooLong book command → Passes book expect command 120
-  Passes-too_long p none TooLong h = absurd (none h)
-  Passes-too_long p none (Full limit) h = let turns = limit_turn limit in omega arith
-  Passes-too_long p none other h = let after = p other h in omega arith
-
-  pub Passes-full : (limit : Limit) → Passes book expect command (turn (Full limit)) → ¬ IsFull book command limit → Passes book expect command (turn (Full limit) + 10)
-  Passes-full limit p none (Full other) h =
-      let after = p (Full other) h in
-      elim (cases_Bool (nat_eq (turn (Full other)) (turn (Full limit)))) [
-        | inl e ↦ absurd (none (subst (IsFull book command) (same_limit other limit (grind (arith, nat_tests))) h))
-        | inr e ↦ let apart : ¬ (turn (Full other) ≡ turn (Full limit)) = λ same. grind (arith, nat_tests) in omega arith
-      ]
-  Passes-full limit p none other h = let after = p other h in let turns = limit_turn limit in omega arith
-
-  pub Passes-bad_table : Passes book expect command 170 → ((fault : TableFault) → ¬ IsBadTable command fault) → Passes book expect command 180
-  Passes-bad_table p none (BadTable fault) h = absurd (none fault h)
-  Passes-bad_table p none (Full limit) h = absurd (let after = p (Full limit) h in let turns = limit_turn limit in omega arith)
-  Passes-bad_table p none other h = let after = p other h in omega arith
-
-  pub Passes-undefined : Passes book expect command 180 → ((place : ℕ) → ¬ IsUndefined book command place) → Passes book expect command 190
-  Passes-undefined p none (Undefined place) h = absurd (none place h)
-  Passes-undefined p none (Full limit) h = absurd (let after = p (Full limit) h in let turns = limit_turn limit in omega arith)
-  Passes-undefined p none other h = let after = p other h in omega arith
-
-  pub Passes-untranslatable : Passes book expect command 190 → ((id place : ℕ) → ¬ IsUntranslatable book command id place) → IsAccepted book expect command
-  Passes-untranslatable p none (Untranslatable id place) h = none id place h
-  Passes-untranslatable p none (Full limit) h = absurd (let after = p (Full limit) h in let turns = limit_turn limit in omega arith)
-  Passes-untranslatable p none other h = let after = p other h in let before = turn-below other h in omega arith
-
 -- ---- the turns that a command skips
 
--- the turns of the refusals that can hold of the command
-abbrev pub turns : Command → List ℕ
-turns (Table name text) = 0 ∷ 10 ∷ 120 ∷ 160 ∷ 170 ∷ 190 ∷ []
-turns (TypeIn anchor table text) = 0 ∷ 20 ∷ 30 ∷ 40 ∷ 110 ∷ 130 ∷ 160 ∷ 180 ∷ []
-turns (Correct id start count text who) = 0 ∷ 15 ∷ 20 ∷ 30 ∷ 60 ∷ 90 ∷ 110 ∷ 140 ∷ 160 ∷ 180 ∷ []
-turns (Undo id) = 0 ∷ 30 ∷ 60 ∷ 100 ∷ 110 ∷ 140 ∷ 160 ∷ 180 ∷ []
-turns (Mark id cell count note) = 0 ∷ 20 ∷ 30 ∷ 60 ∷ 90 ∷ 110 ∷ 150 ∷ 160 ∷ []
-turns (Resolve id) = 0 ∷ 50 ∷ 80 ∷ 160 ∷ []
-turns (Strike id) = 0 ∷ 30 ∷ 60 ∷ 160 ∷ []
-turns (Restore id) = 0 ∷ 30 ∷ 70 ∷ 160 ∷ []
-turns (Style id style) = 0 ∷ 30 ∷ 160 ∷ []
-turns (Volume id begins) = 0 ∷ 30 ∷ 160 ∷ []
-turns (Retable id table) = 0 ∷ 30 ∷ 40 ∷ 60 ∷ 160 ∷ 180 ∷ []
-turns (Move id anchor) = 0 ∷ 30 ∷ 160 ∷ []
+-- whether the print of such a paragraph is a new one
+abbrev pub is_new : Option Translated → Bool
+is_new None = false
+is_new (Some (Typed print table)) = true
+is_new (Some (Changed id change)) = true
+is_new (Some (Retabled id table)) = false
 
--- it is one of the turns of the command
-abbrev is_turn : Command → ℕ → Bool
-is_turn command n = list_any (nat_eq n) (turns command)
+-- each turn, with whether a refusal of it may hold of a command that gives and names this
+abbrev pub turns : Named → List (ℕ × Bool)
+turns named =
+    (0, true) ∷ (10, is_some named.table_given) ∷ (15, is_some named.proofreader_given) ∷ (20, is_some named.text_given)
+    ∷ (30, list_any (λ id. true) named.paragraphs_named) ∷ (40, is_some named.table_named) ∷ (50, is_some named.mark_named)
+    ∷ (60, is_some named.live_paragraph) ∷ (70, is_some named.struck_paragraph) ∷ (80, is_some named.mark_named)
+    ∷ (90, is_some named.span_named) ∷ (100, is_some named.paragraph_undone)
+    ∷ (110, is_some named.text_stored || (is_new named.paragraph_translated || is_some named.note_given))
+    ∷ (120, is_some named.table_given) ∷ (130, named.adds_paragraph) ∷ (140, is_some named.history_grown)
+    ∷ (150, is_some named.note_given) ∷ (160, true) ∷ (170, is_some named.table_given)
+    ∷ (180, is_some named.paragraph_translated) ∷ (190, is_some named.table_given) ∷ []
 
--- no turn of the command is from n up to m
+-- the turn is before n or not before m, or no refusal of it may hold
+abbrev pub is_skipped : (n m : ℕ) → ℕ × Bool → Bool
+is_skipped n m t = nat_lt t.0 n || (nat_le m t.0 || not t.1)
+
+-- no refusal of a turn from n up to m may hold of the command
 abbrev pub skips : Command → (n m : ℕ) → Bool
-skips command n m = list_all (λ t. nat_lt t n || nat_le m t) (turns command)
+skips command n m = list_all (is_skipped n m) (turns (named_by command))
 
-module _ (book : Book) (expect : Option ℕ) where
-  name_turn : (command : Command) → IsBadName command → is_turn command 10 ≡ true
-  name_turn (Table name text) h = refl
-  name_turn command h = cc h.given
+passes_at : (p : ℕ × Bool → Bool) (ts : List (ℕ × Bool)) (t : ℕ) (b : Bool) → list_all p ts ≡ true → lookup (nat_eq t) ts ≡ Some b → p (t, b) ≡ true
+passes_at p [] t b all found = absurd (cc)
+passes_at p ((u, c) ∷ ts) t b all found =
+    elim (cases_Bool (nat_eq t u)) [
+      | inl e ↦
+          let here : t ≡ u = grind (arith, nat_tests) in
+          let flags : Some c ≡ Some b = rw e at found in
+          let same : c ≡ b = cc in
+          subst (λ (x : ℕ). p (x, b) ≡ true) (sym here) (subst (λ (x : Bool). p (u, x) ≡ true) same (first_so (p (u, c)) (list_all p ts) all))
+      | inr e ↦ passes_at p ts t b (second_so (p (u, c)) (list_all p ts) all) (rw e at found)
+    ]
 
-  text_turn : (command : Command) (place : ℕ) → IsBadText command place → is_turn command 20 ≡ true
-  text_turn (TypeIn anchor table text) place h = refl
-  text_turn (Correct id start count text who) place h = refl
-  text_turn (Mark id cell count note) place h = refl
-  text_turn command place h = cc h.given
+not_skipped : (n m t : ℕ) → is_skipped n m (t, true) ≡ true → n ≤ t → m ≤ t
+not_skipped n m t skipped after =
+    elim (cases_lt t m) [
+      | inl before ↦ absurd (grind (arith, nat_tests))
+      | inr le ↦ le
+    ]
 
-  paragraph_turn : (command : Command) → LacksParagraph book command → is_turn command 30 ≡ true
-  paragraph_turn (Table name text) h = let none = h.named.1 in absurd (omega arith)
-  paragraph_turn (Resolve id) h = let none = h.named.1 in absurd (omega arith)
-  paragraph_turn command h = refl
+given_some : {X : Type 0} (P : X → Type 0) (o : Option X) → MatchOption o ⊥ P → is_some o ≡ true
+given_some P None h = absurd h
+given_some P (Some x) h = refl
 
-  table_turn : (command : Command) → LacksTable book command → is_turn command 40 ≡ true
-  table_turn (TypeIn anchor table text) h = refl
-  table_turn (Retable id table) h = refl
-  table_turn command h = cc h.named
+named_some : (ids : List ℕ) (id : ℕ) → Contains ids id → list_any (λ other. true) ids ≡ true
+named_some [] id (k, within, at) = absurd (omega arith)
+named_some (other ∷ ids) id h = refl
 
-  struck_turn : (command : Command) → IsStruck book command → is_turn command 60 ≡ true
-  struck_turn (Strike id) h = refl
-  struck_turn (Retable id table) h = refl
-  struck_turn (Correct id start count text who) h = refl
-  struck_turn (Undo id) h = refl
-  struck_turn (Mark id cell count note) h = refl
-  struck_turn command h = cc h.named
+module _ (book : Book) where
+  made_new : (o : Option Translated) (print : List ℕ) → option_and_then (print_made book) o ≡ Some print → is_new o ≡ true
+  made_new None print e = absurd (cc)
+  made_new (Some (Typed text table)) print e = refl
+  made_new (Some (Changed id change)) print e = refl
+  made_new (Some (Retabled id table)) print e = absurd (cc)
 
-  not_struck_turn : (command : Command) → IsNotStruck book command → is_turn command 70 ≡ true
-  not_struck_turn (Restore id) h = refl
-  not_struck_turn command h = cc h.named
+  translated_some : (o : Option Translated) (shown : List ℕ × List ℕ) → option_and_then (print_and_table book) o ≡ Some shown → is_some o ≡ true
+  translated_some None shown e = absurd (cc)
+  translated_some (Some t) shown e = refl
 
-  long_turn : (command : Command) → IsTooLong book command → is_turn command 110 ≡ true
-  long_turn (TypeIn anchor table text) h = refl
-  long_turn (Correct id start count text who) h = refl
-  long_turn (Undo id) h = refl
-  long_turn (Mark id cell count note) h = refl
-  long_turn command (inl h) = cc h.given
-  long_turn command (inr (inl h)) = cc h.made
-  long_turn command (inr (inr h)) = cc h.given
+module _ (book : Book) (expect : Option ℕ) (command : Command) where
+  long_turn : IsTooLong book command → (is_some (text_stored command) || (is_new (paragraph_translated command) || is_some (note_given command))) ≡ true
+  long_turn (inl h) = or_left (is_some (text_stored command)) (is_new (paragraph_translated command) || is_some (note_given command)) (ap is_some h.given)
+  long_turn (inr h) = or_right (is_some (text_stored command)) (is_new (paragraph_translated command) || is_some (note_given command)) (rest h)
+    where
+      rest : HasLongPrint book command ⊎ HasLongNote command → (is_new (paragraph_translated command) || is_some (note_given command)) ≡ true
+      rest (inl made) = or_left (is_new (paragraph_translated command)) (is_some (note_given command)) (made_new book (paragraph_translated command) made.print made.made)
+      rest (inr note) = or_right (is_new (paragraph_translated command)) (is_some (note_given command)) (ap is_some note.given)
 
-  proofreader_turn : (command : Command) → IsBadReader command → is_turn command 15 ≡ true
-  proofreader_turn (Correct id start count text who) h = refl
-  proofreader_turn command h = cc h.given
+  -- a refusal that holds is one that may hold of a command that names what this one does
+  may_hold : (other : Refusal) → Holds book expect command other → lookup (nat_eq (turn other)) (turns (named_by command)) ≡ Some true
+  may_hold (Moved version) h = refl
+  may_hold BadName h = ap Some (ap is_some h.given)
+  may_hold BadReader h = ap Some (ap is_some h.given)
+  may_hold (BadText place) h = ap Some (ap is_some h.given)
+  may_hold NoParagraph h = ap Some (named_some (paragraphs_named command) h.id h.named)
+  may_hold NoTable h = ap Some (ap is_some h.named)
+  may_hold NoMark h = ap Some (ap is_some h.named)
+  may_hold Struck h = ap Some (ap is_some h.named)
+  may_hold NotStruck h = ap Some (ap is_some h.named)
+  may_hold Resolved h = ap Some (ap is_some h.named)
+  may_hold BadSpan h = ap Some (given_some (LacksSpan book) (named_by command).span_named h)
+  may_hold NothingToUndo h = ap Some (given_some (HasNoCorrection book) (named_by command).paragraph_undone h)
+  may_hold TooLong h = ap Some (long_turn h)
+  may_hold (Full Tables) h = ap Some (ap is_some h.given)
+  may_hold (Full Paragraphs) h = ap Some h.adds
+  may_hold (Full Entries) h = ap Some (ap is_some h.grows)
+  may_hold (Full Marks) h = ap Some (ap is_some h.given)
+  may_hold (Full Version) h = refl
+  may_hold (BadTable fault) h = ap Some (ap is_some h.given)
+  may_hold (Undefined place) h = ap Some (translated_some book (paragraph_translated command) (h.print, h.name) h.print_is)
+  may_hold (Untranslatable id place) h = ap Some (ap is_some h.given)
+  may_hold NoMemory h = absurd h
 
-  mark_turn : (command : Command) → LacksMark book command → is_turn command 50 ≡ true
-  mark_turn (Resolve id) h = refl
-  mark_turn command h = cc h.named
+  pub Passes-skip : (n m : ℕ) → skips command n m ≡ true → Passes book expect command n → Passes book expect command m
+  Passes-skip n m skip p other h =
+      not_skipped n m (turn other) (passes_at (is_skipped n m) (turns (named_by command)) (turn other) true skip (may_hold other h)) (p other h)
 
-  resolved_turn : (command : Command) → IsResolved book command → is_turn command 80 ≡ true
-  resolved_turn (Resolve id) h = refl
-  resolved_turn command h = cc h.named
+  -- ---- one turn more
 
-  span_turn : (command : Command) → IsBadSpan book command → is_turn command 90 ≡ true
-  span_turn (Correct id start count text who) h = refl
-  span_turn (Mark id cell count note) h = refl
-  span_turn command h = absurd h
+  -- no such refusal holds, whatever numbers it has
+  abbrev pub NoneHolds : Refusal → Type 0
+  NoneHolds (Moved version) = (other : ℕ) → ¬ IsMoved book expect other
+  NoneHolds (BadText place) = (other : ℕ) → ¬ IsBadText command other
+  NoneHolds (BadTable fault) = (other : TableFault) → ¬ IsBadTable command other
+  NoneHolds (Undefined place) = (other : ℕ) → ¬ IsUndefined book command other
+  NoneHolds (Untranslatable id place) = (other at : ℕ) → ¬ IsUntranslatable book command other at
+  NoneHolds refusal = ¬ Holds book expect command refusal
 
-  nothing_turn : (command : Command) → HasNothingToUndo book command → is_turn command 100 ≡ true
-  nothing_turn (Undo id) h = refl
-  nothing_turn command h = absurd h
+  -- then none of its turn does
+  none-at : (refusal other : Refusal) → turn refusal ≡ turn other → NoneHolds refusal → ¬ Holds book expect command other
+  none-at (Moved v) (Moved w) e none h = none w h
+  none-at BadName BadName e none h = none h
+  none-at BadReader BadReader e none h = none h
+  none-at (BadText p) (BadText q) e none h = none q h
+  none-at NoParagraph NoParagraph e none h = none h
+  none-at NoTable NoTable e none h = none h
+  none-at NoMark NoMark e none h = none h
+  none-at Struck Struck e none h = none h
+  none-at NotStruck NotStruck e none h = none h
+  none-at Resolved Resolved e none h = none h
+  none-at BadSpan BadSpan e none h = none h
+  none-at NothingToUndo NothingToUndo e none h = none h
+  none-at TooLong TooLong e none h = none h
+  none-at TooLong (Full other) e none h = let turns = limit_turn other in omega arith
+  none-at (Full limit) (Full other) e none h = none (subst (IsFull book command) (sym (same_limit limit other e)) h)
+  none-at (Full limit) other e none h = let turns = limit_turn limit in omega arith
+  none-at (BadTable f) (BadTable g) e none h = none g h
+  none-at (BadTable f) (Full other) e none h = let turns = limit_turn other in omega arith
+  none-at (Undefined p) (Undefined q) e none h = none q h
+  none-at (Undefined p) (Full other) e none h = let turns = limit_turn other in omega arith
+  none-at (Untranslatable id p) (Untranslatable n q) e none h = none n q h
+  none-at (Untranslatable id p) (Full other) e none h = let turns = limit_turn other in omega arith
+  none-at refusal NoMemory e none h = h
+  none-at NoMemory other e none h = let below = turn-below book expect command other h in omega arith
+  none-at refusal other e none h = omega arith
 
-  entries_turn : (command : Command) → IsFullOfEntries book command → is_turn command 140 ≡ true
-  entries_turn (Correct id start count text who) h = refl
-  entries_turn (Undo id) h = refl
-  entries_turn command h = cc h.grows
-
-  marks_turn : (command : Command) → IsFullOfMarks book command → is_turn command 150 ≡ true
-  marks_turn (Mark id cell count note) h = refl
-  marks_turn command h = cc h.given
-
-  tables_turn : (command : Command) → IsFullOfTables book command → is_turn command 120 ≡ true
-  tables_turn (Table name text) h = refl
-  tables_turn command h = cc h.given
-
-  paragraphs_turn : (command : Command) → IsFullOfParagraphs book command → is_turn command 130 ≡ true
-  paragraphs_turn (TypeIn anchor table text) h = refl
-  paragraphs_turn command h = cc h.adds
-
-  first_turn : (command : Command) → is_turn command 0 ≡ true
-  first_turn (Table name text) = refl
-  first_turn command = refl
-
-  version_turn : (command : Command) → is_turn command 160 ≡ true
-  version_turn (Table name text) = refl
-  version_turn command = refl
-
-  fault_turn : (command : Command) (fault : TableFault) → IsBadTable command fault → is_turn command 170 ≡ true
-  fault_turn (Table name text) fault h = refl
-  fault_turn command fault h = cc h.given
-
-  shown_turn : (command : Command) (place : ℕ) → IsUndefined book command place → is_turn command 180 ≡ true
-  shown_turn (TypeIn anchor table text) place h = refl
-  shown_turn (Retable id table) place h = refl
-  shown_turn (Correct id start count text who) place h = refl
-  shown_turn (Undo id) place h = refl
-  shown_turn command place h = cc h.print_is
-
-  user_turn : (command : Command) (id place : ℕ) → IsUntranslatable book command id place → is_turn command 190 ≡ true
-  user_turn (Table name text) id place h = refl
-  user_turn command id place h = cc h.given
-
-  holds_turn : (command : Command) (other : Refusal) → Holds book expect command other → is_turn command (turn other) ≡ true
-  holds_turn command (Moved version) h = first_turn command
-  holds_turn command BadName h = name_turn command h
-  holds_turn command BadReader h = proofreader_turn command h
-  holds_turn command (BadText place) h = text_turn command place h
-  holds_turn command NoParagraph h = paragraph_turn command h
-  holds_turn command NoTable h = table_turn command h
-  holds_turn command NoMark h = mark_turn command h
-  holds_turn command Resolved h = resolved_turn command h
-  holds_turn command BadSpan h = span_turn command h
-  holds_turn command NothingToUndo h = nothing_turn command h
-  holds_turn command (Full Entries) h = entries_turn command h
-  holds_turn command (Full Marks) h = marks_turn command h
-  holds_turn command Struck h = struck_turn command h
-  holds_turn command NotStruck h = not_struck_turn command h
-  holds_turn command TooLong h = long_turn command h
-  holds_turn command (Full Tables) h = tables_turn command h
-  holds_turn command (Full Paragraphs) h = paragraphs_turn command h
-  holds_turn command (Full Version) h = version_turn command
-  holds_turn command (BadTable fault) h = fault_turn command fault h
-  holds_turn command (Undefined place) h = shown_turn command place h
-  holds_turn command (Untranslatable id place) h = user_turn command id place h
-  holds_turn command other h = absurd h
-
-  passes_at : (p : ℕ → Bool) (ts : List ℕ) (t : ℕ) → list_all p ts ≡ true → list_any (nat_eq t) ts ≡ true → p t ≡ true
-  passes_at p [] t h g = cc
-  passes_at p (u ∷ ts) t h g =
-      elim (cases_Bool (nat_eq t u)) [
-        | inl e ↦ let same : t ≡ u = grind (arith, nat_tests) in ap p same ∙ first_so (p u) (list_all p ts) h
-        | inr e ↦ passes_at p ts t (second_so (p u) (list_all p ts) h) (rw e at g)
-      ]
-
-  pub Passes-skip : (command : Command) (n m : ℕ) → skips command n m ≡ true → Passes book expect command n → Passes book expect command m
-  Passes-skip command n m s p other h =
-      let after = p other h in
-      let at = passes_at (λ t. nat_lt t n || nat_le m t) (turns command) (turn other) s (holds_turn command other h) in
-      grind (arith, nat_tests)
+  -- where no such refusal holds, the checks go on at the next turn at which one may
+  pub Passes-past : (refusal : Refusal) (m : ℕ) → skips command (turn refusal + 1) m ≡ true → Passes book expect command (turn refusal) → NoneHolds refusal → Passes book expect command m
+  Passes-past refusal m skip p none =
+      Passes-skip (turn refusal + 1) m skip (Passes-more book expect command (turn refusal) p (λ other same. none-at refusal other (sym same) none))

@@ -10,13 +10,13 @@ use Rattle.louis_translate.proofs.Tilings.{one_tiling}
 use Rattle.louis_translate.specs.Braille.{braille}
 use Rattle.louis_translate.specs.Position.{IsFirstUndefined}
 use Rattle.desk_command.specs.declared.command.Command.{Command}
-use Rattle.desk_command.specs.declared.command.Command.TheVariants.{Correct, Undo, Mark}
 use Rattle.desk_command.specs.declared.refusal.Limit.{Limit}
 use Rattle.desk_command.specs.declared.refusal.Limit.TheVariants.{Tables, Paragraphs, Entries, Marks, Version}
 use Rattle.desk_model.specs.Book.{Book, Mark as BookMark, Paragraph, mark_of, paragraph_of, text_of}
 use Rattle.desk_model.specs.Limits.{most_entries, most_marks, most_name, most_note, most_paragraphs, most_print, most_proofreader, most_tables, most_version}
 use Rattle.desk_model.specs.Name.{IsProofreaderName, IsTableName, is_name_character, is_proofreader_character}
-use Rattle.desk_model.specs.Refusals.{DefinesUser, HasLongNote, HasLongPrint, HasLongText, HasNothingToUndo, IsBadName, IsBadReader, IsBadSpan, IsBadTable, IsBadText, IsFull, IsMoved, IsNotStruck, IsPastPrint, IsResolved, IsStruck, IsUndefined, IsUntranslatable, LacksMark, LacksParagraph, LacksTable, adds_paragraph, history_grown, live_paragraph, mark_named, new_print, note_given, paragraphs_named, print_to_translate, proofreader_given, struck_paragraph, table_given, table_named, text_given, text_stored}
+use Rattle.desk_model.specs.Named.{Cells, Characters, Span, adds_paragraph, history_grown, live_paragraph, mark_named, named_by, note_given, paragraphs_named, proofreader_given, struck_paragraph, table_given, table_named, text_given, text_stored}
+use Rattle.desk_model.specs.Refusals.{DefinesUser, HasLongNote, HasLongPrint, HasLongText, HasNoCorrection, HasNothingToUndo, IsBadName, IsBadReader, IsBadSpan, IsBadTable, IsBadText, IsFull, IsMoved, IsNotStruck, IsPastPrint, IsResolved, IsStruck, IsUndefined, IsUntranslatable, LacksMark, LacksParagraph, LacksSpan, LacksTable, new_print, print_to_translate}
 use Rattle.desk_model.specs.Print.{newest, print_of}
 use Rattle.desk_model.specs.NormalForm.{IsFirstBarred, is_barred}
 use Rattle.desk_model.specs.Translation.{LacksCells}
@@ -25,7 +25,7 @@ use Rattle.desk_model.proofs.Commands.MarkedPlaces.{has_cells}
 use Rattle.desk_model.proofs.Lists.Members.{Contains-behind, Contains-cases, Contains-here, Contains-none}
 use Rattle.desk_model.proofs.Commands.Turns.{defined_not_first, same_some}
 use Rattle.desk_model.proofs.Commands.TextTests.{IsFirstBarred-position, IsUnbarred-none, IsUnbarred-position}
-use Rattle.desk_model.proofs.Lists.Decisions.{Decided, SomeOrNone, all, at_most, below, both, either, given, implied, is_none, is_so, isnt_so, not}
+use Rattle.desk_model.proofs.Lists.Decisions.{Decided, SomeOrNone, all, at_most, below, both, either, given, implied, is_none, is_so, isnt_so, not, of_given}
 
 -- ---- names
 
@@ -94,7 +94,7 @@ module _ (book : Book) where
       by None none = inr (λ l. let found = l.found in cc (none, found))
       by (Some p) found = tabled p (text_of book p.table) found refl
 
-  no_correction : (id : ℕ) → Decided (HasNothingToUndo book (Undo id))
+  no_correction : (id : ℕ) → Decided (HasNoCorrection book id)
   no_correction id =
       implied (λ h. record { paragraph = h.0; found = h.1; none = h.2 }) (λ h. (h.paragraph, h.found, h.none))
       (there (λ p. newest p.history ≡ None) (λ p. is_none (newest p.history)) id)
@@ -182,14 +182,15 @@ module _ (book : Book) (command : Command) where
       (given (λ note. most_marks ≤ length book.marks) (λ note. at_most most_marks (length book.marks)) (note_given command))
   is_full Version = at_most most_version book.version
 
+lacks_span : (book : Book) (span : Span) → Decided (LacksSpan book span)
+lacks_span book (Characters id end) = past_print book id end
+lacks_span book (Cells id cell count) = lacks_cells book id cell count
+
 pub bad_span : (book : Book) (command : Command) → Decided (IsBadSpan book command)
-bad_span book (Correct id start count text who) = past_print book id (start + count)
-bad_span book (Mark id cell count note) = lacks_cells book id cell count
-bad_span book command = inr (λ h. h)
+bad_span book command = of_given (LacksSpan book) (lacks_span book) (named_by command).span_named
 
 pub nothing_to_undo : (book : Book) (command : Command) → Decided (HasNothingToUndo book command)
-nothing_to_undo book (Undo id) = no_correction book id
-nothing_to_undo book command = inr (λ h. h)
+nothing_to_undo book command = of_given (HasNoCorrection book) (no_correction book) (named_by command).paragraph_undone
 
 -- ---- the refusals with numbers
 

@@ -1,5 +1,5 @@
 -- Each command on a sound book has an outcome, and only one.
-use Rattle.std.proofs.Common.{◌≡◌, ◌⊎◌, ℕ, ◌+◌, List, [], ◌∷◌, ◌++◌, Option, Some, None, refl, sym, ap, subst, ◌∙◌, inl, inr}
+use Rattle.std.proofs.Common.{◌≡◌, ◌⊎◌, ℕ, ◌+◌, true, List, [], ◌∷◌, ◌++◌, Option, Some, None, refl, sym, ap, subst, ◌∙◌, inl, inr}
 use Rattle.desk_command.specs.declared.command.Command.{Command}
 use Rattle.desk_command.specs.declared.command.Command.TheVariants.{Undo, Mark}
 use Rattle.desk_command.specs.declared.refusal.Limit.{Limit}
@@ -17,7 +17,7 @@ use Rattle.desk_model.specs.Sound.{IsSound}
 use Rattle.desk_model.specs.Translation.{AreMarked}
 use Rattle.desk_model.specs.Step.{Makes, next_with_entry, next_with_marks, new_mark, next_mark}
 use Rattle.desk_model.proofs.Commands.Accepted.{named_paragraph}
-use Rattle.desk_model.proofs.Commands.Judging.{IsRefused-passes, Passes-bad_name, Passes-bad_reader, Passes-bad_span, Passes-bad_table, Passes-bad_text, Passes-full, Passes-moved, Passes-no_mark, Passes-no_paragraph, Passes-no_table, Passes-not_struck, Passes-nothing_to_undo, Passes-resolved, Passes-start, Passes-struck, Passes-too_long, Passes-undefined, Passes-untranslatable}
+use Rattle.desk_model.proofs.Commands.Judging.{IsAccepted-passes, IsRefused-passes, NoneHolds, Passes-past, Passes-start, skips}
 use Rattle.desk_model.proofs.Commands.MarkedPlaces.{one_span, some_span}
 use Rattle.desk_model.proofs.Lists.Members.{Contains-here}
 use Rattle.desk_model.proofs.Commands.OneRefusal.{one_refusal}
@@ -48,34 +48,38 @@ module _ (book : Book) (expect : Option ℕ) (command : Command) where
   turned_by n N refusal at (inl holds) more (inr passes) = inl (refusal holds.0, IsRefused-passes book expect command n (refusal holds.0) passes (at holds.0) holds.1)
   turned_by n N refusal at (inr not_held) more (inr passes) = inr (more passes not_held)
 
-  full_or : (limit : Limit) → Judged (turn (Full limit)) → Judged (turn (Full limit) + 10)
-  full_or limit = turned (turn (Full limit)) (turn (Full limit) + 10) (Full limit) refl (is_full book command limit) (Passes-full book expect command limit)
+  past : (refusal : Refusal) (m : ℕ) → skips command (turn refusal + 1) m ≡ true → Passes book expect command (turn refusal) → NoneHolds book expect command refusal → Passes book expect command m
+  past = Passes-past book expect command
+
+  full_or : (limit : Limit) → skips command (turn (Full limit) + 1) (turn (Full limit) + 10) ≡ true → Judged (turn (Full limit)) → Judged (turn (Full limit) + 10)
+  full_or limit skip = turned (turn (Full limit)) (turn (Full limit) + 10) (Full limit) refl (is_full book command limit) (past (Full limit) (turn (Full limit) + 10) skip)
 
   to_lookups : Judged 60
   to_lookups =
-      let moved : Judged 10 = turned_by 0 (Passes book expect command 10) Moved (λ v. refl) (moved_or book command expect) (λ p none. Passes-moved book expect command none) (inr (Passes-start book expect command)) in
-      let named : Judged 15 = turned 10 15 BadName refl (bad_name book command) (Passes-bad_name book expect command) moved in
-      let proofreader : Judged 20 = turned 15 20 BadReader refl (bad_reader book command) (Passes-bad_reader book expect command) named in
-      let text : Judged 30 = turned_by 20 (Passes book expect command 30) BadText (λ place. refl) (bad_text book command) (Passes-bad_text book expect command) proofreader in
-      let paragraph : Judged 40 = turned 30 40 NoParagraph refl (lacks_paragraph book command) (Passes-no_paragraph book expect command) text in
-      let table : Judged 50 = turned 40 50 NoTable refl (lacks_table book command) (Passes-no_table book expect command) paragraph in
-      turned 50 60 NoMark refl (lacks_mark book command) (Passes-no_mark book expect command) table
+      let moved : Judged 10 = turned_by 0 (Passes book expect command 10) Moved (λ v. refl) (moved_or book command expect) (past (Moved 0) 10 refl) (inr (Passes-start book expect command)) in
+      let named : Judged 15 = turned 10 15 BadName refl (bad_name book command) (past BadName 15 refl) moved in
+      let proofreader : Judged 20 = turned 15 20 BadReader refl (bad_reader book command) (past BadReader 20 refl) named in
+      let text : Judged 30 = turned_by 20 (Passes book expect command 30) BadText (λ place. refl) (bad_text book command) (past (BadText 0) 30 refl) proofreader in
+      let paragraph : Judged 40 = turned 30 40 NoParagraph refl (lacks_paragraph book command) (past NoParagraph 40 refl) text in
+      let table : Judged 50 = turned 40 50 NoTable refl (lacks_table book command) (past NoTable 50 refl) paragraph in
+      turned 50 60 NoMark refl (lacks_mark book command) (past NoMark 60 refl) table
 
   to_limits : Judged 120
   to_limits =
-      let struck : Judged 70 = turned 60 70 Struck refl (is_struck book command) (Passes-struck book expect command) to_lookups in
-      let live : Judged 80 = turned 70 80 NotStruck refl (is_not_struck book command) (Passes-not_struck book expect command) struck in
-      let resolved : Judged 90 = turned 80 90 Resolved refl (is_resolved book command) (Passes-resolved book expect command) live in
-      let span : Judged 100 = turned 90 100 BadSpan refl (bad_span book command) (Passes-bad_span book expect command) resolved in
-      let nothing : Judged 110 = turned 100 110 NothingToUndo refl (nothing_to_undo book command) (Passes-nothing_to_undo book expect command) span in
-      turned 110 120 TooLong refl (either (long_text book command) (either (long_print book command) (long_note book command))) (Passes-too_long book expect command) nothing
+      let struck : Judged 70 = turned 60 70 Struck refl (is_struck book command) (past Struck 70 refl) to_lookups in
+      let live : Judged 80 = turned 70 80 NotStruck refl (is_not_struck book command) (past NotStruck 80 refl) struck in
+      let resolved : Judged 90 = turned 80 90 Resolved refl (is_resolved book command) (past Resolved 90 refl) live in
+      let span : Judged 100 = turned 90 100 BadSpan refl (bad_span book command) (past BadSpan 100 refl) resolved in
+      let nothing : Judged 110 = turned 100 110 NothingToUndo refl (nothing_to_undo book command) (past NothingToUndo 110 refl) span in
+      turned 110 120 TooLong refl (either (long_text book command) (either (long_print book command) (long_note book command))) (past TooLong 120 refl) nothing
 
   told_or_accepted : Told ⊎ IsAccepted book expect command
   told_or_accepted =
-      let limits : Judged 170 = full_or Version (full_or Marks (full_or Entries (full_or Paragraphs (full_or Tables to_limits)))) in
-      let table : Judged 180 = turned_by 170 (Passes book expect command 180) BadTable (λ fault. refl) (bad_table book command) (Passes-bad_table book expect command) limits in
-      let shown : Judged 190 = turned_by 180 (Passes book expect command 190) Undefined (λ place. refl) (undefined book command) (Passes-undefined book expect command) table in
-      turned_by 190 (IsAccepted book expect command) (λ at. Untranslatable at.0 at.1) (λ at. refl) (untranslatable book command) (λ p none. Passes-untranslatable book expect command p (λ id place. none (id, place))) shown
+      let limits : Judged 170 = full_or Version refl (full_or Marks refl (full_or Entries refl (full_or Paragraphs refl (full_or Tables refl to_limits)))) in
+      let table : Judged 180 = turned_by 170 (Passes book expect command 180) BadTable (λ fault. refl) (bad_table book command) (past (BadTable (record { line = 0; cause = 0 })) 180 refl) limits in
+      let shown : Judged 190 = turned_by 180 (Passes book expect command 190) Undefined (λ place. refl) (undefined book command) (past (Undefined 0) 190 refl) table in
+      turned_by 190 (IsAccepted book expect command) (λ at. Untranslatable at.0 at.1) (λ at. refl) (untranslatable book command)
+      (λ p none. IsAccepted-passes book expect command (past (Untranslatable 0 0) 200 refl p (λ id place. none (id, place)))) shown
 
 -- ---- the next book
 

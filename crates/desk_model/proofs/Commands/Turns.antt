@@ -1,18 +1,21 @@
 -- How a command is checked while no version is expected, by what it names.
-use Rattle.std.proofs.Common.{◌≡◌, ℕ, zero, suc, ◌<◌, ◌≤◌, true, false, List, [], ◌∷◌, length, Some, None, sym, ap, subst, ◌∙◌, arith, inl, inr}
+use Rattle.std.proofs.Common.{◌≡◌, ℕ, zero, suc, ◌<◌, ◌≤◌, true, false, List, [], ◌∷◌, length, Option, Some, None, refl, sym, ap, subst, ◌∙◌, arith, inl, inr}
 use Rattle.std.specs.List.{Contains}
-use Rattle.std.specs.Prelude.{IsSome, is_some}
+use Rattle.std.specs.Option.{option_and_then}
+use Rattle.std.specs.Prelude.{IsSome, is_some, option_map}
 use Rattle.std.proofs.lemmas.Bool.{both_ways}
 use Rattle.louis_table.specs.Meaning.{Meaning}
 use Rattle.louis_translate.specs.Position.{AreDefined, IsFirstUndefined}
 use Rattle.desk_command.specs.declared.command.Command.{Command}
 use Rattle.desk_command.specs.declared.refusal.Limit.TheVariants.{Paragraphs, Version}
+use Rattle.desk_command.specs.declared.refusal.Refusal.TheVariants.{BadText, Full, Moved, NoParagraph, NoTable, Struck, TooLong}
 use Rattle.desk_model.specs.Book.{Book, Paragraph, paragraph_of, text_of}
 use Rattle.desk_model.specs.Judging.{Passes}
 use Rattle.desk_model.specs.Limits.{most_paragraphs, most_print, most_version}
-use Rattle.desk_model.specs.Refusals.{HasLongNote, HasLongPrint, HasLongText, IsAccepted, IsTooLong, live_paragraph, new_print, note_given, paragraphs_named, table_named, text_given, text_stored}
+use Rattle.desk_model.specs.Named.{Changed, live_paragraph, note_given, paragraphs_named, table_named, text_given, text_stored}
+use Rattle.desk_model.specs.Refusals.{HasLongNote, HasLongPrint, HasLongText, IsAccepted, IsTooLong, new_print, print_and_table, print_made}
 use Rattle.desk_model.specs.NormalForm.{IsUnbarred, IsFirstBarred}
-use Rattle.desk_model.proofs.Commands.Judging.{IsAccepted-passes, Passes-bad_text, Passes-full, Passes-moved, Passes-no_paragraph, Passes-no_table, Passes-skip, Passes-struck, Passes-too_long, skips}
+use Rattle.desk_model.proofs.Commands.Judging.{IsAccepted-passes, Passes-past, Passes-skip, Passes-start, skips}
 use Rattle.desk_model.proofs.Commands.TextTests.{IsUnbarred-none}
 
 pub same_some : {X : Type 0} (x y : X) → Some x ≡ Some y → x ≡ y
@@ -22,27 +25,39 @@ same_some x y e = cc
 pub defined_not_first : (meaning : Meaning) (print : List ℕ) (place : ℕ) → AreDefined meaning print → ¬ IsFirstUndefined meaning print place
 defined_not_first meaning print place defined first = let there = defined place first.within in let none = first.undefined in cc (ap is_some none)
 
+-- ---- a print that changes
+
+module _ (book : Book) (id : ℕ) (change : Paragraph → Option (List ℕ)) (p : Paragraph) (print : List ℕ) (found : paragraph_of book id ≡ Some p) (makes : change p ≡ Some print) where
+  pub changed-print : print_made book (Changed id change) ≡ Some print
+  changed-print = ap (option_and_then change) found ∙ makes
+
+  pub changed-translated : print_and_table book (Changed id change) ≡ Some (print, p.table)
+  changed-translated =
+      ap (option_and_then (λ (q : Paragraph). option_map (λ (t : List ℕ). (t, q.table)) (change q))) found ∙ ap (option_map (λ (t : List ℕ). (t, p.table))) makes
+
+-- ---- turns
+
 module _ (book : Book) (command : Command) where
   -- the turns before the first that it doesn't skip
   pub passes_to : (n : ℕ) → skips command 10 n ≡ true → Passes book None command n
-  passes_to n skip = Passes-skip book None command 10 n skip (Passes-moved book None command (λ version moved. let given = moved.given in cc))
+  passes_to n skip = Passes-skip book None command 10 n skip (Passes-past book None command (Moved 0) 10 refl (Passes-start book None command) (λ version moved. let given = moved.given in cc))
 
   pub to_turn : (n m : ℕ) → skips command n m ≡ true → Passes book None command n → Passes book None command m
   to_turn n m skip = Passes-skip book None command n m skip
 
   pub past_table : (name text : List ℕ) → Passes book None command 40 → table_named command ≡ Some name → text_of book name ≡ Some text → Passes book None command 50
   past_table name text passes named found =
-      Passes-no_table book None command passes
+      Passes-past book None command NoTable 50 refl passes
       (λ lacks. let given = lacks.named in let missing = lacks.missing in let same : name ≡ lacks.name = cc in cc (ap (text_of book) same))
 
   pub past_text : (text : List ℕ) → Passes book None command 20 → text_given command ≡ Some text → IsUnbarred text → Passes book None command 30
   past_text text passes given unbarred =
-      Passes-bad_text book None command passes
+      Passes-past book None command (BadText 0) 30 refl passes
       (λ place b. IsUnbarred-none text place unbarred (subst (λ (t : List ℕ). IsFirstBarred t place) (same_some b.text text (sym b.given ∙ given)) b.first))
 
   -- no text, print or note is over its limit
   pub past_lengths : Passes book None command 110 → ¬ HasLongText command → ¬ HasLongPrint book command → ¬ HasLongNote command → Passes book None command 120
-  past_lengths passes text print note = Passes-too_long book None command passes none
+  past_lengths passes text print note = Passes-past book None command TooLong 120 refl passes none
     where
       none : ¬ IsTooLong book command
       none (inl h) = text h
@@ -60,10 +75,10 @@ module _ (book : Book) (command : Command) where
   past_length print passes made given none short = past_lengths passes (short_text print given short) (short_print print made short) (λ l. let note = l.given in cc)
 
   pub past_room : Passes book None command 130 → length book.paragraphs < most_paragraphs → Passes book None command 140
-  past_room passes left = Passes-full book None command Paragraphs passes (λ full. let most = full.full in omega arith)
+  past_room passes left = Passes-past book None command (Full Paragraphs) 140 refl passes (λ full. let most = full.full in omega arith)
 
   pub past_version : (n : ℕ) → Passes book None command n → skips command n 160 ≡ true → book.version < most_version → Passes book None command 170
-  past_version n passes skip left = Passes-full book None command Version (Passes-skip book None command n 160 skip passes) (λ full. omega arith)
+  past_version n passes skip left = Passes-past book None command (Full Version) 170 refl (Passes-skip book None command n 160 skip passes) (λ full. omega arith)
 
   pub accepted_after : (n : ℕ) → Passes book None command n → skips command n 200 ≡ true → IsAccepted book None command
   accepted_after n passes skip = IsAccepted-passes book None command (Passes-skip book None command n 200 skip passes)
@@ -71,7 +86,7 @@ module _ (book : Book) (command : Command) where
   -- the one paragraph that it names is there
   pub past_one : (id : ℕ) (p : Paragraph) → paragraphs_named command ≡ id ∷ [] → paragraph_of book id ≡ Some p → Passes book None command 30 → Passes book None command 40
   past_one id p named found passes =
-      Passes-no_paragraph book None command passes
+      Passes-past book None command NoParagraph 40 refl passes
       (λ lacks. let is = there lacks.id (subst (λ (ids : List ℕ). Contains ids lacks.id) named lacks.named) in let missing = lacks.missing in cc (ap is_some missing))
     where
       there : (other : ℕ) → Contains (id ∷ []) other → IsSome (paragraph_of book other)
@@ -87,7 +102,7 @@ module _ (book : Book) (command : Command) (id : ℕ) (named : paragraphs_named 
 
   pub past_fit : (p : Paragraph) → paragraph_of book id ≡ Some p → p.struck ≡ false → Passes book None command 70
   past_fit p found free =
-      Passes-struck book None command (past_there p found)
+      Passes-past book None command Struck 70 refl (past_there p found)
       (λ s. let given = s.named in let same : id ≡ s.id = cc in
       let both : Some p ≡ Some s.paragraph = sym found ∙ (ap (paragraph_of book) same ∙ s.found) in
       let is : p ≡ s.paragraph = cc in

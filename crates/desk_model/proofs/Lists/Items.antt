@@ -1,6 +1,6 @@
 -- Lists by the places of their items.
 -- two functions that agree at each element give one list
-use Rattle.std.proofs.Common.{◌≡◌, ◌≢◌, ℕ, zero, suc, ◌+◌, ◌-◌, ◌<◌, Bool, List, [], ◌∷◌, ◌++◌, map, length, set, slice_get, Option, Some, None, Bor, option_map, All, flat_map, refl, sym, ap, ◌∙◌, subst, inl, inr, arith, map-id, drop, take, Contains, ◌⊎◌}
+use Rattle.std.proofs.Common.{◌≡◌, ◌≢◌, ℕ, zero, suc, ◌+◌, ◌<◌, Bool, List, [], ◌∷◌, ◌++◌, map, length, set, slice_get, Option, Some, None, Bor, option_map, All, flat_map, refl, sym, ap, ◌∙◌, subst, inl, inr, arith, map-id, drop, take, Contains, ◌⊎◌}
 use Rattle.std.specs.Map.{lookup}
 use Rattle.std.specs.List.{range_with_len}
 use Rattle.std.specs.Option.{option_copied}

@@ -31,10 +31,11 @@ use Rattle.desk_model.specs.Judging.{Passes}
 use Rattle.desk_model.specs.Name.{IsProofreaderName, is_proofreader_character}
 use Rattle.desk_model.specs.Refusals.{IsRefused, print_to_translate, turn}
 use Rattle.desk_command.specs.Numbers.{code_of}
-use Rattle.desk_model.specs.Step.{Makes, number_of}
+use Rattle.desk_model.specs.Named.{number_of}
+use Rattle.desk_model.specs.Step.{Makes}
 use Rattle.desk_model.specs.NormalForm.{IsUnbarred, is_barred}
 use Rattle.desk_model.proofs.Commands.Expecting.{moved}
-use Rattle.desk_model.proofs.Commands.Judging.{IsRefused-passes, Passes-nothing_to_undo, Passes-bad_reader, Passes-full}
+use Rattle.desk_model.proofs.Commands.Judging.{IsRefused-passes, Passes-past}
 use Rattle.desk_model.proofs.Commands.Turns.{passes_to, past_text, same_some, to_turn, past_fit, past_lengths, past_one, past_there, past_version, short_print}
 
 -- `The cat`
@@ -162,7 +163,7 @@ x-passes book id start count =
     let unbarred : IsUnbarred (120 ∷ []) = All-cons (λ character. is_barred character ≡ false) 120 [] refl (All-nil (λ character. is_barred character ≡ false)) in
     let command = Correct id start count (120 ∷ []) [] in
     past_text book command (120 ∷ [])
-    (Passes-bad_reader book None command (passes_to book command 15 refl) (λ b. b.bad (subst IsProofreaderName (same_some [] b.name b.given) named))) refl unbarred
+    (Passes-past book None command BadReader 20 refl (passes_to book command 15 refl) (λ b. b.bad (subst IsProofreaderName (same_some [] b.name b.given) named))) refl unbarred
 
 -- a replacement of the ninth character of seven, an expected version 9 at version 4, and an undo where no correction is in
 -- force
@@ -272,10 +273,10 @@ undo-not-defined =
     let book = retabled_book in
     let p = c_corrected in
     let fit = to_turn book (Undo 1) 70 100 refl (past_fit book (Undo 1) 1 refl refl refl (passes_to book (Undo 1) 30 refl) p refl refl) in
-    let passes = Passes-nothing_to_undo book None (Undo 1) fit
+    let passes = Passes-past book None (Undo 1) NothingToUndo 110 refl fit
     (λ n. let same : p ≡ n.paragraph = same_some p n.paragraph n.found in let none : newest p.history ≡ None = ap (λ (q : Paragraph). newest q.history) same ∙ n.none in cc) in
     let short = past_lengths book (Undo 1) passes (λ l. let given = l.given in cc) (short_print book (Undo 1) (99 ∷ []) refl (lit≤ tt)) (λ l. let given = l.given in cc) in
-    let few = Passes-full book None (Undo 1) Entries (to_turn book (Undo 1) 120 140 refl short)
+    let few = Passes-past book None (Undo 1) (Full Entries) 150 refl (to_turn book (Undo 1) 120 140 refl short)
     (λ f. let given = f.grows in let same : 1 ≡ f.id = cc in
     let is : p ≡ f.paragraph = same_some p f.paragraph (ap (paragraph_of book) same ∙ f.found) in
     let count : 1 ≡ length f.paragraph.history = ap (λ (q : Paragraph). length q.history) is in

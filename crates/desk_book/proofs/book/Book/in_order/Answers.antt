@@ -1,11 +1,8 @@
-use Rattle.std.proofs.Common.{None, sym, ap, subst, ◌∙◌}
+use Rattle.std.proofs.Common.{sym, ap, subst, ◌∙◌}
 use Rattle.desk_book.specs.declared.change.Effect.TheVariants.{Reorder}
-use Rattle.desk_command.specs.declared.command.Command.{Command}
 use Rattle.desk_model.specs.Book.{Book}
 use Rattle.desk_book.specs.Changes.{IsEffect}
 use Rattle.desk_book.specs.Kept.{KeptParagraphs, IsKept, book_kept}
-use Rattle.desk_model.specs.Refusals.{IsAccepted}
-use Rattle.desk_model.specs.Step.{Makes}
 use Rattle.desk_book.proofs.Kept.Settled.{sound-next, order-reordered, next-reordered, IsKept-reordered}
 use Rattle.desk_book.proofs.book.Book.in_order.Goals as goal
 
@@ -15,9 +12,7 @@ with_order-requires c =
     let here : IsEffect (book_kept was.version was.tables was.paragraphs was.marks) c.args.version (Reorder c.args.order) c.requires.0 =
     subst (λ (b : Book). IsEffect b c.args.version (Reorder c.args.order) c.requires.0) (sym c.self.view_is) c.requires.1 in
     let sound = sound-next was.version was.tables was.paragraphs was.marks c.self.invariant c.requires.0 c.args.version (Reorder c.args.order) here in
-    let makes = subst (λ (command : Command). Makes (book_kept was.version was.tables was.paragraphs was.marks) command c.requires.0) here.does.2 here.makes in
-    let accepted = subst (λ (command : Command). IsAccepted (book_kept was.version was.tables was.paragraphs was.marks) None command) here.does.2 here.accepted in
-    order-reordered was.version was.tables was.paragraphs was.marks c.requires.0 c.args.version here.does.0 here.does.1 c.args.order here.at accepted makes here.does.3 c.self.invariant sound
+    order-reordered was.version was.tables was.paragraphs was.marks c.requires.0 c.args.version c.args.order here.at here.does.0.1 here.does.0.2 here.does.1 c.self.invariant sound
 
 pub invariant_of-result : goal.invariant_of-result
 invariant_of-result c =
@@ -25,10 +20,8 @@ invariant_of-result c =
     let here : IsEffect (book_kept was.version was.tables was.paragraphs was.marks) c.args.version (Reorder c.args.order) c.requires.0 =
     subst (λ (b : Book). IsEffect b c.args.version (Reorder c.args.order) c.requires.0) (sym c.self.view_is) c.requires.1 in
     let sound = sound-next was.version was.tables was.paragraphs was.marks c.self.invariant c.requires.0 c.args.version (Reorder c.args.order) here in
-    let makes = subst (λ (command : Command). Makes (book_kept was.version was.tables was.paragraphs was.marks) command c.requires.0) here.does.2 here.makes in
-    let accepted = subst (λ (command : Command). IsAccepted (book_kept was.version was.tables was.paragraphs was.marks) None command) here.does.2 here.accepted in
     subst (λ (paragraphs : KeptParagraphs). IsKept c.args.version was.tables paragraphs was.marks) (sym c.with_order.ensures)
-    (IsKept-reordered was.version was.tables was.paragraphs was.marks c.requires.0 c.args.version here.does.0 here.does.1 c.args.order here.at accepted makes here.does.3 c.self.invariant sound)
+    (IsKept-reordered was.version was.tables was.paragraphs was.marks c.requires.0 c.args.version c.args.order here.at here.does.0.1 here.does.0.2 here.does.1 c.self.invariant sound)
 
 pub returns : goal.returns
 returns c = λ next given.
@@ -36,7 +29,5 @@ returns c = λ next given.
     let here : IsEffect (book_kept was.version was.tables was.paragraphs was.marks) c.args.version (Reorder c.args.order) next =
     subst (λ (b : Book). IsEffect b c.args.version (Reorder c.args.order) next) (sym c.self.view_is) given in
     let sound = sound-next was.version was.tables was.paragraphs was.marks c.self.invariant next c.args.version (Reorder c.args.order) here in
-    let makes = subst (λ (command : Command). Makes (book_kept was.version was.tables was.paragraphs was.marks) command next) here.does.2 here.makes in
-    let accepted = subst (λ (command : Command). IsAccepted (book_kept was.version was.tables was.paragraphs was.marks) None command) here.does.2 here.accepted in
     ap (λ (paragraphs : KeptParagraphs). book_kept c.args.version was.tables paragraphs was.marks) c.with_order.ensures
-    ∙ next-reordered was.version was.tables was.paragraphs was.marks next c.args.version here.does.0 here.does.1 c.args.order here.at accepted makes here.does.3 c.self.invariant sound
+    ∙ next-reordered was.version was.tables was.paragraphs was.marks next c.args.version c.args.order here.at here.does.0.1 here.does.0.2 here.does.1 c.self.invariant sound

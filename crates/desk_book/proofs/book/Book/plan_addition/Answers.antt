@@ -60,4 +60,4 @@ returns-clause-planned c =
     let count = count-tables _ _ _ _ book c.self.view_is in
     let many = c.len.ensures in
     let room = c.in_ok-new.ensures in
-    (judged, (_, refl, rw (name, c.in_ok-read_table.ensures.text) (refl, c.requires.new, omega arith, means)), tt)
+    (judged, (_, refl, rw (name, c.in_ok-read_table.ensures.text) ((refl, refl), c.requires.new, omega arith, means)), (tt, tt, tt))

@@ -50,7 +50,7 @@ returns-clause-planned c =
     rw noted (
       accepted_mark c.args.self.now c.args.id c.args.cell c.args.count c.args.note.now c.in_ok-check_text.ensures.unbarred _ _ c.in_ok-paragraph.ensures.found.0 c.in_ok-paragraph.ensures.found.1 _ _ c.as_slice-print.result.now c.as_slice-print.ensures c.in_ok-start.ensures.there c.in_ok-check_note.ensures.short c.in_ok-check_marks.ensures.left c.in_ok-check_version.ensures.left,
       (_, (_, _, marked, refl), (refl, subst (λ (n : ℕ). Suffices n c.in_ok-room.field-0) count c.in_ok-room.ensures, c.in_ok-check_marks.ensures.left, subst (λ (n : ℕ). Suffices n c.in_ok-room-2.field-0) c.in_ok-paragraph.ensures.found.0.marked c.in_ok-room-2.ensures)),
-      characters,
+      (tt, tt, characters),
     )
 
 pub returns-in_err-copy-clause-refused : goal.returns-in_err-copy-clause-refused

@@ -7,11 +7,12 @@ use Rattle.desk_model.specs.Book.{Book}
 use Rattle.desk_model.specs.Judging.{Passes}
 use Rattle.desk_book.specs.Kept.{with_id_moved}
 use Rattle.desk_book.specs.Plans.{AreThere, IsKeptFor}
-use Rattle.desk_model.specs.Refusals.{paragraph_before}
+use Rattle.desk_model.specs.Named.{paragraph_before}
 use Rattle.desk_model.specs.Step.{with_move}
-use Rattle.desk_book.proofs.Kept.KeptLookups.{ids_of-book}
+use Rattle.desk_book.proofs.Kept.KeptLookups.{ids_of-book, sound}
 use Rattle.desk_book.proofs.Kept.OrderLists.{ids_of-with_move}
 use Rattle.desk_model.proofs.Books.ParagraphLists.{ids_of}
+use Rattle.desk_model.proofs.Books.SoundSteps.{IsPermutation-moved}
 use Rattle.desk_book.proofs.Plans.Planning.{AreNotAllThere-cons, AreThere-cons, full_version, no_memory, no_paragraph, past_paragraphs, unnamed}
 use Rattle.desk_model.proofs.Commands.Turns.{accepted_after, passes_to, past_version, to_turn}
 use Rattle.desk_book.proofs.book.Book.plan_move.Goals as goal
@@ -58,4 +59,6 @@ returns-clause-planned c =
     c.in_ok-order_with_move.ensures
     ∙ (ap (with_id_moved c.args.anchor c.args.id) (sym (ids_of-book _ _ _ _ c.args.self.now c.self.view_is))
     ∙ sym (ids_of-with_move c.args.self.now c.args.id c.args.anchor _ found.found refl)) in
-    (accepted_after c.args.self.now (Move c.args.id c.args.anchor) 170 left refl, (_, refl, (c.args.id, c.args.anchor, refl, order)), tt)
+    let accepted = accepted_after c.args.self.now (Move c.args.id c.args.anchor) 170 left refl in
+    let moved = IsPermutation-moved c.args.self.now None c.args.id c.args.anchor (sound _ _ _ _ c.args.self.now c.self.view_is c.self.invariant) accepted in
+    (accepted, (_, refl, ((refl, moved, refl), order)), (tt, tt, tt))

@@ -66,4 +66,4 @@ returns-clause-planned c =
     let passes = judged book c.args.name.now c.args.text.now c.requires.name c.requires.old c.in_ok-check_version.ensures.left _ means in
     let accepted = past_users book c.args.name.now c.args.text.now _ means passes c.in_ok-check_users.ensures.defined in
     let name = c.in_ok-copy.ensures.text ∙ c.as_str.ensures in
-    (accepted, (_, refl, rw (name, c.in_ok-table.ensures.text) (refl, c.requires.old, c.in_ok-table.ensures.means, renewed, c.in_ok-cells.ensures.few)), tt)
+    (accepted, (_, refl, rw (name, c.in_ok-table.ensures.text) ((refl, refl), c.requires.old, c.in_ok-table.ensures.means, renewed, c.in_ok-cells.ensures.few)), (tt, tt, tt))

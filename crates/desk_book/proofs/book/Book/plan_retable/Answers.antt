@@ -116,6 +116,6 @@ returns-clause-planned c =
     let copied = c.in_ok-copy.ensures.text ∙ c.as_str.ensures in
     let cells = subst (λ (t : List ℕ). AreCellsOf rules t c.in_ok-cells_of.field-0) shown c.in_ok-cells_of.ensures in (
       accepted_after book (Retable c.args.id c.args.table.now) 190 judged refl,
-      (_, refl, rw copied (refl, record { paragraph = _; there = kept.found; source = _; meaning = rules; found = table.found; means = table.means; cells_are = cells })),
-      tt,
+      (_, refl, rw copied ((refl, refl), record { paragraph = _; there = kept.found; source = _; meaning = rules; found = table.found; means = table.means; cells_are = cells })),
+      (tt, tt, tt),
     )

@@ -10,7 +10,7 @@ use Rattle.desk_model.specs.Judging.{Passes}
 use Rattle.desk_book.specs.Kept.{with_id}
 use Rattle.desk_model.specs.Limits.{most_paragraphs, most_print, most_version}
 use Rattle.desk_book.specs.Plans.{AreThere, IsNewParagraph, IsTableFor}
-use Rattle.desk_model.specs.Refusals.{paragraph_before}
+use Rattle.desk_model.specs.Named.{paragraph_before}
 use Rattle.desk_book.specs.Room.{Suffices}
 use Rattle.desk_model.specs.Step.{new_paragraph, next_id, with_paragraph}
 use Rattle.desk_model.specs.NormalForm.{IsUnbarred, normal_form}
@@ -175,5 +175,5 @@ returns-clause-planned c =
           order = order;
         },
       ),
-      new.characters,
+      (new.characters, tt, tt),
     )

@@ -27,4 +27,4 @@ returns-clause-planned c =
     let left = past_version c.args.self.now (Volume c.args.id c.args.begins) 40 passes refl c.in_ok-check_version.ensures.left in
     let one = paragraph_kept (c.args.id, c.in_ok-paragraph.paragraph.now) in
     rw c.with_volume.ensures
-    (accepted_after c.args.self.now (Volume c.args.id c.args.begins) 170 left refl, (_, refl, ap (next_with_paragraphs c.args.self.now) (with_change-same c.args.id one _ _ _ kept.alone refl)), tt)
+    (accepted_after c.args.self.now (Volume c.args.id c.args.begins) 170 left refl, (_, refl, ap (next_with_paragraphs c.args.self.now) (with_change-same c.args.id one _ _ _ kept.alone refl)), (tt, tt, tt))

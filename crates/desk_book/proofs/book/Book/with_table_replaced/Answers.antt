@@ -3,11 +3,9 @@ use Rattle.std.specs.Cmp.Lexicographic.{pointwise}
 use Rattle.std.specs.Map.{lookup}
 use Rattle.std.specs.Prelude.{IsSome, nat_eq}
 use Rattle.desk_book.specs.declared.change.Effect.TheVariants.{ReplaceTable}
-use Rattle.desk_command.specs.declared.command.Command.{Command}
 use Rattle.desk_model.specs.Book.{Book}
 use Rattle.desk_book.specs.Changes.{IsEffect}
 use Rattle.desk_book.specs.Kept.{KeptTables, KeptParagraphs, IsKept, book_kept, with_new_cells, with_table}
-use Rattle.desk_model.specs.Step.{Makes}
 use Rattle.desk_book.proofs.Kept.Settled.{sound-next, there-replaced, next-replaced, IsKept-replaced}
 use Rattle.desk_book.proofs.book.Book.with_table_replaced.Goals as goal
 
@@ -24,21 +22,19 @@ invariant_of-result c =
     let here : IsEffect (book_kept was.version was.tables was.paragraphs was.marks) c.args.version (ReplaceTable c.args.name c.args.table c.args.cells) c.requires.0 =
     subst (λ (b : Book). IsEffect b c.args.version (ReplaceTable c.args.name c.args.table c.args.cells) c.requires.0) (sym c.self.view_is) c.requires.1 in
     let sound = sound-next was.version was.tables was.paragraphs was.marks c.self.invariant c.requires.0 c.args.version (ReplaceTable c.args.name c.args.table c.args.cells) here in
-    let makes = subst (λ (command : Command). Makes (book_kept was.version was.tables was.paragraphs was.marks) command c.requires.0) here.does.0 here.makes in
     let tables : c.replace.new.self ≡ with_table c.args.name c.args.table was.tables =
     c.replace.ensures ∙ ap (λ (name : List ℕ). with_table name c.args.table was.tables) c.as_str.ensures in
     subst (λ (paragraphs : KeptParagraphs). IsKept c.args.version c.replace.new.self paragraphs was.marks) (sym c.renew.ensures)
     (subst (λ (t : KeptTables). IsKept c.args.version t (map (with_new_cells c.args.cells.items) was.paragraphs) was.marks) (sym tables)
-    (IsKept-replaced was.version was.tables was.paragraphs was.marks c.requires.0 c.args.version c.args.name c.args.table c.args.cells.items here.at makes here.does.2 here.does.3 c.self.invariant sound))
+    (IsKept-replaced was.version was.tables was.paragraphs was.marks c.requires.0 c.args.version c.args.name c.args.table c.args.cells.items here.at here.does.0.1 here.does.2 here.does.3 c.self.invariant sound))
 
 pub returns : goal.returns
 returns c = λ next given.
     let was = c.self.inside in
     let here : IsEffect (book_kept was.version was.tables was.paragraphs was.marks) c.args.version (ReplaceTable c.args.name c.args.table c.args.cells) next =
     subst (λ (b : Book). IsEffect b c.args.version (ReplaceTable c.args.name c.args.table c.args.cells) next) (sym c.self.view_is) given in
-    let makes = subst (λ (command : Command). Makes (book_kept was.version was.tables was.paragraphs was.marks) command next) here.does.0 here.makes in
     let tables : c.replace.new.self ≡ with_table c.args.name c.args.table was.tables =
     c.replace.ensures ∙ ap (λ (name : List ℕ). with_table name c.args.table was.tables) c.as_str.ensures in
     ap (λ (t : KeptTables). book_kept c.args.version t c.renew.new.self was.marks) tables
     ∙ (ap (λ (paragraphs : KeptParagraphs). book_kept c.args.version (with_table c.args.name c.args.table was.tables) paragraphs was.marks) c.renew.ensures
-    ∙ next-replaced was.version was.tables was.paragraphs was.marks next c.args.version c.args.name c.args.table c.args.cells.items here.at makes here.does.2 here.does.3)
+    ∙ next-replaced was.version was.tables was.paragraphs was.marks next c.args.version c.args.name c.args.table c.args.cells.items here.at here.does.0.1 here.does.2 here.does.3)

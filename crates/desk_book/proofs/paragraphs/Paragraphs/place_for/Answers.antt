@@ -4,7 +4,7 @@ use Rattle.std.specs.Prelude.{nat_eq}
 use Rattle.desk_command.specs.declared.command.Anchor.{Anchor}
 use Rattle.desk_command.specs.declared.command.Anchor.TheVariants.{End, Para}
 use Rattle.desk_book.specs.Kept.{ids, with_id}
-use Rattle.desk_model.specs.Refusals.{paragraph_before}
+use Rattle.desk_model.specs.Named.{paragraph_before}
 use Rattle.desk_book.proofs.Kept.Arranging.{ids-shown, length-order, length-shown}
 use Rattle.desk_model.proofs.Lists.Members.{Contains-here}
 use Rattle.desk_model.proofs.Lists.Numbering.{IsDistinct-numbers}

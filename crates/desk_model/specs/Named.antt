@@ -1,0 +1,215 @@
+-- What a command gives and names: all that its refusals, its answer and what it may change are told by.
+use Rattle.std.specs.Prelude.{ℕ, ◌+◌, Bool, true, false, List, [], ◌∷◌, length, Option, Some, None, IfSome, option_map}
+use Rattle.desk_command.specs.Characters.{AreCharacters}
+use Rattle.desk_command.specs.declared.command.Anchor.{Anchor}
+use Rattle.desk_command.specs.declared.command.Anchor.TheVariants.{Front, End, Para}
+use Rattle.desk_command.specs.declared.command.Command.{Command}
+use Rattle.desk_command.specs.declared.command.Command.TheVariants.{Table, TypeIn, Correct, Undo, Mark, Resolve, Strike, Restore, Style, Volume, Retable, Move}
+use Rattle.desk_model.specs.Book.{Book, Paragraph, paragraph_of}
+use Rattle.desk_model.specs.NormalForm.{normal_form}
+use Rattle.desk_model.specs.Print.{print_of, print_undone, with_replacement}
+use Rattle.desk_model.specs.Step.{next_id, next_mark, replacement_by}
+
+-- ---- what it may name
+
+-- characters of a paragraph's print, up to a place, or cells of its braille, from a place, so many
+pub data Span : Type 0 where
+  Characters : (id end : ℕ) → Span
+  Cells : (id cell count : ℕ) → Span
+
+-- a paragraph that gets other braille: a new one with this print, by the table with this name; the one with this id, by the
+-- print that it would have, if it can have one; or the one with this id, by the table with this name
+pub data Translated : Type 0 where
+  Typed : (print table : List ℕ) → Translated
+  Changed : (id : ℕ) → (Paragraph → Option (List ℕ)) → Translated
+  Retabled : (id : ℕ) (table : List ℕ) → Translated
+
+-- What a command gives and names. What it doesn't name is None, [] or false.
+pub record Named : Type 0 where
+  -- the name of the table that it adds or replaces, and the text
+  pub table_given : Option (List ℕ × List ℕ)
+  -- a text that is given, which may have no barred character
+  pub text_given : Option (List ℕ)
+  -- the name of a proofreader that is given
+  pub proofreader_given : Option (List ℕ)
+  -- a text that is typed or put in place of another, as it is stored
+  pub text_stored : Option (List ℕ)
+  -- the note of a new mark
+  pub note_given : Option (List ℕ)
+  -- where a paragraph is put
+  pub place_given : Option Anchor
+  -- the mark that it speaks of
+  pub mark_named : Option ℕ
+  -- the paragraph whose history gets an entry
+  pub history_grown : Option ℕ
+  -- whether it makes a new paragraph
+  pub adds_paragraph : Bool
+  -- the paragraphs that it speaks of
+  pub paragraphs_named : List ℕ
+  -- the table that a paragraph is to use
+  pub table_named : Option (List ℕ)
+  -- the paragraph that it can't act on while that is struck
+  pub live_paragraph : Option ℕ
+  -- the paragraph that it can't act on unless that is struck
+  pub struck_paragraph : Option ℕ
+  -- the characters that it replaces or the cells that it marks
+  pub span_named : Option Span
+  -- the paragraph whose newest correction it takes back
+  pub paragraph_undone : Option ℕ
+  -- the paragraph whose print, or whose table, it changes, or that it adds
+  pub paragraph_translated : Option Translated
+  -- the number that it answers, in each book
+  pub number_answered : Book → Option ℕ
+  -- the first turn of refusals that is checked after it has allocated, if it allocates
+  pub turn_after_asking : Option ℕ
+
+abbrev pub nothing_named : Named
+nothing_named = record {
+  table_given = None;
+  text_given = None;
+  proofreader_given = None;
+  text_stored = None;
+  note_given = None;
+  place_given = None;
+  mark_named = None;
+  history_grown = None;
+  adds_paragraph = false;
+  paragraphs_named = [];
+  table_named = None;
+  live_paragraph = None;
+  struck_paragraph = None;
+  span_named = None;
+  paragraph_undone = None;
+  paragraph_translated = None;
+  number_answered = λ book. None;
+  turn_after_asking = None;
+}
+
+-- ---- each command
+
+-- the paragraph that something is put after
+abbrev pub paragraph_before : Anchor → List ℕ
+paragraph_before Front = []
+paragraph_before End = []
+paragraph_before (Para id) = id ∷ []
+
+-- the number of the next entry in the history of the paragraph with this id, if that is there
+abbrev pub next_entry : ℕ → Book → Option ℕ
+next_entry id book = option_map (λ paragraph. length paragraph.history + 1) (paragraph_of book id)
+
+-- The text of a table is checked while it is read, a typed text after it is made, of an undo the print alone, and nothing after a
+-- new mark, the braille by another table and a new order.
+abbrev pub named_by : Command → Named
+named_by (Table name text) = record nothing_named { table_given = Some (name, text); turn_after_asking = Some 170 }
+named_by (TypeIn anchor table text) = record nothing_named {
+  text_given = Some text;
+  text_stored = Some (normal_form text);
+  place_given = Some anchor;
+  adds_paragraph = true;
+  paragraphs_named = paragraph_before anchor;
+  table_named = Some table;
+  paragraph_translated = Some (Typed (normal_form text) table);
+  number_answered = λ book. Some (next_id book);
+  turn_after_asking = Some 110;
+}
+named_by (Correct id start count text who) = record nothing_named {
+  text_given = Some text;
+  proofreader_given = Some who;
+  text_stored = Some (normal_form text);
+  history_grown = Some id;
+  paragraphs_named = id ∷ [];
+  live_paragraph = Some id;
+  span_named = Some (Characters id (start + count));
+  paragraph_translated = Some (Changed id (λ p. Some (with_replacement (print_of p) (replacement_by start count text))));
+  number_answered = next_entry id;
+  turn_after_asking = Some 110;
+}
+named_by (Undo id) = record nothing_named {
+  history_grown = Some id;
+  paragraphs_named = id ∷ [];
+  live_paragraph = Some id;
+  paragraph_undone = Some id;
+  paragraph_translated = Some (Changed id print_undone);
+  number_answered = next_entry id;
+  turn_after_asking = Some 180;
+}
+named_by (Mark id cell count note) = record nothing_named {
+  text_given = Some note;
+  note_given = Some note;
+  paragraphs_named = id ∷ [];
+  live_paragraph = Some id;
+  span_named = Some (Cells id cell count);
+  number_answered = λ book. Some (next_mark book);
+  turn_after_asking = Some 200;
+}
+named_by (Resolve id) = record nothing_named { mark_named = Some id }
+named_by (Strike id) = record nothing_named { paragraphs_named = id ∷ []; live_paragraph = Some id }
+named_by (Restore id) = record nothing_named { paragraphs_named = id ∷ []; struck_paragraph = Some id }
+named_by (Style id style) = record nothing_named { paragraphs_named = id ∷ [] }
+named_by (Volume id begins) = record nothing_named { paragraphs_named = id ∷ [] }
+named_by (Retable id table) = record nothing_named {
+  paragraphs_named = id ∷ [];
+  table_named = Some table;
+  live_paragraph = Some id;
+  paragraph_translated = Some (Retabled id table);
+  turn_after_asking = Some 200;
+}
+named_by (Move id anchor) = record nothing_named {
+  place_given = Some anchor;
+  paragraphs_named = id ∷ paragraph_before anchor;
+  turn_after_asking = Some 200;
+}
+
+-- ---- each thing by itself
+
+abbrev pub table_given : Command → Option (List ℕ × List ℕ)
+table_given command = (named_by command).table_given
+
+abbrev pub text_given : Command → Option (List ℕ)
+text_given command = (named_by command).text_given
+
+abbrev pub proofreader_given : Command → Option (List ℕ)
+proofreader_given command = (named_by command).proofreader_given
+
+abbrev pub text_stored : Command → Option (List ℕ)
+text_stored command = (named_by command).text_stored
+
+abbrev pub note_given : Command → Option (List ℕ)
+note_given command = (named_by command).note_given
+
+abbrev pub place_given : Command → Option Anchor
+place_given command = (named_by command).place_given
+
+abbrev pub mark_named : Command → Option ℕ
+mark_named command = (named_by command).mark_named
+
+abbrev pub history_grown : Command → Option ℕ
+history_grown command = (named_by command).history_grown
+
+abbrev pub adds_paragraph : Command → Bool
+adds_paragraph command = (named_by command).adds_paragraph
+
+abbrev pub paragraphs_named : Command → List ℕ
+paragraphs_named command = (named_by command).paragraphs_named
+
+abbrev pub table_named : Command → Option (List ℕ)
+table_named command = (named_by command).table_named
+
+abbrev pub live_paragraph : Command → Option ℕ
+live_paragraph command = (named_by command).live_paragraph
+
+abbrev pub struck_paragraph : Command → Option ℕ
+struck_paragraph command = (named_by command).struck_paragraph
+
+abbrev pub paragraph_translated : Command → Option Translated
+paragraph_translated command = (named_by command).paragraph_translated
+
+-- the number that is answered: a new paragraph's or mark's id, or the number of a new entry of a history
+abbrev pub number_of : Book → Command → Option ℕ
+number_of book command = (named_by command).number_answered book
+
+-- each text that the command puts into the book is of characters
+abbrev pub HasCharacters : Command → Type 0
+HasCharacters command =
+    IfSome (text_stored command) AreCharacters × IfSome (proofreader_given command) AreCharacters
+    × IfSome (note_given command) AreCharacters
