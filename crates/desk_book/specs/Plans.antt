@@ -1,9 +1,8 @@
 -- What is said of a command, its expected version aside, and of what it names.
-use Rattle.std.specs.Prelude.{◌≡◌, ◌⊎◌, ℕ, false, List, [], ◌∷◌, ◌++◌, Some, None, IsSome}
+use Rattle.std.specs.Prelude.{◌≡◌, ◌⊎◌, ℕ, false, List, [], Some, None, IsSome}
 use Rattle.std.specs.List.{All, Contains}
 use Rattle.louis_table.specs.Meaning.{Meaning}
 use Rattle.louis_table.specs.Table.{Means}
-use Rattle.louis_translate.specs.Position.{IsFirstUndefined}
 use Rattle.desk_book.specs.declared.change.Effect.{Effect}
 use Rattle.desk_command.specs.declared.command.Command.{Command}
 use Rattle.desk_command.specs.declared.refusal.Refusal.{Refusal}
@@ -11,13 +10,13 @@ use Rattle.desk_command.specs.declared.refusal.Refusal.TheVariants.{NoMemory}
 use Rattle.desk_book.specs.declared.paragraphs.Paragraph.{Paragraph as KeptParagraph}
 use Rattle.desk_command.specs.declared.style.Style.TheVariants.{Body}
 use Rattle.desk_book.specs.declared.tables.BookTable.{BookTable}
-use Rattle.desk_model.specs.Book.{Book, Paragraph, paragraph_of, text_of}
+use Rattle.desk_model.specs.Book.{Book, paragraph_of, text_of}
 use Rattle.desk_book.specs.Changes.{AreCellsOf, Does}
 use Rattle.desk_model.specs.Judging.{MayLackMemory}
 use Rattle.desk_book.specs.Kept.{paragraph_kept}
 use Rattle.desk_model.specs.Named.{HasCharacters}
 use Rattle.desk_model.specs.Print.{print_of}
-use Rattle.desk_model.specs.Refusals.{DefinesUser, IsAccepted, IsRefused}
+use Rattle.desk_model.specs.Refusals.{IsAccepted, IsRefused}
 use Rattle.desk_model.specs.Step.{Makes}
 use Rattle.desk_command.specs.Characters.{AreCharacters}
 
@@ -61,14 +60,3 @@ pub record IsNewParagraph (table print : List ℕ) (meaning : Meaning) (kept : K
   pub characters : AreCharacters print
   pub history : kept.history ≡ []
   pub unmarked : kept.marks ≡ []
-
--- the first paragraph that uses the table and has a character that it doesn't define, and the first place of one
-pub record IsFirstUser (meaning : Meaning) (name : List ℕ) (paragraphs : List Paragraph) (id place : ℕ) : Type 0 where
-  pub before : List Paragraph
-  pub paragraph : Paragraph
-  pub after : List Paragraph
-  pub parts : paragraphs ≡ before ++ paragraph ∷ after
-  pub uses : paragraph.table ≡ name
-  pub told : id ≡ paragraph.id
-  pub first : IsFirstUndefined meaning (print_of paragraph) place
-  pub others : All (DefinesUser meaning name) before

@@ -215,6 +215,18 @@ pub record IsUndefined (book : Book) (command : Command) (place : ℕ) : Type 0 
 abbrev pub DefinesUser : Meaning → List ℕ → Paragraph → Type 0
 DefinesUser meaning name paragraph = paragraph.table ≡ name → AreDefined meaning (print_of paragraph)
 
+-- the first of these paragraphs that uses the table with this name and whose print isn't defined by this meaning, and the
+-- first place of a character that it lacks
+pub record IsFirstUser (meaning : Meaning) (name : List ℕ) (paragraphs : List Paragraph) (id place : ℕ) : Type 0 where
+  pub before : List Paragraph
+  pub paragraph : Paragraph
+  pub after : List Paragraph
+  pub parts : paragraphs ≡ before ++ paragraph ∷ after
+  pub uses : paragraph.table ≡ name
+  pub told : id ≡ paragraph.id
+  pub first : IsFirstUndefined meaning (print_of paragraph) place
+  pub others : All (DefinesUser meaning name) before
+
 -- by its new text the table doesn't define the print of a paragraph that uses it, which none does with a table that isn't
 -- there yet: the first such paragraph, and the first place
 pub record IsUntranslatable (book : Book) (command : Command) (id place : ℕ) : Type 0 where
@@ -223,14 +235,7 @@ pub record IsUntranslatable (book : Book) (command : Command) (id place : ℕ) :
   pub given : table_given command ≡ Some (name, text)
   pub meaning : Meaning
   pub means : Means text meaning
-  pub before : List Paragraph
-  pub paragraph : Paragraph
-  pub after : List Paragraph
-  pub parts : book.paragraphs ≡ before ++ paragraph ∷ after
-  pub uses : paragraph.table ≡ name
-  pub told : id ≡ paragraph.id
-  pub first : IsFirstUndefined meaning (print_of paragraph) place
-  pub others : All (λ other. other.table ≡ name → AreDefined meaning (print_of other)) before
+  pub user : IsFirstUser meaning name book.paragraphs id place
 
 -- ---- which is reported
 

@@ -1,6 +1,6 @@
 -- What an effect makes of a book as it is kept.
-use Rattle.std.proofs.Common.{◌≡◌, ℕ, ◌+◌, ◌<◌, ◌≤◌, ◌^◌, Bool, true, false, cond, List, [], ◌∷◌, ◌++◌, length, map, take, Option, Some, None, Ordering, Contains, refl, sym, ap, subst, ◌∙◌, arith, inl, inr}
-use Rattle.std.specs.Prelude.{slice_get, nat_eq, ◌≢◌, ◌==◌, option_map, option_to_list, IsSome, MatchOption}
+use Rattle.std.proofs.Common.{◌≡◌, ℕ, ◌+◌, ◌<◌, ◌≤◌, ◌^◌, Bool, true, false, cond, List, [], ◌∷◌, ◌++◌, length, map, Option, Some, None, Ordering, Contains, refl, sym, ap, subst, ◌∙◌, arith}
+use Rattle.std.specs.Prelude.{nat_eq, ◌≢◌, ◌==◌, option_map, option_to_list, IsSome, MatchOption}
 use Rattle.std.specs.Option.{option_map_or}
 use Rattle.std.specs.Cmp.{unsigned_ties, unsigned_Decides}
 use Rattle.std.specs.Cmp.Lexicographic.{pointwise, pointwise_decides, slice_cmp, lists_ties}
@@ -10,13 +10,11 @@ use Rattle.std.specs.List.Sorted.{IsPermutation}
 use Rattle.std.specs.Map.{lookup}
 use Rattle.std.specs.Ordering.{nat_cmp}
 use Rattle.std.specs.declared.cmp.Ordering.TheVariants.{Less, Equal, Greater}
-use Rattle.std.proofs.Math.Seq.{take-append_seam}
-use Rattle.std.proofs.lemmas.Bool.{cases_lt, cond-true, cond-false, cond_both, false_from_ne_true, eqb-false, eqb-true, ne_eqb}
+use Rattle.std.proofs.lemmas.Bool.{cond-true, cond-false, cond_both, false_from_ne_true, eqb-false, eqb-true, ne_eqb}
 use Rattle.std.proofs.lemmas.Cmp.{nat_list_cmp_total}
-use Rattle.std.proofs.lemmas.List.{length-append, length-map, map-append, take-append-le}
+use Rattle.std.proofs.lemmas.List.{length-append, length-map, map-append}
 use Rattle.std.proofs.lemmas.List.Elements.{All-nil, All-cons, All-append, All-push, All-weaker, All-contains, All-map, All-contains_itself}
 use Rattle.std.proofs.lemmas.List.Sorted.{Contains-permutation, IsPermutation-sym, IsPermutation-trans, IsPermutation-to_front, length_permutation}
-use Rattle.std.proofs.lemmas.Option.{slice_get_within}
 use Rattle.louis_table.specs.Meaning.{Meaning}
 use Rattle.louis_table.specs.Table.{Means}
 use Rattle.louis_table.proofs.OneMeaning.{one_meaning}
@@ -41,7 +39,7 @@ use Rattle.desk_book.specs.KeptPrints.{HasRoomFor, HasRoomForMark, with_mark, wi
 use Rattle.desk_model.specs.Limits.{most_entries, most_marks, most_paragraphs}
 use Rattle.desk_model.specs.Marks.{mark_moved_by}
 use Rattle.desk_book.specs.Room.{Suffices}
-use Rattle.desk_model.proofs.Lists.Items.{All-from_map, here-at, lookup-map, slice_get-append_left}
+use Rattle.desk_model.proofs.Lists.Items.{All-from_map, each-push, lookup-map}
 use Rattle.desk_book.proofs.Kept.MarkIndexes.{count-indexes, few-on, indexes-moved, indexes-none, indexes-push_on, indexes-push_other}
 use Rattle.desk_book.proofs.Kept.MarkSettled.{AreWithin-sound, marks-elsewhere, marks-moved, marks-push}
 use Rattle.desk_model.specs.ParagraphMarks.{marks_on}
@@ -158,20 +156,7 @@ in_order-permutation qs ps apart moved =
 
 -- what corrections took away, one entry more
 pub HaveTaken-push : (original : List ℕ) (entries : List KeptEntry) (entry : KeptEntry) → HaveTaken original entries → TookFrom (corrected_print original (entries_kept entries)) entry → HaveTaken original (entries ++ entry ∷ [])
-HaveTaken-push original entries entry taken last i e at =
-    let within = slice_get_within (entries ++ entry ∷ []) i e at in
-    let long = length-append entries (entry ∷ []) in
-    elim (cases_lt i (length entries)) [
-      | inl before ↦
-          subst (λ (t : List KeptEntry). TookFrom (corrected_print original (entries_kept t)) e) (sym (take-append-le i entries (entry ∷ []) (omega arith)))
-          (taken i e (sym (slice_get-append_left entries (entry ∷ []) i before) ∙ at))
-      | inr past ↦
-          let here : i ≡ length entries = omega arith in
-          let both : Some entry ≡ Some e = sym (here-at entries [] entry) ∙ (ap (slice_get (entries ++ entry ∷ [])) (sym here) ∙ at) in
-          let same : entry ≡ e = cc in
-          let whole : take i (entries ++ entry ∷ []) ≡ entries = ap (λ (k : ℕ). take k (entries ++ entry ∷ [])) here ∙ take-append_seam entries (entry ∷ []) in
-          subst (λ (t : List KeptEntry). TookFrom (corrected_print original (entries_kept t)) e) (sym whole) (subst (TookFrom (corrected_print original (entries_kept entries))) same last)
-    ]
+HaveTaken-push original entries entry taken last = each-push (λ t e. TookFrom (corrected_print original (entries_kept t)) e) entries entry taken last
 
 -- ---- books
 
@@ -350,6 +335,27 @@ module _ (version : ℕ) (tables : KeptTables) (paragraphs : KeptParagraphs) (ma
         taken = taken;
       }
 
+  -- ---- the order of the paragraphs
+
+  module _ (next : Book) (kept : KeptParagraphs) (ps : List Paragraph) (order : List ℕ) (same : map paragraph_kept kept ≡ ps)
+      (moved : IsPermutation next.paragraphs ps) (order_is : order ≡ ids_of next.paragraphs) (sound : IsSound next) where
+    -- the order has each id once
+    order-permuted : IsPermutation (range_with_len 1 (length kept)) order
+    order-permuted =
+        let first : length ps ≡ length next.paragraphs = length_permutation next.paragraphs ps moved in
+        let second : length ps ≡ length kept = sym (ap length same) ∙ length-map kept paragraph_kept in
+        let count : length next.paragraphs ≡ length kept = omega arith in
+        subst (λ (n : ℕ). IsPermutation (range_with_len 1 n) order) count
+        (subst (IsPermutation (range_with_len 1 (length next.paragraphs))) (sym order_is) sound.ids)
+
+    -- kept paragraphs in it stand for those of the next book
+    kept-ordered : map paragraph_kept (in_order_of order kept) ≡ next.paragraphs
+    kept-ordered =
+        kept-arranged order kept
+        ∙ (ap (in_order order) same
+        ∙ (ap (λ (o : List ℕ). in_order o ps) order_is
+        ∙ in_order-permutation next.paragraphs ps (paragraphs-apart next sound) moved))
+
   -- ---- a new paragraph
 
   count-before : length before ≡ length paragraphs
@@ -400,21 +406,13 @@ module _ (version : ℕ) (tables : KeptTables) (paragraphs : KeptParagraphs) (ma
 
     pub order-typed : IsPermutation (range_with_len 1 (length paragraphs + 1)) order
     order-typed =
-        let first : length (before ++ new ∷ []) ≡ length next.paragraphs = length_permutation next.paragraphs (before ++ new ∷ []) moved-typed in
-        let second : length (before ++ new ∷ []) ≡ length before + 1 = length-append before (new ∷ []) in
-        let third : length before ≡ length paragraphs = length-map paragraphs paragraph_kept in
-        let count : length next.paragraphs ≡ length paragraphs + 1 = omega arith in
-        subst (λ (n : ℕ). IsPermutation (range_with_len 1 n) order) count
-        (subst (IsPermutation (range_with_len 1 (length next.paragraphs))) (sym order_is) sound.ids)
+        subst (λ (n : ℕ). IsPermutation (range_with_len 1 n) order) (length-append paragraphs ((length paragraphs + 1, kept) ∷ []))
+        (order-permuted next all (before ++ new ∷ []) order kept-typed moved-typed order_is sound)
 
     pub next-typed : book_kept w tables (in_order_of order all) marks ≡ next
     next-typed =
         next-with_paragraphs next w (with_paragraph anchor new before) (in_order_of order all) at makes
-        (kept-arranged order all
-        ∙ (ap (in_order order) kept-typed
-        ∙ (ap (λ (o : List ℕ). in_order o (before ++ new ∷ [])) order_is
-        ∙ (in_order-permutation next.paragraphs (before ++ new ∷ []) (paragraphs-apart next sound) moved-typed
-        ∙ ap (λ (b : Book). b.paragraphs) makes))))
+        (kept-ordered next all (before ++ new ∷ []) order kept-typed moved-typed order_is sound ∙ ap (λ (b : Book). b.paragraphs) makes)
 
     pub IsKept-typed : IsKept w tables (in_order_of order all) marks
     IsKept-typed =
@@ -516,19 +514,11 @@ module _ (version : ℕ) (tables : KeptTables) (paragraphs : KeptParagraphs) (ma
     moved-reordered = IsPermutation-sym before next.paragraphs moved
 
     pub order-reordered : IsPermutation (range_with_len 1 (length paragraphs)) order
-    order-reordered =
-        let first : length before ≡ length next.paragraphs = length_permutation next.paragraphs before moved-reordered in
-        let second : length before ≡ length paragraphs = length-map paragraphs paragraph_kept in
-        let count : length next.paragraphs ≡ length paragraphs = omega arith in
-        subst (λ (n : ℕ). IsPermutation (range_with_len 1 n) order) count
-        (subst (IsPermutation (range_with_len 1 (length next.paragraphs))) (sym order_is) sound.ids)
+    order-reordered = order-permuted next paragraphs before order refl moved-reordered order_is sound
 
     pub next-reordered : book_kept w tables (in_order_of order paragraphs) marks ≡ next
     next-reordered =
-        next-with_paragraphs next w next.paragraphs (in_order_of order paragraphs) at makes
-        (kept-arranged order paragraphs
-        ∙ (ap (λ (o : List ℕ). in_order o before) order_is
-        ∙ in_order-permutation next.paragraphs before (paragraphs-apart next sound) moved-reordered))
+        next-with_paragraphs next w next.paragraphs (in_order_of order paragraphs) at makes (kept-ordered next paragraphs before order refl moved-reordered order_is sound)
 
     pub IsKept-reordered : IsKept w tables (in_order_of order paragraphs) marks
     IsKept-reordered = record {

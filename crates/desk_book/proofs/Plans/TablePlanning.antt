@@ -1,8 +1,7 @@
 -- How a command that gives a table is checked while no version is expected.
-use Rattle.std.proofs.Common.{◌≡◌, ◌⊎◌, ℕ, ◌<◌, ◌≤◌, List, ◌∷◌, length, None, refl, sym, ap, subst, ◌∙◌, arith, inl, inr}
-use Rattle.std.specs.List.{All, Contains}
+use Rattle.std.proofs.Common.{◌≡◌, ◌⊎◌, ℕ, ◌<◌, ◌≤◌, List, length, None, refl, sym, ap, subst, ◌∙◌, arith, inl, inr}
+use Rattle.std.specs.List.{All}
 use Rattle.std.specs.Prelude.{IsSome, is_some}
-use Rattle.std.proofs.lemmas.List.Elements.{All-contains, Contains-append_right}
 use Rattle.louis_table.specs.Meaning.{Meaning}
 use Rattle.louis_table.specs.Table.{Bad, Means}
 use Rattle.louis_table.specs.declared.fault.TableFault.{TableFault}
@@ -11,18 +10,17 @@ use Rattle.desk_command.specs.declared.command.Command.TheVariants.{Table}
 use Rattle.desk_command.specs.declared.refusal.Limit.TheVariants.{Tables}
 use Rattle.desk_command.specs.declared.refusal.Refusal.{Refusal}
 use Rattle.desk_command.specs.declared.refusal.Refusal.TheVariants.{BadName, Full, BadTable, Untranslatable, NoMemory}
-use Rattle.desk_model.specs.Book.{Book, Paragraph, text_of}
+use Rattle.desk_model.specs.Book.{Book, text_of}
 use Rattle.desk_model.specs.Judging.{Passes}
 use Rattle.desk_model.specs.Limits.{most_tables}
 use Rattle.desk_model.specs.Name.{IsTableName}
-use Rattle.desk_model.specs.Refusals.{DefinesUser, IsAccepted, IsUntranslatable}
-use Rattle.desk_book.specs.Plans.{IsFirstUser, IsTurnedDown}
-use Rattle.desk_model.specs.Print.{print_of}
+use Rattle.desk_model.specs.Refusals.{DefinesUser, IsAccepted, IsFirstUser, IsUntranslatable}
+use Rattle.desk_book.specs.Plans.{IsTurnedDown}
 use Rattle.desk_model.specs.Sound.{IsSound}
 use Rattle.desk_model.proofs.Commands.Judging.{IsAccepted-passes, Passes-past}
-use Rattle.desk_model.proofs.Lists.Members.{Contains-here}
 use Rattle.desk_book.proofs.Plans.Planning.{no_memory, turned_down}
-use Rattle.desk_model.proofs.Commands.Turns.{defined_not_first, passes_to, same_some}
+use Rattle.desk_model.proofs.Commands.FirstUndefined.{IsFirstUser-none}
+use Rattle.desk_model.proofs.Commands.Turns.{passes_to, same_some}
 
 -- a table that isn't there has no users
 pub unused : (book : Book) (name : List ℕ) (meaning : Meaning) → IsSound book → text_of book name ≡ None → All (DefinesUser meaning name) book.paragraphs
@@ -68,21 +66,7 @@ module _ (book : Book) (name text : List ℕ) where
     pub untranslatable : (told : Refusal) (id place : ℕ) → Passes book None (Table name text) 190 → told ≡ Untranslatable id place → IsFirstUser meaning name book.paragraphs id place → IsTurnedDown book (Table name text) told
     untranslatable told id place passes is user =
         turned_down book (Table name text) 190 (Untranslatable id place) told passes refl
-        (record {
-          name = name;
-          text = text;
-          given = refl;
-          meaning = meaning;
-          means = means;
-          before = user.before;
-          paragraph = user.paragraph;
-          after = user.after;
-          parts = user.parts;
-          uses = user.uses;
-          told = user.told;
-          first = user.first;
-          others = user.others;
-        }) is
+        (record { name = name; text = text; given = refl; meaning = meaning; means = means; user = user }) is
 
     pub past_users : Passes book None (Table name text) 190 → All (DefinesUser meaning name) book.paragraphs → IsAccepted book None (Table name text)
     past_users passes defined = IsAccepted-passes book None (Table name text) (Passes-past book None (Table name text) (Untranslatable 0 0) 200 refl passes none)
@@ -93,6 +77,6 @@ module _ (book : Book) (name text : List ℕ) where
             let same_name = ap (λ (pair : List ℕ × List ℕ). pair.0) given in
             let same_text = ap (λ (pair : List ℕ × List ℕ). pair.1) given in
             let same = one_meaning text u.meaning meaning (subst (λ (t : List ℕ). Means t u.meaning) (sym same_text) u.means) means in
-            let there : Contains book.paragraphs u.paragraph = subst (λ (ps : List Paragraph). Contains ps u.paragraph) (sym u.parts) (Contains-append_right u.before (u.paragraph ∷ u.after) u.paragraph (Contains-here u.paragraph u.after)) in
-            let shown = All-contains (DefinesUser meaning name) book.paragraphs u.paragraph defined there (u.uses ∙ sym same_name) in
-            defined_not_first meaning (print_of u.paragraph) place shown (rw same at u.first)
+            IsFirstUser-none meaning name book.paragraphs id place defined
+            (subst (λ (m : Meaning). IsFirstUser m name book.paragraphs id place) same
+            (subst (λ (n : List ℕ). IsFirstUser u.meaning n book.paragraphs id place) (sym same_name) u.user))

@@ -1,9 +1,9 @@
 -- The paragraphs that use a table, one after the other.
-use Rattle.std.proofs.Common.{◌≡◌, ◌⊎◌, ℕ, zero, suc, ◌+◌, ◌-◌, ◌<◌, ◌≤◌, List, [], ◌∷◌, ◌++◌, length, get_or, Option, Some, None, refl, sym, ap, subst, ◌∙◌, arith, inl, inr}
+use Rattle.std.proofs.Common.{◌≡◌, ℕ, zero, suc, ◌+◌, ◌-◌, ◌<◌, ◌≤◌, List, [], ◌∷◌, ◌++◌, length, get_or, Option, Some, None, refl, sym, ap, subst, ◌∙◌, arith, inl, inr}
 use Rattle.std.specs.List.{All}
 use Rattle.std.specs.Prelude.{slice_get, MatchOption, ◌≢◌}
 use Rattle.std.proofs.lemmas.Bool.{cases_eq}
-use Rattle.std.proofs.lemmas.List.Elements.{All-cons, All-contains, All-nil, Contains-get_or}
+use Rattle.std.proofs.lemmas.List.Elements.{All-contains, All-nil, Contains-get_or}
 use Rattle.std.proofs.lemmas.Option.{slice_get-get_or}
 use Rattle.louis_table.specs.Meaning.{Meaning}
 use Rattle.louis_translate.specs.Position.{AreDefined, IsFirstUndefined}
@@ -11,11 +11,12 @@ use Rattle.desk_book.specs.declared.paragraphs.Paragraph.{Paragraph as KeptParag
 use Rattle.desk_model.specs.Book.{Book, Paragraph, paragraph_of}
 use Rattle.desk_book.specs.Changes.{AreCellsOf, AreRenewed}
 use Rattle.desk_book.specs.Kept.{paragraph_kept}
-use Rattle.desk_model.specs.Refusals.{DefinesUser}
-use Rattle.desk_book.specs.Plans.{IsFirstUser, IsKeptFor}
+use Rattle.desk_model.specs.Refusals.{DefinesUser, IsFirstUser}
+use Rattle.desk_book.specs.Plans.{IsKeptFor}
 use Rattle.desk_model.specs.Print.{print_of}
 use Rattle.desk_model.specs.Sound.{IsSound}
 use Rattle.desk_model.proofs.Books.ParagraphLists.{Contains-found}
+use Rattle.desk_model.proofs.Commands.FirstUndefined.{IsFirstUser-later}
 use Rattle.desk_model.proofs.Commands.Turns.{same_some}
 use Rattle.desk_model.proofs.Books.SoundBooks.{paragraph_of-own, paragraph_of-within}
 use Rattle.desk_model.proofs.Lists.Items.{push-cases}
@@ -55,17 +56,8 @@ module _ (meaning : Meaning) (name : List ℕ) where
     others = All-nil (DefinesUser meaning name);
   }
   IsFirstUser-at (q ∷ ps) (suc n) place p at below uses first =
-      let rest = IsFirstUser-at ps n place p at (λ k r lt here. below (suc k) r (omega arith) here) uses first in
-      record {
-        before = q ∷ rest.before;
-        paragraph = rest.paragraph;
-        after = rest.after;
-        parts = ap (λ (rs : List Paragraph). q ∷ rs) rest.parts;
-        uses = rest.uses;
-        told = rest.told;
-        first = rest.first;
-        others = All-cons (DefinesUser meaning name) q rest.before (below 0 q (omega arith) refl) rest.others;
-      }
+      IsFirstUser-later meaning name q ps p.id place (below 0 q (omega arith) refl)
+      (IsFirstUser-at ps n place p at (λ k r lt here. below (suc k) r (omega arith) here) uses first)
 
 -- ---- each by its id
 

@@ -1,5 +1,5 @@
 -- What is found in a sound book.
-use Rattle.std.proofs.Common.{◌≡◌, ℕ, ◌≤◌, List, length, Option, Some, None, Contains, refl, subst, arith}
+use Rattle.std.proofs.Common.{◌≡◌, ℕ, ◌≤◌, List, length, Option, Some, None, Contains, refl, subst, ◌∙◌, arith}
 use Rattle.std.proofs.lemmas.List.Elements.{All-contains}
 use Rattle.std.proofs.Math.Seq.{take-length}
 use Rattle.desk_model.specs.Book.{Book, Entry, Paragraph, paragraph_of, text_of}
@@ -47,3 +47,15 @@ module _ (book : Book) (sound : IsSound book) where
 -- a print of a sound paragraph is short
 pub short-sound : (book : Book) (p : Paragraph) → IsSoundParagraph book p → length (print_of p) ≤ most_print
 short-sound book p s = subst (λ (t : List Entry). length (corrected_print p.original t) ≤ most_print) (take-length p.history) (s.history.short (length p.history) (omega arith))
+
+-- a sound paragraph is sound in a book whose tables have the same texts
+pub IsSoundParagraph-same_texts : (book other : Book) → ((name : List ℕ) → text_of other name ≡ text_of book name) → (p : Paragraph) → IsSoundParagraph book p → IsSoundParagraph other p
+IsSoundParagraph-same_texts book other same p s = record {
+  clean = s.clean;
+  history = s.history;
+  text = s.text;
+  meaning = s.meaning;
+  found = same p.table ∙ s.found;
+  means = s.means;
+  defined = s.defined;
+}

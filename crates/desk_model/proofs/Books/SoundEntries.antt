@@ -2,13 +2,12 @@
 use Rattle.std.proofs.Common.{◌≡◌, ℕ, ◌+◌, ◌-◌, ◌<◌, ◌≤◌, true, false, List, [], ◌∷◌, ◌++◌, length, map, take, drop, Some, refl, sym, ap, subst, ◌∙◌, arith, inl, inr}
 use Rattle.std.specs.List.{All, range_with_len}
 use Rattle.std.specs.List.Sorted.{IsPermutation}
-use Rattle.std.specs.Prelude.{nat_eq, nat_le, slice_get, min, max}
-use Rattle.std.proofs.Math.Seq.{take-append_seam, take-length}
+use Rattle.std.specs.Prelude.{nat_eq, nat_le, min, max}
+use Rattle.std.proofs.Math.Seq.{take-length}
 use Rattle.std.proofs.lemmas.Bool.{cases_Bool, cond_both, cases_lt, eqb-true, eqb-false}
 use Rattle.std.proofs.lemmas.Bool.Decides.{nat_tests}
 use Rattle.std.proofs.lemmas.List.{length-append, length-map, length-take, length-drop, take-append-le}
 use Rattle.std.proofs.lemmas.List.Elements.{All-map, All-weaker}
-use Rattle.std.proofs.lemmas.Option.{slice_get_within}
 use Rattle.louis_translate.specs.Position.{AreDefined}
 use Rattle.desk_model.specs.Book.{Book, Entry, Mark, Paragraph, Replacement, paragraph_of}
 use Rattle.desk_model.specs.NormalForm.{IsClean}
@@ -17,31 +16,16 @@ use Rattle.desk_model.specs.Marks.{mark_moved_by}
 use Rattle.desk_model.specs.Print.{corrected_print, print_of, with_entry, with_replacement}
 use Rattle.desk_model.specs.Sound.{AreSoundEntries, IsSoundEntry, IsSoundHistory, IsSoundParagraph, IsSoundMark, IsSound}
 use Rattle.desk_model.specs.Step.{moved_on, next_with_entry, next_with_marks, resolved_by, with_change, with_marks_moved, with_resolved}
-use Rattle.desk_model.proofs.Lists.Items.{here-at, slice_get-append_left}
+use Rattle.desk_model.proofs.Lists.Items.{each-push}
 use Rattle.desk_model.proofs.Books.ParagraphLists.{ids_of, found, changed, found-changed, found-unchanged, ids-with_change, All-with_change}
-use Rattle.desk_model.proofs.Books.SoundBooks.{paragraph_of-own}
+use Rattle.desk_model.proofs.Books.SoundBooks.{IsSoundParagraph-same_texts, paragraph_of-own}
+use Rattle.desk_model.proofs.Books.SoundParagraphs.{IsSoundMark-kept}
 
 -- ---- one entry more
 
 module _ (original : List ℕ) (h : List Entry) (entry : Entry) where
-  front : (i : ℕ) → i ≤ length h → take i (h ++ entry ∷ []) ≡ take i h
-  front i le = take-append-le i h (entry ∷ []) le
-
   pub AreSoundEntries-push : AreSoundEntries original h → IsSoundEntry original h entry → AreSoundEntries original (h ++ entry ∷ [])
-  AreSoundEntries-push sound last i e at =
-      let within = slice_get_within (h ++ entry ∷ []) i e at in
-      let long = length-append h (entry ∷ []) in
-      elim (cases_lt i (length h)) [
-        | inl before ↦
-            subst (λ (t : List Entry). IsSoundEntry original t e) (sym (front i (omega arith)))
-            (sound i e (sym (slice_get-append_left h (entry ∷ []) i before) ∙ at))
-        | inr past ↦
-            let here : i ≡ length h = omega arith in
-            let both : Some entry ≡ Some e = sym (here-at h [] entry) ∙ (ap (slice_get (h ++ entry ∷ [])) (sym here) ∙ at) in
-            let same : entry ≡ e = cc in
-            let whole : take i (h ++ entry ∷ []) ≡ h = ap (λ (k : ℕ). take k (h ++ entry ∷ [])) here ∙ take-append_seam h (entry ∷ []) in
-            subst (λ (t : List Entry). IsSoundEntry original t e) (sym whole) (subst (IsSoundEntry original h) same last)
-      ]
+  AreSoundEntries-push sound last = each-push (IsSoundEntry original) h entry sound last
 
   pub IsSoundHistory-push : IsSoundHistory original h → IsSoundEntry original h entry → length h < most_entries → length (corrected_print original (h ++ entry ∷ [])) ≤ most_print
       → IsSoundHistory original (h ++ entry ∷ [])
@@ -61,7 +45,7 @@ module _ (original : List ℕ) (h : List Entry) (entry : Entry) where
                 let here : i ≡ length (h ++ entry ∷ []) = omega arith in
                 let whole : take i (h ++ entry ∷ []) ≡ h ++ entry ∷ [] = ap (λ (k : ℕ). take k (h ++ entry ∷ [])) here ∙ take-length (h ++ entry ∷ []) in
                 subst (λ (t : List Entry). length (corrected_print original t) ≤ most_print) (sym whole) short
-            | inr before ↦ subst (λ (t : List Entry). length (corrected_print original t) ≤ most_print) (sym (front i before)) (sound.short i before)
+            | inr before ↦ subst (λ (t : List Entry). length (corrected_print original t) ≤ most_print) (sym (take-append-le i h (entry ∷ []) before)) (sound.short i before)
           ]
 
 pub IsSoundParagraph-entry : (book : Book) (p : Paragraph) (entry : Entry) (s : IsSoundParagraph book p) → IsSoundEntry p.original p.history entry → length p.history < most_entries
@@ -158,15 +142,7 @@ module _ (book : Book) (id : ℕ) (entry : Entry) (move : Mark → Mark) (p : Pa
         tables = sound.tables;
         ids = subst (λ (n : ℕ). IsPermutation (range_with_len 1 n) (ids_of after)) (sym long)
             (subst (IsPermutation (range_with_len 1 (length book.paragraphs))) (sym (ids-with_change id (with_entry entry) (λ q. refl) book.paragraphs)) sound.ids);
-        paragraphs = All-weaker (IsSoundParagraph book) (IsSoundParagraph next) (λ q s. record {
-          clean = s.clean;
-          history = s.history;
-          text = s.text;
-          meaning = s.meaning;
-          found = s.found;
-          means = s.means;
-          defined = s.defined;
-        }) after (All-with_change (IsSoundParagraph book) id (with_entry entry) book.paragraphs sound.paragraphs
+        paragraphs = All-weaker (IsSoundParagraph book) (IsSoundParagraph next) (IsSoundParagraph-same_texts book next (λ name. refl)) after (All-with_change (IsSoundParagraph book) id (with_entry entry) book.paragraphs sound.paragraphs
             (λ q c same s.
             let own = paragraph_of-own book sound q c in
             let both : Some q ≡ Some p = sym own ∙ (ap (paragraph_of book) same ∙ there) in
@@ -190,24 +166,9 @@ IsSound-with_marks book marks sound room few numbers all =
       names = sound.names;
       tables = sound.tables;
       ids = sound.ids;
-      paragraphs = All-weaker (IsSoundParagraph book) (IsSoundParagraph next) (λ q s. record {
-        clean = s.clean;
-        history = s.history;
-        text = s.text;
-        meaning = s.meaning;
-        found = s.found;
-        means = s.means;
-        defined = s.defined;
-      }) book.paragraphs sound.paragraphs;
+      paragraphs = All-weaker (IsSoundParagraph book) (IsSoundParagraph next) (IsSoundParagraph-same_texts book next (λ name. refl)) book.paragraphs sound.paragraphs;
       numbers = numbers;
-      marks = All-weaker (IsSoundMark book) (IsSoundMark next) (λ m s. record {
-        paragraph = s.paragraph;
-        found = s.found;
-        ordered = s.ordered;
-        within = s.within;
-        clean = s.clean;
-        short = s.short;
-      }) marks all;
+      marks = All-weaker (IsSoundMark book) (IsSoundMark next) (IsSoundMark-kept book next (λ id p e. (p, e, refl))) marks all;
     }
 
 IsSoundMark-resolved : (book : Book) (id : ℕ) (m : Mark) → IsSoundMark book m → IsSoundMark book (resolved_by id m)

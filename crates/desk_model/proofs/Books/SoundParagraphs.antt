@@ -18,7 +18,7 @@ use Rattle.desk_model.specs.Step.{with_paragraph, with_change, next_id, next_wit
 use Rattle.desk_model.specs.NormalForm.{IsClean}
 use Rattle.desk_model.proofs.Lists.Numbering.{next-number, IsDistinct-numbers}
 use Rattle.desk_model.proofs.Books.ParagraphLists.{ids_of, AreApart, found, changed, id-found, found-permutation, ids-with_change, found-with_change, All-with_change, IsPermutation-with_paragraph}
-use Rattle.desk_model.proofs.Books.SoundBooks.{paragraphs-apart, paragraph_of-within, paragraph_of-own, IsSoundParagraph-found}
+use Rattle.desk_model.proofs.Books.SoundBooks.{IsSoundParagraph-same_texts, paragraphs-apart, paragraph_of-within, paragraph_of-own, IsSoundParagraph-found}
 
 -- a mark stays sound where its paragraph keeps its print
 pub IsSoundMark-kept : (book other : Book) → ((id : ℕ) (p : Paragraph) → paragraph_of book id ≡ Some p → (q : Paragraph) × (paragraph_of other id ≡ Some q) × (print_of q ≡ print_of p)) → (mark : Mark) → IsSoundMark book mark → IsSoundMark other mark
@@ -51,15 +51,7 @@ IsSound-with_paragraphs book paragraphs sound room few ids all kept =
       names = sound.names;
       tables = sound.tables;
       ids = ids;
-      paragraphs = All-weaker (IsSoundParagraph book) (IsSoundParagraph next) (λ p s. record {
-        clean = s.clean;
-        history = s.history;
-        text = s.text;
-        meaning = s.meaning;
-        found = s.found;
-        means = s.means;
-        defined = s.defined;
-      }) paragraphs all;
+      paragraphs = All-weaker (IsSoundParagraph book) (IsSoundParagraph next) (IsSoundParagraph-same_texts book next (λ name. refl)) paragraphs all;
       numbers = sound.numbers;
       marks = All-weaker (IsSoundMark book) (IsSoundMark next) (IsSoundMark-kept book next kept) book.marks sound.marks;
     }

@@ -31,14 +31,13 @@ use Rattle.desk_model.proofs.Commands.CellPlaces.{begins-before, end-within}
 use Rattle.desk_model.proofs.Books.HistoryLists.{IsLast-parts, corrected_print-before, corrected_print-corrects, corrected_print-undone, newest-parts}
 use Rattle.desk_model.proofs.Books.SoundEntries.{IsSound-resolved, IsSound-with_entry, IsSound-with_marks, IsSoundParagraph-entry, MovesTo-mark_moved_by, length-replaced}
 use Rattle.desk_model.specs.Named.{HasCharacters, paragraph_before}
-use Rattle.desk_model.specs.Refusals.{IsAccepted}
+use Rattle.desk_model.specs.Refusals.{DefinesUser, IsAccepted}
 use Rattle.desk_model.specs.Limits.{most_tables, most_print}
 use Rattle.desk_model.specs.Sound.{IsSoundHistory, IsSoundTable, IsSoundParagraph, IsSoundMark, IsSound}
 use Rattle.desk_model.specs.Step.{new_paragraph, with_change, with_paragraph, with_move, next_id, IsNewest, new_mark, next_mark, next_with_entry, next_with_marks, next_with_paragraphs, next_with_tables, replacement_by, Makes}
 use Rattle.desk_model.specs.NormalForm.{is_barred, IsClean, IsUnbarred, normal_form}
 use Rattle.desk_command.specs.Characters.{AreCharacters}
 use Rattle.desk_model.proofs.Commands.Accepted.{given_proofreader, given_unbarred, room_for_entry, room_for_mark, short_note, room_for_version, named_paragraph, named_table, shown_defined, short_print, room_for_paragraph, given_name, given_meaning, room_for_table, users_defined}
-use Rattle.desk_model.proofs.Commands.FirstUndefined.{DefinesUser}
 use Rattle.desk_model.proofs.Commands.Turns.{changed-print, changed-translated}
 use Rattle.desk_model.proofs.Lists.Members.{Contains-here, Contains-behind, Contains-map}
 use Rattle.desk_model.proofs.Books.SoundParagraphs.{KeepsText, IsSoundMark-kept, IsSound-changed, IsSound-kept_text, IsSound-reordered, IsSound-with_paragraph}

@@ -14,9 +14,9 @@ use Rattle.desk_model.specs.Limits.{most_entries, most_marks, most_note, most_pr
 use Rattle.desk_model.specs.Name.{IsProofreaderName, IsTableName, is_name_character, is_proofreader_character}
 use Rattle.desk_model.specs.NormalForm.{IsUnbarred, is_barred}
 use Rattle.desk_model.specs.Named.{adds_paragraph, history_grown, note_given, paragraphs_named, proofreader_given, table_given, table_named, text_given}
-use Rattle.desk_model.specs.Refusals.{IsAccepted, new_print, print_to_translate}
+use Rattle.desk_model.specs.Refusals.{DefinesUser, IsAccepted, new_print, print_to_translate}
 use Rattle.desk_model.proofs.Commands.TextTests.{IsFirstBarred-position, IsUnbarred-position}
-use Rattle.desk_model.proofs.Commands.FirstUndefined.{DefinesUser, defined_or_first, all_or_first_user}
+use Rattle.desk_model.proofs.Commands.FirstUndefined.{defined_or_first, all_or_first_user}
 
 -- a name that isn't none is one
 pub IsTableName-stable : (name : List ℕ) → ¬ (¬ IsTableName name) → IsTableName name
@@ -114,21 +114,7 @@ module _ (book : Book) (expect : Option ℕ) (command : Command) (accepted : IsA
     users_defined meaning means =
         elim (all_or_first_user meaning name book.paragraphs) [
           | inl all ↦ all
-          | inr found ↦ absurd (accepted (Untranslatable found.paragraph.id found.place) (record {
-            name = name;
-            text = text;
-            given = given;
-            meaning = meaning;
-            means = means;
-            before = found.before;
-            paragraph = found.paragraph;
-            after = found.after;
-            parts = found.parts;
-            uses = found.uses;
-            told = refl;
-            first = found.first;
-            others = found.others;
-          }))
+          | inr found ↦ absurd (accepted (Untranslatable found.0 found.1) (record { name = name; text = text; given = given; meaning = meaning; means = means; user = found.2 }))
         ]
 
   -- ---- corrections and marks

@@ -1,15 +1,17 @@
 -- Prints that a table defines, and the first place, or paragraph, at which it doesn't.
-use Rattle.std.proofs.Common.{◌≡◌, ◌⊎◌, ℕ, zero, suc, ◌<◌, List, [], ◌∷◌, ◌++◌, length, Option, Some, None, refl, ap, ◌∙◌, arith, inl, inr}
+use Rattle.std.proofs.Common.{◌≡◌, ◌⊎◌, ℕ, zero, suc, ◌<◌, List, [], ◌∷◌, length, Option, Some, None, Contains, refl, sym, ap, subst, ◌∙◌, arith, inl, inr}
 use Rattle.std.specs.List.{All}
 use Rattle.std.specs.Cmp.Lexicographic.{pointwise}
 use Rattle.std.specs.Prelude.{IsSome, is_some, nat_eq, slice_index}
 use Rattle.std.proofs.lemmas.Bool.{cases_Bool, cases_eq, both_ways}
-use Rattle.std.proofs.lemmas.List.Elements.{All-nil, All-cons}
+use Rattle.std.proofs.lemmas.List.Elements.{All-nil, All-cons, All-contains, Contains-append_right}
 use Rattle.louis_table.specs.Meaning.{Meaning, definition_of}
 use Rattle.louis_translate.specs.Position.{AreDefined, IsFirstUndefined}
 use Rattle.desk_model.specs.Book.{Paragraph}
-pub use Rattle.desk_model.specs.Refusals.{DefinesUser}
+use Rattle.desk_model.specs.Refusals.{DefinesUser, IsFirstUser}
 use Rattle.desk_model.specs.Print.{print_of}
+use Rattle.desk_model.proofs.Commands.Turns.{defined_not_first}
+use Rattle.desk_model.proofs.Lists.Members.{Contains-here}
 use Rattle.desk_model.proofs.Lists.TableEntries.{Decides-name}
 
 -- the first number below n at which there is nothing, if there is one
@@ -35,16 +37,24 @@ defined_or_first meaning print =
       | inr found ↦ inr (found.0, record { within = found.1; undefined = found.2; before = found.3 })
     ]
 
--- the first paragraph that uses the table and has a place that it doesn't define
-pub record IsFirstUser (meaning : Meaning) (name : List ℕ) (paragraphs : List Paragraph) : Type 0 where
-  pub before : List Paragraph
-  pub paragraph : Paragraph
-  pub after : List Paragraph
-  pub place : ℕ
-  pub parts : paragraphs ≡ before ++ paragraph ∷ after
-  pub uses : paragraph.table ≡ name
-  pub first : IsFirstUndefined meaning (print_of paragraph) place
-  pub others : All (DefinesUser meaning name) before
+-- one paragraph more before it, which the meaning defines if it uses the table
+pub IsFirstUser-later : (meaning : Meaning) (name : List ℕ) (p : Paragraph) (ps : List Paragraph) (id place : ℕ) → DefinesUser meaning name p → IsFirstUser meaning name ps id place → IsFirstUser meaning name (p ∷ ps) id place
+IsFirstUser-later meaning name p ps id place here found = record {
+  before = p ∷ found.before;
+  paragraph = found.paragraph;
+  after = found.after;
+  parts = ap (λ (rest : List Paragraph). p ∷ rest) found.parts;
+  uses = found.uses;
+  told = found.told;
+  first = found.first;
+  others = All-cons (DefinesUser meaning name) p found.before here found.others;
+}
+
+-- no paragraph is the first such one, if the meaning defines each that uses the table
+pub IsFirstUser-none : (meaning : Meaning) (name : List ℕ) (ps : List Paragraph) (id place : ℕ) → All (DefinesUser meaning name) ps → ¬ IsFirstUser meaning name ps id place
+IsFirstUser-none meaning name ps id place defined user =
+    let there : Contains ps user.paragraph = subst (λ (qs : List Paragraph). Contains qs user.paragraph) (sym user.parts) (Contains-append_right user.before (user.paragraph ∷ user.after) user.paragraph (Contains-here user.paragraph user.after)) in
+    defined_not_first meaning (print_of user.paragraph) place (All-contains (DefinesUser meaning name) ps user.paragraph defined there user.uses) user.first
 
 defines_user : (meaning : Meaning) (name : List ℕ) (p : Paragraph) → DefinesUser meaning name p ⊎ ((p.table ≡ name) × ((place : ℕ) × IsFirstUndefined meaning (print_of p) place))
 defines_user meaning name p =
@@ -56,31 +66,26 @@ defines_user meaning name p =
       ]
     ]
 
-pub all_or_first_user : (meaning : Meaning) (name : List ℕ) (ps : List Paragraph) → All (DefinesUser meaning name) ps ⊎ IsFirstUser meaning name ps
+pub all_or_first_user : (meaning : Meaning) (name : List ℕ) (ps : List Paragraph) → All (DefinesUser meaning name) ps ⊎ ((id : ℕ) × (place : ℕ) × IsFirstUser meaning name ps id place)
 all_or_first_user meaning name [] = inl (All-nil (DefinesUser meaning name))
 all_or_first_user meaning name (p ∷ ps) =
     elim (defines_user meaning name p) [
-      | inr lacks ↦ inr (record {
-        before = [];
-        paragraph = p;
-        after = ps;
-        place = lacks.1.0;
-        parts = refl;
-        uses = lacks.0;
-        first = lacks.1.1;
-        others = All-nil (DefinesUser meaning name);
-      })
+      | inr lacks ↦ inr (
+        p.id,
+        lacks.1.0,
+        record {
+          before = [];
+          paragraph = p;
+          after = ps;
+          parts = refl;
+          uses = lacks.0;
+          told = refl;
+          first = lacks.1.1;
+          others = All-nil (DefinesUser meaning name);
+        },
+      )
       | inl here ↦ elim (all_or_first_user meaning name ps) [
         | inl rest ↦ inl (All-cons (DefinesUser meaning name) p ps here rest)
-        | inr found ↦ inr (record {
-          before = p ∷ found.before;
-          paragraph = found.paragraph;
-          after = found.after;
-          place = found.place;
-          parts = ap (λ (rest : List Paragraph). p ∷ rest) found.parts;
-          uses = found.uses;
-          first = found.first;
-          others = All-cons (DefinesUser meaning name) p found.before here found.others;
-        })
+        | inr found ↦ inr (found.0, found.1, IsFirstUser-later meaning name p ps found.0 found.1 here found.2)
       ]
     ]

@@ -81,14 +81,16 @@ module _ (book : Book) (expect : Option ℕ) (command : Command) where
       let names = ap (λ (e : List ℕ × List ℕ). e.0) same in
       let texts = ap (λ (e : List ℕ × List ℕ). e.1) same in
       let meanings = one_meaning a.text b.meaning a.meaning (subst (λ (t : List ℕ). Means t b.meaning) texts b.means) a.means in
-      let first = subst (λ (m : Meaning). IsFirstUndefined m (print_of b.paragraph) other) meanings b.first in
-      let uses = b.uses ∙ names in
-      let before = subst (λ (m : Meaning). All (DefinesUser m a.name) b.before) meanings (subst (λ (t : List ℕ). All (DefinesUser b.meaning t) b.before) names b.others) in
-      let one = one_lacking (DefinesUser a.meaning a.name) a.before a.paragraph a.after b.before b.paragraph b.after (sym a.parts ∙ b.parts) a.others before
-      (λ defines. defined_not_first a.meaning (print_of a.paragraph) place (defines a.uses) a.first)
-      (λ defines. defined_not_first a.meaning (print_of b.paragraph) other (defines uses) first) in (
-        a.told ∙ (ap (λ (p : Paragraph). p.id) one ∙ sym b.told),
-        one_undefined a.meaning (print_of a.paragraph) place other a.first (subst (λ (p : Paragraph). IsFirstUndefined a.meaning (print_of p) other) (sym one) first),
+      let u = a.user in
+      let v = b.user in
+      let first = subst (λ (m : Meaning). IsFirstUndefined m (print_of v.paragraph) other) meanings v.first in
+      let uses = v.uses ∙ names in
+      let before = subst (λ (m : Meaning). All (DefinesUser m a.name) v.before) meanings (subst (λ (t : List ℕ). All (DefinesUser b.meaning t) v.before) names v.others) in
+      let one = one_lacking (DefinesUser a.meaning a.name) u.before u.paragraph u.after v.before v.paragraph v.after (sym u.parts ∙ v.parts) u.others before
+      (λ defines. defined_not_first a.meaning (print_of u.paragraph) place (defines u.uses) u.first)
+      (λ defines. defined_not_first a.meaning (print_of v.paragraph) other (defines uses) first) in (
+        u.told ∙ (ap (λ (p : Paragraph). p.id) one ∙ sym v.told),
+        one_undefined a.meaning (print_of u.paragraph) place other u.first (subst (λ (p : Paragraph). IsFirstUndefined a.meaning (print_of p) other) (sym one) first),
       )
 
   -- ---- of one turn

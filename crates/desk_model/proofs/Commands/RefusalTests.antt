@@ -1,8 +1,7 @@
 -- Of each refusal it is decided whether it holds of a command.
-use Rattle.std.proofs.Common.{◌≡◌, ℕ, ◌+◌, ◌<◌, ◌≤◌, true, false, List, [], ◌∷◌, ◌++◌, length, Option, Some, None, Contains, refl, sym, ap, subst, ◌∙◌, inl, inr}
+use Rattle.std.proofs.Common.{◌≡◌, ℕ, ◌+◌, ◌<◌, ◌≤◌, true, false, List, [], ◌∷◌, length, Option, Some, None, Contains, refl, sym, ap, subst, ◌∙◌, inl, inr}
 use Rattle.std.specs.List.{position}
 use Rattle.std.proofs.lemmas.Bool.{cases_eq, cases_lt}
-use Rattle.std.proofs.lemmas.List.Elements.{All-contains}
 use Rattle.louis_table.proofs.OneMeaning.{means_or_bad, one_meaning, some_meaning}
 use Rattle.louis_table.specs.Meaning.{Meaning}
 use Rattle.louis_table.specs.Table.{Bad, Means}
@@ -16,11 +15,11 @@ use Rattle.desk_model.specs.Book.{Book, Mark as BookMark, Paragraph, mark_of, pa
 use Rattle.desk_model.specs.Limits.{most_entries, most_marks, most_name, most_note, most_paragraphs, most_print, most_proofreader, most_tables, most_version}
 use Rattle.desk_model.specs.Name.{IsProofreaderName, IsTableName, is_name_character, is_proofreader_character}
 use Rattle.desk_model.specs.Named.{Cells, Characters, Span, adds_paragraph, history_grown, live_paragraph, mark_named, named_by, note_given, paragraphs_named, proofreader_given, struck_paragraph, table_given, table_named, text_given, text_stored}
-use Rattle.desk_model.specs.Refusals.{DefinesUser, HasLongNote, HasLongPrint, HasLongText, HasNoCorrection, HasNothingToUndo, IsBadName, IsBadReader, IsBadSpan, IsBadTable, IsBadText, IsFull, IsMoved, IsNotStruck, IsPastPrint, IsResolved, IsStruck, IsUndefined, IsUntranslatable, LacksMark, LacksParagraph, LacksSpan, LacksTable, new_print, print_to_translate}
+use Rattle.desk_model.specs.Refusals.{HasLongNote, HasLongPrint, HasLongText, HasNoCorrection, HasNothingToUndo, IsBadName, IsBadReader, IsBadSpan, IsBadTable, IsBadText, IsFirstUser, IsFull, IsMoved, IsNotStruck, IsPastPrint, IsResolved, IsStruck, IsUndefined, IsUntranslatable, LacksMark, LacksParagraph, LacksSpan, LacksTable, new_print, print_to_translate}
 use Rattle.desk_model.specs.Print.{newest, print_of}
 use Rattle.desk_model.specs.NormalForm.{IsFirstBarred, is_barred}
 use Rattle.desk_model.specs.Translation.{LacksCells}
-use Rattle.desk_model.proofs.Commands.FirstUndefined.{all_or_first_user, defined_or_first}
+use Rattle.desk_model.proofs.Commands.FirstUndefined.{IsFirstUser-none, all_or_first_user, defined_or_first}
 use Rattle.desk_model.proofs.Commands.MarkedPlaces.{has_cells}
 use Rattle.desk_model.proofs.Lists.Members.{Contains-behind, Contains-cases, Contains-here, Contains-none}
 use Rattle.desk_model.proofs.Commands.Turns.{defined_not_first, same_some}
@@ -270,33 +269,12 @@ module _ (book : Book) (command : Command) where
                 let same = same_some (h.name, h.text) e (sym h.given ∙ gives) in
                 means_or_bad e.1 h.meaning bad.0 bad.1 (subst (λ (t : List ℕ). Means t h.meaning) (ap (λ (x : List ℕ × List ℕ). x.1) same) h.means) bad.2)
             | inl means ↦ elim (all_or_first_user means.0 e.0 book.paragraphs) [
-              | inr found ↦ inl (
-                (found.paragraph.id, found.place),
-                record {
-                  name = e.0;
-                  text = e.1;
-                  given = gives;
-                  meaning = means.0;
-                  means = means.1;
-                  before = found.before;
-                  paragraph = found.paragraph;
-                  after = found.after;
-                  parts = found.parts;
-                  uses = found.uses;
-                  told = refl;
-                  first = found.first;
-                  others = found.others;
-                },
-              )
+              | inr found ↦ inl ((found.0, found.1), record { name = e.0; text = e.1; given = gives; meaning = means.0; means = means.1; user = found.2 })
               | inl defines ↦ inr (λ at h.
                   let same = same_some (h.name, h.text) e (sym h.given ∙ gives) in
                   let meanings = one_meaning e.1 h.meaning means.0 (subst (λ (t : List ℕ). Means t h.meaning) (ap (λ (x : List ℕ × List ℕ). x.1) same) h.means) means.1 in
-                  let its = All-contains (DefinesUser means.0 e.0) book.paragraphs h.paragraph defines (among h.before h.paragraph h.after book.paragraphs h.parts) in
-                  defined_not_first means.0 (print_of h.paragraph) at.1 (its (h.uses ∙ ap (λ (x : List ℕ × List ℕ). x.0) same))
-                  (subst (λ (m : Meaning). IsFirstUndefined m (print_of h.paragraph) at.1) meanings h.first))
+                  IsFirstUser-none means.0 e.0 book.paragraphs at.0 at.1 defines
+                  (subst (λ (m : Meaning). IsFirstUser m e.0 book.paragraphs at.0 at.1) meanings
+                  (subst (λ (name : List ℕ). IsFirstUser h.meaning name book.paragraphs at.0 at.1) (ap (λ (x : List ℕ × List ℕ). x.0) same) h.user)))
             ]
           ]
-        where
-          among : (xs : List Paragraph) (p : Paragraph) (ys ps : List Paragraph) → ps ≡ xs ++ p ∷ ys → Contains ps p
-          among [] p ys ps parts = subst (λ (l : List Paragraph). Contains l p) (sym parts) (Contains-here p ys)
-          among (x ∷ xs) p ys ps parts = subst (λ (l : List Paragraph). Contains l p) (sym parts) (Contains-behind x p (xs ++ p ∷ ys) (among xs p ys (xs ++ p ∷ ys) refl))

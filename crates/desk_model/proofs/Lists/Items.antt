@@ -6,7 +6,8 @@ use Rattle.std.specs.List.{range_with_len}
 use Rattle.std.specs.Option.{option_copied}
 use Rattle.std.specs.Slice.{IsItemAt}
 use Rattle.std.proofs.lemmas.Bool.{cases_Bool, cond-true, cond-false}
-use Rattle.std.proofs.lemmas.List.{map-append}
+use Rattle.std.proofs.Math.Seq.{take-append_seam}
+use Rattle.std.proofs.lemmas.List.{map-append, take-append-le}
 use Rattle.std.proofs.lemmas.List.Elements.{All-head, All-tail, All-nil, All-cons}
 use Rattle.std.proofs.lemmas.List.FromFn.{map-range_with_len_more}
 use Rattle.std.proofs.lemmas.Option.{slice_get_past, slice_get_within, slice_get_read, get_or_from_slice_get}
@@ -104,6 +105,17 @@ push-cases (z ∷ xs) x (suc i) y at =
     elim (push-cases xs x i y at) [
       | inl early ↦ let less = early.0 in inl (omega (arith, less), early.1)
       | inr last ↦ inr (ap suc last.0, last.1)
+    ]
+
+-- what holds of each item after those before it holds so of one item more
+pub each-push : {X : Type 0} (P : List X → X → Type 0) (xs : List X) (x : X) → ((i : ℕ) (y : X) → slice_get xs i ≡ Some y → P (take i xs) y) → P xs x
+    → (i : ℕ) (y : X) → slice_get (xs ++ x ∷ []) i ≡ Some y → P (take i (xs ++ x ∷ [])) y
+each-push P xs x each last i y at =
+    elim (push-cases xs x i y at) [
+      | inl early ↦ let within = early.0 in subst (λ t. P t y) (sym (take-append-le i xs (x ∷ []) (omega arith))) (each i y early.1)
+      | inr here ↦
+          let whole : take i (xs ++ x ∷ []) ≡ xs = ap (λ k. take k (xs ++ x ∷ [])) here.0 ∙ take-append_seam xs (x ∷ []) in
+          subst (λ t. P t y) (sym whole) (subst (P xs) here.1 last)
     ]
 
 pub set-cases : {X : Type 0} (xs : List X) (j i : ℕ) (new x : X) → slice_get (set xs j new) i ≡ Some x → ((i ≡ j) × (x ≡ new)) ⊎ (¬ (i ≡ j) × (slice_get xs i ≡ Some x))
