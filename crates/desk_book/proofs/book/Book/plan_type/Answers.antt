@@ -5,11 +5,13 @@ use Rattle.louis_translate.specs.Position.{AreDefined, IsFirstUndefined}
 use Rattle.desk_command.specs.declared.command.Anchor.{Anchor}
 use Rattle.desk_command.specs.declared.command.Command.TheVariants.{TypeIn}
 use Rattle.desk_book.specs.declared.tables.BookTable.{BookTable}
+use Rattle.desk_command.specs.declared.refusal.Refusal.{Refusal}
+use Rattle.desk_command.specs.declared.refusal.Refusal.TheVariants.{NoMemory}
 use Rattle.desk_model.specs.Book.{Book}
 use Rattle.desk_model.specs.Judging.{Passes}
 use Rattle.desk_book.specs.Kept.{with_id}
 use Rattle.desk_model.specs.Limits.{most_paragraphs, most_print, most_version}
-use Rattle.desk_book.specs.Plans.{AreThere, IsNewParagraph, IsTableFor}
+use Rattle.desk_book.specs.Plans.{AreThere, IsNewParagraph, IsTableFor, IsTurnedDown}
 use Rattle.desk_model.specs.Named.{paragraph_before}
 use Rattle.desk_book.specs.Room.{Suffices}
 use Rattle.desk_model.specs.Step.{new_paragraph, next_id, with_paragraph}
@@ -21,6 +23,7 @@ use Rattle.desk_model.proofs.Books.ParagraphLists.{ids_of}
 use Rattle.desk_model.proofs.Commands.Turns.{accepted_after, passes_to, past_length, past_room, past_table, past_text, past_version, to_turn}
 use Rattle.desk_book.proofs.Plans.Planning.{bad_text, full_paragraphs, full_version, no_memory, no_paragraph, no_table, past_paragraphs, past_print, too_long, undefined}
 use Rattle.desk_book.proofs.book.Book.plan_type.Goals as goal
+use Rattle.desk_book.proofs.book.Book.plan_type.Goals.{In_ok-kept}
 
 module _ (book : Book) (anchor : Anchor) (name text : List ℕ) (unbarred : IsUnbarred text) where
   cleaned : Passes book None (TypeIn anchor name text) 30
@@ -44,6 +47,12 @@ module _ (book : Book) (anchor : Anchor) (name text : List ℕ) (unbarred : IsUn
 
           left : book.version < most_version → Passes book None (TypeIn anchor name text) 180
           left version = to_turn book (TypeIn anchor name text) 170 180 refl (past_version book (TypeIn anchor name text) 140 roomy refl version)
+
+-- an allocation failed after the table was found
+lacking : (c : In_ok-kept) (told : Refusal) → told ≡ NoMemory → IsTurnedDown c.args.self.now (TypeIn c.args.anchor c.args.table.now c.args.text.now) told
+lacking c told is =
+    let passes = tabled c.args.self.now c.args.anchor c.args.table.now c.args.text.now c.in_ok-check_text.ensures.unbarred c.in_ok-check_anchor.ensures.there _ c.in_ok-kept.ensures.found in
+    no_memory c.args.self.now (TypeIn c.args.anchor c.args.table.now c.args.text.now) told 110 refl passes is
 
 pub returns-in_err-check_text : goal.returns-in_err-check_text
 returns-in_err-check_text c =
@@ -69,8 +78,7 @@ returns-in_err-kept c =
 pub returns-in_err-print : goal.returns-in_err-print
 returns-in_err-print c =
     let p = err_from_is_err_and c.from_residual-in_err-print.result c.from_residual-in_err-print.ensures.1 in
-    let passes = tabled c.args.self.now c.args.anchor c.args.table.now c.args.text.now c.in_ok-check_text.ensures.unbarred c.in_ok-check_anchor.ensures.there _ c.in_ok-kept.ensures.found in
-    rw p.1 (record { planned = tt; refused = no_memory c.args.self.now (TypeIn c.args.anchor c.args.table.now c.args.text.now) _ 110 refl passes p.2 })
+    rw p.1 (record { planned = tt; refused = lacking (goal.at.returns-in_err-print c).In_ok-kept _ p.2 })
 
 pub returns-in_err-check_length : goal.returns-in_err-check_length
 returns-in_err-check_length c =
@@ -112,8 +120,7 @@ returns-in_err-check_print c =
 pub returns-in_err-new_paragraph : goal.returns-in_err-new_paragraph
 returns-in_err-new_paragraph c =
     let p = err_from_is_err_and c.from_residual-in_err-new_paragraph.result c.from_residual-in_err-new_paragraph.ensures.1 in
-    let passes = tabled c.args.self.now c.args.anchor c.args.table.now c.args.text.now c.in_ok-check_text.ensures.unbarred c.in_ok-check_anchor.ensures.there _ c.in_ok-kept.ensures.found in
-    rw p.1 (record { planned = tt; refused = no_memory c.args.self.now (TypeIn c.args.anchor c.args.table.now c.args.text.now) _ 110 refl passes p.2 })
+    rw p.1 (record { planned = tt; refused = lacking (goal.at.returns-in_err-new_paragraph c).In_ok-kept _ p.2 })
 
 pub room-requires : goal.room-requires
 room-requires c =
@@ -124,8 +131,7 @@ room-requires c =
 pub returns-in_err-room : goal.returns-in_err-room
 returns-in_err-room c =
     let p = err_from_is_err_and c.from_residual-in_err-room.result c.from_residual-in_err-room.ensures.1 in
-    let passes = tabled c.args.self.now c.args.anchor c.args.table.now c.args.text.now c.in_ok-check_text.ensures.unbarred c.in_ok-check_anchor.ensures.there _ c.in_ok-kept.ensures.found in
-    rw p.1 (record { planned = tt; refused = no_memory c.args.self.now (TypeIn c.args.anchor c.args.table.now c.args.text.now) _ 110 refl passes p.2 })
+    rw p.1 (record { planned = tt; refused = lacking (goal.at.returns-in_err-room c).In_ok-kept _ p.2 })
 
 pub order_room-requires : goal.order_room-requires
 order_room-requires c =
@@ -136,8 +142,7 @@ order_room-requires c =
 pub returns-in_err-order_room : goal.returns-in_err-order_room
 returns-in_err-order_room c =
     let p = err_from_is_err_and c.from_residual-in_err-order_room.result c.from_residual-in_err-order_room.ensures.1 in
-    let passes = tabled c.args.self.now c.args.anchor c.args.table.now c.args.text.now c.in_ok-check_text.ensures.unbarred c.in_ok-check_anchor.ensures.there _ c.in_ok-kept.ensures.found in
-    rw p.1 (record { planned = tt; refused = no_memory c.args.self.now (TypeIn c.args.anchor c.args.table.now c.args.text.now) _ 110 refl passes p.2 })
+    rw p.1 (record { planned = tt; refused = lacking (goal.at.returns-in_err-order_room c).In_ok-kept _ p.2 })
 
 pub place_for-requires : goal.place_for-requires
 place_for-requires c = Contains-there _ _ _ _ c.args.self.now c.self.view_is (paragraph_before c.args.anchor) c.in_ok-check_anchor.ensures.there
