@@ -1,5 +1,6 @@
--- How a head line is read, step by step. Only private functions and proofs need these words: `Head` says what a head line
--- says, and `Request` what bytes are a request.
+-- How a head line is read, step by step. Only private functions and proofs need these words, and the clause of
+-- `RequestHead::finish` that says what is given of a head line alone: `Head` says what a head line says, and `Request` what
+-- bytes are a request.
 use Rattle.std.specs.Prelude.{ℕ, Bool, true, false, ◌&&◌, ◌==◌, ◌≡◌, ◌-◌, Result, Ok, Err, nat_lt, nat_le, if◌then◌else◌, List, [], ◌∷◌, length, codes, Option, Some, None, option_map}
 use Rattle.std.specs.Option.{option_and_then}
 use Rattle.std.specs.List.{list_all, before_first}

@@ -47,8 +47,9 @@ impl<'a> RequestHead<'a> {
     /// `Syntax` exactly if they aren't as many lines as follow it, or one of them is too long; `NoMemory` if an allocation
     /// for the text or a name of a command failed.
     pub fn finish(self, alloc: Global, text: &[u8]) -> Result<Request, Fault>
-        ensures { (bytes : List ℕ) → HasHead bytes self.entry text.now
+        ensures told { (bytes : List ℕ) → HasHead bytes self.entry text.now
             → MatchResult result (Reads bytes) (Tells bytes) }
+        ensures gives { Gives result (with_text text.now self.entry) }
     {
         complete(alloc, self.head, text)
     }

@@ -1,5 +1,8 @@
 use Rattle.desk_line.proofs.RequestLaws.{head-told}
 use Rattle.desk_line.proofs.read.RequestHead.finish.Goals as goal
 
-pub returns : goal.returns
-returns c = λ bytes has. head-told bytes c.args.self c.args.text.now c.complete.result (rw c.self.view_is at c.complete.ensures) has
+pub returns-clause-told : goal.returns-clause-told
+returns-clause-told c = λ bytes has. head-told bytes c.args.self c.args.text.now c.complete.result (rw c.self.view_is at c.complete.ensures) has
+
+pub returns-clause-gives : goal.returns-clause-gives
+returns-clause-gives c = rw c.self.view_is at c.complete.ensures

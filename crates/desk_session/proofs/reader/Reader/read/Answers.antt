@@ -32,7 +32,7 @@ returns-in-Ok g c =
     let block = rw (c.in_ok-text.was ∙ ap Ok c.in-Ok.is) at c.read_block.ensures in
     ReadsRequest-block g.S.Source.can_fail _ _ _ _ _ c.in-Some.line.now c.in-Some.ensures c.in_ok-read_line.field-0 read some
     _ _ c.in-Some-begin_request.head says c.lines_after-count.result c.lines_after-count.ensures c.in-Ok.text c.finish.result block
-    (rw c.as_slice.ensures.value at c.finish.ensures)
+    (rw c.as_slice.ensures.value at c.finish.ensures.told)
 
 pub returns-in-Err : goal.returns-in-Err
 returns-in-Err g c =
