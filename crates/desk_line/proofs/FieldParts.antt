@@ -1,8 +1,8 @@
 -- The fields after the word of a head line, and what they give.
-use Rattle.std.proofs.Common.{◌≡◌, ℕ, List, [], ◌∷◌, Option, Some, None, refl, ap, ◌∙◌}
+use Rattle.std.proofs.Common.{◌≡◌, ℕ, List, [], ◌∷◌, Option, Some, None, option_map, refl, ap, ◌∙◌}
 use Rattle.std.specs.Option.{option_and_then}
-use Rattle.desk_line.specs.Fields.{IsNumber}
-use Rattle.desk_line.specs.Reading.{only_one, only_two, of_both, of_three, number_in, paragraph_in, with_two}
+use Rattle.desk_line.specs.Fields.{IsNumber, line_of_fields}
+use Rattle.desk_line.specs.Reading.{only_one, only_two, of_both, of_three, number_in, paragraph_in, with_one, with_two, with_two_and_text, with_one_before}
 use Rattle.desk_line.proofs.HeadLines.{some-is}
 use Rattle.desk_line.proofs.OperandLaws.{mapped, followed, number-read, number-found}
 
@@ -36,17 +36,63 @@ paragraph-read fields id e =
     let h = followed number_in (only_one fields) id e in
     (h.0, number-read h.0 id h.2, one-is fields h.0 h.1)
 
+-- one field
+module _ {A B : Type 0} (only : List ℕ → Option A) (make : A → B) where
+  pub one-read : (fields : List (List ℕ)) (z : B) → with_one only make fields ≡ Some z
+      → (a : List ℕ) × (x : A) × (fields ≡ a ∷ []) × (only a ≡ Some x) × (make x ≡ z)
+  one-read fields z e =
+      let m = mapped make (option_and_then only (only_one fields)) z e in
+      let h = followed only (only_one fields) m.0 m.1 in
+      (h.0, m.0, one-is fields h.0 h.1, h.2, m.2)
+
+  pub one-found : (a : List ℕ) (x : A) → only a ≡ Some x → with_one only make (a ∷ []) ≡ Some (make x)
+  one-found a x e = ap (option_map make) e
+
 -- two fields
 module _ {A B C : Type 0} (first : List ℕ → Option A) (second : List ℕ → Option B) (make : A → B → C) where
   pub two-read : (fields : List (List ℕ)) (z : C) → with_two first second make fields ≡ Some z
       → (a : List ℕ) × (b : List ℕ) × (x : A) × (y : B) × (fields ≡ a ∷ b ∷ []) × (first a ≡ Some x) × (second b ≡ Some y) × (make x y ≡ z)
+  unfolding with_two
   two-read fields z e =
       let h = followed (λ two. of_both make (first two.0) (second two.1)) (only_two fields) z e in
       let m = made-of-both make (first h.0.0) (second h.0.1) z h.2 in
       (h.0.0, h.0.1, m.0, m.1, two-are fields h.0 h.1, m.2, m.3, m.4)
 
   pub two-found : (a b : List ℕ) (x : A) (y : B) → first a ≡ Some x → second b ≡ Some y → with_two first second make (a ∷ b ∷ []) ≡ Some (make x y)
+  unfolding with_two
   two-found a b x y e f = rw (e, f)
+
+-- two fields and a text
+module _ {A B C : Type 0} (first : List ℕ → Option A) (second : List ℕ → Option B) (make : A → B → List ℕ → C) where
+  pub texted-read : (fields : List (List ℕ)) (z : C) → with_two_and_text first second make fields ≡ Some z
+      → (a : List ℕ) × (b : List ℕ) × (rest : List (List ℕ)) × (x : A) × (y : B) × (fields ≡ a ∷ b ∷ rest) × (first a ≡ Some x) × (second b ≡ Some y)
+      × (make x y (line_of_fields rest) ≡ z)
+  unfolding with_two_and_text
+  texted-read [] z e = absurd cc
+  texted-read (a ∷ []) z e = absurd cc
+  texted-read (a ∷ b ∷ rest) z e =
+      let m = made-of-both (λ x y. make x y (line_of_fields rest)) (first a) (second b) z e in
+      (a, b, rest, m.0, m.1, refl, m.2, m.3, m.4)
+
+  pub texted-found : (a b : List ℕ) (rest : List (List ℕ)) (x : A) (y : B) → first a ≡ Some x → second b ≡ Some y
+      → with_two_and_text first second make (a ∷ b ∷ rest) ≡ Some (make x y (line_of_fields rest))
+  unfolding with_two_and_text
+  texted-found a b rest x y e f = rw (e, f)
+
+-- a field before others
+module _ {A B C : Type 0} (first : List ℕ → Option A) (others : List (List ℕ) → Option B) (make : A → B → C) where
+  pub before-read : (fields : List (List ℕ)) (z : C) → with_one_before first others make fields ≡ Some z
+      → (a : List ℕ) × (rest : List (List ℕ)) × (x : A) × (y : B) × (fields ≡ a ∷ rest) × (first a ≡ Some x) × (others rest ≡ Some y) × (make x y ≡ z)
+  unfolding with_one_before
+  before-read [] z e = absurd cc
+  before-read (a ∷ rest) z e =
+      let m = made-of-both make (first a) (others rest) z e in
+      (a, rest, m.0, m.1, refl, m.2, m.3, m.4)
+
+  pub before-found : (a : List ℕ) (rest : List (List ℕ)) (x : A) (y : B) → first a ≡ Some x → others rest ≡ Some y
+      → with_one_before first others make (a ∷ rest) ≡ Some (make x y)
+  unfolding with_one_before
+  before-found a rest x y e f = rw (e, f)
 
 -- one number alone, and what it gives
 pub numbered-read : {A : Type 0} (make : ℕ → Option A) (fields : List (List ℕ)) (z : A) → option_and_then make (paragraph_in fields) ≡ Some z
@@ -59,3 +105,7 @@ numbered-read make fields z e =
 pub numbered-found : {A : Type 0} (make : ℕ → Option A) (number : List ℕ) (id : ℕ) → IsNumber number id
     → option_and_then make (paragraph_in (number ∷ [])) ≡ make id
 numbered-found make number id n = ap (option_and_then make) (number-found number id n)
+
+pub none-after : {A : Type 0} (f : ℕ → Option A) (id : Option ℕ) → ((x : ℕ) → f x ≡ None) → option_and_then f id ≡ None
+none-after f None none = refl
+none-after f (Some x) none = none x

@@ -1,20 +1,22 @@
 -- What is read of a head line is what it says, and what it says is read.
-use Rattle.std.proofs.Common.{◌≡◌, ℕ, false, ◌&&◌, eqb, leb, List, [], ◌∷◌, length, Option, Some, None, option_map, codes, refl, sym, ap, subst, ◌∙◌, ◌⊎◌, inl, inr}
-use Rattle.std.specs.Str.{bytes_eq, is_utf8}
-use Rattle.std.proofs.lemmas.Bool.{leb-true, and_parts, eqb-true}
+use Rattle.std.proofs.Common.{◌≡◌, ℕ, ◌&&◌, eqb, leb, List, [], ◌∷◌, length, Option, Some, None, option_map, codes, refl, sym, ap, ◌∙◌, ◌⊎◌, inl, inr}
+use Rattle.std.specs.Str.{is_utf8}
+use Rattle.std.proofs.lemmas.Bool.{leb-true, and_parts, eqb-true, cond-false, cases_Bool}
 use Rattle.std.proofs.lemmas.Str.{IsUtf8-from_is_utf8}
 use Rattle.desk_line.specs.declared.head.Head.{Head}
 use Rattle.desk_line.specs.declared.head.Head.TheVariants.{Do, Ask}
 use Rattle.desk_line.specs.declared.directive.Directive.{Directive}
+use Rattle.desk_line.specs.declared.request.Query.{Query}
 use Rattle.desk_line.specs.Fields.{fields_of}
-use Rattle.desk_line.specs.Head.{SaysDirective, table, supply, type_in, correct, correct_by, undo, mark, resolve, strike, restore, style, volume, retable, move, Expects, nothing, expected, Says, does, asks}
+use Rattle.desk_line.specs.Commands.{SaysDirective}
+use Rattle.desk_line.specs.Head.{Expects, nothing, expected, Says, does, asks, SaysQuery, print, braille, history, marks, where_is, whence, list, version}
 use Rattle.desk_ends.specs.Limits.{most_line_bytes}
 use Rattle.desk_line.specs.Lines.{CanBeHead}
-use Rattle.desk_line.specs.Reading.{number_in, lone_query, paragraph_query, directive_by, directive_in, query_in, or_else, command_in, head_in, head_of}
-use Rattle.desk_line.proofs.FieldParts.{made-of-both}
-use Rattle.desk_line.proofs.HeadLines.{head-of-text}
+use Rattle.desk_line.specs.Reading.{number_in, numbered_directive, paragraph_in, directive_by, directive_in, query_in, or_else, command_in, head_in, head_of}
+use Rattle.desk_line.proofs.FieldParts.{made-of-both, none-after}
+use Rattle.desk_line.proofs.HeadLines.{head-of-text, some-none, unfound}
 use Rattle.desk_line.proofs.OperandLaws.{chosen, taken, mapped, number-read, number-found}
-use Rattle.desk_line.proofs.DirectiveLaws.{directive-read, directive-read-by, directive-found}
+use Rattle.desk_line.proofs.CommandLaws.{directive-read, directive-read-by, directive-found}
 use Rattle.desk_line.proofs.QueryLaws.{query-read, query-found, query-none}
 
 else-read : {A : Type 0} (p q : Option A) (z : A) → or_else p q ≡ Some z → (p ≡ Some z) ⊎ ((p ≡ None) × (q ≡ Some z))
@@ -61,33 +63,38 @@ head-read line head e =
 
 -- ---- what is said is read
 
--- the fields aren't a query's, and no version stands before their word
-record IsCommandLike (fields : List (List ℕ)) : Type 0 where
-  no_query : query_in fields ≡ None
-  no_version : command_in fields ≡ option_map (λ directive. Do directive None) (directive_in fields)
-
--- a command's word isn't a query's, and doesn't begin with an at sign
-like : (word : List ℕ) (fields : List (List ℕ)) → bytes_eq word (codes "where") ≡ false → bytes_eq word (codes "whence") ≡ false → lone_query word ≡ None
-    → ((id : ℕ) → paragraph_query word id ≡ None)
-    → command_in (word ∷ fields) ≡ option_map (λ directive. Do directive None) (directive_in (word ∷ fields)) → IsCommandLike (word ∷ fields)
-like word fields w v lone none plain = record { no_query = query-none word fields w v lone none; no_version = plain }
-
-command-like : (fields : List (List ℕ)) (directive : Directive) → SaysDirective fields directive → IsCommandLike fields
+-- the fields of a query give no command
+asked-unsaid : (fields : List (List ℕ)) (query : Query) → SaysQuery fields query → directive_in fields ≡ None
 unfolding directive_in
-command-like fields directive (table name number count n c few e is) = subst IsCommandLike (sym e) (like (codes "table") (name ∷ number ∷ []) refl refl refl (λ id. refl) refl)
-command-like fields directive (supply name n e is) = subst IsCommandLike (sym e) (like (codes "supply") (name ∷ []) refl refl refl (λ id. refl) refl)
-command-like fields directive (type_in after name text anchor a n e is) = subst IsCommandLike (sym e) (like (codes "type") (after ∷ name ∷ text) refl refl refl (λ id. refl) refl)
-command-like fields directive (correct others span h e is) = subst IsCommandLike (sym e) (like (codes "correct") (others) refl refl refl (λ id. refl) refl)
-command-like fields directive (correct_by who others span n h e is) = subst IsCommandLike (sym e) (like (codes "correct-by") (who ∷ others) refl refl refl (λ id. refl) refl)
-command-like fields directive (undo number id n e is) = subst IsCommandLike (sym e) (like (codes "undo") (number ∷ []) refl refl refl (λ id. refl) refl)
-command-like fields directive (mark others span h e is) = subst IsCommandLike (sym e) (like (codes "mark") (others) refl refl refl (λ id. refl) refl)
-command-like fields directive (resolve number id n e is) = subst IsCommandLike (sym e) (like (codes "resolve") (number ∷ []) refl refl refl (λ id. refl) refl)
-command-like fields directive (strike number id n e is) = subst IsCommandLike (sym e) (like (codes "strike") (number ∷ []) refl refl refl (λ id. refl) refl)
-command-like fields directive (restore number id n e is) = subst IsCommandLike (sym e) (like (codes "restore") (number ∷ []) refl refl refl (λ id. refl) refl)
-command-like fields directive (style number word id look n s e is) = subst IsCommandLike (sym e) (like (codes "style") (number ∷ word ∷ []) refl refl refl (λ id. refl) refl)
-command-like fields directive (volume number word id begins n f e is) = subst IsCommandLike (sym e) (like (codes "volume") (number ∷ word ∷ []) refl refl refl (λ id. refl) refl)
-command-like fields directive (retable number name id n m e is) = subst IsCommandLike (sym e) (like (codes "retable") (number ∷ name ∷ []) refl refl refl (λ id. refl) refl)
-command-like fields directive (move number after id anchor n a e is) = subst IsCommandLike (sym e) (like (codes "move") (number ∷ after ∷ []) refl refl refl (λ id. refl) refl)
+asked-unsaid fields query (print number id n e is) = ap directive_in e ∙ none-after (numbered_directive (codes "print")) (paragraph_in (number ∷ [])) (λ x. refl)
+asked-unsaid fields query (braille number id n e is) = ap directive_in e ∙ none-after (numbered_directive (codes "braille")) (paragraph_in (number ∷ [])) (λ x. refl)
+asked-unsaid fields query (history number id n e is) = ap directive_in e ∙ none-after (numbered_directive (codes "history")) (paragraph_in (number ∷ [])) (λ x. refl)
+asked-unsaid fields query (marks number id n e is) = ap directive_in e ∙ none-after (numbered_directive (codes "marks")) (paragraph_in (number ∷ [])) (λ x. refl)
+asked-unsaid fields query (where_is number at id place n m e is) = ap directive_in e
+asked-unsaid fields query (whence number at id cell n m e is) = ap directive_in e
+asked-unsaid fields query (list e is) = ap directive_in e
+asked-unsaid fields query (version e is) = ap directive_in e
+
+no-query : (fields : List (List ℕ)) (directive : Directive) → directive_in fields ≡ Some directive → query_in fields ≡ None
+no-query fields directive found =
+    unfound (query_in fields) (λ query e. some-none directive (directive_in fields) found (asked-unsaid fields query (query-read fields query e)))
+
+-- no command's word begins with an at sign
+signed-unsaid : (word : List ℕ) (fields : List (List ℕ)) → directive_in ((64 ∷ word) ∷ fields) ≡ None
+unfolding directive_in
+signed-unsaid word fields = none-after (numbered_directive (64 ∷ word)) (paragraph_in fields) (λ x. refl)
+
+no-version : (fields : List (List ℕ)) (directive : Directive) → directive_in fields ≡ Some directive
+    → command_in fields ≡ option_map (λ directive. Do directive None) (directive_in fields)
+unfolding directive_in
+no-version [] directive e = refl
+no-version ([] ∷ fields) directive e = refl
+no-version ((b ∷ word) ∷ fields) directive e =
+    elim (cases_Bool (eqb b 64)) [
+      | inl t ↦ absurd (some-none directive (directive_in ((b ∷ word) ∷ fields)) e
+          (ap (λ (c : ℕ). directive_in ((c ∷ word) ∷ fields)) (eqb-true b 64 t) ∙ signed-unsaid word fields))
+      | inr f ↦ cond-false (eqb b 64) _ _ f
+    ]
 
 -- after a version stands no query
 no-query-expected : (number : List ℕ) (command : List (List ℕ)) → query_in ((64 ∷ number) ∷ command) ≡ None
@@ -97,9 +104,9 @@ command-found : (fields : List (List ℕ)) (expect : Option ℕ) (command : List
     → Expects fields expect command → SaysDirective command directive → head_in fields ≡ Some (Do directive expect)
 unfolding head_in
 command-found fields expect command directive (nothing none e) says =
-    let like = command-like command directive says in
+    let found = directive-found command directive says in
     ap head_in e
-    ∙ (rw (like.no_query, like.no_version, directive-found command directive says) (ap (λ (x : Option ℕ). (let h : Option Head = Some (Do directive x) in h)) (sym none)))
+    ∙ (rw (no-query command directive found, no-version command directive found, found) (ap (λ (x : Option ℕ). (let h : Option Head = Some (Do directive x) in h)) (sym none)))
 command-found fields expect command directive (expected number wanted n e some) says =
     ap head_in e
     ∙ (rw (no-query-expected number command, number-found number wanted n, directive-found command directive says) (ap (λ (x : Option ℕ). (let h : Option Head = Some (Do directive x) in h)) (sym some)))

@@ -13,6 +13,14 @@ use Rattle.desk_line.specs.Reading.{head_in, head_of, command_after, command_in,
 pub some-is : {A : Type 0} (x y : A) → Some x ≡ Some y → x ≡ y
 some-is x y e = cc
 
+pub some-none : {A : Type 0} (x : A) (o : Option A) → o ≡ Some x → o ≡ None → ⊥
+some-none x o s n = cc
+
+-- what isn't there
+pub unfound : {A : Type 0} (o : Option A) → ((x : A) → o ≡ Some x → ⊥) → o ≡ None
+unfound None h = refl
+unfound (Some x) h = absurd (h x refl)
+
 -- a test of two parts
 tested : {A : Type 0} (a b : Bool) (x : Option A) → a ≡ true → b ≡ true → cond (a && b) x None ≡ x
 tested true true x e f = refl

@@ -4,7 +4,8 @@ pub mod LackedBytes
 mod FieldLists
 pub mod HeadLines
 pub mod FieldParts
-pub mod DirectiveLaws
+pub mod WrittenFields
+pub mod CommandLaws
 pub mod QueryLaws
 pub mod HeadLaws
 pub mod LineLists

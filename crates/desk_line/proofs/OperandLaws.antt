@@ -18,7 +18,7 @@ use Rattle.desk_line.specs.Fields.{IsName, IsNumber, IsAnchor, front, end, after
 use Rattle.desk_line.specs.Limits.{most_digits, most_number}
 use Rattle.desk_line.specs.Reading.{name_in, number_in, small_number, count_in, few_lines, anchor_in, style_in, flag_in}
 use Rattle.desk_line.proofs.DigitValues.{digit-in-range}
-use Rattle.desk_line.proofs.HeadLines.{some-is}
+use Rattle.desk_line.proofs.HeadLines.{some-is, some-none}
 
 -- ---- tests
 
@@ -35,6 +35,24 @@ taken false x z e = absurd cc
 -- a word by its test
 pub word-is : (field word : List ℕ) → bytes_eq field word ≡ true → field ≡ word
 word-is field word t = (bytes_eq-Decides field word).0 t
+
+-- the word is this text, and what that gives is said; or it is another's, and so is what that gives
+pub worded : {A : Type 0} (Says : List (List ℕ) → A → Type 0) (word text : List ℕ) (fields : List (List ℕ)) (x : A) (this others : Option A)
+    → (this ≡ Some x → Says (text ∷ fields) x) → (others ≡ Some x → Says (word ∷ fields) x) → cond (bytes_eq word text) this others ≡ Some x → Says (word ∷ fields) x
+worded Says word text fields x this others f g e =
+    elim (chosen (bytes_eq word text) this others (Some x) e) [
+      | inl p ↦ subst (λ (w : List ℕ). Says (w ∷ fields) x) (sym (word-is word text p.0)) (f p.1)
+      | inr p ↦ g p.1
+    ]
+
+-- one of two words, each of which stands for a value
+one-of-two : {A : Type 0} (field this that : List ℕ) (x y z : A) → cond (bytes_eq field this) (Some x) (cond (bytes_eq field that) (Some y) None) ≡ Some z
+    → ((field ≡ this) × (z ≡ x)) ⊎ ((field ≡ that) × (z ≡ y))
+one-of-two field this that x y z e =
+    elim (chosen (bytes_eq field this) _ _ _ e) [
+      | inl p ↦ inl (word-is field this p.0, sym (some-is x z p.1))
+      | inr p ↦ let q = taken (bytes_eq field that) (Some y) z p.1 in inr (word-is field that q.0, sym (some-is y z q.1))
+    ]
 
 -- what something that is there gives
 pub mapped : {A B : Type 0} (make : A → B) (o : Option A) (z : B) → option_map make o ≡ Some z → (x : A) × (o ≡ Some x) × (make x ≡ z)
@@ -137,12 +155,7 @@ anchor-read field anchor e =
 pub style-read : (field : List ℕ) (style : Style) → style_in field ≡ Some style → IsStyle field style
 unfolding style_in
 style-read field style e =
-    elim (chosen (bytes_eq field (codes "body")) _ _ _ e) [
-      | inl p ↦ body (word-is field (codes "body") p.0) (sym (some-is Body style p.1))
-      | inr p ↦
-          let q = taken (bytes_eq field (codes "heading")) (Some Heading) style p.1 in
-          heading (word-is field (codes "heading") q.0) (sym (some-is Heading style q.1))
-    ]
+    elim (one-of-two field (codes "body") (codes "heading") Body Heading style e) [ inl p ↦ body p.0 p.1 | inr p ↦ heading p.0 p.1 ]
 
 pub style-found : (field : List ℕ) (style : Style) → IsStyle field style → style_in field ≡ Some style
 unfolding style_in
@@ -152,26 +165,18 @@ style-found field style (heading e is) = ap style_in e ∙ ap Some (sym is)
 pub flag-read : (field : List ℕ) (set : Bool) → flag_in field ≡ Some set → IsFlag field set
 unfolding flag_in
 flag-read field set e =
-    elim (chosen (bytes_eq field (codes "on")) _ _ _ e) [
-      | inl p ↦ on (word-is field (codes "on") p.0) (sym (some-is true set p.1))
-      | inr p ↦
-          let q = taken (bytes_eq field (codes "off")) (Some false) set p.1 in
-          off (word-is field (codes "off") q.0) (sym (some-is false set q.1))
-    ]
+    elim (one-of-two field (codes "on") (codes "off") true false set e) [ inl p ↦ on p.0 p.1 | inr p ↦ off p.0 p.1 ]
 
 pub flag-found : (field : List ℕ) (set : Bool) → IsFlag field set → flag_in field ≡ Some set
 unfolding flag_in
 flag-found field set (on e is) = ap flag_in e ∙ ap Some (sym is)
 flag-found field set (off e is) = ap flag_in e ∙ ap Some (sym is)
 
-some-none : {A : Type 0} (x : A) → Some x ≡ None → ⊥
-some-none x e = cc
-
 -- digits aren't a word
 not-a-word : (field word : List ℕ) (number : ℕ) → IsNumber field number → number_in word ≡ None → bytes_eq field word ≡ false
 not-a-word field word number h none =
     elim (cases_Bool (bytes_eq field word)) [
-      | inl t ↦ let e = word-is field word t in absurd (some-none number (sym (number-found field number h) ∙ (ap number_in e ∙ none)))
+      | inl t ↦ let e = word-is field word t in absurd (some-none number (number_in field) (number-found field number h) (ap number_in e ∙ none))
       | inr f ↦ f
     ]
 

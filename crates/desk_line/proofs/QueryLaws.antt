@@ -1,6 +1,5 @@
 -- What is read of the fields of a query is what they say, and what they say is read.
-use Rattle.std.proofs.Common.{◌≡◌, ℕ, false, List, [], ◌∷◌, Option, Some, None, option_map, codes, cond, refl, sym, ap, subst, ◌∙◌, inl, inr}
-use Rattle.std.specs.Option.{option_and_then}
+use Rattle.std.proofs.Common.{◌≡◌, ℕ, false, List, [], ◌∷◌, Some, None, option_map, codes, refl, sym, ap, subst, ◌∙◌}
 use Rattle.std.specs.Str.{bytes_eq}
 use Rattle.std.proofs.lemmas.Bool.{cond-false}
 use Rattle.desk_line.specs.declared.request.Query.{Query}
@@ -9,17 +8,8 @@ use Rattle.desk_line.specs.Fields.{IsNumber}
 use Rattle.desk_line.specs.Head.{SaysQuery, print, braille, history, marks, where_is, whence, list, version}
 use Rattle.desk_line.specs.Reading.{number_in, paragraph_in, numbers_in, lone_query, paragraph_query, query_by_count, query_by, query_in}
 use Rattle.desk_line.proofs.HeadLines.{some-is}
-use Rattle.desk_line.proofs.FieldParts.{two-read, numbered-read, numbered-found}
-use Rattle.desk_line.proofs.OperandLaws.{chosen, word-is, mapped, number-read, number-found}
-
--- the word is this text, and the query is so read; or another case has it
-worded : (word text : List ℕ) (fields : List (List ℕ)) (query : Query) (this others : Option Query) → (this ≡ Some query → SaysQuery (text ∷ fields) query)
-    → (others ≡ Some query → SaysQuery (word ∷ fields) query) → cond (bytes_eq word text) this others ≡ Some query → SaysQuery (word ∷ fields) query
-worded word text fields query this others f g e =
-    elim (chosen (bytes_eq word text) this others (Some query) e) [
-      | inl p ↦ subst (λ (w : List ℕ). SaysQuery (w ∷ fields) query) (sym (word-is word text p.0)) (f p.1)
-      | inr p ↦ g p.1
-    ]
+use Rattle.desk_line.proofs.FieldParts.{two-read, two-found, none-after, numbered-read, numbered-found}
+use Rattle.desk_line.proofs.OperandLaws.{worded, mapped, number-read, number-found}
 
 numbers-read : (fields : List (List ℕ)) (make : ℕ → ℕ → Query) (query : Query) → option_map (λ two. make two.0 two.1) (numbers_in fields) ≡ Some query
     → (a : List ℕ) × (b : List ℕ) × (x : ℕ) × (y : ℕ) × (fields ≡ a ∷ b ∷ []) × IsNumber a x × IsNumber b y × (make x y ≡ query)
@@ -42,16 +32,16 @@ whence-says fields query e =
 
 lone-says : (word : List ℕ) (query : Query) → lone_query word ≡ Some query → SaysQuery (word ∷ []) query
 lone-says word query =
-    worded word (codes "list") [] query _ _ (λ e. list refl (sym (some-is queries.List query e)))
-    (worded word (codes "version") [] query _ _ (λ e. version refl (sym (some-is queries.Version query e))) (λ e. absurd cc))
+    worded SaysQuery word (codes "list") [] query _ _ (λ e. list refl (sym (some-is queries.List query e)))
+    (worded SaysQuery word (codes "version") [] query _ _ (λ e. version refl (sym (some-is queries.Version query e))) (λ e. absurd cc))
 
 paragraph-says : (word number : List ℕ) (id : ℕ) (query : Query) → IsNumber number id → paragraph_query word id ≡ Some query
     → SaysQuery (word ∷ number ∷ []) query
 paragraph-says word number id query n =
-    worded word (codes "print") (number ∷ []) query _ _ (λ e. print number id n refl (sym (some-is (queries.Print id) query e)))
-    (worded word (codes "braille") (number ∷ []) query _ _ (λ e. braille number id n refl (sym (some-is (queries.Braille id) query e)))
-    (worded word (codes "history") (number ∷ []) query _ _ (λ e. history number id n refl (sym (some-is (queries.History id) query e)))
-    (worded word (codes "marks") (number ∷ []) query _ _ (λ e. marks number id n refl (sym (some-is (queries.Marks id) query e))) (λ e. absurd cc))))
+    worded SaysQuery word (codes "print") (number ∷ []) query _ _ (λ e. print number id n refl (sym (some-is (queries.Print id) query e)))
+    (worded SaysQuery word (codes "braille") (number ∷ []) query _ _ (λ e. braille number id n refl (sym (some-is (queries.Braille id) query e)))
+    (worded SaysQuery word (codes "history") (number ∷ []) query _ _ (λ e. history number id n refl (sym (some-is (queries.History id) query e)))
+    (worded SaysQuery word (codes "marks") (number ∷ []) query _ _ (λ e. marks number id n refl (sym (some-is (queries.Marks id) query e))) (λ e. absurd cc))))
 
 counted-says : (word : List ℕ) (fields : List (List ℕ)) (query : Query) → query_by_count word fields ≡ Some query → SaysQuery (word ∷ fields) query
 counted-says word [] query e = lone-says word query e
@@ -61,8 +51,8 @@ counted-says word (field ∷ fields) query e =
 
 query-read-by : (word : List ℕ) (fields : List (List ℕ)) (query : Query) → query_by word fields ≡ Some query → SaysQuery (word ∷ fields) query
 query-read-by word fields query =
-    worded word (codes "where") fields query _ _ (where-says fields query)
-    (worded word (codes "whence") fields query _ _ (whence-says fields query) (counted-says word fields query))
+    worded SaysQuery word (codes "where") fields query _ _ (where-says fields query)
+    (worded SaysQuery word (codes "whence") fields query _ _ (whence-says fields query) (counted-says word fields query))
 
 pub query-read : (fields : List (List ℕ)) (query : Query) → query_in fields ≡ Some query → SaysQuery fields query
 unfolding query_in
@@ -71,7 +61,8 @@ query-read (word ∷ fields) query e = query-read-by word fields query e
 
 numbers-found : (make : ℕ → ℕ → Query) (a b : List ℕ) (x y : ℕ) → IsNumber a x → IsNumber b y
     → option_map (λ two. make two.0 two.1) (numbers_in (a ∷ b ∷ [])) ≡ Some (make x y)
-numbers-found make a b x y n m = rw (number-found a x n, number-found b y m) refl
+numbers-found make a b x y n m =
+    ap (option_map (λ two. make two.0 two.1)) (two-found number_in number_in (λ first second. (first, second)) a b x y (number-found a x n) (number-found b y m))
 
 pub query-found : (fields : List (List ℕ)) (query : Query) → SaysQuery fields query → query_in fields ≡ Some query
 unfolding query_in
@@ -85,10 +76,6 @@ query-found fields query (list e is) = ap query_in e ∙ ap Some (sym is)
 query-found fields query (version e is) = ap query_in e ∙ ap Some (sym is)
 
 -- ---- what asks nothing
-
-none-after : (f : ℕ → Option Query) (id : Option ℕ) → ((x : ℕ) → f x ≡ None) → option_and_then f id ≡ None
-none-after f None none = refl
-none-after f (Some x) none = none x
 
 none-by-count : (word : List ℕ) (fields : List (List ℕ)) → lone_query word ≡ None → ((id : ℕ) → paragraph_query word id ≡ None)
     → query_by_count word fields ≡ None

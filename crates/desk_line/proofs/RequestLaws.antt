@@ -11,17 +11,17 @@ use Rattle.desk_line.specs.declared.fault.Fault.{Fault}
 use Rattle.desk_line.specs.declared.fault.Fault.TheVariants.{Syntax, NoMemory}
 use Rattle.desk_line.specs.declared.head.Head.{Head}
 use Rattle.desk_command.specs.declared.command.Command.{Command}
-use Rattle.desk_line.specs.declared.directive.Directive.{Directive}
-use Rattle.desk_line.specs.declared.directive.Directive.TheVariants.{Table, Supply, TypeIn, Correct, Undo, Mark, Resolve, Strike, Restore, Style, Volume, Retable, Move}
 use Rattle.desk_line.specs.declared.head.Head.TheVariants as heads
 use Rattle.desk_line.specs.declared.request.Request.{Request}
 use Rattle.desk_line.specs.declared.request.Request.TheVariants.{Do}
+use Rattle.desk_line.specs.Commands.{HasText, command_of}
 use Rattle.desk_line.specs.Head.{Says}
 use Rattle.desk_ends.specs.Limits.{most_line_bytes}
 use Rattle.desk_line.specs.Lines.{IsShort, after_first_line}
 use Rattle.desk_line.specs.Reading.{Gives, are_lines, head_line, head_in, head_of, query_in, directive_in, request_in, with_text}
-use Rattle.desk_line.specs.Request.{AsksForMemory, HasHead, HasText, Reads, Takes, said, unsaid, Tells, block_lines, command_of, directive_block_lines, request_of}
-use Rattle.desk_line.proofs.HeadLines.{some-is, head-of-text}
+use Rattle.desk_line.specs.Request.{AsksForMemory, HasHead, Reads, Takes, said, unsaid, Tells, block_lines, request_of}
+use Rattle.desk_line.proofs.HeadLines.{some-is, some-none, head-of-text}
+use Rattle.desk_line.proofs.CommandLaws.{directive-asks, directive-text}
 use Rattle.desk_line.proofs.HeadLaws.{head-read, head-found}
 use Rattle.desk_line.proofs.OperandLaws.{taken, followed}
 
@@ -106,9 +106,6 @@ one-request bytes this that a b = some-is this that (sym (request-found bytes th
 
 -- ---- what is answered
 
-some-none : {A : Type 0} (x : A) (o : Option A) → o ≡ Some x → o ≡ None → ⊥
-some-none x o s n = cc
-
 pub is-told : (bytes : List ℕ) (result : Result Request Fault) → Gives result (request_in bytes) → MatchResult result (Reads bytes) (Tells bytes)
 is-told bytes (Ok request) e = request-read bytes request e
 is-told bytes (Err Syntax) e = λ request r. some-none request (request_in bytes) (request-found bytes request r) e
@@ -152,21 +149,6 @@ pub takes-none : (line : List ℕ) → head_of line ≡ None → Takes line 0
 takes-none line e = unsaid (head-unsaid line e) refl
 
 -- what takes lines allocates
-directive-asks : (directive : Directive) → 0 < directive_block_lines directive → HasText (command_of directive [])
-directive-asks (Table name count) some = tt
-directive-asks (Supply name) some = absurd (omega arith)
-directive-asks (TypeIn after name print) some = absurd (omega arith)
-directive-asks (Correct span who) some = absurd (omega arith)
-directive-asks (Undo id) some = absurd (omega arith)
-directive-asks (Mark span) some = absurd (omega arith)
-directive-asks (Resolve id) some = absurd (omega arith)
-directive-asks (Strike id) some = absurd (omega arith)
-directive-asks (Restore id) some = absurd (omega arith)
-directive-asks (Style id style) some = absurd (omega arith)
-directive-asks (Volume id begins) some = absurd (omega arith)
-directive-asks (Retable id name) some = absurd (omega arith)
-directive-asks (Move id after) some = absurd (omega arith)
-
 head-asks : (bytes line : List ℕ) (block : List (List ℕ)) (head : Head) → lines_of bytes ≡ line ∷ block → Says line head → 0 < block_lines head → AsksForMemory bytes
 head-asks bytes line block (heads.Do directive expect) lines says some =
     record { line = line; block = block; directive = directive; expect = expect; lines = lines; says = says; text = directive-asks directive some }
@@ -177,21 +159,6 @@ asks-for-memory bytes line block count lines (said head says same) some = head-a
 asks-for-memory bytes line block count lines (unsaid none same) some = absurd (omega arith)
 
 -- and so does a command with a text or a name
-directive-text : (directive : Directive) (text : List ℕ) → HasText (command_of directive text) → HasText (command_of directive [])
-directive-text (Table name count) text h = h
-directive-text (Supply name) text h = h
-directive-text (TypeIn after name print) text h = h
-directive-text (Correct span who) text h = h
-directive-text (Undo id) text h = h
-directive-text (Mark span) text h = h
-directive-text (Resolve id) text h = h
-directive-text (Strike id) text h = h
-directive-text (Restore id) text h = h
-directive-text (Style id style) text h = h
-directive-text (Volume id begins) text h = h
-directive-text (Retable id name) text h = h
-directive-text (Move id after) text h = h
-
 head-text : (bytes line : List ℕ) (block : List (List ℕ)) (head : Head) (command : Command) (expect : Option ℕ) (text : List ℕ) → lines_of bytes ≡ line ∷ block → Says line head
     → Do command expect ≡ request_of head text → HasText command → AsksForMemory bytes
 head-text bytes line block (heads.Do directive other) command expect text lines says is h =

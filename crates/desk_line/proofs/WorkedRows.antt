@@ -19,9 +19,10 @@ use Rattle.desk_line.specs.declared.request.Query.TheVariants as queries
 use Rattle.desk_line.specs.declared.request.Request.{Request}
 use Rattle.desk_line.specs.declared.request.Request.TheVariants as requests
 use Rattle.desk_line.specs.Fields.{IsNumber, end, fields_of}
-use Rattle.desk_line.specs.Head.{Says, SaysDirective, asks, correct, correct_by, does, expected, nothing, strike, supply, table, type_in, version}
+use Rattle.desk_line.specs.Commands.{SaysDirective, correct, correct_by, strike, supply, table, type_in}
+use Rattle.desk_line.specs.Head.{Says, asks, does, expected, nothing, version}
 use Rattle.desk_line.specs.Lines.{CanBeHead}
-use Rattle.desk_line.specs.Reading.{head_in, head_of, query_in, directive_in, number_in, count_in, table_in, type_in as read_type_in, anchor_in}
+use Rattle.desk_line.specs.Reading.{head_in, head_of, query_in, directive_in, number_in, count_in, anchor_in, with_two, with_two_and_text}
 use Rattle.desk_line.specs.Answers.{Replies, asked, no_request}
 use Rattle.desk_line.specs.Reply.{IsReply, entry_line, list_line, mark_line, no_paragraph, refusal_line, refused as refused_query, shown, shown_line, shown_text, version as shows_version}
 use Rattle.desk_line.specs.Request.{IsWhole, Reads, Requests, Takes, WholeRequests, last, said, unsaid, whole}
@@ -136,7 +137,7 @@ unfolding encode_utf8 head_in query_in directive_in number_in
 query-at-a-version = silent (codes "@1 version") (text-of-line (codes "@1 version") (lit≤ tt) refl refl) refl
 
 empty-name : (head : Head) → ¬ Says (codes "type end  x") head
-unfolding encode_utf8 head_in query_in directive_in read_type_in anchor_in
+unfolding encode_utf8 head_in query_in directive_in with_two_and_text anchor_in
 empty-name = silent (codes "type end  x") (text-of-line (codes "type end  x") (lit≤ tt) refl refl) refl
 
 empty-line : (head : Head) → ¬ Says [] head
@@ -144,7 +145,7 @@ unfolding encode_utf8 head_in query_in directive_in
 empty-line = silent [] (text-of-line [] (lit≤ tt) refl refl) refl
 
 too-many-lines : (head : Head) → ¬ Says (codes "table x 20001") head
-unfolding encode_utf8 head_in query_in directive_in table_in count_in number_in
+unfolding encode_utf8 head_in query_in directive_in with_two count_in number_in
 too-many-lines = silent (codes "table x 20001") (text-of-line (codes "table x 20001") (lit≤ tt) refl refl) refl
 
 -- ---- requests

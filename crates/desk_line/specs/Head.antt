@@ -1,62 +1,13 @@
--- What a head line says, by cases: one for each form of a head line.
-use Rattle.std.specs.Prelude.{◌≡◌, ℕ, ◌≤◌, Bool, List, [], ◌∷◌, codes, Option, Some, None}
-use Rattle.louis_table.specs.Table.{most_lines}
-use Rattle.desk_command.specs.declared.command.Anchor.{Anchor}
-use Rattle.desk_command.specs.declared.style.Style.{Style as ParagraphStyle}
+-- What a head line says: a query, by one case for each form, or a command.
+use Rattle.std.specs.Prelude.{◌≡◌, ℕ, List, [], ◌∷◌, codes, Option, Some, None}
 use Rattle.desk_line.specs.declared.head.Head.{Head}
 use Rattle.desk_line.specs.declared.head.Head.TheVariants.{Do, Ask}
 use Rattle.desk_line.specs.declared.directive.Directive.{Directive}
-use Rattle.desk_line.specs.declared.directive.Directive.TheVariants.{Table, Supply, TypeIn, Correct, Undo, Mark, Resolve, Strike, Restore, Style, Volume, Retable, Move}
-use Rattle.desk_line.specs.declared.directive.SpanText.{SpanText}
 use Rattle.desk_line.specs.declared.request.Query.{Query}
 use Rattle.desk_line.specs.declared.request.Query.TheVariants as queries
-use Rattle.desk_line.specs.Fields.{fields_of, line_of_fields, IsName, IsNumber, IsAnchor, IsStyle, IsFlag}
+use Rattle.desk_line.specs.Commands.{SaysDirective}
+use Rattle.desk_line.specs.Fields.{fields_of, IsNumber}
 use Rattle.desk_line.specs.Lines.{CanBeHead}
-
--- the fields name a paragraph, the first of its places and how many places, and the rest of the line is a text, with its
--- blanks; before an empty one the blank may be missing
-pub record IsSpanText (fields : List (List ℕ)) (span : SpanText) : Type 0 where
-  pub number : List ℕ
-  pub first : List ℕ
-  pub size : List ℕ
-  pub rest : List (List ℕ)
-  pub are : fields ≡ number ∷ first ∷ size ∷ rest
-  pub paragraph : IsNumber number span.paragraph
-  pub start : IsNumber first span.start
-  pub count : IsNumber size span.count
-  pub text : span.text ≡ line_of_fields rest
-
--- the fields give this command; for a table, its text is still to come in this many lines. A typed text is the rest of
--- the line, with its blanks; before an empty one the blank may be missing
-pub data SaysDirective (fields : List (List ℕ)) (directive : Directive) : Type 0 where
-  table : (name number : List ℕ) (count : ℕ) → IsName name → IsNumber number count → count ≤ most_lines
-      → fields ≡ codes "table" ∷ name ∷ number ∷ [] → directive ≡ Table name count → SaysDirective fields directive
-  supply : (name : List ℕ) → IsName name
-      → fields ≡ codes "supply" ∷ name ∷ [] → directive ≡ Supply name → SaysDirective fields directive
-  type_in : (after name : List ℕ) (text : List (List ℕ)) (anchor : Anchor) → IsAnchor after anchor → IsName name
-      → fields ≡ codes "type" ∷ after ∷ name ∷ text → directive ≡ TypeIn anchor name (line_of_fields text) → SaysDirective fields directive
-  correct : (others : List (List ℕ)) (span : SpanText) → IsSpanText others span
-      → fields ≡ codes "correct" ∷ others → directive ≡ Correct span [] → SaysDirective fields directive
-  correct_by : (who : List ℕ) (others : List (List ℕ)) (span : SpanText) → IsName who → IsSpanText others span
-      → fields ≡ codes "correct-by" ∷ who ∷ others → directive ≡ Correct span who → SaysDirective fields directive
-  undo : (number : List ℕ) (id : ℕ) → IsNumber number id
-      → fields ≡ codes "undo" ∷ number ∷ [] → directive ≡ Undo id → SaysDirective fields directive
-  mark : (others : List (List ℕ)) (span : SpanText) → IsSpanText others span
-      → fields ≡ codes "mark" ∷ others → directive ≡ Mark span → SaysDirective fields directive
-  resolve : (number : List ℕ) (id : ℕ) → IsNumber number id
-      → fields ≡ codes "resolve" ∷ number ∷ [] → directive ≡ Resolve id → SaysDirective fields directive
-  strike : (number : List ℕ) (id : ℕ) → IsNumber number id
-      → fields ≡ codes "strike" ∷ number ∷ [] → directive ≡ Strike id → SaysDirective fields directive
-  restore : (number : List ℕ) (id : ℕ) → IsNumber number id
-      → fields ≡ codes "restore" ∷ number ∷ [] → directive ≡ Restore id → SaysDirective fields directive
-  style : (number word : List ℕ) (id : ℕ) (look : ParagraphStyle) → IsNumber number id → IsStyle word look
-      → fields ≡ codes "style" ∷ number ∷ word ∷ [] → directive ≡ Style id look → SaysDirective fields directive
-  volume : (number word : List ℕ) (id : ℕ) (begins : Bool) → IsNumber number id → IsFlag word begins
-      → fields ≡ codes "volume" ∷ number ∷ word ∷ [] → directive ≡ Volume id begins → SaysDirective fields directive
-  retable : (number name : List ℕ) (id : ℕ) → IsNumber number id → IsName name
-      → fields ≡ codes "retable" ∷ number ∷ name ∷ [] → directive ≡ Retable id name → SaysDirective fields directive
-  move : (number after : List ℕ) (id : ℕ) (anchor : Anchor) → IsNumber number id → IsAnchor after anchor
-      → fields ≡ codes "move" ∷ number ∷ after ∷ [] → directive ≡ Move id anchor → SaysDirective fields directive
 
 -- the fields ask this
 pub data SaysQuery (fields : List (List ℕ)) (query : Query) : Type 0 where

@@ -1,10 +1,12 @@
 pub mod Limits
 pub mod Lines
 pub mod Fields
+pub mod Waiting
+pub mod Reply
+pub mod Operands
+pub mod Commands
 pub mod Head
 pub mod Request
-pub mod Reply
 pub mod Answers
 pub mod RequestText
 pub mod Reading
-pub mod Waiting

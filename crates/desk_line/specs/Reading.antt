@@ -28,7 +28,8 @@ use Rattle.desk_line.specs.declared.fault.Fault.TheVariants.{Syntax, NoMemory}
 use Rattle.desk_line.specs.declared.request.Request.{Request}
 use Rattle.desk_line.specs.declared.request.Request.TheVariants as requests
 use Rattle.desk_line.specs.Lines.{after_first_line}
-use Rattle.desk_line.specs.Request.{HasText, block_lines, request_of}
+use Rattle.desk_line.specs.Commands.{HasText}
+use Rattle.desk_line.specs.Request.{block_lines, request_of}
 use Rattle.desk_ends.specs.Limits.{most_line_bytes}
 use Rattle.desk_line.specs.Limits.{most_digits, most_number}
 
@@ -98,29 +99,25 @@ flag_in field =
     else if bytes_eq field (codes "off") then Some false
     else None
 
--- ---- commands and queries, by the fields after their words
+-- ---- fields that are read together
 
--- the number of a paragraph alone
-abbrev pub paragraph_in : List (List ℕ) → Option ℕ
-paragraph_in fields = option_and_then number_in (only_one fields)
+-- one alone
+abbrev pub with_one : {A B : Type 0} → (List ℕ → Option A) → (A → B) → List (List ℕ) → Option B
+with_one only make fields = option_map make (option_and_then only (only_one fields))
 
-abbrev pub with_two : {A B C : Type 0} → (List ℕ → Option A) → (List ℕ → Option B) → (A → B → C) → List (List ℕ) → Option C
+-- two alone
+unfoldable pub with_two : {A B C : Type 0} → (List ℕ → Option A) → (List ℕ → Option B) → (A → B → C) → List (List ℕ) → Option C
 with_two first second make fields = option_and_then (λ two. of_both make (first two.0) (second two.1)) (only_two fields)
 
--- two numbers alone
-abbrev pub numbers_in : List (List ℕ) → Option (ℕ × ℕ)
-numbers_in fields = with_two number_in number_in (λ first second. (first, second)) fields
+-- two before a text, which is the rest of the line
+unfoldable pub with_two_and_text : {A B C : Type 0} → (List ℕ → Option A) → (List ℕ → Option B) → (A → B → List ℕ → C) → List (List ℕ) → Option C
+with_two_and_text first second make fields =
+    option_and_then (λ one. option_and_then (λ two.
+    of_both (λ x y. make x y (line_of_fields two.1)) (first one.0) (second two.0)) (first_and_others one.1)) (first_and_others fields)
 
-unfoldable pub table_in : List (List ℕ) → Option Directive
-table_in fields = with_two name_in count_in Table fields
-
-unfoldable pub supply_in : List (List ℕ) → Option Directive
-supply_in fields = option_map Supply (option_and_then name_in (only_one fields))
-
-unfoldable pub type_in : List (List ℕ) → Option Directive
-type_in fields =
-    option_and_then (λ first. option_and_then (λ second.
-    of_both (λ anchor name. TypeIn anchor name (line_of_fields second.1)) (anchor_in first.0) (name_in second.0)) (first_and_others first.1)) (first_and_others fields)
+-- one before others that give something together
+unfoldable pub with_one_before : {A B C : Type 0} → (List ℕ → Option A) → (List (List ℕ) → Option B) → (A → B → C) → List (List ℕ) → Option C
+with_one_before first others make fields = option_and_then (λ one. of_both make (first one.0) (others one.1)) (first_and_others fields)
 
 abbrev pub span_text : (id start count : ℕ) → List (List ℕ) → SpanText
 span_text id start count rest = record { paragraph = id; start = start; count = count; text = line_of_fields rest }
@@ -131,27 +128,15 @@ span_text_in fields =
     of_three (λ id start count. span_text id start count third.1) (number_in first.0) (number_in second.0) (number_in third.0))
     (first_and_others second.1)) (first_and_others first.1)) (first_and_others fields)
 
-unfoldable pub correct_in : List (List ℕ) → Option Directive
-correct_in fields = option_map (λ span. Correct span []) (span_text_in fields)
+-- the number of a paragraph alone
+abbrev pub paragraph_in : List (List ℕ) → Option ℕ
+paragraph_in fields = option_and_then number_in (only_one fields)
 
-unfoldable pub correct_by_in : List (List ℕ) → Option Directive
-correct_by_in fields =
-    option_and_then (λ first. of_both (λ who span. Correct span who) (name_in first.0) (span_text_in first.1)) (first_and_others fields)
+-- two numbers alone
+abbrev pub numbers_in : List (List ℕ) → Option (ℕ × ℕ)
+numbers_in fields = with_two number_in number_in (λ first second. (first, second)) fields
 
-unfoldable pub mark_in : List (List ℕ) → Option Directive
-mark_in fields = option_map Mark (span_text_in fields)
-
-unfoldable pub style_directive_in : List (List ℕ) → Option Directive
-style_directive_in fields = with_two number_in style_in Style fields
-
-unfoldable pub volume_in : List (List ℕ) → Option Directive
-volume_in fields = with_two number_in flag_in Volume fields
-
-unfoldable pub retable_in : List (List ℕ) → Option Directive
-retable_in fields = with_two number_in name_in Retable fields
-
-unfoldable pub move_in : List (List ℕ) → Option Directive
-move_in fields = with_two number_in anchor_in Move fields
+-- ---- commands and queries, by the fields after their words
 
 -- a command that names one number
 abbrev pub numbered_directive : List ℕ → ℕ → Option Directive
@@ -164,16 +149,16 @@ numbered_directive word number =
 
 abbrev pub directive_by : List ℕ → List (List ℕ) → Option Directive
 directive_by word fields =
-    if bytes_eq word (codes "table") then table_in fields
-    else if bytes_eq word (codes "supply") then supply_in fields
-    else if bytes_eq word (codes "type") then type_in fields
-    else if bytes_eq word (codes "correct") then correct_in fields
-    else if bytes_eq word (codes "correct-by") then correct_by_in fields
-    else if bytes_eq word (codes "mark") then mark_in fields
-    else if bytes_eq word (codes "style") then style_directive_in fields
-    else if bytes_eq word (codes "volume") then volume_in fields
-    else if bytes_eq word (codes "retable") then retable_in fields
-    else if bytes_eq word (codes "move") then move_in fields
+    if bytes_eq word (codes "table") then with_two name_in count_in Table fields
+    else if bytes_eq word (codes "supply") then with_one name_in Supply fields
+    else if bytes_eq word (codes "type") then with_two_and_text anchor_in name_in TypeIn fields
+    else if bytes_eq word (codes "correct") then option_map (λ span. Correct span []) (span_text_in fields)
+    else if bytes_eq word (codes "correct-by") then with_one_before name_in span_text_in (λ who span. Correct span who) fields
+    else if bytes_eq word (codes "mark") then option_map Mark (span_text_in fields)
+    else if bytes_eq word (codes "style") then with_two number_in style_in Style fields
+    else if bytes_eq word (codes "volume") then with_two number_in flag_in Volume fields
+    else if bytes_eq word (codes "retable") then with_two number_in name_in Retable fields
+    else if bytes_eq word (codes "move") then with_two number_in anchor_in Move fields
     else option_and_then (numbered_directive word) (paragraph_in fields)
 
 unfoldable pub directive_in : List (List ℕ) → Option Directive

@@ -1,41 +1,22 @@
 -- Requests, and how an input is cut into them.
 use Rattle.std.specs.Prelude.{◌≡◌, ℕ, ◌≤◌, List, [], ◌∷◌, ◌++◌, length, Option}
 use Rattle.std.specs.List.{AllByRecursion}
-use Rattle.std.specs.Str.{chars}
-use Rattle.louis_table.specs.declared.en.TheConstants.{EN}
 use Rattle.louis_table.specs.Lines.{lines_of}
 use Rattle.desk_command.specs.declared.command.Command.{Command}
-use Rattle.desk_command.specs.declared.command.Command.TheVariants as commands
 use Rattle.desk_line.specs.declared.fault.Fault.{Fault}
 use Rattle.desk_line.specs.declared.fault.Fault.TheVariants.{Syntax, NoMemory}
 use Rattle.desk_line.specs.declared.head.Head.{Head}
 use Rattle.desk_line.specs.declared.head.Head.TheVariants as heads
 use Rattle.desk_line.specs.declared.directive.Directive.{Directive}
-use Rattle.desk_line.specs.declared.directive.Directive.TheVariants.{Table, Supply, TypeIn, Correct, Undo, Mark, Resolve, Strike, Restore, Style, Volume, Retable, Move}
-use Rattle.desk_line.specs.declared.directive.SpanText.{SpanText}
 use Rattle.desk_line.specs.declared.request.Request.{Request}
 use Rattle.desk_line.specs.declared.request.Request.TheVariants.{Do, Ask}
+use Rattle.desk_line.specs.Commands.{HasText, command_of, directive_block_lines}
 use Rattle.desk_line.specs.Head.{Says}
 use Rattle.desk_line.specs.Lines.{IsShort, after_first_line}
 
 -- ---- what follows a head line
 
 -- how many lines follow what a head line says
-abbrev pub directive_block_lines : Directive → ℕ
-directive_block_lines (Table name count) = count
-directive_block_lines (Supply name) = 0
-directive_block_lines (TypeIn after name print) = 0
-directive_block_lines (Correct span who) = 0
-directive_block_lines (Undo id) = 0
-directive_block_lines (Mark span) = 0
-directive_block_lines (Resolve id) = 0
-directive_block_lines (Strike id) = 0
-directive_block_lines (Restore id) = 0
-directive_block_lines (Style id style) = 0
-directive_block_lines (Volume id begins) = 0
-directive_block_lines (Retable id name) = 0
-directive_block_lines (Move id after) = 0
-
 abbrev pub block_lines : Head → ℕ
 block_lines (heads.Do directive expect) = directive_block_lines directive
 block_lines (heads.Ask query) = 0
@@ -84,29 +65,7 @@ WholeRequests bytes (request ∷ requests) =
 
 -- ---- what a request asks
 
--- a text for places of a paragraph as a correction, and as a mark's note
-abbrev pub correction_of : SpanText → List ℕ → Command
-correction_of span who = commands.Correct span.paragraph span.start span.count (chars span.text) (chars who)
-
-abbrev pub mark_of : SpanText → Command
-mark_of span = commands.Mark span.paragraph span.start span.count (chars span.text)
-
--- the command that a head line and the bytes of the lines after it give
-abbrev pub command_of : Directive → List ℕ → Command
-command_of (Table name count) text = commands.Table (chars name) text
-command_of (Supply name) text = commands.Table (chars name) EN.now
-command_of (TypeIn after name print) text = commands.TypeIn after (chars name) (chars print)
-command_of (Correct span who) text = correction_of span who
-command_of (Undo id) text = commands.Undo id
-command_of (Mark span) text = mark_of span
-command_of (Resolve id) text = commands.Resolve id
-command_of (Strike id) text = commands.Strike id
-command_of (Restore id) text = commands.Restore id
-command_of (Style id style) text = commands.Style id style
-command_of (Volume id begins) text = commands.Volume id begins
-command_of (Retable id name) text = commands.Retable id (chars name)
-command_of (Move id after) text = commands.Move id after
-
+-- the request that a head line and the bytes of the lines after it give
 abbrev pub request_of : Head → List ℕ → Request
 request_of (heads.Do directive expect) text = Do (command_of directive text) expect
 request_of (heads.Ask query) text = Ask query
@@ -129,21 +88,6 @@ pub record HasHead (bytes : List ℕ) (head : Head) (text : List ℕ) : Type 0 w
   pub lines : lines_of bytes ≡ line ∷ block
   pub says : Says line head
   pub rest : text ≡ after_first_line bytes
-
--- the command has a text or a name, which is copied
-abbrev pub HasText : Command → Type 0
-HasText (commands.Table name text) = Unit {0}
-HasText (commands.TypeIn after table text) = Unit {0}
-HasText (commands.Correct id start count text who) = Unit {0}
-HasText (commands.Undo id) = ⊥
-HasText (commands.Mark id cell count note) = Unit {0}
-HasText (commands.Resolve id) = ⊥
-HasText (commands.Strike id) = ⊥
-HasText (commands.Restore id) = ⊥
-HasText (commands.Style id style) = ⊥
-HasText (commands.Volume id begins) = ⊥
-HasText (commands.Retable id table) = Unit {0}
-HasText (commands.Move id after) = ⊥
 
 -- the bytes begin with the head line of a command that has a text or a name, whatever the lines after it are
 pub record AsksForMemory (bytes : List ℕ) : Type 0 where

@@ -1,10 +1,14 @@
-//! What the head line of a command says.
-ghost use Rattle.desk_line.specs.Reading.{correct_by_in, correct_in, mark_in, move_in, numbered_directive, directive_by, paragraph_in, retable_in, span_text_in, style_directive_in, supply_in, table_in, type_in, volume_in};
-ghost use Rattle.std.specs.Prelude.{◌≡◌};
+//! What the head line of a command says, and the command that it makes with the lines after it.
+ghost use Rattle.desk_line.specs.Commands.{HasText, command_of, correction_of, mark_of};
+ghost use Rattle.desk_line.specs.Reading.{anchor_in, count_in, directive_by, flag_in, name_in, number_in, numbered_directive, paragraph_in, span_text_in, style_in, with_one, with_one_before, with_two, with_two_and_text};
+ghost use Rattle.std.specs.Prelude.{◌≡◌, [], IfOk, OnErr, option_map};
+ghost use Rattle.std.specs.Str.{chars};
 
 use super::fields::{Field, Fields};
 use super::operand::{read_anchor, read_count, read_flag, read_name, read_number, read_style};
-use desk_command::{Anchor, Style};
+use desk_command::{Anchor, Bytes, Command, Style, Text};
+use louis_table::EN;
+use std::alloc::{AllocError, Global};
 
 /// A text for places of a paragraph: what is put in their place, or a note on them.
 #[derive(Drop)]
@@ -159,9 +163,9 @@ pub(crate) fn read_paragraph(fields: Fields<'_>) -> Option<u64>
     read_number(fields.one()?.as_bytes())
 }
 
-#[tactic(auto, unfolding(crate::specs::Reading::table_in))]
+#[tactic(auto, unfolding(crate::specs::Reading::with_two))]
 fn read_table(fields: Fields<'_>) -> Option<Directive<'_>>
-    ensures { result ≡ table_in fields.entry }
+    ensures { result ≡ with_two name_in count_in Directive.Table fields.entry }
 {
     let (name, count) = fields.two()?;
     let name = read_name(name)?;
@@ -169,17 +173,16 @@ fn read_table(fields: Fields<'_>) -> Option<Directive<'_>>
     Some(Directive::Table { name, count })
 }
 
-#[tactic(auto, unfolding(crate::specs::Reading::supply_in))]
 fn read_supply(fields: Fields<'_>) -> Option<Directive<'_>>
-    ensures { result ≡ supply_in fields.entry }
+    ensures { result ≡ with_one name_in Directive.Supply fields.entry }
 {
     let name = read_name(fields.one()?)?;
     Some(Directive::Supply { name })
 }
 
-#[tactic(auto, unfolding(crate::specs::Reading::type_in))]
+#[tactic(auto, unfolding(crate::specs::Reading::with_two_and_text))]
 fn read_type(fields: Fields<'_>) -> Option<Directive<'_>>
-    ensures { result ≡ type_in fields.entry }
+    ensures { result ≡ with_two_and_text anchor_in name_in Directive.TypeIn fields.entry }
 {
     let (after, others) = fields.split()?;
     let (table, others) = others.split()?;
@@ -208,18 +211,17 @@ fn read_span_text(fields: Fields<'_>) -> Option<SpanText<'_>>
     })
 }
 
-#[tactic(auto, unfolding(crate::specs::Reading::correct_in))]
 fn read_correct(fields: Fields<'_>) -> Option<Directive<'_>>
-    ensures { result ≡ correct_in fields.entry }
+    ensures { result ≡ option_map (λ span. Directive.Correct span []) (span_text_in fields.entry) }
 {
     let span = read_span_text(fields)?;
     let who = Field::empty();
     Some(Directive::Correct { span, who })
 }
 
-#[tactic(auto, unfolding(crate::specs::Reading::correct_by_in))]
+#[tactic(auto, unfolding(crate::specs::Reading::with_one_before))]
 fn read_correct_by(fields: Fields<'_>) -> Option<Directive<'_>>
-    ensures { result ≡ correct_by_in fields.entry }
+    ensures { result ≡ with_one_before name_in span_text_in (λ who span. Directive.Correct span who) fields.entry }
 {
     let (who, others) = fields.split()?;
     let who = read_name(who)?;
@@ -227,17 +229,16 @@ fn read_correct_by(fields: Fields<'_>) -> Option<Directive<'_>>
     Some(Directive::Correct { span, who })
 }
 
-#[tactic(auto, unfolding(crate::specs::Reading::mark_in))]
 fn read_mark(fields: Fields<'_>) -> Option<Directive<'_>>
-    ensures { result ≡ mark_in fields.entry }
+    ensures { result ≡ option_map Directive.Mark (span_text_in fields.entry) }
 {
     let span = read_span_text(fields)?;
     Some(Directive::Mark { span })
 }
 
-#[tactic(auto, unfolding(crate::specs::Reading::style_directive_in))]
+#[tactic(auto, unfolding(crate::specs::Reading::with_two))]
 fn read_style_directive(fields: Fields<'_>) -> Option<Directive<'_>>
-    ensures { result ≡ style_directive_in fields.entry }
+    ensures { result ≡ with_two number_in style_in Directive.Style fields.entry }
 {
     let (paragraph, style) = fields.two()?;
     let paragraph = read_number(paragraph.as_bytes())?;
@@ -245,9 +246,9 @@ fn read_style_directive(fields: Fields<'_>) -> Option<Directive<'_>>
     Some(Directive::Style { paragraph, style })
 }
 
-#[tactic(auto, unfolding(crate::specs::Reading::volume_in))]
+#[tactic(auto, unfolding(crate::specs::Reading::with_two))]
 fn read_volume(fields: Fields<'_>) -> Option<Directive<'_>>
-    ensures { result ≡ volume_in fields.entry }
+    ensures { result ≡ with_two number_in flag_in Directive.Volume fields.entry }
 {
     let (paragraph, begins) = fields.two()?;
     let paragraph = read_number(paragraph.as_bytes())?;
@@ -255,9 +256,9 @@ fn read_volume(fields: Fields<'_>) -> Option<Directive<'_>>
     Some(Directive::Volume { paragraph, begins })
 }
 
-#[tactic(auto, unfolding(crate::specs::Reading::retable_in))]
+#[tactic(auto, unfolding(crate::specs::Reading::with_two))]
 fn read_retable(fields: Fields<'_>) -> Option<Directive<'_>>
-    ensures { result ≡ retable_in fields.entry }
+    ensures { result ≡ with_two number_in name_in Directive.Retable fields.entry }
 {
     let (paragraph, table) = fields.two()?;
     let paragraph = read_number(paragraph.as_bytes())?;
@@ -265,12 +266,101 @@ fn read_retable(fields: Fields<'_>) -> Option<Directive<'_>>
     Some(Directive::Retable { paragraph, table })
 }
 
-#[tactic(auto, unfolding(crate::specs::Reading::move_in))]
+#[tactic(auto, unfolding(crate::specs::Reading::with_two))]
 fn read_move(fields: Fields<'_>) -> Option<Directive<'_>>
-    ensures { result ≡ move_in fields.entry }
+    ensures { result ≡ with_two number_in anchor_in Directive.Move fields.entry }
 {
     let (paragraph, after) = fields.two()?;
     let paragraph = read_number(paragraph.as_bytes())?;
     let after = read_anchor(&after)?;
     Some(Directive::Move { paragraph, after })
+}
+
+/// The command that a head line and the bytes of the lines after it make.
+pub(crate) fn make_command(
+    alloc: Global,
+    directive: Directive<'_>,
+    text: &[u8],
+) -> Result<Command, AllocError>
+    ensures made { IfOk result (λ command. command ≡ command_of directive.entry text.now) }
+    ensures short { OnErr result (HasText (command_of directive.entry text.now)) }
+{
+    match directive {
+        Directive::Table { name, .. } => make_table(alloc, &name, text),
+        Directive::Supply { name } => make_table(alloc, &name, EN.as_bytes()),
+        Directive::TypeIn { after, table, text } => make_typed(alloc, after, &table, &text),
+        Directive::Correct { span, who } => make_correction(alloc, &span, &who),
+        Directive::Undo { paragraph } => Ok(Command::Undo { paragraph }),
+        Directive::Mark { span } => make_mark(alloc, &span),
+        Directive::Resolve { mark } => Ok(Command::Resolve { mark }),
+        Directive::Strike { paragraph } => Ok(Command::Strike { paragraph }),
+        Directive::Restore { paragraph } => Ok(Command::Restore { paragraph }),
+        Directive::Style { paragraph, style } => Ok(Command::Style { paragraph, style }),
+        Directive::Volume { paragraph, begins } => Ok(Command::Volume { paragraph, begins }),
+        Directive::Retable { paragraph, table } => {
+            let table = copy_text(alloc, &table)?;
+            Ok(Command::Retable { paragraph, table })
+        }
+        Directive::Move { paragraph, after } => Ok(Command::Move { paragraph, after }),
+    }
+}
+
+/// The command that gives a table this text.
+fn make_table(alloc: Global, name: &Field<'_>, text: &[u8]) -> Result<Command, AllocError>
+    ensures { IfOk result (λ command. command ≡ Command.Table (chars name.now) text.now) }
+{
+    let name = copy_text(alloc, name)?;
+    let text = Bytes::from_vec(Vec::from_slice(alloc, text)?);
+    Ok(Command::Table { name, text })
+}
+
+/// The command that types a paragraph.
+fn make_typed(
+    alloc: Global,
+    after: Anchor,
+    table: &Field<'_>,
+    text: &Field<'_>,
+) -> Result<Command, AllocError>
+    ensures { IfOk result (λ command. command ≡ Command.TypeIn after (chars table.now) (chars text.now)) }
+{
+    let table = copy_text(alloc, table)?;
+    let text = copy_text(alloc, text)?;
+    Ok(Command::TypeIn { after, table, text })
+}
+
+/// The command that puts a text in place of characters.
+fn make_correction(
+    alloc: Global,
+    span: &SpanText<'_>,
+    who: &Field<'_>,
+) -> Result<Command, AllocError>
+    ensures { IfOk result (λ command. command ≡ correction_of span.now who.now) }
+{
+    Ok(Command::Correct {
+        paragraph: span.paragraph,
+        start: span.start,
+        count: span.count,
+        text: copy_text(alloc, &span.text)?,
+        who: copy_text(alloc, who)?,
+    })
+}
+
+/// The command that puts a mark on cells.
+fn make_mark(alloc: Global, span: &SpanText<'_>) -> Result<Command, AllocError>
+    ensures { IfOk result (λ command. command ≡ mark_of span.now) }
+{
+    Ok(Command::Mark {
+        paragraph: span.paragraph,
+        cell: span.start,
+        count: span.count,
+        note: copy_text(alloc, &span.text)?,
+    })
+}
+
+/// A copy of a part of a head line.
+fn copy_text(alloc: Global, field: &Field<'_>) -> Result<Text, AllocError>
+    ensures { IfOk result (λ text. text ≡ chars field.now) }
+{
+    let string = String::from_str(alloc, field.as_str())?;
+    Ok(Text::from_string(string))
 }

@@ -60,6 +60,7 @@ fn paragraph_query(word: &Field<'_>, paragraph: u64) -> Option<Query>
 }
 
 /// Two numbers.
+#[tactic(auto, unfolding(crate::specs::Reading::with_two))]
 fn read_two_numbers(fields: Fields<'_>) -> Option<(u64, u64)>
     ensures { result ≡ numbers_in fields.entry }
 {

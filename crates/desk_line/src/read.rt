@@ -1,21 +1,17 @@
 //! Reads requests.
 ghost use Rattle.desk_line.specs.Head.{Says};
 ghost use Rattle.desk_line.specs.Reading.{Gives, are_lines, with_text};
-ghost use Rattle.desk_line.specs.Request.{HasHead, HasText, Reads, Takes, Tells, block_lines, command_of, correction_of, mark_of, request_of};
+ghost use Rattle.desk_line.specs.Request.{HasHead, Reads, Takes, Tells, block_lines, request_of};
 ghost use Rattle.desk_line.specs.declared.head.Head.{Head};
 ghost use Rattle.louis_table.specs.Lines.{lines_of};
-ghost use Rattle.std.specs.Prelude.{◌≡◌, IfOk, List, MatchOption, MatchResult, OnErr, Some, ℕ};
-ghost use Rattle.std.specs.Str.{chars};
+ghost use Rattle.std.specs.Prelude.{◌≡◌, List, MatchOption, MatchResult, Some, ℕ};
 
-use super::directive::{Directive, SpanText};
+use super::directive::make_command;
 use super::fault::Fault;
-use super::fields::Field;
 use super::head::{Head, block_lines, read_head};
 use super::request::Request;
-use desk_command::{Anchor, Bytes, Command, Text};
 use desk_ends::{MOST_LINE_BYTES, split_line};
-use louis_table::EN;
-use std::alloc::{AllocError, Global};
+use std::alloc::Global;
 use std::marker::Model;
 
 /// A head line that was read: a request, but for the lines that follow. Contracts see what it says.
@@ -132,89 +128,4 @@ fn make_request(alloc: Global, head: Head<'_>, text: &[u8]) -> Result<Request, F
             Ok(Request::Do { command, expect })
         }
     }
-}
-
-/// The command that a head line and the bytes of the lines after it make.
-fn make_command(alloc: Global, directive: Directive<'_>, text: &[u8]) -> Result<Command, AllocError>
-    ensures made { IfOk result (λ command. command ≡ command_of directive.entry text.now) }
-    ensures short { OnErr result (HasText (command_of directive.entry text.now)) }
-{
-    match directive {
-        Directive::Table { name, .. } => make_table(alloc, &name, text),
-        Directive::Supply { name } => make_table(alloc, &name, EN.as_bytes()),
-        Directive::TypeIn { after, table, text } => make_typed(alloc, after, &table, &text),
-        Directive::Correct { span, who } => make_correction(alloc, &span, &who),
-        Directive::Undo { paragraph } => Ok(Command::Undo { paragraph }),
-        Directive::Mark { span } => make_mark(alloc, &span),
-        Directive::Resolve { mark } => Ok(Command::Resolve { mark }),
-        Directive::Strike { paragraph } => Ok(Command::Strike { paragraph }),
-        Directive::Restore { paragraph } => Ok(Command::Restore { paragraph }),
-        Directive::Style { paragraph, style } => Ok(Command::Style { paragraph, style }),
-        Directive::Volume { paragraph, begins } => Ok(Command::Volume { paragraph, begins }),
-        Directive::Retable { paragraph, table } => {
-            let table = copy_text(alloc, &table)?;
-            Ok(Command::Retable { paragraph, table })
-        }
-        Directive::Move { paragraph, after } => Ok(Command::Move { paragraph, after }),
-    }
-}
-
-/// The command that gives a table this text.
-fn make_table(alloc: Global, name: &Field<'_>, text: &[u8]) -> Result<Command, AllocError>
-    ensures { IfOk result (λ command. command ≡ Command.Table (chars name.now) text.now) }
-{
-    let name = copy_text(alloc, name)?;
-    let text = Bytes::from_vec(Vec::from_slice(alloc, text)?);
-    Ok(Command::Table { name, text })
-}
-
-/// The command that types a paragraph.
-fn make_typed(
-    alloc: Global,
-    after: Anchor,
-    table: &Field<'_>,
-    text: &Field<'_>,
-) -> Result<Command, AllocError>
-    ensures { IfOk result (λ command. command ≡ Command.TypeIn after (chars table.now) (chars text.now)) }
-{
-    let table = copy_text(alloc, table)?;
-    let text = copy_text(alloc, text)?;
-    Ok(Command::TypeIn { after, table, text })
-}
-
-/// The command that puts a text in place of characters.
-fn make_correction(
-    alloc: Global,
-    span: &SpanText<'_>,
-    who: &Field<'_>,
-) -> Result<Command, AllocError>
-    ensures { IfOk result (λ command. command ≡ correction_of span.now who.now) }
-{
-    Ok(Command::Correct {
-        paragraph: span.paragraph,
-        start: span.start,
-        count: span.count,
-        text: copy_text(alloc, &span.text)?,
-        who: copy_text(alloc, who)?,
-    })
-}
-
-/// The command that puts a mark on cells.
-fn make_mark(alloc: Global, span: &SpanText<'_>) -> Result<Command, AllocError>
-    ensures { IfOk result (λ command. command ≡ mark_of span.now) }
-{
-    Ok(Command::Mark {
-        paragraph: span.paragraph,
-        cell: span.start,
-        count: span.count,
-        note: copy_text(alloc, &span.text)?,
-    })
-}
-
-/// A copy of a part of a head line.
-fn copy_text(alloc: Global, field: &Field<'_>) -> Result<Text, AllocError>
-    ensures { IfOk result (λ text. text ≡ chars field.now) }
-{
-    let string = String::from_str(alloc, field.as_str())?;
-    Ok(Text::from_string(string))
 }
