@@ -53,12 +53,16 @@ module _ (a b c : Option (List ℕ)) (old mid new : Input) (text held : Result (
         fed = inr (ends-append part.block read.bytes (fed-ends read.bytes read.ends));
       }
 
+  -- the block ends before its lines are as many as they have to be
+  fewer-lines : (more : List ℕ) → feeds more ≡ 0 → feeds (part.block ++ more) < count
+  fewer-lines more none =
+      let all = feeds-append part.block more in
+      let so_far = part.lines in
+      omega arith
+
   pub ReadsBlock-short : ReadsLine F b c mid new line (Ok false) → Adds text held line → ReadsBlock F a c old new count (Ok held)
   ReadsBlock-short read adds =
-      let none = no-feeds read.bytes read.ends.0 in
-      let all = feeds-append part.block read.bytes in
-      let so_far = part.lines in
-      let fewer : feeds (part.block ++ read.bytes) < count = omega arith in
+      let fewer = fewer-lines read.bytes (no-feeds read.bytes read.ends.0) in
       record {
         block = part.block ++ read.bytes;
         used = UsesInput-then a b c old mid new part.block read.bytes part.used read.used;
@@ -67,10 +71,7 @@ module _ (a b c : Option (List ℕ)) (old mid new : Input) (text held : Result (
 
   pub ReadsBlock-failed : (failed : Failure) → ReadsLine F b c mid new line (Err failed) → ReadsBlock F a c old new count (Err failed)
   ReadsBlock-failed failed read =
-      let none = no-feeds read.bytes read.ends.0 in
-      let all = feeds-append part.block read.bytes in
-      let so_far = part.lines in
-      let fewer : feeds (part.block ++ read.bytes) < count = omega arith in
+      let fewer = fewer-lines read.bytes (no-feeds read.bytes read.ends.0) in
       record {
         block = part.block ++ read.bytes;
         used = UsesInput-then a b c old mid new part.block read.bytes part.used read.used;

@@ -1,9 +1,9 @@
 -- A session over its ends and its file, turn by turn.
-use Rattle.std.proofs.Common.{◌≡◌, ◌≢◌, ◌⊎◌, ℕ, ◌+◌, ◌-◌, ◌^◌, ◌<◌, ◌≤◌, Bool, true, false, List, [], ◌∷◌, ◌++◌, length, Option, None, Some, Result, Ok, Err, refl, sym, ap, subst, ◌∙◌, inl, inr, arith}
+use Rattle.std.proofs.Common.{◌≡◌, ◌≢◌, ◌⊎◌, ℕ, ◌<◌, ◌≤◌, Bool, true, false, List, [], ◌∷◌, ◌++◌, length, Option, None, Some, Result, Ok, Err, refl, sym, ap, subst, ◌∙◌, inl, inr, arith}
 use Rattle.std.specs.Io.KnownBytes.{Appends, IsAtEnd}
 use Rattle.std.specs.List.{AllByRecursion}
 use Rattle.std.proofs.KnownBytes.{Appends-nil, Appends-trans}
-use Rattle.std.proofs.lemmas.List.{append-nil, length-append, map-append}
+use Rattle.std.proofs.lemmas.List.{append-nil, map-append}
 use Rattle.sqlite_trees.specs.Tree.{Trees}
 use Rattle.sqlite.specs.State.{HasCleanDisk, State}
 use Rattle.desk_command.specs.declared.command.Command.{Command}
@@ -14,7 +14,7 @@ use Rattle.desk_ends.specs.declared.ends.Failure.{Failure}
 use Rattle.desk_ends.specs.declared.ends.Sink.{Ghosts as Sink}
 use Rattle.desk_ends.specs.declared.ends.Source.{Ghosts as Source}
 use Rattle.desk_ends.specs.Ends.{IsFlushed}
-use Rattle.desk_ends.specs.Input.{Input, KnowsEnd, UsesInput, unread}
+use Rattle.desk_ends.specs.Input.{Input, UsesInput, unread}
 use Rattle.desk_ends.specs.Limits.{most_input}
 use Rattle.desk_ends.proofs.UsedInput.{UsesInput-none, UsesInput-then, left_to_use, left_to_use-fewer, no-parts, unread-knows}
 use Rattle.desk_line.specs.declared.answer.Answer.{Answer}
@@ -30,7 +30,7 @@ use Rattle.desk_session.specs.declared.session.Ended.{Ended}
 use Rattle.desk_session.specs.declared.session.Ended.TheVariants as ended
 use Rattle.desk_session.specs.Reading.{ReadsRequest}
 use Rattle.desk_session.specs.Requests.{FirstRequests}
-use Rattle.desk_session.specs.Service.{AllTaken, GoesOut, HoldsGiven, IsLeft, IsWritten, MayLack, MayServe, Serves, SessionEnds, ends_of, requests_of}
+use Rattle.desk_session.specs.Service.{AllTaken, AreRequests, EndsAs, EndsFlushed, GoesOut, HoldsGiven, IsHonest, IsLeft, IsWritten, MayLack, MayServe, Serves, SessionEnds, ends_of, requests_of}
 use Rattle.desk_session.specs.Session.{EndsLost, GivenCommand, Gives, IsCommand, IsSession, MayGoOn, Turn, commands_of}
 use Rattle.desk_session.specs.Turns.{LeavesLost, LeftBy, SendsReply, TakesTurn}
 use Rattle.desk_session.proofs.MoreTurns.{TurnsFrom-more, after-given, ends-held, ends-lost, gives-some, goes-held, goes-more, requests-more, taken-more}
@@ -277,24 +277,30 @@ module _ (start book : Book) (over : SessionEnds) (c : Option (List ℕ)) (input
       kept = kept-next held;
     }
 
-    -- a write failed
-    pub Serves-output : answer ≢ answers.Lost → ok ≡ false → Serves start next ended.Output after
-    Serves-output held broken = record {
+    -- the session ends after it
+    ended-after : (e : Ended) → AreRequests e (IsAtEnd c) used.read (requests_of turns) → EndsAs e turns → IsHonest e (length used.read) after → EndsFlushed e turns after
+        → (HasCleanDisk s' → (l : Layout) → MayServe l start over.old → IsLeft l start next e (so_far.given ++ gave.0) s') → Serves start next e after
+    ended-after e requests ends honest flushed left = record {
       read = used.read;
       output = so_far.output ++ sends.piece;
       turns = turns;
       given = so_far.given ++ gave.0;
       consumes = used.consumes;
-      requests = first;
+      requests = requests;
       session = session;
       written = written;
       appends = appends;
-      ends = ends-held turn so_far.turns held;
-      honest = sends.fails broken;
-      flushed = tt;
-      left = λ clean l may.
-          held-left l start next ended.Output turns (so_far.given ++ gave.0) s' session (ends-held turn so_far.turns held) refl (kept-next held clean l may);
+      ends = ends;
+      honest = honest;
+      flushed = flushed;
+      left = left;
     }
+
+    -- a write failed
+    pub Serves-output : answer ≢ answers.Lost → ok ≡ false → Serves start next ended.Output after
+    Serves-output held broken =
+        ended-after ended.Output first (ends-held turn so_far.turns held) (sends.fails broken) tt
+        (λ clean l may. held-left l start next ended.Output turns (so_far.given ++ gave.0) s' session (ends-held turn so_far.turns held) refl (kept-next held clean l may))
 
     lost-by : answer ≡ answers.Lost → (l : Layout) → LeftBy l read.bytes book next answer s' → LeavesLost l read.bytes book s'
     lost-by is l left = subst (λ (one : Answer). LeftBy l read.bytes book next one s') is left
@@ -308,23 +314,11 @@ module _ (start book : Book) (over : SessionEnds) (c : Option (List ℕ)) (input
 
     -- a command was lost
     pub Serves-lost : answer ≡ answers.Lost → Serves start next ended.Lost after
-    Serves-lost is = record {
-      read = used.read;
-      output = so_far.output ++ sends.piece;
-      turns = turns;
-      given = so_far.given ++ gave.0;
-      consumes = used.consumes;
-      requests = first;
-      session = session;
-      written = written;
-      appends = appends;
-      ends = ends-lost turn so_far.turns is;
-      honest = tt;
-      flushed = all-told ok refl;
-      left = λ clean l may.
-          let lost = lost-by is l (took.left clean l may.tables (so_far.kept (took.clean clean) l may)) in
-          let one = gave-lost is in
-          lost-left l start book so_far.given gave.0 read.bytes s'
-          (after-given so_far.turns start book so_far.given so_far.session (goes-held so_far.turns so_far.goes))
-          lost one.0 one.1 one.2 next;
-    }
+    Serves-lost is =
+        ended-after ended.Lost first (ends-lost turn so_far.turns is) tt (all-told ok refl)
+        (λ clean l may.
+        let lost = lost-by is l (took.left clean l may.tables (so_far.kept (took.clean clean) l may)) in
+        let one = gave-lost is in
+        lost-left l start book so_far.given gave.0 read.bytes s'
+        (after-given so_far.turns start book so_far.given so_far.session (goes-held so_far.turns so_far.goes))
+        lost one.0 one.1 one.2 next)
