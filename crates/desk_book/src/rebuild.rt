@@ -1,7 +1,7 @@
 //! A book from the rows of its file.
 ghost use Rattle.desk_model.specs.Damage.{IsDamagedEntries, IsDamagedPara, IsWithin};
 ghost use Rattle.desk_parts.specs.FileRows.{HasEntryTexts, entries_in, table_of, without_name};
-ghost use Rattle.desk_book.specs.Rebuilding.Faults.{IsDamagedBraille, TellsDamageOf, fault_in};
+ghost use Rattle.desk_book.specs.Rebuilding.Faults.{IsDamagedBraille, TellsDamageOf};
 ghost use Rattle.desk_book.specs.Rebuilding.Rows.{AreOf, AreTables, HasCells, HasHistory, IsWhole, without_cells, without_history};
 ghost use Rattle.desk_book.specs.Kept.{IsKept, book_kept, paragraph_with_id};
 ghost use Rattle.desk_model.specs.Limits.{most_version};
@@ -12,7 +12,7 @@ ghost use Rattle.desk_model.specs.Shows.{Shows};
 ghost use Rattle.desk_parts.specs.declared.file_table.FileTable.{FileTable};
 ghost use Rattle.std.specs.List.{All, flat_map, range_with_len};
 ghost use Rattle.std.specs.List.Sorted.{IsPermutation};
-ghost use Rattle.std.specs.Prelude.{◌≡◌, Err, List, IfErr, IfOk, MatchOption, MatchResult, Ok, OnOk, length, map, option_map, pos};
+ghost use Rattle.std.specs.Prelude.{◌≡◌, List, IfErr, IfOk, MatchOption, OnOk, length, map, option_map, pos};
 
 mod caches;
 mod damage;
@@ -28,7 +28,7 @@ use super::marks::{KeptMark, Marks};
 use super::paragraphs::{Paragraph, Paragraphs};
 use super::tables::Tables;
 use caches::{made_cells, read_caches};
-use damage::RowsFault;
+use damage::of_table;
 use desk_model::PartsFault;
 use desk_parts::{CacheRow, CorrRow, EntryRows, FileTable, NamedCorrRow, Parts};
 use entries::read_entries;
@@ -47,17 +47,6 @@ fn version_of(version: i64) -> Option<u64>
         Some(number)
     } else {
         None
-    }
-}
-
-/// Looks at the texts of entries: that a string is UTF-8 is known of each that was looked at.
-fn look_at_entries(rows: &[NamedCorrRow])
-    ensures { All HasEntryTexts rows.now }
-{
-    for row in rows {
-        let entry = &row.entry;
-        let _ = &entry.body;
-        let _ = &row.who;
     }
 }
 
@@ -83,16 +72,6 @@ fn with_names(alloc: Global, entries: EntryRows) -> Result<Vec<NamedCorrRow>, Al
     }
 }
 
-/// What was read of a table, or the fault, reported of this table.
-fn of_table<T>(table: FileTable, read: Result<T, RowsFault>) -> Result<T, PartsFault>
-    ensures { MatchResult read (λ rows. result ≡ Ok rows) (λ fault. result ≡ Err (fault_in table fault)) }
-{
-    match read {
-        Ok(rows) => Ok(rows),
-        Err(fault) => Err(fault.of(table)),
-    }
-}
-
 /// Gives the paragraphs, which are in the order of their ids, the histories of rows of either format.
 fn give_histories(
     alloc: Global,
@@ -112,7 +91,6 @@ fn give_histories(
 {
     let table = entries.table();
     let rows = with_names(alloc, entries)?;
-    look_at_entries(&rows);
     of_table(table, read_entries(alloc, items, rows))
 }
 
@@ -181,11 +159,10 @@ impl Book {
                 id: 1,
             });
         };
-        let tables = of_table(FileTable::Tab, read_tabs(alloc, parts.tabs))?;
-        let paras = of_table(FileTable::Para, read_paras(alloc, &tables, parts.paras))?;
-        let OrderedParas { mut items, order } = paras;
+        let tables = read_tabs(alloc, parts.tabs)?;
+        let OrderedParas { mut items, order } = read_paras(alloc, &tables, parts.paras)?;
         give_histories(alloc, &mut items, parts.entries)?;
-        let marks = of_table(FileTable::Mark, read_marks(alloc, &mut items, parts.marks))?;
+        let marks = read_marks(alloc, &mut items, parts.marks)?;
         give_cells(alloc, &tables, &mut items, parts.cache)?;
         let book = book_of_parts(version, tables, items, order, marks)?;
         Ok(book)

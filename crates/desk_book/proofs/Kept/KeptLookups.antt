@@ -1,13 +1,15 @@
 -- What is found among kept tables and paragraphs, against what the book that they stand for has.
-use Rattle.std.proofs.Common.{◌≡◌, ℕ, List, map, length, get_or, Option, Some, None, Contains, Result, Ok, Err, refl, ap, subst, ◌∙◌}
+use Rattle.std.proofs.Common.{◌≡◌, ℕ, List, map, length, get_or, Option, Some, None, Contains, Result, Ok, Err, refl, sym, ap, subst, ◌∙◌}
 use Rattle.std.specs.Cmp.Lexicographic.{pointwise}
 use Rattle.std.specs.Map.{lookup}
 use Rattle.std.specs.Option.{ok_or}
 use Rattle.std.specs.Prelude.{nat_eq, option_map, slice_get, IfErr, IfOk, IfSome, IsSome}
+use Rattle.std.specs.Result.{IsErrAnd}
 use Rattle.std.proofs.lemmas.List.Elements.{Contains-get_or}
 use Rattle.std.proofs.lemmas.List.{length-map}
 use Rattle.std.proofs.lemmas.Option.{get_or_from_slice_get, slice_get-map, slice_get_within}
 use Rattle.std.proofs.lemmas.Map.Entries.{All-lookup}
+pub use Rattle.std.proofs.lemmas.Result.{IfErr-weaker, IfOk-weaker}
 use Rattle.louis_table.specs.Table.{Means}
 use Rattle.desk_book.specs.declared.marks.KeptMark.{KeptMark}
 use Rattle.desk_book.specs.declared.paragraphs.Paragraph.{Paragraph as KeptParagraph}
@@ -35,16 +37,12 @@ module _ {X E : Type 0} where
   IfErr-ok_or None d r is P h = rw is (h refl)
   IfErr-ok_or (Some x) d r is P h = rw is tt
 
--- ---- what follows from an answer
+-- ---- what the exit of a `?` returns
 
 module _ {X E : Type 0} where
-  pub IfOk-weaker : (r : Result X E) (P Q : X → Type 0) → ((x : X) → P x → Q x) → IfOk r P → IfOk r Q
-  IfOk-weaker (Ok x) P Q f h = f x h
-  IfOk-weaker (Err e) P Q f h = tt
-
-  pub IfErr-weaker : (r : Result X E) (P Q : E → Type 0) → ((e : E) → P e → Q e) → IfErr r P → IfErr r Q
-  IfErr-weaker (Ok x) P Q f h = tt
-  IfErr-weaker (Err e) P Q f h = f e h
+  pub IfErr-exit : (r : Result X E) (e : E) (P : E → Type 0) → IsErrAnd r (λ told. told ≡ e) → P e → IfErr r P
+  IfErr-exit (Ok x) e P exit h = tt
+  IfErr-exit (Err told) e P exit h = subst P (sym exit) h
 
 -- ---- in a book
 

@@ -1,6 +1,7 @@
 -- The damage of a table is the first, where the tables before it have none.
 use Rattle.std.proofs.Common.{◌≡◌, ◌≤◌, ℤ, List, Result, Ok, Err, Some, None, refl, sym, subst, arith}
 use Rattle.std.specs.Prelude.{IfErr, IfOk, MatchResult, OnOk}
+use Rattle.std.proofs.lemmas.Result.{IfErr-weaker, IfOk-weaker}
 use Rattle.desk_parts.specs.declared.file_table.FileTable.{FileTable}
 use Rattle.desk_parts.specs.declared.file_table.FileTable.TheVariants.{Book, Tab, Para, Corr, Mark, Cache, NamedCorr}
 use Rattle.desk_model.specs.declared.fault.PartsFault.{PartsFault}
@@ -10,7 +11,8 @@ use Rattle.desk_book.specs.declared.rebuild.damage.RowsFault.TheVariants as rows
 use Rattle.desk_model.specs.Damage.{IsDamaged, IsDamagedCache, IsDamagedEntries, IsFirstDamage, table_turn}
 use Rattle.desk_parts.specs.FileRows.{EntryRows, FileRows, Named, Unnamed, entries_in, table_of}
 use Rattle.desk_book.specs.Rebuilding.Faults.{IsDamagedBraille, TellsDamageOf, fault_in}
-use Rattle.desk_book.specs.Rebuilding.Rows.{IsWhole, TellsDamage}
+use Rattle.desk_book.specs.Rebuilding.Rows.{IsFirstId, IsWhole, TellsDamage}
+use Rattle.desk_book.specs.OrderedRows.{IsFirstUnsound, RowRule, TellsUnsound}
 use Rattle.desk_model.specs.Rebuilding.{IsFaultOf}
 use Rattle.desk_parts.specs.Rows.{Para as ParaRow, ParaCells, Tab as TabRow}
 use Rattle.desk_model.proofs.Commands.Turns.{same_some}
@@ -42,6 +44,23 @@ module _ {T : Type 0} (table : FileTable) (given : Result T RowsFault) (result :
       by : (given : Result T RowsFault) → MatchResult given (λ rows. result ≡ Ok rows) (λ fault. result ≡ Err (fault_in table fault)) → IfOk given P → IfOk result P
       by (Ok rows) same holds = subst (λ r. IfOk r P) (sym same) holds
       by (Err fault) same holds = subst (λ r. IfOk r P) (sym same) tt
+
+  -- what follows from either
+  pub read-of-table : (P Q : T → Type 0) → ((rows : T) → P rows → Q rows) → IfOk given P → IfOk result Q
+  read-of-table P Q follows holds = of-table-rows Q (IfOk-weaker given P Q follows holds)
+
+  pub told-of-table : (P : RowsFault → Type 0) (damaged : ℤ → Type 0) → ((fault : RowsFault) → P fault → TellsDamage damaged fault)
+      → IfErr given P → IfErr result (TellsDamageOf table damaged)
+  told-of-table P damaged follows told = of-table-fault damaged (IfErr-weaker given P (TellsDamage damaged) follows told)
+
+  -- of rows in the order of their ids the first that isn't sound is reported
+  pub first-of-table : {X : Type 0} (rule : RowRule X) (sorted : List X) (damaged : ℤ → Type 0) → ((id : ℤ) → IsFirstUnsound rule sorted id → IsFirstId damaged id)
+      → IfErr given (TellsUnsound rule sorted) → IfErr result (TellsDamageOf table damaged)
+  first-of-table rule sorted damaged tells = told-of-table (TellsUnsound rule sorted) damaged told
+    where
+      told : (fault : RowsFault) → TellsUnsound rule sorted fault → TellsDamage damaged fault
+      told (rows_fault.Damaged id) first = tells id first
+      told rows_fault.NoMemory first = tt
 
 -- where rows of braille are there, their damage is that of the table
 braille-own : (tabs : List TabRow) (paras : List ParaRow) (caches : List ParaCells) (id : ℤ)

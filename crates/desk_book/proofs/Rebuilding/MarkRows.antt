@@ -1,5 +1,5 @@
 -- Rows of marks, read in the order of their ids, beside kept paragraphs.
-use Rattle.std.proofs.Common.{◌≡◌, ℕ, zero, suc, ◌+◌, ◌-◌, ◌<◌, ◌≤◌, ℤ, pos, ◌≤ℤ◌, nat_abs, false, List, [], ◌∷◌, ◌++◌, map, length, take, set, get_or, Some, Contains, refl, sym, ap, subst, ◌∙◌, arith, inl, inr}
+use Rattle.std.proofs.Common.{◌≡◌, ℕ, suc, ◌+◌, ◌-◌, ◌<◌, ◌≤◌, ℤ, pos, ◌≤ℤ◌, nat_abs, false, List, [], ◌∷◌, ◌++◌, map, length, take, set, get_or, Some, Contains, refl, sym, ap, subst, ◌∙◌, arith, inl, inr}
 use Rattle.std.specs.List.{All, enumerate_from}
 use Rattle.std.specs.List.Sorted.{IsPermutation}
 use Rattle.std.specs.Prelude.{nat_eq, slice_get}

@@ -1,6 +1,7 @@
 -- What is reported of the parts of a book's file, and the book that is made of them.
-use Rattle.std.proofs.Common.{◌≡◌, ℕ, ◌≤◌, ℤ, pos, List, [], ◌∷◌, get_or, map, refl, sym, ap, ◌∙◌, arith}
+use Rattle.std.proofs.Common.{◌≡◌, ℕ, ◌≤◌, ℤ, pos, List, [], ◌∷◌, get_or, map, SFits, to_z, of_z, w64, refl, sym, ap, subst, ◌∙◌, arith}
 use Rattle.std.specs.List.{All, flat_map}
+use Rattle.std.proofs.lemmas.Int.{to_z-of_z}
 use Rattle.std.proofs.lemmas.List.Elements.{All-contains}
 use Rattle.std.proofs.lemmas.Option.{slice_get-get_or}
 use Rattle.desk_book.specs.declared.marks.KeptMark.{KeptMark}
@@ -47,6 +48,12 @@ unmarked-with_history items others same none k d within =
 
 -- ---- what is reported
 
+-- the version that is read, as the row has it
+pub version-read : (parts : Parts) → SFits w64 parts.version → (version : ℕ)
+    → IsWithin 0 most_version (to_z w64 (of_z w64 parts.version)) × (pos version ≡ to_z w64 (of_z w64 parts.version))
+    → IsWithin 0 most_version parts.version × (pos version ≡ parts.version)
+version-read parts fits version = subst (λ z. IsWithin 0 most_version z × (pos version ≡ z)) (to_z-of_z w64 parts.version fits)
+
 format-low : (entries : EntryRows) → 1 ≤ format_of entries
 format-low (Unnamed corrs) = omega arith
 format-low (Named corrs) = omega arith
@@ -86,45 +93,43 @@ module _ (parts : Parts) (within : IsWithin 0 most_version parts.version) where
           pub cache-fault : (fault : PartsFault) → TellsDamageOf Cache (IsDamagedBraille rows.tabs rows.paras rows.caches) fault → IsFaultOf rows fault
           cache-fault = first-fault rows Cache (before-cache rows (before-mark rows (before-para rows (before-tab rows no-book) no_tab) no_para no_entry) no_mark)
 
-          pub none-damaged : IsWhole (IsDamagedBraille rows.tabs rows.paras rows.caches) → (table : FileTable) (id : ℤ) → ¬ IsDamaged rows table id
-          none-damaged =
-              no-damage rows (before-cache rows (before-mark rows (before-para rows (before-tab rows no-book) no_tab) no_para no_entry) no_mark)
+          module _ (no_cache : IsWhole (IsDamagedBraille rows.tabs rows.paras rows.caches)) where
+            none : (table : FileTable) (id : ℤ) → ¬ IsDamaged rows table id
+            none = no-damage rows (before-cache rows (before-mark rows (before-para rows (before-tab rows no-book) no_tab) no_para no_entry) no_mark) no_cache
 
-  -- ---- what is made
+            -- ---- what is made
 
-  module _ (none : (table : FileTable) (id : ℤ) → ¬ IsDamaged rows table id)
-      (version : ℕ) (is_version : pos version ≡ parts.version)
-      (tables : KeptTables) (are_tables : AreTables rows.tabs tables)
-      (read with_history with_marks items : List KeptParagraph) (order : List ℕ) (of : AreOf rows.paras read) (places : AreInPlaces rows.paras order)
-      (entry_texts : All HasEntryTexts (entries_in rows.entries)) (histories : All (HasHistory (entries_in rows.entries) with_history) rows.paras)
-      (same_history : map without_history with_history ≡ map without_history read)
-      (mark_texts : All HasMarkText rows.marks) (marks : List KeptMark) (are_marks : AreMarksOf rows.marks marks) (have_marks : HaveMarks marks with_marks)
-      (same_marks : map without_marks with_marks ≡ map without_marks with_history)
-      (cells : All (HasCells rows.tabs items) rows.paras) (same_cells : map without_cells items ≡ map without_cells with_marks) where
-    texts : AreTexts rows
-    texts = record { tabs = are_tables.texts; paras = of.texts; entries = entry_texts; marks = mark_texts }
+            module _ (version : ℕ) (is_version : pos version ≡ parts.version) (tables : KeptTables) (are_tables : AreTables rows.tabs tables)
+                (read with_history with_marks items : List KeptParagraph) (order : List ℕ) (of : AreOf rows.paras read) (places : AreInPlaces rows.paras order)
+                (entry_texts : All HasEntryTexts (entries_in rows.entries)) (histories : All (HasHistory (entries_in rows.entries) with_history) rows.paras)
+                (same_history : map without_history with_history ≡ map without_history read)
+                (mark_texts : All HasMarkText rows.marks) (marks : List KeptMark) (are_marks : AreMarksOf rows.marks marks) (have_marks : HaveMarks marks with_marks)
+                (same_marks : map without_marks with_marks ≡ map without_marks with_history)
+                (cells : All (HasCells rows.tabs items) rows.paras) (same_cells : map without_cells items ≡ map without_cells with_marks) where
+              texts : AreTexts rows
+              texts = record { tabs = are_tables.texts; paras = of.texts; entries = entry_texts; marks = mark_texts }
 
-    versioned : (row : BookRow) → rows.books ≡ row ∷ [] → row.version ≡ pos version
-    versioned row is =
-        let own : BookRow = record { id = pos 1; format = pos (format_of rows.entries); version = parts.version } in
-        let same : own ≡ row = cc in
-        ap (λ (r : BookRow). r.version) (sym same) ∙ sym is_version
+              versioned : (row : BookRow) → rows.books ≡ row ∷ [] → row.version ≡ pos version
+              versioned row is =
+                  let own : BookRow = record { id = pos 1; format = pos (format_of rows.entries); version = parts.version } in
+                  let same : own ≡ row = cc in
+                  ap (λ (r : BookRow). r.version) (sym same) ∙ sym is_version
 
-    are_of : AreOf rows.paras items
-    are_of = of-with_cells rows.paras with_marks items same_cells (of-with_marks rows.paras with_history with_marks same_marks (of-with_history rows.paras read with_history same_history of))
+              are_of : AreOf rows.paras items
+              are_of = of-with_cells rows.paras with_marks items same_cells (of-with_marks rows.paras with_history with_marks same_marks (of-with_history rows.paras read with_history same_history of))
 
-    have_histories : All (HasHistory (entries_in rows.entries) items) rows.paras
-    have_histories =
-        histories-same with_marks items (less-same without_cells told told (λ x. refl) with_marks items (sym same_cells)) (entries_in rows.entries) rows.paras
-        (histories-same with_history with_marks (less-same without_marks told told (λ x. refl) with_history with_marks (sym same_marks)) (entries_in rows.entries) rows.paras histories)
+              have_histories : All (HasHistory (entries_in rows.entries) items) rows.paras
+              have_histories =
+                  histories-same with_marks items (less-same without_cells told told (λ x. refl) with_marks items (sym same_cells)) (entries_in rows.entries) rows.paras
+                  (histories-same with_history with_marks (less-same without_marks told told (λ x. refl) with_history with_marks (sym same_marks)) (entries_in rows.entries) rows.paras histories)
 
-    have_all_marks : HaveMarks marks items
-    have_all_marks = HaveMarks-same marks with_marks items (sym same_cells) have_marks
+              have_all_marks : HaveMarks marks items
+              have_all_marks = HaveMarks-same marks with_marks items (sym same_cells) have_marks
 
-    pub made-kept : IsKept version tables (flat_map (paragraph_with_id items) order) marks
-    made-kept =
-        is_kept rows texts its-tables none version versioned tables are_tables items order are_of places have_histories cells marks are_marks have_all_marks
+              pub made-kept : IsKept version tables (flat_map (paragraph_with_id items) order) marks
+              made-kept =
+                  is_kept rows texts its-tables none version versioned tables are_tables items order are_of places have_histories cells marks are_marks have_all_marks
 
-    pub made-shown : Shows rows (book_kept version tables (flat_map (paragraph_with_id items) order) marks)
-    made-shown =
-        shown rows texts its-tables none version versioned tables are_tables items order are_of places have_histories cells marks are_marks have_all_marks
+              pub made-shown : Shows rows (book_kept version tables (flat_map (paragraph_with_id items) order) marks)
+              made-shown =
+                  shown rows texts its-tables none version versioned tables are_tables items order are_of places have_histories cells marks are_marks have_all_marks

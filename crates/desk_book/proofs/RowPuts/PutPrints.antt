@@ -1,9 +1,9 @@
 -- What another print of a paragraph puts makes rows that show the book show the next.
-use Rattle.std.proofs.Common.{◌≡◌, ℕ, ◌+◌, ◌-◌, ◌≤◌, ℤ, pos, Bool, true, false, cond, List, [], ◌∷◌, ◌++◌, append_assoc, length, map, Option, Some, None, min, max, refl, sym, ap, subst, ◌∙◌, arith, inl, inr}
+use Rattle.std.proofs.Common.{◌≡◌, ℕ, ◌+◌, ◌≤◌, ℤ, pos, true, false, cond, List, [], ◌∷◌, ◌++◌, append_assoc, length, map, Option, Some, None, refl, sym, ap, subst, ◌∙◌, arith, inl, inr}
 use Rattle.std.specs.List.{All, enumerate_from, flat_map}
 use Rattle.std.specs.List.Sorted.{IsPermutation}
 use Rattle.std.specs.Ordering.{int_eq}
-use Rattle.std.specs.Prelude.{nat_eq, nat_le, not, option_map}
+use Rattle.std.specs.Prelude.{nat_eq, not, option_map}
 use Rattle.std.proofs.lemmas.Bool.{cases_Bool, cond-true, cond-false, eq-eqb, not-true}
 use Rattle.std.proofs.lemmas.List.{map-append, map-id}
 use Rattle.std.proofs.lemmas.List.Elements.{All-cons, All-head, All-nil, All-tail, All-weaker, filter_passes}
@@ -21,7 +21,7 @@ use Rattle.desk_model.specs.Marks.{mark_moved_by}
 use Rattle.desk_model.specs.Print.{corrected_print, newest, with_entry}
 use Rattle.desk_parts.specs.Puts.{with_puts}
 use Rattle.desk_parts.specs.Rows.{Mark as MarkRow, NamedCorr}
-use Rattle.desk_model.specs.Shows.{entry_row_of, entry_rows_of, flag_number, mark_row_of}
+use Rattle.desk_model.specs.Shows.{entry_row_of, entry_rows_of, flag_number}
 use Rattle.desk_model.specs.Sound.{IsSoundEntry}
 use Rattle.desk_model.specs.Step.{with_change, without_paragraph}
 use Rattle.desk_model.proofs.Rows.BookRows.{encoded-text, spelled-encoded}

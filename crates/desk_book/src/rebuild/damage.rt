@@ -2,7 +2,7 @@
 ghost use Rattle.desk_model.specs.Damage.{IsFlag};
 ghost use Rattle.desk_book.specs.Rebuilding.Faults.{fault_in};
 ghost use Rattle.desk_model.specs.Shows.{flag_number};
-ghost use Rattle.std.specs.Prelude.{◌≡◌, MatchOption};
+ghost use Rattle.std.specs.Prelude.{◌≡◌, Err, MatchOption, MatchResult, Ok};
 
 use desk_model::PartsFault;
 use desk_parts::FileTable;
@@ -37,6 +37,16 @@ impl RowsFault {
             RowsFault::Damaged(id) => PartsFault::Damaged { table, id },
             RowsFault::NoMemory => PartsFault::NoMemory,
         }
+    }
+}
+
+/// What was read of a table, or the fault, reported of this table.
+pub(crate) fn of_table<T>(table: FileTable, read: Result<T, RowsFault>) -> Result<T, PartsFault>
+    ensures { MatchResult read (λ rows. result ≡ Ok rows) (λ fault. result ≡ Err (fault_in table fault)) }
+{
+    match read {
+        Ok(rows) => Ok(rows),
+        Err(fault) => Err(fault.of(table)),
     }
 }
 

@@ -1,24 +1,27 @@
 //! The rows of `mark`, validated and converted into marks.
 ghost use Rattle.desk_model.specs.Damage.{IsDamagedMark};
 ghost use Rattle.desk_parts.specs.FileRows.{HasMarkText};
-ghost use Rattle.desk_book.specs.Rebuilding.Rows.{AreMarksOf, AreOf, HaveMarks, IsWhole, TellsDamage, without_marks};
+ghost use Rattle.desk_book.specs.Rebuilding.Faults.{TellsDamageOf};
+ghost use Rattle.desk_book.specs.Rebuilding.Rows.{AreMarksOf, AreOf, HaveMarks, IsWhole, without_marks};
 ghost use Rattle.desk_book.specs.Rebuilding.Marks.{AreKeptOf, HasId, IsKeptOf, IsMarkOn, IsNoteText, IsOnOne, IsSpan, mark_rule};
 ghost use Rattle.desk_book.specs.OrderedRows.{AreInOrder, TellsUnsound};
 ghost use Rattle.desk_model.specs.Limits.{most_marks};
 ghost use Rattle.desk_parts.specs.Rows.{Para};
+ghost use Rattle.desk_parts.specs.declared.file_table.FileTable.{FileTable};
 ghost use Rattle.std.specs.List.{All};
 ghost use Rattle.std.specs.List.Sorted.{IsPermutation};
 ghost use Rattle.std.specs.Prelude.{◌≡◌, ◌↔◌, ◌≤◌, [], List, IfErr, IfOk, IsTrue, MatchOption, OnOk, length, map, pos};
 ghost use Rattle.std.specs.Str.{chars};
 
-use super::damage::{RowsFault, flag_of};
+use super::damage::{RowsFault, flag_of, of_table};
 use crate::limits::{MOST_MARKS, MOST_NOTE};
 use crate::marks::KeptMark;
 use crate::normal_form::{count_of, first_barred};
 use crate::ordered_rows::is_next;
 use crate::paragraphs::Paragraph;
 use desk_command::Text;
-use desk_parts::MarkRow;
+use desk_model::PartsFault;
+use desk_parts::{FileTable, MarkRow};
 use std::alloc::{AllocError, Global};
 
 /// Whether a text may be a note.
@@ -130,7 +133,7 @@ pub(crate) fn read_marks(
     alloc: Global,
     items: &mut Vec<Paragraph>,
     mut rows: Vec<MarkRow>,
-) -> Result<Vec<KeptMark>, RowsFault>
+) -> Result<Vec<KeptMark>, PartsFault>
     requires of { (paras : List Para) × AreOf paras items.old.items }
     requires unmarked { All (λ kept. kept.marks ≡ []) items.old.items }
     ensures whole { (paras : List Para) → AreOf paras items.old.items
@@ -140,10 +143,10 @@ pub(crate) fn read_marks(
     ensures indexes { IfOk result (λ marks. HaveMarks marks.items items.new.items) }
     ensures same { IfOk result (λ _. map without_marks items.new.items ≡ map without_marks items.old.items) }
     ensures damaged { (paras : List Para) → AreOf paras items.old.items
-        → IfErr result (TellsDamage (IsDamagedMark paras rows.items)) }
+        → IfErr result (TellsDamageOf FileTable.Mark (IsDamagedMark paras rows.items)) }
 {
     sort(&mut rows);
-    let marks = marks_of(alloc, items, rows)?;
+    let marks = of_table(FileTable::Mark, marks_of(alloc, items, rows))?;
     give_indexes(alloc, items, &marks)?;
     Ok(marks)
 }

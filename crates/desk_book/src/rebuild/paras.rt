@@ -1,17 +1,19 @@
 //! The rows of `para`, validated and converted into paragraphs.
 ghost use Rattle.desk_model.specs.Damage.{IsDamagedPara, IsFlag, IsPrintText};
-ghost use Rattle.desk_book.specs.Rebuilding.Rows.{AreInPlaces, AreOf, AreTables, IsWhole, TellsDamage};
+ghost use Rattle.desk_book.specs.Rebuilding.Faults.{TellsDamageOf};
+ghost use Rattle.desk_book.specs.Rebuilding.Rows.{AreInPlaces, AreOf, AreTables, IsWhole};
 ghost use Rattle.desk_book.specs.Rebuilding.Paras.{AreDefinedBy, AreKeptOf, IsFree, IsKeptOf, IsParaOn, para_rule};
 ghost use Rattle.desk_book.specs.OrderedRows.{AreInOrder, TellsUnsound};
 ghost use Rattle.desk_parts.specs.FileRows.{HasParaTexts};
 ghost use Rattle.desk_parts.specs.Rows.{Tab};
+ghost use Rattle.desk_parts.specs.declared.file_table.FileTable.{FileTable};
 ghost use Rattle.desk_model.specs.Shows.{style_number};
 ghost use Rattle.std.specs.List.{All};
 ghost use Rattle.std.specs.List.Sorted.{IsPermutation};
 ghost use Rattle.std.specs.Prelude.{◌≡◌, ◌↔◌, ℕ, [], List, IfErr, IfNone, IfOk, IfSome, IsTrue, MatchOption, length, replicate};
 ghost use Rattle.std.specs.Str.{chars};
 
-use super::damage::{RowsFault, flag_of};
+use super::damage::{RowsFault, flag_of, of_table};
 use crate::items::Items;
 use crate::limits::{MOST_PARAGRAPHS, MOST_PRINT};
 use crate::normal_form::{count_of, first_barred};
@@ -20,7 +22,8 @@ use crate::paragraphs::Paragraph;
 use crate::tables::Tables;
 use cell_core::Cells;
 use desk_command::{Style, Text};
-use desk_parts::ParaRow;
+use desk_model::PartsFault;
+use desk_parts::{FileTable, ParaRow};
 use louis_table::Characters;
 use louis_translate::{RuleBook, undefined_place};
 use std::alloc::{AllocError, Global};
@@ -165,7 +168,7 @@ pub(crate) fn read_paras(
     alloc: Global,
     tables: &Tables,
     mut rows: Vec<ParaRow>,
-) -> Result<OrderedParas, RowsFault>
+) -> Result<OrderedParas, PartsFault>
     ensures whole { (tabs : List Tab) → AreTables tabs tables.now
         → IfOk result (λ _. IsWhole (IsDamagedPara tabs rows.items)) }
     ensures items { (tabs : List Tab) → AreTables tabs tables.now
@@ -174,8 +177,8 @@ pub(crate) fn read_paras(
     ensures order { (tabs : List Tab) → AreTables tabs tables.now
         → IfOk result (λ judged. AreInPlaces rows.items judged.order.items) }
     ensures damaged { (tabs : List Tab) → AreTables tabs tables.now
-        → IfErr result (TellsDamage (IsDamagedPara tabs rows.items)) }
+        → IfErr result (TellsDamageOf FileTable.Para (IsDamagedPara tabs rows.items)) }
 {
     sort(&mut rows);
-    paragraphs_of(alloc, tables, rows)
+    of_table(FileTable::Para, paragraphs_of(alloc, tables, rows))
 }

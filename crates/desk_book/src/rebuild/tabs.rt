@@ -1,19 +1,22 @@
 //! The rows of `tab`, validated and converted into tables.
 ghost use Rattle.desk_model.specs.Damage.{AreInOrder, IsDamagedTab};
-ghost use Rattle.desk_book.specs.Rebuilding.Rows.{AreTables, IsWhole, TellsDamage};
+ghost use Rattle.desk_book.specs.Rebuilding.Faults.{TellsDamageOf};
+ghost use Rattle.desk_book.specs.Rebuilding.Rows.{AreTables, IsWhole};
 ghost use Rattle.desk_book.specs.Rebuilding.Tabs.{AreRead, MayCome, TellsFirstUnsound, TellsNoMeaning, TellsUnsoundTab, rows_of, tab_order};
 ghost use Rattle.desk_model.specs.Limits.{most_tables};
 ghost use Rattle.desk_parts.specs.Rows.{Tab};
+ghost use Rattle.desk_parts.specs.declared.file_table.FileTable.{FileTable};
 ghost use Rattle.louis_table.specs.Table.{Means};
 ghost use Rattle.std.specs.Str.{chars};
 ghost use Rattle.std.specs.List.Sorted.{IsPermutation};
 ghost use Rattle.std.specs.Prelude.{◌≡◌, ◌≤◌, [], ◌∷◌, ◌++◌, ◌↔◌, List, IfErr, IfOk, IsTrue, OnOk, length};
 
-use super::damage::RowsFault;
+use super::damage::{RowsFault, of_table};
 use crate::limits::MOST_TABLES;
 use crate::normal_form::is_table_name;
 use crate::tables::{BookTable, Tables};
-use desk_parts::{StoredTab, TabRow};
+use desk_model::PartsFault;
+use desk_parts::{FileTable, StoredTab, TabRow};
 use louis_table::ReadFault;
 use std::alloc::Global;
 use std::cmp::Ordering;
@@ -84,11 +87,11 @@ fn tables_of(alloc: Global, rows: Vec<StoredTab>) -> Result<Tables, RowsFault>
 }
 
 /// Reads the tables of rows.
-pub(crate) fn read_tabs(alloc: Global, mut rows: Vec<StoredTab>) -> Result<Tables, RowsFault>
+pub(crate) fn read_tabs(alloc: Global, mut rows: Vec<StoredTab>) -> Result<Tables, PartsFault>
     ensures whole { IfOk result (λ _. IsWhole (IsDamagedTab (rows_of rows.items))) }
     ensures tables { IfOk result (AreTables (rows_of rows.items)) }
-    ensures damaged { IfErr result (TellsDamage (IsDamagedTab (rows_of rows.items))) }
+    ensures damaged { IfErr result (TellsDamageOf FileTable.Tab (IsDamagedTab (rows_of rows.items))) }
 {
     sort(&mut rows);
-    tables_of(alloc, rows)
+    of_table(FileTable::Tab, tables_of(alloc, rows))
 }

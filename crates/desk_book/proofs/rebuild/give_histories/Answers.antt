@@ -1,4 +1,4 @@
-use Rattle.std.proofs.Common.{◌≡◌, List, map, subst, ◌∙◌}
+use Rattle.std.proofs.Common.{◌≡◌, List, map, subst}
 use Rattle.std.specs.List.{All}
 use Rattle.std.specs.Prelude.{IfErr, OnOk}
 use Rattle.desk_model.specs.Damage.{IsDamagedEntries}
@@ -7,13 +7,14 @@ use Rattle.desk_book.specs.Rebuilding.Faults.{TellsDamageOf}
 use Rattle.desk_book.specs.Rebuilding.Rows.{HasHistory, IsWhole, TellsDamage, without_history}
 use Rattle.desk_parts.specs.Parts.{entry_rows}
 use Rattle.desk_parts.specs.Rows.{NamedCorr}
-use Rattle.desk_book.proofs.Rebuilding.FirstTables.{of-table-fault, of-table-rows, on-any}
+use Rattle.desk_book.proofs.Rebuilding.FirstTables.{of-table-fault, of-table-rows}
 use Rattle.desk_book.proofs.rebuild.give_histories.Goals as goal
 
 pub returns-clause-texts : goal.returns-clause-texts
 returns-clause-texts c =
-    on-any c.of_table.result (All HasEntryTexts (entries_in (entry_rows c.args.entries)))
-    (subst (All HasEntryTexts) (c.deref.ensures.value ∙ c.in_ok-rows.ensures) c.look_at_entries.ensures)
+    of-table-rows c.table-table.result c.read_entries.result c.of_table.result c.of_table.ensures
+    (λ _. All HasEntryTexts (entries_in (entry_rows c.args.entries)))
+    (subst (λ (rows : List NamedCorr). OnOk c.read_entries.result (All HasEntryTexts rows)) c.in_ok-rows.ensures c.read_entries.ensures.texts)
 
 pub returns-clause-whole : goal.returns-clause-whole
 returns-clause-whole c = λ paras of.

@@ -1,4 +1,4 @@
-use Rattle.std.proofs.Common.{◌≡◌, ℕ, List, ◌+◌, ◌++◌, ◌∷◌, [], length, take, inl, inr, refl, sym, ap, subst, ◌∙◌, arith, rules, w64}
+use Rattle.std.proofs.Common.{◌≡◌, ℕ, List, ◌+◌, ◌++◌, ◌∷◌, [], length, take, inl, inr, refl, sym, ap, subst, ◌∙◌, rules, w64}
 use Rattle.std.specs.Str.{chars}
 use Rattle.std.proofs.lemmas.Int.{to_z-of_z}
 use Rattle.std.proofs.lemmas.Iterator.Adapters.{YieldsList-from_vec}
