@@ -6,6 +6,7 @@ ghost use Rattle.desk_model.specs.Limits.{most_paragraphs, most_print};
 ghost use Rattle.desk_model.specs.ParagraphMarks.{marks_on};
 ghost use Rattle.desk_parts.specs.Puts.{LendsFirst, PutEntry, PutMark, PutPara, SetFlags, SetPlace, SetResolved, SetTable, SetVersion, put_of};
 ghost use Rattle.desk_model.specs.Shows.{flag_number, style_number};
+ghost use Rattle.desk_model.specs.Sound.{IsSound};
 ghost use Rattle.desk_model.specs.Step.{next_id};
 ghost use Rattle.std.specs.Prelude.{◌≡◌, ◌+◌, ◌-◌, ◌<◌, ◌≤◌, [], ◌∷◌, ◌++◌, IfNone, IfSome, encode_utf8_all, length, map, pos, slice_index};
 
@@ -508,12 +509,11 @@ impl Book {
     fn span_puts<'a>(&'a self, id: u64, change: &'a PrintChange) -> Walk<'a>
         requires within { change.now.start + change.now.removed ≤ most_print }
         requires short { change.now.added ≤ most_print }
+        requires sound { IsSound self.now }
         ensures { walk_puts result
             ≡ map (span_put change.now.start change.now.removed change.now.added)
             (marks_on id self.now.marks) }
     {
-        // it is sound
-        let _ = &self.version;
         match self.marks(id) {
             Ok(marks) => Walk::Spans(SpanPuts {
                 marks,
@@ -529,6 +529,7 @@ impl Book {
     fn print_puts<'a>(&'a self, version: u64, id: u64, change: &'a PrintChange) -> Puts<'a>
         requires within { change.now.start + change.now.removed ≤ most_print }
         requires short { change.now.added ≤ most_print }
+        requires sound { IsSound self.now }
         ensures { result ≡ SetVersion (row_number version)
             ∷ effect_puts self.now (Effect.ChangePrint id change.now) }
     {
@@ -549,7 +550,8 @@ impl Book {
 impl Effect {
     /// What the effect puts beside a version, which is put first.
     fn puts<'a>(&'a self, version: u64, book: &'a Book) -> Puts<'a>
-        requires { (command : _) × (next : _) × Does book.now command next self.now }
+        requires does { (command : _) × (next : _) × Does book.now command next self.now }
+        requires sound { IsSound book.now }
         ensures { result ≡ SetVersion (row_number version) ∷ effect_puts book.now self.now }
     {
         match self {
@@ -601,8 +603,6 @@ impl Change {
         ensures lent { (command : _) (next : _) → Carries book.now command next self.now
             → AreLent book.now next command result }
     {
-        // it is sound
-        let _ = &book.version;
-        self.effect.puts(self.version, book)
+        self.effect.puts(book.version() + 1, book)
     }
 }
