@@ -10,5 +10,6 @@ pub mod OrderPlaces
 pub mod Renewing
 pub mod RoomLists
 pub mod Settled
+pub mod ShownEffects
 pub mod ToldEntries
 pub mod UndonePrints
