@@ -3,6 +3,7 @@ pub mod Display
 pub mod KeptMarks
 pub mod Kept
 pub mod KeptPrints
+pub mod Lending
 pub mod Changes
 pub mod Plans
 pub mod Corrections

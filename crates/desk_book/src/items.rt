@@ -67,6 +67,11 @@ fn room_for(count: usize) -> Option<usize>
 }
 
 impl<T: Drop> Items<T> {
+    ghost use Rattle.desk_book.specs.Lending.{lends_item};
+    ghost use Rattle.std.specs.Borrow.{sem};
+    ghost use Rattle.std.specs.Option.{option_copied_mut};
+    ghost use Rattle.std.specs.Prelude.{slice_get};
+
     /// No items.
     pub(crate) fn new(alloc: Global) -> Self
         ensures { result ≡ [] }
@@ -91,6 +96,14 @@ impl<T: Drop> Items<T> {
         ensures { result.now ≡ self.now }
     {
         self.items.as_slice()
+    }
+
+    /// The item with an index, if there is one, to be changed.
+    pub(crate) fn get_mut(&mut self, index: usize) -> Option<&mut T>
+        ensures* lends { sem 𝓛 (lends_item T.row self.entry index result) }
+        ensures value { option_copied_mut result ≡ slice_get self.old index }
+    {
+        self.items.get_mut(index)
     }
 
     /// How many there are.

@@ -8,7 +8,7 @@ ghost use Rattle.std.specs.List.{Contains, filter, flat_map, insert, position, r
 ghost use Rattle.std.specs.List.Sorted.{IsPermutation};
 ghost use Rattle.std.specs.Map.{lookup};
 ghost use Rattle.std.specs.Option.{option_copied, option_map_or};
-ghost use Rattle.std.specs.Prelude.{◌≡◌, ◌+◌, ◌<◌, ◌≤◌, ◌^◌, [], ◌∷◌, ◌++◌, ℕ, IfNone, IfOk, IfSome, OnOk, Some, ◌==◌, length, map, nat_eq, not, option_map, slice_get};
+ghost use Rattle.std.specs.Prelude.{◌≡◌, ◌+◌, ◌<◌, ◌≤◌, ◌^◌, [], ◌∷◌, ◌++◌, ℕ, IfNone, IfOk, IfSome, MatchOption, OnOk, Some, ◌==◌, length, map, nat_eq, not, option_map, slice_get};
 
 use super::change::PrintChange;
 use super::history::KeptEntry;
@@ -193,6 +193,10 @@ fn stays_behind(id: u64, after: Anchor) -> bool
 }
 
 impl Paragraphs {
+    ghost use Rattle.desk_book.specs.Lending.{lends_paragraph};
+    ghost use Rattle.std.specs.Borrow.{sem};
+    ghost use Rattle.std.specs.Option.{option_copied_mut};
+
     /// No paragraphs.
     pub(crate) fn new(alloc: Global) -> Self
         ensures { result ≡ [] }
@@ -244,6 +248,17 @@ impl Paragraphs {
     {
         let index = self.index_of(id)?;
         self.items.as_slice().get(index)
+    }
+
+    /// The paragraph with an id, if there is one, to be changed.
+    fn get_mut(&mut self, id: u64) -> Option<&mut Paragraph>
+        ensures* lends { sem 𝓛 (lends_paragraph self.entry id result) }
+        ensures value { option_copied_mut result ≡ lookup (nat_eq id) self.old }
+        ensures alone { MatchOption result ((change : _) → self.old ≡ with_kept_change id change self.old)
+            (λ lent. (change : _) → with_kept_change id (λ _. change lent.now) self.old ≡ with_kept_change id change self.old) }
+    {
+        let index = self.index_of(id)?;
+        self.items.get_mut(index)
     }
 
     /// The indexes of the marks of the paragraph with an id, if there is one.
@@ -356,25 +371,21 @@ impl Paragraphs {
         ensures { self.new ≡ with_kept_change id
             (λ kept. record kept { style = style; begins_volume = begins_volume; struck = struck }) self.old }
     {
-        let Some(index) = self.index_of(id) else {
-            return;
-        };
-        let paragraph = &mut self.items.items[index];
-        paragraph.style = style;
-        paragraph.begins_volume = begins_volume;
-        paragraph.struck = struck;
+        if let Some(paragraph) = self.get_mut(id) {
+            paragraph.style = style;
+            paragraph.begins_volume = begins_volume;
+            paragraph.struck = struck;
+        }
     }
 
     /// Gives the paragraph with an id, if there is one, another table and the cells by it.
     pub(crate) fn set_table(&mut self, id: u64, table: Text, cells: Cells)
         ensures { self.new ≡ with_kept_change id (λ kept. record kept { table = table; cells = cells }) self.old }
     {
-        let Some(index) = self.index_of(id) else {
-            return;
-        };
-        let paragraph = &mut self.items.items[index];
-        paragraph.table = table;
-        paragraph.cells = cells;
+        if let Some(paragraph) = self.get_mut(id) {
+            paragraph.table = table;
+            paragraph.cells = cells;
+        }
     }
 
     /// Gives the paragraph with an id, which is there, another print and the cells of it, and its history one entry more.
@@ -383,7 +394,7 @@ impl Paragraphs {
         requires { HasRoomFor self.old id change.room }
         ensures { self.new ≡ with_kept_change id (with_print_changed change) self.old }
     {
-        let Some(index) = self.index_of(id) else {
+        let Some(paragraph) = self.get_mut(id) else {
             return;
         };
         let PrintChange {
@@ -395,7 +406,6 @@ impl Paragraphs {
             removed: _,
             added: _,
         } = change;
-        let paragraph = &mut self.items.items[index];
         paragraph.history.push(room, entry);
         paragraph.print = print;
         paragraph.cells = cells;
@@ -406,11 +416,9 @@ impl Paragraphs {
         requires { HasRoomForMark self.old id room }
         ensures { self.new ≡ with_kept_change id (with_mark index) self.old }
     {
-        let Some(place) = self.index_of(id) else {
-            return;
-        };
-        let paragraph = &mut self.items.items[place];
-        paragraph.marks.push(room, index);
+        if let Some(paragraph) = self.get_mut(id) {
+            paragraph.marks.push(room, index);
+        }
     }
 
     /// Gives paragraphs new cells: those with id n the item n - 1, if that has any.
