@@ -95,21 +95,22 @@ style-lone : (style : Style) → Lone (style_word style)
 style-lone Body = lacks 10 (codes "body") refl
 style-lone Heading = lacks 10 (codes "heading") refl
 
+-- a word for each value of a flag
+either-lone : (word : Bool → List ℕ) → Lone (word true) → Lone (word false) → (set : Bool) → Lone (word set)
+either-lone word this other true = this
+either-lone word this other false = other
+
 volume-lone : (begins : Bool) → Lone (volume_word begins)
-volume-lone true = lacks 10 (codes "volume") refl
-volume-lone false = lacks 10 (codes "-") refl
+volume-lone = either-lone volume_word (lacks 10 (codes "volume") refl) (lacks 10 (codes "-") refl)
 
 life-lone : (struck : Bool) → Lone (life_word struck)
-life-lone true = lacks 10 (codes "struck") refl
-life-lone false = lacks 10 (codes "live") refl
+life-lone = either-lone life_word (lacks 10 (codes "struck") refl) (lacks 10 (codes "live") refl)
 
 state-lone : (resolved : Bool) → Lone (state_word resolved)
-state-lone true = lacks 10 (codes "resolved") refl
-state-lone false = lacks 10 (codes "open") refl
+state-lone = either-lone state_word (lacks 10 (codes "resolved") refl) (lacks 10 (codes "open") refl)
 
 touch-lone : (touched : Bool) → Lone (touch_word touched)
-touch-lone true = lacks 10 (codes "touched") refl
-touch-lone false = lacks 10 (codes "kept") refl
+touch-lone = either-lone touch_word (lacks 10 (codes "touched") refl) (lacks 10 (codes "kept") refl)
 
 module _ (book : Book) (sound : IsSound book) where
   mark-lone : (mark : Mark) → IsSoundMark book mark → Lone (mark_line mark)

@@ -1,10 +1,11 @@
 -- What is put for a reply is its text.
 use Rattle.std.proofs.Common.{◌≡◌, ◌≢◌, ◌⊎◌, inl, inr, ℕ, Bor, Bool, true, false, eqb, arith, Some, None, List, [], ◌∷◌, ◌++◌, length, Option, refl, sym, ap, ◌∙◌, append_assoc}
-use Rattle.std.specs.Prelude.{codes, decimal, map, Result, Err, IfErr}
+use Rattle.std.specs.Prelude.{codes, decimal, map, Result, IfErr, IsErrAnd}
 use Rattle.std.specs.List.{flat_map}
 use Rattle.std.specs.Str.{chars}
 use Rattle.std.proofs.lemmas.Bool.{both_ways, eqb-true}
 use Rattle.std.proofs.lemmas.List.{append-nil}
+use Rattle.std.proofs.lemmas.Result.{err_from_is_err_and}
 use Rattle.std.proofs.lemmas.Str.{chars-nil}
 use Rattle.desk_line.specs.Fields.{line_of_fields}
 use Rattle.desk_command.specs.declared.refusal.Refusal.{Refusal}
@@ -20,7 +21,7 @@ use Rattle.desk_line.specs.declared.request.Query.TheVariants as queries
 use Rattle.desk_line.specs.declared.waiting.Waiting.{Waiting}
 use Rattle.desk_line.specs.Reply.{AddsQueryReply, AddsShown, Refuses, no_paragraph, no_place, no_cell, paragraph_asked, ShowsLines, correction_line, details, entry_line, life_word, line_of, list_line, mark_line, state_word, style_word, touch_word, volume_word, refusal_line, refused, shown, shown_line, shown_text, word_and}
 use Rattle.desk_line.specs.Waiting.{Adds}
-use Rattle.desk_line.proofs.Putting.{Adds-same, Adds-then}
+use Rattle.desk_line.proofs.Putting.{Adds-nothing, Adds-same, Adds-then}
 
 -- a refusal by its code and its details
 pub refusal-text : (refusal : Refusal) (code : ℕ) (numbers : List ℕ) → code ≡ code_of refusal → numbers ≡ details refusal
@@ -61,16 +62,31 @@ replies-refused F a b c u v w book query refusal r f g =
 
 -- ---- lines of several things
 
-module _ {A : Type 0} (show : A → List ℕ) where
-  -- the lines from the first on
-  pub lines-first : (first : A) (others all : List A) (text whole : List ℕ) → all ≡ first ∷ others
-      → text ++ flat_map shown_line (map show all) ≡ whole → (text ++ shown_line (show first)) ++ flat_map shown_line (map show others) ≡ whole
-  lines-first first others all text whole e h =
-      append_assoc text (shown_line (show first)) (flat_map shown_line (map show others))
-      ∙ (ap (λ (xs : List A). text ++ flat_map shown_line (map show xs)) (sym e) ∙ h)
+-- lines were put, and these are left of all
+abbrev pub PutsLines : {A : Type 0} → (show : A → List ℕ) → (F : Type 0) → (a b : Option (List ℕ)) → (u v : Waiting) → (left all : List A) → Type 0
+PutsLines show F a b u v left all =
+    (text : List ℕ) × Adds F a b u v text × (text ++ flat_map shown_line (map show left) ≡ flat_map shown_line (map show all))
 
-  pub lines-done : (left : List A) (text whole : List ℕ) → left ≡ [] → text ++ flat_map shown_line (map show left) ≡ whole → text ≡ whole
-  lines-done left text whole e h = sym (append-nil text) ∙ (ap (λ (xs : List A). text ++ flat_map shown_line (map show xs)) (sym e) ∙ h)
+module _ {A : Type 0} (show : A → List ℕ) (F : Type 0) (a : Option (List ℕ)) (u : Waiting) where
+  pub PutsLines-none : (left all : List A) → left ≡ all → PutsLines show F a a u u left all
+  PutsLines-none left all e = ([], Adds-nothing F a u, ap (λ (xs : List A). flat_map shown_line (map show xs)) e)
+
+  -- one more
+  pub PutsLines-more : (b c : Option (List ℕ)) (v w : Waiting) (left all : List A) → PutsLines show F a b u v left all
+      → (first : A) (others : List A) → left ≡ first ∷ others → Adds F b c v w (shown_line (show first)) → PutsLines show F a c u w others all
+  PutsLines-more b c v w left all puts first others e adds = (
+    puts.0 ++ shown_line (show first),
+    Adds-then F a b c u v w puts.0 (shown_line (show first)) puts.1 adds,
+    append_assoc puts.0 (shown_line (show first)) (flat_map shown_line (map show others))
+        ∙ (ap (λ (xs : List A). puts.0 ++ flat_map shown_line (map show xs)) (sym e) ∙ puts.2),
+  )
+
+  -- none is left
+  pub PutsLines-all : (b : Option (List ℕ)) (v : Waiting) (left all : List A) → PutsLines show F a b u v left all → left ≡ []
+      → Adds F a b u v (flat_map shown_line (map show all))
+  PutsLines-all b v left all puts e =
+      Adds-same F a b u v puts.0 (flat_map shown_line (map show all))
+      (sym (append-nil puts.0) ∙ (ap (λ (xs : List A). puts.0 ++ flat_map shown_line (map show xs)) (sym e) ∙ puts.2)) puts.1
 
 -- ---- one line
 
@@ -146,10 +162,10 @@ none-there (x ∷ xs) r e t = let z = eqb-true (length (x ∷ xs)) 0 (sym e ∙ 
 pub some-there : (xs : List ℕ) (r : Bool) → r ≡ eqb (length xs) 0 → r ≡ false → xs ≢ []
 some-there xs r e f n = absurd (both_ways r f (e ∙ ap (λ (l : List ℕ). eqb (length l) 0) n))
 
--- a refusal at the exit of a `?`, with what was put before it
-pub refused-at : {T : Type 0} {P : Type 0} (r : Result T Refusal) (told refusal : Refusal) (book : Book) (query : Query) → r ≡ Err told → told ≡ refusal
-    → Refuses book query refusal → P → IfErr r (λ refusal. Refuses book query refusal × P)
-refused-at r told refusal book query e f h p = rw (e, f) (h, p)
+-- a refusal at the exit of a `?`, before which nothing was put
+pub refused-at : {T : Type 0} (F : Type 0) (a : Option (List ℕ)) (u : Waiting) (book : Book) (query : Query) (refusal : Refusal) (r : Result T Refusal)
+    → IsErrAnd r (λ told. told ≡ refusal) → Refuses book query refusal → IfErr r (λ told. Refuses book query told × Adds F a a u u [])
+refused-at F a u book query refusal r is h = let p = err_from_is_err_and r is in rw (p.1, p.2) (h, Adds-nothing F a u)
 
 -- the refusals of a place, and of a cell
 pub place-refused : (book : Book) (id place : ℕ) (query : Query) (refusal : Refusal) → query ≡ queries.WhereIs id place

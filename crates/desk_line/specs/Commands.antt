@@ -39,7 +39,8 @@ pub data SaysDirective (fields : List (List ℕ)) (directive : Directive) : Type
   supply : (name : List ℕ) → IsName name
       → fields ≡ codes "supply" ∷ name ∷ [] → directive ≡ Supply name → SaysDirective fields directive
   type_in : (after name : List ℕ) (text : List (List ℕ)) (anchor : Anchor) → IsAnchor after anchor → IsName name
-      → fields ≡ codes "type" ∷ after ∷ name ∷ text → directive ≡ TypeIn anchor name (line_of_fields text) → SaysDirective fields directive
+      → fields ≡ codes "type" ∷ after ∷ name ∷ text → directive ≡ TypeIn anchor name (line_of_fields text)
+      → SaysDirective fields directive
   correct : (others : List (List ℕ)) (span : SpanText) → IsSpanText others span
       → fields ≡ codes "correct" ∷ others → directive ≡ Correct span [] → SaysDirective fields directive
   correct_by : (who : List ℕ) (others : List (List ℕ)) (span : SpanText) → IsName who → IsSpanText others span

@@ -106,17 +106,20 @@ abbrev pub with_one : {A B : Type 0} → (List ℕ → Option A) → (A → B) �
 with_one only make fields = option_map make (option_and_then only (only_one fields))
 
 -- two alone
-unfoldable pub with_two : {A B C : Type 0} → (List ℕ → Option A) → (List ℕ → Option B) → (A → B → C) → List (List ℕ) → Option C
+unfoldable pub with_two : {A B C : Type 0} → (List ℕ → Option A) → (List ℕ → Option B) → (A → B → C)
+    → List (List ℕ) → Option C
 with_two first second make fields = option_and_then (λ two. of_both make (first two.0) (second two.1)) (only_two fields)
 
 -- two before a text, which is the rest of the line
-unfoldable pub with_two_and_text : {A B C : Type 0} → (List ℕ → Option A) → (List ℕ → Option B) → (A → B → List ℕ → C) → List (List ℕ) → Option C
+unfoldable pub with_two_and_text : {A B C : Type 0} → (List ℕ → Option A) → (List ℕ → Option B) → (A → B → List ℕ → C)
+    → List (List ℕ) → Option C
 with_two_and_text first second make fields =
     option_and_then (λ one. option_and_then (λ two.
     of_both (λ x y. make x y (line_of_fields two.1)) (first one.0) (second two.0)) (first_and_others one.1)) (first_and_others fields)
 
 -- one before others that give something together
-unfoldable pub with_one_before : {A B C : Type 0} → (List ℕ → Option A) → (List (List ℕ) → Option B) → (A → B → C) → List (List ℕ) → Option C
+unfoldable pub with_one_before : {A B C : Type 0} → (List ℕ → Option A) → (List (List ℕ) → Option B) → (A → B → C)
+    → List (List ℕ) → Option C
 with_one_before first others make fields = option_and_then (λ one. of_both make (first one.0) (others one.1)) (first_and_others fields)
 
 abbrev pub span_text : (id start count : ℕ) → List (List ℕ) → SpanText

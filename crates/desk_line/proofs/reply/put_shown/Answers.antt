@@ -1,7 +1,6 @@
 use Rattle.std.proofs.Common.{[], ◌∷◌, List, ℕ, ap, refl}
 use Rattle.std.specs.Prelude.{decimal, map}
 use Rattle.std.specs.List.{enumerate_from, flat_map}
-use Rattle.std.proofs.lemmas.Result.{err_from_is_err_and}
 use Rattle.desk_ends.specs.Cells.{text_of}
 use Rattle.desk_model.specs.Book.{Entry, Mark, Paragraph}
 use Rattle.desk_model.specs.ParagraphMarks.{marks_on}
@@ -12,45 +11,33 @@ use Rattle.desk_line.proofs.reply.put_shown.Goals as goal
 
 pub returns-in_err-print-in-Print-clause-refused : goal.returns-in_err-print-in-Print-clause-refused
 returns-in_err-print-in-Print-clause-refused g c =
-    let p = err_from_is_err_and c.from_residual.result c.from_residual.ensures.1 in
-    refused-at c.from_residual.result p.0 c.in_err-print-in-Print.field-0.0 c.args.book.now c.args.query p.1 p.2
+    refused-at g.K.Sink.can_fail (g.K.Sink.contents c.args.sink.now) c.args.waiting.now c.args.book.now c.args.query c.in_err-print-in-Print.field-0.0 c.from_residual.result c.from_residual.ensures.1
     (no-paragraph-asked c.args.book.now c.args.query c.in-Print.paragraph c.in_err-print-in-Print.field-0.0 (ap paragraph_asked c.in-Print.is) c.in_err-print-in-Print.ensures.missing)
-    (Adds-nothing g.K.Sink.can_fail (g.K.Sink.contents c.args.sink.now) c.args.waiting.now)
 
 pub returns-in_err-cells-in-Braille-clause-refused : goal.returns-in_err-cells-in-Braille-clause-refused
 returns-in_err-cells-in-Braille-clause-refused g c =
-    let p = err_from_is_err_and c.from_residual-in_err-cells-in-Braille.result c.from_residual-in_err-cells-in-Braille.ensures.1 in
-    refused-at c.from_residual-in_err-cells-in-Braille.result p.0 c.in_err-cells-in-Braille.field-0.0 c.args.book.now c.args.query p.1 p.2
+    refused-at g.K.Sink.can_fail (g.K.Sink.contents c.args.sink.now) c.args.waiting.now c.args.book.now c.args.query c.in_err-cells-in-Braille.field-0.0 c.from_residual-in_err-cells-in-Braille.result c.from_residual-in_err-cells-in-Braille.ensures.1
     (no-paragraph-asked c.args.book.now c.args.query c.in-Braille.paragraph c.in_err-cells-in-Braille.field-0.0 (ap paragraph_asked c.in-Braille.is) c.in_err-cells-in-Braille.ensures.missing)
-    (Adds-nothing g.K.Sink.can_fail (g.K.Sink.contents c.args.sink.now) c.args.waiting.now)
 
 pub returns-in_err-history-in-History-clause-refused : goal.returns-in_err-history-in-History-clause-refused
 returns-in_err-history-in-History-clause-refused g c =
-    let p = err_from_is_err_and c.from_residual-in_err-history-in-History.result c.from_residual-in_err-history-in-History.ensures.1 in
-    refused-at c.from_residual-in_err-history-in-History.result p.0 c.in_err-history-in-History.field-0.0 c.args.book.now c.args.query p.1 p.2
+    refused-at g.K.Sink.can_fail (g.K.Sink.contents c.args.sink.now) c.args.waiting.now c.args.book.now c.args.query c.in_err-history-in-History.field-0.0 c.from_residual-in_err-history-in-History.result c.from_residual-in_err-history-in-History.ensures.1
     (no-paragraph-asked c.args.book.now c.args.query c.in-History.paragraph c.in_err-history-in-History.field-0.0 (ap paragraph_asked c.in-History.is) c.in_err-history-in-History.ensures.missing)
-    (Adds-nothing g.K.Sink.can_fail (g.K.Sink.contents c.args.sink.now) c.args.waiting.now)
 
 pub returns-in_err-marks-in-Marks-clause-refused : goal.returns-in_err-marks-in-Marks-clause-refused
 returns-in_err-marks-in-Marks-clause-refused g c =
-    let p = err_from_is_err_and c.from_residual-in_err-marks-in-Marks.result c.from_residual-in_err-marks-in-Marks.ensures.1 in
-    refused-at c.from_residual-in_err-marks-in-Marks.result p.0 c.in_err-marks-in-Marks.field-0.0 c.args.book.now c.args.query p.1 p.2
+    refused-at g.K.Sink.can_fail (g.K.Sink.contents c.args.sink.now) c.args.waiting.now c.args.book.now c.args.query c.in_err-marks-in-Marks.field-0.0 c.from_residual-in_err-marks-in-Marks.result c.from_residual-in_err-marks-in-Marks.ensures.1
     (no-paragraph-asked c.args.book.now c.args.query c.in-Marks.paragraph c.in_err-marks-in-Marks.field-0.0 (ap paragraph_asked c.in-Marks.is) c.in_err-marks-in-Marks.ensures.missing)
-    (Adds-nothing g.K.Sink.can_fail (g.K.Sink.contents c.args.sink.now) c.args.waiting.now)
 
 pub returns-in_err-where_is-in-WhereIs-clause-refused : goal.returns-in_err-where_is-in-WhereIs-clause-refused
 returns-in_err-where_is-in-WhereIs-clause-refused g c =
-    let p = err_from_is_err_and c.from_residual-in_err-where_is-in-WhereIs.result c.from_residual-in_err-where_is-in-WhereIs.ensures.1 in
-    refused-at c.from_residual-in_err-where_is-in-WhereIs.result p.0 c.in_err-where_is-in-WhereIs.field-0.0 c.args.book.now c.args.query p.1 p.2
+    refused-at g.K.Sink.can_fail (g.K.Sink.contents c.args.sink.now) c.args.waiting.now c.args.book.now c.args.query c.in_err-where_is-in-WhereIs.field-0.0 c.from_residual-in_err-where_is-in-WhereIs.result c.from_residual-in_err-where_is-in-WhereIs.ensures.1
     (place-refused c.args.book.now c.in-WhereIs.paragraph c.in-WhereIs.place c.args.query c.in_err-where_is-in-WhereIs.field-0.0 c.in-WhereIs.is c.in_err-where_is-in-WhereIs.ensures.refused)
-    (Adds-nothing g.K.Sink.can_fail (g.K.Sink.contents c.args.sink.now) c.args.waiting.now)
 
 pub returns-in_err-whence-in-Whence-clause-refused : goal.returns-in_err-whence-in-Whence-clause-refused
 returns-in_err-whence-in-Whence-clause-refused g c =
-    let p = err_from_is_err_and c.from_residual-in_err-whence-in-Whence.result c.from_residual-in_err-whence-in-Whence.ensures.1 in
-    refused-at c.from_residual-in_err-whence-in-Whence.result p.0 c.in_err-whence-in-Whence.field-0.0 c.args.book.now c.args.query p.1 p.2
+    refused-at g.K.Sink.can_fail (g.K.Sink.contents c.args.sink.now) c.args.waiting.now c.args.book.now c.args.query c.in_err-whence-in-Whence.field-0.0 c.from_residual-in_err-whence-in-Whence.result c.from_residual-in_err-whence-in-Whence.ensures.1
     (cell-refused c.args.book.now c.in-Whence.paragraph c.in-Whence.cell c.args.query c.in_err-whence-in-Whence.field-0.0 c.in-Whence.is c.in_err-whence-in-Whence.ensures.refused)
-    (Adds-nothing g.K.Sink.can_fail (g.K.Sink.contents c.args.sink.now) c.args.waiting.now)
 
 pub returns-in_ok-print-in-Print-clause-shown : goal.returns-in_ok-print-in-Print-clause-shown
 returns-in_ok-print-in-Print-clause-shown g c =
