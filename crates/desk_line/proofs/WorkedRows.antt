@@ -19,7 +19,7 @@ use Rattle.desk_line.specs.declared.request.Query.TheVariants as queries
 use Rattle.desk_line.specs.declared.request.Request.{Request}
 use Rattle.desk_line.specs.declared.request.Request.TheVariants as requests
 use Rattle.desk_line.specs.Fields.{IsNumber, end, fields_of}
-use Rattle.desk_line.specs.Commands.{SaysDirective, correct, correct_by, strike, supply, table, type_in}
+use Rattle.desk_line.specs.Commands.{HasText, SaysDirective, correct, correct_by, form, form_fields, strike, supply, table, type_in}
 use Rattle.desk_line.specs.Head.{Says, asks, does, expected, nothing, version}
 use Rattle.desk_line.specs.Lines.{CanBeHead}
 use Rattle.desk_line.specs.Reading.{head_in, head_of, query_in, directive_in, number_in, count_in, anchor_in, with_two, with_two_and_text}
@@ -119,6 +119,27 @@ corrected-by-ann =
 -- a text keeps its blanks
 typed-blanks : SaysDirective (fields_of (codes "type end en  a b")) (directives.TypeIn End (codes "en") (codes " a b"))
 typed-blanks = type_in (codes "end") (codes "en") ([] ∷ codes "a" ∷ codes "b" ∷ []) End (end refl refl) (λ n. cc) refl refl
+
+-- how commands are written: corrections by nobody and by Ann, and a table of two lines
+written-correction : form_fields (form (commands.Correct 1 0 9 (codes "dog") [])) ≡ codes "correct" ∷ codes "1" ∷ codes "0" ∷ codes "9" ∷ codes "dog" ∷ []
+unfolding digits encode_utf8
+written-correction = refl
+
+written-by-ann : form_fields (form (commands.Correct 1 0 9 (codes "dog") (codes "Ann")))
+    ≡ codes "correct-by" ∷ codes "Ann" ∷ codes "1" ∷ codes "0" ∷ codes "9" ∷ codes "dog" ∷ []
+unfolding digits encode_utf8
+written-by-ann = refl
+
+written-table : form_fields (form (commands.Table (codes "x") (codes "a\nb"))) ≡ codes "table" ∷ codes "x" ∷ codes "2" ∷ []
+unfolding digits encode_utf8
+written-table = refl
+
+-- a note is copied, also an empty one; a command of a number alone copies nothing
+copied-note : HasText (commands.Mark 1 0 9 [])
+copied-note = refl
+
+nothing-copied : ¬ HasText (commands.Strike 1)
+nothing-copied h = cc
 
 -- what says nothing
 silent : (line : List ℕ) → CanBeHead line → head_in (fields_of line) ≡ None → (head : Head) → ¬ Says line head
