@@ -1,14 +1,14 @@
 -- What another table of a paragraph puts makes rows that show the book show the next.
-use Rattle.std.proofs.Common.{◌≡◌, ℕ, ℤ, pos, false, List, [], ◌∷◌, map, Option, Some, None, Contains, encode_utf8_all, refl, sym, ap, subst, ◌∙◌, arith, inl, inr}
+use Rattle.std.proofs.Common.{◌≡◌, ℕ, ℤ, pos, false, List, [], ◌∷◌, map, Option, Some, None, Contains, encode_utf8_all, refl, sym, ap, subst, ◌∙◌, arith}
 use Rattle.std.specs.List.{filter}
 use Rattle.std.specs.List.Sorted.{IsPermutation}
 use Rattle.std.specs.Option.{ForSome}
 use Rattle.std.specs.Ordering.{int_eq}
 use Rattle.std.specs.Prelude.{nat_eq, not, option_map}
-use Rattle.std.proofs.lemmas.Bool.{cases_Bool, cond-true, cond-false, eq-eqb}
+use Rattle.std.proofs.lemmas.Bool.{cond-true, cond-false, eq-eqb}
 use Rattle.std.proofs.lemmas.List.Elements.{All-contains_itself, All-weaker, filter_agree}
 use Rattle.std.proofs.lemmas.List.Sorted.{IsPermutation-map, IsPermutation-sym}
-use Rattle.desk_model.specs.Book.{Book, Paragraph, paragraph_of}
+use Rattle.desk_model.specs.Book.{Book, Mark, Paragraph, paragraph_of}
 use Rattle.desk_model.specs.Loans.{LeadTo, row_number}
 use Rattle.desk_book.specs.ChangePuts.{cache_put}
 use Rattle.desk_book.specs.Changes.{AreCellsByTable}
@@ -18,11 +18,12 @@ use Rattle.desk_parts.specs.Rows.{ParaCells, Para}
 use Rattle.desk_model.specs.Shows.{AreCached, IsCached, paras_of}
 use Rattle.desk_model.specs.Sound.{IsSound}
 use Rattle.desk_command.specs.Characters.{AreCharacters}
+use Rattle.desk_model.specs.Translation.{IsBraille}
 use Rattle.desk_model.specs.Step.{next_with_paragraphs, with_change, without_paragraph}
 use Rattle.desk_model.proofs.Rows.BookRows.{encoded-text, name-characters, spelled-encoded}
 use Rattle.desk_model.proofs.Lists.Members.{Contains-map}
 use Rattle.desk_model.proofs.Books.ParagraphLists.{Contains-found, IsPermutation-without_paragraph, changed, id-found, ids-with_change}
-use Rattle.desk_book.proofs.RowPuts.PutChanges.{Sets, entries-changed, para_set, rows-changed, small_id}
+use Rattle.desk_book.proofs.RowPuts.PutChanges.{Sets, cond-over, entries-changed, para_set, rows-changed, small_id}
 use Rattle.desk_model.proofs.Rows.PutRows.{AreCached-put, All-set_where, IsBraille-same, IsPermutation-set, id_number, number-small, numbers-same, versioned}
 use Rattle.desk_model.proofs.Lists.RowNumbers.{filter-map, int_eq-pos}
 use Rattle.desk_model.proofs.Books.SoundBooks.{IsSoundTable-found, paragraph_of-within, paragraphs-apart}
@@ -52,6 +53,42 @@ module _ (book : Book) (id : ℕ) (p : Paragraph) (sound : IsSound book) (there 
       let few = sound.few_paragraphs in
       number-small id (omega arith)
 
+-- ---- the braille of one paragraph, which changes
+
+module _ (book : Book) (version : ℕ) (marks : List Mark) (id : ℕ) (to : Paragraph → Paragraph) (p : Paragraph) (sound : IsSound book) (there : paragraph_of book id ≡ Some p)
+    (own : (q : Paragraph) → (to q).id ≡ q.id) (cells : List ℕ) where
+  abbrev next : Book
+  next = record book { version = version; paragraphs = with_change id to book.paragraphs; marks = marks }
+
+  stands : (q r : Paragraph) → Contains book.paragraphs q → changed id to q ≡ r → Contains next.paragraphs r
+  stands q r c is = subst (Contains next.paragraphs) is (Contains-map (changed id to) book.paragraphs q c)
+
+  cached-others : (row : ParaCells) → int_eq row.para (pos id) ≡ false → IsCached book row → IsCached next row
+  cached-others row other is =
+      let q : Paragraph = is.paragraph in
+      let apart : nat_eq q.id id ≡ false = sym (int_eq-pos q.id id) ∙ (ap (λ n. int_eq n (pos id)) (sym is.named) ∙ other) in
+      record {
+        paragraph = q;
+        there = stands q q is.there (cond-false (nat_eq q.id id) (to q) q apart);
+        named = is.named;
+        cells = IsBraille-same book next q q refl refl row.cells is.cells;
+      }
+
+  pub cached-put : IsBraille next (to p) cells → (rows : List ParaCells) → AreCached book rows
+      → AreCached next (put_by_key (λ c. int_eq c.para (pos id)) (record { para = pos id; cells = cells }) rows)
+  cached-put braille rows is =
+      let named = id-found id book.paragraphs p there in
+      let same : map id_number book.paragraphs ≡ map id_number next.paragraphs = numbers-same book.paragraphs next.paragraphs (sym (ids-with_change id to own book.paragraphs)) in
+      AreCached-put book next rows (record { para = pos id; cells = cells })
+      (subst (IsPermutation (pos id ∷ filter (λ n. not (int_eq n (pos id))) (map id_number book.paragraphs))) same (ids-once book id p sound there))
+      (record {
+        paragraph = to p;
+        there = stands p (to p) (Contains-found id book.paragraphs p there) (cond-true (nat_eq p.id id) (to p) p (eq-eqb p.id id named));
+        named = ap pos (sym named ∙ sym (own p));
+        cells = braille;
+      })
+      cached-others is
+
 -- ---- another table
 
 module _ (book : Book) (id : ℕ) (name cells : List ℕ) (sound : IsSound book) (given : AreCellsByTable book id name cells) where
@@ -70,43 +107,13 @@ module _ (book : Book) (id : ℕ) (name cells : List ℕ) (sound : IsSound book)
   characters : AreCharacters name
   characters = name-characters name (IsSoundTable-found book sound name given.source given.found).named
 
-  own_id : given.paragraph.id ≡ id
-  own_id = id-found id book.paragraphs given.paragraph given.there
-
-  cached-here : IsCached with_table (record { para = pos id; cells = cells })
-  cached-here =
-      let p : Paragraph = given.paragraph in
-      let is : changed id retabled p ≡ retabled p = cond-true (nat_eq p.id id) (retabled p) p (eq-eqb p.id id own_id) in
-      record {
-        paragraph = retabled p;
-        there = subst (Contains with_table.paragraphs) is (Contains-map (changed id retabled) book.paragraphs p (Contains-found id book.paragraphs p given.there));
-        named = ap pos (sym own_id);
-        cells = (
-          given.meaning,
-          given.cells_are.0,
-          record { text = given.source; found = given.found; means = given.means; tiles = given.cells_are.1 },
-          given.cells_are.2,
-        );
-      }
-
-  cached-others : (row : ParaCells) → int_eq row.para (pos id) ≡ false → IsCached book row → IsCached with_table row
-  cached-others row other is =
-      let p : Paragraph = is.paragraph in
-      let apart : nat_eq p.id id ≡ false = sym (int_eq-pos p.id id) ∙ (ap (λ n. int_eq n (pos id)) (sym is.named) ∙ other) in
-      let stays : changed id retabled p ≡ p = cond-false (nat_eq p.id id) (retabled p) p apart in
-      record {
-        paragraph = p;
-        there = subst (Contains with_table.paragraphs) stays (Contains-map (changed id retabled) book.paragraphs p is.there);
-        named = is.named;
-        cells = IsBraille-same book with_table p p refl refl row.cells is.cells;
-      }
-
   cached-all : (rows : List ParaCells) → AreCached book rows → AreCached with_table (put_by_key (λ c. int_eq c.para (pos id)) (record { para = pos id; cells = cells }) rows)
-  cached-all rows is =
-      let same : map id_number book.paragraphs ≡ map id_number with_table.paragraphs = numbers-same book.paragraphs with_table.paragraphs (sym (ids-with_change id retabled (λ p. refl) book.paragraphs)) in
-      AreCached-put book with_table rows (record { para = pos id; cells = cells })
-      (subst (IsPermutation (pos id ∷ filter (λ n. not (int_eq n (pos id))) (map id_number book.paragraphs))) same (ids-once book id given.paragraph sound given.there))
-      cached-here cached-others is
+  cached-all = cached-put book with_table.version book.marks id retabled given.paragraph sound given.there (λ p. refl) cells (
+    given.meaning,
+    given.cells_are.0,
+    record { text = given.source; found = given.found; means = given.means; tiles = given.cells_are.1 },
+    given.cells_are.2,
+  )
 
   leads : IsSound with_table
       → LeadTo book (SetVersion (row_number with_table.version) ∷ SetTable (row_number id) (encode_utf8_all name) ∷ PutCache (record { para = pos id; cells = cells }) ∷ []) with_table
@@ -130,13 +137,8 @@ module _ (book : Book) (id : ℕ) (name cells : List ℕ) (sound : IsSound book)
     where
       spelled-set : (p : Para) → spelled_para (para_set id retabled_bytes p) ≡ para_set id retabled_row (spelled_para p)
       spelled-set p =
-          let b = int_eq p.id (row_number id) in
-          elim (cases_Bool b) [
-            | inl e ↦
-                ap spelled_para (cond-true b (retabled_bytes p) p e)
-                ∙ ((λ i. record (spelled_para p) { tab = spelled-encoded name characters i }) ∙ sym (cond-true b (retabled_row (spelled_para p)) (spelled_para p) e))
-            | inr e ↦ ap spelled_para (cond-false b (retabled_bytes p) p e) ∙ sym (cond-false b (retabled_row (spelled_para p)) (spelled_para p) e)
-          ]
+          cond-over spelled_para (int_eq p.id (row_number id)) (retabled_bytes p) p (retabled_row (spelled_para p))
+          (λ e i. record (spelled_para p) { tab = spelled-encoded name characters i })
 
   pub retabled-lead : IsSound with_table
       → LeadTo book (SetVersion (row_number with_table.version) ∷ SetTable (row_number id) (encode_utf8_all name) ∷ cache_put id cells ∷ []) with_table

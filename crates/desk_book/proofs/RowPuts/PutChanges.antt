@@ -1,5 +1,5 @@
 -- What a change of a paragraph or of a mark puts makes rows that show the book show the next.
-use Rattle.std.proofs.Common.{◌≡◌, ℕ, ◌+◌, ◌<◌, ◌≤◌, pos, Bool, true, cond, List, [], ◌∷◌, ◌++◌, length, map, Contains, min, refl, sym, ap, subst, ◌∙◌, arith, inl, inr}
+use Rattle.std.proofs.Common.{◌≡◌, ℕ, ◌+◌, ◌<◌, ◌≤◌, pos, Bool, true, false, cond, List, [], ◌∷◌, ◌++◌, length, map, Contains, min, refl, sym, ap, subst, ◌∙◌, arith}
 use Rattle.std.specs.Bool.{one_answer}
 use Rattle.std.specs.Cmp.Lexicographic.{pointwise}
 use Rattle.std.specs.List.{All, enumerate_from, flat_map}
@@ -7,7 +7,7 @@ use Rattle.std.specs.List.Sorted.{IsPermutation}
 use Rattle.std.specs.Map.{lookup}
 use Rattle.std.specs.Ordering.{int_eq}
 use Rattle.std.specs.Prelude.{nat_eq}
-use Rattle.std.proofs.lemmas.Bool.{cases_Bool, cond-true, cond-false, cond_both, eqb-true, eq-eqb}
+use Rattle.std.proofs.lemmas.Bool.{cond_both, eqb-true, eq-eqb}
 use Rattle.std.proofs.lemmas.List.Elements.{All-contains_itself, All-head, All-tail, All-weaker}
 use Rattle.std.proofs.lemmas.List.FromFn.{length-range_with_len, get_or-range_with_len}
 use Rattle.std.proofs.lemmas.List.Sorted.{IsPermutation-refl}
@@ -38,6 +38,11 @@ same_key a id small =
     ∙ one_answer (nat_eq a (min id 9223372036854775807)) (nat_eq a id)
     (λ e. let is = eqb-true a (min id 9223372036854775807) e in omega arith, λ e. eq-eqb a (min id 9223372036854775807) (omega arith))
     (λ e. eqb-true a id e, λ e. eq-eqb a id e)
+
+-- what is made of the value that a test chooses
+pub cond-over : {X Y : Type 0} (f : X → Y) (b : Bool) (x y : X) (z : Y) → (b ≡ true → f x ≡ z) → f (cond b x y) ≡ cond b z (f y)
+cond-over f true x y z same = same refl
+cond-over f false x y z same = refl
 
 -- the row's columns set where it has the number as its key
 abbrev pub para_set : ℕ → (Para → Para) → Para → Para
@@ -82,14 +87,8 @@ module _ (id : ℕ) (to : Paragraph → Paragraph) (set : Para → Para) where
   set-row place p sets =
       let small = sets.0 in
       let key : int_eq (pos p.id) (row_number id) ≡ nat_eq p.id id = same_key p.id id (omega arith) in
-      elim (cases_Bool (nat_eq p.id id)) [
-        | inl e ↦
-            cond-true (int_eq (pos p.id) (row_number id)) (set (para_of (place, p))) (para_of (place, p)) (key ∙ e)
-            ∙ (sets.1 (eqb-true p.id id e) place ∙ ap (λ (q : Paragraph). para_of (place, q)) (sym (cond-true (nat_eq p.id id) (to p) p e)))
-        | inr e ↦
-            cond-false (int_eq (pos p.id) (row_number id)) (set (para_of (place, p))) (para_of (place, p)) (key ∙ e)
-            ∙ ap (λ (q : Paragraph). para_of (place, q)) (sym (cond-false (nat_eq p.id id) (to p) p e))
-      ]
+      ap (λ b. cond b (set (para_of (place, p))) (para_of (place, p))) key
+      ∙ sym (cond-over (λ (q : Paragraph). para_of (place, q)) (nat_eq p.id id) (to p) p (set (para_of (place, p))) (λ e. sym (sets.1 (eqb-true p.id id e) place)))
 
   pub rows-changed : (place : ℕ) (ps : List Paragraph) → All Sets ps
       → map (para_set id set) (map para_of (enumerate_from place ps)) ≡ map para_of (enumerate_from place (with_change id to ps))
@@ -150,12 +149,7 @@ module _ (book : Book) (id : ℕ) (style : Style) (begins struck : Bool) (sound 
   }
     where
       spelled-set : (p : Para) → spelled_para (para_set id flagged_row p) ≡ para_set id flagged_row (spelled_para p)
-      spelled-set p =
-          let b = int_eq p.id (row_number id) in
-          elim (cases_Bool b) [
-            | inl e ↦ ap spelled_para (cond-true b (flagged_row p) p e) ∙ sym (cond-true b (flagged_row (spelled_para p)) (spelled_para p) e)
-            | inr e ↦ ap spelled_para (cond-false b (flagged_row p) p e) ∙ sym (cond-false b (flagged_row (spelled_para p)) (spelled_para p) e)
-          ]
+      spelled-set p = cond-over spelled_para (int_eq p.id (row_number id)) (flagged_row p) p (flagged_row (spelled_para p)) (λ e. refl)
 
 -- ---- a mark resolved
 
@@ -172,14 +166,8 @@ module _ (book : Book) (id : ℕ) (sound : IsSound book) where
   set-mark : (m : Mark) → IsSmall m → mark_set id resolved_row (mark_row_of m) ≡ mark_row_of (resolved_by id m)
   set-mark m small =
       let key : int_eq (pos m.id) (row_number id) ≡ nat_eq m.id id = same_key m.id id (omega arith) in
-      elim (cases_Bool (nat_eq m.id id)) [
-        | inl e ↦
-            cond-true (int_eq (pos m.id) (row_number id)) (resolved_row (mark_row_of m)) (mark_row_of m) (key ∙ e)
-            ∙ ap mark_row_of (sym (cond-true (nat_eq m.id id) (record m { resolved = true }) m e))
-        | inr e ↦
-            cond-false (int_eq (pos m.id) (row_number id)) (resolved_row (mark_row_of m)) (mark_row_of m) (key ∙ e)
-            ∙ ap mark_row_of (sym (cond-false (nat_eq m.id id) (record m { resolved = true }) m e))
-      ]
+      ap (λ b. cond b (resolved_row (mark_row_of m)) (mark_row_of m)) key
+      ∙ sym (cond-over mark_row_of (nat_eq m.id id) (record m { resolved = true }) m (resolved_row (mark_row_of m)) (λ e. refl))
 
   rows-resolved : (ms : List Mark) → All IsSmall ms → map (mark_set id resolved_row) (map mark_row_of ms) ≡ map mark_row_of (with_resolved id ms)
   rows-resolved [] all = refl
@@ -207,9 +195,4 @@ module _ (book : Book) (id : ℕ) (sound : IsSound book) where
   }
     where
       spelled-set : (m : MarkRow) → spelled_mark (mark_set id resolved_row m) ≡ mark_set id resolved_row (spelled_mark m)
-      spelled-set m =
-          let b = int_eq m.id (row_number id) in
-          elim (cases_Bool b) [
-            | inl e ↦ ap spelled_mark (cond-true b (resolved_row m) m e) ∙ sym (cond-true b (resolved_row (spelled_mark m)) (spelled_mark m) e)
-            | inr e ↦ ap spelled_mark (cond-false b (resolved_row m) m e) ∙ sym (cond-false b (resolved_row (spelled_mark m)) (spelled_mark m) e)
-          ]
+      spelled-set m = cond-over spelled_mark (int_eq m.id (row_number id)) (resolved_row m) m (resolved_row (spelled_mark m)) (λ e. refl)

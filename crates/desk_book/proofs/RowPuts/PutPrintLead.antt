@@ -1,10 +1,10 @@
 -- What another print of a paragraph puts makes rows that show the book show the next.
 use Rattle.std.proofs.Common.{◌≡◌, ◌⊎◌, ℕ, ◌+◌, ◌≤◌, ℤ, pos, true, false, List, [], ◌∷◌, length, map, get_or, Some, Contains, encode_utf8_all, refl, sym, ap, subst, ◌∙◌, arith, inl, inr}
 use Rattle.std.specs.Char.{IsScalar}
-use Rattle.std.specs.List.{All, filter, flat_map}
+use Rattle.std.specs.List.{All, flat_map}
 use Rattle.std.specs.List.Sorted.{IsPermutation}
 use Rattle.std.specs.Ordering.{int_eq}
-use Rattle.std.specs.Prelude.{nat_eq, not}
+use Rattle.std.specs.Prelude.{nat_eq}
 use Rattle.std.proofs.Math.Seq.{take-length, take-append_seam}
 use Rattle.std.proofs.lemmas.Bool.{cases_Bool, cond-true, cond-false, eqb-true, eq-eqb}
 use Rattle.std.proofs.lemmas.List.{get_or-map, get_or_default}
@@ -27,21 +27,20 @@ use Rattle.desk_model.specs.ParagraphMarks.{marks_on}
 use Rattle.desk_model.specs.Print.{corrected_print, print_of, with_entry}
 use Rattle.desk_parts.specs.Puts.{PutCache, PutEntry, RowPut, SetPrint, SetVersion, put_by_key, with_entry_row, with_put, with_puts}
 use Rattle.desk_parts.specs.Rows.{Mark as MarkRow, NamedCorr, Para, ParaCells}
-use Rattle.desk_model.specs.Shows.{AreCached, IsCached, Shows, book_row_of, entry_row_of, entry_rows_of, flag_number, mark_row_of, para_of, paras_of}
+use Rattle.desk_model.specs.Shows.{AreCached, Shows, book_row_of, entry_row_of, entry_rows_of, flag_number, mark_row_of, para_of, paras_of}
 use Rattle.desk_model.specs.Sound.{IsSound, IsSoundEntry, IsSoundMark, IsSoundParagraph}
 use Rattle.desk_model.specs.Step.{moved_on, next_with_entry}
 use Rattle.desk_command.specs.Characters.{AreCharacters}
 use Rattle.desk_model.proofs.Rows.BookRows.{HasCharacters, encoded-text, entry-text, history-characters, spelled-encoded}
 use Rattle.desk_book.proofs.Kept.MarkSettled.{IsWithin-sound}
 use Rattle.desk_model.proofs.Lists.Members.{Contains-behind, Contains-cases, Contains-here, Contains-map, Contains-none}
-use Rattle.desk_model.proofs.Books.ParagraphLists.{Contains-found, changed, found-changed, id-found, ids-with_change}
+use Rattle.desk_model.proofs.Books.ParagraphLists.{found-changed, id-found}
 use Rattle.desk_model.proofs.Books.PrintCharacters.{HasText, print-all}
-use Rattle.desk_book.proofs.RowPuts.PutCells.{ForSome-map, id-small, ids-once}
-use Rattle.desk_book.proofs.RowPuts.PutChanges.{Sets, para_set, rows-changed, same_key, small_id, small_mark}
+use Rattle.desk_book.proofs.RowPuts.PutCells.{ForSome-map, cached-put, id-small}
+use Rattle.desk_book.proofs.RowPuts.PutChanges.{Sets, cond-over, para_set, rows-changed, same_key, small_id, small_mark}
 use Rattle.desk_book.proofs.RowPuts.PutPlaces.{map-agree}
 use Rattle.desk_book.proofs.RowPuts.PutPrints.{Columns, columns_of, entries-more, entry-spelled, entry-texts, set_span, spanned, spanned-at, spanned-spelled, spanned-texts, spans-put}
-use Rattle.desk_model.proofs.Rows.PutRows.{AreCached-put, All-set_where, IsBraille-same, IsPermutation-set, id_number, number-small, numbers-same, versioned}
-use Rattle.desk_model.proofs.Lists.RowNumbers.{int_eq-pos}
+use Rattle.desk_model.proofs.Rows.PutRows.{All-set_where, IsPermutation-set, number-small, versioned}
 use Rattle.desk_model.proofs.Lists.Items.{here-at}
 use Rattle.desk_model.proofs.Books.SoundBooks.{IsSoundParagraph-found, paragraph_of-own, paragraph_of-within, paragraphs-apart}
 
@@ -182,39 +181,13 @@ module _ (book : Book) (id : ℕ) (change : PrintChange) (sound : IsSound book) 
 
     -- ---- the braille
 
-    cached-here : IsCached next (record { para = pos id; cells = change.cells })
-    cached-here =
-        let is : changed id more p ≡ more p = cond-true (nat_eq p.id id) (more p) p (eq-eqb p.id id own) in
-        record {
-          paragraph = more p;
-          there = subst (Contains next.paragraphs) is (Contains-map (changed id more) book.paragraphs p (Contains-found id book.paragraphs p given.there));
-          named = ap pos (sym own);
-          cells = (
-            given.meaning,
-            given.cells.0,
-            record { text = given.source; found = given.found; means = given.means; tiles = subst (λ (t : List ℕ). Tiles given.meaning t given.cells.0) given.print given.cells.1 },
-            given.cells.2 ∙ ap (λ (t : List ℕ). braille given.meaning t given.cells.0) given.print,
-          );
-        }
-
-    cached-others : (row : ParaCells) → int_eq row.para (pos id) ≡ false → IsCached book row → IsCached next row
-    cached-others row other is =
-        let q : Paragraph = is.paragraph in
-        let apart : nat_eq q.id id ≡ false = sym (int_eq-pos q.id id) ∙ (ap (λ n. int_eq n (pos id)) (sym is.named) ∙ other) in
-        let stays : changed id more q ≡ q = cond-false (nat_eq q.id id) (more q) q apart in
-        record {
-          paragraph = q;
-          there = subst (Contains next.paragraphs) stays (Contains-map (changed id more) book.paragraphs q is.there);
-          named = is.named;
-          cells = IsBraille-same book next q q refl refl row.cells is.cells;
-        }
-
     cached-all : (rows : List ParaCells) → AreCached book rows → AreCached next (put_by_key (λ c. int_eq c.para (pos id)) (record { para = pos id; cells = change.cells }) rows)
-    cached-all rows is =
-        let same : map id_number book.paragraphs ≡ map id_number next.paragraphs = numbers-same book.paragraphs next.paragraphs (sym (ids-with_change id more (λ q. refl) book.paragraphs)) in
-        AreCached-put book next rows (record { para = pos id; cells = change.cells })
-        (subst (IsPermutation (pos id ∷ filter (λ n. not (int_eq n (pos id))) (map id_number book.paragraphs))) same (ids-once book id p sound given.there))
-        cached-here cached-others is
+    cached-all = cached-put book next.version next.marks id more p sound given.there (λ q. refl) change.cells (
+      given.meaning,
+      given.cells.0,
+      record { text = given.source; found = given.found; means = given.means; tiles = subst (λ (t : List ℕ). Tiles given.meaning t given.cells.0) given.print given.cells.1 },
+      given.cells.2 ∙ ap (λ (t : List ℕ). braille given.meaning t given.cells.0) given.print,
+    )
 
     -- ---- the rows
 
@@ -226,13 +199,8 @@ module _ (book : Book) (id : ℕ) (change : PrintChange) (sound : IsSound book) 
 
     spelled-set : (r : Para) → spelled_para (para_set id print_bytes r) ≡ para_set id print_row (spelled_para r)
     spelled-set r =
-        let b = int_eq r.id (row_number id) in
-        elim (cases_Bool b) [
-          | inl e ↦
-              ap spelled_para (cond-true b (print_bytes r) r e)
-              ∙ ((λ i. record (spelled_para r) { print = spelled-encoded change.print characters i }) ∙ sym (cond-true b (print_row (spelled_para r)) (spelled_para r) e))
-          | inr e ↦ ap spelled_para (cond-false b (print_bytes r) r e) ∙ sym (cond-false b (print_row (spelled_para r)) (spelled_para r) e)
-        ]
+        cond-over spelled_para (int_eq r.id (row_number id)) (print_bytes r) r (print_row (spelled_para r))
+        (λ e i. record (spelled_para r) { print = spelled-encoded change.print characters i })
 
     sets : (q : Paragraph) → Contains book.paragraphs q → Sets id more print_row q
     sets q c = (

@@ -14,7 +14,7 @@ use Rattle.desk_model.specs.Book.{Book, Paragraph, paragraph_of}
 use Rattle.desk_model.specs.Loans.{LeadTo, row_number}
 use Rattle.desk_book.specs.ChangePuts.{cells_from, cells_put}
 use Rattle.desk_book.specs.Changes.{AreCellsOf, AreRenewed}
-use Rattle.desk_parts.specs.FileRows.{FileRows, format_of}
+use Rattle.desk_parts.specs.FileRows.{FileRows}
 use Rattle.desk_book.specs.Kept.{new_cells}
 use Rattle.desk_model.specs.Print.{print_of}
 use Rattle.desk_parts.specs.Puts.{PutTab, SetVersion, put_by_key, with_puts}
@@ -25,8 +25,8 @@ use Rattle.desk_model.specs.Step.{next_with_tables}
 use Rattle.desk_model.specs.Translation.{IsBraille}
 use Rattle.desk_model.proofs.Books.ParagraphLists.{Contains-found, id-found}
 use Rattle.desk_book.proofs.RowPuts.PutCells.{ForSome-map, id-small, ids-once}
-use Rattle.desk_model.proofs.Rows.PutRows.{All-put_apart, IsBraille-same, IsPermutation-put_number, id_number, versioned}
-use Rattle.desk_book.proofs.RowPuts.PutTables.{put-characters, tables-put, texts-put}
+use Rattle.desk_model.proofs.Rows.PutRows.{All-put_apart, IsBraille-same, IsPermutation-put_number, id_number}
+use Rattle.desk_book.proofs.RowPuts.PutTables.{shown-tabled}
 use Rattle.desk_model.proofs.Lists.RowNumbers.{int_eq-pos}
 use Rattle.desk_model.proofs.Books.SoundBooks.{paragraph_of-own, paragraph_of-some, paragraph_of-within}
 use Rattle.desk_model.proofs.Lists.TableEntries.{text-put_other, text-put_same, with_text}
@@ -200,23 +200,7 @@ module _ (book : Book) (name text : List ℕ) (meaning : Meaning) (sound : IsSou
     pub replaced-lead : length cells ≤ length book.paragraphs → IsSound retexted
         → LeadTo book (SetVersion (row_number retexted.version) ∷ PutTab (record { name = encode_utf8_all name; body = text }) ∷ cells_from 0 cells) retexted
     replaced-lead few after rows shows has =
-        let characters = put-characters book name text after in
         let put : FileRows = with_puts (SetVersion (row_number retexted.version) ∷ PutTab (record { name = encode_utf8_all name; body = text }) ∷ []) rows in
         let made = along 1 (1 + length cells) cells put rows.caches (omega arith) refl (omega (arith, few)) renews-all (λ caches e. below-first caches (shows.caches caches e)) in
-        let now : Option (List ParaCells) = made.0 in
-        let shown : Shows (record put { caches = now }) retexted = record {
-          sound = after;
-          texts = record {
-            tabs = texts-put name text characters rows.tabs shows.texts.tabs;
-            paras = shows.texts.paras;
-            entries = shows.texts.entries;
-            marks = shows.texts.marks;
-          };
-          row = versioned (format_of rows.entries) book.version retexted.version rows.books after.version shows.row;
-          tables = tables-put name text characters rows.tabs book.tables sound.names shows.texts.tabs shows.tables;
-          paragraphs = shows.paragraphs;
-          entries = shows.entries;
-          marks = shows.marks;
-          caches = λ caches e. below-last caches (made.1 caches e);
-        } in
-        subst (λ (r : FileRows). Shows r retexted) (sym made.2) shown
+        subst (λ (r : FileRows). Shows r retexted) (sym made.2)
+        (shown-tabled book name text sound after rows shows made.0 (λ caches e. below-last caches (made.1 caches e)))

@@ -1,11 +1,12 @@
 -- What a braille table puts into the rows of tables, and that a new table's makes rows that show the book show the next.
-use Rattle.std.proofs.Common.{◌≡◌, ℕ, Bool, false, List, [], ◌∷◌, map, Some, None, bytes_eq, encode_utf8_all, refl, sym, ap, subst, ◌∙◌}
+use Rattle.std.proofs.Common.{◌≡◌, ℕ, Bool, false, List, [], ◌∷◌, map, Option, Some, None, bytes_eq, encode_utf8_all, refl, sym, ap, subst, ◌∙◌}
 use Rattle.std.specs.Bool.{one_answer}
 use Rattle.std.specs.Cmp.Lexicographic.{slice_cmp}
 use Rattle.std.specs.FinMap.Entries.{by_order}
 use Rattle.std.specs.List.{All, AllByRecursion, filter}
 use Rattle.std.specs.List.Sorted.{IsPermutation, IsStrictlySortedBy}
 use Rattle.std.specs.Map.{keys_of}
+use Rattle.std.specs.Option.{ForSome}
 use Rattle.std.specs.Ordering.{nat_cmp}
 use Rattle.std.specs.Prelude.{IsUtf8, not}
 use Rattle.std.specs.Str.{chars}
@@ -16,10 +17,10 @@ use Rattle.std.proofs.lemmas.List.Sorted.{IsPermutation-cons, IsPermutation-map,
 use Rattle.std.proofs.lemmas.Slice.Eq.{bytes_eq-Decides}
 use Rattle.desk_model.specs.Book.{Book, text_of}
 use Rattle.desk_model.specs.Loans.{LeadTo, row_number}
-use Rattle.desk_parts.specs.FileRows.{HasTabText, format_of, spelled_tab}
-use Rattle.desk_parts.specs.Puts.{PutTab, SetVersion, put_by_key}
+use Rattle.desk_parts.specs.FileRows.{FileRows, HasTabText, format_of, spelled_tab}
+use Rattle.desk_parts.specs.Puts.{PutTab, RowPut, SetVersion, put_by_key, with_puts}
 use Rattle.desk_parts.specs.Rows.{ParaCells, Tab}
-use Rattle.desk_model.specs.Shows.{IsCached, tab_of}
+use Rattle.desk_model.specs.Shows.{AreCached, IsCached, Shows, tab_of}
 use Rattle.desk_model.specs.Sound.{IsSound}
 use Rattle.desk_model.specs.Step.{next_with_tables}
 use Rattle.desk_command.specs.Characters.{AreCharacters}
@@ -113,26 +114,19 @@ pub put-characters : (book : Book) (name text : List ℕ) → IsSound (next_with
 put-characters book name text after =
     name-characters name (IsSoundTable-found (next_with_tables book (with_text name text book.tables)) after name text (text-put_same name name text book.tables refl)).named
 
--- ---- a table more
+-- ---- a table's text
 
-module _ (book : Book) (name text : List ℕ) (sound : IsSound book) (new : text_of book name ≡ None) where
+module _ (book : Book) (name text : List ℕ) (sound : IsSound book) where
   abbrev tabled : Book
   tabled = next_with_tables book (with_text name text book.tables)
 
-  cached-on : (row : ParaCells) → IsCached book row → IsCached tabled row
-  cached-on row is =
-      let by = is.cells.2 in
-      record {
-        paragraph = is.paragraph;
-        there = is.there;
-        named = is.named;
-        cells = IsBraille-same book tabled is.paragraph is.paragraph refl
-            (text-put_other is.paragraph.table name text book.tables
-            (λ same. let both : Some by.text ≡ None = sym by.found ∙ (ap (text_of book) same ∙ new) in cc)) row.cells is.cells;
-      }
+  abbrev LeadPuts : List RowPut
+  LeadPuts = SetVersion (row_number tabled.version) ∷ PutTab (record { name = encode_utf8_all name; body = text }) ∷ []
 
-  pub table-lead : IsSound tabled → LeadTo book (SetVersion (row_number tabled.version) ∷ PutTab (record { name = encode_utf8_all name; body = text }) ∷ []) tabled
-  table-lead after rows shows has =
+  -- its row, and rows of the next book's braille, show that book
+  pub shown-tabled : IsSound tabled → (rows : FileRows) → Shows rows book → (caches : Option (List ParaCells)) → ForSome caches (AreCached tabled)
+      → Shows (record (with_puts LeadPuts rows) { caches = caches }) tabled
+  shown-tabled after rows shows caches cached =
       let characters = put-characters book name text after in
       record {
         sound = after;
@@ -147,5 +141,25 @@ module _ (book : Book) (name text : List ℕ) (sound : IsSound book) (new : text
         paragraphs = shows.paragraphs;
         entries = shows.entries;
         marks = shows.marks;
-        caches = λ caches same. AreCached-same book tabled caches (IsPermutation-refl (map id_number book.paragraphs)) cached-on (shows.caches caches same);
+        caches = cached;
       }
+
+  -- ---- a table more
+
+  module _ (new : text_of book name ≡ None) where
+    cached-on : (row : ParaCells) → IsCached book row → IsCached tabled row
+    cached-on row is =
+        let by = is.cells.2 in
+        record {
+          paragraph = is.paragraph;
+          there = is.there;
+          named = is.named;
+          cells = IsBraille-same book tabled is.paragraph is.paragraph refl
+              (text-put_other is.paragraph.table name text book.tables
+              (λ same. let both : Some by.text ≡ None = sym by.found ∙ (ap (text_of book) same ∙ new) in cc)) row.cells is.cells;
+        }
+
+    pub table-lead : IsSound tabled → LeadTo book LeadPuts tabled
+    table-lead after rows shows has =
+        shown-tabled after rows shows rows.caches
+        (λ caches same. AreCached-same book tabled caches (IsPermutation-refl (map id_number book.paragraphs)) cached-on (shows.caches caches same))
