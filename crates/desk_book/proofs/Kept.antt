@@ -13,3 +13,4 @@ pub mod Settled
 pub mod ShownEffects
 pub mod ToldEntries
 pub mod UndonePrints
+pub mod WalkedLists

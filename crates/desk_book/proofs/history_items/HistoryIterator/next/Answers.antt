@@ -3,21 +3,21 @@ use Rattle.std.specs.Option.{option_copied}
 use Rattle.std.specs.Prelude.{slice_get}
 use Rattle.desk_book.specs.Histories.{entry_kept}
 use Rattle.desk_book.specs.ItemsLeft.{entries_from}
-use Rattle.desk_model.proofs.Lists.Items.{option_copied-item}
+use Rattle.desk_book.proofs.Kept.WalkedLists.{lent-past, lent-there}
 use Rattle.desk_book.proofs.Kept.ToldEntries.{entries-past, entries-there}
 use Rattle.desk_book.proofs.history_items.HistoryIterator.next.Goals as goal
 
 pub returns-in_default-clause-steps : goal.returns-in_default-clause-steps
 returns-in_default-clause-steps c =
     let entries = c.self.inside.entries.now in
-    let none : slice_get entries c.self.inside.at ≡ None = sym (option_copied-item entries c.self.inside.at c.get.result c.get.ensures.lookup) ∙ ap option_copied c.in_default.is in
+    let none = lent-past entries c.self.inside.at c.get.result c.get.ensures.lookup c.in_default.is in
     let left : c.args.self.now ≡ [] = sym c.self.view_is ∙ entries-past entries c.self.inside.at none in
     (left, left)
 
 pub overflow_add-self : goal.overflow_add-self
 overflow_add-self c =
     let entries = c.self.inside.entries.now in
-    let there : slice_get entries c.self.inside.at ≡ Some c.in-Some.entry.now = sym (option_copied-item entries c.self.inside.at c.get.result c.get.ensures.lookup) ∙ ap option_copied c.in-Some.is in
+    let there = lent-there entries c.self.inside.at c.get.result c.get.ensures.lookup c.in-Some.entry c.in-Some.is in
     let within = (entries-there entries c.self.inside.at c.in-Some.entry.now there).1 in
     let few : length entries ≤ 10000 = c.self.invariant in
     omega arith
@@ -25,13 +25,13 @@ overflow_add-self c =
 pub returns-clause-steps : goal.returns-clause-steps
 returns-clause-steps c =
     let entries = c.self.inside.entries.now in
-    let there : slice_get entries c.self.inside.at ≡ Some c.in-Some.entry.now = sym (option_copied-item entries c.self.inside.at c.get.result c.get.ensures.lookup) ∙ ap option_copied c.in-Some.is in
+    let there = lent-there entries c.self.inside.at c.get.result c.get.ensures.lookup c.in-Some.entry c.in-Some.is in
     ((c.self.inside.at + 1, entry_kept c.in-Some.entry.now), sym c.self.view_is ∙ (entries-there entries c.self.inside.at c.in-Some.entry.now there).0, refl, c.told_of.ensures)
 
 pub returns-clause-goes : goal.returns-clause-goes
 returns-clause-goes c =
     let entries = c.self.inside.entries.now in
-    let there : slice_get entries c.self.inside.at ≡ Some c.in-Some.entry.now = sym (option_copied-item entries c.self.inside.at c.get.result c.get.ensures.lookup) ∙ ap option_copied c.in-Some.is in
+    let there = lent-there entries c.self.inside.at c.get.result c.get.ensures.lookup c.in-Some.entry c.in-Some.is in
     let left : c.args.self.now ≡ (c.self.inside.at + 1, entry_kept c.in-Some.entry.now) ∷ entries_from (c.self.inside.at + 1) entries =
     sym c.self.view_is ∙ (entries-there entries c.self.inside.at c.in-Some.entry.now there).0 in
     rw left (search rules)
