@@ -1,7 +1,4 @@
-use Rattle.std.proofs.Common.{◌≡◌, ℕ, ◌+◌, ◌++◌, Some, sym, ap, ◌∙◌}
-use Rattle.std.specs.Prelude.{option_map, slice_get}
-use Rattle.std.specs.Borrow.{Bor}
-use Rattle.desk_book.specs.declared.paragraphs.Paragraph.{Paragraph as KeptParagraph}
+use Rattle.std.proofs.Common.{◌+◌, ◌++◌, sym, ap, ◌∙◌}
 use Rattle.desk_book.specs.Filling.{entry_puts_from, histories_from}
 use Rattle.desk_book.specs.Kept.{KeptParagraphs}
 use Rattle.desk_parts.specs.Puts.{RowPuts}

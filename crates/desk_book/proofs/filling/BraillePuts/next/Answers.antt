@@ -1,9 +1,5 @@
-use Rattle.std.proofs.Common.{◌≡◌, ℕ, ◌+◌, [], ◌∷◌, map, Some, None, sym, ap, ◌∙◌, arith}
-use Rattle.std.specs.Prelude.{option_map, slice_get}
-use Rattle.std.specs.Borrow.{Bor}
-use Rattle.desk_book.specs.declared.paragraphs.Paragraph.{Paragraph as KeptParagraph}
+use Rattle.std.proofs.Common.{◌≡◌, ◌+◌, [], ◌∷◌, map, sym, ap, ◌∙◌, arith}
 use Rattle.desk_book.specs.Filling.{braille_from, braille_put}
-use Rattle.desk_book.specs.Kept.{KeptParagraphs}
 use Rattle.desk_parts.specs.Puts.{RowPut}
 use Rattle.desk_book.proofs.Kept.WalkedLists.{walk-past, walk-there}
 use Rattle.desk_book.proofs.filling.BraillePuts.next.Goals as goal

@@ -1,6 +1,4 @@
-use Rattle.std.proofs.Common.{◌≡◌, ◌+◌, [], ◌∷◌, map, Some, None, sym, ap, ◌∙◌}
-use Rattle.std.specs.Option.{option_copied}
-use Rattle.std.specs.Prelude.{slice_get}
+use Rattle.std.proofs.Common.{◌≡◌, ◌+◌, [], ◌∷◌, map, sym, ap, ◌∙◌}
 use Rattle.desk_book.specs.Filling.{entry_put, entry_puts_from}
 use Rattle.desk_parts.specs.Puts.{RowPut}
 use Rattle.desk_book.proofs.Kept.WalkedLists.{lent-past, lent-there}

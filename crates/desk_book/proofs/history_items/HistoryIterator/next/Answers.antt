@@ -1,6 +1,4 @@
-use Rattle.std.proofs.Common.{◌≡◌, ◌+◌, ◌≤◌, [], ◌∷◌, length, Some, None, refl, sym, ap, ◌∙◌, arith, rules}
-use Rattle.std.specs.Option.{option_copied}
-use Rattle.std.specs.Prelude.{slice_get}
+use Rattle.std.proofs.Common.{◌≡◌, ◌+◌, ◌≤◌, [], ◌∷◌, length, refl, sym, ◌∙◌, arith, rules}
 use Rattle.desk_book.specs.Histories.{entry_kept}
 use Rattle.desk_book.specs.ItemsLeft.{entries_from}
 use Rattle.desk_book.proofs.Kept.WalkedLists.{lent-past, lent-there}

@@ -1,7 +1,5 @@
-use Rattle.std.proofs.Common.{◌≡◌, ◌+◌, ◌<◌, [], ◌∷◌, get_or, length, Some, None, refl, sym, ap, ◌∙◌, rules}
+use Rattle.std.proofs.Common.{◌≡◌, ◌+◌, ◌<◌, [], ◌∷◌, get_or, length, refl, sym, ap, ◌∙◌, rules}
 use Rattle.std.specs.List.{flat_map}
-use Rattle.std.specs.Option.{option_copied}
-use Rattle.std.specs.Prelude.{slice_get}
 use Rattle.std.proofs.lemmas.Option.{slice_get-get_or}
 use Rattle.desk_book.specs.Kept.{mark_kept}
 use Rattle.desk_book.specs.ItemsLeft.{mark_at, marks_at}
