@@ -1,5 +1,8 @@
 -- The rows of a book's file, as numbers and lists. A text is its bytes.
 use Rattle.std.specs.Prelude.{ℕ, ℤ, List}
+use Rattle.desk_parts.specs.declared.file_table.FileTable.{FileTable}
+use Rattle.desk_parts.specs.declared.file_table.FileTable.TheVariants as tables
+use Rattle.desk_parts.specs.declared.rows.BookRow.{BookRow}
 
 pub record Tab : Type 0 where
   pub name : List ℕ
@@ -46,3 +49,13 @@ pub record Mark : Type 0 where
 pub record ParaCells : Type 0 where
   pub para : ℤ
   pub cells : List ℕ
+
+-- a row of a table
+abbrev pub RowOf : FileTable → Type 0
+RowOf tables.Book = BookRow
+RowOf tables.Tab = Tab
+RowOf tables.Para = Para
+RowOf tables.Corr = Corr
+RowOf tables.Mark = Mark
+RowOf tables.Cache = ParaCells
+RowOf tables.NamedCorr = NamedCorr

@@ -6,8 +6,8 @@ use Rattle.sqlite.specs.declared.error.Error.{Error}
 use Rattle.sqlite.specs.Held.{Held, state}
 use Rattle.sqlite.specs.State.{State, Survives}
 use Rattle.sql_tables.specs.States.{IsCommitted, IsSettled, IsUndone, ShowsAsBefore}
+use Rattle.desk_parts.specs.declared.file_table.FileTable.{FileTable}
 use Rattle.desk_parts.specs.declared.put.Put.{Put}
-use Rattle.desk_rows.specs.Descriptions.{Which}
 use Rattle.desk_rows.specs.Failing.{FailsToPut, Putting, after_tables, of_first_row, of_items}
 use Rattle.desk_rows.specs.Fault.{CountsLoss, IsToldAs}
 use Rattle.desk_rows.specs.Making.{AreAbsent, IsFileWithTables, IsMade, IsNew, WritesWithTables, creation, making, new_layout, new_tables}
@@ -35,7 +35,7 @@ putting_items g gives it = record {
 }
 
 -- these tables are made before that
-abbrev pub making_tables : {S I : Type 0} → Ghosts S → List Which → (I → Option Put → I → Type 0) → I → Work S
+abbrev pub making_tables : {S I : Type 0} → Ghosts S → List FileTable → (I → Option Put → I → Type 0) → I → Work S
 making_tables g ws gives it = record {
   putting = after_tables g ws (of_items g gives it);
   Shown = λ old new. OfItems gives it (λ xs.

@@ -3,30 +3,33 @@ use Rattle.std.specs.Prelude.{◌≡◌, ℕ, true, List}
 use Rattle.std.specs.List.{AllByRecursion}
 use Rattle.sqlite_trees.specs.Tree.{Trees}
 use Rattle.sqlite_rules.specs.Edit.{IsNoIndex}
+use Rattle.desk_parts.specs.declared.file_table.FileTable.{FileTable}
+use Rattle.desk_parts.specs.Puts.{put_to}
+use Rattle.desk_parts.specs.Rows.{RowOf}
 use Rattle.sql_tables.specs.Rows.{HaveRowids, Lists, columns_at}
-use Rattle.desk_rows.specs.Descriptions.{Which, description_of}
+use Rattle.desk_rows.specs.Descriptions.{description_of}
 use Rattle.desk_rows.specs.Layout.{Layout, IsOther}
-use Rattle.desk_rows.specs.Rows.{RowOf, columns_of, put_to, set_at}
+use Rattle.desk_rows.specs.Rows.{columns_of, set_at}
 
 -- the rows of the tables, each list in any order, and those of the other trees
 pub record Contents : Type 0 where
-  pub rows : (w : Which) → List (RowOf w)
+  pub rows : (w : FileTable) → List (RowOf w)
   pub others : Trees
 
 -- the tables hold just this
 pub record Holds (l : Layout) (c : Contents) (db : Trees) : Type 0 where
-  pub tables : (w : Which) → l.has w ≡ true
+  pub tables : (w : FileTable) → l.has w ≡ true
       → Lists (columns_of w) (columns_at (description_of w).own) (c.rows w) (db (l.tree w))
   -- the rows that may be changed are distinguished, those of `tab` by their hidden rowids too
-  pub ids : (w : Which) → l.has w ≡ true → (description_of w).is_changed ≡ true → HaveRowids (db (l.tree w))
+  pub ids : (w : FileTable) → l.has w ≡ true → (description_of w).is_changed ≡ true → HaveRowids (db (l.tree w))
   pub others : AllByRecursion (λ t. IsOther l t.tree → db t.tree ≡ c.others t.tree) l.schema.tables
   -- and each tree that is no index, among them those that the database keeps as they are, the list of its schema and its user version
   pub aside : (tree : ℕ) → IsOther l tree → IsNoIndex l.schema tree → db tree ≡ c.others tree
 
 -- with other rows in one table
-abbrev pub with_rows : (w : Which) → (List (RowOf w) → List (RowOf w)) → Contents → Contents
+abbrev pub with_rows : (w : FileTable) → (List (RowOf w) → List (RowOf w)) → Contents → Contents
 with_rows w f c = record c { rows = set_at w f c.rows }
 
 -- with this row put
-abbrev pub with_row : (w : Which) → RowOf w → Contents → Contents
+abbrev pub with_row : (w : FileTable) → RowOf w → Contents → Contents
 with_row w x = with_rows w (put_to w x)

@@ -1,5 +1,5 @@
 -- The tables of a book's file, each described once.
-use Rattle.std.specs.Prelude.{ℕ, suc, zero, Bool, true, false, List, [], ◌∷◌, codes, Option, Some, None, ◌==◌}
+use Rattle.std.specs.Prelude.{ℕ, suc, zero, Bool, true, false, List, [], ◌∷◌, ◌++◌, codes, Option, Some, None, ◌==◌}
 use Rattle.std.specs.List.{list_any}
 use Rattle.sqlite_value.specs.declared.keys.Order.{Order}
 use Rattle.sqlite_value.specs.Keys.{plain}
@@ -7,18 +7,10 @@ use Rattle.sqlite_schema.specs.declared.schema.Kind.{Kind}
 use Rattle.sqlite_schema.specs.declared.schema.Kind.TheVariants.{Integer, Text, Blob, Any}
 use Rattle.sqlite_schema.specs.declared.schema.Column.{Column}
 use Rattle.sqlite_schema.specs.declared.schema.Table.{Table}
+use Rattle.desk_parts.specs.declared.file_table.FileTable.{FileTable}
+use Rattle.desk_parts.specs.declared.file_table.FileTable.TheVariants as tables
 use Rattle.sql_tables.specs.Tables.{needed, plain_table}
 use Rattle.desk_rows.specs.declared.texts.TheConstants.{CREATE_BOOK, CREATE_TAB, CREATE_PARA, CREATE_MARK, CREATE_CACHE, CREATE_NAMED_CORR, READ_BOOKS, READ_TABS, READ_PARAS, READ_CORRS, READ_MARKS, READ_CACHES, READ_NAMED_CORRS, PUT_BOOK, PUT_TAB, PUT_PARA, PUT_MARK, PUT_CACHE, PUT_NAMED_CORR}
-
--- The tables of a book's file in either format: `corr` only in the first, where nothing writes it, and `corr2` only in the second.
-pub data Which : Type 0 where
-  books : Which
-  tabs : Which
-  paras : Which
-  corrs : Which
-  marks : Which
-  caches : Which
-  named_corrs : Which
 
 -- A table as it is declared, and the texts of its statements.
 pub record Description : Type 0 where
@@ -41,132 +33,116 @@ pub record Description : Type 0 where
   pub read : List ℕ
   pub put : List ℕ
 
-abbrev pub description_of : Which → Description
-description_of books = record {
-  name = codes "book";
-  columns = needed (codes "id") Integer ∷ needed (codes "format") Integer
-      ∷ needed (codes "version") Integer ∷ [];
+-- Tables without their names and texts. One whose key is its first column, which is the rowid: its rows are changed. What is kept of a row
+-- has nothing in place of the key, behind the rowid.
+abbrev pub by_number : List Column → (places : List ℕ) → Description
+by_number columns places = record {
+  name = [];
+  columns = columns;
   key = Some 0;
   primary = 0 ∷ [];
   uniques = [];
   orders = [];
   is_changed = true;
   is_written = true;
-  own = 0 ∷ 2 ∷ 3 ∷ [];
-  shown = 0 ∷ 2 ∷ 3 ∷ [];
+  own = places;
+  shown = places;
   sorted = 0 ∷ [];
-  create = CREATE_BOOK.now;
-  read = READ_BOOKS.now;
-  put = PUT_BOOK.now;
-}
-description_of tabs = record {
-  name = codes "tab";
-  columns = needed (codes "name") Text ∷ needed (codes "body") Blob ∷ [];
-  key = None;
-  primary = 1 ∷ [];
-  uniques = (1 ∷ []) ∷ [];
-  orders = plain ∷ [];
-  is_changed = true;
-  is_written = true;
-  own = 1 ∷ 2 ∷ [];
-  shown = 0 ∷ 1 ∷ 2 ∷ [];
-  sorted = 1 ∷ [];
-  create = CREATE_TAB.now;
-  read = READ_TABS.now;
-  put = PUT_TAB.now;
-}
-description_of paras = record {
-  name = codes "para";
-  columns = needed (codes "id") Integer ∷ needed (codes "place") Integer ∷ needed (codes "tab") Text
-      ∷ needed (codes "original") Text ∷ needed (codes "print") Text
-      ∷ needed (codes "style") Integer ∷ needed (codes "volume") Integer
-      ∷ needed (codes "struck") Integer ∷ [];
-  key = Some 0;
-  primary = 0 ∷ [];
-  uniques = [];
-  orders = [];
-  is_changed = true;
-  is_written = true;
-  own = 0 ∷ 2 ∷ 3 ∷ 4 ∷ 5 ∷ 6 ∷ 7 ∷ 8 ∷ [];
-  shown = 0 ∷ 2 ∷ 3 ∷ 4 ∷ 5 ∷ 6 ∷ 7 ∷ 8 ∷ [];
-  sorted = 0 ∷ [];
-  create = CREATE_PARA.now;
-  read = READ_PARAS.now;
-  put = PUT_PARA.now;
-}
-description_of corrs = record {
-  name = codes "corr";
-  columns = needed (codes "para") Integer ∷ needed (codes "seq") Integer ∷ needed (codes "kind") Integer
-      ∷ needed (codes "start") Integer ∷ needed (codes "len") Integer
-      ∷ needed (codes "body") Text ∷ [];
-  key = None;
-  primary = 1 ∷ 2 ∷ [];
-  uniques = (1 ∷ 2 ∷ []) ∷ [];
-  orders = plain ∷ [];
-  is_changed = false;
-  is_written = false;
-  own = 1 ∷ 2 ∷ 3 ∷ 4 ∷ 5 ∷ 6 ∷ [];
-  shown = 1 ∷ 2 ∷ 3 ∷ 4 ∷ 5 ∷ 6 ∷ [];
-  sorted = 0 ∷ 1 ∷ [];
   create = [];
-  read = READ_CORRS.now;
+  read = [];
   put = [];
 }
-description_of marks = record {
-  name = codes "mark";
-  columns = needed (codes "id") Integer ∷ needed (codes "para") Integer ∷ needed (codes "start") Integer
-      ∷ needed (codes "stop") Integer ∷ needed (codes "note") Text
-      ∷ needed (codes "touched") Integer ∷ needed (codes "resolved") Integer ∷ [];
-  key = Some 0;
-  primary = 0 ∷ [];
-  uniques = [];
-  orders = [];
-  is_changed = true;
-  is_written = true;
-  own = 0 ∷ 2 ∷ 3 ∷ 4 ∷ 5 ∷ 6 ∷ 7 ∷ [];
-  shown = 0 ∷ 2 ∷ 3 ∷ 4 ∷ 5 ∷ 6 ∷ 7 ∷ [];
-  sorted = 0 ∷ [];
-  create = CREATE_MARK.now;
-  read = READ_MARKS.now;
-  put = PUT_MARK.now;
-}
-description_of caches = record {
-  name = codes "cache";
-  columns = needed (codes "para") Integer ∷ needed (codes "cells") Blob ∷ [];
-  key = Some 0;
-  primary = 0 ∷ [];
-  uniques = [];
-  orders = [];
-  is_changed = true;
-  is_written = true;
-  own = 0 ∷ 2 ∷ [];
-  shown = 0 ∷ 2 ∷ [];
-  sorted = 0 ∷ [];
-  create = CREATE_CACHE.now;
-  read = READ_CACHES.now;
-  put = PUT_CACHE.now;
-}
-description_of named_corrs = record {
-  name = codes "corr2";
-  columns = needed (codes "para") Integer ∷ needed (codes "seq") Integer ∷ needed (codes "kind") Integer
-      ∷ needed (codes "start") Integer ∷ needed (codes "len") Integer
-      ∷ needed (codes "body") Text ∷ needed (codes "who") Text ∷ [];
+
+-- One whose rowid is hidden, with the columns at these places as its key, and its row behind the rowid.
+abbrev pub by_columns : List Column → (key places : List ℕ) → Description
+by_columns columns key places = record {
+  name = [];
+  columns = columns;
   key = None;
-  primary = 1 ∷ 2 ∷ [];
-  uniques = (1 ∷ 2 ∷ []) ∷ [];
+  primary = key;
+  uniques = key ∷ [];
   orders = plain ∷ [];
-  is_changed = false;
+  is_changed = true;
   is_written = true;
-  own = 1 ∷ 2 ∷ 3 ∷ 4 ∷ 5 ∷ 6 ∷ 7 ∷ [];
-  shown = 1 ∷ 2 ∷ 3 ∷ 4 ∷ 5 ∷ 6 ∷ 7 ∷ [];
-  sorted = 0 ∷ 1 ∷ [];
-  create = CREATE_NAMED_CORR.now;
-  read = READ_NAMED_CORRS.now;
-  put = PUT_NAMED_CORR.now;
+  own = places;
+  shown = places;
+  sorted = [];
+  create = [];
+  read = [];
+  put = [];
 }
 
+-- entries of histories, which are only added, in the order of their two keys
+abbrev pub by_entry : List Column → (places : List ℕ) → Description
+by_entry columns places =
+    record (by_columns columns (1 ∷ 2 ∷ []) places) { is_changed = false; sorted = 0 ∷ 1 ∷ [] }
+
+abbrev pub entry_columns : List Column
+entry_columns =
+    needed (codes "para") Integer ∷ needed (codes "seq") Integer ∷ needed (codes "kind") Integer
+    ∷ needed (codes "start") Integer ∷ needed (codes "len") Integer ∷ needed (codes "body") Text ∷ []
+
+-- The tables of a book's file in either format: `corr` only in the first, where nothing writes it, and `corr2` only in the second.
+abbrev pub description_of : FileTable → Description
+description_of tables.Book =
+    record (by_number (needed (codes "id") Integer ∷ needed (codes "format") Integer
+    ∷ needed (codes "version") Integer ∷ []) (0 ∷ 2 ∷ 3 ∷ [])) {
+      name = codes "book";
+      create = CREATE_BOOK.now;
+      read = READ_BOOKS.now;
+      put = PUT_BOOK.now;
+    }
+description_of tables.Tab =
+    record (by_columns (needed (codes "name") Text ∷ needed (codes "body") Blob ∷ []) (1 ∷ []) (1 ∷ 2 ∷ [])) {
+      name = codes "tab";
+      shown = 0 ∷ 1 ∷ 2 ∷ [];
+      sorted = 1 ∷ [];
+      create = CREATE_TAB.now;
+      read = READ_TABS.now;
+      put = PUT_TAB.now;
+    }
+description_of tables.Para =
+    record (by_number (needed (codes "id") Integer ∷ needed (codes "place") Integer ∷ needed (codes "tab") Text
+    ∷ needed (codes "original") Text ∷ needed (codes "print") Text
+    ∷ needed (codes "style") Integer ∷ needed (codes "volume") Integer
+    ∷ needed (codes "struck") Integer ∷ []) (0 ∷ 2 ∷ 3 ∷ 4 ∷ 5 ∷ 6 ∷ 7 ∷ 8 ∷ [])) {
+      name = codes "para";
+      create = CREATE_PARA.now;
+      read = READ_PARAS.now;
+      put = PUT_PARA.now;
+    }
+description_of tables.Corr =
+    record (by_entry entry_columns (1 ∷ 2 ∷ 3 ∷ 4 ∷ 5 ∷ 6 ∷ [])) {
+      name = codes "corr";
+      is_written = false;
+      read = READ_CORRS.now;
+    }
+description_of tables.Mark =
+    record (by_number (needed (codes "id") Integer ∷ needed (codes "para") Integer ∷ needed (codes "start") Integer
+    ∷ needed (codes "stop") Integer ∷ needed (codes "note") Text
+    ∷ needed (codes "touched") Integer ∷ needed (codes "resolved") Integer ∷ []) (0 ∷ 2 ∷ 3 ∷ 4 ∷ 5 ∷ 6 ∷ 7 ∷ [])) {
+      name = codes "mark";
+      create = CREATE_MARK.now;
+      read = READ_MARKS.now;
+      put = PUT_MARK.now;
+    }
+description_of tables.Cache =
+    record (by_number (needed (codes "para") Integer ∷ needed (codes "cells") Blob ∷ []) (0 ∷ 2 ∷ [])) {
+      name = codes "cache";
+      create = CREATE_CACHE.now;
+      read = READ_CACHES.now;
+      put = PUT_CACHE.now;
+    }
+description_of tables.NamedCorr =
+    record (by_entry (entry_columns ++ needed (codes "who") Text ∷ []) (1 ∷ 2 ∷ 3 ∷ 4 ∷ 5 ∷ 6 ∷ 7 ∷ [])) {
+      name = codes "corr2";
+      create = CREATE_NAMED_CORR.now;
+      read = READ_NAMED_CORRS.now;
+      put = PUT_NAMED_CORR.now;
+    }
+
 -- the table in this tree
-abbrev pub table_of : Which → ℕ → Table
+abbrev pub table_of : FileTable → ℕ → Table
 table_of w =
     plain_table (description_of w).name (description_of w).columns (description_of w).key (description_of w).primary
     (description_of w).uniques (description_of w).orders
@@ -183,8 +159,8 @@ is_text Text = true
 is_text _ = false
 
 -- whether the query shows the rowid, and whether the table has texts
-abbrev pub shows_rowid : Which → Bool
+abbrev pub shows_rowid : FileTable → Bool
 shows_rowid w = list_any (λ at. at == 0) (description_of w).shown
 
-abbrev pub has_texts : Which → Bool
+abbrev pub has_texts : FileTable → Bool
 has_texts w = list_any (λ c. is_text c.kind) (description_of w).columns

@@ -5,18 +5,19 @@ use Rattle.sqlite_trees.specs.declared.store.Store.{Ghosts}
 use Rattle.sqlite.specs.declared.error.Error.{Error}
 use Rattle.sqlite.specs.Held.{Held, state}
 use Rattle.sqlite.specs.State.{State, Fails, Survives}
-use Rattle.desk_rows.specs.Descriptions.{Which, books}
 use Rattle.desk_rows.specs.Making.{AreMade, MakesTables, creation, first_row}
 use Rattle.desk_rows.specs.Puts.{ArePut, OfItems, OfItemsBefore, PutsRow, StopsAt, row_put}
 use Rattle.desk_rows.specs.Turns.{FailsWith, Ran, Stops}
+use Rattle.desk_parts.specs.declared.file_table.FileTable.{FileTable}
+use Rattle.desk_parts.specs.declared.file_table.FileTable.TheVariants as tables
 use Rattle.desk_parts.specs.declared.put.Put.{Put}
 
 -- Of these tables those so far were made, and this is what the database answered to the statement that makes the next.
-pub record StopsMaking {S : Type 0} (g : Ghosts S) (ws : List Which) (old : Held S) (new : State) (e : Error)
+pub record StopsMaking {S : Type 0} (g : Ghosts S) (ws : List FileTable) (old : Held S) (new : State) (e : Error)
     : Type 0 where
-  pub done : List Which
-  pub next : Which
-  pub later : List Which
+  pub done : List FileTable
+  pub next : FileTable
+  pub later : List FileTable
   pub all : ws ≡ done ++ next ∷ later
   pub stops : Stops g (map creation done) (FailsWith (creation next)) old new e
   pub made : MakesTables done (state g old) (state g stops.before)
@@ -36,13 +37,13 @@ of_items g gives it = record {
 -- the row of a new book
 abbrev pub of_first_row : {S : Type 0} → Ghosts S → Putting S
 of_first_row g = record {
-  stops = λ old new e. FailsWith (row_put books first_row) (state g old) new e;
-  puts = λ old new. PutsRow books first_row (state g old) (state g new)
-      × Ran (row_put books first_row) (state g old) (state g new);
+  stops = λ old new e. FailsWith (row_put tables.Book first_row) (state g old) new e;
+  puts = λ old new. PutsRow tables.Book first_row (state g old) (state g new)
+      × Ran (row_put tables.Book first_row) (state g old) (state g new);
 }
 
 -- These tables are made first: some of them aren't, or what is put then isn't.
-abbrev pub after_tables : {S : Type 0} → Ghosts S → List Which → Putting S → Putting S
+abbrev pub after_tables : {S : Type 0} → Ghosts S → List FileTable → Putting S → Putting S
 after_tables {S} g ws putting = record {
   stops = λ old new e. StopsMaking g ws old new e
       ⊎ ((made : Held S) × Survives (state g old) (state g made) (λ _. ⊥) × AreMade g ws old made
@@ -62,5 +63,5 @@ module _ {S : Type 0} (g : Ghosts S) where
         → Survives (state g last) new (λ db. db ≡ (state g last).now.trees)
         → Fails (state g last) new ⊥ e → FailsToPut putting old new e
 
-  abbrev pub FailsToChange : List Which → Putting S → Held S → State → Error → Type 0
+  abbrev pub FailsToChange : List FileTable → Putting S → Held S → State → Error → Type 0
   FailsToChange ws putting = FailsToPut (after_tables g ws putting)

@@ -1,20 +1,21 @@
 -- Schemas, the tables of a book's file that are there, and their trees.
 use Rattle.std.specs.Prelude.{◌≡◌, ◌≢◌, ℕ, Bool, true}
 use Rattle.sqlite_schema.specs.declared.schema.Schema.{Schema}
+use Rattle.desk_parts.specs.declared.file_table.FileTable.{FileTable}
 use Rattle.sql_tables.specs.Tables.{IsDeclared}
-use Rattle.desk_rows.specs.Descriptions.{Which, table_of}
+use Rattle.desk_rows.specs.Descriptions.{table_of}
 
 -- A schema, some tables that a file has, and a tree for each. What else there is, under whatever name, is beside them: a table of ours too,
 -- unless the layout is exact.
 pub record Layout : Type 0 where
   pub schema : Schema
-  pub has : Which → Bool
-  pub tree : Which → ℕ
+  pub has : FileTable → Bool
+  pub tree : FileTable → ℕ
 
 -- the schema declares these tables in their trees, as a new file has them
 abbrev pub AreDeclared : Layout → Type 0
-AreDeclared l = (w : Which) → l.has w ≡ true → IsDeclared l.schema (table_of w (l.tree w))
+AreDeclared l = (w : FileTable) → l.has w ≡ true → IsDeclared l.schema (table_of w (l.tree w))
 
 -- the tree of none of them
 abbrev pub IsOther : Layout → ℕ → Type 0
-IsOther l tree = (w : Which) → l.has w ≡ true → tree ≢ l.tree w
+IsOther l tree = (w : FileTable) → l.has w ≡ true → tree ≢ l.tree w

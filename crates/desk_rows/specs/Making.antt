@@ -9,22 +9,24 @@ use Rattle.sqlite.specs.Does.{lacks_sequence}
 use Rattle.sqlite.specs.Effect.{Database}
 use Rattle.sqlite.specs.Held.{Held, state}
 use Rattle.sqlite.specs.State.{State}
+use Rattle.desk_parts.specs.declared.file_table.FileTable.{FileTable}
+use Rattle.desk_parts.specs.declared.file_table.FileTable.TheVariants as tables
 use Rattle.desk_parts.specs.declared.rows.BookRow.{BookRow}
 use Rattle.desk_parts.specs.Puts.{RowPut}
 use Rattle.sql_tables.specs.Making.{AreFree, FreesNone, IsMaking, KeepsAside, first_created}
 use Rattle.desk_rows.specs.Contents.{Contents, with_row}
-use Rattle.desk_rows.specs.Descriptions.{Which, books, tabs, paras, marks, caches, named_corrs, description_of, table_of}
+use Rattle.desk_rows.specs.Descriptions.{description_of, table_of}
 use Rattle.desk_rows.specs.Layout.{Layout}
 use Rattle.desk_rows.specs.Puts.{HasThem, puts_into, row_put}
 use Rattle.desk_rows.specs.States.{IsFile, ShowsContents}
 use Rattle.desk_rows.specs.Turns.{RunInTurn, Statement}
 
 -- the tables of a new file, in the order in which they are made
-abbrev pub new_tables : List Which
-new_tables = books ∷ tabs ∷ paras ∷ marks ∷ caches ∷ named_corrs ∷ []
+abbrev pub new_tables : List FileTable
+new_tables = tables.Book ∷ tables.Tab ∷ tables.Para ∷ tables.Mark ∷ tables.Cache ∷ tables.NamedCorr ∷ []
 
 -- No table, index or view has the name of one of these in either case of its letters, nor has what the database keeps as it is.
-abbrev pub AreFreeIn : Schema → List Which → Type 0
+abbrev pub AreFreeIn : Schema → List FileTable → Type 0
 AreFreeIn s = AllByRecursion (λ w. is_used s (description_of w).name ≡ false)
 
 abbrev pub AreAbsent : Schema → Type 0
@@ -32,12 +34,12 @@ AreAbsent s = AreFreeIn s new_tables
 
 -- The schema after these are made in turn, and with the first the database's counter of rowids, if a table counts its rowids and the
 -- counter isn't there.
-abbrev pub after : List Which → Schema → Schema
+abbrev pub after : List FileTable → Schema → Schema
 after [] s = s
 after (w ∷ ws) s = after ws (first_created s (table_of w 0))
 
 -- the tree that a table takes when these are made
-abbrev pub tree_in : List Which → Schema → Which → ℕ
+abbrev pub tree_in : List FileTable → Schema → FileTable → ℕ
 tree_in [] s w = 0
 tree_in (v ∷ vs) s w =
     if bytes_eq (description_of v).name (description_of w).name
@@ -45,7 +47,7 @@ tree_in (v ∷ vs) s w =
     else tree_in vs (first_created s (table_of v 0)) w
 
 -- whether a table is one of these
-abbrev pub is_among : List Which → Which → Bool
+abbrev pub is_among : List FileTable → FileTable → Bool
 is_among ws w = list_any (λ v. bytes_eq (description_of v).name (description_of w).name) ws
 
 abbrev pub new_layout : Schema → Layout
@@ -61,11 +63,11 @@ first_row = record { id = pos 1; format = pos 2; version = pos 0 }
 
 -- this row alone
 abbrev pub first_contents : Trees → Contents
-first_contents others = with_row books first_row (no_contents others)
+first_contents others = with_row tables.Book first_row (no_contents others)
 
 -- The counter, if it was missing and is made, has no rows.
 abbrev pub CountsNone : Schema → Trees → Type 0
-CountsNone s db = lacks_sequence s ≡ true → db (next_tree (created s (table_of books 0))) ≡ []
+CountsNone s db = lacks_sequence s ≡ true → db (next_tree (created s (table_of tables.Book 0))) ≡ []
 
 -- The contents of a new file, beside the tables that were there with the rows that they had, an empty counter if it was missing, and
 -- what the database keeps aside.
@@ -75,28 +77,28 @@ IsNew s rows P =
     × P (first_contents others)
 
 -- each differs from those after it
-abbrev pub Differ : List Which → Type 0
+abbrev pub Differ : List FileTable → Type 0
 Differ [] = ⊤
 Differ (w ∷ ws) = AllByRecursion (λ v. bytes_eq (description_of w).name (description_of v).name ≡ false) ws × Differ ws
 
 -- Statements within a transaction made these tables, whose names were free.
-pub record MakesTables (ws : List Which) (old new : State) : Type 0 where
+pub record MakesTables (ws : List FileTable) (old new : State) : Type 0 where
   pub taken : AreFree (map (λ w. (description_of w).name) ws) old × FreesNone old new
   pub made : (committed : Database) (first : Schema) (rows : Trees) (before : Schema)
       → Differ ws → IsMaking committed first rows before old → AreFreeIn before ws
       → IsMaking committed first rows (after ws before) new
 
 -- the statement that makes a table
-abbrev pub creation : Which → Statement
+abbrev pub creation : FileTable → Statement
 creation w = record { text = (description_of w).create; params = [] }
 
 -- All of these were made so by their statements.
-abbrev pub AreMade : {S : Type 0} → Ghosts S → List Which → Held S → Held S → Type 0
+abbrev pub AreMade : {S : Type 0} → Ghosts S → List FileTable → Held S → Held S → Type 0
 AreMade g ws old new = MakesTables ws (state g old) (state g new) × RunInTurn g (map creation ws) old new
 
 -- the statements that make a new file
 abbrev pub making : List Statement
-making = map creation new_tables ++ row_put books first_row ∷ []
+making = map creation new_tables ++ row_put tables.Book first_row ∷ []
 
 -- What making adds to what a crash may leave: only if the names were free, and then the file with the tables.
 abbrev pub IsMade : State → Trees → Type 0
@@ -105,34 +107,34 @@ IsMade s db = AreAbsent s.now.schema × IsNew s.now.schema s.now.trees (λ c. Is
 -- ---- tables that are made in a file
 
 -- the layout with these tables too, and the contents with no rows in them
-abbrev pub with_tables : List Which → Layout → Layout
+abbrev pub with_tables : List FileTable → Layout → Layout
 with_tables ws l = record {
   schema = after ws l.schema;
   has = λ v. if is_among ws v then true else l.has v;
   tree = λ v. if is_among ws v then tree_in ws l.schema v else l.tree v;
 }
 
-abbrev pub with_none : List Which → Trees → Contents → Contents
+abbrev pub with_none : List FileTable → Trees → Contents → Contents
 with_none ws others c = record { rows = λ v. if is_among ws v then [] else c.rows v; others = others }
 
 -- ---- tables that are made, and rows that are put then
 
 -- What a file is once these tables are made in it and these rows are put: the rows of all other tables that were there, and what the
 -- database keeps aside, are as they were.
-abbrev pub IsGrown : List Which → List RowPut → Layout → Contents → Trees → (Layout → Contents → Type 0)
+abbrev pub IsGrown : List FileTable → List RowPut → Layout → Contents → Trees → (Layout → Contents → Type 0)
     → Type 0
 IsGrown ws puts l c rows P =
     (others : Trees) × KeepsRows l.schema.tables rows others × KeepsAside l.schema rows others
     × P (with_tables ws l) (puts_into puts (with_none ws others c))
 
 -- The tables were made in whatever file the connection showed, and the rows put, which have their tables then.
-abbrev pub WritesWithTables : List Which → List RowPut → State → State → Type 0
+abbrev pub WritesWithTables : List FileTable → List RowPut → State → State → Type 0
 WritesWithTables ws puts old new =
     (l : Layout) (c : Contents) → Differ ws → HasThem (with_tables ws l) puts → ShowsContents l c old
     → IsGrown ws puts l c old.now.trees (λ after d. ShowsContents after d new)
 
 -- The trees are such a file.
-abbrev pub IsFileWithTables : List Which → List RowPut → State → Trees → Type 0
+abbrev pub IsFileWithTables : List FileTable → List RowPut → State → Trees → Type 0
 IsFileWithTables ws puts s db =
     (l : Layout) (c : Contents) → Differ ws → HasThem (with_tables ws l) puts → ShowsContents l c s
     → IsGrown ws puts l c s.now.trees (λ after d. IsFile after d db)

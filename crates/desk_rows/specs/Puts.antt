@@ -1,8 +1,7 @@
 -- The contents once rows are put in turn.
-use Rattle.std.specs.Prelude.{◌≡◌, ◌⊎◌, ℕ, ℤ, pos, true, List, [], ◌∷◌, map, fold, Option, Some, Result, Ok, Err, IfErr, IsTrue, OnOk, ⊤}
+use Rattle.std.specs.Prelude.{◌≡◌, ◌⊎◌, ℕ, pos, true, List, [], ◌∷◌, map, fold, Option, Some, Result, Ok, Err, IfErr, IsTrue, OnOk, ⊤}
 use Rattle.std.specs.Iterator.{Drains, YieldsThen}
 use Rattle.std.specs.List.{AllByRecursion}
-use Rattle.std.specs.Ordering.{int_eq}
 use Rattle.sqlite_value.specs.declared.value.Value.TheVariants.{Int, Text}
 use Rattle.sqlite_value.specs.Order.{Row}
 use Rattle.sqlite_trees.specs.declared.error.StoreError.TheVariants.{OutOfMemory}
@@ -12,81 +11,18 @@ use Rattle.sqlite.specs.declared.error.Error.{Error}
 use Rattle.sqlite.specs.Effect.{Database}
 use Rattle.sqlite.specs.Held.{Held, state}
 use Rattle.sqlite.specs.State.{State, KeepsCommit, ExecutesInside, store_error}
-use Rattle.desk_parts.specs.declared.rows.BookRow.{BookRow}
+use Rattle.desk_parts.specs.declared.file_table.FileTable.{FileTable}
+use Rattle.desk_parts.specs.declared.file_table.FileTable.TheVariants as tables
 use Rattle.desk_parts.specs.declared.put.Put.{Put}
-use Rattle.desk_parts.specs.Puts.{RowPut, PutBook, PutTab, PutPara, PutMark, PutCache, PutEntry, SetPlace, SetFlags, SetTable, SetPrint, SetSpan, SetResolved, SetVersion, put_of}
-use Rattle.desk_parts.specs.Rows.{Mark, Para}
-use Rattle.sql_tables.specs.Rows.{set_where}
+use Rattle.desk_parts.specs.Puts.{RowPut, PutBook, PutTab, PutPara, PutMark, PutCache, PutEntry, SetPlace, SetFlags, SetTable, SetPrint, SetSpan, SetResolved, SetVersion, change_of, put_of, table_put}
+use Rattle.desk_parts.specs.Rows.{RowOf}
 use Rattle.desk_rows.specs.Contents.{Contents, with_row, with_rows}
-use Rattle.desk_rows.specs.Descriptions.{Which, books, tabs, paras, marks, caches, named_corrs, description_of}
+use Rattle.desk_rows.specs.Descriptions.{description_of}
 use Rattle.desk_rows.specs.Layout.{Layout}
-use Rattle.desk_rows.specs.Rows.{RowOf, columns_of, put_to}
+use Rattle.desk_rows.specs.Rows.{columns_of}
 use Rattle.desk_rows.specs.States.{IsFile, IsUnder, ShowsContents}
 use Rattle.desk_rows.specs.Turns.{FailsWith, Ran, RunInTurn, Statement, Stops}
 use Rattle.desk_rows.specs.declared.texts.TheConstants.{SET_FLAGS, SET_PLACE, SET_PRINT, SET_RESOLVED, SET_SPAN, SET_TABLE, SET_VERSION}
-
--- with this done to the paragraph with this id, to the mark with this id, to the row of `book` with id 1
-abbrev pub set_para : ℤ → (Para → Para) → List Para → List Para
-set_para id = set_where (λ (p : Para). int_eq p.id id)
-
-abbrev pub set_mark : ℤ → (Mark → Mark) → List Mark → List Mark
-set_mark id = set_where (λ (m : Mark). int_eq m.id id)
-
-abbrev pub set_book : (BookRow → BookRow) → List BookRow → List BookRow
-set_book = set_where (λ (b : BookRow). int_eq b.id (pos 1))
-
-abbrev pub with_place : ℤ → Para → Para
-with_place place p = record p { place = place }
-
-abbrev pub with_flags : (style volume struck : ℤ) → Para → Para
-with_flags style volume struck p = record p { style = style; volume = volume; struck = struck }
-
-abbrev pub with_table : List ℕ → Para → Para
-with_table tab p = record p { tab = tab }
-
-abbrev pub with_print : List ℕ → Para → Para
-with_print print p = record p { print = print }
-
-abbrev pub with_span : (start stop touched : ℤ) → Mark → Mark
-with_span start stop touched m = record m { start = start; stop = stop; touched = touched }
-
-abbrev pub with_resolution : ℤ → Mark → Mark
-with_resolution resolved m = record m { resolved = resolved }
-
-abbrev pub at_version : ℤ → BookRow → BookRow
-at_version version b = record b { version = version }
-
--- the table that it changes
-abbrev pub table_put : RowPut → Which
-table_put (PutBook row) = books
-table_put (PutTab row) = tabs
-table_put (PutPara row) = paras
-table_put (PutMark row) = marks
-table_put (PutCache row) = caches
-table_put (PutEntry row) = named_corrs
-table_put (SetPlace id place) = paras
-table_put (SetFlags id style volume struck) = paras
-table_put (SetTable id tab) = paras
-table_put (SetPrint id print) = paras
-table_put (SetSpan id start stop touched) = marks
-table_put (SetResolved id resolved) = marks
-table_put (SetVersion version) = books
-
--- what it makes of the rows of that table
-abbrev pub change_of : (it : RowPut) → List (RowOf (table_put it)) → List (RowOf (table_put it))
-change_of (PutBook row) = put_to books row
-change_of (PutTab row) = put_to tabs row
-change_of (PutPara row) = put_to paras row
-change_of (PutMark row) = put_to marks row
-change_of (PutCache row) = put_to caches row
-change_of (PutEntry row) = put_to named_corrs row
-change_of (SetPlace id place) = set_para id (with_place place)
-change_of (SetFlags id style volume struck) = set_para id (with_flags style volume struck)
-change_of (SetTable id tab) = set_para id (with_table tab)
-change_of (SetPrint id print) = set_para id (with_print print)
-change_of (SetSpan id start stop touched) = set_mark id (with_span start stop touched)
-change_of (SetResolved id resolved) = set_mark id (with_resolution resolved)
-change_of (SetVersion version) = set_book (at_version version)
 
 -- the contents with this put, and with these in turn
 abbrev pub put_into : Contents → RowPut → Contents
@@ -112,16 +48,16 @@ Writes puts old new =
 -- ---- the statement of a put
 
 -- a row of a table
-abbrev pub row_put : (w : Which) → RowOf w → Statement
+abbrev pub row_put : (w : FileTable) → RowOf w → Statement
 row_put w x = record { text = (description_of w).put; params = columns_of w x }
 
 abbrev pub statement : RowPut → Statement
-statement (PutBook row) = row_put books row
-statement (PutTab row) = row_put tabs row
-statement (PutPara row) = row_put paras row
-statement (PutMark row) = row_put marks row
-statement (PutCache row) = row_put caches row
-statement (PutEntry row) = row_put named_corrs row
+statement (PutBook row) = row_put tables.Book row
+statement (PutTab row) = row_put tables.Tab row
+statement (PutPara row) = row_put tables.Para row
+statement (PutMark row) = row_put tables.Mark row
+statement (PutCache row) = row_put tables.Cache row
+statement (PutEntry row) = row_put tables.NamedCorr row
 statement (SetPlace id place) = record { text = SET_PLACE.now; params = Int id ∷ Int place ∷ [] }
 statement (SetFlags id style volume struck) =
     record { text = SET_FLAGS.now; params = Int id ∷ Int style ∷ Int volume ∷ Int struck ∷ [] }
@@ -143,7 +79,7 @@ RunsTo (Err e) text params old new =
     KeepsCommit old new × (old.in_transaction ≡ true → ExecutesInside 0 text params old new (Err e))
 
 -- a row is put, over the same commit
-abbrev pub PutsRow : (w : Which) → RowOf w → State → State → Type 0
+abbrev pub PutsRow : (w : FileTable) → RowOf w → State → State → Type 0
 PutsRow w x old new =
     (committed : Database) (l : Layout) (c : Contents) → l.has w ≡ true
     → IsUnder committed l c old → IsUnder committed l (with_row w x c) new

@@ -8,11 +8,12 @@ use Rattle.sqlite_schema.specs.declared.schema.Kind.{Kind}
 use Rattle.sqlite_schema.specs.declared.schema.Kind.TheVariants.{Integer, Real, Text, Blob, Any}
 use Rattle.sqlite.specs.declared.error.Error.{Error}
 use Rattle.sqlite.specs.State.{State, Shown, FailsToQuery, IsUnchanged}
+use Rattle.desk_parts.specs.declared.file_table.FileTable.{FileTable}
 use Rattle.sql_tables.specs.Kinds.{HasKinds, HaveIntegerRowids, HaveUtf8Texts, IsOfKind}
 use Rattle.sql_tables.specs.Rows.{Lists, columns_at, numbers_from}
 use Rattle.sql_tables.specs.States.{HasAnswer, HasTable}
 use Rattle.desk_rows.specs.Contents.{Contents}
-use Rattle.desk_rows.specs.Descriptions.{Which, description_of, table_of, kind_at, shows_rowid, has_texts}
+use Rattle.desk_rows.specs.Descriptions.{description_of, table_of, kind_at, shows_rowid, has_texts}
 use Rattle.desk_rows.specs.Fault.{IsToldAs}
 use Rattle.desk_rows.specs.Layout.{Layout}
 use Rattle.desk_rows.specs.Rows.{ShownOf, shown_columns, own, order}
@@ -28,10 +29,10 @@ pub record TableQuery : Type 0 where
   pub kinds : List Kind
 
 -- the first columns of a row that the query shows
-abbrev pub given : Which → Row → Row
+abbrev pub given : FileTable → Row → Row
 given w = columns_at (numbers_from 0 (description_of w).shown)
 
-abbrev pub query_of : Which → TableQuery
+abbrev pub query_of : FileTable → TableQuery
 query_of w = record {
   text = (description_of w).read;
   columns = given w;
@@ -73,7 +74,7 @@ pub data FailsAs {X : Type 0} (query : TableQuery) (written : X → Row) (Apart 
       → FailsAs query written Apart before after fault
 
 -- The rows of a tree can be read: their rowids are integers where these are shown, and the texts are UTF-8 where there are any.
-pub record AreReadable (w : Which) (rows : List Row) : Type 0 where
+pub record AreReadable (w : FileTable) (rows : List Row) : Type 0 where
   pub ids : shows_rowid w ≡ true → HaveIntegerRowids rows
   pub texts : has_texts w ≡ true → HaveUtf8Texts rows
 
@@ -82,7 +83,7 @@ abbrev pub AnyRows : {X : Type 0} → List X → Type 0
 AnyRows xs = ⊤
 
 -- A read of a whole table answers so, in rows that are viewed as those of the table and have to be apart so.
-pub record AnswersRows {V X : Type 0} (result : Result V DatabaseFault) (items : V → List X) (w : Which)
+pub record AnswersRows {V X : Type 0} (result : Result V DatabaseFault) (items : V → List X) (w : FileTable)
     (view : X → ShownOf w) (Apart : List X → Type 0) (old new : State) : Type 0 where
   -- what the statement shows in any file
   pub gives : IfOk result (λ xs. Gives (query_of w) (λ x. shown_columns w (view x)) old new (items xs))

@@ -5,27 +5,30 @@ use Rattle.std.specs.Ordering.{int_eq}
 use Rattle.sqlite_trees.specs.Tree.{Trees}
 use Rattle.sqlite_rules.specs.Edit.{IsNoIndex}
 use Rattle.sql_tables.specs.Rows.{Lists, columns_at}
+use Rattle.desk_parts.specs.declared.file_table.FileTable.{FileTable}
+use Rattle.desk_parts.specs.declared.file_table.FileTable.TheVariants as tables
+use Rattle.desk_parts.specs.FileRows.{HasEntryTexts, HasMarkText, HasParaTexts, HasTabText}
 use Rattle.desk_parts.specs.Puts.{RowPut, PutBook, PutTab, PutPara, PutMark, PutCache, PutEntry, SetPlace, SetFlags, SetTable, SetPrint, SetSpan, SetResolved, SetVersion}
-use Rattle.desk_parts.specs.Rows.{StoredTab}
+use Rattle.desk_parts.specs.Rows.{RowOf, StoredTab}
 use Rattle.desk_rows.specs.Contents.{Contents}
-use Rattle.desk_rows.specs.Descriptions.{Which, books, tabs, paras, corrs, marks, caches, named_corrs, description_of}
+use Rattle.desk_rows.specs.Descriptions.{description_of}
 use Rattle.desk_rows.specs.Layout.{Layout, IsOther}
-use Rattle.desk_rows.specs.Rows.{RowOf, ShownOf, own, shown_columns}
+use Rattle.desk_rows.specs.Rows.{ShownOf, own, shown_columns}
 
 -- the same rows in each of the tables, in any order, and in each other tree
 pub record HaveSameRows (l : Layout) (c d : Contents) : Type 0 where
-  pub tables : (w : Which) → l.has w ≡ true → IsPermutation (c.rows w) (d.rows w)
+  pub tables : (w : FileTable) → l.has w ≡ true → IsPermutation (c.rows w) (d.rows w)
   pub others : AllByRecursion (λ t. IsOther l t.tree → c.others t.tree ≡ d.others t.tree) l.schema.tables
   pub aside : (tree : ℕ) → IsOther l tree → IsNoIndex l.schema tree → c.others tree ≡ d.others tree
 
 -- the rows of the tables as they are read, those of `tab` with their rowids
 abbrev pub Rows : Type 0
-Rows = (w : Which) → List (ShownOf w)
+Rows = (w : FileTable) → List (ShownOf w)
 
 -- these are the rows of the tables, in any order
 abbrev pub AreRows : Layout → Rows → Trees → Type 0
 AreRows l rows db =
-    (w : Which) → l.has w ≡ true → Lists (shown_columns w) (columns_at (description_of w).shown) (rows w) (db (l.tree w))
+    (w : FileTable) → l.has w ≡ true → Lists (shown_columns w) (columns_at (description_of w).shown) (rows w) (db (l.tree w))
 
 -- no two have the same number
 abbrev pub DifferBy : {X : Type 0} → (X → ℤ) → List X → Type 0
@@ -36,44 +39,44 @@ abbrev pub HaveOwnRowids : List StoredTab → Type 0
 HaveOwnRowids = DifferBy (λ t. t.rowid)
 
 -- The rows that may be changed differ by their keys, those of `tab` by their rowids.
-abbrev pub DifferIn : (w : Which) → List (ShownOf w) → Type 0
-DifferIn books = DifferBy (λ b. b.id)
-DifferIn tabs = HaveOwnRowids
-DifferIn paras = DifferBy (λ p. p.id)
-DifferIn corrs = λ es. ⊤
-DifferIn marks = DifferBy (λ m. m.id)
-DifferIn caches = DifferBy (λ k. k.para)
-DifferIn named_corrs = λ es. ⊤
+abbrev pub DifferIn : (w : FileTable) → List (ShownOf w) → Type 0
+DifferIn tables.Book = DifferBy (λ b. b.id)
+DifferIn tables.Tab = HaveOwnRowids
+DifferIn tables.Para = DifferBy (λ p. p.id)
+DifferIn tables.Corr = λ es. ⊤
+DifferIn tables.Mark = DifferBy (λ m. m.id)
+DifferIn tables.Cache = DifferBy (λ k. k.para)
+DifferIn tables.NamedCorr = λ es. ⊤
 
 abbrev pub AreApart : Rows → Type 0
-AreApart rows = (w : Which) → DifferIn w (rows w)
+AreApart rows = (w : FileTable) → DifferIn w (rows w)
 
 -- these rows, beside those of the other tables
 abbrev pub contents_of : Rows → Trees → Contents
 contents_of rows db = record { rows = λ w. map (own w) (rows w); others = db }
 
 -- the texts of a row are UTF-8
-abbrev pub IsUtf8Row : (w : Which) → RowOf w → Type 0
-IsUtf8Row books b = ⊤
-IsUtf8Row tabs t = IsUtf8 t.name
-IsUtf8Row paras p = IsUtf8 p.tab × IsUtf8 p.original × IsUtf8 p.print
-IsUtf8Row corrs e = IsUtf8 e.body
-IsUtf8Row marks m = IsUtf8 m.note
-IsUtf8Row caches k = ⊤
-IsUtf8Row named_corrs e = IsUtf8 e.entry.body × IsUtf8 e.who
+abbrev pub IsUtf8Row : (w : FileTable) → RowOf w → Type 0
+IsUtf8Row tables.Book b = ⊤
+IsUtf8Row tables.Tab t = HasTabText t
+IsUtf8Row tables.Para p = HasParaTexts p
+IsUtf8Row tables.Corr e = IsUtf8 e.body
+IsUtf8Row tables.Mark m = HasMarkText m
+IsUtf8Row tables.Cache k = ⊤
+IsUtf8Row tables.NamedCorr e = HasEntryTexts e
 
 -- each text is UTF-8
 abbrev pub AreUtf8 : Contents → Type 0
-AreUtf8 c = (w : Which) → AllByRecursion (IsUtf8Row w) (c.rows w)
+AreUtf8 c = (w : FileTable) → AllByRecursion (IsUtf8Row w) (c.rows w)
 
 -- the texts of what is put are UTF-8
 abbrev pub IsUtf8Put : RowPut → Type 0
 IsUtf8Put (PutBook row) = ⊤
-IsUtf8Put (PutTab row) = IsUtf8Row tabs row
-IsUtf8Put (PutPara row) = IsUtf8Row paras row
-IsUtf8Put (PutMark row) = IsUtf8Row marks row
+IsUtf8Put (PutTab row) = IsUtf8Row tables.Tab row
+IsUtf8Put (PutPara row) = IsUtf8Row tables.Para row
+IsUtf8Put (PutMark row) = IsUtf8Row tables.Mark row
 IsUtf8Put (PutCache row) = ⊤
-IsUtf8Put (PutEntry row) = IsUtf8Row named_corrs row
+IsUtf8Put (PutEntry row) = IsUtf8Row tables.NamedCorr row
 IsUtf8Put (SetPlace id place) = ⊤
 IsUtf8Put (SetFlags id style volume struck) = ⊤
 IsUtf8Put (SetTable id tab) = IsUtf8 tab

@@ -2,9 +2,10 @@
 
 ghost use Rattle.desk_rows.specs.TableQuery.{AreReadable};
 ghost use Rattle.desk_rows.specs.Contents.{Contents};
+ghost use Rattle.desk_parts.specs.declared.file_table.FileTable.{FileTable};
 ghost use Rattle.desk_parts.specs.Puts.{LendsFirst, RowPut};
 ghost use Rattle.desk_parts.specs.Rows.{StoredTab};
-ghost use Rattle.desk_rows.specs.Descriptions.{Which, description_of, shows_rowid, tabs};
+ghost use Rattle.desk_rows.specs.Descriptions.{description_of, shows_rowid};
 ghost use Rattle.sql_tables.specs.Kinds.{HaveIntegerRowids};
 ghost use Rattle.desk_rows.specs.Layout.{AreDeclared, Layout};
 ghost use Rattle.desk_rows.specs.Making.{Differ, IsNew, MakesTables, new_layout, with_none, with_tables};
@@ -69,12 +70,12 @@ pub fn read_whole()
 /// the braille tables differ.
 pub fn texts_as_written()
     ensures readable { (l : Layout) (c : Contents) (db : Trees) → IsFile l c db → AreUtf8 c
-        → (w : Which) → l.has w ≡ true → AreReadable w (db (l.tree w)) }
-    ensures rowids { (l : Layout) (c : Contents) (db : Trees) → IsFile l c db → (w : Which)
+        → (w : FileTable) → l.has w ≡ true → AreReadable w (db (l.tree w)) }
+    ensures rowids { (l : Layout) (c : Contents) (db : Trees) → IsFile l c db → (w : FileTable)
         → l.has w ≡ true → shows_rowid w ≡ true → HaveIntegerRowids (db (l.tree w)) }
-    ensures apart { (l : Layout) (c : Contents) (db : Trees) → IsFile l c db → l.has tabs ≡ true
+    ensures apart { (l : Layout) (c : Contents) (db : Trees) → IsFile l c db → l.has FileTable.Tab ≡ true
         → (xs : List StoredTab)
-        → Lists (shown_columns tabs) (columns_at (description_of tabs).shown) xs (db (l.tree tabs))
+        → Lists (shown_columns FileTable.Tab) (columns_at (description_of FileTable.Tab).shown) xs (db (l.tree FileTable.Tab))
         → HaveOwnRowids xs }
 {}
 
@@ -87,7 +88,7 @@ pub fn made_keeps()
 /// A connection in a transaction that shows a file, and that made tables there which the file lacks, shows the file with these, which have
 /// no rows; all other tables keep theirs, and so does what the database keeps aside.
 pub fn more_tables<S: Alter>(old: &Connection<S>, new: &Connection<S>)
-    ensures { (l : Layout) (c : Contents) (ws : List Which) (committed : Database) → Differ ws
+    ensures { (l : Layout) (c : Contents) (ws : List FileTable) (committed : Database) → Differ ws
         → IsUnder committed l c (state S.Store old.now)
         → MakesTables ws (state S.Store old.now) (state S.Store new.now)
         → IsUnder committed (with_tables ws l) (with_none ws (state S.Store new.now).now.trees c)
@@ -110,8 +111,8 @@ pub fn texts_stay()
 
 /// A table that a file has is there for its schema, and one whose name is free isn't.
 pub fn tables_there()
-    ensures has { (l : Layout) (c : Contents) (db : Trees) → IsFile l c db → (w : Which)
+    ensures has { (l : Layout) (c : Contents) (db : Trees) → IsFile l c db → (w : FileTable)
         → l.has w ≡ true → is_there l.schema w ≡ true }
-    ensures free { (s : Schema) (w : Which) → is_used s (description_of w).name ≡ false
+    ensures free { (s : Schema) (w : FileTable) → is_used s (description_of w).name ≡ false
         → is_there s w ≡ false }
 {}

@@ -1,6 +1,6 @@
 //! The making of tables.
 
-ghost use Rattle.std.specs.Prelude.{◌≡◌, false, true, [], ◌∷◌, IfErr, IsTrue, OnOk, map};
+ghost use Rattle.std.specs.Prelude.{◌≡◌, false, true, [], ◌∷◌, IfErr, IsTrue, OnOk};
 ghost use Rattle.sqlite.specs.Held.{state};
 ghost use Rattle.sqlite.specs.State.{HasCleanDisk, KeepsCommit, Survives};
 ghost use Rattle.sql_tables.specs.States.{seen};
@@ -8,7 +8,7 @@ ghost use Rattle.desk_rows.specs.Commits.{Commits, making_file};
 ghost use Rattle.desk_rows.specs.Descriptions.{description_of};
 ghost use Rattle.desk_rows.specs.Failing.{StopsMaking, after_tables, of_first_row};
 ghost use Rattle.desk_rows.specs.Making.{AreMade, MakesTables, creation, new_tables};
-ghost use Rattle.desk_rows.specs.Tables.{AreWritten, which};
+ghost use Rattle.desk_rows.specs.Tables.{AreWritten};
 ghost use Rattle.desk_rows.specs.Turns.{FailsWith, Ran};
 
 use crate::put_statements::{put_book, run};
@@ -29,16 +29,16 @@ const NEW_TABLES: [FileTable; 6] = [
 
 /// Makes a table, and with it the counter of rowids if a table counts them and it is missing. The error is the database's.
 fn create<S: Alter>(tx: &mut Transaction<'_, S>, table: FileTable) -> Result<(), Error>
-    requires { (description_of (which table)).is_written ≡ true }
+    requires { (description_of table).is_written ≡ true }
     ensures same_reference { tx.new.conn.ghost_name ≡ tx.old.conn.ghost_name }
     ensures makes { HasCleanDisk (seen S.Store tx.new)
-        → OnOk result (MakesTables (which table ∷ []) (seen S.Store tx.old) (seen S.Store tx.new)) }
+        → OnOk result (MakesTables (table ∷ []) (seen S.Store tx.old) (seen S.Store tx.new)) }
     ensures ran { HasCleanDisk (seen S.Store tx.new)
-        → OnOk result (Ran (creation (which table)) (seen S.Store tx.old) (seen S.Store tx.new)) }
+        → OnOk result (Ran (creation table) (seen S.Store tx.old) (seen S.Store tx.new)) }
     ensures inside { HasCleanDisk (seen S.Store tx.new)
         → OnOk result ((seen S.Store tx.new).in_transaction ≡ true) }
     ensures told { HasCleanDisk (seen S.Store tx.new) → (seen S.Store tx.old).in_transaction ≡ true
-        → IfErr result (FailsWith (creation (which table)) (seen S.Store tx.old)
+        → IfErr result (FailsWith (creation table) (seen S.Store tx.old)
         (seen S.Store tx.new)) }
     ensures kept { HasCleanDisk (seen S.Store tx.new)
         → KeepsCommit (seen S.Store tx.old) (seen S.Store tx.new) }
@@ -55,12 +55,12 @@ pub(crate) fn create_all<S: Alter>(
     requires { AreWritten tables.now }
     ensures same_reference { tx.new.conn.ghost_name ≡ tx.old.conn.ghost_name }
     ensures makes { HasCleanDisk (seen S.Store tx.new)
-        → OnOk result (AreMade S.Store (map which tables.now) tx.old.conn.now tx.new.conn.now) }
+        → OnOk result (AreMade S.Store tables.now tx.old.conn.now tx.new.conn.now) }
     ensures inside { HasCleanDisk (seen S.Store tx.new)
         → (seen S.Store tx.old).in_transaction ≡ true
         → OnOk result ((seen S.Store tx.new).in_transaction ≡ true) }
     ensures told { HasCleanDisk (seen S.Store tx.new) → (seen S.Store tx.old).in_transaction ≡ true
-        → IfErr result (StopsMaking S.Store (map which tables.now) tx.old.conn.now
+        → IfErr result (StopsMaking S.Store tables.now tx.old.conn.now
         (seen S.Store tx.new)) }
     ensures kept { HasCleanDisk (seen S.Store tx.new)
         → KeepsCommit (seen S.Store tx.old) (seen S.Store tx.new) }

@@ -12,7 +12,7 @@ ghost use Rattle.sqlite.specs.State.{HasCleanDisk, KeepsCommit, Survives};
 ghost use Rattle.sqlite.specs.Values.{bound};
 ghost use Rattle.sql_tables.specs.States.{seen};
 ghost use Rattle.desk_parts.specs.Puts.{PutBook, PutPara, lent_entry, lent_mark, lent_para, put_of};
-ghost use Rattle.desk_rows.specs.Descriptions.{marks, named_corrs};
+ghost use Rattle.desk_parts.specs.declared.file_table.FileTable.{FileTable};
 ghost use Rattle.desk_rows.specs.Failing.{of_items};
 ghost use Rattle.desk_rows.specs.Puts.{ArePut, IsPut, OfItems, RunsTo};
 ghost use Rattle.desk_rows.specs.Rows.{columns_of};
@@ -94,7 +94,7 @@ fn put_para<S: Alter>(
 
 /// The columns of a mark.
 fn mark_columns<'a>(row: &MarkPut<'a>) -> [ValueRef<'a>; 7]
-    ensures { bound result ≡ columns_of marks (lent_mark row.now) }
+    ensures { bound result ≡ columns_of FileTable.Mark (lent_mark row.now) }
 {
     [
         row.id.to_sql(),
@@ -109,7 +109,7 @@ fn mark_columns<'a>(row: &MarkPut<'a>) -> [ValueRef<'a>; 7]
 
 /// The columns of an entry of a history.
 fn entry_columns<'a>(row: &NamedCorrPut<'a>) -> [ValueRef<'a>; 7]
-    ensures { bound result ≡ columns_of named_corrs (lent_entry row.now) }
+    ensures { bound result ≡ columns_of FileTable.NamedCorr (lent_entry row.now) }
 {
     [
         row.para.to_sql(),

@@ -14,7 +14,7 @@ ghost use Rattle.sqlite.specs.Held.{state};
 ghost use Rattle.sqlite.specs.State.{HasCleanDisk, CommitsShowing, FailsToQuery, Shown, Survives};
 ghost use Rattle.sql_tables.specs.Kinds.{HasKinds};
 ghost use Rattle.desk_rows.specs.TableQuery.{AnswersRows, AnyRows, BeginWith, given, query_of};
-ghost use Rattle.desk_rows.specs.Descriptions.{tabs};
+ghost use Rattle.desk_parts.specs.declared.file_table.FileTable.{FileTable};
 ghost use Rattle.desk_rows.specs.Fault.{IsToldAs};
 ghost use Rattle.desk_rows.specs.Rows.{own, shown_columns};
 ghost use Rattle.desk_rows.specs.Whole.{HaveOwnRowids, IsUtf8Row};
@@ -48,14 +48,14 @@ fn ask<S: Alter>(conn: &mut Connection<S>, sql: &str) -> Result<Vec<Row>, Databa
 /// Each of the rows, in turn.
 #[tactic(auto, using(crate::proofs::TableReads::Beginnings::begin_more, crate::proofs::TableReads::Beginnings::begin_with))]
 fn all_of<T: TableRow>(alloc: Global, rows: &[Row]) -> Result<Vec<T>, DatabaseFault>
-    ensures reads { IfOk result (λ xs. map (given T.which) rows.now ≡ map (λ x. shown_columns T.which
+    ensures reads { IfOk result (λ xs. map (given T.table) rows.now ≡ map (λ x. shown_columns T.table
         (T.view x)) xs.items) }
-    ensures kinds { AllByRecursion (HasKinds (query_of T.which).kinds) rows.now
+    ensures kinds { AllByRecursion (HasKinds (query_of T.table).kinds) rows.now
         → IfErr result (λ fault. fault ≡ DatabaseFault.NoMemory) }
     ensures not_lost { IfErr result (λ fault. fault ≢ DatabaseFault.Lost) }
     ensures no_memory { IfErr result (λ fault. fault ≡ DatabaseFault.NoMemory
-        → BeginWith (query_of T.which).kinds rows.now) }
-    ensures utf8 { IfOk result (λ xs. AllByRecursion (λ x. IsUtf8Row T.which (own T.which
+        → BeginWith (query_of T.table).kinds rows.now) }
+    ensures utf8 { IfOk result (λ xs. AllByRecursion (λ x. IsUtf8Row T.table (own T.table
         (T.view x))) xs.items) }
 {
     let mut all = Vec::new(alloc);
@@ -75,7 +75,7 @@ pub fn read_rows<T: TableRow, S: Alter>(
     conn: &mut Connection<S>,
 ) -> Result<Vec<T>, DatabaseFault>
     ensures answers { HasCleanDisk (state S.Store conn.new)
-        → AnswersRows result (λ xs. xs.items) T.which T.view AnyRows (state S.Store conn.old)
+        → AnswersRows result (λ xs. xs.items) T.table T.view AnyRows (state S.Store conn.old)
         (state S.Store conn.new) }
     ensures mode { conn.old.in_transaction ≡ false → conn.new.in_transaction ≡ false }
     ensures survives { Survives (state S.Store conn.old) (state S.Store conn.new) (λ _. ⊥) }
@@ -123,7 +123,7 @@ pub fn read_tabs<S: Alter>(
     conn: &mut Connection<S>,
 ) -> Result<Vec<StoredTab>, DatabaseFault>
     ensures answers { HasCleanDisk (state S.Store conn.new)
-        → AnswersRows result (λ xs. xs.items) tabs (λ x. x) HaveOwnRowids (state S.Store conn.old)
+        → AnswersRows result (λ xs. xs.items) FileTable.Tab (λ x. x) HaveOwnRowids (state S.Store conn.old)
         (state S.Store conn.new) }
     ensures mode { conn.old.in_transaction ≡ false → conn.new.in_transaction ≡ false }
     ensures survives { Survives (state S.Store conn.old) (state S.Store conn.new) (λ _. ⊥) }

@@ -8,7 +8,8 @@ ghost use Rattle.sqlite.specs.Values.{IsInt};
 ghost use Rattle.sql_tables.specs.Kinds.{HasKinds, IsOfKind};
 ghost use Rattle.desk_rows.specs.TableQuery.{Begins, given, query_of};
 ghost use Rattle.desk_rows.specs.Fault.{IsValueFault};
-ghost use Rattle.desk_rows.specs.Descriptions.{Which, books, caches, corrs, description_of, marks, named_corrs, paras, tabs};
+ghost use Rattle.desk_parts.specs.declared.file_table.FileTable.{FileTable};
+ghost use Rattle.desk_rows.specs.Descriptions.{description_of};
 ghost use Rattle.desk_rows.specs.Rows.{ShownOf, own, shown_columns};
 ghost use Rattle.desk_rows.specs.Whole.{IsUtf8Row};
 
@@ -62,29 +63,29 @@ fn bytes(alloc: Global, row: &Row, at: usize) -> Result<Vec<u8>, DatabaseFault>
 /// A row of one of the tables, as its query shows it.
 pub trait TableRow: Drop {
     /// Its table.
-    ghost which: { Which };
+    ghost table: { FileTable };
     /// The row as the query shows it.
-    ghost view: { Self → ShownOf which };
+    ghost view: { Self → ShownOf table };
 
     /// The query.
     fn query() -> &'static str
-        ensures { result.now ≡ (description_of which).read };
+        ensures { result.now ≡ (description_of table).read };
 
     /// A row from what the query shows.
     fn from_row(alloc: Global, row: &Row) -> Result<Self, DatabaseFault>
-        ensures reads { IfOk result (λ x. given which row.now ≡ shown_columns which (view x)) }
-        ensures kinds { HasKinds (query_of which).kinds row.now
+        ensures reads { IfOk result (λ x. given table row.now ≡ shown_columns table (view x)) }
+        ensures kinds { HasKinds (query_of table).kinds row.now
             → IfErr result (λ fault. fault ≡ DatabaseFault.NoMemory) }
         ensures not_lost { IfErr result (λ fault. fault ≢ DatabaseFault.Lost) }
         // Memory is asked for only at the first text or bytes, once all before are of their kinds.
-        ensures begins { IfOk result (λ _. Begins 0 (query_of which).kinds row.now) }
+        ensures begins { IfOk result (λ _. Begins 0 (query_of table).kinds row.now) }
         ensures no_memory { IfErr result (λ fault. fault ≡ DatabaseFault.NoMemory
-            → Begins 0 (query_of which).kinds row.now) }
-        ensures utf8 { IfOk result (λ x. IsUtf8Row which (own which (view x))) };
+            → Begins 0 (query_of table).kinds row.now) }
+        ensures utf8 { IfOk result (λ x. IsUtf8Row table (own table (view x))) };
 }
 
 impl TableRow for BookRow {
-    ghost which = { books };
+    ghost table = { FileTable.Book };
 
     ghost view = { λ x. x };
 
@@ -102,7 +103,7 @@ impl TableRow for BookRow {
 }
 
 impl TableRow for StoredTab {
-    ghost which = { tabs };
+    ghost table = { FileTable.Tab };
 
     ghost view = { λ x. x };
 
@@ -122,7 +123,7 @@ impl TableRow for StoredTab {
 }
 
 impl TableRow for ParaRow {
-    ghost which = { paras };
+    ghost table = { FileTable.Para };
 
     ghost view = { λ x. x };
 
@@ -145,7 +146,7 @@ impl TableRow for ParaRow {
 }
 
 impl TableRow for CorrRow {
-    ghost which = { corrs };
+    ghost table = { FileTable.Corr };
 
     ghost view = { λ x. x };
 
@@ -166,7 +167,7 @@ impl TableRow for CorrRow {
 }
 
 impl TableRow for MarkRow {
-    ghost which = { marks };
+    ghost table = { FileTable.Mark };
 
     ghost view = { λ x. x };
 
@@ -188,7 +189,7 @@ impl TableRow for MarkRow {
 }
 
 impl TableRow for CacheRow {
-    ghost which = { caches };
+    ghost table = { FileTable.Cache };
 
     ghost view = { λ x. x };
 
@@ -205,7 +206,7 @@ impl TableRow for CacheRow {
 }
 
 impl TableRow for NamedCorrRow {
-    ghost which = { named_corrs };
+    ghost table = { FileTable.NamedCorr };
 
     ghost view = { λ x. x };
 

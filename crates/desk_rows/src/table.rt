@@ -5,7 +5,7 @@ ghost use Rattle.std.specs.List.{list_any};
 ghost use Rattle.sqlite_schema.specs.Names.{same_name};
 ghost use Rattle.sqlite.specs.Held.{state};
 ghost use Rattle.desk_rows.specs.Descriptions.{description_of};
-ghost use Rattle.desk_rows.specs.Tables.{is_table_or_view, is_there, which};
+ghost use Rattle.desk_rows.specs.Tables.{is_table_or_view, is_there};
 
 use crate::texts::{
     CREATE_BOOK, CREATE_CACHE, CREATE_MARK, CREATE_NAMED_CORR, CREATE_PARA, CREATE_TAB,
@@ -17,7 +17,7 @@ use sqlite_schema::schema::View;
 
 /// The name of a table, in lower case.
 pub fn table_name(table: FileTable) -> &'static str
-    ensures { result.now ≡ (description_of (which table)).name }
+    ensures { result.now ≡ (description_of table).name }
 {
     match table {
         FileTable::Book => "book",
@@ -32,7 +32,7 @@ pub fn table_name(table: FileTable) -> &'static str
 
 /// The statement that makes a table; empty for `corr`, which nothing makes.
 pub(crate) fn create_text(table: FileTable) -> &'static str
-    ensures { result.now ≡ (description_of (which table)).create }
+    ensures { result.now ≡ (description_of table).create }
 {
     match table {
         FileTable::Book => CREATE_BOOK,
@@ -65,7 +65,7 @@ fn has_named(views: &[View], name: &[u8]) -> bool
 /// Whether a table or a view has the name of this one, in whichever case of its letters, in the schema that was last read or made. A
 /// table that the database doesn't understand counts too; an index or a trigger doesn't. It allocates nothing and doesn't ask the store.
 pub fn has_table<S: Alter>(conn: &Connection<S>, table: FileTable) -> bool
-    ensures { result ≡ is_there (state S.Store conn.now).now.schema (which table) }
+    ensures { result ≡ is_there (state S.Store conn.now).now.schema table }
 {
     let (schema, name) = (conn.schema(), table_name(table).as_bytes());
     schema.table_named(name).is_some() || has_named(schema.views.as_slice(), name)

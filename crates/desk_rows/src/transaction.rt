@@ -1,13 +1,13 @@
 //! A change of the file, as one transaction.
 
-ghost use Rattle.std.specs.Prelude.{◌≡◌, false, true, IfErr, IsOk, IsTrue, OnOk, map};
+ghost use Rattle.std.specs.Prelude.{◌≡◌, false, true, IfErr, IsOk, IsTrue, OnOk};
 ghost use Rattle.std.specs.Iterator.{IsFinite};
 ghost use Rattle.sqlite.specs.Held.{state};
 ghost use Rattle.sqlite.specs.State.{HasCleanDisk, IsLive, KeepsCommit, Survives};
 ghost use Rattle.desk_rows.specs.Commits.{Commits, making_tables, putting_items};
 ghost use Rattle.desk_rows.specs.Ending.{Ends};
 ghost use Rattle.desk_rows.specs.Failing.{after_tables, of_items};
-ghost use Rattle.desk_rows.specs.Tables.{AreWritten, which};
+ghost use Rattle.desk_rows.specs.Tables.{AreWritten};
 ghost use Rattle.sql_tables.specs.States.{seen};
 
 use crate::make::create_all;
@@ -79,13 +79,13 @@ fn make_and_put<'a, S: Alter, I: Iterator<Item = Put<'a>> + Drop>(
     requires ends { IsFinite (I.remaining puts) }
     ensures same_reference { tx.new.conn.ghost_name ≡ tx.old.conn.ghost_name }
     ensures put { HasCleanDisk (seen S.Store tx.new)
-        → OnOk result ((after_tables S.Store (map which tables.now)
+        → OnOk result ((after_tables S.Store tables.now
         (of_items S.Store I.next_gives puts)).puts tx.old.conn.now tx.new.conn.now) }
     ensures inside { HasCleanDisk (seen S.Store tx.new)
         → (seen S.Store tx.old).in_transaction ≡ true
         → OnOk result ((seen S.Store tx.new).in_transaction ≡ true) }
     ensures told { HasCleanDisk (seen S.Store tx.new) → (seen S.Store tx.old).in_transaction ≡ true
-        → IfErr result ((after_tables S.Store (map which tables.now)
+        → IfErr result ((after_tables S.Store tables.now
         (of_items S.Store I.next_gives puts)).stops tx.old.conn.now (seen S.Store tx.new)) }
     ensures kept { HasCleanDisk (seen S.Store tx.new)
         → KeepsCommit (seen S.Store tx.old) (seen S.Store tx.new) }
@@ -111,11 +111,11 @@ pub fn write_with_tables<'a, S: Alter, I: Iterator<Item = Put<'a>> + Drop>(
     requires ends { IsFinite (I.remaining puts) }
     ensures idle { conn.new.in_transaction ≡ false }
     ensures commits { HasCleanDisk (state S.Store conn.new)
-        → Commits S.Store (making_tables S.Store (map which tables.now) I.next_gives puts) conn.old
+        → Commits S.Store (making_tables S.Store tables.now I.next_gives puts) conn.old
         (state S.Store conn.new) result }
     // Of a crash at any exit: nothing new is left but all of it.
     ensures crash { Survives (state S.Store conn.old) (state S.Store conn.new)
-        ((making_tables S.Store (map which tables.now) I.next_gives puts).Left conn.old) }
+        ((making_tables S.Store tables.now I.next_gives puts).Left conn.old) }
 {
     let mut tx = begin(conn);
     let ran = make_and_put(alloc, &mut tx, tables, puts);

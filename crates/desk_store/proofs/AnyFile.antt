@@ -12,16 +12,17 @@ use Rattle.sqlite.specs.State.{IsStatement, IsUnchanged, Shown, ShowsRows, State
 use Rattle.sqlite.specs.declared.error.Error.{Error}
 use Rattle.sql_tables.specs.States.{HasAnswer}
 use Rattle.sql_tables.proofs.Quiet.{never_returns, reads}
+use Rattle.desk_parts.specs.declared.file_table.FileTable.{FileTable}
+use Rattle.desk_parts.specs.declared.file_table.FileTable.TheVariants as tables
 use Rattle.desk_parts.specs.FileRows.{EntryRows, Named, Unnamed}
-use Rattle.desk_parts.specs.Rows.{ParaCells}
+use Rattle.desk_parts.specs.Rows.{ParaCells, RowOf}
 use Rattle.desk_rows.specs.TableQuery.{AnswersRows, Gives, query_of}
 use Rattle.desk_rows.specs.Contents.{Contents}
-use Rattle.desk_rows.specs.Descriptions.{Which, books, tabs, paras, corrs, marks, caches, named_corrs}
 use Rattle.desk_store.specs.Formats.{Format, IsOfFormat, Presence, named, needed, presence, unnamed}
 use Rattle.desk_store.specs.Found.{AreCellsIn, AreEntriesIn, AreRowsIn, AreToldApart, CanAllAnswer, CanAnswer, IsReadAs}
 use Rattle.desk_rows.specs.Layout.{Layout}
 use Rattle.desk_store.specs.Opening.{AreEntriesReadable, CanAllBeRead, ShowsReadable, Stays}
-use Rattle.desk_rows.specs.Rows.{RowOf, ShownOf, own, shown_columns}
+use Rattle.desk_rows.specs.Rows.{ShownOf, own, shown_columns}
 use Rattle.desk_rows.specs.States.{ShowsContents}
 use Rattle.desk_rows.specs.Tables.{is_there}
 use Rattle.desk_rows.specs.Whole.{IsUtf8Row}
@@ -61,22 +62,22 @@ module _ (text : List ℕ) (is_read : reads (first text) ≡ true) (s a : State)
 -- ---- a table
 
 module _ (s a : State) (same : Stays s a) where
-  pub gives_before : (w : Which) (b : State) (rows : List (ShownOf w)) → Gives (query_of w) (shown_columns w) a b rows → Gives (query_of w) (shown_columns w) s s rows
+  pub gives_before : (w : FileTable) (b : State) (rows : List (ShownOf w)) → Gives (query_of w) (shown_columns w) a b rows → Gives (query_of w) (shown_columns w) s s rows
   gives_before w b rows h = (h.0, shown_before (query_of w).text (reads_only w) s a same b h.0 h.1, h.2)
 
   pub entries_before : (entries : EntryRows) → AreEntriesIn a entries → AreEntriesIn s entries
-  entries_before (Unnamed rows) are = (gives_before corrs a rows are.0, are.1)
-  entries_before (Named rows) are = (gives_before named_corrs a rows are.0, are.1)
+  entries_before (Unnamed rows) are = (gives_before tables.Corr a rows are.0, are.1)
+  entries_before (Named rows) are = (gives_before tables.NamedCorr a rows are.0, are.1)
 
   pub cells_before : (cells : Option (List ParaCells)) → AreCellsIn a cells → AreCellsIn s cells
-  cells_before None none = subst (λ (d : Database). is_there d.schema caches ≡ false) same.now none
+  cells_before None none = subst (λ (d : Database). is_there d.schema tables.Cache ≡ false) same.now none
   cells_before (Some rows) are =
-      (subst (λ (d : Database). is_there d.schema caches ≡ true) same.now are.0, (gives_before caches a rows are.1.0, are.1.1))
+      (subst (λ (d : Database). is_there d.schema tables.Cache ≡ true) same.now are.0, (gives_before tables.Cache a rows are.1.0, are.1.1))
 
   pub readable_still : (f : Format) → a.step_limit ≡ s.step_limit → ShowsReadable f s → ShowsReadable f a
   readable_still f limit r = (r.0, r.1, r.2, shows_still s a same r.0 r.1 r.3, r.4, limit ∙ r.5)
 
-  can_still : (w : Which) → CanAnswer s w → CanAnswer a w
+  can_still : (w : FileTable) → CanAnswer s w → CanAnswer a w
   can_still w can = record {
     has = answer_still (query_of w).text (reads_only w) s a same can.has;
     kinds = λ rows seen. can.kinds rows (shown_before (query_of w).text (reads_only w) s a same a rows seen);
@@ -86,7 +87,7 @@ module _ (s a : State) (same : Stays s a) where
   pub can_all_still : (f : Format) → CanAllAnswer f s → CanAllAnswer f a
   can_all_still f can w is_read = can_still w (can w (subst (λ (d : Database). IsReadAs (presence f w) (is_there d.schema w)) same.now is_read))
 
-module _ {V : Type 0} (w : Which) (items : V → List (ShownOf w)) (Apart : List (ShownOf w) → Type 0) (s old new : State) (same : Stays s old) where
+module _ {V : Type 0} (w : FileTable) (items : V → List (ShownOf w)) (Apart : List (ShownOf w) → Type 0) (s old new : State) (same : Stays s old) where
   -- what a read gave after others
   pub rows_before : (v : V) → (Apart (items v) → AreToldApart w (items v)) → AnswersRows (Ok v) items w (λ x. x) Apart old new → AreRowsIn s w (items v)
   rows_before v apart answers = (gives_before s old same w new (items v) answers.gives, apart answers.apart)
@@ -107,33 +108,33 @@ module _ {V : Type 0} (w : Which) (items : V → List (ShownOf w)) (Apart : List
 -- ---- texts
 
 -- the rows of a table are readable if those are that were read of it
-pub texts_of : {V : Type 0} (w : Which) (items : V → List (ShownOf w)) (Apart : List (ShownOf w) → Type 0) (old new : State) (v : V) → AnswersRows (Ok v) items w (λ x. x) Apart old new
+pub texts_of : {V : Type 0} (w : FileTable) (items : V → List (ShownOf w)) (Apart : List (ShownOf w) → Type 0) (old new : State) (v : V) → AnswersRows (Ok v) items w (λ x. x) Apart old new
     → (l : Layout) (c : Contents) → l.has w ≡ true → ShowsContents l c old → AllByRecursion (IsUtf8Row w) (c.rows w)
 texts_of w items Apart old new v answers l c there shows =
     all-permutation (IsUtf8Row w) (map (own w) (items v)) (c.rows w) (IsPermutation-sym _ _ (answers.shows l c there shows)) (all-map (IsUtf8Row w) (own w) (items v) answers.utf8)
 
-no_book_texts : (rows : List (RowOf books)) → AllByRecursion (IsUtf8Row books) rows
+no_book_texts : (rows : List (RowOf tables.Book)) → AllByRecursion (IsUtf8Row tables.Book) rows
 no_book_texts [] = tt
 no_book_texts (row ∷ rows) = (tt, no_book_texts rows)
 
-no_cell_texts : (rows : List (RowOf caches)) → AllByRecursion (IsUtf8Row caches) rows
+no_cell_texts : (rows : List (RowOf tables.Cache)) → AllByRecursion (IsUtf8Row tables.Cache) rows
 no_cell_texts [] = tt
 no_cell_texts (row ∷ rows) = (tt, no_cell_texts rows)
 
 -- a file of the format can be read if its texts can
-pub all_readable : (f : Format) (l : Layout) (c : Contents) → IsOfFormat f l → AllByRecursion (IsUtf8Row tabs) (c.rows tabs) → AllByRecursion (IsUtf8Row paras) (c.rows paras)
-    → AreEntriesReadable f l c → AllByRecursion (IsUtf8Row marks) (c.rows marks) → CanAllBeRead f l c
-all_readable unnamed l c of names prints entries notes books = ((of books).1, no_book_texts (c.rows books))
-all_readable unnamed l c of names prints entries notes tabs = ((of tabs).1, names)
-all_readable unnamed l c of names prints entries notes paras = ((of paras).1, prints)
-all_readable unnamed l c of names prints entries notes corrs = ((of corrs).1, entries)
-all_readable unnamed l c of names prints entries notes marks = ((of marks).1, notes)
-all_readable unnamed l c of names prints entries notes caches = λ there. no_cell_texts (c.rows caches)
-all_readable unnamed l c of names prints entries notes named_corrs = (of named_corrs).1
-all_readable named l c of names prints entries notes books = ((of books).1, no_book_texts (c.rows books))
-all_readable named l c of names prints entries notes tabs = ((of tabs).1, names)
-all_readable named l c of names prints entries notes paras = ((of paras).1, prints)
-all_readable named l c of names prints entries notes corrs = tt
-all_readable named l c of names prints entries notes marks = ((of marks).1, notes)
-all_readable named l c of names prints entries notes caches = λ there. no_cell_texts (c.rows caches)
-all_readable named l c of names prints entries notes named_corrs = ((of named_corrs).1, entries)
+pub all_readable : (f : Format) (l : Layout) (c : Contents) → IsOfFormat f l → AllByRecursion (IsUtf8Row tables.Tab) (c.rows tables.Tab) → AllByRecursion (IsUtf8Row tables.Para) (c.rows tables.Para)
+    → AreEntriesReadable f l c → AllByRecursion (IsUtf8Row tables.Mark) (c.rows tables.Mark) → CanAllBeRead f l c
+all_readable unnamed l c of names prints entries notes tables.Book = ((of tables.Book).1, no_book_texts (c.rows tables.Book))
+all_readable unnamed l c of names prints entries notes tables.Tab = ((of tables.Tab).1, names)
+all_readable unnamed l c of names prints entries notes tables.Para = ((of tables.Para).1, prints)
+all_readable unnamed l c of names prints entries notes tables.Corr = ((of tables.Corr).1, entries)
+all_readable unnamed l c of names prints entries notes tables.Mark = ((of tables.Mark).1, notes)
+all_readable unnamed l c of names prints entries notes tables.Cache = λ there. no_cell_texts (c.rows tables.Cache)
+all_readable unnamed l c of names prints entries notes tables.NamedCorr = (of tables.NamedCorr).1
+all_readable named l c of names prints entries notes tables.Book = ((of tables.Book).1, no_book_texts (c.rows tables.Book))
+all_readable named l c of names prints entries notes tables.Tab = ((of tables.Tab).1, names)
+all_readable named l c of names prints entries notes tables.Para = ((of tables.Para).1, prints)
+all_readable named l c of names prints entries notes tables.Corr = tt
+all_readable named l c of names prints entries notes tables.Mark = ((of tables.Mark).1, notes)
+all_readable named l c of names prints entries notes tables.Cache = λ there. no_cell_texts (c.rows tables.Cache)
+all_readable named l c of names prints entries notes tables.NamedCorr = ((of tables.NamedCorr).1, entries)

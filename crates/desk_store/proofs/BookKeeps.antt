@@ -6,48 +6,48 @@ use Rattle.sql_tables.specs.States.{IsSettled}
 use Rattle.desk_model.specs.Book.{Book}
 use Rattle.desk_model.specs.Loans.{LeadTo}
 use Rattle.desk_book.specs.Changes.{Change}
-use Rattle.desk_parts.specs.declared.file_table.FileTable.TheVariants.{NamedCorr}
-use Rattle.desk_parts.specs.Puts.{RowPut, PutBook, PutTab, PutPara, PutMark, PutCache, PutEntry, SetPlace, SetFlags, SetTable, SetPrint, SetSpan, SetResolved, SetVersion}
+use Rattle.desk_parts.specs.declared.file_table.FileTable.TheVariants as tables
+use Rattle.desk_parts.specs.Puts.{RowPut, PutBook, PutTab, PutPara, PutMark, PutCache, PutEntry, SetPlace, SetFlags, SetTable, SetPrint, SetSpan, SetResolved, SetVersion, table_put}
 use Rattle.desk_parts.specs.FileRows.{FileRows, table_of}
 use Rattle.desk_model.specs.Shows.{Shows as RowsShow}
 use Rattle.desk_store.specs.BookFile.{rows_of}
 use Rattle.desk_store.specs.Books.{HasNewTables, HoldsBook, HoldsKept, IsKept, LeavesBook, LeavesEither, MayKeep, ShowsBook}
 use Rattle.desk_rows.specs.Contents.{Contents}
 use Rattle.desk_rows.specs.Layout.{Layout}
-use Rattle.desk_rows.specs.Puts.{HasThem, IsFileWith, Writes, puts_into, table_put}
+use Rattle.desk_rows.specs.Puts.{HasThem, IsFileWith, Writes, puts_into}
 use Rattle.desk_store.proofs.BookPuts.{all_put}
 
 -- ---- the tables of what is put
 
-module _ (l : Layout) (tables : HasNewTables l) where
+module _ (l : Layout) (new : HasNewTables l) where
   there : (it : RowPut) → l.has (table_put it) ≡ true
-  there (PutBook row) = tables.0
-  there (PutTab row) = tables.1.0
-  there (PutPara row) = tables.1.1.0
-  there (PutMark row) = tables.1.1.1.0
-  there (PutCache row) = tables.1.1.1.1.0
-  there (PutEntry row) = tables.1.1.1.1.1.0
-  there (SetPlace id place) = tables.1.1.0
-  there (SetFlags id style volume struck) = tables.1.1.0
-  there (SetTable id tab) = tables.1.1.0
-  there (SetPrint id print) = tables.1.1.0
-  there (SetSpan id start stop touched) = tables.1.1.1.0
-  there (SetResolved id resolved) = tables.1.1.1.0
-  there (SetVersion version) = tables.0
+  there (PutBook row) = new.0
+  there (PutTab row) = new.1.0
+  there (PutPara row) = new.1.1.0
+  there (PutMark row) = new.1.1.1.0
+  there (PutCache row) = new.1.1.1.1.0
+  there (PutEntry row) = new.1.1.1.1.1.0
+  there (SetPlace id place) = new.1.1.0
+  there (SetFlags id style volume struck) = new.1.1.0
+  there (SetTable id tab) = new.1.1.0
+  there (SetPrint id print) = new.1.1.0
+  there (SetSpan id start stop touched) = new.1.1.1.0
+  there (SetResolved id resolved) = new.1.1.1.0
+  there (SetVersion version) = new.0
 
   has_them : (puts : List RowPut) → HasThem l puts
   has_them [] = tt
   has_them (it ∷ puts) = (there it, has_them puts)
 
-  named_entries : (c : Contents) → table_of (rows_of l c).entries ≡ NamedCorr
-  named_entries c = rw tables.1.1.1.1.1.0 refl
+  named_entries : (c : Contents) → table_of (rows_of l c).entries ≡ tables.NamedCorr
+  named_entries c = rw new.1.1.1.1.1.0 refl
 
   -- ---- the book of the file with these put
 
   module _ (puts : List RowPut) (book next : Book) (leads : LeadTo book puts next) where
     rows_show : (c : Contents) → RowsShow (rows_of l c) book → RowsShow (rows_of l (puts_into puts c)) next
     rows_show c was =
-        subst (λ (rows : FileRows). RowsShow rows next) (sym (all_put l c puts (has_them puts)))
+        subst (λ (rows : FileRows). RowsShow rows next) (sym (all_put l c puts))
         (leads (rows_of l c) was (λ row put. named_entries c))
 
     shows_next : (old new : State) → Writes puts old new → ShowsBook l book old → ShowsBook l next new

@@ -1,27 +1,44 @@
 -- What is put into a file, as what is put into the rows of a book.
-use Rattle.std.proofs.Common.{◌≡◌, true, List, [], ◌∷◌, refl, ap, ◌∙◌}
-use Rattle.desk_parts.specs.Puts.{RowPut, PutBook, PutTab, PutPara, PutMark, PutCache, PutEntry, SetPlace, SetFlags, SetTable, SetPrint, SetSpan, SetResolved, SetVersion, with_put, with_puts}
+use Rattle.std.proofs.Common.{◌≡◌, Bool, true, false, if◌then◌else◌, List, [], ◌∷◌, Option, Some, None, option_map, refl, ap, ◌∙◌}
+use Rattle.desk_parts.specs.declared.file_table.FileTable.{FileTable}
+use Rattle.desk_parts.specs.declared.file_table.FileTable.TheVariants as tables
+use Rattle.desk_parts.specs.FileRows.{EntryRows, Named, Unnamed}
+use Rattle.desk_parts.specs.Puts.{RowPut, change_of, table_put, with_named, with_puts, with_rows_of, with_unnamed}
+use Rattle.desk_parts.specs.Rows.{Corr, NamedCorr, ParaCells, RowOf}
 use Rattle.desk_store.specs.BookFile.{rows_of}
-use Rattle.desk_rows.specs.Contents.{Contents}
+use Rattle.desk_rows.specs.Contents.{Contents, with_rows}
 use Rattle.desk_rows.specs.Layout.{Layout}
-use Rattle.desk_rows.specs.Puts.{HasThem, put_into, puts_into, table_put}
+use Rattle.desk_rows.specs.Puts.{put_into, puts_into}
+
+unnamed_changed : (change : List Corr → List Corr) (es : List NamedCorr) (cs : List Corr) (b : Bool)
+    → (if b then Named es else Unnamed (change cs)) ≡ with_unnamed change (if b then Named es else Unnamed cs)
+unnamed_changed change es cs true = refl
+unnamed_changed change es cs false = refl
+
+named_changed : (change : List NamedCorr → List NamedCorr) (es : List NamedCorr) (cs : List Corr) (b : Bool)
+    → (if b then Named (change es) else Unnamed cs) ≡ with_named change (if b then Named es else Unnamed cs)
+named_changed change es cs true = refl
+named_changed change es cs false = refl
+
+cells_changed : (change : List ParaCells → List ParaCells) (ks : List ParaCells) (b : Bool)
+    → (if b then Some (change ks) else None) ≡ option_map change (if b then Some ks else None)
+cells_changed change ks true = refl
+cells_changed change ks false = refl
 
 module _ (l : Layout) where
-  one_put : (c : Contents) (it : RowPut) → l.has (table_put it) ≡ true → rows_of l (put_into c it) ≡ with_put it (rows_of l c)
-  one_put c (PutBook row) there = refl
-  one_put c (PutTab row) there = refl
-  one_put c (PutPara row) there = refl
-  one_put c (PutMark row) there = refl
-  one_put c (PutCache row) there = rw there refl
-  one_put c (PutEntry row) there = rw there refl
-  one_put c (SetPlace id place) there = refl
-  one_put c (SetFlags id style volume struck) there = refl
-  one_put c (SetTable id tab) there = refl
-  one_put c (SetPrint id print) there = refl
-  one_put c (SetSpan id start stop touched) there = refl
-  one_put c (SetResolved id resolved) there = refl
-  one_put c (SetVersion version) there = refl
+  -- other rows in one table
+  rows_changed : (t : FileTable) (change : List (RowOf t) → List (RowOf t)) (c : Contents) → rows_of l (with_rows t change c) ≡ with_rows_of t change (rows_of l c)
+  rows_changed tables.Book change c = refl
+  rows_changed tables.Tab change c = refl
+  rows_changed tables.Para change c = refl
+  rows_changed tables.Corr change c =
+      ap (λ (entries : EntryRows). record (rows_of l c) { entries = entries }) (unnamed_changed change (c.rows tables.NamedCorr) (c.rows tables.Corr) (l.has tables.NamedCorr))
+  rows_changed tables.Mark change c = refl
+  rows_changed tables.Cache change c =
+      ap (λ (caches : Option (List ParaCells)). record (rows_of l c) { caches = caches }) (cells_changed change (c.rows tables.Cache) (l.has tables.Cache))
+  rows_changed tables.NamedCorr change c =
+      ap (λ (entries : EntryRows). record (rows_of l c) { entries = entries }) (named_changed change (c.rows tables.NamedCorr) (c.rows tables.Corr) (l.has tables.NamedCorr))
 
-  pub all_put : (c : Contents) (puts : List RowPut) → HasThem l puts → rows_of l (puts_into puts c) ≡ with_puts puts (rows_of l c)
-  all_put c [] there = refl
-  all_put c (it ∷ puts) there = all_put (put_into c it) puts there.1 ∙ ap (with_puts puts) (one_put c it there.0)
+  pub all_put : (c : Contents) (puts : List RowPut) → rows_of l (puts_into puts c) ≡ with_puts puts (rows_of l c)
+  all_put c [] = refl
+  all_put c (it ∷ puts) = all_put (put_into c it) puts ∙ ap (with_puts puts) (rows_changed (table_put it) (change_of it) c)

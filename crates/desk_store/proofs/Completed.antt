@@ -4,6 +4,7 @@ use Rattle.sqlite_schema.specs.declared.schema.Schema.{Schema}
 use Rattle.sqlite_trees.specs.Tree.{Trees}
 use Rattle.sqlite.specs.State.{State}
 use Rattle.desk_model.specs.Book.{empty_book}
+use Rattle.desk_parts.specs.declared.file_table.FileTable.TheVariants as tables
 use Rattle.desk_parts.specs.FileRows.{EntryRows, FileRows, Named, Unnamed}
 use Rattle.desk_parts.specs.Rows.{ParaCells}
 use Rattle.desk_model.specs.SameRows.{AreSameRows, AreSameCaches, AreSameEntries}
@@ -11,7 +12,6 @@ use Rattle.desk_model.proofs.Callers.{new-shown}
 use Rattle.desk_store.specs.BookFile.{rows_of}
 use Rattle.desk_store.specs.Books.{HasNewTables, HoldsBook, ShowsBook}
 use Rattle.desk_rows.specs.Contents.{Contents}
-use Rattle.desk_rows.specs.Descriptions.{books, tabs, paras, marks, caches, named_corrs}
 use Rattle.desk_store.specs.Formats.{Format, IsOfFormat, unnamed, named}
 use Rattle.desk_rows.specs.Layout.{Layout}
 use Rattle.desk_rows.specs.Making.{IsMade, IsNew, first_contents, is_among, new_layout}
@@ -35,47 +35,47 @@ stays_there : (is_made has : Bool) → has ≡ true → (if is_made then true el
 stays_there true has is = refl
 stays_there false has is = is
 
-gains_caches : (names cells : Bool) → (if is_among (which_lacked (lacking names cells)) caches then true else cells) ≡ true
+gains_caches : (names cells : Bool) → (if is_among (which_lacked (lacking names cells)) tables.Cache then true else cells) ≡ true
 gains_caches false false = refl
 gains_caches false true = refl
 gains_caches true false = refl
 gains_caches true true = refl
 
-gains_names : (names cells : Bool) → (if is_among (which_lacked (lacking names cells)) named_corrs then true else names) ≡ true
+gains_names : (names cells : Bool) → (if is_among (which_lacked (lacking names cells)) tables.NamedCorr then true else names) ≡ true
 gains_names false false = refl
 gains_names false true = refl
 gains_names true false = refl
 gains_names true true = refl
 
-has_all : (l : Layout) → l.has books ≡ true → l.has tabs ≡ true → l.has paras ≡ true → l.has marks ≡ true → HasNewTables (with_missing_tables l)
+has_all : (l : Layout) → l.has tables.Book ≡ true → l.has tables.Tab ≡ true → l.has tables.Para ≡ true → l.has tables.Mark ≡ true → HasNewTables (with_missing_tables l)
 has_all l book tab para mark = (
-  stays_there (is_among (missing_tables l) books) (l.has books) book,
+  stays_there (is_among (missing_tables l) tables.Book) (l.has tables.Book) book,
   (
-    stays_there (is_among (missing_tables l) tabs) (l.has tabs) tab,
+    stays_there (is_among (missing_tables l) tables.Tab) (l.has tables.Tab) tab,
     (
-      stays_there (is_among (missing_tables l) paras) (l.has paras) para,
+      stays_there (is_among (missing_tables l) tables.Para) (l.has tables.Para) para,
       (
-        stays_there (is_among (missing_tables l) marks) (l.has marks) mark,
-        (gains_caches (l.has named_corrs) (l.has caches), (gains_names (l.has named_corrs) (l.has caches), tt)),
+        stays_there (is_among (missing_tables l) tables.Mark) (l.has tables.Mark) mark,
+        (gains_caches (l.has tables.NamedCorr) (l.has tables.Cache), (gains_names (l.has tables.NamedCorr) (l.has tables.Cache), tt)),
       ),
     ),
   ),
 )
 
 pub completed_tables : (f : Format) (l : Layout) → IsOfFormat f l → HasNewTables (with_missing_tables l)
-completed_tables unnamed l of = has_all l (of books).1 (of tabs).1 (of paras).1 (of marks).1
-completed_tables named l of = has_all l (of books).1 (of tabs).1 (of paras).1 (of marks).1
+completed_tables unnamed l of = has_all l (of tables.Book).1 (of tables.Tab).1 (of tables.Para).1 (of tables.Mark).1
+completed_tables named l of = has_all l (of tables.Book).1 (of tables.Tab).1 (of tables.Para).1 (of tables.Mark).1
 
 -- it lacks nothing
-pub whole : (l : Layout) → lacking (l.has named_corrs) (l.has caches) ≡ None → with_missing_tables l ≡ l
+pub whole : (l : Layout) → lacking (l.has tables.NamedCorr) (l.has tables.Cache) ≡ None → with_missing_tables l ≡ l
 whole l none = rw none refl
 
 -- ---- what the rows say of it
 
-pub lacked_rows : (l : Layout) (c : Contents) → lacked_by (rows_of l c) ≡ lacking (l.has named_corrs) (l.has caches)
-lacked_rows l c = by_tables (l.has named_corrs) (l.has caches) refl refl
+pub lacked_rows : (l : Layout) (c : Contents) → lacked_by (rows_of l c) ≡ lacking (l.has tables.NamedCorr) (l.has tables.Cache)
+lacked_rows l c = by_tables (l.has tables.NamedCorr) (l.has tables.Cache) refl refl
   where
-    by_tables : (entries cells : Bool) → l.has named_corrs ≡ entries → l.has caches ≡ cells → lacked_by (rows_of l c) ≡ lacking (l.has named_corrs) (l.has caches)
+    by_tables : (entries cells : Bool) → l.has tables.NamedCorr ≡ entries → l.has tables.Cache ≡ cells → lacked_by (rows_of l c) ≡ lacking (l.has tables.NamedCorr) (l.has tables.Cache)
     by_tables true true e k = rw (e, k) refl
     by_tables true false e k = rw (e, k) refl
     by_tables false true e k = rw (e, k) refl

@@ -6,9 +6,11 @@ use Rattle.sqlite_catalog.specs.Change.{created}
 use Rattle.sqlite_schema.specs.Names.{same_name}
 use Rattle.sqlite_schema.specs.declared.schema.Schema.{Schema}
 use Rattle.sqlite_schema.specs.declared.schema.Table.{Table}
+use Rattle.desk_parts.specs.declared.file_table.FileTable.{FileTable}
+use Rattle.desk_parts.specs.declared.file_table.FileTable.TheVariants as tables
 use Rattle.sql_tables.specs.Making.{first_created}
 use Rattle.sql_tables.specs.Tables.{counter}
-use Rattle.desk_rows.specs.Descriptions.{Which, books, tabs, paras, corrs, marks, caches, named_corrs, description_of, table_of}
+use Rattle.desk_rows.specs.Descriptions.{description_of, table_of}
 use Rattle.desk_store.specs.Formats.{IsExact}
 use Rattle.desk_rows.specs.Layout.{Layout}
 use Rattle.desk_rows.specs.Making.{after, is_among, with_tables}
@@ -30,36 +32,36 @@ found_with p (y ∷ ys) x i = beside (p y) (p x) i (found_with p ys x (i + 1))
     beside false c i more = more
 
 -- our names are the same only where they are equal, and none is that of the counter
-same_as_equal : (w v : Which) → same_name (description_of w).name (description_of v).name ≡ bytes_eq (description_of w).name (description_of v).name
+same_as_equal : (w v : FileTable) → same_name (description_of w).name (description_of v).name ≡ bytes_eq (description_of w).name (description_of v).name
 unfolding same_name
-same_as_equal books books = refl
-same_as_equal tabs books = refl
-same_as_equal paras books = refl
-same_as_equal corrs books = refl
-same_as_equal marks books = refl
-same_as_equal caches books = refl
-same_as_equal named_corrs books = refl
+same_as_equal tables.Book tables.Book = refl
+same_as_equal tables.Tab tables.Book = refl
+same_as_equal tables.Para tables.Book = refl
+same_as_equal tables.Corr tables.Book = refl
+same_as_equal tables.Mark tables.Book = refl
+same_as_equal tables.Cache tables.Book = refl
+same_as_equal tables.NamedCorr tables.Book = refl
 same_as_equal w v = refl
 
-no_counter : (v : Which) → same_name (counter 0).name (description_of v).name ≡ false
+no_counter : (v : FileTable) → same_name (counter 0).name (description_of v).name ≡ false
 unfolding same_name
-no_counter books = refl
+no_counter tables.Book = refl
 no_counter v = refl
 
 lasts : (a b c d : Bool) → a ≡ (b || c) → (a || d) ≡ (b || (c || d))
 lasts a true c d is = ap (λ x. x || d) is
 lasts a false c d is = ap (λ x. x || d) is
 
-there_created : (s : Schema) (table : Table) (v : Which) → is_there (created s table) v ≡ (same_name table.name (description_of v).name || is_there s v)
+there_created : (s : Schema) (table : Table) (v : FileTable) → is_there (created s table) v ≡ (same_name table.name (description_of v).name || is_there s v)
 there_created s table v = lasts _ _ _ _ (found_with (λ (t : Table). same_name t.name (description_of v).name) s.tables _ 0)
 
-there_made : (s : Schema) (w v : Which) → is_there (created s (table_of w 0)) v ≡ (bytes_eq (description_of w).name (description_of v).name || is_there s v)
+there_made : (s : Schema) (w v : FileTable) → is_there (created s (table_of w 0)) v ≡ (bytes_eq (description_of w).name (description_of v).name || is_there s v)
 there_made s w v = there_created s (table_of w 0) v ∙ ap (λ b. b || is_there s v) (same_as_equal w v)
 
-there_counted : (s : Schema) (v : Which) → is_there (created s (counter 0)) v ≡ is_there s v
+there_counted : (s : Schema) (v : FileTable) → is_there (created s (counter 0)) v ≡ is_there s v
 there_counted s v = there_created s (counter 0) v ∙ ap (λ b. b || is_there s v) (no_counter v)
 
-there_first : (s : Schema) (w v : Which) → is_there (first_created s (table_of w 0)) v ≡ (bytes_eq (description_of w).name (description_of v).name || is_there s v)
+there_first : (s : Schema) (w v : FileTable) → is_there (first_created s (table_of w 0)) v ≡ (bytes_eq (description_of w).name (description_of v).name || is_there s v)
 there_first s w v = go (lacks_sequence s)
   where
     go : (b : Bool) → is_there (if b then created (created s (table_of w 0)) (counter 0) else created s (table_of w 0)) v ≡ (bytes_eq (description_of w).name (description_of v).name || is_there s v)
@@ -72,7 +74,7 @@ turned true false c = refl
 turned false true c = refl
 turned false false c = refl
 
-pub there_after : (ws : List Which) (s : Schema) (v : Which) → is_there (after ws s) v ≡ (is_among ws v || is_there s v)
+pub there_after : (ws : List FileTable) (s : Schema) (v : FileTable) → is_there (after ws s) v ≡ (is_among ws v || is_there s v)
 there_after [] s v = refl
 there_after (w ∷ ws) s v =
     there_after ws (first_created s (table_of w 0)) v ∙ ap (λ b. is_among ws v || b) (there_first s w v) ∙ turned (is_among ws v) (bytes_eq (description_of w).name (description_of v).name) (is_there s v)
@@ -82,5 +84,5 @@ either true b c is = refl
 either false b c is = is
 
 -- an exact layout is exact with tables that are made
-pub exact_with : (ws : List Which) (l : Layout) → IsExact l → IsExact (with_tables ws l)
+pub exact_with : (ws : List FileTable) (l : Layout) → IsExact l → IsExact (with_tables ws l)
 exact_with ws l is v = either (is_among ws v) (l.has v) (is_there l.schema v) (is v) ∙ sym (there_after ws l.schema v)

@@ -5,13 +5,12 @@ use Rattle.std.proofs.lemmas.Int.{ints}
 use Rattle.std.proofs.lemmas.List.Elements.{All-from_recursion}
 use Rattle.desk_model.specs.Damage.{HasItsTables, IsDamagedBook}
 use Rattle.desk_model.proofs.Callers.{book-undamaged as sound-book, one_damage, shown-undamaged as shown, undamaged as sound}
+use Rattle.desk_parts.specs.declared.file_table.FileTable.{FileTable}
+use Rattle.desk_parts.specs.declared.file_table.FileTable.TheVariants as tables
 use Rattle.desk_parts.specs.FileRows.{AreTexts, HasEntryTexts, Named, Unnamed, entries_in, without_name}
 use Rattle.desk_parts.specs.Rows.{Corr}
-use Rattle.desk_parts.specs.declared.file_table.FileTable.{FileTable}
-use Rattle.desk_parts.specs.declared.file_table.FileTable.TheVariants as file
 use Rattle.desk_parts.specs.declared.rows.BookRow.{BookRow}
 use Rattle.desk_rows.specs.Contents.{Contents}
-use Rattle.desk_rows.specs.Descriptions.{Which, books, corrs, marks, named_corrs, paras, tabs}
 use Rattle.desk_rows.specs.Layout.{Layout}
 use Rattle.desk_rows.specs.Whole.{IsUtf8Row}
 use Rattle.desk_store.specs.BookFile.{rows_of}
@@ -44,7 +43,7 @@ not_damaged rows row id is damaged = damaged.1 (row, is.alone, is.sound)
 
 pub undamaged : (l : Layout) (c : Contents) → HasBook l c → IsUndamaged l c
 undamaged l c ((f, of), (book, shows)) =
-    let head = sound-book (c.rows books) (λ id. sound (rows_of l c) book shows file.Book id) in
+    let head = sound-book (c.rows tables.Book) (λ id. sound (rows_of l c) book shows tables.Book id) in
     let format = row_is l c book shows f of head.0 head.1 in
     record {
       row = head.0;
@@ -59,31 +58,31 @@ unrefused l c fault ((f, of), (book, shows)) = never_refused l c book shows f of
 -- ---- and one without damage shows a book
 
 module _ (l : Layout) (c : Contents) where
-  texts_in : (f : Format) (w : Which) → presence f w ≡ needed → CanAllBeRead f l c → AllByRecursion (IsUtf8Row w) (c.rows w)
+  texts_in : (f : Format) (w : FileTable) → presence f w ≡ needed → CanAllBeRead f l c → AllByRecursion (IsUtf8Row w) (c.rows w)
   texts_in f w has_to can = (subst (λ (p : Presence). CanBeRead p (l.has w) (AllByRecursion (IsUtf8Row w) (c.rows w))) has_to (can w)).1
 
-  unnamed_texts : (rows : List Corr) → AllByRecursion (IsUtf8Row corrs) rows → AllByRecursion HasEntryTexts (map without_name rows)
+  unnamed_texts : (rows : List Corr) → AllByRecursion (IsUtf8Row tables.Corr) rows → AllByRecursion HasEntryTexts (map without_name rows)
   unnamed_texts [] all = tt
   unnamed_texts (row ∷ rows) all = ((all.0, ([], (refl, refl))), unnamed_texts rows all.1)
 
   entries_are : (f : Format) → IsOfFormat f l → format_kept (rows_of l c).entries ≡ f
-  entries_are unnamed of = rw (of named_corrs).1 refl
-  entries_are named of = rw (of named_corrs).1 refl
+  entries_are unnamed of = rw (of tables.NamedCorr).1 refl
+  entries_are named of = rw (of tables.NamedCorr).1 refl
 
   entry_texts : (f : Format) → IsOfFormat f l → CanAllBeRead f l c → AllByRecursion HasEntryTexts (entries_in (rows_of l c).entries)
   entry_texts unnamed of can =
-      subst (λ (has : Bool). AllByRecursion HasEntryTexts (entries_in (if has then Named (c.rows named_corrs) else Unnamed (c.rows corrs)))) (sym (of named_corrs).1)
-      (unnamed_texts (c.rows corrs) (can corrs).1)
+      subst (λ (has : Bool). AllByRecursion HasEntryTexts (entries_in (if has then Named (c.rows tables.NamedCorr) else Unnamed (c.rows tables.Corr)))) (sym (of tables.NamedCorr).1)
+      (unnamed_texts (c.rows tables.Corr) (can tables.Corr).1)
   entry_texts named of can =
-      subst (λ (has : Bool). AllByRecursion HasEntryTexts (entries_in (if has then Named (c.rows named_corrs) else Unnamed (c.rows corrs)))) (sym (of named_corrs).1)
-      (can named_corrs).1
+      subst (λ (has : Bool). AllByRecursion HasEntryTexts (entries_in (if has then Named (c.rows tables.NamedCorr) else Unnamed (c.rows tables.Corr)))) (sym (of tables.NamedCorr).1)
+      (can tables.NamedCorr).1
 
   texts : (f : Format) → IsOfFormat f l → CanAllBeRead f l c → AreTexts (rows_of l c)
   texts f of can = record {
-    tabs = All-from_recursion _ _ (texts_in f tabs (needs_tabs f) can);
-    paras = All-from_recursion _ _ (texts_in f paras (needs_paras f) can);
+    tabs = All-from_recursion _ _ (texts_in f tables.Tab (needs_tabs f) can);
+    paras = All-from_recursion _ _ (texts_in f tables.Para (needs_paras f) can);
     entries = All-from_recursion _ _ (entry_texts f of can);
-    marks = All-from_recursion _ _ (texts_in f marks (needs_marks f) can);
+    marks = All-from_recursion _ _ (texts_in f tables.Mark (needs_marks f) can);
   }
 
   pub has_book : HasThoseRead l → IsUndamaged l c → HasBook l c
@@ -97,30 +96,30 @@ module _ (l : Layout) (c : Contents) where
 
   -- ---- at most one refusal is reported
 
-  readable_books : (f : Format) → CanAllBeRead f l c → l.has books ≡ true
-  readable_books unnamed can = (can books).0
-  readable_books named can = (can books).0
+  readable_books : (f : Format) → CanAllBeRead f l c → l.has tables.Book ≡ true
+  readable_books unnamed can = (can tables.Book).0
+  readable_books named can = (can tables.Book).0
 
   lacks_damaged : (table : FileTable) (id : ℤ) → LacksTables l c → ¬ TellsOf l c (Damaged table id)
   lacks_damaged table id (inl none) (inl (has, is_book, damaged, known)) = true≢false (sym has ∙ none)
   lacks_damaged table id (inl none) (inr at) = true≢false (sym (readable_books (format_in at.row.format) at.readable) ∙ none)
-  lacks_damaged table id (inr (row, there, is, not)) (inl (has, is_book, damaged, known)) = not_damaged (c.rows books) row id is damaged
+  lacks_damaged table id (inr (row, there, is, not)) (inl (has, is_book, damaged, known)) = not_damaged (c.rows tables.Book) row id is damaged
   lacks_damaged table id (inr (row, there, is, not)) (inr at) =
       not (subst (λ (r : BookRow). CanAllBeRead (format_in r.format) l c) (same_head at.row row (sym at.book.alone ∙ is.alone)) at.readable)
 
   lacks_newer : LacksTables l c → ¬ TellsOf l c NewerFormat
   lacks_newer (inl none) (has, newer) = true≢false (sym has ∙ none)
-  lacks_newer (inr (row, there, is, not)) (has, newer) = not_newer (c.rows books) row is newer
+  lacks_newer (inr (row, there, is, not)) (has, newer) = not_newer (c.rows tables.Book) row is newer
 
   damaged_newer : (table : FileTable) (id : ℤ) → TellsOf l c (Damaged table id) → ¬ TellsOf l c NewerFormat
   damaged_newer table id (inl (has, is_book, damaged, known)) (there, newer) = known newer
-  damaged_newer table id (inr at) (there, newer) = not_newer (c.rows books) at.row at.book newer
+  damaged_newer table id (inr at) (there, newer) = not_newer (c.rows tables.Book) at.row at.book newer
 
   one_place : (table other : FileTable) (id n : ℤ) → TellsOf l c (Damaged table id) → TellsOf l c (Damaged other n) → Damaged table id ≡ Damaged other n
   one_place table other id n (inl (has, is_book, damaged, known)) (inl (has', is_book', damaged', known')) =
       ap₂ Damaged (is_book ∙ sym is_book') (damaged.0 ∙ sym damaged'.0)
-  one_place table other id n (inl (has, is_book, damaged, known)) (inr at) = absurd (not_damaged (c.rows books) at.row id at.book damaged)
-  one_place table other id n (inr at) (inl (has, is_book, damaged, known)) = absurd (not_damaged (c.rows books) at.row n at.book damaged)
+  one_place table other id n (inl (has, is_book, damaged, known)) (inr at) = absurd (not_damaged (c.rows tables.Book) at.row id at.book damaged)
+  one_place table other id n (inr at) (inl (has, is_book, damaged, known)) = absurd (not_damaged (c.rows tables.Book) at.row n at.book damaged)
   one_place table other id n (inr at) (inr too) =
       let same = one_damage (rows_of l c) table other id n at.first too.first in ap₂ Damaged same.0 same.1
 

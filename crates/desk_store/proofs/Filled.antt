@@ -1,11 +1,12 @@
 -- The tables that a book's file lacked, filled with what the book has for them.
 use Rattle.std.proofs.Common.{◌≡◌, true, List, [], ◌∷◌, ◌++◌, map, refl, sym, subst, ap, ◌∙◌}
-use Rattle.std.specs.List.{AllByRecursion}
 use Rattle.sqlite_trees.specs.Tree.{Trees}
 use Rattle.sqlite_catalog.specs.Change.{KeepsRows}
 use Rattle.sqlite.specs.State.{State}
 use Rattle.sql_tables.specs.Making.{KeepsAside}
 use Rattle.desk_model.specs.Book.{Book}
+use Rattle.desk_parts.specs.declared.file_table.FileTable.{FileTable}
+use Rattle.desk_parts.specs.declared.file_table.FileTable.TheVariants as tables
 use Rattle.desk_parts.specs.FileRows.{FileRows}
 use Rattle.desk_model.specs.FilledRows.{Fills, entry_puts, with_empty}
 use Rattle.desk_parts.specs.Puts.{RowPut, PutBook, PutTab, PutPara, PutMark, PutCache, PutEntry, SetPlace, SetFlags, SetTable, SetPrint, SetSpan, SetResolved, SetVersion, with_puts}
@@ -16,15 +17,13 @@ use Rattle.desk_model.specs.declared.new_tables.NewTables.TheVariants.{Braille, 
 use Rattle.desk_model.proofs.Callers.{filled-shown}
 use Rattle.desk_store.specs.BookFile.{rows_of}
 use Rattle.desk_rows.specs.Contents.{Contents}
-use Rattle.desk_rows.specs.Descriptions.{Which, books, caches, corrs, named_corrs, description_of}
 use Rattle.desk_store.specs.Formats.{Format, IsOfFormat, unnamed, named}
 use Rattle.desk_rows.specs.Layout.{Layout}
 use Rattle.desk_rows.specs.Making.{Differ, IsFileWithTables, IsGrown, WritesWithTables, with_none, with_tables}
 use Rattle.desk_store.specs.Opened.{HasGained, HoldsWith, Keeps, Stands, which_new}
 use Rattle.desk_rows.specs.Puts.{HasThem, put_into, puts_into}
 use Rattle.desk_rows.specs.States.{IsFile, ShowsContents}
-use Rattle.desk_rows.specs.Tables.{AreWritten, which}
-use Rattle.desk_parts.specs.declared.file_table.FileTable.{FileTable}
+use Rattle.desk_rows.specs.Tables.{AreWritten}
 use Rattle.desk_store.proofs.BookPuts.{all_put}
 
 -- ---- the tables of what is put
@@ -35,11 +34,11 @@ new_differ Entries = (tt, tt)
 new_differ Braille = (tt, tt)
 
 module _ (l : Layout) where
-  entries_there : l.has named_corrs ≡ true → (entries : List NamedCorr) → HasThem l (map PutEntry entries)
+  entries_there : l.has tables.NamedCorr ≡ true → (entries : List NamedCorr) → HasThem l (map PutEntry entries)
   entries_there there [] = tt
   entries_there there (e ∷ es) = (there, entries_there there es)
 
-  cells_there : l.has caches ≡ true → (cells : List ParaCells) → HasThem l (map PutCache cells)
+  cells_there : l.has tables.Cache ≡ true → (cells : List ParaCells) → HasThem l (map PutCache cells)
   cells_there there [] = tt
   cells_there there (k ∷ ks) = (there, cells_there there ks)
 
@@ -47,9 +46,9 @@ module _ (l : Layout) where
   both_there [] b _ q = q
   both_there (it ∷ a) b p q = (p.0, both_there a b p.1 q)
 
-has_books : (f : Format) (l : Layout) → IsOfFormat f l → l.has books ≡ true
-has_books unnamed l of = (of books).1
-has_books named l of = (of books).1
+has_books : (f : Format) (l : Layout) → IsOfFormat f l → l.has tables.Book ≡ true
+has_books unnamed l of = (of tables.Book).1
+has_books named l of = (of tables.Book).1
 
 pub new_there : (t : NewTables) (f : Format) (l : Layout) → IsOfFormat f l → (book : Book) (puts : List RowPut) → Fills t book puts → HasThem (with_tables (which_new t) l) puts
 new_there EntriesAndBraille f l of book puts fills =
@@ -66,20 +65,13 @@ new_there Braille f l of book puts fills =
 
 -- ---- none of the new tables is `corr`
 
-abbrev AreNotCorr : List Which → Type 0
-AreNotCorr ws = AllByRecursion (λ w. (description_of w).is_written ≡ true) ws
-
-new_written : (t : NewTables) → AreNotCorr (which_new t)
+new_written : (t : NewTables) → AreWritten (which_new t)
 new_written EntriesAndBraille = (refl, (refl, tt))
 new_written Entries = (refl, tt)
 new_written Braille = (refl, tt)
 
-written_of : (ts : List FileTable) → AreNotCorr (map which ts) → AreWritten ts
-written_of [] all = tt
-written_of (t ∷ ts) all = (all.0, written_of ts all.1)
-
-pub are_written : (t : NewTables) (ts : List FileTable) → map which ts ≡ which_new t → AreWritten ts
-are_written t ts are = written_of ts (subst AreNotCorr (sym are) (new_written t))
+pub are_written : (t : NewTables) (ts : List FileTable) → ts ≡ which_new t → AreWritten ts
+are_written t ts are = subst AreWritten (sym are) (new_written t)
 
 -- ---- the rows once the tables are there
 
@@ -90,7 +82,7 @@ emptied Braille l others c = refl
 
 -- ---- what stays
 
-one_keeps : (it : RowPut) (c : Contents) → (put_into c it).rows corrs ≡ c.rows corrs
+one_keeps : (it : RowPut) (c : Contents) → (put_into c it).rows tables.Corr ≡ c.rows tables.Corr
 one_keeps (PutBook row) c = refl
 one_keeps (PutTab row) c = refl
 one_keeps (PutPara row) c = refl
@@ -105,7 +97,7 @@ one_keeps (SetSpan id start stop touched) c = refl
 one_keeps (SetResolved id resolved) c = refl
 one_keeps (SetVersion version) c = refl
 
-keep_corrs : (puts : List RowPut) (c : Contents) → (puts_into puts c).rows corrs ≡ c.rows corrs
+keep_corrs : (puts : List RowPut) (c : Contents) → (puts_into puts c).rows tables.Corr ≡ c.rows tables.Corr
 keep_corrs [] c = refl
 keep_corrs (it ∷ puts) c = keep_corrs puts (put_into c it) ∙ one_keeps it c
 
@@ -113,7 +105,7 @@ keep_others : (puts : List RowPut) (c : Contents) → (puts_into puts c).others 
 keep_others [] c = refl
 keep_others (it ∷ puts) c = keep_others puts (put_into c it)
 
-none_of_corrs : (t : NewTables) (others : Trees) (c : Contents) → (with_none (which_new t) others c).rows corrs ≡ c.rows corrs
+none_of_corrs : (t : NewTables) (others : Trees) (c : Contents) → (with_none (which_new t) others c).rows tables.Corr ≡ c.rows tables.Corr
 none_of_corrs EntriesAndBraille others c = refl
 none_of_corrs Entries others c = refl
 none_of_corrs Braille others c = refl
@@ -126,7 +118,7 @@ module _ (t : NewTables) (l : Layout) (book : Book) (puts : List RowPut) (fills 
       let c = stands.1.0 in
       let after = with_tables (which_new t) l in
       let empty = with_none (which_new t) others c in
-      let same = all_put after empty puts (new_there t stands.0.0 l stands.0.1 book puts fills) ∙ ap (with_puts puts) (emptied t l others c) in
+      let same = all_put after empty puts ∙ ap (with_puts puts) (emptied t l others c) in
       let keeps : Keeps l c s.now.trees (puts_into puts empty) = record {
         corrs = keep_corrs puts empty ∙ none_of_corrs t others c;
         others = subst (KeepsRows l.schema.tables s.now.trees) (sym (keep_others puts empty)) rows;
@@ -139,16 +131,16 @@ module _ (t : NewTables) (l : Layout) (book : Book) (puts : List RowPut) (fills 
 
 -- ---- what is written, and what a crash leaves
 
-module _ (t : NewTables) (book : Book) (puts : List RowPut) (fills : Fills t book puts) (ts : List FileTable) (are : map which ts ≡ which_new t) (old : State) where
-  pub shows_gained : (new : State) → WritesWithTables (map which ts) puts old new
+module _ (t : NewTables) (book : Book) (puts : List RowPut) (fills : Fills t book puts) (ts : List FileTable) (are : ts ≡ which_new t) (old : State) where
+  pub shows_gained : (new : State) → WritesWithTables ts puts old new
       → (l : Layout) (stands : Stands l book old) → HasGained (which_new t) l stands.1.0 book old.now.trees (λ after d. ShowsContents after d new)
   shows_gained new writes l stands =
-      let writes_new = subst (λ (ws : List Which). WritesWithTables ws puts old new) are writes in
+      let writes_new = subst (λ (ws : List FileTable). WritesWithTables ws puts old new) are writes in
       gained t l book puts fills old stands (λ after d. ShowsContents after d new)
       (writes_new l stands.1.0 (new_differ t) (new_there t stands.0.0 l stands.0.1 book puts fills) stands.1.1)
 
-  pub holds_gained : (db : Trees) → IsFileWithTables (map which ts) puts old db → HoldsWith (which_new t) book old db
+  pub holds_gained : (db : Trees) → IsFileWithTables ts puts old db → HoldsWith (which_new t) book old db
   holds_gained db file l stands =
-      let file_new = subst (λ (ws : List Which). IsFileWithTables ws puts old db) are file in
+      let file_new = subst (λ (ws : List FileTable). IsFileWithTables ws puts old db) are file in
       gained t l book puts fills old stands (λ after d. IsFile after d db)
       (file_new l stands.1.0 (new_differ t) (new_there t stands.0.0 l stands.0.1 book puts fills) stands.1.1)

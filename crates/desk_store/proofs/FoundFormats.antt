@@ -2,9 +2,9 @@
 use Rattle.std.proofs.Common.{◌≡◌, Bool, ◌&&◌, not, true, false, refl, sym, ◌∙◌, subst, inl, inr, true≢false}
 use Rattle.sqlite_schema.specs.declared.schema.Schema.{Schema}
 use Rattle.sqlite.specs.State.{State}
+use Rattle.desk_parts.specs.declared.file_table.FileTable.TheVariants as tables
 use Rattle.desk_parts.specs.FileRows.{FileRows}
 use Rattle.desk_rows.specs.Contents.{Contents}
-use Rattle.desk_rows.specs.Descriptions.{books, tabs, paras, corrs, marks, caches, named_corrs}
 use Rattle.desk_store.specs.Formats.{Format, HasThoseRead, IsExact, IsOfFormat, named, unnamed}
 use Rattle.desk_store.specs.Found.{AreFileRows, format_kept}
 use Rattle.desk_rows.specs.Layout.{Layout}
@@ -27,34 +27,34 @@ all_named true true false d is = absurd (true≢false (sym is))
 all_named true true true false is = absurd (true≢false (sym is))
 all_named true true true true is = (refl, refl, refl, refl)
 
-module _ (l : Layout) (exact : IsExact l) (book : is_there l.schema books ≡ true) where
+module _ (l : Layout) (exact : IsExact l) (book : is_there l.schema tables.Book ≡ true) where
   exact_unnamed : has_tables unnamed l.schema ≡ true → IsOfFormat unnamed l
   exact_unnamed is =
-      let all = all_unnamed (is_there l.schema tabs) (is_there l.schema paras) (is_there l.schema marks) (is_there l.schema corrs) (is_there l.schema named_corrs) is in
+      let all = all_unnamed (is_there l.schema tables.Tab) (is_there l.schema tables.Para) (is_there l.schema tables.Mark) (is_there l.schema tables.Corr) (is_there l.schema tables.NamedCorr) is in
       in_turn all
     where
-      in_turn : (is_there l.schema tabs ≡ true) × (is_there l.schema paras ≡ true) × (is_there l.schema marks ≡ true) × (is_there l.schema corrs ≡ true) × (is_there l.schema named_corrs ≡ false) → IsOfFormat unnamed l
-      in_turn all books = (exact books, exact books ∙ book)
-      in_turn all tabs = (exact tabs, exact tabs ∙ all.0)
-      in_turn all paras = (exact paras, exact paras ∙ all.1)
-      in_turn all corrs = (exact corrs, exact corrs ∙ all.3)
-      in_turn all marks = (exact marks, exact marks ∙ all.2)
-      in_turn all caches = exact caches
-      in_turn all named_corrs = (exact named_corrs, exact named_corrs ∙ all.4)
+      in_turn : (is_there l.schema tables.Tab ≡ true) × (is_there l.schema tables.Para ≡ true) × (is_there l.schema tables.Mark ≡ true) × (is_there l.schema tables.Corr ≡ true) × (is_there l.schema tables.NamedCorr ≡ false) → IsOfFormat unnamed l
+      in_turn all tables.Book = (exact tables.Book, exact tables.Book ∙ book)
+      in_turn all tables.Tab = (exact tables.Tab, exact tables.Tab ∙ all.0)
+      in_turn all tables.Para = (exact tables.Para, exact tables.Para ∙ all.1)
+      in_turn all tables.Corr = (exact tables.Corr, exact tables.Corr ∙ all.3)
+      in_turn all tables.Mark = (exact tables.Mark, exact tables.Mark ∙ all.2)
+      in_turn all tables.Cache = exact tables.Cache
+      in_turn all tables.NamedCorr = (exact tables.NamedCorr, exact tables.NamedCorr ∙ all.4)
 
   exact_named : has_tables named l.schema ≡ true → IsOfFormat named l
   exact_named is =
-      let all = all_named (is_there l.schema tabs) (is_there l.schema paras) (is_there l.schema marks) (is_there l.schema named_corrs) is in
+      let all = all_named (is_there l.schema tables.Tab) (is_there l.schema tables.Para) (is_there l.schema tables.Mark) (is_there l.schema tables.NamedCorr) is in
       in_turn all
     where
-      in_turn : (is_there l.schema tabs ≡ true) × (is_there l.schema paras ≡ true) × (is_there l.schema marks ≡ true) × (is_there l.schema named_corrs ≡ true) → IsOfFormat named l
-      in_turn all books = (exact books, exact books ∙ book)
-      in_turn all tabs = (exact tabs, exact tabs ∙ all.0)
-      in_turn all paras = (exact paras, exact paras ∙ all.1)
-      in_turn all corrs = tt
-      in_turn all marks = (exact marks, exact marks ∙ all.2)
-      in_turn all caches = exact caches
-      in_turn all named_corrs = (exact named_corrs, exact named_corrs ∙ all.3)
+      in_turn : (is_there l.schema tables.Tab ≡ true) × (is_there l.schema tables.Para ≡ true) × (is_there l.schema tables.Mark ≡ true) × (is_there l.schema tables.NamedCorr ≡ true) → IsOfFormat named l
+      in_turn all tables.Book = (exact tables.Book, exact tables.Book ∙ book)
+      in_turn all tables.Tab = (exact tables.Tab, exact tables.Tab ∙ all.0)
+      in_turn all tables.Para = (exact tables.Para, exact tables.Para ∙ all.1)
+      in_turn all tables.Corr = tt
+      in_turn all tables.Mark = (exact tables.Mark, exact tables.Mark ∙ all.2)
+      in_turn all tables.Cache = exact tables.Cache
+      in_turn all tables.NamedCorr = (exact tables.NamedCorr, exact tables.NamedCorr ∙ all.3)
 
   exact_of : (format : Format) → has_tables format l.schema ≡ true → IsOfFormat format l
   exact_of unnamed = exact_unnamed
@@ -66,10 +66,10 @@ of_format s rows l c are (inr of) shows = of
 of_format s rows l c are (inl exact) shows =
     let format = format_kept rows.entries in (
       format,
-      exact_of l exact (subst (λ (x : Schema). is_there x books ≡ true) shows.schema are.book) format
+      exact_of l exact (subst (λ (x : Schema). is_there x tables.Book ≡ true) shows.schema are.book) format
           (subst (λ (x : Schema). has_tables format x ≡ true) shows.schema are.tables),
     )
 
-pub books_there : (format : Format) (l : Layout) → IsOfFormat format l → is_there l.schema books ≡ true
-books_there unnamed l of = sym (of books).0 ∙ (of books).1
-books_there named l of = sym (of books).0 ∙ (of books).1
+pub books_there : (format : Format) (l : Layout) → IsOfFormat format l → is_there l.schema tables.Book ≡ true
+books_there unnamed l of = sym (of tables.Book).0 ∙ (of tables.Book).1
+books_there named l of = sym (of tables.Book).0 ∙ (of tables.Book).1

@@ -5,13 +5,13 @@ use Rattle.sqlite_catalog.specs.Change.{KeepsRows}
 use Rattle.sqlite_schema.specs.declared.schema.Table.{Table}
 use Rattle.sqlite_trees.specs.Tree.{Trees}
 use Rattle.sqlite.specs.State.{State}
+use Rattle.desk_parts.specs.declared.file_table.FileTable.{FileTable}
 use Rattle.sql_tables.specs.States.{IsSettled, Leaves}
 use Rattle.desk_model.specs.Book.{Book}
 use Rattle.desk_model.specs.Shows.{Shows as RowsShow}
 use Rattle.desk_store.specs.BookFile.{rows_of}
 use Rattle.desk_store.specs.Books.{HoldsBook, LeavesBook}
 use Rattle.desk_rows.specs.Contents.{Contents}
-use Rattle.desk_rows.specs.Descriptions.{Which}
 use Rattle.desk_rows.specs.Layout.{IsOther, Layout}
 use Rattle.desk_rows.specs.Making.{with_tables}
 use Rattle.desk_model.specs.declared.new_tables.NewTables.{NewTables}
@@ -56,7 +56,7 @@ module _ (l : Layout) (c : Contents) (book : Book) (s : State) where
   pub gains_none : ShowsContents l c s → RowsShow (rows_of l c) book → HasGained [] l c book s.now.trees (λ after d. ShowsContents after d s)
   gains_none shows rows = (as_it_stands, (stays_shown shows, keeps_all), rows)
 
-  pub leaves_gained : (ws : List Which) (rows : Trees) → HasGained ws l c book rows (λ after d. ShowsContents after d s) → IsSettled s → LeavesBook (with_tables ws l) book s
+  pub leaves_gained : (ws : List FileTable) (rows : Trees) → HasGained ws l c book rows (λ after d. ShowsContents after d s) → IsSettled s → LeavesBook (with_tables ws l) book s
   leaves_gained ws rows gained settled db left = subst (HoldsBook (with_tables ws l) book) (sym (settled db left)) (gained.0, gained.1.0.is, gained.2)
 
 -- one that lacks no table has exactly one form

@@ -11,17 +11,16 @@ use Rattle.sqlite.specs.Effect.{Database}
 use Rattle.sqlite.specs.State.{State}
 use Rattle.desk_model.specs.Book.{Book}
 use Rattle.desk_model.specs.Damage.{IsDamagedBook}
+use Rattle.desk_parts.specs.declared.file_table.FileTable.TheVariants as tables
 use Rattle.desk_parts.specs.FileRows.{EntryRows, FileRows, Named, Unnamed, format_of}
 use Rattle.desk_parts.specs.Parts.{entry_rows, rows_in}
 use Rattle.desk_model.specs.Shows.{Shows as RowsShow, book_row_of}
-use Rattle.desk_parts.specs.declared.file_table.FileTable.TheVariants as file
 use Rattle.desk_parts.specs.declared.parts.Parts.{Parts}
 use Rattle.desk_parts.specs.declared.rows.BookRow.{BookRow}
 use Rattle.desk_model.proofs.Callers.{undamaged as sound}
 use Rattle.desk_rows.specs.TableQuery.{AnswersRows, AnyRows, query_of}
 use Rattle.desk_store.specs.BookFile.{rows_of}
 use Rattle.desk_rows.specs.Contents.{Contents}
-use Rattle.desk_rows.specs.Descriptions.{books, tabs, paras, corrs, marks, named_corrs}
 use Rattle.desk_store.specs.Formats.{Format, HasThoseRead, IsOfFormat, IsPresent, Presence, foreign, named, needed, optional, presence, unnamed, unread}
 use Rattle.desk_store.specs.Found.{AreFileRows, AreOtherRows, AreRowsIn, CanAllAnswer, CanAnswer, RowsShowIn, format_kept}
 use Rattle.desk_rows.specs.Layout.{Layout}
@@ -63,11 +62,11 @@ book_row_in : (xs ys : List BookRow) (row : BookRow) → IsPermutation xs ys →
 book_row_in xs ys row same is = record { alone = same_one xs ys row same is.alone; sound = is.sound; format = is.format }
 
 -- what is reported of the rows that were read is reported of those of the file
-pub row_told : (l : Layout) (c : Contents) (rows : List BookRow) → l.has books ≡ true → IsPermutation (c.rows books) rows → (told : OpenFault) → TellsOfRow rows told → TellsOfTables l c told
+pub row_told : (l : Layout) (c : Contents) (rows : List BookRow) → l.has tables.Book ≡ true → IsPermutation (c.rows tables.Book) rows → (told : OpenFault) → TellsOfRow rows told → TellsOfTables l c told
 row_told l c rows has same NotABook tells = absurd tells
 row_told l c rows has same (Damaged table id) tells =
-    (has, tells.0, damaged_in (c.rows books) rows id same tells.1, λ newer. tells.2 (newer_in rows (c.rows books) (IsPermutation-sym (c.rows books) rows same) newer))
-row_told l c rows has same NewerFormat tells = (has, newer_in (c.rows books) rows same tells)
+    (has, tells.0, damaged_in (c.rows tables.Book) rows id same tells.1, λ newer. tells.2 (newer_in rows (c.rows tables.Book) (IsPermutation-sym (c.rows tables.Book) rows same) newer))
+row_told l c rows has same NewerFormat tells = (has, newer_in (c.rows tables.Book) rows same tells)
 row_told l c rows has same Lost tells = absurd tells
 row_told l c rows has same NoMemory tells = absurd tells
 
@@ -112,8 +111,8 @@ of_read f l c (inr other) can = go f other.0 other.1 can
   where
     go : (f g : Format) → IsOfFormat g l → CanAllBeRead f l c → IsOfFormat f l
     go unnamed unnamed of can = of
-    go unnamed named of can = absurd (true≢false (sym (of named_corrs).1 ∙ can named_corrs))
-    go named unnamed of can = absurd (true≢false (sym (can named_corrs).0 ∙ (of named_corrs).1))
+    go unnamed named of can = absurd (true≢false (sym (of tables.NamedCorr).1 ∙ can tables.NamedCorr))
+    go named unnamed of can = absurd (true≢false (sym (can tables.NamedCorr).0 ∙ (of tables.NamedCorr).1))
     go named named of can = of
 
 all_but_one : (t p m c n : Bool) → t ≡ true → p ≡ true → m ≡ true → c ≡ true → n ≡ false → ((t && p && m) && (c && not n)) ≡ true
@@ -132,24 +131,24 @@ none_of false is = refl
 
 pub tables_of : (f : Format) (l : Layout) → IsOfFormat f l → has_tables f l.schema ≡ true
 tables_of unnamed l of =
-    all_but_one _ _ _ _ _ (sym (of tabs).0 ∙ (of tabs).1) (sym (of paras).0 ∙ (of paras).1) (sym (of marks).0 ∙ (of marks).1) (sym (of corrs).0 ∙ (of corrs).1) (sym (of named_corrs).0 ∙ (of named_corrs).1)
+    all_but_one _ _ _ _ _ (sym (of tables.Tab).0 ∙ (of tables.Tab).1) (sym (of tables.Para).0 ∙ (of tables.Para).1) (sym (of tables.Mark).0 ∙ (of tables.Mark).1) (sym (of tables.Corr).0 ∙ (of tables.Corr).1) (sym (of tables.NamedCorr).0 ∙ (of tables.NamedCorr).1)
 tables_of named l of =
-    all_of_them _ _ _ _ (sym (of tabs).0 ∙ (of tabs).1) (sym (of paras).0 ∙ (of paras).1) (sym (of marks).0 ∙ (of marks).1) (sym (of named_corrs).0 ∙ (of named_corrs).1)
+    all_of_them _ _ _ _ (sym (of tables.Tab).0 ∙ (of tables.Tab).1) (sym (of tables.Para).0 ∙ (of tables.Para).1) (sym (of tables.Mark).0 ∙ (of tables.Mark).1) (sym (of tables.NamedCorr).0 ∙ (of tables.NamedCorr).1)
 
 -- the tables that are there are those of one format
 pub one_format : (f g : Format) (l : Layout) → has_tables f l.schema ≡ true → IsOfFormat g l → g ≡ f
 one_format unnamed unnamed l all of = refl
 one_format unnamed named l all of =
-    absurd (true≢false (sym (of named_corrs).1 ∙ (of named_corrs).0 ∙ none_of (is_there l.schema named_corrs) (right_of (is_there l.schema corrs) _ (right_of _ _ all))))
-one_format named unnamed l all of = absurd (true≢false (sym (right_of _ (is_there l.schema named_corrs) all) ∙ sym (of named_corrs).0 ∙ (of named_corrs).1))
+    absurd (true≢false (sym (of tables.NamedCorr).1 ∙ (of tables.NamedCorr).0 ∙ none_of (is_there l.schema tables.NamedCorr) (right_of (is_there l.schema tables.Corr) _ (right_of _ _ all))))
+one_format named unnamed l all of = absurd (true≢false (sym (right_of _ (is_there l.schema tables.NamedCorr) all) ∙ sym (of tables.NamedCorr).0 ∙ (of tables.NamedCorr).1))
 one_format named named l all of = refl
 
-books_as_there : (f : Format) (l : Layout) → IsOfFormat f l → l.has books ≡ is_there l.schema books
-books_as_there unnamed l of = (of books).0
-books_as_there named l of = (of books).0
+books_as_there : (f : Format) (l : Layout) → IsOfFormat f l → l.has tables.Book ≡ is_there l.schema tables.Book
+books_as_there unnamed l of = (of tables.Book).0
+books_as_there named l of = (of tables.Book).0
 
-pub books_there : (l : Layout) → HasThoseRead l → l.has books ≡ is_there l.schema books
-books_there l (inl exact) = exact books
+pub books_there : (l : Layout) → HasThoseRead l → l.has tables.Book ≡ is_there l.schema tables.Book
+books_there l (inl exact) = exact tables.Book
 books_there l (inr other) = books_as_there other.0 l other.1
 
 -- ---- what is reported
@@ -170,51 +169,51 @@ others_before : (s a : State) → Stays s a → (rows : FileRows) → AreOtherRo
 others_before s a same rows are = record {
   stored = are.stored;
   tabs_are = are.tabs_are;
-  tabs = (gives_before s a same tabs a are.stored are.tabs.0, are.tabs.1);
-  paras = (gives_before s a same paras a rows.paras are.paras.0, are.paras.1);
+  tabs = (gives_before s a same tables.Tab a are.stored are.tabs.0, are.tabs.1);
+  paras = (gives_before s a same tables.Para a rows.paras are.paras.0, are.paras.1);
   entries = entries_before s a same rows.entries are.entries;
-  marks = (gives_before s a same marks a rows.marks are.marks.0, are.marks.1);
+  marks = (gives_before s a same tables.Mark a rows.marks are.marks.0, are.marks.1);
   caches = cells_before s a same rows.caches are.caches;
 }
 
 -- ---- a read of `book`
 
-pub books_in : {V : Type 0} (items : V → List BookRow) (v : V) (old new : State) → AnswersRows (Ok v) items books (λ x. x) AnyRows old new → AreRowsIn old books (items v)
-books_in items v old new answers = (gives_before old old (same_state old) books new (items v) answers.gives, tt)
+pub books_in : {V : Type 0} (items : V → List BookRow) (v : V) (old new : State) → AnswersRows (Ok v) items tables.Book (λ x. x) AnyRows old new → AreRowsIn old tables.Book (items v)
+books_in items v old new answers = (gives_before old old (same_state old) tables.Book new (items v) answers.gives, tt)
 
-can_books : (f : Format) (s : State) → CanAllAnswer f s → CanAnswer s books
-can_books unnamed s all = all books tt
-can_books named s all = all books tt
+can_books : (f : Format) (s : State) → CanAllAnswer f s → CanAnswer s tables.Book
+can_books unnamed s all = all tables.Book tt
+can_books named s all = all tables.Book tt
 
-pub books_answered : {V : Type 0} (items : V → List BookRow) (f : Format) (fault : DatabaseFault) (old new : State) → AnswersRows (Err fault) items books (λ x. x) AnyRows old new → old.step_limit ≡ None
+pub books_answered : {V : Type 0} (items : V → List BookRow) (f : Format) (fault : DatabaseFault) (old new : State) → AnswersRows (Err fault) items tables.Book (λ x. x) AnyRows old new → old.step_limit ≡ None
     → CanAllAnswer f old → fault ≢ reading.Refused
 books_answered items f fault old new answers unlimited all =
     let can = can_books f old all in
-    answers.answered can.has unlimited (λ rows seen. can.kinds rows (shown_before (query_of books).text (reads_only books) old old (same_state old) new rows seen)) (λ xs gives. tt)
+    answers.answered can.has unlimited (λ rows seen. can.kinds rows (shown_before (query_of tables.Book).text (reads_only tables.Book) old old (same_state old) new rows seen)) (λ xs gives. tt)
 
 -- ---- a row that was checked
 
 -- `book` is there and was read, and this is its one row, sound and of a known format.
 pub record IsJudged (old new : State) (rows : List BookRow) (row : BookRow) : Type 0 where
-  pub there : is_there old.now.schema books ≡ true
+  pub there : is_there old.now.schema tables.Book ≡ true
   pub so_far : Stays old new
-  pub are : AreRowsIn old books rows
-  pub shows : (l : Layout) (c : Contents) → l.has books ≡ true → ShowsContents l c old → IsPermutation (c.rows books) rows
+  pub are : AreRowsIn old tables.Book rows
+  pub shows : (l : Layout) (c : Contents) → l.has tables.Book ≡ true → ShowsContents l c old → IsPermutation (c.rows tables.Book) rows
   pub is : IsBookRow rows row
 
-pub judged : {V : Type 0} (items : V → List BookRow) (v : V) (old new : State) (seen : List BookRow) (row : BookRow) → is_there old.now.schema books ≡ true → AnswersRows (Ok v) items books (λ x. x) AnyRows old new
+pub judged : {V : Type 0} (items : V → List BookRow) (v : V) (old new : State) (seen : List BookRow) (row : BookRow) → is_there old.now.schema tables.Book ≡ true → AnswersRows (Ok v) items tables.Book (λ x. x) AnyRows old new
     → seen ≡ items v → IsBookRow seen row → IsJudged old new (items v) row
 judged items v old new seen row there answers value is = record {
   there = there;
-  so_far = stays_read items books (λ x. x) AnyRows old new v answers;
+  so_far = stays_read items tables.Book (λ x. x) AnyRows old new v answers;
   are = books_in items v old new answers;
   shows = λ l c has was. as_listed _ _ (answers.shows l c has was);
   is = subst (λ (rows : List BookRow). IsBookRow rows row) value is;
 }
 
 -- a layout has `book` if it is there
-pub has_books : (l : Layout) (c : Contents) (s : State) → HasThoseRead l → ShowsContents l c s → is_there s.now.schema books ≡ true → l.has books ≡ true
-has_books l c s those was there = books_there l those ∙ ap (λ (schema : Schema). is_there schema books) (sym was.schema) ∙ there
+pub has_books : (l : Layout) (c : Contents) (s : State) → HasThoseRead l → ShowsContents l c s → is_there s.now.schema tables.Book ≡ true → l.has tables.Book ≡ true
+has_books l c s those was there = books_there l those ∙ ap (λ (schema : Schema). is_there schema tables.Book) (sym was.schema) ∙ there
 
 module _ {old new : State} {rows : List BookRow} {row : BookRow} (it : IsJudged old new rows row) where
   -- whether the tables of the row's format are there
@@ -223,10 +222,10 @@ module _ {old new : State} {rows : List BookRow} {row : BookRow} (it : IsJudged 
       ap (λ (g : Format). has_tables g old.now.schema) (sym of) ∙ ap (λ (d : Database). has_tables f d.schema) (sym it.so_far.now) ∙ sym told ∙ found
 
   -- the row is the file's
-  row_of_file : (l : Layout) (c : Contents) → HasThoseRead l → ShowsContents l c old → (l.has books ≡ true) × IsBookRow (c.rows books) row
+  row_of_file : (l : Layout) (c : Contents) → HasThoseRead l → ShowsContents l c old → (l.has tables.Book ≡ true) × IsBookRow (c.rows tables.Book) row
   row_of_file l c those was =
       let has = has_books l c old those was it.there in
-      (has, book_row_in (c.rows books) rows row (it.shows l c has was) it.is)
+      (has, book_row_in (c.rows tables.Book) rows row (it.shows l c has was) it.is)
 
   -- a table of its format isn't there
   pub lacks_tables : (l : Layout) (c : Contents) → HasThoseRead l → ShowsContents l c old → has_tables (format_in row.format) old.now.schema ≡ false → LacksTables l c
@@ -252,7 +251,7 @@ module _ {old new : State} {rows : List BookRow} {row : BookRow} (it : IsJudged 
     file_rows all others = record {
       book = it.there;
       tables = subst (λ (f : Format). has_tables f old.now.schema ≡ true) (sym kept) all;
-      books = subst (AreRowsIn old books) (sym (books_of row rows parts it.is version kept)) it.are;
+      books = subst (AreRowsIn old tables.Book) (sym (books_of row rows parts it.is version kept)) it.are;
       others = others_before old new it.so_far (rows_in parts) others;
     }
 
@@ -265,7 +264,7 @@ module _ {old new : State} {rows : List BookRow} {row : BookRow} (it : IsJudged 
           of = of;
           readable = can;
           same = record {
-            books = sym (books_of row (c.rows books) parts here.1 version kept);
+            books = sym (books_of row (c.rows tables.Book) parts here.1 version kept);
             tabs = are.tabs;
             paras = are.paras;
             entries = are.entries;
@@ -276,7 +275,7 @@ module _ {old new : State} {rows : List BookRow} {row : BookRow} (it : IsJudged 
 
 -- ---- a file whose rows show a book
 
-module _ (s : State) (book : Book) (shows : RowsShowIn s book) (read : List BookRow) (are : AreRowsIn s books read) where
+module _ (s : State) (book : Book) (shows : RowsShowIn s book) (read : List BookRow) (are : AreRowsIn s tables.Book read) where
   abbrev others : FileRows
   others = record shows.rows { books = read }
 
@@ -303,7 +302,7 @@ module _ (s : State) (book : Book) (shows : RowsShowIn s book) (read : List Book
   -- nothing is reported of the row that was read
   pub row_is_sound : (told : OpenFault) → ¬ TellsOfRow read told
   row_is_sound NotABook tells = tells
-  row_is_sound (Damaged table id) tells = sound others book shown file.Book id tells.1
+  row_is_sound (Damaged table id) tells = sound others book shown tables.Book id tells.1
   row_is_sound NewerFormat tells = not_newer shows.rows.entries tells.0 (same_head _ _ (sym tells.1 ∙ shown.row)) tells.2
   row_is_sound Lost tells = tells
   row_is_sound NoMemory tells = tells

@@ -6,10 +6,12 @@ use Rattle.sqlite_trees.specs.declared.store.Store.{Ghosts}
 use Rattle.sqlite.specs.Effect.{Database}
 use Rattle.sqlite.specs.Held.{Held, state}
 use Rattle.sqlite.specs.State.{IsUnchanged, State}
+use Rattle.desk_parts.specs.declared.file_table.FileTable.{FileTable}
+use Rattle.desk_parts.specs.declared.file_table.FileTable.TheVariants as tables
 use Rattle.sql_tables.specs.Rows.{Lists, columns_at}
 use Rattle.desk_rows.specs.TableQuery.{AnswersRows, AnyRows}
 use Rattle.desk_rows.specs.Contents.{Contents}
-use Rattle.desk_rows.specs.Descriptions.{Which, tabs, paras, marks, caches, description_of}
+use Rattle.desk_rows.specs.Descriptions.{description_of}
 use Rattle.desk_rows.specs.Layout.{Layout}
 use Rattle.desk_store.specs.Formats.{Format, unnamed, named, Presence, needed, optional, presence, IsOfFormat, IsPresent}
 use Rattle.desk_store.specs.Opened.{StopsReading}
@@ -52,16 +54,16 @@ shows_still old new same l c was = record {
 -- ---- a read of a table
 
 -- in whatever file the connection shows, the rows of the table are so apart
-abbrev pub AreApartIn : {X : Type 0} (w : Which) (written : X → Row) → (List X → Type 0) → State → Type 0
+abbrev pub AreApartIn : {X : Type 0} (w : FileTable) (written : X → Row) → (List X → Type 0) → State → Type 0
 AreApartIn {X} w written Apart s = (l : Layout) (c : Contents) → l.has w ≡ true → ShowsContents l c s → (xs : List X) → Lists written (columns_at (description_of w).shown) xs (s.now.trees (l.tree w)) → Apart xs
 
-pub any_apart : {X : Type 0} (w : Which) (written : X → Row) (s : State) → AreApartIn w written AnyRows s
+pub any_apart : {X : Type 0} (w : FileTable) (written : X → Row) (s : State) → AreApartIn w written AnyRows s
 any_apart w written s l c there shows xs lists = tt
 
-pub own_rowids : (s : State) → AreApartIn tabs (shown_columns tabs) HaveOwnRowids s
+pub own_rowids : (s : State) → AreApartIn tables.Tab (shown_columns tables.Tab) HaveOwnRowids s
 own_rowids s l c there shows xs lists = tabs_apart l c s.now.trees shows.is there xs lists
 
-module _ {V X : Type 0} (items : V → List X) (w : Which) (view : X → ShownOf w) (Apart : List X → Type 0) (old new : State) where
+module _ {V X : Type 0} (items : V → List X) (w : FileTable) (view : X → ShownOf w) (Apart : List X → Type 0) (old new : State) where
   -- it isn't refused in a file that has the table with texts in UTF-8
   pub never_refused_in : (fault : DatabaseFault) → AnswersRows (Err fault) items w view Apart old new → AreApartIn w (λ x. shown_columns w (view x)) Apart old
       → fault ≡ Refused → (l : Layout) (c : Contents) → ShowsContents l c old → l.has w ≡ true → AllByRecursion (IsUtf8Row w) (c.rows w) → old.step_limit ≢ None
@@ -78,7 +80,7 @@ module _ {V X : Type 0} (items : V → List X) (w : Which) (view : X → ShownOf
 
 -- ---- a read of a table, after others
 
-module _ {V X : Type 0} (items : V → List X) (w : Which) (view : X → ShownOf w) (Apart : List X → Type 0)
+module _ {V X : Type 0} (items : V → List X) (w : FileTable) (view : X → ShownOf w) (Apart : List X → Type 0)
     (before old new : State) (so_far : Stays before old) (limit : old.step_limit ≡ before.step_limit) where
   -- in a file of this format that can be read
   pub never_refused_of : (f : Format) (fault : DatabaseFault) → presence f w ≡ needed → AnswersRows (Err fault) items w view Apart old new → AreApartIn w (λ x. shown_columns w (view x)) Apart old
@@ -113,24 +115,24 @@ as_listed xs ys p = subst (λ (zs : List _). IsPermutation xs zs) (map_same ys) 
 
 -- ---- the tables of a format
 
-pub optional_caches : (f : Format) → presence f caches ≡ optional
+pub optional_caches : (f : Format) → presence f tables.Cache ≡ optional
 optional_caches unnamed = refl
 optional_caches named = refl
 
-pub needs_tabs : (f : Format) → presence f tabs ≡ needed
+pub needs_tabs : (f : Format) → presence f tables.Tab ≡ needed
 needs_tabs unnamed = refl
 needs_tabs named = refl
 
-pub needs_paras : (f : Format) → presence f paras ≡ needed
+pub needs_paras : (f : Format) → presence f tables.Para ≡ needed
 needs_paras unnamed = refl
 needs_paras named = refl
 
-pub needs_marks : (f : Format) → presence f marks ≡ needed
+pub needs_marks : (f : Format) → presence f tables.Mark ≡ needed
 needs_marks unnamed = refl
 needs_marks named = refl
 
-pub has_needed : (f : Format) (l : Layout) (w : Which) → IsOfFormat f l → presence f w ≡ needed → l.has w ≡ true
+pub has_needed : (f : Format) (l : Layout) (w : FileTable) → IsOfFormat f l → presence f w ≡ needed → l.has w ≡ true
 has_needed f l w of is = (subst (λ (p : Presence). IsPresent p (l.has w) (is_there l.schema w)) is (of w)).1
 
-pub has_caches : (f : Format) (l : Layout) → IsOfFormat f l → l.has caches ≡ is_there l.schema caches
-has_caches f l of = subst (λ (p : Presence). IsPresent p (l.has caches) (is_there l.schema caches)) (optional_caches f) (of caches)
+pub has_caches : (f : Format) (l : Layout) → IsOfFormat f l → l.has tables.Cache ≡ is_there l.schema tables.Cache
+has_caches f l of = subst (λ (p : Presence). IsPresent p (l.has tables.Cache) (is_there l.schema tables.Cache)) (optional_caches f) (of tables.Cache)

@@ -11,6 +11,8 @@ use Rattle.sqlite.specs.State.{HasCleanDisk, State, Survives}
 use Rattle.sqlite.proofs.StateLemmas.{survives_then}
 use Rattle.sql_tables.specs.States.{IsSettled, Leaves, ShowsAsBefore}
 use Rattle.desk_model.specs.Book.{Book, empty_book}
+use Rattle.desk_parts.specs.declared.file_table.FileTable.{FileTable}
+use Rattle.desk_parts.specs.declared.file_table.FileTable.TheVariants as tables
 use Rattle.desk_parts.specs.FileRows.{FileRows}
 use Rattle.desk_model.specs.Rebuilding.{IsFaultOf}
 use Rattle.desk_model.specs.Shows.{Shows as RowsShow}
@@ -21,7 +23,6 @@ use Rattle.desk_model.proofs.Callers.{first-damage, one_book, shown-same as show
 use Rattle.desk_store.specs.BookFile.{rows_of}
 use Rattle.desk_store.specs.Books.{HoldsBook, LeavesBook, ShowsBook}
 use Rattle.desk_rows.specs.Contents.{Contents}
-use Rattle.desk_rows.specs.Descriptions.{Which, books, caches}
 use Rattle.desk_rows.specs.Failing.{FailsToChange, of_first_row}
 use Rattle.desk_store.specs.Formats.{Format, HasThoseRead, IsOfEither, IsOfFormat}
 use Rattle.desk_store.specs.Found.{AreFileRows, HasNone, RowsShowIn}
@@ -73,12 +74,12 @@ tells_no_refusal l c NewerFormat none = absurd (none tt)
 tells_no_refusal l c Lost none = tt
 tells_no_refusal l c NoMemory none = tt
 
-gained_same : (ws vs : List Which) (l : Layout) (c : Contents) (a b : Book) (x y : Database) (P : Layout → Contents → Type 0) → ws ≡ vs → a ≡ b → x ≡ y
+gained_same : (ws vs : List FileTable) (l : Layout) (c : Contents) (a b : Book) (x y : Database) (P : Layout → Contents → Type 0) → ws ≡ vs → a ≡ b → x ≡ y
     → HasGained ws l c a x.trees P → HasGained vs l c b y.trees P
 gained_same ws vs l c a b x y P same_tables same_book same_rows gained =
     subst (λ (d : Database). HasGained vs l c b d.trees P) same_rows
     (subst (λ (book : Book). HasGained vs l c book x.trees P) same_book
-    (subst (λ (us : List Which). HasGained us l c a x.trees P) same_tables gained))
+    (subst (λ (us : List FileTable). HasGained us l c a x.trees P) same_tables gained))
 
 module _ {S : Type 0} (g : Ghosts S) (make : Bool) (old : Held S) (there : ¬ HasNone (state g old).now.schema) where
   abbrev s : State
@@ -151,8 +152,8 @@ module _ {S : Type 0} (g : Ghosts S) (make : Bool) (old : Held S) (there : ¬ Ha
                 shows = gained_same _ _ l c book book mid.now s.now (λ after d. ShowsContents after d new) same refl stays.now (filled l still);
                 leaves = λ was.
                     let here : Leaves (HoldsEither l book) mid = λ db here. was db (left db here) in
-                    let either = subst (λ (ws : List Which). Leaves (HoldsEitherWith ws l book) mid) (sym same) here in
-                    subst (λ (ws : List Which). LeavesBook (with_tables ws l) book new) same (leaves l still either);
+                    let either = subst (λ (ws : List FileTable). Leaves (HoldsEitherWith ws l book) mid) (sym same) here in
+                    subst (λ (ws : List FileTable). LeavesBook (with_tables ws l) book new) same (leaves l still either);
               };
           made = λ none. absurd (there none);
           refused = tt;
@@ -181,11 +182,11 @@ module _ {S : Type 0} (g : Ghosts S) (make : Bool) (old : Held S) (none : HasNon
   abbrev bare : State
   bare = state g old
 
-  no_books : is_there bare.now.schema books ≡ true → ⊥
-  no_books there = true≢false (sym there ∙ first_none (is_there bare.now.schema books) _ none)
+  no_books : is_there bare.now.schema tables.Book ≡ true → ⊥
+  no_books there = true≢false (sym there ∙ first_none (is_there bare.now.schema tables.Book) _ none)
 
   no_file : (l : Layout) (c : Contents) → IsOfEither l → ShowsContents l c bare → ⊥
-  no_file l c of shows = no_books (subst (λ (x : Schema). is_there x books ≡ true) (sym shows.schema) (books_there of.0 l of.1))
+  no_file l c of shows = no_books (subst (λ (x : Schema). is_there x tables.Book ≡ true) (sym shows.schema) (books_there of.0 l of.1))
 
   no_exact : (l : Layout) (c : Contents) → (¬ HasNone l.schema) → ShowsContents l c bare → ⊥
   no_exact l c some shows = some (subst HasNone shows.schema none)
@@ -234,9 +235,9 @@ module _ {S : Type 0} (g : Ghosts S) (make : Bool) (old : Held S) (none : HasNon
   tells_failed new told wanted (e, fails, (fault.Lost, cause, is)) = subst (TellsOfNone make g old new) (sym is) (wanted, (e, fails, cause))
   tells_failed new told wanted (e, fails, (fault.Refused, cause, is)) = subst (TellsOfNone make g old new) (sym is) (inr (inr (e, fails, cause)))
 
-  pub tells_new : (new : State) (told : OpenFault) → make ≡ true → (is_there bare.now.schema caches ≡ true → told ≡ NotABook)
-      → (is_there bare.now.schema caches ≡ false → Failed new told) → TellsOfNone make g old new told
-  tells_new new told wanted beside failed = elim (cases_Bool (is_there bare.now.schema caches)) [
+  pub tells_new : (new : State) (told : OpenFault) → make ≡ true → (is_there bare.now.schema tables.Cache ≡ true → told ≡ NotABook)
+      → (is_there bare.now.schema tables.Cache ≡ false → Failed new told) → TellsOfNone make g old new told
+  tells_new new told wanted beside failed = elim (cases_Bool (is_there bare.now.schema tables.Cache)) [
     | inl there ↦ subst (TellsOfNone make g old new) (sym (beside there)) (inr (inl there))
     | inr free ↦ tells_failed new told wanted (failed free)
   ]

@@ -8,13 +8,14 @@ use Rattle.sqlite.specs.Effect.{Database}
 use Rattle.sqlite.specs.Held.{Held, state}
 use Rattle.sqlite.specs.State.{IsLive, State}
 use Rattle.sqlite.specs.State.{Opens as IsOpenedAnew}
+use Rattle.desk_parts.specs.declared.file_table.FileTable.{FileTable}
+use Rattle.desk_parts.specs.declared.file_table.FileTable.TheVariants as tables
 use Rattle.sql_tables.specs.States.{IsSettled}
 use Rattle.sql_tables.proofs.OneSchema.{one_schema}
 use Rattle.desk_model.specs.Book.{Book, empty_book}
 use Rattle.desk_model.proofs.Callers.{Contains-behind, Contains-here}
 use Rattle.desk_store.specs.Books.{HasNewTables, HoldsBook, LeavesBook}
 use Rattle.desk_rows.specs.Contents.{Contents}
-use Rattle.desk_rows.specs.Descriptions.{Which, books, tabs, paras, corrs, marks, caches, named_corrs}
 use Rattle.desk_rows.specs.Layout.{Layout}
 use Rattle.desk_rows.specs.States.{IsFile}
 use Rattle.desk_rows.specs.Tables.{is_there}
@@ -32,29 +33,29 @@ use Rattle.desk_store.proofs.StandingBooks.{found_there}
 
 -- ---- a file with the tables of a new one is of the second format
 
-there_by : (l : Layout) (c : Contents) (db : Trees) → IsFile l c db → (w : Which) → l.has w ≡ true → is_there l.schema w ≡ true
+there_by : (l : Layout) (c : Contents) (db : Trees) → IsFile l c db → (w : FileTable) → l.has w ≡ true → is_there l.schema w ≡ true
 there_by l c db is w there = rw (is.declared w there).named refl
 
 pub second_format : (l : Layout) (c : Contents) (db : Trees) → HasNewTables l → IsFile l c db → IsOfFormat named l
-second_format l c db tables is books = (tables.0 ∙ sym (there_by l c db is books tables.0), tables.0)
-second_format l c db tables is tabs = (tables.1.0 ∙ sym (there_by l c db is tabs tables.1.0), tables.1.0)
-second_format l c db tables is paras = (tables.1.1.0 ∙ sym (there_by l c db is paras tables.1.1.0), tables.1.1.0)
-second_format l c db tables is corrs = tt
-second_format l c db tables is marks = (tables.1.1.1.0 ∙ sym (there_by l c db is marks tables.1.1.1.0), tables.1.1.1.0)
-second_format l c db tables is caches = tables.1.1.1.1.0 ∙ sym (there_by l c db is caches tables.1.1.1.1.0)
-second_format l c db tables is named_corrs = (tables.1.1.1.1.1.0 ∙ sym (there_by l c db is named_corrs tables.1.1.1.1.1.0), tables.1.1.1.1.1.0)
+second_format l c db new is tables.Book = (new.0 ∙ sym (there_by l c db is tables.Book new.0), new.0)
+second_format l c db new is tables.Tab = (new.1.0 ∙ sym (there_by l c db is tables.Tab new.1.0), new.1.0)
+second_format l c db new is tables.Para = (new.1.1.0 ∙ sym (there_by l c db is tables.Para new.1.1.0), new.1.1.0)
+second_format l c db new is tables.Corr = tt
+second_format l c db new is tables.Mark = (new.1.1.1.0 ∙ sym (there_by l c db is tables.Mark new.1.1.1.0), new.1.1.1.0)
+second_format l c db new is tables.Cache = new.1.1.1.1.0 ∙ sym (there_by l c db is tables.Cache new.1.1.1.1.0)
+second_format l c db new is tables.NamedCorr = (new.1.1.1.1.1.0 ∙ sym (there_by l c db is tables.NamedCorr new.1.1.1.1.1.0), new.1.1.1.1.1.0)
 
 -- ---- what a crash leaves
 
 pub holds_new : (l : Layout) (book : Book) (db : Trees) → HasNewTables l → HoldsBook l book db → HoldsStanding book db
-holds_new l book db tables holds = (l, (named, second_format l holds.0 db tables holds.1), holds)
+holds_new l book db new holds = (l, (named, second_format l holds.0 db new holds.1), holds)
 
 pub holds_either : (format : Format) (l : Layout) (book : Book) (db : Trees) → IsOfFormat format l → HoldsEither l book db → HoldsStanding book db
 holds_either format l book db of (inl old) = (l, (format, of), old)
 holds_either format l book db of (inr new) = holds_new (with_missing_tables l) book db (completed_tables format l of) new
 
 pub holds_empty : (db : Trees) → HoldsEmpty db → HoldsStanding empty_book db
-holds_empty db (l, tables, holds) = holds_new l empty_book db tables holds
+holds_empty db (l, new, holds) = holds_new l empty_book db new holds
 
 pub the_one : (book : Book) (db : Trees) → HoldsStanding book db → HoldsOneOf (book ∷ []) db
 the_one book db holds = (book, Contains-here book [], holds)

@@ -18,13 +18,15 @@ use Rattle.desk_model.specs.Book.{Book}
 use Rattle.desk_model.specs.SameRows.{AreSameCaches, AreSameEntries, AreSameRows}
 use Rattle.desk_model.specs.Shows.{Shows as RowsShow, book_row_of}
 use Rattle.desk_model.proofs.Callers.{shown-same as shown_too}
+use Rattle.desk_parts.specs.declared.file_table.FileTable.{FileTable}
+use Rattle.desk_parts.specs.declared.file_table.FileTable.TheVariants as tables
 use Rattle.desk_parts.specs.FileRows.{EntryRows, FileRows, Named, Unnamed, format_of}
-use Rattle.desk_parts.specs.Rows.{ParaCells, StoredTab}
+use Rattle.desk_parts.specs.Rows.{ParaCells, StoredTab, RowOf}
 use Rattle.desk_rows.specs.TableQuery.{Gives, given, query_of}
 use Rattle.desk_rows.specs.Contents.{Contents}
-use Rattle.desk_rows.specs.Descriptions.{Which, books, tabs, paras, corrs, marks, caches, named_corrs, description_of, shows_rowid, table_of}
+use Rattle.desk_rows.specs.Descriptions.{description_of, shows_rowid, table_of}
 use Rattle.desk_rows.specs.Layout.{Layout}
-use Rattle.desk_rows.specs.Rows.{RowOf, ShownOf, columns_of, own, shown_columns}
+use Rattle.desk_rows.specs.Rows.{ShownOf, columns_of, own, shown_columns}
 use Rattle.desk_rows.specs.States.{ShowsContents}
 use Rattle.desk_rows.specs.Tables.{is_there}
 use Rattle.desk_rows.specs.Whole.{IsUtf8Row}
@@ -48,15 +50,15 @@ use Rattle.desk_store.proofs.StandingBooks.{can_be_read}
 -- ---- each table
 
 -- a row of the tree, whose columns are a row of the table, is shown as one
-shown_row : (w : Which) (r : Row) → (shows_rowid w ≡ true → IsInt (rowid r)) → (y : RowOf w) × (columns_at (description_of w).own r ≡ columns_of w y)
+shown_row : (w : FileTable) (r : Row) → (shows_rowid w ≡ true → IsInt (rowid r)) → (y : RowOf w) × (columns_at (description_of w).own r ≡ columns_of w y)
     → (x : ShownOf w) × (given w (columns_at (description_of w).shown r) ≡ shown_columns w x)
-shown_row books r id (y, is) = (y, is)
-shown_row tabs r id (y, is) = let n = id refl in (record { rowid = n.0; row = y }, ap₂ (λ (v : Value) (vs : Row). v ∷ vs) n.1 is)
-shown_row paras r id (y, is) = (y, is)
-shown_row corrs r id (y, is) = (y, is)
-shown_row marks r id (y, is) = (y, is)
-shown_row caches r id (y, is) = (y, is)
-shown_row named_corrs r id (y, is) = (y, is)
+shown_row tables.Book r id (y, is) = (y, is)
+shown_row tables.Tab r id (y, is) = let n = id refl in (record { rowid = n.0; row = y }, ap₂ (λ (v : Value) (vs : Row). v ∷ vs) n.1 is)
+shown_row tables.Para r id (y, is) = (y, is)
+shown_row tables.Corr r id (y, is) = (y, is)
+shown_row tables.Mark r id (y, is) = (y, is)
+shown_row tables.Cache r id (y, is) = (y, is)
+shown_row tables.NamedCorr r id (y, is) = (y, is)
 
 -- ---- lists of rows
 
@@ -75,7 +77,7 @@ columns_are : (ps : List ℕ) (r : Row) → eval_all (map (col 1) ps) ([] ∷ r 
 columns_are [] r = refl
 columns_are (p ∷ ps) r = ap (λ (vs : Row). column r p ∷ vs) (columns_are ps r)
 
-all_shown_rows : (w : Which) (rows : List Row) → (shows_rowid w ≡ true → AllByRecursion (λ r. IsTrue (is_int (rowid r))) rows)
+all_shown_rows : (w : FileTable) (rows : List Row) → (shows_rowid w ≡ true → AllByRecursion (λ r. IsTrue (is_int (rowid r))) rows)
     → AllByRecursion (λ r. (y : RowOf w) × (columns_at (description_of w).own r ≡ columns_of w y)) rows
     → AllByRecursion (λ r. (x : ShownOf w) × (given w (columns_at (description_of w).shown r) ≡ shown_columns w x)) rows
 all_shown_rows w [] ids owns = tt
@@ -84,7 +86,7 @@ all_shown_rows w (r ∷ rows) ids owns = (shown_row w r (λ is. integer_of (rowi
 -- ---- a table of a file
 
 module _ (l : Layout) (c : Contents) (s : State) (is_open : IsTrue s.is_open) (shows : ShowsContents l c s) where
-  module _ (w : Which) (there : l.has w ≡ true) where
+  module _ (w : FileTable) (there : l.has w ≡ true) where
     abbrev tree : List Row
     tree = s.now.trees (l.tree w)
 
@@ -120,16 +122,16 @@ module _ (l : Layout) (c : Contents) (s : State) (is_open : IsTrue s.is_open) (s
     same_rows xs gives_xs =
         one_list w (columns_at (description_of w).own) (c.rows w) (map (own w) xs) tree (shows.is.holds.tables w there) (own_listed w xs tree (listed xs gives_xs))
 
-  apart : (w : Which) → l.has w ≡ true → (xs : List (ShownOf w)) → Gives (query_of w) (shown_columns w) s s xs → AreToldApart w xs
-  apart books there xs gives_xs = tt
-  apart tabs there xs gives_xs = tabs_apart l c s.now.trees shows.is there xs (listed tabs there xs gives_xs)
-  apart paras there xs gives_xs = tt
-  apart corrs there xs gives_xs = tt
-  apart marks there xs gives_xs = tt
-  apart caches there xs gives_xs = tt
-  apart named_corrs there xs gives_xs = tt
+  apart : (w : FileTable) → l.has w ≡ true → (xs : List (ShownOf w)) → Gives (query_of w) (shown_columns w) s s xs → AreToldApart w xs
+  apart tables.Book there xs gives_xs = tt
+  apart tables.Tab there xs gives_xs = tabs_apart l c s.now.trees shows.is there xs (listed tables.Tab there xs gives_xs)
+  apart tables.Para there xs gives_xs = tt
+  apart tables.Corr there xs gives_xs = tt
+  apart tables.Mark there xs gives_xs = tt
+  apart tables.Cache there xs gives_xs = tt
+  apart tables.NamedCorr there xs gives_xs = tt
 
-  can : (w : Which) → l.has w ≡ true → AllByRecursion (IsUtf8Row w) (c.rows w) → CanAnswer s w
+  can : (w : FileTable) → l.has w ≡ true → AllByRecursion (IsUtf8Row w) (c.rows w) → CanAnswer s w
   can w there utf8 = record {
     has =
         can_answer (description_of w).name (description_of w).columns (description_of w).key (description_of w).primary (description_of w).uniques (description_of w).orders (description_of w).read (is_read w)
@@ -139,7 +141,7 @@ module _ (l : Layout) (c : Contents) (s : State) (is_open : IsTrue s.is_open) (s
     apart = apart w there;
   }
 
-  rows_in : (w : Which) → l.has w ≡ true → (xs : List (ShownOf w)) × AreRowsIn s w xs
+  rows_in : (w : FileTable) → l.has w ≡ true → (xs : List (ShownOf w)) × AreRowsIn s w xs
   rows_in w there = let got = gives w there in (got.0, (got.1, apart w there got.0 got.1))
 
   -- ---- the tables of a format
@@ -163,33 +165,33 @@ module _ (l : Layout) (c : Contents) (s : State) (is_open : IsTrue s.is_open) (s
       can w there (utf8_if (presence f w) (l.has w) (is_there l.schema w) _ here there (readable w))
 
   entries_in_file : (f : Format) → IsOfFormat f l → (entries : EntryRows) × (format_kept entries ≡ f) × AreEntriesIn s entries
-  entries_in_file unnamed of = let got = rows_in corrs (of corrs).1 in (Unnamed got.0, refl, got.1)
-  entries_in_file named of = let got = rows_in named_corrs (of named_corrs).1 in (Named got.0, refl, got.1)
+  entries_in_file unnamed of = let got = rows_in tables.Corr (of tables.Corr).1 in (Unnamed got.0, refl, got.1)
+  entries_in_file named of = let got = rows_in tables.NamedCorr (of tables.NamedCorr).1 in (Named got.0, refl, got.1)
 
-  caches_there : (f : Format) → IsOfFormat f l → l.has caches ≡ is_there s.now.schema caches
-  caches_there f of = has_caches f l of ∙ ap (λ (x : Schema). is_there x caches) (sym shows.schema)
+  caches_there : (f : Format) → IsOfFormat f l → l.has tables.Cache ≡ is_there s.now.schema tables.Cache
+  caches_there f of = has_caches f l of ∙ ap (λ (x : Schema). is_there x tables.Cache) (sym shows.schema)
 
-  cells_in_file : (f : Format) → IsOfFormat f l → (has : Bool) → l.has caches ≡ has → (cells : Option (List ParaCells)) × AreCellsIn s cells
-  cells_in_file f of true is = let got = rows_in caches is in (Some got.0, (sym (caches_there f of) ∙ is, got.1))
+  cells_in_file : (f : Format) → IsOfFormat f l → (has : Bool) → l.has tables.Cache ≡ has → (cells : Option (List ParaCells)) × AreCellsIn s cells
+  cells_in_file f of true is = let got = rows_in tables.Cache is in (Some got.0, (sym (caches_there f of) ∙ is, got.1))
   cells_in_file f of false is = (None, sym (caches_there f of) ∙ is)
 
-  has_books : (f : Format) → IsOfFormat f l → l.has books ≡ true
-  has_books unnamed of = (of books).1
-  has_books named of = (of books).1
+  has_books : (f : Format) → IsOfFormat f l → l.has tables.Book ≡ true
+  has_books unnamed of = (of tables.Book).1
+  has_books named of = (of tables.Book).1
 
   -- some rows of the file
   some_rows : (f : Format) → IsOfFormat f l → (rows : FileRows) × AreFileRows s rows × (format_kept rows.entries ≡ f)
   some_rows f of =
-      let head = rows_in books (has_books f of) in
-      let stored = rows_in tabs (has_needed f l tabs of (needs_tabs f)) in
-      let texts = rows_in paras (has_needed f l paras of (needs_paras f)) in
+      let head = rows_in tables.Book (has_books f of) in
+      let stored = rows_in tables.Tab (has_needed f l tables.Tab of (needs_tabs f)) in
+      let texts = rows_in tables.Para (has_needed f l tables.Para of (needs_paras f)) in
       let entries = entries_in_file f of in
-      let notes = rows_in marks (has_needed f l marks of (needs_marks f)) in
-      let cells = cells_in_file f of (l.has caches) refl in
+      let notes = rows_in tables.Mark (has_needed f l tables.Mark of (needs_marks f)) in
+      let cells = cells_in_file f of (l.has tables.Cache) refl in
       let rows : FileRows = record { books = head.0; tabs = map (λ (tab : StoredTab). tab.row) stored.0; paras = texts.0; entries = entries.0; marks = notes.0; caches = cells.0 } in
       let others : AreOtherRows s rows =
       record { stored = stored.0; tabs_are = refl; tabs = stored.1; paras = texts.1; entries = entries.2; marks = notes.1; caches = cells.1 } in
-      let here = subst (λ (x : Schema). is_there x books ≡ true) (sym shows.schema) (books_there f l of) in
+      let here = subst (λ (x : Schema). is_there x tables.Book ≡ true) (sym shows.schema) (books_there f l of) in
       let tables = subst (λ (x : Schema). has_tables f x ≡ true) (sym shows.schema) (tables_of f l of) in
       let are : AreFileRows s rows =
       record { book = here; tables = subst (λ (g : Format). has_tables g s.now.schema ≡ true) (sym entries.1) tables; books = head.1; others = others } in
@@ -198,30 +200,30 @@ module _ (l : Layout) (c : Contents) (s : State) (is_open : IsTrue s.is_open) (s
   -- ---- any rows of it are the same
 
   same_entries : (f : Format) → IsOfFormat f l → (entries : EntryRows) → f ≡ format_kept entries → AreEntriesIn s entries → AreSameEntries (rows_of l c).entries entries
-  same_entries unnamed of (Unnamed rows) is are = rw (of named_corrs).1 (as_listed _ _ (same_rows corrs (of corrs).1 rows are.0))
+  same_entries unnamed of (Unnamed rows) is are = rw (of tables.NamedCorr).1 (as_listed _ _ (same_rows tables.Corr (of tables.Corr).1 rows are.0))
   same_entries unnamed of (Named rows) is are = absurd (cc)
   same_entries named of (Unnamed rows) is are = absurd (cc)
-  same_entries named of (Named rows) is are = rw (of named_corrs).1 (as_listed _ _ (same_rows named_corrs (of named_corrs).1 rows are.0))
+  same_entries named of (Named rows) is are = rw (of tables.NamedCorr).1 (as_listed _ _ (same_rows tables.NamedCorr (of tables.NamedCorr).1 rows are.0))
 
   same_cells : (f : Format) → IsOfFormat f l → (cells : Option (List ParaCells)) → AreCellsIn s cells → AreSameCaches (rows_of l c).caches cells
-  same_cells f of None none = let lacks : l.has caches ≡ false = caches_there f of ∙ none in rw lacks tt
+  same_cells f of None none = let lacks : l.has tables.Cache ≡ false = caches_there f of ∙ none in rw lacks tt
   same_cells f of (Some rows) are =
-      let there : l.has caches ≡ true = caches_there f of ∙ are.0 in
-      rw there (as_listed _ _ (same_rows caches there rows are.1.0))
+      let there : l.has tables.Cache ≡ true = caches_there f of ∙ are.0 in
+      rw there (as_listed _ _ (same_rows tables.Cache there rows are.1.0))
 
   same_file : (f : Format) (book : Book) → IsOfFormat f l → RowsShow (rows_of l c) book → (others : FileRows) → AreFileRows s others → AreSameRows (rows_of l c) others
   same_file f book of stands others are =
       let row = book_row_of (format_of (rows_of l c).entries) book.version in
-      let heads = as_listed _ _ (same_rows books (has_books f of) others.books are.books.0) in
+      let heads = as_listed _ _ (same_rows tables.Book (has_books f of) others.books are.books.0) in
       let its : has_tables (format_kept others.entries) l.schema ≡ true = subst (λ (x : Schema). has_tables (format_kept others.entries) x ≡ true) shows.schema are.tables in
       let rest = are.others in
-      let names = same_rows tabs (has_needed f l tabs of (needs_tabs f)) rest.stored rest.tabs.0 in
+      let names = same_rows tables.Tab (has_needed f l tables.Tab of (needs_tabs f)) rest.stored rest.tabs.0 in
       record {
-        books = stands.row ∙ sym (same_one others.books (c.rows books) row (IsPermutation-sym _ _ heads) stands.row);
-        tabs = subst (IsPermutation (c.rows tabs)) (sym rest.tabs_are) names;
-        paras = as_listed _ _ (same_rows paras (has_needed f l paras of (needs_paras f)) others.paras rest.paras.0);
+        books = stands.row ∙ sym (same_one others.books (c.rows tables.Book) row (IsPermutation-sym _ _ heads) stands.row);
+        tabs = subst (IsPermutation (c.rows tables.Tab)) (sym rest.tabs_are) names;
+        paras = as_listed _ _ (same_rows tables.Para (has_needed f l tables.Para of (needs_paras f)) others.paras rest.paras.0);
         entries = same_entries f of others.entries (one_format (format_kept others.entries) f l its of) rest.entries;
-        marks = as_listed _ _ (same_rows marks (has_needed f l marks of (needs_marks f)) others.marks rest.marks.0);
+        marks = as_listed _ _ (same_rows tables.Mark (has_needed f l tables.Mark of (needs_marks f)) others.marks rest.marks.0);
         caches = same_cells f of others.caches rest.caches;
       }
 

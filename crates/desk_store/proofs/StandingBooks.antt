@@ -8,15 +8,14 @@ use Rattle.sqlite_trees.specs.declared.store.Store.{Ghosts}
 use Rattle.sqlite.specs.Held.{Held, state}
 use Rattle.sqlite.specs.State.{State}
 use Rattle.desk_model.specs.Book.{Book}
+use Rattle.desk_parts.specs.declared.file_table.FileTable.TheVariants as tables
 use Rattle.desk_parts.specs.FileRows.{HasEntryTexts, Named, Unnamed, entries_in, format_of, without_name}
 use Rattle.desk_parts.specs.Rows.{Corr}
 use Rattle.desk_model.specs.Shows.{Shows as RowsShow, book_row_of}
-use Rattle.desk_parts.specs.declared.file_table.FileTable.TheVariants.{Book as BookTable}
 use Rattle.desk_parts.specs.declared.rows.BookRow.{BookRow}
 use Rattle.desk_model.proofs.Callers.{one_book, undamaged as sound}
 use Rattle.desk_store.specs.BookFile.{rows_of}
 use Rattle.desk_rows.specs.Contents.{Contents}
-use Rattle.desk_rows.specs.Descriptions.{books, corrs, named_corrs}
 use Rattle.desk_store.specs.Formats.{Format, IsOfFormat, unnamed, named}
 use Rattle.desk_rows.specs.Layout.{Layout}
 use Rattle.desk_store.specs.Found.{HasNone}
@@ -30,7 +29,7 @@ use Rattle.desk_store.proofs.AnyFile.{all_readable}
 
 -- ---- its texts
 
-bodies : (rows : List Corr) → AllByRecursion HasEntryTexts (map without_name rows) → AllByRecursion (IsUtf8Row corrs) rows
+bodies : (rows : List Corr) → AllByRecursion HasEntryTexts (map without_name rows) → AllByRecursion (IsUtf8Row tables.Corr) rows
 bodies [] all = tt
 bodies (row ∷ rows) all = (all.0.0, bodies rows all.1)
 
@@ -67,13 +66,13 @@ alone x y is = cc is
 module _ (l : Layout) (c : Contents) (book : Book) (shows : RowsShow (rows_of l c) book) where
   entries_read : (f : Format) → IsOfFormat f l → AreEntriesReadable f l c
   entries_read unnamed of =
-      let none : l.has named_corrs ≡ false = (of named_corrs).1 in
+      let none : l.has tables.NamedCorr ≡ false = (of tables.NamedCorr).1 in
       let texts = recursion_from_All HasEntryTexts (entries_in (rows_of l c).entries) shows.texts.entries in
-      bodies (c.rows corrs) (subst (λ (has : Bool). AllByRecursion HasEntryTexts (entries_in (if has then Named (c.rows named_corrs) else Unnamed (c.rows corrs)))) none texts)
+      bodies (c.rows tables.Corr) (subst (λ (has : Bool). AllByRecursion HasEntryTexts (entries_in (if has then Named (c.rows tables.NamedCorr) else Unnamed (c.rows tables.Corr)))) none texts)
   entries_read named of =
-      let there : l.has named_corrs ≡ true = (of named_corrs).1 in
+      let there : l.has tables.NamedCorr ≡ true = (of tables.NamedCorr).1 in
       let texts = recursion_from_All HasEntryTexts (entries_in (rows_of l c).entries) shows.texts.entries in
-      subst (λ (has : Bool). AllByRecursion HasEntryTexts (entries_in (if has then Named (c.rows named_corrs) else Unnamed (c.rows corrs)))) there texts
+      subst (λ (has : Bool). AllByRecursion HasEntryTexts (entries_in (if has then Named (c.rows tables.NamedCorr) else Unnamed (c.rows tables.Corr)))) there texts
 
   pub can_be_read : (f : Format) → IsOfFormat f l → CanAllBeRead f l c
   can_be_read f of =
@@ -82,22 +81,22 @@ module _ (l : Layout) (c : Contents) (book : Book) (shows : RowsShow (rows_of l 
 
   format_is : (f : Format) → IsOfFormat f l → pos (format_of (rows_of l c).entries) ≡ number_of f
   unfolding number_of
-  format_is unnamed of = rw (of named_corrs).1 refl
-  format_is named of = rw (of named_corrs).1 refl
+  format_is unnamed of = rw (of tables.NamedCorr).1 refl
+  format_is named of = rw (of tables.NamedCorr).1 refl
 
-  pub row_is : (f : Format) → IsOfFormat f l → (row : BookRow) → c.rows books ≡ row ∷ [] → row.format ≡ number_of f
+  pub row_is : (f : Format) → IsOfFormat f l → (row : BookRow) → c.rows tables.Book ≡ row ∷ [] → row.format ≡ number_of f
   row_is f of row is =
       ap (λ (r : BookRow). r.format) (alone row (book_row_of (format_of (rows_of l c).entries) book.version) (sym is ∙ shows.row)) ∙ format_is f of
 
-  has_books : (f : Format) → IsOfFormat f l → l.has books ≡ true
-  has_books unnamed of = (of books).1
-  has_books named of = (of books).1
+  has_books : (f : Format) → IsOfFormat f l → l.has tables.Book ≡ true
+  has_books unnamed of = (of tables.Book).1
+  has_books named of = (of tables.Book).1
 
   pub never_refused : (f : Format) → IsOfFormat f l → (told : OpenFault) → TellsOf l c told → ¬ IsRefusal told
   never_refused f of NotABook (inl none) is = absurd (true≢false (sym (has_books f of) ∙ none))
   never_refused f of NotABook (inr (row, there, book_row, not)) is =
       not (subst (λ (g : Format). CanAllBeRead g l c) (sym (in_format f) ∙ ap format_in (sym (row_is f of row book_row.alone))) (can_be_read f of))
-  never_refused f of (Damaged table id) (inl (there, is_book, damaged, known)) is = sound (rows_of l c) book shows BookTable id damaged
+  never_refused f of (Damaged table id) (inl (there, is_book, damaged, known)) is = sound (rows_of l c) book shows tables.Book id damaged
   never_refused f of (Damaged table id) (inr damage) is = sound (rows_of l c) book shows table id damage.first.damaged
   never_refused f of NewerFormat (there, (row, one, later)) is = no_later f row.format (row_is f of row one) later
   never_refused f of Lost tells is = is
@@ -105,10 +104,10 @@ module _ (l : Layout) (c : Contents) (book : Book) (shows : RowsShow (rows_of l 
 
 not_bare : (f : Format) (l : Layout) → IsOfFormat f l → ¬ HasNone l.schema
 not_bare unnamed l of none =
-    let there : is_there l.schema books ≡ true = sym (of books).0 ∙ (of books).1 in
+    let there : is_there l.schema tables.Book ≡ true = sym (of tables.Book).0 ∙ (of tables.Book).1 in
     absurd (true≢false (rw there at none))
 not_bare named l of none =
-    let there : is_there l.schema books ≡ true = sym (of books).0 ∙ (of books).1 in
+    let there : is_there l.schema tables.Book ≡ true = sym (of tables.Book).0 ∙ (of tables.Book).1 in
     absurd (true≢false (rw there at none))
 
 module _ {S : Type 0} (g : Ghosts S) (make : Bool) (old : Held S) (new : State) where

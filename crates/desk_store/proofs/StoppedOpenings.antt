@@ -6,17 +6,18 @@ use Rattle.sqlite.specs.Clock.{timed}
 use Rattle.sqlite.specs.Held.{Held, state}
 use Rattle.sqlite.specs.State.{FailsToQuery, FailsToShow, IsNotRun, State}
 use Rattle.sqlite.specs.declared.error.Error.{Error}
+use Rattle.desk_parts.specs.declared.file_table.FileTable.{FileTable}
 use Rattle.sql_tables.specs.States.{ShowsAsBefore}
 use Rattle.sql_tables.proofs.Quiet.{never_returns, shown_quietly}
 use Rattle.desk_rows.specs.TableQuery.{FailsAs, failed, no_memory, query_of, together, unreadable}
-use Rattle.desk_rows.specs.Descriptions.{Which, description_of}
+use Rattle.desk_rows.specs.Descriptions.{description_of}
 use Rattle.desk_rows.specs.declared.fault.DatabaseFault.{DatabaseFault}
 use Rattle.desk_rows.proofs.TableReads.WholeReads.{reads_only}
 use Rattle.desk_store.specs.Opened.{StopsOpening, filling, reading, rebuilding}
 use Rattle.desk_store.specs.declared.fault.OpenFault.{OpenFault}
 
 -- a read that fails undoes at most what wasn't committed
-query_as_before : (w : Which) (old new : State) (e : Error) → old.now ≡ old.committed → FailsToQuery (description_of w).read [] old new e
+query_as_before : (w : FileTable) (old new : State) (e : Error) → old.now ≡ old.committed → FailsToQuery (description_of w).read [] old new e
     → ShowsAsBefore old new
 unfolding FailsToQuery IsNotRun
 query_as_before w old new e same (inl (inl h)) opened = h.1.0.now_is
@@ -28,7 +29,7 @@ query_as_before w old new e same (inr h) opened =
     let shown : FailsToShow old new text h.0 full e None = subst (FailsToShow old new text h.0 full e) none h.2 in
     shown.3.0.now_is
 
-read_as_before : {X : Type 0} (w : Which) (written : X → Row) (Apart : List X → Type 0) (old new : State) (why : DatabaseFault) → old.now ≡ old.committed
+read_as_before : {X : Type 0} (w : FileTable) (written : X → Row) (Apart : List X → Type 0) (old new : State) (why : DatabaseFault) → old.now ≡ old.committed
     → FailsAs (query_of w) written Apart old new why → ShowsAsBefore old new
 read_as_before w written Apart old new why same (failed e fails told) opened = query_as_before w old new e same fails opened
 read_as_before w written Apart old new why same (unreadable rows seen not is) opened = (shown_quietly (description_of w).read (reads_only w) [] old new rows seen).0.now_is

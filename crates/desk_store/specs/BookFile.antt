@@ -1,21 +1,21 @@
 -- The rows of a file, as those of the tables of a book.
 use Rattle.std.specs.Prelude.{if◌then◌else◌, Some, None}
 use Rattle.std.specs.Option.{ForSome}
+use Rattle.desk_parts.specs.declared.file_table.FileTable.TheVariants as tables
 use Rattle.desk_parts.specs.FileRows.{FileRows, Named, Unnamed}
 use Rattle.desk_rows.specs.Contents.{Contents}
-use Rattle.desk_rows.specs.Descriptions.{books, tabs, paras, corrs, marks, caches, named_corrs}
 use Rattle.desk_rows.specs.Layout.{Layout}
 use Rattle.desk_rows.specs.Whole.{DifferBy}
 
 -- The entries are those of `corr2` if the layout has it, and else those of `corr`; there are rows of `cache` if it has that.
 abbrev pub rows_of : Layout → Contents → FileRows
 rows_of l c = record {
-  books = c.rows books;
-  tabs = c.rows tabs;
-  paras = c.rows paras;
-  entries = if l.has named_corrs then Named (c.rows named_corrs) else Unnamed (c.rows corrs);
-  marks = c.rows marks;
-  caches = if l.has caches then Some (c.rows caches) else None;
+  books = c.rows tables.Book;
+  tabs = c.rows tables.Tab;
+  paras = c.rows tables.Para;
+  entries = if l.has tables.NamedCorr then Named (c.rows tables.NamedCorr) else Unnamed (c.rows tables.Corr);
+  marks = c.rows tables.Mark;
+  caches = if l.has tables.Cache then Some (c.rows tables.Cache) else None;
 }
 
 -- no two rows of a table whose key is a number have the same

@@ -1,12 +1,13 @@
 -- The formats of a file, and which tables each has.
 use Rattle.std.specs.Prelude.{◌≡◌, ◌⊎◌, Bool, true, false, ⊤}
-use Rattle.desk_rows.specs.Descriptions.{Which, books, tabs, paras, corrs, marks, caches, named_corrs}
+use Rattle.desk_parts.specs.declared.file_table.FileTable.{FileTable}
+use Rattle.desk_parts.specs.declared.file_table.FileTable.TheVariants as tables
 use Rattle.desk_rows.specs.Layout.{Layout}
 use Rattle.desk_rows.specs.Tables.{is_there}
 
 -- the layout has just those of our tables that the schema has by their names
 abbrev pub IsExact : Layout → Type 0
-IsExact l = (w : Which) → l.has w ≡ is_there l.schema w
+IsExact l = (w : FileTable) → l.has w ≡ is_there l.schema w
 
 -- Entries of histories without names, and with them.
 pub data Format : Type 0 where
@@ -20,21 +21,21 @@ pub data Presence : Type 0 where
   unread : Presence
 
 -- A file without `cache` gets it when it is opened. If entries have names, nothing reads `corr`, so anything may stand there under its name.
-abbrev pub presence : Format → Which → Presence
-presence unnamed books = needed
-presence unnamed tabs = needed
-presence unnamed paras = needed
-presence unnamed corrs = needed
-presence unnamed marks = needed
-presence unnamed caches = optional
-presence unnamed named_corrs = foreign
-presence named books = needed
-presence named tabs = needed
-presence named paras = needed
-presence named corrs = unread
-presence named marks = needed
-presence named caches = optional
-presence named named_corrs = needed
+abbrev pub presence : Format → FileTable → Presence
+presence unnamed tables.Book = needed
+presence unnamed tables.Tab = needed
+presence unnamed tables.Para = needed
+presence unnamed tables.Corr = needed
+presence unnamed tables.Mark = needed
+presence unnamed tables.Cache = optional
+presence unnamed tables.NamedCorr = foreign
+presence named tables.Book = needed
+presence named tables.Tab = needed
+presence named tables.Para = needed
+presence named tables.Corr = unread
+presence named tables.Mark = needed
+presence named tables.Cache = optional
+presence named tables.NamedCorr = needed
 
 -- what a layout has of a table, and whether something is there by its name
 abbrev pub IsPresent : Presence → (has there : Bool) → Type 0
@@ -45,7 +46,7 @@ IsPresent unread has there = ⊤
 
 -- it has the tables of a file of this format, and of those that are read exactly those that are there
 abbrev pub IsOfFormat : Format → Layout → Type 0
-IsOfFormat format l = (w : Which) → IsPresent (presence format w) (l.has w) (is_there l.schema w)
+IsOfFormat format l = (w : FileTable) → IsPresent (presence format w) (l.has w) (is_there l.schema w)
 
 -- it is of one of the two formats
 abbrev pub IsOfEither : Layout → Type 0

@@ -7,11 +7,12 @@ use Rattle.sqlite.specs.State.{State, Shown}
 use Rattle.sql_tables.specs.Kinds.{HasKinds}
 use Rattle.sql_tables.specs.States.{HasAnswer}
 use Rattle.desk_model.specs.Book.{Book}
+use Rattle.desk_parts.specs.declared.file_table.FileTable.{FileTable}
+use Rattle.desk_parts.specs.declared.file_table.FileTable.TheVariants as tables
 use Rattle.desk_parts.specs.FileRows.{EntryRows, FileRows, Named, Unnamed}
 use Rattle.desk_parts.specs.Rows.{ParaCells, StoredTab}
 use Rattle.desk_model.specs.Shows.{Shows as RowsShow}
 use Rattle.desk_rows.specs.TableQuery.{Gives, query_of}
-use Rattle.desk_rows.specs.Descriptions.{Which, books, tabs, paras, corrs, marks, caches, named_corrs}
 use Rattle.desk_store.specs.Formats.{Format, Presence, needed, optional, foreign, unread, unnamed, named, presence}
 use Rattle.desk_store.specs.Opening.{has_tables}
 use Rattle.desk_rows.specs.Rows.{ShownOf, shown_columns}
@@ -21,8 +22,8 @@ use Rattle.desk_rows.specs.Whole.{HaveOwnRowids}
 -- ---- which tables are there
 
 -- the tables of a book's file by which it is known, of either format
-abbrev pub known_tables : List Which
-known_tables = books ∷ tabs ∷ paras ∷ corrs ∷ marks ∷ named_corrs ∷ []
+abbrev pub known_tables : List FileTable
+known_tables = tables.Book ∷ tables.Tab ∷ tables.Para ∷ tables.Corr ∷ tables.Mark ∷ tables.NamedCorr ∷ []
 
 -- none of them is there
 abbrev pub HasNone : Schema → Type 0
@@ -31,17 +32,17 @@ HasNone s = list_any (is_there s) known_tables ≡ false
 -- ---- the rows that statements give
 
 -- the rows of `tab` have different rowids, and nothing is required of the others
-abbrev pub AreToldApart : (w : Which) → List (ShownOf w) → Type 0
-AreToldApart books rows = ⊤
-AreToldApart tabs rows = HaveOwnRowids rows
-AreToldApart paras rows = ⊤
-AreToldApart corrs rows = ⊤
-AreToldApart marks rows = ⊤
-AreToldApart caches rows = ⊤
-AreToldApart named_corrs rows = ⊤
+abbrev pub AreToldApart : (w : FileTable) → List (ShownOf w) → Type 0
+AreToldApart tables.Book rows = ⊤
+AreToldApart tables.Tab rows = HaveOwnRowids rows
+AreToldApart tables.Para rows = ⊤
+AreToldApart tables.Corr rows = ⊤
+AreToldApart tables.Mark rows = ⊤
+AreToldApart tables.Cache rows = ⊤
+AreToldApart tables.NamedCorr rows = ⊤
 
 -- in this state the statement that reads the table gives these rows
-abbrev pub AreRowsIn : State → (w : Which) → List (ShownOf w) → Type 0
+abbrev pub AreRowsIn : State → (w : FileTable) → List (ShownOf w) → Type 0
 AreRowsIn s w rows = Gives (query_of w) (shown_columns w) s s rows × AreToldApart w rows
 
 -- the format that keeps entries so
@@ -50,29 +51,29 @@ format_kept (Unnamed rows) = unnamed
 format_kept (Named rows) = named
 
 abbrev pub AreEntriesIn : State → EntryRows → Type 0
-AreEntriesIn s (Unnamed rows) = AreRowsIn s corrs rows
-AreEntriesIn s (Named rows) = AreRowsIn s named_corrs rows
+AreEntriesIn s (Unnamed rows) = AreRowsIn s tables.Corr rows
+AreEntriesIn s (Named rows) = AreRowsIn s tables.NamedCorr rows
 
 -- the cells, if their table is there
 abbrev pub AreCellsIn : State → Option (List ParaCells) → Type 0
-AreCellsIn s None = is_there s.now.schema caches ≡ false
-AreCellsIn s (Some rows) = (is_there s.now.schema caches ≡ true) × AreRowsIn s caches rows
+AreCellsIn s None = is_there s.now.schema tables.Cache ≡ false
+AreCellsIn s (Some rows) = (is_there s.now.schema tables.Cache ≡ true) × AreRowsIn s tables.Cache rows
 
 -- These are the rows of the tables but `book`.
 pub record AreOtherRows (s : State) (rows : FileRows) : Type 0 where
   pub stored : List StoredTab
   pub tabs_are : rows.tabs ≡ map (λ tab. tab.row) stored
-  pub tabs : AreRowsIn s tabs stored
-  pub paras : AreRowsIn s paras rows.paras
+  pub tabs : AreRowsIn s tables.Tab stored
+  pub paras : AreRowsIn s tables.Para rows.paras
   pub entries : AreEntriesIn s rows.entries
-  pub marks : AreRowsIn s marks rows.marks
+  pub marks : AreRowsIn s tables.Mark rows.marks
   pub caches : AreCellsIn s rows.caches
 
 -- The tables of the format that keeps the entries so are there, and these are the rows of the file.
 pub record AreFileRows (s : State) (rows : FileRows) : Type 0 where
-  pub book : is_there s.now.schema books ≡ true
+  pub book : is_there s.now.schema tables.Book ≡ true
+  pub books : AreRowsIn s tables.Book rows.books
   pub tables : has_tables (format_kept rows.entries) s.now.schema ≡ true
-  pub books : AreRowsIn s books rows.books
   pub others : AreOtherRows s rows
 
 -- ---- the book that they show
@@ -82,7 +83,7 @@ abbrev pub ShowsIn : State → Book → Type 0
 ShowsIn s book = (rows : FileRows) × AreFileRows s rows × RowsShow rows book
 
 -- The statement that reads the table has an answer, and whatever it answers can be read.
-pub record CanAnswer (s : State) (w : Which) : Type 0 where
+pub record CanAnswer (s : State) (w : FileTable) : Type 0 where
   pub has : HasAnswer (query_of w).text s
   pub kinds : (rows : List Row) → Shown (query_of w).text [] s s rows
       → AllByRecursion (HasKinds (query_of w).kinds) rows
@@ -96,7 +97,7 @@ IsReadAs foreign there = ⊥
 IsReadAs unread there = ⊥
 
 abbrev pub CanAllAnswer : Format → State → Type 0
-CanAllAnswer format s = (w : Which) → IsReadAs (presence format w) (is_there s.now.schema w) → CanAnswer s w
+CanAllAnswer format s = (w : FileTable) → IsReadAs (presence format w) (is_there s.now.schema w) → CanAnswer s w
 
 -- The rows of the file show the book: the statements that read it give rows, and all that they may give show it.
 pub record RowsShowIn (s : State) (book : Book) : Type 0 where

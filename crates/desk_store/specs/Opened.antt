@@ -12,6 +12,8 @@ use Rattle.sql_tables.specs.Making.{KeepsAside}
 use Rattle.sql_tables.specs.States.{Leaves, ShowsAsBefore}
 use Rattle.desk_model.specs.Book.{Book, empty_book}
 use Rattle.desk_model.specs.Damage.{IsDamagedBook, IsFirstDamage}
+use Rattle.desk_parts.specs.declared.file_table.FileTable.{FileTable}
+use Rattle.desk_parts.specs.declared.file_table.FileTable.TheVariants as tables
 use Rattle.desk_parts.specs.FileRows.{EntryRows, FileRows, Named, Unnamed}
 use Rattle.desk_parts.specs.Puts.{LendsFirst, RowPut}
 use Rattle.desk_model.specs.FilledRows.{Fills}
@@ -19,13 +21,10 @@ use Rattle.desk_model.specs.SameRows.{AreSameRows}
 use Rattle.desk_model.specs.Shows.{Shows as RowsShow}
 use Rattle.desk_model.specs.declared.new_tables.NewTables.{NewTables}
 use Rattle.desk_model.specs.declared.new_tables.NewTables.TheVariants.{Braille, Entries, EntriesAndBraille}
-use Rattle.desk_parts.specs.declared.file_table.FileTable.{FileTable}
-use Rattle.desk_parts.specs.declared.file_table.FileTable.TheVariants.{Book as BookTable}
 use Rattle.desk_parts.specs.declared.rows.BookRow.{BookRow}
 use Rattle.desk_store.specs.BookFile.{rows_of}
 use Rattle.desk_store.specs.Books.{HasNewTables, HoldsBook, LeavesBook, ShowsBook, WithBook}
 use Rattle.desk_rows.specs.Contents.{Contents}
-use Rattle.desk_rows.specs.Descriptions.{Which, books, caches, corrs, named_corrs}
 use Rattle.desk_rows.specs.TableQuery.{FailsAs, query_of}
 use Rattle.desk_rows.specs.Failing.{FailsToChange, of_first_row, of_items}
 use Rattle.desk_rows.specs.Fault.{IsToldAs}
@@ -48,8 +47,8 @@ use Rattle.desk_store.specs.declared.fault.OpenFault.TheVariants.{NotABook, Dama
 -- `book` is missing; or its row is sound and of a known format, and a table of that format can't be read
 abbrev pub LacksTables : Layout → Contents → Type 0
 LacksTables l c =
-    (l.has books ≡ false)
-    ⊎ ((row : BookRow) × (l.has books ≡ true) × IsBookRow (c.rows books) row
+    (l.has tables.Book ≡ false)
+    ⊎ ((row : BookRow) × (l.has tables.Book ≡ true) × IsBookRow (c.rows tables.Book) row
     × ¬ CanAllBeRead (format_in row.format) l c)
 
 -- Before the rows of the tables but `book` are checked, the first of these is reported: a table is missing, `book` is of a later format,
@@ -57,15 +56,15 @@ LacksTables l c =
 abbrev pub TellsOfTables : Layout → Contents → OpenFault → Type 0
 TellsOfTables l c NotABook = LacksTables l c
 TellsOfTables l c (Damaged table id) =
-    (l.has books ≡ true) × (table ≡ BookTable) × IsDamagedBook (c.rows books) id × ¬ IsNewer (c.rows books)
-TellsOfTables l c NewerFormat = (l.has books ≡ true) × IsNewer (c.rows books)
+    (l.has tables.Book ≡ true) × (table ≡ tables.Book) × IsDamagedBook (c.rows tables.Book) id × ¬ IsNewer (c.rows tables.Book)
+TellsOfTables l c NewerFormat = (l.has tables.Book ≡ true) × IsNewer (c.rows tables.Book)
 TellsOfTables l c Lost = ⊤
 TellsOfTables l c NoMemory = ⊤
 
 -- the tables of its format can all be read, and this is the first damage in their rows
 pub record IsDamagedIn (l : Layout) (c : Contents) (table : FileTable) (id : ℤ) : Type 0 where
   pub row : BookRow
-  pub book : IsBookRow (c.rows books) row
+  pub book : IsBookRow (c.rows tables.Book) row
   pub of : IsOfFormat (format_in row.format) l
   pub readable : CanAllBeRead (format_in row.format) l c
   pub first : IsFirstDamage (rows_of l c) table id
@@ -88,7 +87,7 @@ FailsToMake g old new fault =
 -- It holds no book: none is to be made, `cache` is there, or the database refuses to make the tables.
 abbrev pub TellsOfNone : {S : Type 0} → (make : Bool) → Ghosts S → Held S → State → OpenFault → Type 0
 TellsOfNone make g old new NotABook =
-    (make ≡ false) ⊎ ((is_there (state g old).now.schema caches ≡ true) ⊎ FailsToMake g old new fault.Refused)
+    (make ≡ false) ⊎ ((is_there (state g old).now.schema tables.Cache ≡ true) ⊎ FailsToMake g old new fault.Refused)
 TellsOfNone make g old new (Damaged table id) = ⊥
 TellsOfNone make g old new NewerFormat = ⊥
 TellsOfNone make g old new Lost = (make ≡ true) × FailsToMake g old new fault.Lost
@@ -99,7 +98,7 @@ TellsOfNone make g old new NoMemory = make ≡ true
 -- the row of `book` is sound, all other tables can be read, and these are its rows
 pub record IsReadOf (l : Layout) (c : Contents) (rows : FileRows) : Type 0 where
   pub row : BookRow
-  pub book : IsBookRow (c.rows books) row
+  pub book : IsBookRow (c.rows tables.Book) row
   pub of : IsOfFormat (format_in row.format) l
   pub readable : CanAllBeRead (format_in row.format) l c
   pub same : AreSameRows (rows_of l c) rows
@@ -121,18 +120,18 @@ abbrev pub lacked_by : FileRows → Option NewTables
 lacked_by rows = lacking (have_names rows.entries) (is_some rows.caches)
 
 -- these tables, in the order in which they are made
-abbrev pub which_new : NewTables → List Which
-which_new EntriesAndBraille = caches ∷ named_corrs ∷ []
-which_new Entries = named_corrs ∷ []
-which_new Braille = caches ∷ []
+abbrev pub which_new : NewTables → List FileTable
+which_new EntriesAndBraille = tables.Cache ∷ tables.NamedCorr ∷ []
+which_new Entries = tables.NamedCorr ∷ []
+which_new Braille = tables.Cache ∷ []
 
 -- those that are lacked, if any are
-abbrev pub which_lacked : Option NewTables → List Which
+abbrev pub which_lacked : Option NewTables → List FileTable
 which_lacked tables = unwrap_or (option_map which_new tables) []
 
 -- the tables of a new file that it lacks, and the layout with them
-abbrev pub missing_tables : Layout → List Which
-missing_tables l = which_lacked (lacking (l.has named_corrs) (l.has caches))
+abbrev pub missing_tables : Layout → List FileTable
+missing_tables l = which_lacked (lacking (l.has tables.NamedCorr) (l.has tables.Cache))
 
 abbrev pub with_missing_tables : Layout → Layout
 with_missing_tables l = with_tables (missing_tables l) l
@@ -145,18 +144,18 @@ Stands l book s = IsOfEither l × ShowsBook l book s
 
 -- The rows of `corr`, of all tables that aren't those of a book, and what the database keeps aside are as they were.
 pub record Keeps (l : Layout) (c : Contents) (rows : Trees) (d : Contents) : Type 0 where
-  pub corrs : d.rows corrs ≡ c.rows corrs
+  pub corrs : d.rows tables.Corr ≡ c.rows tables.Corr
   pub others : KeepsRows l.schema.tables rows d.others
   pub aside : KeepsAside l.schema rows d.others
 
 -- The book in the file with these tables too, in which nothing else is lost.
 abbrev pub HasGained :
-    List Which → Layout → Contents → Book → Trees → (Layout → Contents → Type 0) → Type 0
+    List FileTable → Layout → Contents → Book → Trees → (Layout → Contents → Type 0) → Type 0
 HasGained ws l c book rows P =
     WithBook (with_tables ws l) book (λ d. P (with_tables ws l) d × Keeps l c rows d)
 
 -- the trees are such a file, of whatever file the book stood in
-abbrev pub HoldsWith : List Which → Book → State → Trees → Type 0
+abbrev pub HoldsWith : List FileTable → Book → State → Trees → Type 0
 HoldsWith ws book s db =
     (l : Layout) (stands : Stands l book s)
     → HasGained ws l stands.1.0 book s.now.trees (λ after d. IsFile after d db)
@@ -178,7 +177,7 @@ pub record MayBring (make : Bool) (s : State) (db : Trees) : Type 0 where
       → HasGained (missing_tables l) l stands.1.0 book s.now.trees (λ after d. IsFile after d db)
 
 -- the book in the file as it was, or with these tables
-abbrev pub HoldsEitherWith : List Which → Layout → Book → Trees → Type 0
+abbrev pub HoldsEitherWith : List FileTable → Layout → Book → Trees → Type 0
 HoldsEitherWith ws l book db = HoldsBook l book db ⊎ HoldsBook (with_tables ws l) book db
 
 -- the book in the file as it was, or with the tables that it lacked
@@ -207,7 +206,7 @@ pub record IsMadeNew (make : Bool) (book : Book) (old new : State) : Type 0 wher
 
 -- The statement that reads a table failed so, or there was no memory for the rows that it showed. The connection was as at first.
 pub record StopsReading {S : Type 0} (g : Ghosts S) (old : Held S) (new : State) (why : DatabaseFault) : Type 0 where
-  pub table : Which
+  pub table : FileTable
   pub before : Held S
   pub stays : Stays (state g old) (state g before)
   pub fails : FailsAs (query_of table) (shown_columns table) (AreToldApart table) (state g before) new why

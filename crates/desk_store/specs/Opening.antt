@@ -6,17 +6,17 @@ use Rattle.sqlite.specs.declared.error.Error.{Error}
 use Rattle.sqlite.specs.State.{State}
 use Rattle.sqlite_schema.specs.declared.schema.Schema.{Schema}
 use Rattle.desk_model.specs.Damage.{IsDamagedBook, IsSoundBookRow}
+use Rattle.desk_parts.specs.declared.file_table.FileTable.{FileTable}
+use Rattle.desk_parts.specs.declared.file_table.FileTable.TheVariants as tables
 use Rattle.desk_parts.specs.FileRows.{FileRows}
 use Rattle.desk_parts.specs.Parts.{rows_in}
 use Rattle.desk_model.specs.SameRows.{AreSameRows}
-use Rattle.desk_parts.specs.declared.file_table.FileTable.TheVariants.{Book}
 use Rattle.desk_parts.specs.declared.parts.Parts.{Parts}
 use Rattle.desk_model.specs.declared.fault.PartsFault.{PartsFault}
 use Rattle.desk_model.specs.declared.fault.PartsFault.TheVariants as rebuilt
 use Rattle.desk_parts.specs.declared.rows.BookRow.{BookRow}
 use Rattle.desk_store.specs.BookFile.{rows_of}
 use Rattle.desk_rows.specs.Contents.{Contents}
-use Rattle.desk_rows.specs.Descriptions.{Which, tabs, paras, corrs, marks, named_corrs}
 use Rattle.desk_rows.specs.Fault.{IsToldAs}
 use Rattle.desk_store.specs.Formats.{Format, Presence, needed, optional, foreign, unread, unnamed, named, presence, IsOfFormat}
 use Rattle.desk_rows.specs.Layout.{Layout}
@@ -70,7 +70,7 @@ pub record IsBookRow (rows : List BookRow) (row : BookRow) : Type 0 where
 -- a later format is reported before any damage
 abbrev pub TellsOfRow : List BookRow → OpenFault → Type 0
 TellsOfRow rows NotABook = ⊥
-TellsOfRow rows (Damaged table id) = (table ≡ Book) × IsDamagedBook rows id × ¬ IsNewer rows
+TellsOfRow rows (Damaged table id) = (table ≡ tables.Book) × IsDamagedBook rows id × ¬ IsNewer rows
 TellsOfRow rows NewerFormat = IsNewer rows
 TellsOfRow rows Lost = ⊥
 TellsOfRow rows NoMemory = ⊥
@@ -88,9 +88,9 @@ format_read read.Named = named
 -- the tables of the format are there, `book` aside
 abbrev pub has_tables : Format → Schema → Bool
 has_tables unnamed s =
-    (is_there s tabs && is_there s paras && is_there s marks)
-    && (is_there s corrs && not (is_there s named_corrs))
-has_tables named s = (is_there s tabs && is_there s paras && is_there s marks) && is_there s named_corrs
+    (is_there s tables.Tab && is_there s tables.Para && is_there s tables.Mark)
+    && (is_there s tables.Corr && not (is_there s tables.NamedCorr))
+has_tables named s = (is_there s tables.Tab && is_there s tables.Para && is_there s tables.Mark) && is_there s tables.NamedCorr
 
 -- ---- what is read
 
@@ -103,12 +103,12 @@ CanBeRead unread has are_utf8 = ⊤
 
 abbrev pub CanAllBeRead : Format → Layout → Contents → Type 0
 CanAllBeRead format l c =
-    (w : Which) → CanBeRead (presence format w) (l.has w) (AllByRecursion (IsUtf8Row w) (c.rows w))
+    (w : FileTable) → CanBeRead (presence format w) (l.has w) (AllByRecursion (IsUtf8Row w) (c.rows w))
 
 -- the table of the entries can be read
 abbrev pub AreEntriesReadable : Format → Layout → Contents → Type 0
-AreEntriesReadable unnamed l c = AllByRecursion (IsUtf8Row corrs) (c.rows corrs)
-AreEntriesReadable named l c = AllByRecursion (IsUtf8Row named_corrs) (c.rows named_corrs)
+AreEntriesReadable unnamed l c = AllByRecursion (IsUtf8Row tables.Corr) (c.rows tables.Corr)
+AreEntriesReadable named l c = AllByRecursion (IsUtf8Row tables.NamedCorr) (c.rows tables.NamedCorr)
 
 -- these are the rows of the parts of a file, `book` aside
 abbrev pub AreRead : FileRows → Parts → Type 0

@@ -17,7 +17,7 @@ ghost use Rattle.desk_rows.specs.Layout.{Layout};
 ghost use Rattle.desk_store.specs.Opened.{IsReadOf, StopsOpening, StopsReading, TellsOfTables};
 ghost use Rattle.desk_store.specs.Opening.{AreEntriesReadable, AreRead, CanAllBeRead, IsBookRow, IsRefusal, OfFile, ShowsReadable, Stays, TellsOfRow, format_in, format_read, has_tables};
 ghost use Rattle.desk_rows.specs.States.{ShowsContents};
-ghost use Rattle.desk_rows.specs.Tables.{is_there, which};
+ghost use Rattle.desk_rows.specs.Tables.{is_there};
 
 use crate::fault::OpenFault;
 use desk_book::MOST_VERSION;
@@ -31,14 +31,14 @@ const NEWEST_FORMAT: i64 = 2;
 
 /// Whether each of these tables is there, as [`has_table`] says.
 pub(crate) fn has_all<S: Alter>(conn: &Connection<S>, tables: &[FileTable]) -> bool
-    ensures { result ≡ list_all (λ t. is_there (state S.Store conn.now).now.schema (which t)) tables.now }
+    ensures { result ≡ list_all (is_there (state S.Store conn.now).now.schema) tables.now }
 {
     tables.iter().all(|table| has_table(conn, *table))
 }
 
 /// Whether one of these tables is there.
 pub(crate) fn has_any<S: Alter>(conn: &Connection<S>, tables: &[FileTable]) -> bool
-    ensures { result ≡ list_any (λ t. is_there (state S.Store conn.now).now.schema (which t)) tables.now }
+    ensures { result ≡ list_any (is_there (state S.Store conn.now).now.schema) tables.now }
 {
     tables.iter().any(|table| has_table(conn, *table))
 }

@@ -1,12 +1,11 @@
 //! The tables that a book's file lacks of those of a new one, made and filled.
 
-ghost use Rattle.std.specs.Prelude.{◌≡◌, false, IfErr, OnOk, map};
+ghost use Rattle.std.specs.Prelude.{◌≡◌, false, IfErr, OnOk};
 ghost use Rattle.desk_parts.specs.Parts.{rows_in};
 ghost use Rattle.desk_rows.specs.Layout.{Layout};
 ghost use Rattle.desk_store.specs.Opened.{HasGained, HoldsWith, IsFilledAs, Stands, StopsFilling, lacked_by, which_new};
 ghost use Rattle.desk_store.specs.Opening.{IsRefusal};
 ghost use Rattle.desk_rows.specs.States.{ShowsContents};
-ghost use Rattle.desk_rows.specs.Tables.{which};
 ghost use Rattle.sql_tables.specs.States.{IsCommitted, IsSettled};
 ghost use Rattle.sqlite.specs.Held.{state};
 ghost use Rattle.sqlite.specs.State.{HasCleanDisk, Survives};
@@ -44,7 +43,7 @@ fn stopped_by(error: Error) -> OpenFault
 
 /// The tables that are new, in the order in which they are made.
 fn file_tables(tables: NewTables) -> &'static [FileTable]
-    ensures { map which result.now ≡ which_new tables }
+    ensures { result.now ≡ which_new tables }
 {
     match tables {
         NewTables::EntriesAndBraille => &[FileTable::Cache, FileTable::NamedCorr],

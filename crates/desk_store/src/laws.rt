@@ -7,7 +7,7 @@ ghost use Rattle.desk_model.specs.Book.{Book};
 ghost use Rattle.desk_parts.specs.FileRows.{FileRows};
 ghost use Rattle.desk_model.specs.Shows.{Shows as RowsShow};
 ghost use Rattle.desk_parts.specs.Puts.{RowPut, with_puts};
-ghost use Rattle.desk_rows.specs.Descriptions.{Which, caches, named_corrs};
+ghost use Rattle.desk_parts.specs.declared.file_table.FileTable.{FileTable};
 ghost use Rattle.desk_rows.specs.Layout.{Layout};
 ghost use Rattle.desk_store.specs.Formats.{Format, IsExact, IsOfFormat, named, unnamed};
 ghost use Rattle.desk_rows.specs.Making.{after, is_among, new_layout, with_tables};
@@ -18,7 +18,7 @@ ghost use Rattle.sqlite.specs.Held.{state};
 ghost use Rattle.sqlite.specs.State.{HasCleanDisk, Opens, Survives};
 ghost use Rattle.sqlite_schema.specs.declared.schema.Schema.{Schema};
 ghost use Rattle.std.specs.Prelude.{Bool, List, Result, [], ◌∷◌, true, ◌≡◌, ◌⊎◌, ◌||◌};
-ghost use Rattle.desk_rows.specs.Puts.{HasThem, puts_into};
+ghost use Rattle.desk_rows.specs.Puts.{puts_into};
 ghost use Rattle.desk_rows.specs.Tables.{is_there};
 
 use crate::store::Store;
@@ -27,7 +27,7 @@ use sqlite::{Alter, Connection};
 
 /// What is put into the contents of a file is put into its rows.
 pub fn puts_of_the_book()
-    ensures { (l : Layout) (c : Contents) (puts : List RowPut) → HasThem l puts
+    ensures { (l : Layout) (c : Contents) (puts : List RowPut)
         → rows_of l (puts_into puts c) ≡ with_puts puts (rows_of l c) }
 {}
 
@@ -84,19 +84,19 @@ pub fn opened_then_kept<S: Alter>(before: &Connection<S>, after: &Store<S>, chan
 
 /// Making tables adds just these to the tables that are there, and an exact layout stays exact.
 pub fn tables_made()
-    ensures there { (ws : List Which) (s : Schema) (v : Which)
+    ensures there { (ws : List FileTable) (s : Schema) (v : FileTable)
         → is_there (after ws s) v ≡ (is_among ws v || is_there s v) }
-    ensures exact { (ws : List Which) (l : Layout) → IsExact l → IsExact (with_tables ws l) }
+    ensures exact { (ws : List FileTable) (l : Layout) → IsExact l → IsExact (with_tables ws l) }
 {}
 
 /// A new file is of format 2. One of format 1 in which tables are made, `corr2` among them, is of format 2 then, and one of either format in
 /// which `cache` is made stays of it.
 pub fn formats()
     ensures new { (s : Schema) → IsOfFormat named (new_layout s) }
-    ensures names { (l : Layout) (ws : List Which) → IsOfFormat unnamed l
-        → is_among ws named_corrs ≡ true → IsOfFormat named (with_tables ws l) }
+    ensures names { (l : Layout) (ws : List FileTable) → IsOfFormat unnamed l
+        → is_among ws FileTable.NamedCorr ≡ true → IsOfFormat named (with_tables ws l) }
     ensures cells { (format : Format) (l : Layout) → IsOfFormat format l
-        → IsOfFormat format (with_tables (caches ∷ []) l) }
+        → IsOfFormat format (with_tables (FileTable.Cache ∷ []) l) }
 {}
 
 /// If a book stands in a file that is opened, that one is found, or no refusal is reported.

@@ -5,7 +5,6 @@ ghost use Rattle.sqlite.specs.Held.{state};
 ghost use Rattle.sqlite.specs.declared.error.Error.{Error as Failure};
 ghost use Rattle.sqlite.specs.State.{HasCleanDisk, Survives};
 ghost use Rattle.sql_tables.specs.States.{IsCommitted, IsSettled, ShowsAsBefore};
-ghost use Rattle.desk_rows.specs.Descriptions.{caches};
 ghost use Rattle.desk_rows.specs.Failing.{FailsToChange, of_first_row};
 ghost use Rattle.desk_rows.specs.Making.{IsMade, IsNew, new_layout, new_tables};
 ghost use Rattle.desk_store.specs.Opening.{IsOpenedAs};
@@ -46,12 +45,12 @@ pub(crate) fn make_book<S: Alter>(conn: &mut Connection<S>) -> Result<(), OpenFa
         → Survives (state S.Store conn.old) (state S.Store conn.new) (λ _. ⊥)) }
     // The error is what the database answered to one of the statements or to the commit.
     ensures told { HasCleanDisk (state S.Store conn.new)
-        → is_there (state S.Store conn.old).now.schema caches ≡ false
+        → is_there (state S.Store conn.old).now.schema FileTable.Cache ≡ false
         → IfErr result (λ told. (e : Failure)
         × FailsToChange S.Store new_tables (of_first_row S.Store) (with_transaction conn.old)
         (state S.Store conn.new) e × IsOpenedAs e told) }
     // If `cache` is there, nothing is done.
-    ensures beside { is_there (state S.Store conn.old).now.schema caches ≡ true
+    ensures beside { is_there (state S.Store conn.old).now.schema FileTable.Cache ≡ true
         → (result ≡ Err OpenFault.NotABook) × (conn.new ≡ conn.old) }
 {
     if has_table(conn, FileTable::Cache) {

@@ -1,5 +1,5 @@
 -- What an upsert by the rowid does to a table.
-use Rattle.std.proofs.Common.{◌≡◌, ℕ, suc, ℤ, ◌+◌, ◌/◌, ◌++◌, ap, ◌∙◌, ◌==◌, ◌&&◌, Bool, true, false, List, [], ◌∷◌, drop, map, length, Some, Ok, refl, sym, true≢false, replicate}
+use Rattle.std.proofs.Common.{◌≡◌, ℕ, suc, ℤ, ◌+◌, ◌/◌, ◌++◌, ap, ◌∙◌, ◌==◌, ◌&&◌, Bool, true, false, List, [], ◌∷◌, drop, filter, map, not, length, Some, Ok, refl, sym, true≢false, replicate}
 use Rattle.std.specs.Ordering.{int_eq}
 use Rattle.std.proofs.lemmas.Bool.{and_parts}
 use Rattle.sqlite_value.specs.declared.keys.Collation.TheVariants.{Binary}
@@ -27,7 +27,7 @@ use Rattle.sqlite_catalog.specs.Listing.{IsSound}
 use Rattle.sqlite.specs.Effect.{value_rows}
 use Rattle.sqlite.specs.Rows.{shown, stamped}
 use Rattle.sqlite.specs.State.{State, Executes}
-use Rattle.sql_tables.specs.Rows.{HaveRowids, Lists, put_in}
+use Rattle.sql_tables.specs.Rows.{HaveRowids, Lists, columns_at, numbers_from}
 use Rattle.sql_tables.specs.Tables.{IsDeclared}
 use Rattle.sql_tables.specs.Tables.{numbered_table}
 use Rattle.sql_tables.proofs.PutLists.{lists_put}
@@ -38,7 +38,6 @@ use Rattle.sql_tables.proofs.Running.{Wrote}
 use Rattle.sql_tables.proofs.Casts.{cast_null, cast_int}
 use Rattle.sql_tables.proofs.Upserts.{IsUpsert, PutsRow, puts_row}
 use Rattle.sql_tables.proofs.Writing.{IsPut}
-use Rattle.sql_tables.specs.Rows.{columns_at, numbers_from}
 
 -- the columns take these values as they are
 abbrev pub fits_kind : Kind → Value → Bool
@@ -149,7 +148,7 @@ module _ (name : List ℕ) (columns : List Column) (own : List ℕ) (text : List
 
     pub numbered_puts : (schema : Schema) (tree : ℕ) (d : IsDeclared schema (table tree)) (old new : State) (count : ℕ) (x : X) (xs : List X) → old.now.schema ≡ schema → IsSound schema old.now.trees
         → HaveRowids (old.now.trees tree) → Lists row (columns_at own) xs (old.now.trees tree) → Executes text (row x) old new (Ok count)
-        → Wrote old new × ((id : ℤ) × (it : Row) × IsPut schema (table tree) it id old.now.trees new.now.trees × Lists row (columns_at own) (put_in (λ y. int_eq (key y) (key x)) x xs) (new.now.trees tree) × HaveRowids (new.now.trees tree))
+        → Wrote old new × ((id : ℤ) × (it : Row) × IsPut schema (table tree) it id old.now.trees new.now.trees × Lists row (columns_at own) (x ∷ filter (λ y. not (int_eq (key y) (key x))) xs) (new.now.trees tree) × HaveRowids (new.now.trees tree))
     numbered_puts schema tree d old new count x xs has sound ids lists h =
         let it = stored (key x) (row x) in
         let did = puts_row name columns text upsert (row x) it (key x) (each x) schema tree d old new count has sound ids h in (

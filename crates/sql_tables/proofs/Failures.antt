@@ -9,7 +9,7 @@ use Rattle.sqlite_resolve.specs.declared.compiled.Compiled.{Compiled}
 use Rattle.sqlite.specs.declared.error.Error.{Error}
 use Rattle.sqlite.specs.declared.error.Error.TheVariants.{ExecuteReturnedResults, InvalidQuery}
 use Rattle.sqlite.specs.Clock.{timed}
-use Rattle.sqlite.specs.State.{State, ExecutesIn, ExecutesInside, Executes, Fails, HasCause, IsMisplaced, IsNoStatement, IsNotRun, IsStatement, IsUnchanged, RunsCommand, mode_of, shows_rows, store_error, text_of}
+use Rattle.sqlite.specs.State.{State, ExecutesIn, ExecutesInside, Executes, Fails, HasCause, IsMisplaced, IsNoStatement, IsNotRun, IsUnchanged, RunsCommand, mode_of, shows_rows, store_error, text_of}
 use Rattle.sql_tables.proofs.Refusals.{IsPlain, does, plain_if}
 
 -- the error is that of a cause that the connection shows, or of a value that is too big

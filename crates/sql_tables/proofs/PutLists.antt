@@ -12,7 +12,7 @@ use Rattle.sqlite_trees.proofs.ListLemmas.{filter_same, filter-map, IsPermutatio
 use Rattle.sqlite_schema.specs.declared.schema.Schema.{Schema}
 use Rattle.sqlite_schema.specs.declared.schema.Table.{Table}
 use Rattle.sqlite_rules.proofs.ListLemmas.{all_has}
-use Rattle.sql_tables.specs.Rows.{Lists, put_in}
+use Rattle.sql_tables.specs.Rows.{Lists}
 use Rattle.sql_tables.specs.Tables.{IsDeclared}
 use Rattle.sql_tables.proofs.Declaring.{has_table}
 use Rattle.sql_tables.proofs.RowLists.{replaced}
@@ -42,7 +42,7 @@ module _ {X : Type 0} (written : X → Row) (columns : Row → Row) (key : X →
   each_shown id (r ∷ rows) = (rw (shown_key r), each_shown id rows)
 
   pub lists_put : (x : X) (xs : List X) (row : Row) (rows : List Row) → Lists written columns xs rows → columns row ≡ written x → rowid row ≡ Int (key x)
-      → Lists written columns (put_in (λ y. int_eq (key y) (key x)) x xs) (put_row row (without_rowid (key x) rows))
+      → Lists written columns (x ∷ filter (λ y. not (int_eq (key y) (key x))) xs) (put_row row (without_rowid (key x) rows))
   lists_put x xs row rows all shows keyed =
       let id = key x in
       let left : filter (spares id) (map written xs) ≡ map written (filter (λ y. not (int_eq (key y) id)) xs) = filter-map (spares id) written xs ∙ ap (map written) (filter_same _ _ xs (each_written id xs)) in

@@ -1,5 +1,5 @@
 -- What a command is refused for is no failure of the store.
-use Rattle.std.proofs.Common.{◌≡◌, ◌≢◌, ◌⊎◌, inl, inr, ℕ, ℤ, Bool, true, false, List, [], ◌∷◌, Option, Some, None, option_map, unwrap_or, slice_get, Result, Ok, Err, MatchBool, refl, sym, ap, subst, ◌∙◌, true≢false}
+use Rattle.std.proofs.Common.{◌≡◌, ◌≢◌, inl, inr, ℕ, ℤ, Bool, true, false, List, [], ◌∷◌, Option, Some, None, option_map, slice_get, Ok, Err, MatchBool, refl, sym, ap, subst, ◌∙◌, true≢false}
 use Rattle.sqlite_value.specs.Order.{Row}
 use Rattle.sqlite_trees.specs.Tree.{Trees}
 use Rattle.sqlite_trees.specs.declared.error.StoreError.{StoreError}
@@ -8,7 +8,7 @@ use Rattle.sqlite_schema.specs.declared.schema.Among.{Among}
 use Rattle.sqlite_schema.specs.declared.schema.Schema.{Schema}
 use Rattle.sqlite_schema.specs.declared.schema.Table.{Table}
 use Rattle.sqlite_schema.specs.declared.command.Command.{Command}
-use Rattle.sqlite_schema.specs.declared.command.Command.TheVariants.{Select, Insert, InsertOr, Update, Delete, CreateTable, CreateIndex, DropTable, DropIndex, Begin, Commit, Rollback, Savepoint, Release, RollbackTo, Nothing, CreateView, DropView, Rows}
+use Rattle.sqlite_schema.specs.declared.command.Command.TheVariants.{Insert, InsertOr, Update, Delete, CreateTable, CreateIndex, DropTable, DropIndex, CreateView, DropView}
 use Rattle.sqlite_schema.specs.declared.command.Conflict.{Conflict}
 use Rattle.sqlite_schema.specs.declared.command.Conflict.TheVariants.{Abort, Ignore, Replace}
 use Rattle.sqlite_schema.specs.declared.command.Returning.{Returning}
@@ -30,8 +30,8 @@ use Rattle.sqlite.specs.declared.error.ErrorCode.TheVariants as code
 use Rattle.sqlite.specs.declared.error.Error.{Error}
 use Rattle.sqlite.specs.declared.error.Error.TheVariants.{SqliteFailure, InvalidQuery}
 use Rattle.sqlite.specs.declared.run.Mode.{Mode}
-use Rattle.sqlite.specs.Does.{AtPlace, Concludes, Counted, Defines, Does, Drops, Empties, HoldWithout, IsKeptAside, Leaves, MakesIndex, MakesSequence, MakesTable, MakesView, OnRows, OnTable, Redefines, Returns, Shows, Tally, Tested, Uncounts, UncountsIn, WritesRows}
-use Rattle.sqlite.specs.Effect.{Database, IsNoText, RefusesQuery, RefusesSource, RefusesToAlter, alter_error, edit_error}
+use Rattle.sqlite.specs.Does.{AtPlace, Concludes, Counted, Defines, Does, Drops, Empties, HoldWithout, Leaves, MakesIndex, MakesTable, MakesView, OnRows, OnTable, Redefines, Returns, Shows, Tally, Tested, UncountsIn, WritesRows}
+use Rattle.sqlite.specs.Effect.{Database, IsNoText, RefusesQuery, RefusesToAlter, alter_error, edit_error}
 use Rattle.sqlite.specs.Rows.{Clears, Counter, CounterIn, Counts, CountsIn, Deletes, Edited, Gives, Inserts, InsertsOr, Judged, Meets, Outcome, Part, Puts, Queried, Refuses, Resolves, Sourced, Task, Then, Tries, TriesEach, Updates, Upserts, Written, counting, mended, rowids_for}
 use Rattle.sqlite.specs.State.{store_error}
 

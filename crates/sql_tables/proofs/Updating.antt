@@ -1,7 +1,7 @@
 -- What UPDATE of one row by its key means, whatever else the schema has.
-use Rattle.std.proofs.Common.{◌≡◌, ◌-◌, nat_lt, ◌⊎◌, inl, inr, ℕ, ℤ, suc, ◌<◌, ◌≤◌, sym, ap, subst, ◌∙◌, cond, filter, map, length, drop, is_eq, IsTrue, arith, Bool, true, false, List, [], ◌∷◌, slice_get, Option, Some, None, Ok, refl}
+use Rattle.std.proofs.Common.{◌≡◌, ◌-◌, ◌==◌, if◌then◌else◌, nat_lt, ◌⊎◌, inl, inr, ℕ, ℤ, suc, ◌<◌, ◌≤◌, sym, ap, subst, ◌∙◌, cond, filter, map, length, drop, replicate, is_eq, IsTrue, arith, Bool, true, false, List, [], ◌∷◌, slice_get, Option, Some, None, Ok, refl}
 use Rattle.sqlite_value.specs.declared.keys.Collation.TheVariants.{Binary}
-use Rattle.sqlite_sql.specs.Term.{Term, col}
+use Rattle.sqlite_sql.specs.Term.{Term, col, lit}
 use Rattle.sqlite_ast.specs.declared.Binary.TheVariants as binary
 use Rattle.sqlite_ast.specs.declared.Expr.{Expr, out-Expr}
 use Rattle.sqlite_ast.specs.declared.Expr.TheOpen.{Expr-F}
@@ -20,17 +20,16 @@ use Rattle.sqlite_resolve.specs.Lowering.{fresh, max_budget}
 use Rattle.sqlite_resolve.specs.Body.{tests}
 use Rattle.sqlite_resolve.specs.Compile.{command, update}
 use Rattle.sqlite_resolve.specs.Write.{assigned, row, picked, updated, updated_in}
-use Rattle.sql_tables.specs.Tables.{IsDeclared}
-use Rattle.sql_tables.specs.Tables.{numbered_table}
+use Rattle.sql_tables.specs.Tables.{IsDeclared, numbered_table, untyped_column}
 use Rattle.sql_tables.proofs.Declaring.{classes_are, low_tree, uncovered}
-use Rattle.sql_tables.proofs.Meaning.{IsText, update_is}
+use Rattle.sql_tables.proofs.Meaning.{IsText, parse_of, update_is}
 use Rattle.sql_tables.proofs.OneTable.{Parts, draft_of, program_on, is_typed, program_is}
 use Rattle.sql_tables.proofs.Running.{Means}
 use Rattle.sqlite_ast.specs.declared.Statement.{Statement}
 use Rattle.sqlite_ast.specs.Layer.{Layer}
 use Rattle.std.specs.Ordering.{int_eq}
 use Rattle.std.proofs.lemmas.Bool.Decides.{Decides-int_eq}
-use Rattle.sqlite_value.specs.declared.value.Value.TheVariants.{Int}
+use Rattle.sqlite_value.specs.declared.value.Value.TheVariants.{Int, Null}
 use Rattle.sqlite_value.specs.Order.{Row, column, value_cmp}
 use Rattle.sqlite_value.proofs.OrderLemmas.{value_cmp-Int}
 use Rattle.sqlite_trees.specs.Tree.{Trees, rowid, has_rowid}
@@ -45,7 +44,7 @@ use Rattle.sqlite_rules.proofs.TableLemmas.{int_is}
 use Rattle.sqlite_catalog.specs.Listing.{IsSound}
 use Rattle.sqlite.specs.Rows.{Written, Updates}
 use Rattle.sqlite.specs.State.{State, Executes}
-use Rattle.sql_tables.specs.Rows.{HaveRowids, Lists}
+use Rattle.sql_tables.specs.Rows.{HaveRowids, Lists, numbers_from}
 use Rattle.sql_tables.proofs.RowLists.{rowids_stay}
 use Rattle.sql_tables.proofs.Setting.{set_if, sets_none, sets_one}
 use Rattle.sql_tables.proofs.Numbered.{all_find, none_on}
@@ -82,11 +81,9 @@ right_of e = right_at (out-Expr e)
 
 -- WHERE compares the first column with the first parameter
 pub record IsKeyTest (e : Expr) (name : Name) : Type 0 where
-  pub left : Expr
-  pub right : Expr
-  pub equals : out-Expr e ≡ Expr-F.Binary binary.Eq left right
-  pub key : out-Expr left ≡ Expr-F.Column None name
-  pub asked : out-Expr right ≡ Expr-F.Parameter 1
+  pub equals : out-Expr e ≡ Expr-F.Binary binary.Eq (left_of e) (right_of e)
+  pub key : out-Expr (left_of e) ≡ Expr-F.Column None name
+  pub asked : out-Expr (right_of e) ≡ Expr-F.Parameter 1
 
 -- room for three more steps of resolving
 abbrev pub AreRich : ℕ → Type 0
@@ -97,49 +94,72 @@ module _ (schema : Schema) (at : ℕ) (table : Table) (there : slice_get schema.
   unfolding lower_to node opened spend begin finish passes
   lowers_parameter depth e budget rich is = rw (rich, is)
 
-  lowers_test : (e : Expr) (name : Name) (c : Column) (budget : ℕ) → AreRich budget → (t : IsKeyTest e name) → IsColumn schema at table there table.name t.left name 0 c
+  lowers_test : (e : Expr) (name : Name) (c : Column) (budget : ℕ) → AreRich budget → (t : IsKeyTest e name) → IsColumn schema at table there table.name (left_of e) name 0 c
       → lower (over schema at table there table.name [] false) e (clear budget nothing) ≡ Ok (equal Binary (col 1 0) (col 0 0), clear (budget - 1 - 1 - 1) nothing)
   unfolding lower_to node opened spend begin finish passes operation both combine wanted_truth tests_truth tests_alias compared affinity_of of_column converted may_be_text chosen first_found
-  lowers_test e name c budget rich t it = rw (rich.0, t.equals, lowers_to schema at table there table.name 698 t.left name 0 c it [] false (budget - 1) nothing rich.1, by_rowid, lowers_parameter 698 t.right (budget - 1 - 1) rich.2 t.asked)
+  lowers_test e name c budget rich t it = rw (rich.0, t.equals, lowers_to schema at table there table.name 698 (left_of e) name 0 c it [] false (budget - 1) nothing rich.1, by_rowid, lowers_parameter 698 (right_of e) (budget - 1 - 1) rich.2 t.asked)
 
-module _ (name : Name) (columns : List Column) (text : List ℕ) where
+-- the first column of a table
+abbrev first_of_columns : List Column → Column
+first_of_columns [] = untyped_column []
+first_of_columns (c ∷ columns) = c
+
+-- a column of the row that is made: the parameter for its place, counted from the first, or what it was
+abbrev term_at : ℕ → List ℕ → ℕ → Term
+term_at n [] at = col 1 at
+term_at n (place ∷ places) at = if place == at then col 0 n else term_at (suc n) places at
+
+module _ (name : Name) (columns : List Column) (text : List ℕ) (places : List ℕ) where
   abbrev pub parts_of : List Term → Parts
   parts_of project = record { tests = equal Binary (col 1 0) (col 0 0) ∷ []; project = project; order = [] }
 
-  -- The text sets columns of the row whose first column is the first parameter.
+  abbrev pub sets : List (Name × Expr)
+  sets = sets_in (parse_of text).statement
+
+  abbrev pub test : Expr
+  test = test_in (parse_of text).statement
+
+  abbrev pub key_column : Column
+  key_column = first_of_columns columns
+
+  abbrev pub terms : List Term
+  terms = map (col 0) (numbers_from 1 places)
+
+  -- the row that is made, behind the rowid: its own rowid, nothing in place of the key, and the other columns
+  abbrev pub project : List Term
+  project = col 1 0 ∷ col 1 0 ∷ lit Null ∷ map (term_at 1 places) (drop 2 (numbers_from 0 (replicate (suc (length columns)) 0)))
+
+  -- what is left for resolving once each parameter is
+  abbrev pub budget : ℕ
+  budget = max_budget - length places
+
+  -- The text sets the columns at these places of the row whose first column is the first parameter, to the further parameters in turn. Each
+  -- field computes.
   pub record IsUpdate : Type 0 where
-    pub sets : List (Name × Expr)
-    pub test : Expr
-    pub places : List ℕ
-    pub terms : List Term
-    pub project : List Term
-    pub key : Name
-    pub column : Column
-    pub budget : ℕ
     pub rich : AreRich budget
     pub is_text : IsText text (written.Update name sets (Some test) [])
     pub assigned_is : (schema : Schema) (at tree : ℕ) (there : slice_get schema.tables at ≡ Some (numbered_table name columns tree))
         → assigned (over schema at (numbered_table name columns tree) there name [] false) (numbered_table name columns tree) sets (fresh 2 max_budget) ≡ Ok ((places, terms), clear budget nothing)
     pub row_is : (tree : ℕ) → row (numbered_table name columns tree) None places (col 1 0 ∷ []) terms ≡ Ok project
-    pub tests : IsKeyTest test key
-    pub named : (tree : ℕ) → column_named (numbered_table name columns tree) key ≡ Some 0
-    pub first : slice_get columns 0 ≡ Some column
+    pub tests : IsKeyTest test key_column.name
+    pub named : (tree : ℕ) → column_named (numbered_table name columns tree) key_column.name ≡ Some 0
+    pub first : slice_get columns 0 ≡ Some key_column
     pub typed : (tree : ℕ) → is_typed (numbered_table name columns tree) (parts_of project) [] ≡ true
 
   module _ (u : IsUpdate) (schema : Schema) (tree : ℕ) (d : IsDeclared schema (numbered_table name columns tree)) where
     abbrev table : Table
     table = numbered_table name columns tree
 
-    draft_is : updated schema d.at table u.sets (Some u.test) ≡ Ok (draft_of tree (parts_of u.project))
+    draft_is : updated schema d.at table sets (Some test) ≡ Ok (draft_of tree (parts_of project))
     unfolding updated updated_in picked tests
-    draft_is = rw (u.assigned_is schema d.at tree d.there, u.row_is tree, lowers_test schema d.at table d.there refl u.test u.key u.column u.budget u.rich u.tests (record { written = u.tests.key; named = u.named tree; is = u.first }))
+    draft_is = rw (u.assigned_is schema d.at tree d.there, u.row_is tree, lowers_test schema d.at table d.there refl test key_column.name key_column budget u.rich u.tests (record { written = u.tests.key; named = u.named tree; is = u.first }))
 
-    update_command : (formats : List (List ℕ)) (base : ℕ) → tree < 65536 → command schema formats base (written.Update name u.sets (Some u.test) []) ≡ Ok (Update d.at (program_on tree (parts_of u.project)))
+    update_command : (formats : List (List ℕ)) (base : ℕ) → tree < 65536 → command schema formats base (written.Update name sets (Some test) []) ≡ Ok (Update d.at (program_on tree (parts_of project)))
     unfolding command update
-    update_command formats base low = rw (d.named, d.there, draft_is, program_is schema table (classes_are schema table d low) (parts_of u.project) (u.typed tree))
+    update_command formats base low = rw (d.named, d.there, draft_is, program_is schema table (classes_are schema table d low) (parts_of project) (u.typed tree))
 
-    pub update_means : tree < 65536 → Means schema text (Update d.at (program_on tree (parts_of u.project)))
-    update_means low = update_is schema text name u.sets (Some u.test) (Update d.at (program_on tree (parts_of u.project))) u.is_text (λ formats base. update_command formats base low)
+    pub update_means : tree < 65536 → Means schema text (Update d.at (program_on tree (parts_of project)))
+    update_means low = update_is schema text name sets (Some test) (Update d.at (program_on tree (parts_of project))) u.is_text (λ formats base. update_command formats base low)
 
     -- the row with the number is replaced, if it is there
     abbrev pub IsSet : ℤ → (Row → Row → Type 0) → Trees → Trees → Type 0
@@ -168,28 +188,28 @@ module _ (name : Name) (columns : List Column) (text : List ℕ) where
         is ∙ ap Int ((Decides-int_eq n id).0 same)
 
     pub sets_row : (params : Row) (id : ℤ) (Becomes : Row → Row → Type 0) → column params 0 ≡ Int id
-        → ((r : Row) → rowid (eval_all u.project (params ∷ r ∷ [])) ≡ rowid r)
+        → ((r : Row) → rowid (eval_all project (params ∷ r ∷ [])) ≡ rowid r)
         → (old new : State) (count : ℕ) → old.now.schema ≡ schema → IsSound schema old.now.trees → HaveRowids (old.now.trees tree)
-        → ((r : Row) → Has (old.now.trees tree) r → rowid r ≡ Int id → (row : Row) × (cast_row table (drop 1 (eval_all u.project (params ∷ r ∷ []))) ≡ row) × (rowid row ≡ Int id) × Becomes r row)
+        → ((r : Row) → Has (old.now.trees tree) r → rowid r ≡ Int id → (row : Row) × (cast_row table (drop 1 (eval_all project (params ∷ r ∷ []))) ≡ row) × (rowid row ≡ Int id) × Becomes r row)
         → Executes text params old new (Ok count) → Wrote old new × IsSet id Becomes old.now.trees new.now.trees
     sets_row params id Becomes asked heads old new count has sound keyed made h =
         let low = low_tree schema table d old.now.trees sound in
-        let ran = update_ran schema d.at table d.there text params old new count has (program_on tree (parts_of u.project)) (update_means low) h in
+        let ran = update_ran schema d.at table d.there text params old new count has (program_on tree (parts_of project)) (update_means low) h in
         let db = old.now.trees in
         let same = filter_same _ _ (db tree) (all_find params 0 id asked (db tree) keyed.integers) in
         (ran.0, go low (alone_of (filter (has_rowid id) (db tree)) (keyed.once id)) same ran.1)
       where
         go : tree < 65536 → (filter (has_rowid id) (old.now.trees tree) ≡ []) ⊎ ((r : Row) × (filter (has_rowid id) (old.now.trees tree) ≡ r ∷ []))
-            → filter (finds (parts_of u.project).tests params) (old.now.trees tree) ≡ filter (has_rowid id) (old.now.trees tree)
-            → (w : Written) × Updates (task old.step_limit schema table params) (program_on tree (parts_of u.project)) params old.now.trees (Ok w) × (new.now.trees ≡ w.trees) → IsSet id Becomes old.now.trees new.now.trees
+            → filter (finds (parts_of project).tests params) (old.now.trees tree) ≡ filter (has_rowid id) (old.now.trees tree)
+            → (w : Written) × Updates (task old.step_limit schema table params) (program_on tree (parts_of project)) params old.now.trees (Ok w) × (new.now.trees ≡ w.trees) → IsSet id Becomes old.now.trees new.now.trees
         go low (inl none) same (w, did, trees) =
-            let done = updates_none old.step_limit schema table params (parts_of u.project) params old.now.trees w (uncovered schema table d low old.now.trees) (same ∙ none) did in
+            let done = updates_none old.step_limit schema table params (parts_of project) params old.now.trees w (uncovered schema table d low old.now.trees) (same ∙ none) did in
             inl (none, ap (λ (t : Trees). t tree) trees ∙ done.0, subst (Spares schema tree old.now.trees) (sym trees) done.1)
         go low (inr (r, only)) same (w, did, trees) =
             let it = first_in (old.now.trees tree) id r [] only in
             let number = number_of r id (all_has _ (old.now.trees tree) r keyed.integers it.0) it.1 in
             let next = made r it.0 number in
-            let put = updates_one old.step_limit schema table params d.alone (parts_of u.project) params old.now.trees r next.0 id w (uncovered schema table d low old.now.trees) (same ∙ only) only next.1
+            let put = updates_one old.step_limit schema table params d.alone (parts_of project) params old.now.trees r next.0 id w (uncovered schema table d low old.now.trees) (same ∙ only) only next.1
             (ap id_in (heads r ∙ number)) (next.2 ∙ sym number) (λ i has unique on. absurd (none_on schema table d refl i has unique on)) did in
             inr (r, next.0, it.0, only, next.3, subst (IsPut schema table next.0 id old.now.trees) (sym trees) put)
 

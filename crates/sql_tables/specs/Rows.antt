@@ -1,5 +1,5 @@
 -- The rows of a tree, as a list of values.
-use Rattle.std.specs.Prelude.{ℕ, suc, ℤ, ◌≤◌, Bool, not, if◌then◌else◌, List, [], ◌∷◌, map, filter, length, IsPermutation}
+use Rattle.std.specs.Prelude.{ℕ, suc, ℤ, ◌≤◌, List, [], ◌∷◌, map, filter, length, IsPermutation}
 use Rattle.sqlite_value.specs.Order.{Row, column}
 use Rattle.sqlite_trees.specs.Tree.{has_rowid}
 use Rattle.sql_tables.specs.Kinds.{HaveIntegerRowids}
@@ -13,10 +13,6 @@ pub record HaveRowids (rows : List Row) : Type 0 where
   pub integers : HaveIntegerRowids rows
   pub once : (id : ℤ) → length (filter (has_rowid id) rows) ≤ 1
 
--- the rows with this one in place of those with its key
-abbrev pub put_in : {X : Type 0} → (X → Bool) → X → List X → List X
-put_in has_key x xs = x ∷ filter (λ y. not (has_key y)) xs
-
 -- the columns at these places
 abbrev pub columns_at : List ℕ → Row → Row
 columns_at places r = map (column r) places
@@ -24,7 +20,3 @@ columns_at places r = map (column r) places
 abbrev pub numbers_from : ℕ → List ℕ → List ℕ
 numbers_from at [] = []
 numbers_from at (x ∷ xs) = at ∷ numbers_from (suc at) xs
-
--- the rows, with this done to those that have the key
-abbrev pub set_where : {X : Type 0} → (X → Bool) → (X → X) → List X → List X
-set_where has_key set xs = map (λ x. if has_key x then set x else x) xs

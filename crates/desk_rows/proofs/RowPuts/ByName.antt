@@ -29,10 +29,12 @@ use Rattle.sqlite.specs.Rows.{Written, Updates, shown}
 use Rattle.sqlite.specs.State.{State, Executes}
 use Rattle.sqlite_tied.specs.Compute.{everything}
 use Rattle.sqlite_catalog.specs.Listing.{IsSound}
+use Rattle.desk_parts.specs.declared.file_table.FileTable.TheVariants as tables
+use Rattle.desk_parts.specs.Puts.{put_by_key}
 use Rattle.desk_parts.specs.Rows.{Tab}
-use Rattle.sql_tables.specs.Rows.{HaveRowids, Lists, put_in}
+use Rattle.sql_tables.specs.Rows.{HaveRowids, Lists}
 use Rattle.sql_tables.specs.Tables.{IsDeclared}
-use Rattle.desk_rows.specs.Descriptions.{tabs as tab_which, description_of}
+use Rattle.desk_rows.specs.Descriptions.{description_of}
 use Rattle.sql_tables.proofs.Declaring.{low_tree, classes_are, uncovered}
 use Rattle.sql_tables.proofs.Meaning.{IsText, parse_of, rows_in, clause_in, upsert_is, one_upsert}
 use Rattle.desk_rows.proofs.RowPuts.Named.{tab, tab_row, tab_columns, is_its_index, key_index, in_the_way, clashes, row_of, name_of, named, lists_put, unnamed_rows, named_rows}
@@ -46,7 +48,7 @@ use Rattle.desk_rows.proofs.RowPuts.TabNames.{names_once}
 use Rattle.sql_tables.proofs.Writing.{IsPut, Ends, task, finds, puts, updates_one}
 
 abbrev text : List ℕ
-text = (description_of tab_which).put
+text = (description_of tables.Tab).put
 
 abbrev rows : Rows
 rows = rows_in (parse_of text).statement
@@ -111,7 +113,7 @@ module _ (schema : Schema) (tree : ℕ) (d : IsDeclared schema (tab tree)) (low 
     (lists : Lists tab_row tab_columns tabs (db tree)) (few : length (filter (λ s. bytes_eq s.name t.name) tabs) ≤ 1) (keyed : HaveRowids (db tree)) where
   -- the row is put under some rowid, and the rows show it in place of the one with its name
   abbrev IsTabPut : Type 0
-  IsTabPut = (id : ℤ) × IsPut schema (tab tree) (stored id t) id db after × Lists tab_row tab_columns (put_in (λ s. bytes_eq s.name t.name) t tabs) (after tree) × HaveRowids (after tree)
+  IsTabPut = (id : ℤ) × IsPut schema (tab tree) (stored id t) id db after × Lists tab_row tab_columns (put_by_key (λ s. bytes_eq s.name t.name) t tabs) (after tree) × HaveRowids (after tree)
 
   concluded : (id : ℤ) → IsPut schema (tab tree) (stored id t) id db after → without_rowid id (db tree) ≡ filter (λ r. not (named t.name (tab_columns r))) (db tree) → IsTabPut
   concluded id put same = (
@@ -148,7 +150,7 @@ module _ (schema : Schema) (tree : ℕ) (d : IsDeclared schema (tab tree)) (low 
 
 pub tab_puts : (schema : Schema) (tree : ℕ) (d : IsDeclared schema (tab tree)) (old new : State) (count : ℕ) (t : Tab) (ts : List Tab) → old.now.schema ≡ schema → IsSound schema old.now.trees → HaveRowids (old.now.trees tree)
     → Lists tab_row tab_columns ts (old.now.trees tree) → Executes text (tab_row t) old new (Ok count)
-    → Wrote old new × ((id : ℤ) × (row : Row) × IsPut schema (tab tree) row id old.now.trees new.now.trees × Lists tab_row tab_columns (put_in (λ s. bytes_eq s.name t.name) t ts) (new.now.trees tree) × HaveRowids (new.now.trees tree))
+    → Wrote old new × ((id : ℤ) × (row : Row) × IsPut schema (tab tree) row id old.now.trees new.now.trees × Lists tab_row tab_columns (put_by_key (λ s. bytes_eq s.name t.name) t ts) (new.now.trees tree) × HaveRowids (new.now.trees tree))
 tab_puts schema tree d old new count t ts has sound ids lists h =
     let low = low_tree schema (tab tree) d old.now.trees sound in
     let there = old.now.trees tree in

@@ -10,57 +10,60 @@ use Rattle.sqlite.specs.declared.error.Error.{Error}
 use Rattle.sqlite.specs.Effect.{Database}
 use Rattle.sqlite.specs.State.{State, ExecutesInside}
 use Rattle.sqlite.proofs.InsideLemmas.{inside_keeps}
+use Rattle.desk_parts.specs.declared.file_table.FileTable.{FileTable}
+use Rattle.desk_parts.specs.declared.file_table.FileTable.TheVariants as tables
 use Rattle.desk_parts.specs.declared.rows.BookRow.{BookRow}
-use Rattle.desk_parts.specs.Puts.{PutBook, RowPut}
+use Rattle.desk_parts.specs.Puts.{PutBook, RowPut, change_of, table_put}
 use Rattle.sql_tables.specs.Rows.{HaveRowids, Lists, columns_at}
 use Rattle.sql_tables.proofs.Declaring.{has_table}
 use Rattle.sql_tables.proofs.PutLists.{apart, differ}
 use Rattle.sql_tables.proofs.Running.{Wrote}
 use Rattle.sql_tables.proofs.Writing.{Spares}
-use Rattle.desk_rows.specs.Descriptions.{Which, books, tabs, paras, corrs, marks, caches, named_corrs, description_of, table_of}
+use Rattle.desk_rows.specs.Descriptions.{description_of, table_of}
 use Rattle.desk_rows.specs.Layout.{Layout, AreDeclared, IsOther}
 use Rattle.desk_rows.specs.Contents.{Contents, Holds, with_rows}
-use Rattle.desk_rows.specs.Puts.{HasThem, IsPut, PutsAll, PutsRow, RunsTo, change_of, put_into, puts_into, row_put, statement, table_put}
+use Rattle.desk_rows.specs.Puts.{HasThem, IsPut, PutsAll, PutsRow, RunsTo, put_into, puts_into, row_put, statement}
 use Rattle.desk_rows.specs.Turns.{FailsWith, Ran}
-use Rattle.desk_rows.specs.Rows.{RowOf, columns_of, set_at}
+use Rattle.desk_rows.specs.Rows.{columns_of, set_at}
+use Rattle.desk_parts.specs.Rows.{RowOf}
 use Rattle.desk_rows.specs.States.{IsUnder}
 use Rattle.desk_rows.proofs.RowPuts.PutTables.{does}
 
 -- ---- each table
 
-pub same : (v w : Which) → (v ≡ w) ⊎ (bytes_eq (description_of v).name (description_of w).name ≡ false)
-same books books = inl refl
-same tabs tabs = inl refl
-same paras paras = inl refl
-same corrs corrs = inl refl
-same marks marks = inl refl
-same caches caches = inl refl
-same named_corrs named_corrs = inl refl
+pub same : (v w : FileTable) → (v ≡ w) ⊎ (bytes_eq (description_of v).name (description_of w).name ≡ false)
+same tables.Book tables.Book = inl refl
+same tables.Tab tables.Tab = inl refl
+same tables.Para tables.Para = inl refl
+same tables.Corr tables.Corr = inl refl
+same tables.Mark tables.Mark = inl refl
+same tables.Cache tables.Cache = inl refl
+same tables.NamedCorr tables.NamedCorr = inl refl
 same v w = inr refl
 
-pub set_own : (w : Which) (f : List (RowOf w) → List (RowOf w)) (rows : (v : Which) → List (RowOf v)) → set_at w f rows w ≡ f (rows w)
-set_own books f rows = refl
-set_own tabs f rows = refl
-set_own paras f rows = refl
-set_own corrs f rows = refl
-set_own marks f rows = refl
-set_own caches f rows = refl
-set_own named_corrs f rows = refl
+pub set_own : (w : FileTable) (f : List (RowOf w) → List (RowOf w)) (rows : (v : FileTable) → List (RowOf v)) → set_at w f rows w ≡ f (rows w)
+set_own tables.Book f rows = refl
+set_own tables.Tab f rows = refl
+set_own tables.Para f rows = refl
+set_own tables.Corr f rows = refl
+set_own tables.Mark f rows = refl
+set_own tables.Cache f rows = refl
+set_own tables.NamedCorr f rows = refl
 
-pub set_other : (w v : Which) (f : List (RowOf w) → List (RowOf w)) (rows : (v : Which) → List (RowOf v)) → bytes_eq (description_of v).name (description_of w).name ≡ false → set_at w f rows v ≡ rows v
-set_other books books f rows other = absurd (true≢false other)
-set_other tabs tabs f rows other = absurd (true≢false other)
-set_other paras paras f rows other = absurd (true≢false other)
-set_other corrs corrs f rows other = absurd (true≢false other)
-set_other marks marks f rows other = absurd (true≢false other)
-set_other caches caches f rows other = absurd (true≢false other)
-set_other named_corrs named_corrs f rows other = absurd (true≢false other)
+pub set_other : (w v : FileTable) (f : List (RowOf w) → List (RowOf w)) (rows : (v : FileTable) → List (RowOf v)) → bytes_eq (description_of v).name (description_of w).name ≡ false → set_at w f rows v ≡ rows v
+set_other tables.Book tables.Book f rows other = absurd (true≢false other)
+set_other tables.Tab tables.Tab f rows other = absurd (true≢false other)
+set_other tables.Para tables.Para f rows other = absurd (true≢false other)
+set_other tables.Corr tables.Corr f rows other = absurd (true≢false other)
+set_other tables.Mark tables.Mark f rows other = absurd (true≢false other)
+set_other tables.Cache tables.Cache f rows other = absurd (true≢false other)
+set_other tables.NamedCorr tables.NamedCorr f rows other = absurd (true≢false other)
 set_other w v f rows other = refl
 
 -- ---- all tables
 
 -- the rows of other tables stay
-others_stay : (l : Layout) (w : Which) → l.has w ≡ true → (c : Contents) (old new : Trees) (tables : List Table)
+others_stay : (l : Layout) (w : FileTable) → l.has w ≡ true → (c : Contents) (old new : Trees) (tables : List Table)
     → AllByRecursion (λ t. IsOther l t.tree → old t.tree ≡ c.others t.tree) tables → AllByRecursion (λ t. t.tree ≢ l.tree w → new t.tree ≡ old t.tree) tables
     → AllByRecursion (λ t. IsOther l t.tree → new t.tree ≡ c.others t.tree) tables
 others_stay l w there c old new [] had spared = tt
@@ -68,18 +71,18 @@ others_stay l w there c old new (t ∷ ts) had spared = (λ other. spared.0 (oth
 
 module _ (l : Layout) (c : Contents) (d : AreDeclared l) (old new : Trees) (h : Holds l c old) where
   -- the rows of one table change, and others stay
-  pub holds : (w : Which) (f : List (RowOf w) → List (RowOf w)) → l.has w ≡ true → Spares l.schema (l.tree w) old new → Lists (columns_of w) (columns_at (description_of w).own) (f (c.rows w)) (new (l.tree w)) → ((description_of w).is_changed ≡ true → HaveRowids (new (l.tree w)))
+  pub holds : (w : FileTable) (f : List (RowOf w) → List (RowOf w)) → l.has w ≡ true → Spares l.schema (l.tree w) old new → Lists (columns_of w) (columns_at (description_of w).own) (f (c.rows w)) (new (l.tree w)) → ((description_of w).is_changed ≡ true → HaveRowids (new (l.tree w)))
       → Holds l (with_rows w f c) new
   holds w f there spares lists ids =
-      let stays = λ (v : Which) (is : l.has v ≡ true) (other : bytes_eq (description_of v).name (description_of w).name ≡ false).
+      let stays = λ (v : FileTable) (is : l.has v ≡ true) (other : bytes_eq (description_of v).name (description_of w).name ≡ false).
       all_has _ l.schema.tables (table_of v (l.tree v)) spares.tables (has_table l.schema (table_of v (l.tree v)) (d v is))
       (apart l.schema (table_of v (l.tree v)) (table_of w (l.tree w)) (d v is) (d w there) (differ (description_of v).name (description_of w).name other)) in record {
         tables = λ v has. elim (same v w) [
-          | inl is ↦ subst (λ (v : Which). Lists (columns_of v) (columns_at (description_of v).own) (set_at w f c.rows v) (new (l.tree v))) (sym is) (rw (set_own w f c.rows) lists)
+          | inl is ↦ subst (λ (v : FileTable). Lists (columns_of v) (columns_at (description_of v).own) (set_at w f c.rows v) (new (l.tree v))) (sym is) (rw (set_own w f c.rows) lists)
           | inr other ↦ rw (set_other w v f c.rows other, stays v has other) (h.tables v has)
         ];
         ids = λ v has. elim (same v w) [
-          | inl is ↦ subst (λ (v : Which). (description_of v).is_changed ≡ true → HaveRowids (new (l.tree v))) (sym is) ids
+          | inl is ↦ subst (λ (v : FileTable). (description_of v).is_changed ≡ true → HaveRowids (new (l.tree v))) (sym is) ids
           | inr other ↦ rw (stays v has other) (h.ids v has)
         ];
         others = others_stay l w there c old new l.schema.tables h.others spares.tables;
@@ -121,12 +124,12 @@ module _ (it : RowPut) (old new : State) where
   put_as r params ran same = put_ran r (subst (λ p. RunsTo r (statement it).text p old new) same ran)
 
 module _ (x : BookRow) (old new : State) where
-  pub puts_row : (r : Result (Unit {0}) Error) → IsPut r (PutBook x) old new → OnOk r (PutsRow books x old new × Ran (row_put books x) old new)
+  pub puts_row : (r : Result (Unit {0}) Error) → IsPut r (PutBook x) old new → OnOk r (PutsRow tables.Book x old new × Ran (row_put tables.Book x) old new)
   puts_row (Ok v) it = (it.put, it.ran)
   puts_row (Err e) it = tt
 
   -- it allocates nothing of its own
-  pub row_told : (r : Result (Unit {0}) Error) → IsPut r (PutBook x) old new → old.in_transaction ≡ true → IfErr r (FailsWith (row_put books x) old new)
+  pub row_told : (r : Result (Unit {0}) Error) → IsPut r (PutBook x) old new → old.in_transaction ≡ true → IfErr r (FailsWith (row_put tables.Book x) old new)
   row_told (Ok v) it was = tt
   row_told (Err e) it was = elim (it.told was) [ inl failed ↦ failed | inr none ↦ absurd none.0 ]
 

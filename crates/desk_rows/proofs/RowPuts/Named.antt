@@ -25,26 +25,28 @@ use Rattle.sqlite_rules.proofs.TableLemmas.{none_to_drop}
 use Rattle.sqlite_rules.proofs.ListLemmas.{some_has, has_found}
 use Rattle.sqlite_catalog.specs.Listing.{automatic}
 use Rattle.sqlite_catalog.proofs.ListFacts.{find_within}
+use Rattle.desk_parts.specs.declared.file_table.FileTable.TheVariants as tables
+use Rattle.desk_parts.specs.Puts.{put_by_key}
 use Rattle.desk_parts.specs.Rows.{Tab}
-use Rattle.sql_tables.specs.Rows.{HaveRowids, Lists, put_in}
+use Rattle.sql_tables.specs.Rows.{HaveRowids, Lists}
 use Rattle.sql_tables.specs.Tables.{IsDeclared}
 use Rattle.sql_tables.proofs.Declaring.{has_kept}
 use Rattle.sql_tables.proofs.RowLists.{only_row, has_own, lone, replaced, shows_one}
 use Rattle.sqlite_schema.specs.declared.schema.Table.{Table}
 use Rattle.sql_tables.specs.Rows.{columns_at}
-use Rattle.desk_rows.specs.Descriptions.{tabs as tab_which, description_of, table_of}
+use Rattle.desk_rows.specs.Descriptions.{description_of, table_of}
 use Rattle.desk_rows.specs.Rows.{columns_of}
 
 -- ---- the table, and a row of it as its columns and as its tree keeps it
 
 abbrev pub tab : ℕ → Table
-tab = table_of tab_which
+tab = table_of tables.Tab
 
 abbrev pub tab_row : Tab → Row
-tab_row = columns_of tab_which
+tab_row = columns_of tables.Tab
 
 abbrev pub tab_columns : Row → Row
-tab_columns = columns_at (description_of tab_which).own
+tab_columns = columns_at (description_of tables.Tab).own
 
 -- SQL takes two texts as equal if they are the same
 pub same_text : (a b : List ℕ) → is_eq (value_cmp (Text a) (Text b)) ≡ bytes_eq a b
@@ -165,7 +167,7 @@ module _ (t : Tab) (tabs : List Tab) (rows : List Row) (lists : Lists tab_row ta
 
   -- a row that has the name, put in place of the rows with its number, leaves the rows with the other names
   pub lists_put : (new : Row) (id : ℤ) → rowid new ≡ Int id → IsRowOf t new → without_rowid id rows ≡ filter (λ r. not (named t.name (tab_columns r))) rows
-      → Lists tab_row tab_columns (put_in (λ s. bytes_eq s.name t.name) t tabs) (put_row new (without_rowid id rows))
+      → Lists tab_row tab_columns (put_by_key (λ s. bytes_eq s.name t.name) t tabs) (put_row new (without_rowid id rows))
   lists_put new id keyed is same =
       let first : IsPermutation (tab_columns new ∷ map tab_row (filter (λ s. not (bytes_eq s.name t.name)) tabs)) (map tab_columns (new ∷ without_rowid id rows)) = rw same (IsPermutation-cons (tab_columns new) _ _ rest) in
       let there = IsPermutation-map tab_columns _ _ (replaced id new keyed rows) in

@@ -8,10 +8,12 @@ use Rattle.sqlite.specs.declared.error.Error.{Error}
 use Rattle.sqlite.specs.State.{State, ExecutesInside, KeepsCommit}
 use Rattle.sqlite.proofs.InsideLemmas.{inside_keeps}
 use Rattle.sqlite_tied.specs.Compute.{everything}
+use Rattle.desk_parts.specs.declared.file_table.FileTable.{FileTable}
+use Rattle.desk_parts.specs.declared.file_table.FileTable.TheVariants as tables
 use Rattle.sql_tables.proofs.Makes.{IsMake, makes_first}
 use Rattle.sql_tables.proofs.Meaning.{parse_of}
 use Rattle.sql_tables.proofs.Taking.{takes}
-use Rattle.desk_rows.specs.Descriptions.{Which, books, tabs, paras, corrs, marks, caches, named_corrs, description_of, table_of}
+use Rattle.desk_rows.specs.Descriptions.{description_of, table_of}
 use Rattle.desk_rows.specs.Making.{MakesTables}
 use Rattle.desk_rows.specs.Puts.{RunsTo}
 
@@ -21,15 +23,15 @@ def_in _ = record { if_missing = false; name = []; body = record { columns = [];
 
 -- ---- each table
 
-is_make : (w : Which) → (description_of w).is_written ≡ true → IsMake (description_of w).create (table_of w 0)
+is_make : (w : FileTable) → (description_of w).is_written ≡ true → IsMake (description_of w).create (table_of w 0)
 unfolding everything
-is_make books is = record { def = def_in (parse_of (description_of books).create).statement; is_text = record { parsed = refl; statement = refl; timeless = refl }; name = refl; always = refl; own = refl; defined = refl; plain = refl; unresolved = refl; spelled = refl; made = refl; uncounted = refl; other = refl }
-is_make tabs is = record { def = def_in (parse_of (description_of tabs).create).statement; is_text = record { parsed = refl; statement = refl; timeless = refl }; name = refl; always = refl; own = refl; defined = refl; plain = refl; unresolved = refl; spelled = refl; made = refl; uncounted = refl; other = refl }
-is_make paras is = record { def = def_in (parse_of (description_of paras).create).statement; is_text = record { parsed = refl; statement = refl; timeless = refl }; name = refl; always = refl; own = refl; defined = refl; plain = refl; unresolved = refl; spelled = refl; made = refl; uncounted = refl; other = refl }
-is_make corrs is = absurd (cc)
-is_make marks is = record { def = def_in (parse_of (description_of marks).create).statement; is_text = record { parsed = refl; statement = refl; timeless = refl }; name = refl; always = refl; own = refl; defined = refl; plain = refl; unresolved = refl; spelled = refl; made = refl; uncounted = refl; other = refl }
-is_make caches is = record { def = def_in (parse_of (description_of caches).create).statement; is_text = record { parsed = refl; statement = refl; timeless = refl }; name = refl; always = refl; own = refl; defined = refl; plain = refl; unresolved = refl; spelled = refl; made = refl; uncounted = refl; other = refl }
-is_make named_corrs is = record { def = def_in (parse_of (description_of named_corrs).create).statement; is_text = record { parsed = refl; statement = refl; timeless = refl }; name = refl; always = refl; own = refl; defined = refl; plain = refl; unresolved = refl; spelled = refl; made = refl; uncounted = refl; other = refl }
+is_make tables.Book is = record { def = def_in (parse_of (description_of tables.Book).create).statement; is_text = record { parsed = refl; statement = refl; timeless = refl }; name = refl; always = refl; own = refl; defined = refl; plain = refl; unresolved = refl; spelled = refl; made = refl; uncounted = refl; other = refl }
+is_make tables.Tab is = record { def = def_in (parse_of (description_of tables.Tab).create).statement; is_text = record { parsed = refl; statement = refl; timeless = refl }; name = refl; always = refl; own = refl; defined = refl; plain = refl; unresolved = refl; spelled = refl; made = refl; uncounted = refl; other = refl }
+is_make tables.Para is = record { def = def_in (parse_of (description_of tables.Para).create).statement; is_text = record { parsed = refl; statement = refl; timeless = refl }; name = refl; always = refl; own = refl; defined = refl; plain = refl; unresolved = refl; spelled = refl; made = refl; uncounted = refl; other = refl }
+is_make tables.Corr is = absurd (cc)
+is_make tables.Mark is = record { def = def_in (parse_of (description_of tables.Mark).create).statement; is_text = record { parsed = refl; statement = refl; timeless = refl }; name = refl; always = refl; own = refl; defined = refl; plain = refl; unresolved = refl; spelled = refl; made = refl; uncounted = refl; other = refl }
+is_make tables.Cache is = record { def = def_in (parse_of (description_of tables.Cache).create).statement; is_text = record { parsed = refl; statement = refl; timeless = refl }; name = refl; always = refl; own = refl; defined = refl; plain = refl; unresolved = refl; spelled = refl; made = refl; uncounted = refl; other = refl }
+is_make tables.NamedCorr is = record { def = def_in (parse_of (description_of tables.NamedCorr).create).statement; is_text = record { parsed = refl; statement = refl; timeless = refl }; name = refl; always = refl; own = refl; defined = refl; plain = refl; unresolved = refl; spelled = refl; made = refl; uncounted = refl; other = refl }
 
 -- ---- all tables
 
@@ -40,7 +42,7 @@ err_runs text params old new e true is ended ran = (inside_keeps old new 0 false
 err_runs text params old new e false is ended ran =
     (subst (KeepsCommit old) (sym (ended is)) (record { was_open = λ it. it; committed = λ it. refl }), λ was. absurd (true≢false (sym was ∙ is)))
 
-module _ (w : Which) (is : (description_of w).is_written ≡ true) (old new : State) where
+module _ (w : FileTable) (is : (description_of w).is_written ≡ true) (old new : State) where
   -- a statement that ran made it
   pub creates : (r : Result (Unit {0}) Error) → RunsTo r (description_of w).create [] old new → OnOk r (MakesTables (w ∷ []) old new)
   creates (Err e) ran = tt

@@ -17,6 +17,8 @@ use Rattle.sqlite_trees.specs.declared.store.Store.{Ghosts}
 use Rattle.sqlite.specs.Held.{Held, state}
 use Rattle.sqlite.specs.Effect.{Database, IsDatabase}
 use Rattle.sqlite.specs.State.{State, IsLive}
+use Rattle.desk_parts.specs.declared.file_table.FileTable.{FileTable}
+use Rattle.desk_parts.specs.declared.file_table.FileTable.TheVariants as tables
 use Rattle.sql_tables.specs.Making.{IndexesLow, IsForeignTree, IsMaking, KeepsAside, first_created, first_rows}
 use Rattle.sql_tables.specs.Rows.{HaveRowids}
 use Rattle.sql_tables.specs.Tables.{IsDeclared, counter}
@@ -24,7 +26,7 @@ use Rattle.sql_tables.proofs.Counting.{declared_first, foreign_first, free_first
 use Rattle.sql_tables.proofs.Creating.{declares, declared_stays, sound_is_low}
 use Rattle.sql_tables.proofs.Declaring.{has_table}
 use Rattle.sql_tables.proofs.Makes.{none_below}
-use Rattle.desk_rows.specs.Descriptions.{Which, books, tabs, paras, corrs, marks, caches, named_corrs, description_of, table_of}
+use Rattle.desk_rows.specs.Descriptions.{description_of, table_of}
 use Rattle.desk_rows.specs.Making.{AreAbsent, CountsNone, IsNew, Differ, MakesTables, after, first_row, is_among, new_tables, new_layout, no_contents, tree_in}
 use Rattle.desk_rows.specs.Puts.{PutsRow}
 use Rattle.desk_rows.specs.States.{IsUnder, ShowsContents}
@@ -35,80 +37,80 @@ is_below m n low = grind (arith, nat_tests)
 other_tree : (m n : ℕ) → m ≢ n → (m == n) ≡ false
 other_tree m n other = grind (arith, nat_tests)
 
-abbrev name : Which → List ℕ
+abbrev name : FileTable → List ℕ
 name w = (description_of w).name
 
-abbrev made_in : Which → ℕ → Table
+abbrev made_in : FileTable → ℕ → Table
 made_in w tree = record (table_of w 0) { tree = tree }
 
 -- ---- each table
 
-itself : (w : Which) → same_name (name w) (name w) ≡ true
+itself : (w : FileTable) → same_name (name w) (name w) ≡ true
 unfolding same_name
-itself books = refl
-itself tabs = refl
-itself paras = refl
-itself corrs = refl
-itself marks = refl
-itself caches = refl
-itself named_corrs = refl
+itself tables.Book = refl
+itself tables.Tab = refl
+itself tables.Para = refl
+itself tables.Corr = refl
+itself tables.Mark = refl
+itself tables.Cache = refl
+itself tables.NamedCorr = refl
 
 -- the automatic index of a table is on it
-keys_of : (w : Which) (tree : ℕ) → filter (λ i. i.is_unique && (i.table == tree)) (automatics (made_in w tree) 0 (tree + 1) (table_of w 0).uniques) ≡ automatics (made_in w tree) 0 (tree + 1) (table_of w 0).uniques
-keys_of books tree = refl
-keys_of tabs tree = rw (eq-eqb tree tree refl)
-keys_of paras tree = refl
-keys_of corrs tree = rw (eq-eqb tree tree refl)
-keys_of marks tree = refl
-keys_of caches tree = refl
-keys_of named_corrs tree = rw (eq-eqb tree tree refl)
+keys_of : (w : FileTable) (tree : ℕ) → filter (λ i. i.is_unique && (i.table == tree)) (automatics (made_in w tree) 0 (tree + 1) (table_of w 0).uniques) ≡ automatics (made_in w tree) 0 (tree + 1) (table_of w 0).uniques
+keys_of tables.Book tree = refl
+keys_of tables.Tab tree = rw (eq-eqb tree tree refl)
+keys_of tables.Para tree = refl
+keys_of tables.Corr tree = rw (eq-eqb tree tree refl)
+keys_of tables.Mark tree = refl
+keys_of tables.Cache tree = refl
+keys_of tables.NamedCorr tree = rw (eq-eqb tree tree refl)
 
 -- and on no other
-no_key : (w : Which) (a tree : ℕ) → tree ≢ a → filter (λ i. i.is_unique && (i.table == a)) (automatics (made_in w tree) 0 (tree + 1) (table_of w 0).uniques) ≡ []
-no_key books a tree other = refl
-no_key tabs a tree other = rw (other_tree tree a other)
-no_key paras a tree other = refl
-no_key corrs a tree other = rw (other_tree tree a other)
-no_key marks a tree other = refl
-no_key caches a tree other = refl
-no_key named_corrs a tree other = rw (other_tree tree a other)
+no_key : (w : FileTable) (a tree : ℕ) → tree ≢ a → filter (λ i. i.is_unique && (i.table == a)) (automatics (made_in w tree) 0 (tree + 1) (table_of w 0).uniques) ≡ []
+no_key tables.Book a tree other = refl
+no_key tables.Tab a tree other = rw (other_tree tree a other)
+no_key tables.Para a tree other = refl
+no_key tables.Corr a tree other = rw (other_tree tree a other)
+no_key tables.Mark a tree other = refl
+no_key tables.Cache a tree other = refl
+no_key tables.NamedCorr a tree other = rw (other_tree tree a other)
 
-no_counter : (w : Which) → same_name (codes "sqlite_sequence") (name w) ≡ false
+no_counter : (w : FileTable) → same_name (codes "sqlite_sequence") (name w) ≡ false
 unfolding same_name
-no_counter books = refl
-no_counter tabs = refl
-no_counter paras = refl
-no_counter corrs = refl
-no_counter marks = refl
-no_counter caches = refl
-no_counter named_corrs = refl
+no_counter tables.Book = refl
+no_counter tables.Tab = refl
+no_counter tables.Para = refl
+no_counter tables.Corr = refl
+no_counter tables.Mark = refl
+no_counter tables.Cache = refl
+no_counter tables.NamedCorr = refl
 
 -- a name that differs is free, also of the other's index
-abbrev Leaves : Which → Which → Type 0
+abbrev Leaves : FileTable → FileTable → Type 0
 Leaves v w = (same_name (name v) (name w) ≡ false) × ((tree from : ℕ) → is_some (position_from (λ i. same_name i.name (name w)) from (automatics (made_in v tree) 0 (tree + 1) (table_of v 0).uniques)) ≡ false)
 
-abbrev AreApart : Which → Which → Type 0
+abbrev AreApart : FileTable → FileTable → Type 0
 AreApart v w = bytes_eq (name v) (name w) ≡ false
 
-leaves : (v w : Which) → AreApart v w → Leaves v w
+leaves : (v w : FileTable) → AreApart v w → Leaves v w
 unfolding same_name digits
-leaves books books other = absurd (cc)
-leaves tabs tabs other = absurd (cc)
-leaves paras paras other = absurd (cc)
-leaves corrs corrs other = absurd (cc)
-leaves marks marks other = absurd (cc)
-leaves caches caches other = absurd (cc)
-leaves named_corrs named_corrs other = absurd (cc)
+leaves tables.Book tables.Book other = absurd (cc)
+leaves tables.Tab tables.Tab other = absurd (cc)
+leaves tables.Para tables.Para other = absurd (cc)
+leaves tables.Corr tables.Corr other = absurd (cc)
+leaves tables.Mark tables.Mark other = absurd (cc)
+leaves tables.Cache tables.Cache other = absurd (cc)
+leaves tables.NamedCorr tables.NamedCorr other = absurd (cc)
 leaves v w other = (refl, λ tree from. refl)
 
-listed : (w : Which) → is_among new_tables w ≡ true → Has new_tables w
-listed books is = inl refl
-listed tabs is = inr (inl refl)
-listed paras is = inr (inr (inl refl))
-listed corrs is = absurd (cc)
-listed marks is = inr (inr (inr (inl refl)))
-listed caches is = inr (inr (inr (inr (inl refl))))
-listed named_corrs is = inr (inr (inr (inr (inr (inl refl)))))
+listed : (w : FileTable) → is_among new_tables w ≡ true → Has new_tables w
+listed tables.Book is = inl refl
+listed tables.Tab is = inr (inl refl)
+listed tables.Para is = inr (inr (inl refl))
+listed tables.Corr is = absurd (cc)
+listed tables.Mark is = inr (inr (inr (inl refl)))
+listed tables.Cache is = inr (inr (inr (inr (inl refl))))
+listed tables.NamedCorr is = inr (inr (inr (inr (inr (inl refl)))))
 
 -- ---- a list, up to a place and from there
 
@@ -116,11 +118,6 @@ pub all_at : {X : Type 0} (P : X → Type 0) (xs : List X) (i : ℕ) (d : X) →
 all_at P [] i d lt all = absurd (omega (arith, lt))
 all_at P (x ∷ xs) zero d lt all = all.0
 all_at P (x ∷ xs) (suc i) d lt all = all_at P xs i d (omega (arith, lt)) all.1
-
-pub map_more : {X Y : Type 0} (f : X → Y) (xs : List X) (i : ℕ) (d : X) → i < length xs → map f (take (suc i) xs) ≡ map f (take i xs) ++ f (get_or xs i d) ∷ []
-map_more f [] i d lt = absurd (omega (arith, lt))
-map_more f (x ∷ xs) zero d lt = refl
-map_more f (x ∷ xs) (suc i) d lt = ap (λ ys. f x ∷ ys) (map_more f xs i d (omega (arith, lt)))
 
 pub map_split : {X Y : Type 0} (f : X → Y) (xs : List X) (i : ℕ) (d : X) → i < length xs → map f xs ≡ map f (take i xs) ++ f (get_or xs i d) ∷ map f (drop (suc i) xs)
 map_split f [] i d lt = absurd (omega (arith, lt))
@@ -130,41 +127,41 @@ map_split f (x ∷ xs) (suc i) d lt = ap (λ ys. f x ∷ ys) (map_split f xs i d
 -- ---- tables made in turn
 
 -- each of these differs from each of those
-abbrev pub Apart : List Which → List Which → Type 0
+abbrev pub Apart : List FileTable → List FileTable → Type 0
 Apart us vs = AllByRecursion (λ w. AllByRecursion (λ v. AreApart v w) us) vs
 
-free_after : (w : Which) (ws : List Which) (s : Schema) → AllByRecursion (λ v. AreApart v w) ws → is_used s (name w) ≡ false → is_used (after ws s) (name w) ≡ false
+free_after : (w : FileTable) (ws : List FileTable) (s : Schema) → AllByRecursion (λ v. AreApart v w) ws → is_used s (name w) ≡ false → is_used (after ws s) (name w) ≡ false
 free_after w [] s apart free = free
 free_after w (v ∷ ws) s apart free =
     let it = leaves v w apart.0 in free_after w ws (first_created s (table_of v 0)) apart.1 (free_first s (table_of v 0) (name w) free it.0 (no_counter w) it.1)
 
-all_free_after : (us vs : List Which) (s : Schema) → Apart us vs → AllByRecursion (λ w. is_used s (name w) ≡ false) vs → AllByRecursion (λ w. is_used (after us s) (name w) ≡ false) vs
+all_free_after : (us vs : List FileTable) (s : Schema) → Apart us vs → AllByRecursion (λ w. is_used s (name w) ≡ false) vs → AllByRecursion (λ w. is_used (after us s) (name w) ≡ false) vs
 all_free_after us [] s apart free = tt
 all_free_after us (w ∷ vs) s apart free = (free_after w us s apart.0 free.0, all_free_after us vs s apart.1 free.1)
 
-after_both : (us vs : List Which) (s : Schema) → after (us ++ vs) s ≡ after vs (after us s)
+after_both : (us vs : List FileTable) (s : Schema) → after (us ++ vs) s ≡ after vs (after us s)
 after_both [] vs s = refl
 after_both (u ∷ us) vs s = after_both us vs (first_created s (table_of u 0))
 
-fronts : (P : Which → Type 0) (us vs : List Which) → AllByRecursion P (us ++ vs) → AllByRecursion P us × AllByRecursion P vs
+fronts : (P : FileTable → Type 0) (us vs : List FileTable) → AllByRecursion P (us ++ vs) → AllByRecursion P us × AllByRecursion P vs
 fronts P [] vs all = (tt, all)
 fronts P (u ∷ us) vs all = let more = fronts P us vs all.1 in ((all.0, more.0), more.1)
 
-names_of_both : (P Q : List ℕ → Type 0) (us vs : List Which) → ((n : List ℕ) → Q n → P n) → AllByRecursion P (map name us) → AllByRecursion Q (map name vs) → AllByRecursion P (map name (us ++ vs))
+names_of_both : (P Q : List ℕ → Type 0) (us vs : List FileTable) → ((n : List ℕ) → Q n → P n) → AllByRecursion P (map name us) → AllByRecursion Q (map name vs) → AllByRecursion P (map name (us ++ vs))
 names_of_both P Q [] [] each first later = tt
 names_of_both P Q [] (v ∷ vs) each first later = (each (name v) later.0, names_of_both P Q [] vs each first later.1)
 names_of_both P Q (u ∷ us) vs each first later = (first.0, names_of_both P Q us vs each first.1 later)
 
-none_apart : (vs : List Which) → Apart [] vs
+none_apart : (vs : List FileTable) → Apart [] vs
 none_apart [] = tt
 none_apart (v ∷ vs) = (tt, none_apart vs)
 
-one_more_apart : (u : Which) (us vs : List Which) → AllByRecursion (AreApart u) vs → Apart us vs → Apart (u ∷ us) vs
+one_more_apart : (u : FileTable) (us vs : List FileTable) → AllByRecursion (AreApart u) vs → Apart us vs → Apart (u ∷ us) vs
 one_more_apart u us [] first others = tt
 one_more_apart u us (v ∷ vs) first others = ((first.0, others.0), one_more_apart u us vs first.1 others.1)
 
 -- where all differ, so do those of each part, and those of one part from those of the other
-parts_differ : (us vs : List Which) → Differ (us ++ vs) → Differ us × Differ vs × Apart us vs
+parts_differ : (us vs : List FileTable) → Differ (us ++ vs) → Differ us × Differ vs × Apart us vs
 parts_differ [] vs all = (tt, all, none_apart vs)
 parts_differ (u ∷ us) vs all =
     let here = fronts (AreApart u) us vs all.0 in
@@ -176,7 +173,7 @@ pub makes_none : (s : State) → MakesTables [] s s
 makes_none s = record { taken = (tt, λ n free. free); made = λ committed start rows before differ was free. was }
 
 -- some tables, and then others
-pub makes_then : (us vs : List Which) (old mid new : State) → MakesTables us old mid → MakesTables vs mid new → MakesTables (us ++ vs) old new
+pub makes_then : (us vs : List FileTable) (old mid new : State) → MakesTables us old mid → MakesTables vs mid new → MakesTables (us ++ vs) old new
 makes_then us vs old mid new first later = record {
   taken = (names_of_both _ _ us vs (λ n free. first.taken.1 n free) first.taken.0 later.taken.0, λ n free. first.taken.1 n (later.taken.1 n free));
   made = λ committed start rows before differ was free.
@@ -186,31 +183,31 @@ makes_then us vs old mid new first later = record {
       (later.made committed start rows (after us before) parts.1 (first.made committed start rows before parts.0 was both.0) (all_free_after us vs before parts.2 both.1));
 }
 
-pub through : (ws : List Which) (s : Schema) (a : Table) → IsDeclared s a → IsDeclared (after ws s) a
+pub through : (ws : List FileTable) (s : Schema) (a : Table) → IsDeclared s a → IsDeclared (after ws s) a
 through [] s a d = d
 through (v ∷ ws) s a d = through ws (first_created s (table_of v 0)) a (declared_first s (table_of v 0) a (declared_stays s (table_of v 0) a d (no_key v a.tree)))
 
-pub has_after : (ws : List Which) (s : Schema) (t : Table) → Has s.tables t → Has (after ws s).tables t
+pub has_after : (ws : List FileTable) (s : Schema) (t : Table) → Has s.tables t → Has (after ws s).tables t
 has_after [] s t has = has
 has_after (v ∷ ws) s t has = has_after ws (first_created s (table_of v 0)) t (has_first s (table_of v 0) t has)
 
-pub foreign_after : (ws : List Which) (s : Schema) (db : Trees) (tree : ℕ) → IsForeignTree s db tree → IsForeignTree (after ws s) db tree
+pub foreign_after : (ws : List FileTable) (s : Schema) (db : Trees) (tree : ℕ) → IsForeignTree s db tree → IsForeignTree (after ws s) db tree
 foreign_after [] s db tree is = is
 foreign_after (v ∷ ws) s db tree is = foreign_after ws (first_created s (table_of v 0)) db tree (foreign_first s (table_of v 0) db tree is)
 
 -- the tree of the first
-tree_first : (v : Which) (ws : List Which) (s : Schema) → tree_in (v ∷ ws) s v ≡ next_tree s
+tree_first : (v : FileTable) (ws : List FileTable) (s : Schema) → tree_in (v ∷ ws) s v ≡ next_tree s
 tree_first v ws s = rw ((bytes_eq-Decides (name v) (name v)).1 refl)
 
 -- a table that is made is declared, in a tree that no table had
-pub declared_after : (ws : List Which) (s : Schema) → Differ ws → IndexesLow s → AllByRecursion (λ w. is_used s (name w) ≡ false) ws → (w : Which) → Has ws w → IsDeclared (after ws s) (table_of w (tree_in ws s w)) × (next_tree s ≤ tree_in ws s w)
+pub declared_after : (ws : List FileTable) (s : Schema) → Differ ws → IndexesLow s → AllByRecursion (λ w. is_used s (name w) ≡ false) ws → (w : FileTable) → Has ws w → IsDeclared (after ws s) (table_of w (tree_in ws s w)) × (next_tree s ≤ tree_in ws s w)
 declared_after [] s apart low free w has = absurd has
 declared_after (v ∷ ws) s apart low free w (inl is) =
     let next = first_created s (table_of v 0) in
     let here = declares s (table_of v 0) low free.0 (itself v) (keys_of v) in
     let there : IsDeclared (after ws next) (table_of v (next_tree s)) = through ws next (table_of v (next_tree s)) (declared_first s (table_of v 0) (table_of v (next_tree s)) here) in
     let at_v : IsDeclared (after ws next) (table_of v (tree_in (v ∷ ws) s v)) × (next_tree s ≤ tree_in (v ∷ ws) s v) = rw (tree_first v ws s) (there, omega arith) in
-    subst (λ (w : Which). IsDeclared (after ws next) (table_of w (tree_in (v ∷ ws) s w)) × (next_tree s ≤ tree_in (v ∷ ws) s w)) (sym is) at_v
+    subst (λ (w : FileTable). IsDeclared (after ws next) (table_of w (tree_in (v ∷ ws) s w)) × (next_tree s ≤ tree_in (v ∷ ws) s w)) (sym is) at_v
 declared_after (v ∷ ws) s apart low free w (inr later) =
     let next = first_created s (table_of v 0) in
     let other : AreApart v w = all_has (AreApart v) ws w apart.0 later in
@@ -219,7 +216,7 @@ declared_after (v ∷ ws) s apart low free w (inr later) =
     let high = more.1 in
     rw other (more.0, omega (arith, above, high))
   where
-    each_apart : (xs : List Which) → AllByRecursion (AreApart v) xs → Apart (v ∷ []) xs
+    each_apart : (xs : List FileTable) → AllByRecursion (AreApart v) xs → Apart (v ∷ []) xs
     each_apart [] all = tt
     each_apart (x ∷ xs) all = ((all.0, tt), each_apart xs all.1)
 
@@ -229,7 +226,7 @@ differ : Differ new_tables
 differ = ((refl, (refl, (refl, (refl, (refl, tt))))), ((refl, (refl, (refl, (refl, tt)))), ((refl, (refl, (refl, tt))), ((refl, (refl, tt)), ((refl, tt), (tt, tt))))))
 
 module _ (s : Schema) (none : AreAbsent s) (low : IndexesLow s) where
-  each_made : (w : Which) → is_among new_tables w ≡ true → IsDeclared (new_layout s).schema (table_of w ((new_layout s).tree w)) × (next_tree s ≤ (new_layout s).tree w)
+  each_made : (w : FileTable) → is_among new_tables w ≡ true → IsDeclared (new_layout s).schema (table_of w ((new_layout s).tree w)) × (next_tree s ≤ (new_layout s).tree w)
   each_made w is = declared_after new_tables s differ low none w (listed w is)
 
   module _ (committed : Database) (rows : Trees) (now : State) (m : IsMaking committed s rows (after new_tables s) now) where
@@ -247,14 +244,14 @@ module _ (s : Schema) (none : AreAbsent s) (low : IndexesLow s) where
     -- and the counter has none
     counts_none : CountsNone s now.now.trees
     counts_none lacks =
-        let at = next_tree (created s (table_of books 0)) in
-        let above = rising s (table_of books 0) in
-        let rest = tabs ∷ paras ∷ marks ∷ caches ∷ named_corrs ∷ [] in
-        all_has _ (after new_tables s).tables (counter at) m.kept (has_after rest (first_created s (table_of books 0)) (counter at) (has_counter s (table_of books 0) lacks)) ∙ rw (none_below at (next_tree s) (omega (arith, above)))
+        let at = next_tree (created s (table_of tables.Book 0)) in
+        let above = rising s (table_of tables.Book 0) in
+        let rest = tables.Tab ∷ tables.Para ∷ tables.Mark ∷ tables.Cache ∷ tables.NamedCorr ∷ [] in
+        all_has _ (after new_tables s).tables (counter at) m.kept (has_after rest (first_created s (table_of tables.Book 0)) (counter at) (has_counter s (table_of tables.Book 0) lacks)) ∙ rw (none_below at (next_tree s) (omega (arith, above)))
 
     pub finished : IsUnder committed (new_layout s) (no_contents now.now.trees) now × KeepsRows s.tables rows now.now.trees × CountsNone s now.now.trees × KeepsAside s rows now.now.trees
     finished =
-        let none_in = λ (w : Which) (is : is_among new_tables w ≡ true). empty (table_of w ((new_layout s).tree w)) (each_made w is).0 (each_made w is).1 in (
+        let none_in = λ (w : FileTable) (is : is_among new_tables w ≡ true). empty (table_of w ((new_layout s).tree w)) (each_made w is).0 (each_made w is).1 in (
           record {
             shows = record {
               schema = m.schema;
@@ -297,7 +294,7 @@ begins_making g old sound = record {
 
 module _ {S : Type 0} (g : Ghosts S) (old mid last : Held S) where
   -- what making tables within a transaction, and putting the row of a new book, did to what was there
-  pub whole : MakesTables new_tables (state g (record old { in_transaction = true })) (state g mid) → IsTrue (state g old).is_open → PutsRow books first_row (state g mid) (state g last)
+  pub whole : MakesTables new_tables (state g (record old { in_transaction = true })) (state g mid) → IsTrue (state g old).is_open → PutsRow tables.Book first_row (state g mid) (state g last)
       → AreAbsent old.schema × (IsLive (state g old) → IsNew old.schema (state g old).now.trees (λ c. ShowsContents (new_layout old.schema) c (state g last)))
   whole makes is_open puts = (
     makes.taken.0,

@@ -13,6 +13,7 @@ use Rattle.sqlite_trees.specs.declared.store.Store.{Ghosts}
 use Rattle.sqlite.specs.Effect.{Database}
 use Rattle.sqlite.specs.Held.{Held, state}
 use Rattle.sqlite.specs.State.{State}
+use Rattle.desk_parts.specs.declared.file_table.FileTable.{FileTable}
 use Rattle.desk_parts.specs.Puts.{RowPut}
 use Rattle.sql_tables.specs.Making.{IsMaking, KeepsAside}
 use Rattle.sql_tables.specs.Rows.{HaveRowids}
@@ -21,7 +22,7 @@ use Rattle.sql_tables.proofs.Creating.{sound_is_low}
 use Rattle.sql_tables.proofs.Declaring.{has_table}
 use Rattle.sql_tables.proofs.Makes.{none_below}
 use Rattle.desk_rows.specs.Contents.{Contents}
-use Rattle.desk_rows.specs.Descriptions.{Which, description_of, table_of}
+use Rattle.desk_rows.specs.Descriptions.{description_of, table_of}
 use Rattle.desk_rows.specs.Layout.{Layout}
 use Rattle.desk_rows.specs.Making.{AreFreeIn, Differ, IsFileWithTables, MakesTables, WritesWithTables, after, is_among, tree_in, with_none, with_tables}
 use Rattle.desk_rows.specs.Puts.{PutsAll, puts_into}
@@ -31,18 +32,18 @@ use Rattle.desk_rows.proofs.Transactions.Committing.{begins, shows_on}
 use Rattle.desk_rows.proofs.Schema.MadeTables.{declared_after, has_after, is_below, rows_there, through}
 
 -- a table among these is one of them
-among_has : (ws : List Which) (v : Which) → is_among ws v ≡ true → Has ws v
+among_has : (ws : List FileTable) (v : FileTable) → is_among ws v ≡ true → Has ws v
 among_has [] v is = absurd (true≢false (sym is))
 among_has (w ∷ ws) v is = elim (same w v) [
   | inl one ↦ inl (sym one)
   | inr other ↦ inr (among_has ws v (ap (λ b. b || is_among ws v) (sym other) ∙ is))
 ]
 
-unmapped : (s : Schema) (ws : List Which) → AllByRecursion (λ n. is_used s n ≡ false) (map (λ w. (description_of w).name) ws) → AreFreeIn s ws
+unmapped : (s : Schema) (ws : List FileTable) → AllByRecursion (λ n. is_used s n ≡ false) (map (λ w. (description_of w).name) ws) → AreFreeIn s ws
 unmapped s [] free = tt
 unmapped s (w ∷ ws) free = (free.0, unmapped s ws free.1)
 
-module _ (l : Layout) (c : Contents) (ws : List Which) (differ : Differ ws) (committed : Database) (old new : State) (was : IsUnder committed l c old) (makes : MakesTables ws old new) where
+module _ (l : Layout) (c : Contents) (ws : List FileTable) (differ : Differ ws) (committed : Database) (old new : State) (was : IsUnder committed l c old) (makes : MakesTables ws old new) where
   abbrev s : Schema
   s = l.schema
 
@@ -64,11 +65,11 @@ module _ (l : Layout) (c : Contents) (ws : List Which) (differ : Differ ws) (com
   making : IsMaking committed s old.now.trees (after ws s) new
   making = makes.made committed s old.now.trees s differ start free
 
-  new_one : (v : Which) → is_among ws v ≡ true → IsDeclared (after ws s) (table_of v (tree_in ws s v)) × (next_tree s ≤ tree_in ws s v)
+  new_one : (v : FileTable) → is_among ws v ≡ true → IsDeclared (after ws s) (table_of v (tree_in ws s v)) × (next_tree s ≤ tree_in ws s v)
   new_one v is = declared_after ws s differ (sound_is_low s old.now.trees was.shows.is.sound) free v (among_has ws v is)
 
   -- a tree from the next on has no row
-  empty : (v : Which) → is_among ws v ≡ true → new.now.trees (tree_in ws s v) ≡ []
+  empty : (v : FileTable) → is_among ws v ≡ true → new.now.trees (tree_in ws s v) ≡ []
   empty v is =
       let it = new_one v is in
       all_has _ (after ws s).tables (table_of v (tree_in ws s v)) making.kept (has_table (after ws s) (table_of v (tree_in ws s v)) it.0) ∙ rw (none_below (tree_in ws s v) (next_tree s) it.1) refl
@@ -77,7 +78,7 @@ module _ (l : Layout) (c : Contents) (ws : List Which) (differ : Differ ws) (com
   keeps_row : (t : Table) → Has s.tables t → new.now.trees t.tree ≡ old.now.trees t.tree
   keeps_row t has = all_has _ (after ws s).tables t making.kept (has_after ws s t has) ∙ rw (is_below t.tree (next_tree s) (table_below s t has)) refl
 
-  old_row : (v : Which) → l.has v ≡ true → new.now.trees (l.tree v) ≡ old.now.trees (l.tree v)
+  old_row : (v : FileTable) → l.has v ≡ true → new.now.trees (l.tree v) ≡ old.now.trees (l.tree v)
   old_row v there = keeps_row (table_of v (l.tree v)) (has_table s (table_of v (l.tree v)) (was.shows.is.declared v there))
 
   no_rowids : HaveRowids []
@@ -117,7 +118,7 @@ module _ (l : Layout) (c : Contents) (ws : List Which) (differ : Differ ws) (com
 
 -- ---- as one transaction
 
-module _ {S : Type 0} (g : Ghosts S) (old mid last : Held S) (ws : List Which) (puts : List RowPut) where
+module _ {S : Type 0} (g : Ghosts S) (old mid last : Held S) (ws : List FileTable) (puts : List RowPut) where
   -- tables that were made and rows that were put then are in the file
   pub grows : MakesTables ws (state g (record old { in_transaction = true })) (state g mid) → PutsAll puts (state g mid) (state g last) → (new : State) → new.now ≡ (state g last).now → WritesWithTables ws puts (state g old) new
   grows makes all new same l c differ there was =
@@ -128,5 +129,5 @@ module _ {S : Type 0} (g : Ghosts S) (old mid last : Held S) (ws : List Which) (
       let next = with_none ws others c in
       (others, more.1, more.2, shows_on (state g last) new after (puts_into puts next) same (all committed after next there more.0).shows)
 
-pub file_with_tables : (ws : List Which) (puts : List RowPut) (old new : State) → WritesWithTables ws puts old new → IsFileWithTables ws puts old new.now.trees
+pub file_with_tables : (ws : List FileTable) (puts : List RowPut) (old new : State) → WritesWithTables ws puts old new → IsFileWithTables ws puts old new.now.trees
 file_with_tables ws puts old new writes l c differ there was = let it = writes l c differ there was in (it.0, it.1, it.2, it.3.is)

@@ -6,6 +6,8 @@ use Rattle.std.proofs.lemmas.List.Sorted.{IsPermutation-map}
 use Rattle.std.proofs.lemmas.Result.{IfOk-weaker}
 use Rattle.std.specs.Ordering.{ordering_then}
 use Rattle.sqlite_value.specs.Order.{Row, column}
+use Rattle.desk_parts.specs.declared.file_table.FileTable.{FileTable}
+use Rattle.desk_parts.specs.declared.file_table.FileTable.TheVariants as tables
 use Rattle.desk_parts.specs.Rows.{StoredTab}
 use Rattle.std.specs.declared.alloc.AllocError.{AllocError}
 use Rattle.sqlite_schema.specs.declared.schema.Schema.{Schema}
@@ -24,7 +26,7 @@ use Rattle.sql_tables.proofs.Answered.{answered_fails}
 use Rattle.sql_tables.proofs.Quiet.{on_ok, on_err, shown_quietly}
 use Rattle.desk_rows.specs.TableQuery.{AnswersRows, AnyRows, BeginWith, FailsAs, failed, given, no_memory, query_of, together, unreadable}
 use Rattle.desk_rows.specs.Whole.{IsUtf8Row}
-use Rattle.desk_rows.specs.Descriptions.{Which, books, tabs, paras, corrs, marks, caches, named_corrs, description_of, table_of}
+use Rattle.desk_rows.specs.Descriptions.{description_of, table_of}
 use Rattle.sql_tables.specs.Rows.{columns_at}
 use Rattle.desk_rows.specs.Layout.{Layout}
 use Rattle.desk_rows.specs.Contents.{Contents}
@@ -39,55 +41,55 @@ head_or d (x ∷ xs) = x
 -- ---- each table
 
 -- what of a row that the query shows is the row of the table
-abbrev pub own_of : Which → Row → Row
-own_of books r = r
-own_of tabs r = drop 1 r
-own_of paras r = r
-own_of corrs r = r
-own_of marks r = r
-own_of caches r = r
-own_of named_corrs r = r
+abbrev pub own_of : FileTable → Row → Row
+own_of tables.Book r = r
+own_of tables.Tab r = drop 1 r
+own_of tables.Para r = r
+own_of tables.Corr r = r
+own_of tables.Mark r = r
+own_of tables.Cache r = r
+own_of tables.NamedCorr r = r
 
-owned : (w : Which) (x : ShownOf w) → own_of w (shown_columns w x) ≡ columns_of w (own w x)
-owned books x = refl
-owned tabs x = refl
-owned paras x = refl
-owned corrs x = refl
-owned marks x = refl
-owned caches x = refl
-owned named_corrs x = refl
+owned : (w : FileTable) (x : ShownOf w) → own_of w (shown_columns w x) ≡ columns_of w (own w x)
+owned tables.Book x = refl
+owned tables.Tab x = refl
+owned tables.Para x = refl
+owned tables.Corr x = refl
+owned tables.Mark x = refl
+owned tables.Cache x = refl
+owned tables.NamedCorr x = refl
 
-ordered : (w : Which) (a b : ShownOf w) → rows_cmp w (shown_columns w a) (shown_columns w b) ≡ order w a b
-ordered books a b = then-Equal _ ∙ value_cmp-Int a.id b.id
-ordered paras a b = then-Equal _ ∙ value_cmp-Int a.id b.id
-ordered corrs a b = ap₂ ordering_then (value_cmp-Int a.para b.para) (then-Equal _ ∙ value_cmp-Int a.seq b.seq)
-ordered marks a b = then-Equal _ ∙ value_cmp-Int a.id b.id
-ordered caches a b = then-Equal _ ∙ value_cmp-Int a.para b.para
-ordered named_corrs a b = ap₂ ordering_then (value_cmp-Int a.entry.para b.entry.para) (then-Equal _ ∙ value_cmp-Int a.entry.seq b.entry.seq)
-ordered tabs a b = then-Equal _ ∙ value_cmp-Text a.row.name b.row.name
+ordered : (w : FileTable) (a b : ShownOf w) → rows_cmp w (shown_columns w a) (shown_columns w b) ≡ order w a b
+ordered tables.Book a b = then-Equal _ ∙ value_cmp-Int a.id b.id
+ordered tables.Para a b = then-Equal _ ∙ value_cmp-Int a.id b.id
+ordered tables.Corr a b = ap₂ ordering_then (value_cmp-Int a.para b.para) (then-Equal _ ∙ value_cmp-Int a.seq b.seq)
+ordered tables.Mark a b = then-Equal _ ∙ value_cmp-Int a.id b.id
+ordered tables.Cache a b = then-Equal _ ∙ value_cmp-Int a.para b.para
+ordered tables.NamedCorr a b = ap₂ ordering_then (value_cmp-Int a.entry.para b.entry.para) (then-Equal _ ∙ value_cmp-Int a.entry.seq b.entry.seq)
+ordered tables.Tab a b = then-Equal _ ∙ value_cmp-Text a.row.name b.row.name
 
-own_shown : (w : Which) (r : Row) → own_of w (columns_at (description_of w).shown r) ≡ columns_at (description_of w).own r
-own_shown books r = refl
-own_shown tabs r = refl
-own_shown paras r = refl
-own_shown corrs r = refl
-own_shown marks r = refl
-own_shown caches r = refl
-own_shown named_corrs r = refl
+own_shown : (w : FileTable) (r : Row) → own_of w (columns_at (description_of w).shown r) ≡ columns_at (description_of w).own r
+own_shown tables.Book r = refl
+own_shown tables.Tab r = refl
+own_shown tables.Para r = refl
+own_shown tables.Corr r = refl
+own_shown tables.Mark r = refl
+own_shown tables.Cache r = refl
+own_shown tables.NamedCorr r = refl
 
 -- ---- all tables
 
-pub has_table : (w : Which) (l : Layout) (c : Contents) (s : State) → l.has w ≡ true → ShowsContents l c s → HasTable (table_of w (l.tree w)) s
+pub has_table : (w : FileTable) (l : Layout) (c : Contents) (s : State) → l.has w ≡ true → ShowsContents l c s → HasTable (table_of w (l.tree w)) s
 has_table w l c s there shows = record {
   declared = subst (λ (schema : Schema). IsDeclared schema (table_of w (l.tree w))) (sym shows.schema) (shows.is.declared w there);
   sound = subst (λ (schema : Schema). IsSound schema s.now.trees) (sym shows.schema) shows.is.sound;
 }
 
-pub maps_own : (w : Which) (rows : List Row) → map (own_of w) (map (columns_at (description_of w).shown) rows) ≡ map (columns_at (description_of w).own) rows
+pub maps_own : (w : FileTable) (rows : List Row) → map (own_of w) (map (columns_at (description_of w).shown) rows) ≡ map (columns_at (description_of w).own) rows
 maps_own w [] = refl
 maps_own w (r ∷ rows) = rw (own_shown w r, maps_own w rows)
 
-pub maps_shown : {X : Type 0} (w : Which) (view : X → ShownOf w) (xs : List X) → map (own_of w) (map (λ x. shown_columns w (view x)) xs) ≡ map (columns_of w) (map (λ x. own w (view x)) xs)
+pub maps_shown : {X : Type 0} (w : FileTable) (view : X → ShownOf w) (xs : List X) → map (own_of w) (map (λ x. shown_columns w (view x)) xs) ≡ map (columns_of w) (map (λ x. own w (view x)) xs)
 maps_shown w view [] = refl
 maps_shown w view (x ∷ xs) = rw (owned w (view x), maps_shown w view xs)
 
@@ -95,7 +97,7 @@ any_rows : {V X : Type 0} (items : V → List X) (r : Result V DatabaseFault) �
 any_rows items (Ok xs) = tt
 any_rows items (Err fault) = tt
 
-module _ {V X : Type 0} (items : V → List X) (w : Which) (view : X → ShownOf w) (old new : State) where
+module _ {V X : Type 0} (items : V → List X) (w : FileTable) (view : X → ShownOf w) (old new : State) where
   pub answers : (rows : List Row) → Shown (description_of w).read [] old new rows → (r : Result V DatabaseFault) → IfOk r (λ xs. map (given w) rows ≡ map (λ x. shown_columns w (view x)) (items xs))
       → (AllByRecursion (HasKinds (query_of w).kinds) rows → IfErr r (λ fault. fault ≡ NoMemory)) → IfErr r (λ fault. fault ≢ Lost)
       → IfErr r (λ fault. fault ≡ NoMemory → BeginWith (query_of w).kinds rows)
@@ -131,7 +133,7 @@ module _ {V X : Type 0} (items : V → List X) (w : Which) (view : X → ShownOf
 
 -- ---- rows that have to be apart
 
-module _ {V X : Type 0} (items : V → List X) (w : Which) (view : X → ShownOf w) (Apart : List X → Type 0) (old new : State) where
+module _ {V X : Type 0} (items : V → List X) (w : FileTable) (view : X → ShownOf w) (Apart : List X → Type 0) (old new : State) where
   still_fails : (fault : DatabaseFault) → FailsAs (query_of w) (λ x. shown_columns w (view x)) AnyRows old new fault → FailsAs (query_of w) (λ x. shown_columns w (view x)) Apart old new fault
   still_fails fault (failed e fails told) = failed e fails told
   still_fails fault (unreadable rows seen not is) = unreadable rows seen not is
@@ -205,11 +207,11 @@ module _ {V X : Type 0} (items : V → List X) (w : Which) (view : X → ShownOf
 
 -- ---- braille tables, for the first of which something is allocated
 
-pub tabs_begin : (rows : List Row) (xs : List StoredTab) → map (given tabs) rows ≡ map (shown_columns tabs) xs → xs ≢ []
-    → AllByRecursion (λ x. IsUtf8Row tabs (own tabs x)) xs → BeginWith (query_of tabs).kinds rows
+pub tabs_begin : (rows : List Row) (xs : List StoredTab) → map (given tables.Tab) rows ≡ map (shown_columns tables.Tab) xs → xs ≢ []
+    → AllByRecursion (λ x. IsUtf8Row tables.Tab (own tables.Tab x)) xs → BeginWith (query_of tables.Tab).kinds rows
 unfolding head_or
 tabs_begin rows [] same some utf8 = absurd (some refl)
 tabs_begin [] (x ∷ xs) same some utf8 = absurd (cc)
 tabs_begin (row ∷ rows) (x ∷ xs) same some utf8 =
-    let first : given tabs row ≡ shown_columns tabs x = ap (head_or (shown_columns tabs x)) same in
+    let first : given tables.Tab row ≡ shown_columns tables.Tab x = ap (head_or (shown_columns tables.Tab x)) same in
     ((x.rowid, ap (λ (r : Row). column r 0) first), (x.row.name, ap (λ (r : Row). column r 1) first, utf8.0))

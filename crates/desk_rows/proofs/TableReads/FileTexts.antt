@@ -9,64 +9,67 @@ use Rattle.sql_tables.proofs.RowKinds.{IsKept, all_both, kept}
 use Rattle.sql_tables.proofs.RowTexts.{behind, each_of, in_rows}
 use Rattle.desk_rows.specs.TableQuery.{AreReadable}
 use Rattle.desk_rows.specs.Contents.{Contents}
-use Rattle.desk_rows.specs.Descriptions.{Which, books, tabs, paras, corrs, marks, caches, named_corrs, description_of, shows_rowid, table_of}
+use Rattle.desk_rows.specs.Descriptions.{description_of, shows_rowid, table_of}
 use Rattle.desk_rows.specs.Layout.{Layout}
-use Rattle.desk_rows.specs.Rows.{RowOf, columns_of}
+use Rattle.desk_rows.specs.Rows.{columns_of}
+use Rattle.desk_parts.specs.declared.file_table.FileTable.{FileTable}
+use Rattle.desk_parts.specs.declared.file_table.FileTable.TheVariants as tables
+use Rattle.desk_parts.specs.Rows.{RowOf}
 use Rattle.desk_rows.specs.States.{IsFile}
 use Rattle.desk_rows.specs.Whole.{AreUtf8, IsUtf8Row}
 
 -- ---- each table
 
 -- the texts among a row's columns
-columns_utf8 : (w : Which) (x : RowOf w) → IsUtf8Row w x → AllByRecursion IsUtf8Text (columns_of w x)
-columns_utf8 books b is = (tt, (tt, (tt, tt)))
-columns_utf8 tabs t is = (is, (tt, tt))
-columns_utf8 paras p is = (tt, (tt, (is.0, (is.1, (is.2, (tt, (tt, (tt, tt))))))))
-columns_utf8 corrs e is = (tt, (tt, (tt, (tt, (tt, (is, tt))))))
-columns_utf8 marks m is = (tt, (tt, (tt, (tt, (is, (tt, (tt, tt)))))))
-columns_utf8 caches k is = (tt, (tt, tt))
-columns_utf8 named_corrs e is = (tt, (tt, (tt, (tt, (tt, (is.0, (is.1, tt)))))))
+columns_utf8 : (w : FileTable) (x : RowOf w) → IsUtf8Row w x → AllByRecursion IsUtf8Text (columns_of w x)
+columns_utf8 tables.Book b is = (tt, (tt, (tt, tt)))
+columns_utf8 tables.Tab t is = (is, (tt, tt))
+columns_utf8 tables.Para p is = (tt, (tt, (is.0, (is.1, (is.2, (tt, (tt, (tt, tt))))))))
+columns_utf8 tables.Corr e is = (tt, (tt, (tt, (tt, (tt, (is, tt))))))
+columns_utf8 tables.Mark m is = (tt, (tt, (tt, (tt, (is, (tt, (tt, tt)))))))
+columns_utf8 tables.Cache k is = (tt, (tt, tt))
+columns_utf8 tables.NamedCorr e is = (tt, (tt, (tt, (tt, (tt, (is.0, (is.1, tt)))))))
 
 -- those are all the texts of a row as its tree keeps it
-row_utf8 : (w : Which) (tree : _) (row : Row) → IsKept (table_of w tree) row → AllByRecursion IsUtf8Text (columns_at (description_of w).own row) → AllByRecursion IsUtf8Text (drop 1 row)
-row_utf8 books tree row is t = behind (table_of books tree) row is ((λ no. absurd (true≢false no)), ((λ no. t.1.0), ((λ no. t.1.1.0), tt)))
-row_utf8 tabs tree row is t = behind (table_of tabs tree) row is ((λ no. t.0), ((λ no. t.1.0), tt))
-row_utf8 paras tree row is t =
-    behind (table_of paras tree) row is (
+row_utf8 : (w : FileTable) (tree : _) (row : Row) → IsKept (table_of w tree) row → AllByRecursion IsUtf8Text (columns_at (description_of w).own row) → AllByRecursion IsUtf8Text (drop 1 row)
+row_utf8 tables.Book tree row is t = behind (table_of tables.Book tree) row is ((λ no. absurd (true≢false no)), ((λ no. t.1.0), ((λ no. t.1.1.0), tt)))
+row_utf8 tables.Tab tree row is t = behind (table_of tables.Tab tree) row is ((λ no. t.0), ((λ no. t.1.0), tt))
+row_utf8 tables.Para tree row is t =
+    behind (table_of tables.Para tree) row is (
       (λ no. absurd (true≢false no)),
       ((λ no. t.1.0), ((λ no. t.1.1.0), ((λ no. t.1.1.1.0), ((λ no. t.1.1.1.1.0), ((λ no. t.1.1.1.1.1.0), ((λ no. t.1.1.1.1.1.1.0), ((λ no. t.1.1.1.1.1.1.1.0), tt))))))),
     )
-row_utf8 corrs tree row is t = behind (table_of corrs tree) row is ((λ no. t.0), ((λ no. t.1.0), ((λ no. t.1.1.0), ((λ no. t.1.1.1.0), ((λ no. t.1.1.1.1.0), ((λ no. t.1.1.1.1.1.0), tt))))))
-row_utf8 marks tree row is t =
-    behind (table_of marks tree) row is (
+row_utf8 tables.Corr tree row is t = behind (table_of tables.Corr tree) row is ((λ no. t.0), ((λ no. t.1.0), ((λ no. t.1.1.0), ((λ no. t.1.1.1.0), ((λ no. t.1.1.1.1.0), ((λ no. t.1.1.1.1.1.0), tt))))))
+row_utf8 tables.Mark tree row is t =
+    behind (table_of tables.Mark tree) row is (
       (λ no. absurd (true≢false no)),
       ((λ no. t.1.0), ((λ no. t.1.1.0), ((λ no. t.1.1.1.0), ((λ no. t.1.1.1.1.0), ((λ no. t.1.1.1.1.1.0), ((λ no. t.1.1.1.1.1.1.0), tt)))))),
     )
-row_utf8 caches tree row is t = behind (table_of caches tree) row is ((λ no. absurd (true≢false no)), ((λ no. t.1.0), tt))
-row_utf8 named_corrs tree row is t = behind (table_of named_corrs tree) row is ((λ no. t.0), ((λ no. t.1.0), ((λ no. t.1.1.0), ((λ no. t.1.1.1.0), ((λ no. t.1.1.1.1.0), ((λ no. t.1.1.1.1.1.0), ((λ no. t.1.1.1.1.1.1.0), tt)))))))
+row_utf8 tables.Cache tree row is t = behind (table_of tables.Cache tree) row is ((λ no. absurd (true≢false no)), ((λ no. t.1.0), tt))
+row_utf8 tables.NamedCorr tree row is t = behind (table_of tables.NamedCorr tree) row is ((λ no. t.0), ((λ no. t.1.0), ((λ no. t.1.1.0), ((λ no. t.1.1.1.0), ((λ no. t.1.1.1.1.0), ((λ no. t.1.1.1.1.1.0), ((λ no. t.1.1.1.1.1.1.0), tt)))))))
 
 -- a query that shows the rowid is of a table whose rows may be changed
-is_changed : (w : Which) → shows_rowid w ≡ true → (description_of w).is_changed ≡ true
-is_changed books is = refl
-is_changed tabs is = refl
-is_changed paras is = refl
-is_changed corrs is = absurd (cc)
-is_changed marks is = refl
-is_changed caches is = refl
-is_changed named_corrs is = absurd (cc)
+is_changed : (w : FileTable) → shows_rowid w ≡ true → (description_of w).is_changed ≡ true
+is_changed tables.Book is = refl
+is_changed tables.Tab is = refl
+is_changed tables.Para is = refl
+is_changed tables.Corr is = absurd (cc)
+is_changed tables.Mark is = refl
+is_changed tables.Cache is = refl
+is_changed tables.NamedCorr is = absurd (cc)
 
 -- ---- all tables
 
 module _ (l : Layout) (c : Contents) (db : Trees) (is : IsFile l c db) where
-  pub rowids : (w : Which) → l.has w ≡ true → shows_rowid w ≡ true → HaveIntegerRowids (db (l.tree w))
+  pub rowids : (w : FileTable) → l.has w ≡ true → shows_rowid w ≡ true → HaveIntegerRowids (db (l.tree w))
   rowids w there shows = (is.holds.ids w there (is_changed w shows)).integers
 
   -- those of one table, if its texts are UTF-8
-  pub readable_table : (w : Which) → l.has w ≡ true → AllByRecursion (IsUtf8Row w) (c.rows w) → AreReadable w (db (l.tree w))
+  pub readable_table : (w : FileTable) → l.has w ≡ true → AllByRecursion (IsUtf8Row w) (c.rows w) → AreReadable w (db (l.tree w))
   readable_table w there utf8 =
       let texts = in_rows (columns_of w) (columns_at (description_of w).own) (IsUtf8Row w) (columns_utf8 w) (c.rows w) (db (l.tree w)) utf8 (is.holds.tables w there) in
       let all = each_of _ _ (db (l.tree w)) (λ row both. row_utf8 w (l.tree w) row both.0 both.1) (all_both _ _ (db (l.tree w)) (kept l.schema (table_of w (l.tree w)) (is.declared w there) db is.sound) texts) in
       record { ids = rowids w there; texts = λ has. all }
 
-  pub readable : AreUtf8 c → (w : Which) → l.has w ≡ true → AreReadable w (db (l.tree w))
+  pub readable : AreUtf8 c → (w : FileTable) → l.has w ≡ true → AreReadable w (db (l.tree w))
   readable utf8 w there = readable_table w there (utf8 w)

@@ -3,14 +3,16 @@ use Rattle.std.proofs.Common.{◌≡◌, List, refl, IsPermutation}
 use Rattle.sqlite_value.specs.Order.{Row, column, bytes}
 use Rattle.sql_tables.specs.Rows.{Lists}
 use Rattle.sql_tables.proofs.SameLists.{integer, one_list as same_list}
-use Rattle.desk_rows.specs.Descriptions.{Which, books, tabs, paras, corrs, marks, caches, named_corrs}
-use Rattle.desk_rows.specs.Rows.{RowOf, columns_of}
+use Rattle.desk_rows.specs.Rows.{columns_of}
+use Rattle.desk_parts.specs.declared.file_table.FileTable.{FileTable}
+use Rattle.desk_parts.specs.declared.file_table.FileTable.TheVariants as tables
+use Rattle.desk_parts.specs.Rows.{RowOf}
 
 -- a row as it was, from its columns
-abbrev back : (w : Which) → Row → RowOf w
-back books r = record { id = integer (column r 0); format = integer (column r 1); version = integer (column r 2) }
-back tabs r = record { name = bytes (column r 0); body = bytes (column r 1) }
-back paras r = record {
+abbrev back : (w : FileTable) → Row → RowOf w
+back tables.Book r = record { id = integer (column r 0); format = integer (column r 1); version = integer (column r 2) }
+back tables.Tab r = record { name = bytes (column r 0); body = bytes (column r 1) }
+back tables.Para r = record {
   id = integer (column r 0);
   place = integer (column r 1);
   tab = bytes (column r 2);
@@ -20,8 +22,8 @@ back paras r = record {
   volume = integer (column r 6);
   struck = integer (column r 7);
 }
-back corrs r = record { para = integer (column r 0); seq = integer (column r 1); kind = integer (column r 2); start = integer (column r 3); len = integer (column r 4); body = bytes (column r 5) }
-back marks r = record {
+back tables.Corr r = record { para = integer (column r 0); seq = integer (column r 1); kind = integer (column r 2); start = integer (column r 3); len = integer (column r 4); body = bytes (column r 5) }
+back tables.Mark r = record {
   id = integer (column r 0);
   para = integer (column r 1);
   start = integer (column r 2);
@@ -30,20 +32,20 @@ back marks r = record {
   touched = integer (column r 5);
   resolved = integer (column r 6);
 }
-back caches r = record { para = integer (column r 0); cells = bytes (column r 1) }
-back named_corrs r = record {
+back tables.Cache r = record { para = integer (column r 0); cells = bytes (column r 1) }
+back tables.NamedCorr r = record {
   entry = record { para = integer (column r 0); seq = integer (column r 1); kind = integer (column r 2); start = integer (column r 3); len = integer (column r 4); body = bytes (column r 5) };
   who = bytes (column r 6);
 }
 
-undone : (w : Which) (x : RowOf w) → back w (columns_of w x) ≡ x
-undone books x = refl
-undone tabs x = refl
-undone paras x = refl
-undone corrs x = refl
-undone marks x = refl
-undone caches x = refl
-undone named_corrs x = refl
+undone : (w : FileTable) (x : RowOf w) → back w (columns_of w x) ≡ x
+undone tables.Book x = refl
+undone tables.Tab x = refl
+undone tables.Para x = refl
+undone tables.Corr x = refl
+undone tables.Mark x = refl
+undone tables.Cache x = refl
+undone tables.NamedCorr x = refl
 
-pub one_list : (w : Which) (columns : Row → Row) (xs ys : List (RowOf w)) (rows : List Row) → Lists (columns_of w) columns xs rows → Lists (columns_of w) columns ys rows → IsPermutation xs ys
+pub one_list : (w : FileTable) (columns : Row → Row) (xs ys : List (RowOf w)) (rows : List Row) → Lists (columns_of w) columns xs rows → Lists (columns_of w) columns ys rows → IsPermutation xs ys
 one_list w = same_list (columns_of w) (back w) (undone w)

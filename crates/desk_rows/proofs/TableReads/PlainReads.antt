@@ -8,11 +8,13 @@ use Rattle.sqlite_sql.specs.Term.{col}
 use Rattle.sqlite_tied.specs.Compute.{everything}
 use Rattle.sqlite_resolve.specs.Compile.{first}
 use Rattle.sqlite_resolve.specs.declared.scope.Output.{Output}
+use Rattle.desk_parts.specs.declared.file_table.FileTable.{FileTable}
+use Rattle.desk_parts.specs.declared.file_table.FileTable.TheVariants as tables
 use Rattle.sql_tables.proofs.OneTable.{is_typed}
 use Rattle.sql_tables.proofs.Columns.{IsKey}
 use Rattle.sql_tables.proofs.Selecting.{query_of, core_of, shown_by, sorts_of}
 use Rattle.sql_tables.proofs.WholeTables.{IsRead}
-use Rattle.desk_rows.specs.Descriptions.{Which, books, tabs, paras, corrs, marks, caches, named_corrs, description_of, table_of}
+use Rattle.desk_rows.specs.Descriptions.{description_of, table_of}
 use Rattle.sql_tables.proofs.ReadTest as test
 use Rattle.sql_tables.proofs.ReadTest.{is_plain_read, outs_of, terms_of}
 
@@ -22,11 +24,11 @@ place_in (p ∷ ps) zero = p
 place_in (p ∷ ps) (suc k) = place_in ps k
 
 -- where the tree's rows have a column of what the query shows
-abbrev pub stored_at : Which → ℕ → ℕ
+abbrev pub stored_at : FileTable → ℕ → ℕ
 stored_at w = place_in (description_of w).shown
 
 -- The text of a table reads it whole.
-pub record ReadsWhole (w : Which) : Type 0 where
+pub record ReadsWhole (w : FileTable) : Type 0 where
   pub plain : (tree : ℕ) → is_plain_read (description_of w).read (table_of w tree) ≡ true
   pub shows : (tree : ℕ) → map (λ (o : Output). o.term) (outs_of (description_of w).read (table_of w tree)) ≡ map (col 1) (description_of w).shown
   pub heads : (tree : ℕ) → map (λ (o : Output). o.name) (outs_of (description_of w).read (table_of w tree)) ≡ map (λ (o : Output). o.name) (outs_of (description_of w).read (table_of w 0))
@@ -34,19 +36,19 @@ pub record ReadsWhole (w : Which) : Type 0 where
 
 -- ---- each table
 
-pub reads_whole : (w : Which) → ReadsWhole w
+pub reads_whole : (w : FileTable) → ReadsWhole w
 unfolding everything
-reads_whole books = record { plain = λ tree. refl; shows = λ tree. refl; heads = λ tree. refl; sorts = λ tree. refl }
-reads_whole tabs = record { plain = λ tree. refl; shows = λ tree. refl; heads = λ tree. refl; sorts = λ tree. refl }
-reads_whole paras = record { plain = λ tree. refl; shows = λ tree. refl; heads = λ tree. refl; sorts = λ tree. refl }
-reads_whole corrs = record { plain = λ tree. refl; shows = λ tree. refl; heads = λ tree. refl; sorts = λ tree. refl }
-reads_whole marks = record { plain = λ tree. refl; shows = λ tree. refl; heads = λ tree. refl; sorts = λ tree. refl }
-reads_whole caches = record { plain = λ tree. refl; shows = λ tree. refl; heads = λ tree. refl; sorts = λ tree. refl }
-reads_whole named_corrs = record { plain = λ tree. refl; shows = λ tree. refl; heads = λ tree. refl; sorts = λ tree. refl }
+reads_whole tables.Book = record { plain = λ tree. refl; shows = λ tree. refl; heads = λ tree. refl; sorts = λ tree. refl }
+reads_whole tables.Tab = record { plain = λ tree. refl; shows = λ tree. refl; heads = λ tree. refl; sorts = λ tree. refl }
+reads_whole tables.Para = record { plain = λ tree. refl; shows = λ tree. refl; heads = λ tree. refl; sorts = λ tree. refl }
+reads_whole tables.Corr = record { plain = λ tree. refl; shows = λ tree. refl; heads = λ tree. refl; sorts = λ tree. refl }
+reads_whole tables.Mark = record { plain = λ tree. refl; shows = λ tree. refl; heads = λ tree. refl; sorts = λ tree. refl }
+reads_whole tables.Cache = record { plain = λ tree. refl; shows = λ tree. refl; heads = λ tree. refl; sorts = λ tree. refl }
+reads_whole tables.NamedCorr = record { plain = λ tree. refl; shows = λ tree. refl; heads = λ tree. refl; sorts = λ tree. refl }
 
 -- ---- all tables
 
-module _ (w : Which) where
+module _ (w : FileTable) where
   abbrev text : List ℕ
   text = (description_of w).read
 

@@ -8,12 +8,14 @@ use Rattle.sqlite_schema.specs.declared.schema.Table.{Table}
 use Rattle.sqlite_value.specs.Order.{Row}
 use Rattle.sqlite_trees.specs.Tree.{Trees}
 use Rattle.sqlite_catalog.specs.Listing.{IsSound}
+use Rattle.desk_parts.specs.declared.file_table.FileTable.{FileTable}
+use Rattle.desk_parts.specs.declared.file_table.FileTable.TheVariants as tables
 use Rattle.desk_parts.specs.Rows.{StoredTab}
 use Rattle.sql_tables.specs.Rows.{HaveRowids, Lists, columns_at}
 use Rattle.sql_tables.proofs.Apart.{apart, as_many, have_rowids}
 use Rattle.sql_tables.proofs.SameLists.{other_order}
 use Rattle.desk_rows.specs.Contents.{Contents, Holds}
-use Rattle.desk_rows.specs.Descriptions.{Which, books, tabs, paras, corrs, marks, caches, named_corrs, description_of}
+use Rattle.desk_rows.specs.Descriptions.{description_of}
 use Rattle.desk_rows.specs.Layout.{Layout, AreDeclared, IsOther}
 use Rattle.desk_rows.specs.Rows.{ShownOf, columns_of, own, shown_columns}
 use Rattle.desk_rows.specs.States.{IsFile}
@@ -55,17 +57,17 @@ one_contents l c d db is = (
 -- ---- what was read
 
 -- the rows that the query shows, without the rowid if it isn't the row's own
-pub own_listed : (w : Which) (xs : List (ShownOf w)) (rows : List Row) → Lists (shown_columns w) (columns_at (description_of w).shown) xs rows → Lists (columns_of w) (columns_at (description_of w).own) (map (own w) xs) rows
+pub own_listed : (w : FileTable) (xs : List (ShownOf w)) (rows : List Row) → Lists (shown_columns w) (columns_at (description_of w).shown) xs rows → Lists (columns_of w) (columns_at (description_of w).own) (map (own w) xs) rows
 own_listed w xs rows lists = subst₂ IsPermutation (maps_shown w (λ x. x) xs) (maps_own w rows) (IsPermutation-map (own_of w) _ _ lists)
 
-ids_of : (w : Which) (xs : List (ShownOf w)) (rows : List Row) → Lists (shown_columns w) (columns_at (description_of w).shown) xs rows → DifferIn w xs → (description_of w).is_changed ≡ true → HaveRowids rows
-ids_of books xs rows lists apart changed = have_rowids (shown_columns books) (columns_at (description_of books).shown) (λ b. b.id) (λ b. refl) (λ r. refl) xs rows lists apart
-ids_of tabs xs rows lists apart changed = have_rowids (shown_columns tabs) (columns_at (description_of tabs).shown) (λ t. t.rowid) (λ t. refl) (λ r. refl) xs rows lists apart
-ids_of paras xs rows lists apart changed = have_rowids (shown_columns paras) (columns_at (description_of paras).shown) (λ p. p.id) (λ p. refl) (λ r. refl) xs rows lists apart
-ids_of corrs xs rows lists apart changed = absurd (cc)
-ids_of marks xs rows lists apart changed = have_rowids (shown_columns marks) (columns_at (description_of marks).shown) (λ m. m.id) (λ m. refl) (λ r. refl) xs rows lists apart
-ids_of caches xs rows lists apart changed = have_rowids (shown_columns caches) (columns_at (description_of caches).shown) (λ k. k.para) (λ k. refl) (λ r. refl) xs rows lists apart
-ids_of named_corrs xs rows lists apart changed = absurd (cc)
+ids_of : (w : FileTable) (xs : List (ShownOf w)) (rows : List Row) → Lists (shown_columns w) (columns_at (description_of w).shown) xs rows → DifferIn w xs → (description_of w).is_changed ≡ true → HaveRowids rows
+ids_of tables.Book xs rows lists apart changed = have_rowids (shown_columns tables.Book) (columns_at (description_of tables.Book).shown) (λ b. b.id) (λ b. refl) (λ r. refl) xs rows lists apart
+ids_of tables.Tab xs rows lists apart changed = have_rowids (shown_columns tables.Tab) (columns_at (description_of tables.Tab).shown) (λ t. t.rowid) (λ t. refl) (λ r. refl) xs rows lists apart
+ids_of tables.Para xs rows lists apart changed = have_rowids (shown_columns tables.Para) (columns_at (description_of tables.Para).shown) (λ p. p.id) (λ p. refl) (λ r. refl) xs rows lists apart
+ids_of tables.Corr xs rows lists apart changed = absurd (cc)
+ids_of tables.Mark xs rows lists apart changed = have_rowids (shown_columns tables.Mark) (columns_at (description_of tables.Mark).shown) (λ m. m.id) (λ m. refl) (λ r. refl) xs rows lists apart
+ids_of tables.Cache xs rows lists apart changed = have_rowids (shown_columns tables.Cache) (columns_at (description_of tables.Cache).shown) (λ k. k.para) (λ k. refl) (λ r. refl) xs rows lists apart
+ids_of tables.NamedCorr xs rows lists apart changed = absurd (cc)
 
 all_same : (l : Layout) (db : Trees) (tables : List Table) → AllByRecursion (λ t. IsOther l t.tree → db t.tree ≡ db t.tree) tables
 all_same l db [] = tt
@@ -84,7 +86,7 @@ is_file l rows db declared sound are apart = record {
 }
 
 -- the rowids of the braille tables of a file differ
-pub tabs_apart : (l : Layout) (c : Contents) (db : Trees) → IsFile l c db → l.has tabs ≡ true → (xs : List StoredTab) → Lists (shown_columns tabs) (columns_at (description_of tabs).shown) xs (db (l.tree tabs)) → HaveOwnRowids xs
+pub tabs_apart : (l : Layout) (c : Contents) (db : Trees) → IsFile l c db → l.has tables.Tab ≡ true → (xs : List StoredTab) → Lists (shown_columns tables.Tab) (columns_at (description_of tables.Tab).shown) xs (db (l.tree tables.Tab)) → HaveOwnRowids xs
 tabs_apart l c db is there xs lists =
     apart int_eq Decides-int_eq (λ (t : StoredTab). t.rowid) xs (λ id.
-    subst (λ n. n ≤ 1) (as_many (shown_columns tabs) (columns_at (description_of tabs).shown) (λ (t : StoredTab). t.rowid) (λ t. refl) (λ r. refl) id xs _ lists) ((is.holds.ids tabs there refl).once id))
+    subst (λ n. n ≤ 1) (as_many (shown_columns tables.Tab) (columns_at (description_of tables.Tab).shown) (λ (t : StoredTab). t.rowid) (λ t. refl) (λ r. refl) id xs _ lists) ((is.holds.ids tables.Tab there refl).once id))

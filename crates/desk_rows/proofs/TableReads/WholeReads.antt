@@ -17,6 +17,8 @@ use Rattle.sqlite_resolve.specs.Compile.{first}
 use Rattle.sqlite_catalog.specs.Listing.{IsSound}
 use Rattle.sqlite.specs.declared.error.Error.{Error}
 use Rattle.sqlite.specs.State.{State, Shown, FailsToQuery}
+use Rattle.desk_parts.specs.declared.file_table.FileTable.{FileTable}
+use Rattle.desk_parts.specs.declared.file_table.FileTable.TheVariants as tables
 use Rattle.sql_tables.specs.Rows.{Lists}
 use Rattle.sql_tables.specs.Kinds.{IsUtf8Text, HasKinds}
 use Rattle.sql_tables.specs.Tables.{IsDeclared}
@@ -29,41 +31,41 @@ use Rattle.sql_tables.proofs.RowKinds.{IsKept, integer_of, numbered_kinds, hidde
 use Rattle.sql_tables.proofs.WholeTables.{rows_are, fails_by_store}
 use Rattle.sql_tables.specs.Rows.{columns_at}
 use Rattle.desk_rows.specs.TableQuery.{AreReadable, given, query_of}
-use Rattle.desk_rows.specs.Descriptions.{Which, books, tabs, paras, corrs, marks, caches, named_corrs, description_of, table_of, shows_rowid, has_texts}
+use Rattle.desk_rows.specs.Descriptions.{description_of, table_of, shows_rowid, has_texts}
 use Rattle.desk_rows.proofs.TableReads.PlainReads.{is_read, stored_at}
 
 -- ---- each table
 
-keys_are : (w : Which) (r : Row) → eval_all (map (λ k. col 1 (stored_at w k)) (description_of w).sorted) ([] ∷ r ∷ []) ≡ columns_at (description_of w).sorted (columns_at (description_of w).shown r)
-keys_are books r = refl
-keys_are tabs r = refl
-keys_are paras r = refl
-keys_are corrs r = refl
-keys_are marks r = refl
-keys_are caches r = refl
-keys_are named_corrs r = refl
+keys_are : (w : FileTable) (r : Row) → eval_all (map (λ k. col 1 (stored_at w k)) (description_of w).sorted) ([] ∷ r ∷ []) ≡ columns_at (description_of w).sorted (columns_at (description_of w).shown r)
+keys_are tables.Book r = refl
+keys_are tables.Tab r = refl
+keys_are tables.Para r = refl
+keys_are tables.Corr r = refl
+keys_are tables.Mark r = refl
+keys_are tables.Cache r = refl
+keys_are tables.NamedCorr r = refl
 
-given_again : (w : Which) (r : Row) → given w (columns_at (description_of w).shown r) ≡ columns_at (description_of w).shown r
-given_again books r = refl
-given_again tabs r = refl
-given_again paras r = refl
-given_again corrs r = refl
-given_again marks r = refl
-given_again caches r = refl
-given_again named_corrs r = refl
+given_again : (w : FileTable) (r : Row) → given w (columns_at (description_of w).shown r) ≡ columns_at (description_of w).shown r
+given_again tables.Book r = refl
+given_again tables.Tab r = refl
+given_again tables.Para r = refl
+given_again tables.Corr r = refl
+given_again tables.Mark r = refl
+given_again tables.Cache r = refl
+given_again tables.NamedCorr r = refl
 
 -- what a row needs to be read
-abbrev IsReadable : Which → Row → Type 0
+abbrev IsReadable : FileTable → Row → Type 0
 IsReadable w row = (shows_rowid w ≡ true → IsTrue (is_int (rowid row))) × (has_texts w ≡ true → AllByRecursion IsUtf8Text (drop 1 row))
 
-row_kinds : (w : Which) (tree : ℕ) (row : Row) → IsKept (table_of w tree) row → IsReadable w row → HasKinds (query_of w).kinds (columns_at (description_of w).shown row)
-row_kinds books tree row kept is = (integer_of (rowid row) (is.0 refl), numbered_kinds (table_of books tree) row _ _ kept refl refl refl ((λ text. absurd (cc)), ((λ text. absurd (cc)), tt)))
-row_kinds tabs tree row kept is = (integer_of (rowid row) (is.0 refl), hidden_kinds (table_of tabs tree) row kept refl refl (all_texts _ (description_of tabs).columns (is.1 refl)))
-row_kinds paras tree row kept is = (integer_of (rowid row) (is.0 refl), numbered_kinds (table_of paras tree) row _ _ kept refl refl refl (all_texts _ (drop 1 (description_of paras).columns) (is.1 refl)))
-row_kinds corrs tree row kept is = hidden_kinds (table_of corrs tree) row kept refl refl (all_texts _ (description_of corrs).columns (is.1 refl))
-row_kinds marks tree row kept is = (integer_of (rowid row) (is.0 refl), numbered_kinds (table_of marks tree) row _ _ kept refl refl refl (all_texts _ (drop 1 (description_of marks).columns) (is.1 refl)))
-row_kinds caches tree row kept is = (integer_of (rowid row) (is.0 refl), numbered_kinds (table_of caches tree) row _ _ kept refl refl refl ((λ text. absurd (cc)), tt))
-row_kinds named_corrs tree row kept is = hidden_kinds (table_of named_corrs tree) row kept refl refl (all_texts _ (description_of named_corrs).columns (is.1 refl))
+row_kinds : (w : FileTable) (tree : ℕ) (row : Row) → IsKept (table_of w tree) row → IsReadable w row → HasKinds (query_of w).kinds (columns_at (description_of w).shown row)
+row_kinds tables.Book tree row kept is = (integer_of (rowid row) (is.0 refl), numbered_kinds (table_of tables.Book tree) row _ _ kept refl refl refl ((λ text. absurd (cc)), ((λ text. absurd (cc)), tt)))
+row_kinds tables.Tab tree row kept is = (integer_of (rowid row) (is.0 refl), hidden_kinds (table_of tables.Tab tree) row kept refl refl (all_texts _ (description_of tables.Tab).columns (is.1 refl)))
+row_kinds tables.Para tree row kept is = (integer_of (rowid row) (is.0 refl), numbered_kinds (table_of tables.Para tree) row _ _ kept refl refl refl (all_texts _ (drop 1 (description_of tables.Para).columns) (is.1 refl)))
+row_kinds tables.Corr tree row kept is = hidden_kinds (table_of tables.Corr tree) row kept refl refl (all_texts _ (description_of tables.Corr).columns (is.1 refl))
+row_kinds tables.Mark tree row kept is = (integer_of (rowid row) (is.0 refl), numbered_kinds (table_of tables.Mark tree) row _ _ kept refl refl refl (all_texts _ (drop 1 (description_of tables.Mark).columns) (is.1 refl)))
+row_kinds tables.Cache tree row kept is = (integer_of (rowid row) (is.0 refl), numbered_kinds (table_of tables.Cache tree) row _ _ kept refl refl refl ((λ text. absurd (cc)), tt))
+row_kinds tables.NamedCorr tree row kept is = hidden_kinds (table_of tables.NamedCorr tree) row kept refl refl (all_texts _ (description_of tables.NamedCorr).columns (is.1 refl))
 
 -- by the columns at these places in turn
 abbrev places_cmp : List ℕ → Row → Row → Ordering
@@ -71,32 +73,32 @@ places_cmp [] a b = Equal
 places_cmp (k ∷ ks) a b = ordering_then (value_cmp (column a k) (column b k)) (places_cmp ks a b)
 
 -- in the order of the query
-abbrev pub rows_cmp : Which → Row → Row → Ordering
+abbrev pub rows_cmp : FileTable → Row → Row → Ordering
 rows_cmp w = places_cmp (description_of w).sorted
 
 -- how the query compares two rows
-abbrev cmp : Which → ℕ → Row → Row → Ordering
+abbrev cmp : FileTable → ℕ → Row → Row → Ordering
 cmp w tree a b =
     output_cmp (query_on tree (record { tests = []; project = map (col 1) (description_of w).shown; order = map (λ t. (t, ascending Binary)) (map (λ k. col 1 (stored_at w k)) (description_of w).sorted) }))
     (columns_at (description_of w).sorted a, a) (columns_at (description_of w).sorted b, b)
 
-cmp_is : (w : Which) (tree : ℕ) (a b : Row) → cmp w tree a b ≡ rows_cmp w a b
-cmp_is books tree a b = refl
-cmp_is tabs tree a b = refl
-cmp_is paras tree a b = refl
-cmp_is corrs tree a b = refl
-cmp_is marks tree a b = refl
-cmp_is caches tree a b = refl
-cmp_is named_corrs tree a b = refl
+cmp_is : (w : FileTable) (tree : ℕ) (a b : Row) → cmp w tree a b ≡ rows_cmp w a b
+cmp_is tables.Book tree a b = refl
+cmp_is tables.Tab tree a b = refl
+cmp_is tables.Para tree a b = refl
+cmp_is tables.Corr tree a b = refl
+cmp_is tables.Mark tree a b = refl
+cmp_is tables.Cache tree a b = refl
+cmp_is tables.NamedCorr tree a b = refl
 
-cmp_given : (w : Which) (tree : ℕ) (a b : Row) → is_lt (cmp w tree a b) ≡ is_lt (cmp w tree (given w a) (given w b))
-cmp_given books tree a b = refl
-cmp_given tabs tree a b = refl
-cmp_given paras tree a b = refl
-cmp_given corrs tree a b = refl
-cmp_given marks tree a b = refl
-cmp_given caches tree a b = refl
-cmp_given named_corrs tree a b = refl
+cmp_given : (w : FileTable) (tree : ℕ) (a b : Row) → is_lt (cmp w tree a b) ≡ is_lt (cmp w tree (given w a) (given w b))
+cmp_given tables.Book tree a b = refl
+cmp_given tables.Tab tree a b = refl
+cmp_given tables.Para tree a b = refl
+cmp_given tables.Corr tree a b = refl
+cmp_given tables.Mark tree a b = refl
+cmp_given tables.Cache tree a b = refl
+cmp_given tables.NamedCorr tree a b = refl
 
 -- ---- all tables
 
@@ -108,10 +110,10 @@ shows_are : (ps : List ℕ) (r : Row) → eval_all (map (col 1) ps) ([] ∷ r �
 shows_are [] r = refl
 shows_are (p ∷ ps) r = ap (λ vs. column r p ∷ vs) (shows_are ps r)
 
-pub reads_only : (w : Which) → reads (first (description_of w).read) ≡ true
+pub reads_only : (w : FileTable) → reads (first (description_of w).read) ≡ true
 reads_only w = (is_read w).reads_only
 
-module _ (w : Which) (schema : Schema) (tree : ℕ) (d : IsDeclared schema (table_of w tree)) (old new : State) (has : old.now.schema ≡ schema) (sound : IsSound schema old.now.trees) where
+module _ (w : FileTable) (schema : Schema) (tree : ℕ) (d : IsDeclared schema (table_of w tree)) (old new : State) (has : old.now.schema ≡ schema) (sound : IsSound schema old.now.trees) where
   found : (rows : List Row) → Shown (description_of w).read [] old new rows → IsPermutation (map (columns_at (description_of w).shown) (old.now.trees tree)) rows × Rises (λ a b. is_lt (cmp w tree a b)) rows
   unfolding is_read
   found rows h = rows_are (description_of w).name (description_of w).columns (description_of w).key (description_of w).primary (description_of w).uniques (description_of w).orders (description_of w).read (is_read w) schema tree d old new has sound

@@ -9,11 +9,12 @@ use Rattle.sqlite_trees.specs.declared.store.Store.{Ghosts}
 use Rattle.sqlite.specs.declared.error.Error.{Error}
 use Rattle.sqlite.specs.Held.{Held, state}
 use Rattle.sqlite.specs.State.{HasCause, HasCleanDisk, State, Survives, store_error}
+use Rattle.desk_parts.specs.declared.file_table.FileTable.{FileTable}
+use Rattle.desk_parts.specs.declared.file_table.FileTable.TheVariants as tables
 use Rattle.desk_parts.specs.declared.put.Put.{Put}
 use Rattle.desk_parts.specs.Puts.{RowPut, put_of}
 use Rattle.sql_tables.proofs.Failures.{IsCaused, answered, fails_so}
 use Rattle.sql_tables.proofs.Refusals.{not_of_store}
-use Rattle.desk_rows.specs.Descriptions.{Which, books}
 use Rattle.desk_rows.specs.Failing.{FailsToPut, Putting, after_tables, at_commit, at_put, of_first_row, of_items}
 use Rattle.desk_rows.specs.Fault.{CountsLoss}
 use Rattle.desk_rows.specs.Making.{creation, first_row}
@@ -109,14 +110,14 @@ module _ {S : Type 0} (g : Ghosts S) where
       stops_lost (map statement (map put_of stopped.0)) (NotPut next) old new e (λ a b. not_put next a b e) stopped.4.stops
 
   pub first_row_lost : StopsLost (of_first_row g)
-  first_row_lost old new e stopped clean = failed (row_put books first_row) (state g old) new e stopped
+  first_row_lost old new e stopped clean = failed (row_put tables.Book first_row) (state g old) new e stopped
 
   pub put_lost : (putting : Putting S) → StopsLost putting → (old : Held S) (new : State) (e : Error) → FailsToPut g putting old new e → Loss (state g old) new e
   put_lost putting stops old new e (at_put last ran stopped left) = early_loss (state g old) (state g last) new e (stops old (state g last) e stopped) (goes _ _ _ left)
   put_lost putting stops old new e (at_commit last ran put left why) =
       later_loss (state g old) (state g last) new e _ ran (goes _ _ _ left) (λ clean. caused (state g last) new e (fails_so (state g last) new ⊥ e why))
 
-  pub tables_lost : (ws : List Which) (putting : Putting S) → StopsLost putting → StopsLost (after_tables g ws putting)
+  pub tables_lost : (ws : List FileTable) (putting : Putting S) → StopsLost putting → StopsLost (after_tables g ws putting)
   tables_lost ws putting stops old new e (inl stopped) =
       stops_lost (map creation stopped.done) (FailsWith (creation stopped.next)) old new e (λ a b. failed (creation stopped.next) a b e) stopped.stops
   tables_lost ws putting stops old new e (inr it) =

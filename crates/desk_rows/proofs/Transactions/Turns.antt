@@ -1,14 +1,10 @@
 -- Statements that ran in turn within a transaction.
-use Rattle.std.proofs.Common.{◌≡◌, List, [], ◌∷◌, ◌++◌, map, refl, sym, subst}
+use Rattle.std.proofs.Common.{List, [], ◌∷◌, ◌++◌, map, refl, sym, subst}
+use Rattle.std.proofs.lemmas.List.{map_push}
 use Rattle.sqlite_trees.specs.declared.store.Store.{Ghosts}
 use Rattle.sqlite.specs.Held.{Held, state}
 use Rattle.sqlite.specs.State.{Survives}
 use Rattle.desk_rows.specs.Turns.{Ran, RunInTurn, Statement}
-
--- of one more
-pub map_then : {A B : Type 0} (f : A → B) (xs : List A) (x : A) → map f (xs ++ x ∷ []) ≡ map f xs ++ f x ∷ []
-map_then f [] x = refl
-map_then f (y ∷ ys) x = let h = map_then f ys x in cc
 
 module _ {S : Type 0} (g : Ghosts S) where
   -- some ran, and then others
@@ -24,4 +20,4 @@ module _ {S : Type 0} (g : Ghosts S) where
   pub one_more_ran : {A : Type 0} (said : A → Statement) (xs : List A) (x : A) (old mid new : Held S) → RunInTurn g (map said xs) old mid → Ran (said x) (state g mid) (state g new)
       → Survives (state g mid) (state g new) (λ _. ⊥) → RunInTurn g (map said (xs ++ x ∷ [])) old new
   one_more_ran said xs x old mid new done ran kept =
-      subst (λ its. RunInTurn g its old new) (sym (map_then said xs x)) (run_then (map said xs) (said x ∷ []) old mid new done (one_ran (said x) mid new ran kept))
+      subst (λ its. RunInTurn g its old new) (sym (map_push said xs x)) (run_then (map said xs) (said x ∷ []) old mid new done (one_ran (said x) mid new ran kept))

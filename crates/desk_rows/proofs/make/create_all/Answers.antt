@@ -1,33 +1,31 @@
-use Rattle.std.proofs.Common.{◌≡◌, ◌+◌, ◌<◌, ◌++◌, ℕ, List, length, arith, sym, subst, take, drop, map, true, ◌∙◌, take_all, get_or, suc, ◌∷◌, []}
+use Rattle.std.proofs.Common.{◌≡◌, ◌+◌, ◌++◌, List, arith, sym, subst, take, drop, map, true, ap, ◌∙◌, take_all, get_or, ◌∷◌, []}
+use Rattle.std.proofs.lemmas.List.{drop_more, take-append-drop, take_more}
 use Rattle.std.proofs.lemmas.Result.{err_from_is_err_and}
 use Rattle.sqlite.specs.State.{HasCleanDisk}
 use Rattle.sqlite.proofs.InsideLemmas.{keeps_then}
 use Rattle.sqlite.proofs.StateLemmas.{survives_then}
+use Rattle.desk_parts.specs.declared.file_table.FileTable.{FileTable}
+use Rattle.desk_parts.specs.declared.file_table.FileTable.TheVariants as tables
 use Rattle.sql_tables.specs.States.{seen}
 use Rattle.desk_rows.specs.Descriptions.{description_of}
 use Rattle.desk_rows.specs.Making.{AreMade, MakesTables, creation}
-use Rattle.desk_rows.specs.Tables.{which}
 use Rattle.desk_rows.specs.Turns.{RunInTurn}
-use Rattle.desk_parts.specs.declared.file_table.FileTable.{FileTable}
-use Rattle.desk_parts.specs.declared.file_table.FileTable.TheVariants.{Book}
-use Rattle.desk_rows.proofs.Schema.MadeTables.{all_at, makes_then, map_split, map_more}
+use Rattle.desk_rows.proofs.Schema.MadeTables.{all_at, makes_then}
 use Rattle.desk_rows.proofs.Transactions.Turns.{one_more_ran}
 use Rattle.desk_rows.proofs.make.create_all.Goals as goal
 
 pub create-requires : goal.create-requires
-create-requires g c = all_at (λ t. (description_of (which t)).is_written ≡ true) c.args.tables.now c.loop-table.table-index Book c.loop-table-test.true c.requires
-
--- with the next of the tables
-one_more : (tables : List FileTable) (at : ℕ) → at < length tables → map which (take (at + 1) tables) ≡ map which (take at tables) ++ which (get_or tables at Book) ∷ []
-one_more tables at within = let next : at + 1 ≡ suc at = omega arith in rw next (map_more which tables at Book within)
+create-requires g c = all_at (λ t. (description_of t).is_written ≡ true) c.args.tables.now c.loop-table.table-index tables.Book c.loop-table-test.true c.requires
 
 pub loop-table-preserved : goal.loop-table-preserved
 loop-table-preserved g c =
     let old = seen g.S.Store c.args.tx.now in
     let now = seen g.S.Store c.loop-table.tx in
     let new = seen g.S.Store c.create.new.tx in
-    let tables = c.args.tables.now in
+    let given = c.args.tables.now in
     let at = c.loop-table.table-index in
+    let next = get_or given at tables.Book in
+    let more = sym (take_more given at tables.Book c.loop-table-test.true) in
     record {
       same = c.create.ensures.same_reference ∙ c.loop-table.invariant.same;
       survives = survives_then old now new _ _ _ (λ _ db none. none) (λ _ db none. none) c.loop-table.invariant.survives c.create.ensures.survives;
@@ -35,31 +33,31 @@ loop-table-preserved g c =
       inside = λ clean was. c.in_ok-create.ensures.inside clean;
       made = λ clean.
           let early : HasCleanDisk now = omega (arith, c.create.ensures.survives.clean) in
-          let both = makes_then (map which (take at tables)) (which (get_or tables at Book) ∷ []) old now new (c.loop-table.invariant.made early) (c.in_ok-create.ensures.makes clean) in
-          subst (λ ws. MakesTables ws old new) (sym (one_more tables at c.loop-table-test.true)) both;
+          let both = makes_then (take at given) (next ∷ []) old now new (c.loop-table.invariant.made early) (c.in_ok-create.ensures.makes clean) in
+          subst (λ ws. MakesTables ws old new) more both;
       ran = λ clean.
           let early : HasCleanDisk now = omega (arith, c.create.ensures.survives.clean) in
-          let both = one_more_ran g.S.Store creation (map which (take at tables)) (which (get_or tables at Book)) c.args.tx.now.conn.now c.loop-table.tx.conn.now c.create.new.tx.conn.now (c.loop-table.invariant.ran early) (c.in_ok-create.ensures.ran clean) c.create.ensures.survives in
-          subst (λ ws. RunInTurn g.S.Store (map creation ws) c.args.tx.now.conn.now c.create.new.tx.conn.now) (sym (one_more tables at c.loop-table-test.true)) both;
+          let both = one_more_ran g.S.Store creation (take at given) next c.args.tx.now.conn.now c.loop-table.tx.conn.now c.create.new.tx.conn.now (c.loop-table.invariant.ran early) (c.in_ok-create.ensures.ran clean) c.create.ensures.survives in
+          subst (λ ws. RunInTurn g.S.Store (map creation ws) c.args.tx.now.conn.now c.create.new.tx.conn.now) more both;
     }
 
 pub returns-clause-makes : goal.returns-clause-makes
 returns-clause-makes g c clean =
     let whole : take c.loop-table.table-index c.args.tables.now ≡ c.args.tables.now = take_all c.loop-table.table-index c.args.tables.now c.loop-table-test.false in
-    subst (λ ts. AreMade g.S.Store (map which ts) c.args.tx.now.conn.now c.loop-table.tx.conn.now) whole (c.loop-table.invariant.made clean, c.loop-table.invariant.ran clean)
+    subst (λ ts. AreMade g.S.Store ts c.args.tx.now.conn.now c.loop-table.tx.conn.now) whole (c.loop-table.invariant.made clean, c.loop-table.invariant.ran clean)
 
 pub returns-in_err-create-clause-told : goal.returns-in_err-create-clause-told
 returns-in_err-create-clause-told g c clean was =
     let p = err_from_is_err_and c.from_residual.result c.from_residual.ensures.1 in
     let now = seen g.S.Store c.loop-table.tx in
     let early : HasCleanDisk now = omega (arith, c.create.ensures.survives.clean) in
-    let tables = c.args.tables.now in
+    let given = c.args.tables.now in
     let at = c.loop-table.table-index in
     rw (p.1, p.2) (record {
-      done = map which (take at tables);
-      next = which (get_or tables at Book);
-      later = map which (drop (suc at) tables);
-      all = map_split which tables at Book c.loop-table-test.true;
+      done = take at given;
+      next = get_or given at tables.Book;
+      later = drop (at + 1) given;
+      all = sym (take-append-drop at given) ∙ ap (λ (later : List FileTable). take at given ++ later) (drop_more given at tables.Book c.loop-table-test.true);
       stops = record {
         before = c.loop-table.tx.conn.now;
         ran = c.loop-table.invariant.ran early;

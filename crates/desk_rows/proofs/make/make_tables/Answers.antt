@@ -1,8 +1,8 @@
 use Rattle.std.proofs.Common.{◌≡◌, [], ◌∷◌, IsTrue, OnOk, map, arith, refl, rules}
 use Rattle.sqlite.specs.Held.{state}
 use Rattle.sqlite.specs.State.{HasCleanDisk}
+use Rattle.desk_parts.specs.declared.file_table.FileTable.TheVariants as tables
 use Rattle.desk_rows.specs.Commits.{making_file}
-use Rattle.desk_rows.specs.Descriptions.{books}
 use Rattle.desk_rows.specs.Failing.{after_tables, of_first_row}
 use Rattle.desk_rows.specs.Making.{creation, first_contents, first_row, new_layout, new_tables}
 use Rattle.desk_rows.specs.Puts.{row_put}
@@ -36,7 +36,7 @@ returns-clause-commits g c =
     let new = (whole g.S.Store old it.0 last it.2.0 both.1 it.4.0).1 c.begin-tx.ensures.live in (
       it.2.0.taken.0,
       (new.0, new.1, new.2, new.3, shows_on (state g.S.Store last) (state g.S.Store end) (new_layout old.schema) (first_contents new.0) now new.4),
-      (last, run_then g.S.Store (map creation new_tables) (row_put books first_row ∷ []) (with_transaction old) it.0 last it.2.1 (one_ran g.S.Store (row_put books first_row) it.0 last it.4.1 it.3), now),
+      (last, run_then g.S.Store (map creation new_tables) (row_put tables.Book first_row ∷ []) (with_transaction old) it.0 last it.2.1 (one_ran g.S.Store (row_put tables.Book first_row) it.0 last it.4.1 it.3), now),
     )))
 
 pub returns-clause-crash : goal.returns-clause-crash
@@ -55,5 +55,5 @@ returns-clause-crash g c =
     let done = whole g.S.Store old it.0 last it.2.0 opened it.4.0 in
     let new = done.1 c.begin-tx.ensures.live in (
       (done.0, (new.0, new.1, new.2, new.3, new.4.is)),
-      (last, run_then g.S.Store (map creation new_tables) (row_put books first_row ∷ []) (with_transaction old) it.0 last it.2.1 (one_ran g.S.Store (row_put books first_row) it.0 last it.4.1 it.3), refl),
+      (last, run_then g.S.Store (map creation new_tables) (row_put tables.Book first_row ∷ []) (with_transaction old) it.0 last it.2.1 (one_ran g.S.Store (row_put tables.Book first_row) it.0 last it.4.1 it.3), refl),
     )) put is_open))

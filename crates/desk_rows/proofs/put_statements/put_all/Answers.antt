@@ -1,5 +1,6 @@
 use Rattle.std.proofs.Common.{arith, map, refl, subst, sym, ◌∙◌}
 use Rattle.std.specs.Iterator.{Yields}
+use Rattle.std.proofs.lemmas.List.{map_push}
 use Rattle.std.proofs.lemmas.Result.{err_from_is_err_and}
 use Rattle.sqlite.specs.State.{HasCleanDisk}
 use Rattle.sqlite.proofs.InsideLemmas.{keeps_then}
@@ -9,7 +10,7 @@ use Rattle.desk_parts.specs.Puts.{put_of}
 use Rattle.desk_rows.specs.Puts.{PutsAll, statement}
 use Rattle.desk_rows.specs.Turns.{RunInTurn}
 use Rattle.desk_rows.proofs.RowPuts.Changing.{puts_more}
-use Rattle.desk_rows.proofs.Transactions.Turns.{map_then, one_more_ran}
+use Rattle.desk_rows.proofs.Transactions.Turns.{one_more_ran}
 use Rattle.desk_rows.proofs.put_statements.put_all.Goals as goal
 
 pub loop-one-preserved : goal.loop-one-preserved
@@ -24,11 +25,11 @@ loop-one-preserved g c =
       inside = λ clean was. (c.in_ok-put.ensures.put clean).inside;
       put = λ clean.
           let early : HasCleanDisk now = omega (arith, c.put.ensures.survives.clean) in
-          subst (λ xs. PutsAll xs old new) (sym (map_then put_of c.loop-one.yielded c.in-Some.one))
+          subst (λ xs. PutsAll xs old new) (sym (map_push put_of c.loop-one.yielded c.in-Some.one))
           (puts_more (map put_of c.loop-one.yielded) (put_of c.in-Some.one) old now new (c.loop-one.invariant.put early) (λ committed l contents there was. (c.in_ok-put.ensures.put clean).put committed l contents there was));
       ran = λ clean.
           let early : HasCleanDisk now = omega (arith, c.put.ensures.survives.clean) in
-          subst (λ xs. RunInTurn g.S.Store (map statement xs) c.args.tx.now.conn.now c.put.new.tx.conn.now) (sym (map_then put_of c.loop-one.yielded c.in-Some.one))
+          subst (λ xs. RunInTurn g.S.Store (map statement xs) c.args.tx.now.conn.now c.put.new.tx.conn.now) (sym (map_push put_of c.loop-one.yielded c.in-Some.one))
           (one_more_ran g.S.Store statement (map put_of c.loop-one.yielded) (put_of c.in-Some.one) c.args.tx.now.conn.now c.loop-one.tx.conn.now c.put.new.tx.conn.now (c.loop-one.invariant.ran early) (c.in_ok-put.ensures.put clean).ran c.put.ensures.survives);
     }
 

@@ -1,5 +1,6 @@
-use Rattle.std.proofs.Common.{◌≡◌, ◌+◌, ◌<◌, ◌++◌, ℕ, suc, Bool, not, true, false, cond, List, [], ◌∷◌, get_or, length, map, take, drop, arith, rules, refl, ap, sym, subst, true≢false, ◌∙◌}
+use Rattle.std.proofs.Common.{◌≡◌, ◌+◌, ◌<◌, ◌++◌, ℕ, suc, Bool, not, true, false, cond, List, [], ◌∷◌, get_or, length, map, take, drop, rules, refl, ap, sym, subst, true≢false, ◌∙◌}
 use Rattle.std.proofs.Math.Facts.{to_z-of_z}
+use Rattle.std.proofs.lemmas.List.{map_more}
 use mir.Syntax.{w64}
 use Rattle.std.specs.List.{IsDistinct, list_any}
 use Rattle.std.specs.Ordering.{int_cmp, int_eq}
@@ -7,7 +8,7 @@ use Rattle.std.specs.BTreeMap.{is_at}
 use Rattle.std.specs.BTreeSet.{contains}
 use Rattle.desk_parts.specs.Rows.{StoredTab}
 use Rattle.desk_rows.proofs.RowPuts.Distinct.{among_more, more_apart, not_apart}
-use Rattle.desk_rows.proofs.Schema.MadeTables.{map_more, map_split}
+use Rattle.desk_rows.proofs.Schema.MadeTables.{map_split}
 use Rattle.desk_rows.proofs.read.have_own_rowids.Goals as goal
 
 was_there : (b new : Bool) → new ≡ not b → new ≡ false → b ≡ true
@@ -22,9 +23,7 @@ was_new false new is some = refl
 grown : (tabs : List StoredTab) (at : ℕ) (t : StoredTab) → at < length tabs → t ≡ get_or tabs at t
     → map (λ (t : StoredTab). t.rowid) (take (at + 1) tabs) ≡ map (λ (t : StoredTab). t.rowid) (take at tabs) ++ t.rowid ∷ []
 grown tabs at t within is =
-    let next : at + 1 ≡ suc at = omega arith in
-    let more = map_more (λ (t : StoredTab). t.rowid) tabs at t within in
-    ap (λ n. map (λ (t : StoredTab). t.rowid) (take n tabs)) next ∙ more
+    map_more (λ (t : StoredTab). t.rowid) tabs at t within
     ∙ ap (λ (u : StoredTab). map (λ (t : StoredTab). t.rowid) (take at tabs) ++ u.rowid ∷ []) (sym is)
 
 whole : (tabs : List StoredTab) (at : ℕ) (t : StoredTab) → at < length tabs → t ≡ get_or tabs at t

@@ -6,7 +6,6 @@ use Rattle.desk_rows.specs.Commits.{making_tables}
 use Rattle.desk_rows.specs.Failing.{after_tables, of_items}
 use Rattle.desk_rows.specs.Making.{creation}
 use Rattle.desk_rows.specs.Puts.{statement}
-use Rattle.desk_rows.specs.Tables.{which}
 use Rattle.desk_rows.specs.Turns.{with_transaction}
 use Rattle.desk_rows.proofs.Commits.{commits}
 use Rattle.desk_rows.proofs.Transactions.Ending.{leaves_what_ran}
@@ -20,7 +19,7 @@ returns-clause-commits g c =
     let old = c.args.conn.now in
     let last = c.make_and_put-ran.new.tx.conn.now in
     let end = c.end.new.tx.0 in
-    let ws = map which c.args.tables.now in
+    let ws = c.args.tables.now in
     let putting = of_items g.S.Store g.I.Iterator.next_gives c.args.puts in
     let same : c.conn-1.given.0 ≡ end = search rules in
     rw same (λ clean.
@@ -44,7 +43,7 @@ returns-clause-crash g c =
     let old = c.args.conn.now in
     let last = c.make_and_put-ran.new.tx.conn.now in
     let end = c.end.new.tx.0 in
-    let ws = map which c.args.tables.now in
+    let ws = c.args.tables.now in
     let same : c.conn-1.given.0 ≡ end = search rules in
     rw same (leaves_what_ran g.S.Store c.make_and_put-ran.result old last (state g.S.Store end)
     ((making_tables g.S.Store ws g.I.Iterator.next_gives c.args.puts).Left old)

@@ -4,9 +4,9 @@ use Rattle.std.proofs.lemmas.Result.{err_from_is_err_and}
 use Rattle.sqlite.proofs.StateLemmas.{survives_then}
 use Rattle.sqlite.specs.Held.{state}
 use Rattle.sqlite.specs.State.{HasCleanDisk}
+use Rattle.desk_parts.specs.declared.file_table.FileTable.TheVariants as tables
 use Rattle.desk_parts.specs.declared.rows.BookRow.{BookRow}
 use Rattle.desk_rows.specs.TableQuery.{AnyRows}
-use Rattle.desk_rows.specs.Descriptions.{books}
 use Rattle.desk_store.specs.Formats.{Format, IsOfFormat}
 use Rattle.desk_store.specs.Found.{CanAllAnswer}
 use Rattle.desk_store.specs.Opening.{CanAllBeRead, ShowsReadable, Stays, TellsOfRow, format_in, format_read, has_tables}
@@ -38,8 +38,8 @@ pub returns-in_err-book-clause-told : goal.returns-in_err-book-clause-told
 returns-in_err-book-clause-told g c clean l file those was =
     let old = state g.S.Store c.args.conn.now in
     let rows = c.in_ok-books.books.items in
-    let there : l.has books ≡ true = has_books l file old those was (sym c.has_table.ensures ∙ c.if-not-has_table.false) in
-    let same : IsPermutation (file.rows books) rows = as_listed _ _ ((c.in_ok-books.ensures.answers clean).shows l file there was) in
+    let there : l.has tables.Book ≡ true = has_books l file old those was (sym c.has_table.ensures ∙ c.if-not-has_table.false) in
+    let same : IsPermutation (file.rows tables.Book) rows = as_listed _ _ ((c.in_ok-books.ensures.answers clean).shows l file there was) in
     let p = err_from_is_err_and c.from_residual-in_err-book.result c.from_residual-in_err-book.ensures.1 in
     let told : TellsOfRow rows c.in_err-book.field-0.0 = subst (λ (rows : List BookRow). TellsOfRow rows c.in_err-book.field-0.0) c.deref.ensures.value c.in_err-book.ensures.told in
     rw (p.1, p.2) (row_told l file rows there same c.in_err-book.field-0.0 told)
@@ -97,7 +97,7 @@ returns-in_err-parts-clause-refused g c clean =
     let mid = state g.S.Store c.read_rows.new.conn in
     let new = state g.S.Store c.read_rest.new.conn in
     let early : HasCleanDisk mid = omega (arith, clean, c.read_rest.ensures.survives.clean) in
-    let so_far : Stays old mid = stays_read (λ xs. xs.items) books (λ x. x) AnyRows old mid c.in_ok-books.books (c.in_ok-books.ensures.answers early) in
+    let so_far : Stays old mid = stays_read (λ xs. xs.items) tables.Book (λ x. x) AnyRows old mid c.in_ok-books.books (c.in_ok-books.ensures.answers early) in
     let p = err_from_is_err_and c.from_residual-in_err-parts.result c.from_residual-in_err-parts.ensures.1 in
     rw (p.1, p.2) (λ refusal. stays_then old mid new so_far (c.in_err-parts.ensures.refused clean (refusal_is _ refusal)).0)
 
@@ -137,7 +137,7 @@ returns-clause-unchanged g c clean =
     let mid = state g.S.Store c.read_rows.new.conn in
     let new = state g.S.Store c.read_rest.new.conn in
     let early : HasCleanDisk mid = omega (arith, clean, c.read_rest.ensures.survives.clean) in
-    stays_then old mid new (stays_read (λ xs. xs.items) books (λ x. x) AnyRows old mid c.in_ok-books.books (c.in_ok-books.ensures.answers early)) (c.in_ok-parts.ensures.unchanged clean)
+    stays_then old mid new (stays_read (λ xs. xs.items) tables.Book (λ x. x) AnyRows old mid c.in_ok-books.books (c.in_ok-books.ensures.answers early)) (c.in_ok-parts.ensures.unchanged clean)
 
 pub returns-clause-survives : goal.returns-clause-survives
 returns-clause-survives g c =
@@ -147,7 +147,7 @@ pub returns-in_err-books-clause-stops : goal.returns-in_err-books-clause-stops
 returns-in_err-books-clause-stops g c clean =
     let p = err_from_is_err_and c.from_residual.result c.from_residual.ensures.1 in
     rw (p.1, p.2)
-    (λ none. reading _ (record { table = books; before = c.args.conn.now; stays = same_state (state g.S.Store c.args.conn.now); fails = (c.in_err-books.ensures.answers clean).told }) refl)
+    (λ none. reading _ (record { table = tables.Book; before = c.args.conn.now; stays = same_state (state g.S.Store c.args.conn.now); fails = (c.in_err-books.ensures.answers clean).told }) refl)
 
 pub returns-in_err-book-clause-stops : goal.returns-in_err-book-clause-stops
 returns-in_err-book-clause-stops g c clean =
@@ -159,7 +159,7 @@ returns-in_err-parts-clause-stops g c clean =
     let old = state g.S.Store c.args.conn.now in
     let mid = state g.S.Store c.read_rows.new.conn in
     let early : HasCleanDisk mid = omega (arith, clean, c.read_rest.ensures.survives.clean) in
-    let so_far : Stays old mid = stays_read (λ xs. xs.items) books (λ x. x) AnyRows old mid c.in_ok-books.books (c.in_ok-books.ensures.answers early) in
+    let so_far : Stays old mid = stays_read (λ xs. xs.items) tables.Book (λ x. x) AnyRows old mid c.in_ok-books.books (c.in_ok-books.ensures.answers early) in
     let p = err_from_is_err_and c.from_residual-in_err-parts.result c.from_residual-in_err-parts.ensures.1 in
     rw (p.1, p.2)
     (λ none. reading _ (stops_after g.S.Store c.args.conn.now c.read_rows.new.conn (state g.S.Store c.read_rest.new.conn) _ so_far (c.in_err-parts.ensures.stops clean)) refl)

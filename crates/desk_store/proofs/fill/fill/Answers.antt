@@ -1,12 +1,11 @@
-use Rattle.std.proofs.Common.{List, map, refl, subst}
+use Rattle.std.proofs.Common.{List, refl, subst}
 use Rattle.sqlite.specs.Held.{state}
 use Rattle.sqlite.proofs.StateLemmas.{survives_weaker}
+use Rattle.desk_parts.specs.declared.file_table.FileTable.{FileTable}
 use Rattle.desk_parts.specs.Puts.{LendsFirst, RowPut}
-use Rattle.desk_rows.specs.Descriptions.{Which}
 use Rattle.desk_rows.specs.Failing.{FailsToChange, of_items}
 use Rattle.desk_rows.specs.Turns.{with_transaction}
 use Rattle.desk_rows.specs.Making.{IsFileWithTables, WritesWithTables}
-use Rattle.desk_rows.specs.Tables.{which}
 use Rattle.desk_rows.proofs.RowPuts.LentPuts.{all_lent}
 use Rattle.desk_store.proofs.Filled.{are_written, holds_gained, shows_gained}
 use Rattle.desk_store.proofs.fill.fill.Goals as goal
@@ -21,7 +20,7 @@ returns-in-Ok-clause-filled g c clean l stands =
     let new = state g.S.Store c.write_with_tables.new.conn in
     let puts = c.filling.result in
     let written = (c.in-Ok.ensures.commits clean).shown in
-    let writes = subst (λ (xs : List RowPut). WritesWithTables (map which c.file_tables.result.now) xs old new) (all_lent puts written.0 written.1) written.2.0 in
+    let writes = subst (λ (xs : List RowPut). WritesWithTables c.file_tables.result.now xs old new) (all_lent puts written.0 written.1) written.2.0 in
     shows_gained c.args.tables c.args.book.now puts c.filling.ensures c.file_tables.result.now c.file_tables.ensures old new writes l stands
 
 pub returns-in-Ok-clause-open : goal.returns-in-Ok-clause-open
@@ -35,7 +34,7 @@ returns-in-Ok-clause-crash g c =
     let old = state g.S.Store c.args.conn.now in
     let puts = c.filling.result in
     survives_weaker old (state g.S.Store c.write_with_tables.new.conn) _ _ (λ clean db left.
-    let file = subst (λ (xs : List RowPut). IsFileWithTables (map which c.file_tables.result.now) xs old db) (all_lent puts left.0 left.1) left.2.0 in
+    let file = subst (λ (xs : List RowPut). IsFileWithTables c.file_tables.result.now xs old db) (all_lent puts left.0 left.1) left.2.0 in
     holds_gained c.args.tables c.args.book.now puts c.filling.ensures c.file_tables.result.now c.file_tables.ensures old db file)
     c.write_with_tables.ensures.crash
 
@@ -44,7 +43,7 @@ returns-in-Err-clause-crash g c =
     let old = state g.S.Store c.args.conn.now in
     let puts = c.filling.result in
     survives_weaker old (state g.S.Store c.write_with_tables.new.conn) _ _ (λ clean db left.
-    let file = subst (λ (xs : List RowPut). IsFileWithTables (map which c.file_tables.result.now) xs old db) (all_lent puts left.0 left.1) left.2.0 in
+    let file = subst (λ (xs : List RowPut). IsFileWithTables c.file_tables.result.now xs old db) (all_lent puts left.0 left.1) left.2.0 in
     holds_gained c.args.tables c.args.book.now puts c.filling.ensures c.file_tables.result.now c.file_tables.ensures old db file)
     c.write_with_tables.ensures.crash
 
@@ -53,7 +52,7 @@ returns-in-Err-clause-stops g c clean = record {
   puts = c.filling.result;
   fill = c.filling.ensures;
   error = c.in-Err.error;
-  fails = subst (λ (ws : List Which). FailsToChange g.S.Store ws (of_items g.S.Store LendsFirst c.filling.result) (with_transaction c.args.conn.now) (state g.S.Store c.write_with_tables.new.conn) c.in-Err.error)
+  fails = subst (λ (ws : List FileTable). FailsToChange g.S.Store ws (of_items g.S.Store LendsFirst c.filling.result) (with_transaction c.args.conn.now) (state g.S.Store c.write_with_tables.new.conn) c.in-Err.error)
       c.file_tables.ensures (c.in-Err.ensures.commits clean).fails;
   is_told = c.stopped_by.ensures.told;
   as_before = (c.in-Err.ensures.commits clean).as_before;

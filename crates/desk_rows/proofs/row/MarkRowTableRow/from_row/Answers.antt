@@ -1,7 +1,7 @@
 use Rattle.std.proofs.Common.{arith, refl, rules}
 use Rattle.std.proofs.lemmas.Str.{IsUtf8-string_bytes}
+use Rattle.desk_parts.specs.declared.file_table.FileTable.TheVariants as tables
 use Rattle.desk_rows.specs.TableQuery.{query_of}
-use Rattle.desk_rows.specs.Descriptions.{marks}
 use Rattle.desk_rows.proofs.TableReads.Beginnings.{int_there}
 use Rattle.desk_rows.proofs.row.MarkRowTableRow.from_row.Goals as goal
 
@@ -12,10 +12,10 @@ pub returns-clause-reads : goal.returns-clause-reads
 returns-clause-reads c = search rules
 
 pub returns-in_err-integer-4-clause-kinds : goal.returns-in_err-integer-4-clause-kinds
-returns-in_err-integer-4-clause-kinds c all = absurd (c.in_err-integer-4.ensures.kind.1 (int_there (query_of marks).kinds c.args.row.now 3 (omega arith) refl all))
+returns-in_err-integer-4-clause-kinds c all = absurd (c.in_err-integer-4.ensures.kind.1 (int_there (query_of tables.Mark).kinds c.args.row.now 3 (omega arith) refl all))
 
 pub returns-in_err-integer-5-clause-kinds : goal.returns-in_err-integer-5-clause-kinds
-returns-in_err-integer-5-clause-kinds c all = absurd (c.in_err-integer-5.ensures.kind.1 (int_there (query_of marks).kinds c.args.row.now 5 (omega arith) refl all))
+returns-in_err-integer-5-clause-kinds c all = absurd (c.in_err-integer-5.ensures.kind.1 (int_there (query_of tables.Mark).kinds c.args.row.now 5 (omega arith) refl all))
 
 pub returns-in_err-integer-6-clause-kinds : goal.returns-in_err-integer-6-clause-kinds
-returns-in_err-integer-6-clause-kinds c all = absurd (c.in_err-integer-6.ensures.kind.1 (int_there (query_of marks).kinds c.args.row.now 6 (omega arith) refl all))
+returns-in_err-integer-6-clause-kinds c all = absurd (c.in_err-integer-6.ensures.kind.1 (int_there (query_of tables.Mark).kinds c.args.row.now 6 (omega arith) refl all))
