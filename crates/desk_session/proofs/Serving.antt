@@ -148,6 +148,25 @@ module _ (start book : Book) (over : SessionEnds) (c : Option (List ℕ)) (input
   all-left e lacks clean l may =
       held-left l start book e so_far.turns so_far.given over.new so_far.session (goes-held so_far.turns so_far.goes) lacks (so_far.kept clean l may)
 
+  -- the session ends without another turn
+  ended-here : (e : Ended) (bytes : List ℕ) (used : UsesInput over.unread c unread new bytes) → AreRequests e (IsAtEnd c) used.read (requests_of so_far.turns)
+      → EndsAs e so_far.turns → IsHonest e (length used.read) having_read → EndsFlushed e so_far.turns having_read → MayLack e [] → Serves start book e having_read
+  ended-here e bytes used requests ends honest flushed lacks = record {
+    read = used.read;
+    output = so_far.output;
+    turns = so_far.turns;
+    given = so_far.given;
+    consumes = used.consumes;
+    requests = requests;
+    session = so_far.session;
+    written = so_far.written;
+    appends = so_far.appends;
+    ends = ends;
+    honest = honest;
+    flushed = flushed;
+    left = all-left e lacks;
+  }
+
   -- the input is at its end
   pub Serves-done : ReadsRequest over.ReadsFail over.left c input new (Ok None) → Serves start book ended.Done having_read
   Serves-done read =
@@ -157,21 +176,9 @@ module _ (start book : Book) (over : SessionEnds) (c : Option (List ℕ)) (input
       used.parts
       ∙ (ap (λ (t : List ℕ). (so_far.bytes ++ read.bytes) ++ t) read.found.2
       ∙ (append-nil (so_far.bytes ++ read.bytes) ∙ (ap (λ (t : List ℕ). so_far.bytes ++ t) read.found.0 ∙ append-nil so_far.bytes))) in
-      record {
-        read = used.read;
-        output = so_far.output;
-        turns = so_far.turns;
-        given = so_far.given;
-        consumes = used.consumes;
-        requests = (knows.0, CutInto-all (input.is_over ≡ true) used.read (requests_of so_far.turns) (subst (λ (t : List ℕ). CutInto (input.is_over ≡ true) t (requests_of so_far.turns)) (sym all) so_far.cut));
-        session = so_far.session;
-        written = so_far.written;
-        appends = so_far.appends;
-        ends = so_far.goes;
-        honest = tt;
-        flushed = so_far.passed;
-        left = all-left ended.Done refl;
-      }
+      ended-here ended.Done (so_far.bytes ++ read.bytes) used
+      (knows.0, CutInto-all (input.is_over ≡ true) used.read (requests_of so_far.turns) (subst (λ (t : List ℕ). CutInto (input.is_over ≡ true) t (requests_of so_far.turns)) (sym all) so_far.cut))
+      so_far.goes tt so_far.passed refl
 
   -- a read failed
   pub Serves-input : (failed : Failure) → ReadsRequest over.ReadsFail over.left c input new (Err failed) → Serves start book ended.Input having_read
@@ -182,22 +189,10 @@ module _ (start book : Book) (over : SessionEnds) (c : Option (List ℕ)) (input
       used.parts
       ∙ (ap (λ (t : List ℕ). (so_far.bytes ++ read.bytes) ++ t) read.found.1 ∙ append-nil (so_far.bytes ++ read.bytes)) in
       let size : new.total ≡ length used.read = let n = used.total in omega arith in
-      record {
-        read = used.read;
-        output = so_far.output;
-        turns = so_far.turns;
-        given = so_far.given;
-        consumes = used.consumes;
-        requests = subst (λ (t : List ℕ). WholeRequests t (requests_of so_far.turns)) (sym all)
-            (CutInto-whole (input.is_over ≡ true) read.bytes going read.found.0 so_far.bytes (requests_of so_far.turns) so_far.cut);
-        session = so_far.session;
-        written = so_far.written;
-        appends = so_far.appends;
-        ends = so_far.goes;
-        honest = elim read.found.3 [ inl fails ↦ inl fails | inr many ↦ inr (subst (λ (n : ℕ). most_input ≤ n) size many) ];
-        flushed = so_far.passed;
-        left = all-left ended.Input refl;
-      }
+      ended-here ended.Input (so_far.bytes ++ read.bytes) used
+      (subst (λ (t : List ℕ). WholeRequests t (requests_of so_far.turns)) (sym all)
+      (CutInto-whole (input.is_over ≡ true) read.bytes going read.found.0 so_far.bytes (requests_of so_far.turns) so_far.cut))
+      so_far.goes (elim read.found.3 [ inl fails ↦ inl fails | inr many ↦ inr (subst (λ (n : ℕ). most_input ≤ n) size many) ]) so_far.passed refl
 
   -- ---- one turn more
 
