@@ -26,8 +26,8 @@ use Rattle.desk_model.specs.NormalForm.{IsUnbarred, normal_form}
 use Rattle.desk_command.specs.Characters.{AreCharacters}
 use Rattle.desk_book.proofs.Plans.EntryPlanned.{ChangesPrint-entered}
 use Rattle.desk_model.proofs.Books.SoundBooks.{short-sound}
-use Rattle.desk_book.proofs.Plans.EntryPlanning.{accepts_entry, halted, undefined, unfit}
-use Rattle.desk_model.proofs.Commands.Turns.{passes_to, past_fit, past_text, same_some, short_text, to_turn}
+use Rattle.desk_book.proofs.Plans.EntryPlanning.{accepts_entry, halted, undefined, unfit, unstruck}
+use Rattle.desk_model.proofs.Commands.Turns.{passes_to, past_text, same_some, short_text, to_turn}
 use Rattle.desk_model.proofs.Books.HistoryLists.{corrected_print-corrects}
 use Rattle.desk_model.proofs.Commands.Judging.{Passes-past}
 use Rattle.desk_book.proofs.Plans.Planning.{no_memory, turned_down}
@@ -59,7 +59,7 @@ module _ (book : Book) (id start count : ℕ) (text who : List ℕ) where
         p = shown.paragraph
 
         fit : Passes book None command 90
-        fit = to_turn book command 70 90 refl (past_fit book command id refl refl refl cleaned p shown.found (ap (λ (q : Paragraph). q.struck) shown.kept_is ∙ free))
+        fit = to_turn book command 70 90 refl (unstruck book command id refl refl refl cleaned kept meaning shown free)
 
         pub bad_span : (told : Refusal) → (told ≡ BadSpan) × (length kept.print < start + count) → IsTurnedDown book command told
         bad_span told (is, past) =

@@ -1,5 +1,5 @@
 -- How a command that brings an entry into a history is checked while no version is expected.
-use Rattle.std.proofs.Common.{◌≡◌, ℕ, ◌<◌, ◌≤◌, true, List, [], ◌∷◌, length, Option, Some, None, refl, sym, ap, subst, ◌∙◌, arith, inl, inr}
+use Rattle.std.proofs.Common.{◌≡◌, ℕ, ◌<◌, ◌≤◌, true, false, List, [], ◌∷◌, length, Option, Some, None, refl, sym, ap, subst, ◌∙◌, arith, inl, inr}
 use Rattle.std.specs.Option.{option_and_then}
 use Rattle.std.proofs.lemmas.List.{length-map}
 use Rattle.louis_table.specs.Meaning.{Meaning}
@@ -13,6 +13,7 @@ use Rattle.desk_command.specs.declared.refusal.Refusal.{Refusal}
 use Rattle.desk_command.specs.declared.refusal.Refusal.TheVariants.{Full, NoMemory, Struck, Undefined}
 use Rattle.desk_model.specs.Book.{Book, Paragraph, paragraph_of, text_of}
 use Rattle.desk_book.specs.Corrections.{HaltsEntry, HaltsPrint, IsUnfit, TakesEntry}
+use Rattle.desk_book.specs.Display.{IsShown}
 use Rattle.desk_book.specs.Histories.{entry_kept}
 use Rattle.desk_model.specs.Judging.{Passes, first_turn_after_asking}
 use Rattle.desk_book.specs.Kept.{paragraph_kept}
@@ -22,7 +23,7 @@ use Rattle.desk_model.specs.Named.{Changed, history_grown, live_paragraph, parag
 use Rattle.desk_model.specs.Refusals.{HasLongNote, HasLongText, IsAccepted, new_print, print_and_table, print_made, print_to_translate}
 use Rattle.desk_model.proofs.Commands.Judging.{Passes-past, skips}
 use Rattle.desk_book.proofs.Plans.Planning.{AreNotAllThere-first, full_version, no_memory, no_paragraph, past_print, too_long, turned_down}
-use Rattle.desk_model.proofs.Commands.Turns.{accepted_after, changed-print, changed-translated, past_lengths, past_there, past_version, short_print, to_turn}
+use Rattle.desk_model.proofs.Commands.Turns.{accepted_after, changed-print, changed-translated, past_fit, past_lengths, past_there, past_version, short_print, to_turn}
 
 module _ (book : Book) (command : Command) (id : ℕ) (named : paragraphs_named command ≡ id ∷ []) (live : live_paragraph command ≡ Some id) (skip : skips command 40 60 ≡ true)
     (passes : Passes book None command 30) where
@@ -30,6 +31,10 @@ module _ (book : Book) (command : Command) (id : ℕ) (named : paragraphs_named 
   pub unfit : (told : Refusal) → IsUnfit book id told → IsTurnedDown book command told
   unfit told (inl (is, missing)) = no_paragraph book command told passes (subst (AreNotAllThere book) (sym named) (AreNotAllThere-first book id [] missing)) is
   unfit told (inr (is, (p, found, struck))) = turned_down book command 60 Struck told (past_there book command id named live skip passes p found) refl (record { id = id; paragraph = p; named = live; found = found; struck = struck }) is
+
+  -- it is there, and isn't struck
+  pub unstruck : (kept : KeptParagraph) (meaning : Meaning) (shown : IsShown book id kept meaning) → kept.struck ≡ false → Passes book None command 70
+  unstruck kept meaning shown free = past_fit book command id named live skip passes shown.paragraph shown.found (ap (λ (q : Paragraph). q.struck) shown.kept_is ∙ free)
 
 module _ (book : Book) (command : Command) (id : ℕ) (p : Paragraph) (there : paragraph_of book id ≡ Some p) (kept : KeptParagraph) (kept_is : p ≡ paragraph_kept (id, kept)) (print source : List ℕ) (meaning : Meaning)
     (found : text_of book p.table ≡ Some source) (means : Means source meaning) (grows : history_grown command ≡ Some id) (change : Paragraph → Option (List ℕ))

@@ -1,9 +1,7 @@
 -- How a new mark, and the resolving of one, are checked while no version is expected.
-use Rattle.std.proofs.Common.{◌≡◌, ℕ, ◌<◌, ◌≤◌, false, true, List, length, Some, None, refl, sym, ap, subst, ◌∙◌, arith, inl, inr}
+use Rattle.std.proofs.Common.{◌≡◌, ℕ, ◌<◌, ◌≤◌, false, true, List, length, Some, None, refl, sym, ap, subst, ◌∙◌, arith, inr}
 use Rattle.std.proofs.lemmas.Bool.{both_ways}
 use Rattle.louis_table.specs.Meaning.{Meaning}
-use Rattle.louis_table.specs.Table.{Means}
-use Rattle.louis_table.proofs.OneMeaning.{one_meaning}
 use Rattle.louis_translate.specs.Braille.{braille}
 use Rattle.louis_translate.specs.Tiling.{Tiles}
 use Rattle.louis_translate.proofs.Tilings.{one_cover}
@@ -14,7 +12,7 @@ use Rattle.desk_book.specs.declared.paragraphs.Paragraph.{Paragraph as KeptParag
 use Rattle.desk_command.specs.declared.refusal.Limit.TheVariants.{Marks, Version}
 use Rattle.desk_command.specs.declared.refusal.Refusal.{Refusal}
 use Rattle.desk_command.specs.declared.refusal.Refusal.TheVariants.{BadSpan, Full, NoMark, NoMemory, Resolved, TooLong}
-use Rattle.desk_model.specs.Book.{Book, Mark as BookMark, Paragraph, mark_of, text_of}
+use Rattle.desk_model.specs.Book.{Book, Mark as BookMark, Paragraph, mark_of}
 use Rattle.desk_book.specs.Corrections.{IsUnfit}
 use Rattle.desk_model.specs.Judging.{Passes}
 use Rattle.desk_book.specs.Kept.{mark_kept}
@@ -26,9 +24,10 @@ use Rattle.desk_model.specs.Refusals.{IsAccepted}
 use Rattle.desk_book.specs.Display.{IsShown}
 use Rattle.desk_model.specs.NormalForm.{IsUnbarred}
 use Rattle.desk_model.specs.Translation.{AreMarked, LacksCells}
-use Rattle.desk_model.proofs.Commands.Turns.{accepted_after, passes_to, past_fit, past_lengths, past_text, past_version, same_some, to_turn}
-use Rattle.desk_book.proofs.Plans.EntryPlanning.{unfit}
+use Rattle.desk_model.proofs.Commands.Turns.{accepted_after, passes_to, past_lengths, past_text, past_version, same_some, to_turn}
+use Rattle.desk_book.proofs.Plans.EntryPlanning.{unfit, unstruck}
 use Rattle.desk_model.proofs.Commands.Judging.{Passes-accepted, Passes-past}
+use Rattle.desk_model.proofs.Commands.MarkedPlaces.{has_cells as cells_there}
 use Rattle.desk_book.proofs.Plans.Planning.{full_version, no_memory, turned_down}
 
 module _ (book : Book) (id cell count : ℕ) (note : List ℕ) where
@@ -47,7 +46,7 @@ module _ (book : Book) (id cell count : ℕ) (note : List ℕ) where
       p = shown.paragraph
 
       fit : Passes book None command 90
-      fit = to_turn book command 70 90 refl (past_fit book command id refl refl refl cleaned p shown.found (ap (λ (q : Paragraph). q.struck) shown.kept_is ∙ free))
+      fit = to_turn book command 70 90 refl (unstruck book command id refl refl refl cleaned kept meaning shown free)
 
       pub has_cells : (print cells : List ℕ) → print ≡ kept.print → cells ≡ kept.cells → HasCells meaning print (length cells)
       has_cells print cells same these choices tiles =
@@ -71,21 +70,10 @@ module _ (book : Book) (id cell count : ℕ) (note : List ℕ) where
             record { paragraph = p; found = shown.found; meaning = meaning; choices = shown.choices; translated = shown.translated; starts = at.2; ends = at.3 }
 
         not_lacking : ¬ LacksCells book id cell count
-        not_lacking l =
-            let both : Some p ≡ Some l.paragraph = sym shown.found ∙ l.found in
-            let one : p ≡ l.paragraph = cc in
-            let texts : Some shown.translated.text ≡ Some l.translated.text = sym shown.translated.found ∙ (ap (λ (q : Paragraph). text_of book q.table) one ∙ l.translated.found) in
-            let text : shown.translated.text ≡ l.translated.text = cc in
-            let meanings : l.meaning ≡ meaning = one_meaning shown.translated.text l.meaning meaning (subst (λ (t : List ℕ). Means t l.meaning) (sym text) l.translated.means) shown.translated.means in
-            let tiles : Tiles meaning (print_of p) l.choices = subst (λ (m : Meaning). Tiles m (print_of p) l.choices) meanings (subst (λ (q : Paragraph). Tiles l.meaning (print_of q) l.choices) (sym one) l.translated.tiles) in
-            let at = its_span l.choices tiles in
+        not_lacking =
+            let at = its_span shown.choices shown.translated.tiles in
             let some = at.0 in
-            let within = at.1 in
-            let many : length (braille l.meaning (print_of l.paragraph) l.choices) ≡ length (braille meaning (print_of p) l.choices) = λ i. length (braille (meanings i) (print_of (sym one i)) l.choices) in
-            elim l.lacks [
-              | inl none ↦ omega arith
-              | inr past ↦ omega arith
-            ]
+            cells_there book id cell count (record { paragraph = p; meaning = meaning; choices = shown.choices }) (shown.found, shown.translated) (λ none. omega arith) at.1
 
         spanned : Passes book None command 110
         spanned = Passes-past book None command BadSpan 110 refl fit not_lacking

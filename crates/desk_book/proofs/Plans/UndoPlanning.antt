@@ -27,8 +27,8 @@ use Rattle.desk_model.specs.Sound.{AreSoundEntries}
 use Rattle.desk_model.specs.Step.{next_with_entry}
 use Rattle.desk_book.proofs.Plans.EntryPlanned.{ChangesPrint-entered}
 use Rattle.desk_model.proofs.Books.SoundBooks.{short-sound}
-use Rattle.desk_book.proofs.Plans.EntryPlanning.{accepts_entry, halted, lacking, undefined, unfit}
-use Rattle.desk_model.proofs.Commands.Turns.{passes_to, past_fit, to_turn}
+use Rattle.desk_book.proofs.Plans.EntryPlanning.{accepts_entry, halted, lacking, undefined, unfit, unstruck}
+use Rattle.desk_model.proofs.Commands.Turns.{passes_to, to_turn}
 use Rattle.desk_model.proofs.Commands.Judging.{Passes-past}
 use Rattle.desk_book.proofs.Plans.Planning.{turned_down}
 use Rattle.desk_book.proofs.Kept.UndonePrints.{taken-span, text-span, undone-length, undone-print}
@@ -57,7 +57,7 @@ module _ (book : Book) (id : ℕ) where
     sound_kept = subst (λ (q : Paragraph). AreSoundEntries q.original q.history) shown.kept_is shown.sound.history.entries
 
     fit : Passes book None command 100
-    fit = to_turn book command 70 100 refl (past_fit book command id refl refl refl start_here p shown.found (ap (λ (q : Paragraph). q.struck) shown.kept_is ∙ free))
+    fit = to_turn book command 70 100 refl (unstruck book command id refl refl refl start_here kept meaning shown free)
 
     pub nothing_here : (told : Refusal) → newest (entries_kept kept.history) ≡ None → told ≡ NothingToUndo → IsTurnedDown book command told
     nothing_here told none is =

@@ -1,5 +1,5 @@
 -- The same is damaged in rows in any order.
-use Rattle.std.proofs.Common.{◌≡◌, ℕ, ℤ, List, Option, None, Some, filter, refl, sym, ◌∙◌, subst, inl, inr}
+use Rattle.std.proofs.Common.{◌≡◌, ℕ, ℤ, List, Contains, Option, None, Some, filter, refl, sym, ◌∙◌, subst, inl, inr}
 use Rattle.std.specs.List.Sorted.{IsPermutation}
 use Rattle.std.specs.Ordering.{int_eq}
 use Rattle.std.proofs.lemmas.List.Sorted.{Contains-permutation, IsPermutation-sym, IsPermutation-trans, length_permutation}
@@ -30,6 +30,11 @@ module _ {X : Type 0} (key : X → ℤ) (xs ys : List X) (moved : IsPermutation 
       | inr (row, there, before) ↦ inr (row, Contains-permutation xs ys row moved there, before)
     ];
   }
+
+  -- a row with this key that isn't sound is there in any order
+  unsound-moved : (Sound OtherSound : X → Type 0) → ((row : X) → OtherSound row → Sound row) → (id : ℤ)
+      → (row : X) × Contains xs row × (key row ≡ id) × ¬ Sound row → (row : X) × Contains ys row × (key row ≡ id) × ¬ OtherSound row
+  unsound-moved Sound OtherSound back id (row, there, is, unsound) = (row, Contains-permutation xs ys row moved there, is, λ sound. unsound (back row sound))
 
 -- ---- tab
 
@@ -123,48 +128,29 @@ module _ (a b : FileRows) (same : AreSameRows a b) where
   back = turned a b same
 
   damaged-para : (id : ℤ) → IsDamagedPara a.tabs a.paras id → IsDamagedPara b.tabs b.paras id
-  damaged-para id (row, there, is, unsound) = (
-    row,
-    Contains-permutation a.paras b.paras row same.paras there,
-    is,
-    λ sound. unsound (sound-para b.tabs a.tabs b.paras a.paras back.tabs back.paras row sound),
-  )
+  damaged-para =
+      unsound-moved (λ (row : ParaRow). row.id) a.paras b.paras same.paras (IsSoundParaRow a.tabs a.paras) (IsSoundParaRow b.tabs b.paras)
+      (sound-para b.tabs a.tabs b.paras a.paras back.tabs back.paras)
 
   damaged-entries : (id : ℤ) → IsDamagedEntries a.paras (entries_in a.entries) id → IsDamagedEntries b.paras (entries_in b.entries) id
-  damaged-entries id (inl (para, there, is, unsound)) =
+  damaged-entries id (inl damage) =
       let entries = entries_in-moved b.entries a.entries back.entries in
-      inl (
-        para,
-        Contains-permutation a.paras b.paras para same.paras there,
-        is,
-        λ sound. unsound (sound-entries (entries_in b.entries) (entries_in a.entries) entries para sound),
-      )
-  damaged-entries id (inr (row, there, is, none)) =
+      inl (unsound-moved (λ (para : ParaRow). para.id) a.paras b.paras same.paras (HasSoundEntries (entries_in a.entries)) (HasSoundEntries (entries_in b.entries))
+      (sound-entries (entries_in b.entries) (entries_in a.entries) entries) id damage)
+  damaged-entries id (inr damage) =
       let entries = entries_in-moved a.entries b.entries same.entries in
-      inr (
-        row,
-        Contains-permutation (entries_in a.entries) (entries_in b.entries) row entries there,
-        is,
-        λ has. none (para-moved b.paras a.paras back.paras id has),
-      )
+      inr (unsound-moved (λ (row : EntryRow). row.entry.para) (entries_in a.entries) (entries_in b.entries) entries (λ row. HasPara a.paras id) (λ row. HasPara b.paras id)
+      (λ row. para-moved b.paras a.paras back.paras id) id damage)
 
   damaged-mark : (id : ℤ) → IsDamagedMark a.paras a.marks id → IsDamagedMark b.paras b.marks id
-  damaged-mark id (row, there, is, unsound) = (
-    row,
-    Contains-permutation a.marks b.marks row same.marks there,
-    is,
-    λ sound. unsound (sound-mark b.paras a.paras b.marks a.marks back.paras back.marks row sound),
-  )
+  damaged-mark =
+      unsound-moved (λ (row : MarkRow). row.id) a.marks b.marks same.marks (IsSoundMarkRow a.paras a.marks) (IsSoundMarkRow b.paras b.marks)
+      (sound-mark b.paras a.paras b.marks a.marks back.paras back.marks)
 
   damaged-cache : (caches others : List ParaCells) → IsPermutation caches others → (id : ℤ) → IsDamagedCache a.tabs a.paras caches id → IsDamagedCache b.tabs b.paras others id
-  damaged-cache caches others moved id (inl (row, there, is, unsound)) =
-      let turns = IsPermutation-sym caches others moved in
-      inl (
-        row,
-        Contains-permutation caches others row moved there,
-        is,
-        λ sound. unsound (sound-cache b.tabs a.tabs b.paras a.paras others caches back.tabs back.paras turns row sound),
-      )
+  damaged-cache caches others moved id (inl damage) =
+      inl (unsound-moved (λ (row : ParaCells). row.para) caches others moved (IsSoundCacheRow a.tabs a.paras caches) (IsSoundCacheRow b.tabs b.paras others)
+      (sound-cache b.tabs a.tabs b.paras a.paras others caches back.tabs back.paras (IsPermutation-sym caches others moved)) id damage)
   damaged-cache caches others moved id (inr (has, none)) =
       inr (para-moved a.paras b.paras same.paras id has, rows_with-moved (λ (row : ParaCells). row.para) caches others moved id ∙ none)
 
