@@ -2,7 +2,8 @@
 use Rattle.std.proofs.Common.{◌≡◌, ℕ, List, map, length, get_or, Option, Some, None, Contains, Result, Ok, Err, refl, sym, ap, subst, ◌∙◌}
 use Rattle.std.specs.Cmp.Lexicographic.{pointwise}
 use Rattle.std.specs.Map.{lookup}
-use Rattle.std.specs.Option.{ok_or}
+use Rattle.std.specs.Borrow.{Bor}
+use Rattle.std.specs.Option.{ok_or, option_copied}
 use Rattle.std.specs.Prelude.{nat_eq, option_map, slice_get, IfErr, IfOk, IfSome, IsSome}
 use Rattle.std.specs.Result.{IsErrAnd}
 use Rattle.std.proofs.lemmas.List.Elements.{Contains-get_or}
@@ -49,6 +50,9 @@ module _ {X E : Type 0} where
 module _ (version : ℕ) (tables : KeptTables) (kept : KeptParagraphs) (marks : List KeptMark) (book : Book) (is : book_kept version tables kept marks ≡ book) where
   pub paragraph_of-kept : (id : ℕ) → paragraph_of book id ≡ option_map (λ p. paragraph_kept (id, p)) (lookup (nat_eq id) kept)
   paragraph_of-kept id = rw (← is) (found-kept id kept)
+
+  pub missing : (id : ℕ) (lent : Option (Bor KeptParagraph)) → option_copied lent ≡ lookup (nat_eq id) kept → lent ≡ None → paragraph_of book id ≡ None
+  missing id lent found none = paragraph_of-kept id ∙ ap (option_map (λ p. paragraph_kept (id, p))) (sym found ∙ ap option_copied none)
 
   pub text_of-kept : (name : List ℕ) → text_of book name ≡ option_map (λ table. table.text) (lookup (pointwise nat_eq name) tables)
   text_of-kept name = rw (← is) (lookup-map (pointwise nat_eq name) (λ (table : BookTable). table.text) tables)

@@ -1,4 +1,4 @@
-use Rattle.std.proofs.Common.{◌≡◌, ℕ, List, Some, None, refl, sym, ap, subst, ◌∙◌}
+use Rattle.std.proofs.Common.{◌≡◌, ℕ, List, Some, refl, sym, ap, subst, ◌∙◌}
 use Rattle.desk_book.specs.declared.marks.KeptMark.{KeptMark}
 use Rattle.std.specs.Map.{lookup}
 use Rattle.std.specs.Option.{option_copied}
@@ -8,15 +8,15 @@ use Rattle.desk_model.specs.Book.{Book, paragraph_of}
 use Rattle.desk_book.specs.Kept.{HasMarks, paragraph_kept}
 use Rattle.desk_book.specs.ItemsLeft.{AreMarks, marks_at}
 use Rattle.desk_model.specs.ParagraphMarks.{marks_on}
-use Rattle.desk_book.proofs.Kept.KeptBooks.{All-found, found-kept, missing-kept}
+use Rattle.desk_book.proofs.Kept.KeptBooks.{All-found, found-kept}
 use Rattle.desk_book.proofs.Kept.MarkIndexes.{AreMarks-on, marks-at_all}
+use Rattle.desk_book.proofs.Kept.KeptLookups.{missing}
 use Rattle.desk_book.proofs.book.Book.marks.Goals as goal
 
 pub returns-in_default-clause-missing : goal.returns-in_default-clause-missing
 returns-in_default-clause-missing c =
-    let book = c.self.inside in
-    let none : lookup (nat_eq c.args.id) book.paragraphs ≡ None = sym c.get.ensures ∙ ap option_copied c.in_default.is in
-    (refl, subst (λ (b : Book). paragraph_of b c.args.id ≡ None) c.self.view_is (missing-kept book.version book.tables book.paragraphs book.marks c.self.invariant c.args.id none))
+    let was = c.self.inside in
+    (refl, missing was.version was.tables was.paragraphs was.marks c.args.self.now c.self.view_is c.args.id c.get.result c.get.ensures c.in_default.is)
 
 pub new-requires : goal.new-requires
 new-requires c =

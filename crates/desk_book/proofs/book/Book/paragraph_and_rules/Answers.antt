@@ -5,16 +5,16 @@ use Rattle.std.specs.Prelude.{nat_eq}
 use Rattle.std.specs.Cmp.Lexicographic.{pointwise}
 use Rattle.desk_book.specs.declared.paragraphs.Paragraph.{Paragraph as KeptParagraph}
 use Rattle.desk_book.specs.declared.tables.BookTable.{BookTable}
-use Rattle.desk_model.specs.Book.{Book, paragraph_of}
+use Rattle.desk_model.specs.Book.{Book}
 use Rattle.desk_book.specs.Display.{IsShown}
-use Rattle.desk_book.proofs.Kept.KeptBooks.{missing-kept, table-kept, IsShown-found}
+use Rattle.desk_book.proofs.Kept.KeptBooks.{table-kept, IsShown-found}
+use Rattle.desk_book.proofs.Kept.KeptLookups.{missing}
 use Rattle.desk_book.proofs.book.Book.paragraph_and_rules.Goals as goal
 
 pub returns-in_default-clause-missing : goal.returns-in_default-clause-missing
 returns-in_default-clause-missing c =
-    let book = c.self.inside in
-    let none : lookup (nat_eq c.args.id) book.paragraphs ≡ None = sym c.get.ensures ∙ ap option_copied c.in_default.is in
-    (refl, subst (λ (b : Book). paragraph_of b c.args.id ≡ None) c.self.view_is (missing-kept book.version book.tables book.paragraphs book.marks c.self.invariant c.args.id none))
+    let was = c.self.inside in
+    (refl, missing was.version was.tables was.paragraphs was.marks c.args.self.now c.self.view_is c.args.id c.get.result c.get.ensures c.in_default.is)
 
 pub unreachable-requires : goal.unreachable-requires
 unreachable-requires c =
