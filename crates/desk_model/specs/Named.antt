@@ -1,4 +1,4 @@
--- What a command gives and names: all that its refusals, its answer and what it may change are told by.
+-- What a command gives and names, which decides its refusals, the number that it answers and the rows that it may change.
 use Rattle.std.specs.Prelude.{ℕ, ◌+◌, Bool, true, false, List, [], ◌∷◌, length, Option, Some, None, IfSome, option_map}
 use Rattle.desk_command.specs.Characters.{AreCharacters}
 use Rattle.desk_command.specs.declared.command.Anchor.{Anchor}

@@ -33,8 +33,8 @@ pub record Description : Type 0 where
   pub read : List ℕ
   pub put : List ℕ
 
--- Tables without their names and texts. One whose key is its first column, which is the rowid: its rows are changed. What is kept of a row
--- has nothing in place of the key, behind the rowid.
+-- A table without its name and its texts, whose key is its first column and the rowid, and whose rows are changed. A row as its tree
+-- keeps it has nothing at the key's place among the columns, which stand after the rowid.
 abbrev pub by_number : List Column → (places : List ℕ) → Description
 by_number columns places = record {
   name = [];
@@ -53,7 +53,7 @@ by_number columns places = record {
   put = [];
 }
 
--- One whose rowid is hidden, with the columns at these places as its key, and its row behind the rowid.
+-- One whose rowid is hidden, with the columns at these places as its key, and with its row after the rowid.
 abbrev pub by_columns : List Column → (key places : List ℕ) → Description
 by_columns columns key places = record {
   name = [];
@@ -72,7 +72,7 @@ by_columns columns key places = record {
   put = [];
 }
 
--- entries of histories, which are only added, in the order of their two keys
+-- one of entries of histories, which are only added, in the order of their two keys
 abbrev pub by_entry : List Column → (places : List ℕ) → Description
 by_entry columns places =
     record (by_columns columns (1 ∷ 2 ∷ []) places) { is_changed = false; sorted = 0 ∷ 1 ∷ [] }
