@@ -1,10 +1,10 @@
 //! The program `braildesk`: its words, its standard ends and its exit status.
 //!
-//! What it does with them is `desk`'s.
+//! What it does with them is `desk_program`'s.
 #![tactic(auto)]
 
-use desk::{ProgramFault, program, refuse, refuse_words};
 use desk_ends::BufferedWriter;
+use desk_program::{ProgramFault, program, refuse, refuse_words};
 use std::alloc::AllocError;
 use std::env::FillError;
 use std::io::Write;

@@ -1,4 +1,4 @@
-//! braildesk as a library: what its program calls, and what another program over books would, on one page.
+//! braildesk as a library: the calls of its program and those that another program over books would make, on one page.
 //!
 //! - [`program`] does what the words of the command line ask, over files and ends that it is given, and answers the exit
 //!   status.

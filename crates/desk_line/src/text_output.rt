@@ -110,6 +110,7 @@ fn put_wide<K: Sink>(sink: &mut K, waiting: &mut Waiting, character: char)
 }
 
 /// Puts characters in UTF-8.
+#[inline(never)]
 pub(crate) fn put_characters<K: Sink>(sink: &mut K, waiting: &mut Waiting, characters: &[char])
     ensures { Adds K.can_fail (K.contents sink.old) (K.contents sink.new)
         waiting.old waiting.new (shown_text characters.now) }

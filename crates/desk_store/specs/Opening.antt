@@ -1,4 +1,4 @@
--- How a book's file is opened: in what order it is checked, and what is reported of it.
+-- How a book's file is opened: what is reported of it, and what is found in it. In which order it is checked stands in Opened.antt.
 use Rattle.std.specs.Prelude.{◌&&◌, not, ◌≡◌, ℤ, pos, ◌<ℤ◌, ◌≤ℤ◌, Bool, true, false, if◌then◌else◌, List, [], ◌∷◌, None, ⊤}
 use Rattle.std.specs.List.{AllByRecursion}
 use Rattle.std.specs.Ordering.{int_eq}
