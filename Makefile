@@ -73,7 +73,7 @@ run-%:
 
 attacks:
 	$(need_rt)
-	RT='$(RT)' tests/trials/attacks.sh
+	RT='$(RT)' JOBS=$(JOBS) tests/trials/attacks.sh
 
 bench: $(PROGRAM)
 	for name in translate tables reading pages rows session rebuild keep; do bench/$$name/$$name.sh || exit 1; done

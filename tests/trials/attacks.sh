@@ -1,13 +1,15 @@
 #!/bin/bash
 # Tries the edits in crates/NAME/attacks, which the gate doesn't: wrong bodies that the prover has to refuse, beside those
 # of must-fail. An edit with a line 'test: PART TEST' is one that no contract rules out: with it that part of tests/trials
-# is run, and that test has to fail. It works on a copy, and takes some minutes for each crate that has some.
-#   tests/trials/attacks.sh [NAME..]
+# is run, and that test has to fail. It works on a copy, with what has been proved here, and takes half a minute of a processor
+# for an edit.
+#   tests/trials/attacks.sh [NAME..]     JOBS (1): how many checks at a time
 set -eu
 cd "$(dirname "$0")/../.."
 rt=${RT:-rt}
 scratch=$(mktemp -d); trap 'rm -rf "$scratch"' EXIT
 git ls-files -z | tar --null -T - -cf - | tar -xf - -C "$scratch"
+for kept in crates/*/out; do [ ! -d "$kept" ] || cp -a "$kept" "$scratch/$kept"; done
 cd "$scratch"
 names=("$@")
 if [ ${#names[@]} -eq 0 ]; then
@@ -62,5 +64,5 @@ for name in "${names[@]}"; do
     mv "crates/$name/attacks" "crates/$name/must-fail"
 done
 echo "edits that their test doesn't see: $missed"
-"$rt" must-fail "${names[@]}"
+RT_JOBS=${JOBS:-1} "$rt" must-fail "${names[@]}"
 [ "$missed" -eq 0 ]
