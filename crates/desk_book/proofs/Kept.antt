@@ -1,16 +1,3 @@
-pub mod Arranging
-pub mod ByName
-pub mod KeptBooks
-pub mod KeptHistories
 pub mod KeptLookups
-pub mod MarkIndexes
-pub mod MarkSettled
-pub mod OrderLists
-pub mod OrderPlaces
-pub mod Renewing
-pub mod RoomLists
 pub mod Settled
 pub mod ShownEffects
-pub mod ToldEntries
-pub mod UndonePrints
-pub mod WalkedLists

@@ -1,4 +1,3 @@
 pub mod Plans
 pub mod Kept
 pub mod RowPuts
-pub mod Rebuilding

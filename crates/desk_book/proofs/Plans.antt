@@ -4,7 +4,6 @@ pub mod EntryPlanning
 pub mod MarkPlanning
 pub mod NewParagraphs
 pub mod Planning
-pub mod Replacing
 pub mod TablePlanning
 pub mod UndoPlanning
 pub mod Users

@@ -4,11 +4,11 @@ use Rattle.std.specs.List.{All, enumerate_from, flat_map}
 use Rattle.std.specs.Option.{option_map_or}
 use Rattle.desk_book.specs.declared.change.Effect.{Effect}
 use Rattle.desk_book.specs.declared.change.Effect.TheVariants as effect
-use Rattle.desk_book.specs.declared.history.KeptEntry.{KeptEntry}
-use Rattle.desk_book.specs.declared.history.KeptEntry.TheVariants.{Corrects, Undoes}
-use Rattle.desk_book.specs.declared.marks.KeptMark.{KeptMark}
-use Rattle.desk_book.specs.declared.paragraphs.Paragraph.{Paragraph as KeptParagraph}
-use Rattle.desk_book.specs.declared.tables.BookTable.{BookTable}
+use Rattle.desk_memory.specs.declared.history.KeptEntry.{KeptEntry}
+use Rattle.desk_memory.specs.declared.history.KeptEntry.TheVariants.{Corrects, Undoes}
+use Rattle.desk_memory.specs.declared.marks.KeptMark.{KeptMark}
+use Rattle.desk_memory.specs.declared.paragraphs.Paragraph.{Paragraph as KeptParagraph}
+use Rattle.desk_memory.specs.declared.tables.BookTable.{BookTable}
 use Rattle.desk_model.specs.Book.{Book, Mark}
 use Rattle.desk_model.specs.Limits.{most_print}
 use Rattle.desk_model.specs.Marks.{mark_moved_by}

@@ -5,21 +5,18 @@ use Rattle.std.specs.List.{All, insert}
 use Rattle.std.specs.List.Sorted.{IsPermutation}
 use Rattle.louis_table.specs.Meaning.{Meaning}
 use Rattle.louis_table.specs.Table.{Means}
-use Rattle.louis_translate.specs.declared.choices.Choice.{Choice}
-use Rattle.louis_translate.specs.Tiling.{Tiles}
-use Rattle.louis_translate.specs.Braille.{braille}
 use Rattle.desk_book.specs.declared.change.Effect.{Effect}
 use Rattle.desk_book.specs.declared.change.Effect.TheVariants.{AddTable, ReplaceTable, AddParagraph, ChangePrint, AddMark, ResolveMark, SetFlags, ChangeTable, Reorder}
-use Rattle.desk_book.specs.declared.change.PrintChange.{PrintChange}
+use Rattle.desk_memory.specs.declared.paragraphs.PrintChange.{PrintChange}
 use Rattle.desk_command.specs.declared.command.Anchor.{Anchor}
 use Rattle.desk_command.specs.declared.command.Command.{Command}
 use Rattle.desk_command.specs.declared.command.Command.TheVariants.{TypeIn}
-use Rattle.desk_book.specs.declared.paragraphs.Paragraph.{Paragraph as KeptParagraph}
+use Rattle.desk_memory.specs.declared.paragraphs.Paragraph.{Paragraph as KeptParagraph}
 use Rattle.desk_model.specs.Book.{Book, Paragraph, text_of, paragraph_of}
 use Rattle.desk_book.specs.ChangePuts.{effect_puts}
 use Rattle.desk_model.specs.Loans.{GetsTable, Reorders, row_number}
-use Rattle.desk_book.specs.Histories.{HaveTaken, TookFrom, entry_kept}
-use Rattle.desk_book.specs.Kept.{mark_kept, new_cells, paragraph_kept}
+use Rattle.desk_memory.specs.Histories.{HaveTaken, TookFrom, entry_kept}
+use Rattle.desk_memory.specs.Kept.{mark_kept, new_cells, paragraph_kept}
 use Rattle.desk_model.specs.Limits.{most_entries, most_marks, most_paragraphs, most_print}
 use Rattle.desk_model.specs.Marks.{mark_moved_by}
 use Rattle.desk_model.specs.ParagraphMarks.{marks_on}
@@ -27,13 +24,10 @@ use Rattle.desk_parts.specs.Puts.{RowPut, SetVersion}
 use Rattle.desk_model.specs.Print.{print_of, with_entry}
 use Rattle.desk_model.specs.Named.{HasCharacters, number_of, table_given}
 use Rattle.desk_model.specs.Refusals.{IsAccepted}
-use Rattle.desk_book.specs.Room.{Suffices}
+use Rattle.desk_memory.specs.Room.{Suffices}
 use Rattle.desk_model.specs.Step.{Makes, new_paragraph, next_id, next_mark, next_with_entry, next_with_marks, next_with_paragraphs, next_with_table, with_change, with_resolved}
 use Rattle.desk_model.specs.NormalForm.{normal_form}
-
--- the cells are the braille of the print by this meaning
-abbrev pub AreCellsOf : Meaning → (print cells : List ℕ) → Type 0
-AreCellsOf meaning print cells = (choices : List Choice) × Tiles meaning print choices × (cells ≡ braille meaning print choices)
+use Rattle.desk_memory.specs.Braille.{AreCellsOf}
 
 -- each paragraph that uses the table has new cells by the meaning, and no other has any
 abbrev pub AreRenewed : Book → List ℕ → Meaning → List (Option (List ℕ)) → Type 0

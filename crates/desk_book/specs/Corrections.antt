@@ -1,35 +1,19 @@
 -- What is said of corrections and undos while they are planned.
-use Rattle.std.specs.Prelude.{◌≡◌, ◌⊎◌, ℕ, ◌<◌, ◌≤◌, true, List, length, take, drop, Some, None}
+use Rattle.std.specs.Prelude.{◌≡◌, ◌⊎◌, ℕ, ◌<◌, ◌≤◌, true, List, length, Some, None}
 use Rattle.louis_table.specs.Meaning.{Meaning}
 use Rattle.louis_translate.specs.Position.{AreDefined, IsFirstUndefined}
 use Rattle.desk_book.specs.declared.change.Effect.{Effect}
 use Rattle.desk_book.specs.declared.change.Effect.TheVariants.{ChangePrint}
-use Rattle.desk_book.specs.declared.change.PrintChange.{PrintChange}
+use Rattle.desk_memory.specs.declared.paragraphs.PrintChange.{PrintChange}
 use Rattle.desk_book.specs.declared.corrections.NewEntry.{NewEntry}
-use Rattle.desk_book.specs.declared.history.Correction.{Correction}
-use Rattle.desk_book.specs.declared.paragraphs.Paragraph.{Paragraph as KeptParagraph}
+use Rattle.desk_memory.specs.declared.paragraphs.Paragraph.{Paragraph as KeptParagraph}
 use Rattle.desk_command.specs.declared.refusal.Limit.TheVariants.{Entries, Version}
 use Rattle.desk_command.specs.declared.refusal.Refusal.{Refusal}
 use Rattle.desk_command.specs.declared.refusal.Refusal.TheVariants.{Full, NoMemory, NoParagraph, Struck, TooLong, Undefined}
 use Rattle.desk_model.specs.Book.{Book, Paragraph, paragraph_of}
-use Rattle.desk_book.specs.Changes.{AreCellsOf}
+use Rattle.desk_memory.specs.Braille.{AreCellsOf}
 use Rattle.desk_model.specs.Limits.{most_entries, most_print, most_version}
-use Rattle.desk_model.specs.Print.{with_replacement}
-use Rattle.desk_book.specs.Room.{Suffices}
-use Rattle.desk_command.specs.Characters.{AreCharacters}
-
--- the print with a text in place of so many characters from a place on
-abbrev pub replaced_by : (start count : ℕ) (text print : List ℕ) → List ℕ
-replaced_by start count text print = with_replacement print (record { start = start; count = count; text = text })
-
--- the correction puts this text in place of so many characters of the print from a place on, and keeps those
-pub record IsCorrection (print : List ℕ) (start count : ℕ) (text who : List ℕ) (c : Correction) : Type 0 where
-  pub start_is : c.start ≡ start
-  pub text_is : c.text ≡ text
-  pub who_is : c.who ≡ who
-  pub taken_is : c.taken ≡ take count (drop start print)
-  pub characters : AreCharacters text
-  pub who_characters : AreCharacters who
+use Rattle.desk_memory.specs.Room.{Suffices}
 
 -- the paragraph isn't there, or is struck
 abbrev pub IsUnfit : Book → ℕ → Refusal → Type 0

@@ -1,10 +1,10 @@
 -- What is left of what a book puts into new tables of its file.
 use Rattle.std.specs.Prelude.{ℕ, ◌≤◌, List, map, drop, length}
 use Rattle.std.specs.List.{All, enumerate_from, flat_map}
-use Rattle.desk_book.specs.declared.history.KeptEntry.{KeptEntry}
-use Rattle.desk_book.specs.declared.paragraphs.Paragraph.{Paragraph as KeptParagraph}
+use Rattle.desk_memory.specs.declared.history.KeptEntry.{KeptEntry}
+use Rattle.desk_memory.specs.declared.paragraphs.Paragraph.{Paragraph as KeptParagraph}
 use Rattle.desk_book.specs.ChangePuts.{cache_put, entry_row}
-use Rattle.desk_book.specs.Kept.{KeptParagraphs}
+use Rattle.desk_memory.specs.Kept.{KeptParagraphs}
 use Rattle.desk_model.specs.Limits.{most_entries, most_paragraphs}
 use Rattle.desk_parts.specs.Puts.{PutEntry, RowPut, RowPuts}
 

@@ -1,17 +1,7 @@
-pub mod Histories
-pub mod Display
-pub mod KeptMarks
-pub mod Kept
-pub mod KeptPrints
-pub mod Lending
 pub mod Changes
 pub mod Plans
 pub mod Corrections
 pub mod Marking
-pub mod Room
-pub mod ItemsLeft
-pub mod OrderedRows
 pub mod Filling
 pub mod ChangePuts
 pub mod PutsLeft
-pub mod Rebuilding

@@ -4,9 +4,9 @@ use Rattle.louis_table.specs.Meaning.{Meaning}
 use Rattle.louis_translate.specs.declared.choices.Choice.{Choice}
 use Rattle.louis_translate.specs.Braille.{IsPrintEnd, IsPrintPlace, braille}
 use Rattle.louis_translate.specs.Tiling.{Tiles}
-use Rattle.desk_book.specs.declared.marks.KeptMark.{KeptMark}
+use Rattle.desk_memory.specs.declared.marks.KeptMark.{KeptMark}
 use Rattle.desk_model.specs.Book.{Book, mark_of}
-use Rattle.desk_book.specs.Kept.{mark_kept}
+use Rattle.desk_memory.specs.Kept.{mark_kept}
 
 -- the cells are there, and stand for the places from start up to but not including end
 abbrev pub AreMarkedIn : Meaning → List ℕ → (cell count start end : ℕ) → Type 0

@@ -1,14 +1,15 @@
 //! A book.
-ghost use Rattle.desk_model.specs.Book.{empty_book, paragraph_of, text_of};
-ghost use Rattle.desk_model.specs.Print.{print_of};
+ghost use Rattle.desk_model.specs.Book.{empty_book};
+ghost use Rattle.desk_model.specs.Rebuilding.{IsFaultOf};
+ghost use Rattle.desk_model.specs.Shows.{Shows};
 ghost use Rattle.desk_model.specs.Sound.{IsSound};
-ghost use Rattle.std.specs.Prelude.{◌≡◌, MatchResult, None, Some, IfErr, IfOk, Err};
+ghost use Rattle.desk_parts.specs.Parts.{rows_in};
+ghost use Rattle.std.specs.Prelude.{◌≡◌, MatchResult, IfErr, IfOk};
 
-use super::marks::Marks;
-use super::paragraphs::{Paragraph, Paragraphs};
-use super::tables::Tables;
-use cell_core::Cell;
-use desk_command::Refusal;
+use desk_memory::{Marks, Paragraphs, Tables};
+use desk_model::PartsFault;
+use desk_parts::Parts;
+use desk_rebuild::{KeptBook, rebuild};
 use std::alloc::{AllocError, Global};
 use std::marker::Model;
 
@@ -25,7 +26,7 @@ pub struct Book {
 
 impl Model for Book {
     ghost use Rattle.desk_model.specs.Book.{Book};
-    ghost use Rattle.desk_book.specs.Kept.{IsKept, book_kept};
+    ghost use Rattle.desk_memory.specs.Kept.{IsKept, book_kept};
 
     ghost Value = { Book };
 
@@ -44,6 +45,29 @@ impl Book {
             tables: Tables::new(alloc),
             paragraphs: Paragraphs::new(alloc),
             marks: Marks::new(alloc),
+        })
+    }
+
+    /// The book that the parts show, with the braille that they have, once it is that of their prints, or else made anew.
+    ///
+    /// # Errors
+    ///
+    /// The first damage of parts that show no book, and [`PartsFault::NoMemory`] if an allocation failed.
+    pub fn rebuild(alloc: Global, parts: Parts) -> Result<Self, PartsFault>
+        ensures shown { IfOk result (Shows (rows_in parts)) }
+        ensures damaged { IfErr result (IsFaultOf (rows_in parts)) }
+    {
+        let KeptBook {
+            version,
+            tables,
+            paragraphs,
+            marks,
+        } = rebuild(alloc, parts)?;
+        Ok(Book {
+            version,
+            tables,
+            paragraphs,
+            marks,
         })
     }
 

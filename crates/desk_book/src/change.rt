@@ -1,34 +1,10 @@
 //! What a command changes in a book.
 ghost use Rattle.std.specs.Prelude.{◌≡◌};
 
-use super::history::KeptEntry;
-use super::items::Room;
-use super::marks::KeptMark;
-use super::paragraphs::{Order, Paragraph};
-use super::tables::{BoxedTable, TablesRoom};
 use cell_core::Cells;
 use desk_command::{Style, Text};
-use louis_table::Characters;
+use desk_memory::{BoxedTable, KeptMark, Order, Paragraph, PrintChange, Room, TablesRoom};
 use std::marker::Model;
-
-/// What a correction or an undo changes in a paragraph.
-#[derive(Drop)]
-pub(crate) struct PrintChange {
-    /// The new entry of its history.
-    pub(crate) entry: KeptEntry,
-    /// Room for it beside the others.
-    pub(crate) room: Room<KeptEntry>,
-    /// The new print.
-    pub(crate) print: Characters,
-    /// The braille of that.
-    pub(crate) cells: Cells,
-    /// The place of the old print from which on characters give way.
-    pub(crate) start: usize,
-    /// How many give way.
-    pub(crate) removed: usize,
-    /// How many come in their place.
-    pub(crate) added: usize,
-}
 
 /// What a change does to a book. It has room for all that it adds.
 #[derive(Drop)]

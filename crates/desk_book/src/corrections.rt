@@ -1,20 +1,20 @@
 //! Corrections of prints, and what takes them back.
-ghost use Rattle.desk_book.specs.Corrections.{HaltsEntry, HaltsPrint, IsCorrection, IsEntered, IsUnfit, TakesEntry, replaced_by};
+ghost use Rattle.desk_book.specs.Corrections.{HaltsEntry, HaltsPrint, IsEntered, IsUnfit, TakesEntry};
+ghost use Rattle.desk_memory.specs.Histories.{IsCorrection};
 ghost use Rattle.desk_model.specs.Limits.{most_entries};
 ghost use Rattle.desk_model.specs.Name.{IsProofreaderName};
 ghost use Rattle.desk_book.specs.Plans.{IsPlanned, IsTurnedDown};
-ghost use Rattle.desk_book.specs.Display.{IsShown};
+ghost use Rattle.desk_memory.specs.Display.{IsShown};
 ghost use Rattle.std.specs.Prelude.{◌≡◌, ◌+◌, ◌<◌, ◌≤◌, false, IfErr, IfOk, OnOk, length};
 
 use super::book::Book;
-use super::braille::cells_of;
-use super::change::{Effect, PrintChange};
-use super::history::{Correction, KeptEntry, newest};
-use super::limits::{MOST_ENTRIES, MOST_PRINT};
-use super::normal_form::{count_of, is_proofreader_name, normal_form};
-use super::paragraphs::Paragraph;
+use super::change::Effect;
 use super::plan::{check_length, check_print, check_text, copy, text_of_print};
 use desk_command::{Command, Limit, Refusal, Text};
+use desk_memory::{
+    Correction, KeptEntry, MOST_ENTRIES, MOST_PRINT, Paragraph, PrintChange, cells_of,
+    is_proofreader_name, newest, normal_form, replace_span,
+};
 use louis_table::Characters;
 use louis_translate::RuleIndex;
 use std::alloc::{AllocError, Global};
@@ -53,43 +53,6 @@ fn check_entries(paragraph: &Paragraph) -> Result<(), Refusal>
         return Err(Refusal::Full(Limit::Entries));
     }
     Ok(())
-}
-
-/// The print with a text in place of so many characters from a place on.
-pub(crate) fn replace_span(
-    alloc: Global,
-    print: &[char],
-    start: usize,
-    count: usize,
-    text: &[char],
-) -> Result<Vec<char>, AllocError>
-    requires { start + count ≤ length print.now }
-    ensures { IfOk result (λ new. new.items ≡ replaced_by start count text.now print.now) }
-{
-    let mut new = Vec::new(alloc);
-    new.extend_from_slice(&print[..start])?;
-    new.extend_from_slice(text)?;
-    new.extend_from_slice(&print[start + count..])?;
-    Ok(new)
-}
-
-impl Correction {
-    /// How many characters its text has.
-    fn count(&self) -> usize
-        ensures { result ≡ length self.now.text }
-    {
-        count_of(self.text.as_str())
-    }
-
-    /// The print, where the text stands at its place, with what gave way to it there again.
-    pub(crate) fn undone(&self, alloc: Global, print: &[char]) -> Result<Vec<char>, AllocError>
-        requires { self.now.start + length self.now.text ≤ length print.now }
-        ensures { IfOk result (λ new.
-            new.items ≡ replaced_by self.now.start (length self.now.text) self.now.taken print.now) }
-    {
-        let taken = self.taken.as_slice();
-        replace_span(alloc, print, self.start, self.count(), taken)
-    }
 }
 
 /// The correction of so many characters of a print, from a place on.

@@ -5,9 +5,8 @@ ghost use Rattle.desk_parts.specs.Puts.{LendsFirst, put_of};
 ghost use Rattle.std.specs.Prelude.{◌≡◌, [], ◌∷◌, ◌++◌, IfNone, IfSome, unwrap_or};
 
 use super::book::Book;
-use super::history::KeptEntry;
-use super::paragraphs::Paragraphs;
 use super::puts::{cache, entry, number};
+use desk_memory::{KeptEntry, Paragraphs};
 use desk_model::NewTables;
 use desk_parts::{BookRow, Put};
 use std::marker::Model;

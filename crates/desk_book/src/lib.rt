@@ -16,40 +16,25 @@
 //! assert_eq!(rt; book.version(), 1);
 //! ```
 //!
-//! `desk_model` says what a book is, what each command makes of it and when it is refused. Files are left to
+//! `desk_model` says what a book is, what each command makes of it and when it is refused. `desk_memory` keeps a book's
+//! tables, paragraphs and marks in memory, and `desk_rebuild` makes them of the rows of a file. Files are left to
 //! `desk_store`, pages to `desk_brf`, and the lines of requests and replies to `desk_line`.
 #![tactic(auto)]
 
 mod book;
-mod braille;
 mod change;
 mod corrections;
 mod filling;
-mod history;
-mod history_items;
-mod items;
 pub mod laws;
-mod limits;
-mod list;
 mod marking;
-mod marks;
-mod normal_form;
-mod ordered_rows;
-mod paragraph_marks;
-mod paragraphs;
 mod plan;
 mod puts;
 mod queries;
-mod rebuild;
 mod settle;
-mod tables;
 
 pub use book::Book;
 pub use change::Change;
+pub use desk_memory::{History, List, MOST_VERSION, ParagraphMarks};
 pub use desk_model::{Done, HistoryItem, ListItem, MarkItem, NewTables, PartsFault};
 pub use filling::Filling;
-pub use history_items::History;
-pub use limits::MOST_VERSION;
-pub use list::List;
-pub use paragraph_marks::ParagraphMarks;
 pub use puts::Puts;

@@ -8,11 +8,9 @@ ghost use Rattle.std.specs.Prelude.{◌≡◌, ◌+◌, ◌<◌, ◌≤◌, ◌�
 
 use super::book::Book;
 use super::change::Effect;
-use super::limits::{MOST_MARKS, MOST_NOTE};
-use super::marks::KeptMark;
-use super::normal_form::count_of;
 use super::plan::{check_text, copy};
 use desk_command::{Command, Limit, Refusal, Text};
+use desk_memory::{KeptMark, MOST_MARKS, MOST_NOTE, count_of};
 use louis_translate::{RuleIndex, choice_of_cell};
 use std::alloc::Global;
 

@@ -1,6 +1,7 @@
 //! Which change a command makes, or why it is refused.
 ghost use Rattle.desk_model.specs.Book.{paragraph_of, text_of};
-ghost use Rattle.desk_book.specs.Changes.{AreCellsOf, AreRenewed, Carries};
+ghost use Rattle.desk_book.specs.Changes.{AreRenewed, Carries};
+ghost use Rattle.desk_memory.specs.Braille.{AreCellsOf};
 ghost use Rattle.desk_model.specs.Judging.{MayLackMemory};
 ghost use Rattle.desk_model.specs.Limits.{most_paragraphs, most_print, most_tables, most_version};
 ghost use Rattle.desk_model.specs.Name.{IsTableName};
@@ -17,15 +18,13 @@ ghost use Rattle.std.specs.List.{All};
 ghost use Rattle.std.specs.Prelude.{◌≡◌, ◌≢◌, ◌↔◌, ◌⊎◌, ◌<◌, ◌≤◌, IfErr, IfOk, IsSome, IsTrue, MatchOption, None, OnOk, ◌+◌, length, option_map};
 
 use super::book::Book;
-use super::braille::cells_of;
 use super::change::{Change, Effect};
-use super::items::Items;
-use super::limits::{MOST_PARAGRAPHS, MOST_PRINT, MOST_TABLES, MOST_VERSION};
-use super::normal_form::{first_barred, is_table_name, normal_form};
-use super::paragraphs::Paragraph;
-use super::tables::{BookTable, BoxedTable, TablesRoom};
 use cell_core::Cells;
 use desk_command::{Anchor, Bytes, Command, Limit, Refusal, Style, Text};
+use desk_memory::{
+    BookTable, BoxedTable, Items, MOST_PARAGRAPHS, MOST_PRINT, MOST_TABLES, MOST_VERSION,
+    Paragraph, TablesRoom, cells_of, first_barred, is_table_name, normal_form,
+};
 use louis_table::{Characters, ReadFault};
 use louis_translate::{RuleBook, RuleIndex, undefined_place};
 use std::alloc::{AllocError, Global};

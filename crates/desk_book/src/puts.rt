@@ -11,14 +11,10 @@ ghost use Rattle.desk_model.specs.Step.{next_id};
 ghost use Rattle.std.specs.Prelude.{◌≡◌, ◌+◌, ◌-◌, ◌<◌, ◌≤◌, [], ◌∷◌, ◌++◌, IfNone, IfSome, encode_utf8_all, length, map, pos, slice_index};
 
 use super::book::Book;
-use super::change::{Change, Effect, PrintChange};
-use super::history::KeptEntry;
-use super::marks::KeptMark;
-use super::paragraph_marks::ParagraphMarks;
-use super::paragraphs::{Order, Paragraph};
-use super::tables::BoxedTable;
+use super::change::{Change, Effect};
 use cell_core::Cells;
 use desk_command::{Style, Text};
+use desk_memory::{BoxedTable, KeptEntry, KeptMark, Order, Paragraph, ParagraphMarks, PrintChange};
 use desk_model::Span;
 use desk_parts::{CachePut, MarkPut, NamedCorrPut, ParaPut, Put, TabPut};
 use std::marker::Model;

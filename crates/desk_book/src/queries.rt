@@ -2,19 +2,16 @@
 ghost use Rattle.desk_model.specs.Book.{paragraph_of};
 ghost use Rattle.desk_model.specs.ParagraphMarks.{marks_on};
 ghost use Rattle.desk_model.specs.Print.{print_of};
-ghost use Rattle.desk_book.specs.Display.{IsShown};
+ghost use Rattle.desk_memory.specs.Display.{IsShown};
 ghost use Rattle.desk_model.specs.Translation.{IsBraille, IsOutputPlace, IsPrintPlace, LacksCell, LacksPlace};
 ghost use Rattle.louis_table.specs.Meaning.{Meaning};
 ghost use Rattle.std.specs.List.{enumerate_from};
 ghost use Rattle.std.specs.Prelude.{◌≡◌, ◌⊎◌, IfErr, IfOk, None, Some};
 
 use super::book::Book;
-use super::history_items::History;
-use super::list::List;
-use super::paragraph_marks::ParagraphMarks;
-use super::paragraphs::Paragraph;
 use cell_core::Cell;
 use desk_command::Refusal;
+use desk_memory::{History, List, Paragraph, ParagraphMarks};
 use louis_translate::{RuleIndex, output_place, print_place};
 
 impl Book {

@@ -3,13 +3,10 @@ ghost use Rattle.desk_book.specs.Changes.{Carries, IsEffect};
 ghost use Rattle.std.specs.Prelude.{◌≡◌};
 
 use super::book::Book;
-use super::change::{Change, Effect, PrintChange};
-use super::items::Room;
-use super::marks::KeptMark;
-use super::paragraphs::{Order, Paragraph};
-use super::tables::{BoxedTable, TablesRoom};
+use super::change::{Change, Effect};
 use cell_core::Cells;
 use desk_command::{Style, Text};
+use desk_memory::{BoxedTable, KeptMark, Order, Paragraph, PrintChange, Room, TablesRoom};
 
 impl Book {
     /// The book at a version, with a new table.

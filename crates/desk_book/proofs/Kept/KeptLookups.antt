@@ -1,28 +1,25 @@
 -- What is found among kept tables and paragraphs, against what the book that they stand for has.
-use Rattle.std.proofs.Common.{◌≡◌, ℕ, List, map, length, get_or, Option, Some, None, Contains, Result, Ok, Err, refl, sym, ap, subst, ◌∙◌}
+use Rattle.std.proofs.Common.{◌≡◌, ℕ, List, map, length, get_or, Option, Some, None, Contains, Result, refl, sym, ap, subst, ◌∙◌}
 use Rattle.std.specs.Cmp.Lexicographic.{pointwise}
 use Rattle.std.specs.Map.{lookup}
 use Rattle.std.specs.Borrow.{Bor}
 use Rattle.std.specs.Option.{ok_or, option_copied}
 use Rattle.std.specs.Prelude.{nat_eq, option_map, slice_get, IfErr, IfOk, IfSome, IsSome}
-use Rattle.std.specs.Result.{IsErrAnd}
 use Rattle.std.proofs.lemmas.List.Elements.{Contains-get_or}
 use Rattle.std.proofs.lemmas.List.{length-map}
 use Rattle.std.proofs.lemmas.Option.{get_or_from_slice_get, slice_get-map, slice_get_within}
 use Rattle.std.proofs.lemmas.Map.Entries.{All-lookup}
-pub use Rattle.std.proofs.lemmas.Result.{IfErr-weaker, IfOk-weaker}
 use Rattle.louis_table.specs.Table.{Means}
-use Rattle.desk_book.specs.declared.marks.KeptMark.{KeptMark}
-use Rattle.desk_book.specs.declared.paragraphs.Paragraph.{Paragraph as KeptParagraph}
-use Rattle.desk_book.specs.declared.tables.BookTable.{BookTable}
+use Rattle.desk_memory.specs.declared.marks.KeptMark.{KeptMark}
+use Rattle.desk_memory.specs.declared.paragraphs.Paragraph.{Paragraph as KeptParagraph}
+use Rattle.desk_memory.specs.declared.tables.BookTable.{BookTable}
 use Rattle.desk_model.specs.Book.{Book, Paragraph, paragraph_of, text_of}
-use Rattle.desk_book.specs.Kept.{KeptTables, KeptParagraphs, IsKept, IsKeptParagraph, book_kept, ids, paragraph_kept}
+use Rattle.desk_memory.specs.Kept.{KeptTables, KeptParagraphs, IsKept, IsKeptParagraph, book_kept, ids, paragraph_kept}
 use Rattle.desk_model.specs.Print.{print_of}
 use Rattle.desk_model.specs.Sound.{IsSound}
 use Rattle.desk_book.specs.Plans.{AreThere, IsKeptFor, IsTableFor}
-use Rattle.desk_book.proofs.Kept.KeptBooks.{All-found, found-kept}
+use Rattle.desk_memory.proofs.Callers.{All-found, found-kept, ids_of-kept}
 use Rattle.desk_model.proofs.Lists.Items.{lookup-map}
-use Rattle.desk_book.proofs.Kept.OrderLists.{ids_of-kept}
 use Rattle.desk_model.proofs.Lists.Members.{Contains-map}
 use Rattle.desk_model.proofs.Books.ParagraphLists.{Contains-found, id-found, ids_of}
 use Rattle.desk_model.proofs.Books.SoundBooks.{paragraph_of-own}
@@ -39,11 +36,6 @@ module _ {X E : Type 0} where
   IfErr-ok_or (Some x) d r is P h = rw is tt
 
 -- ---- what the exit of a `?` returns
-
-module _ {X E : Type 0} where
-  pub IfErr-exit : (r : Result X E) (e : E) (P : E → Type 0) → IsErrAnd r (λ told. told ≡ e) → P e → IfErr r P
-  IfErr-exit (Ok x) e P exit h = tt
-  IfErr-exit (Err told) e P exit h = subst P (sym exit) h
 
 -- ---- in a book
 

@@ -21,38 +21,35 @@ use Rattle.louis_table.proofs.OneMeaning.{one_meaning}
 use Rattle.louis_translate.specs.Tiling.{Tiles}
 use Rattle.louis_translate.specs.Braille.{braille}
 use Rattle.desk_book.specs.declared.change.Effect.{Effect}
-use Rattle.desk_book.specs.declared.change.PrintChange.{PrintChange}
-use Rattle.desk_book.specs.declared.history.KeptEntry.{KeptEntry}
+use Rattle.desk_memory.specs.declared.paragraphs.PrintChange.{PrintChange}
 use Rattle.desk_book.specs.declared.change.Effect.TheVariants.{AddTable}
 use Rattle.desk_command.specs.declared.command.Anchor.{Anchor}
 use Rattle.desk_command.specs.declared.command.Command.{Command}
 use Rattle.desk_command.specs.declared.command.Command.TheVariants.{TypeIn}
-use Rattle.desk_book.specs.declared.marks.KeptMark.{KeptMark}
-use Rattle.desk_book.specs.declared.paragraphs.Paragraph.{Paragraph as KeptParagraph}
+use Rattle.desk_memory.specs.declared.marks.KeptMark.{KeptMark}
+use Rattle.desk_memory.specs.declared.paragraphs.Paragraph.{Paragraph as KeptParagraph}
 use Rattle.desk_command.specs.declared.style.Style.{Style}
-use Rattle.desk_book.specs.declared.tables.BookTable.{BookTable}
+use Rattle.desk_memory.specs.declared.tables.BookTable.{BookTable}
 use Rattle.desk_model.specs.Book.{Book, Entry, Mark, Paragraph, text_of}
-use Rattle.desk_book.specs.Changes.{ChangesPrint, AreCellsOf, AreRenewed, AreCellsByTable, Carries, Change, IsKeptTyped, IsEffect, IsEffect-change_by, change_by, Does, Does-change_by}
-use Rattle.desk_book.specs.Histories.{HaveTaken, TookFrom, entries_kept, entry_kept}
-use Rattle.desk_book.specs.KeptMarks.{AreWithin, indexes_on, with_kept_moved}
-use Rattle.desk_book.specs.KeptPrints.{HasRoomFor, HasRoomForMark, with_mark, with_print_changed}
+use Rattle.desk_book.specs.Changes.{ChangesPrint, AreRenewed, AreCellsByTable, Carries, Change, IsKeptTyped, IsEffect, IsEffect-change_by, change_by, Does, Does-change_by}
+use Rattle.desk_memory.specs.Braille.{AreCellsOf}
+use Rattle.desk_memory.specs.Histories.{HaveTaken, TookFrom, entry_kept}
+use Rattle.desk_memory.specs.KeptMarks.{AreWithin, indexes_on, with_kept_moved}
+use Rattle.desk_memory.specs.KeptPrints.{HasRoomFor, HasRoomForMark, with_mark, with_print_changed}
 use Rattle.desk_model.specs.Limits.{most_entries, most_marks, most_paragraphs}
 use Rattle.desk_model.specs.Marks.{mark_moved_by}
-use Rattle.desk_book.specs.Room.{Suffices}
-use Rattle.desk_model.proofs.Lists.Items.{All-from_map, each-push, lookup-map}
-use Rattle.desk_book.proofs.Kept.MarkIndexes.{count-indexes, few-on, indexes-moved, indexes-none, indexes-push_on, indexes-push_other}
-use Rattle.desk_book.proofs.Kept.MarkSettled.{AreWithin-sound, marks-elsewhere, marks-moved, marks-push}
+use Rattle.desk_memory.specs.Room.{Suffices}
+use Rattle.desk_model.proofs.Lists.Items.{All-from_map, lookup-map}
+use Rattle.desk_memory.proofs.Callers.{All-found, AreWithin-sound, HaveTaken-push, count-indexes, few-on, found-kept, ids_of-kept, indexes-moved, indexes-none, indexes-push_on, indexes-push_other, marks-elsewhere, marks-moved, marks-push, means-kept}
 use Rattle.desk_model.specs.ParagraphMarks.{marks_on}
-use Rattle.desk_book.specs.Kept.{HasMarks, mark_kept, KeptTables, KeptParagraphs, with_table, in_order_of, ids, in_order, new_cells, with_new_cells, with_kept_change, marks_kept, paragraph_kept, book_kept, IsKeptParagraph, IsKept}
-use Rattle.desk_model.specs.Print.{corrected_print, print_of, with_entry}
+use Rattle.desk_memory.specs.Kept.{HasMarks, mark_kept, KeptTables, KeptParagraphs, with_table, in_order_of, ids, in_order, new_cells, with_new_cells, with_kept_change, marks_kept, paragraph_kept, book_kept, IsKeptParagraph, IsKept}
+use Rattle.desk_model.specs.Print.{print_of, with_entry}
 use Rattle.desk_model.specs.Named.{paragraph_before}
 use Rattle.desk_model.specs.Refusals.{IsAccepted}
 use Rattle.desk_model.specs.Sound.{IsSound, IsSoundMark}
 use Rattle.desk_model.specs.Step.{Makes, new_paragraph, next_id, next_mark, next_with_marks, next_with_paragraphs, next_with_table, with_marks_moved, with_paragraph, with_change}
-use Rattle.desk_book.proofs.Kept.KeptBooks.{found-kept, All-found, means-kept}
 use Rattle.desk_model.proofs.Commands.Accepted.{named_paragraph}
 use Rattle.desk_model.proofs.Lists.Members.{Contains-here, Contains-behind, Contains-map}
-use Rattle.desk_book.proofs.Kept.OrderLists.{ids_of-kept}
 use Rattle.desk_model.proofs.Books.ParagraphLists.{ids_of, AreApart, found, AreApart-permutation, id-found, Contains-found, found-own, IsPermutation-with_paragraph}
 use Rattle.desk_model.proofs.Books.SoundBooks.{paragraphs-apart}
 use Rattle.desk_model.proofs.Books.SoundSteps.{IsSound-makes}
@@ -151,12 +148,6 @@ in_order-found (q ∷ qs) ps own =
 pub in_order-permutation : (qs ps : List Paragraph) → AreApart qs → IsPermutation qs ps → in_order (ids_of qs) ps ≡ qs
 in_order-permutation qs ps apart moved =
     in_order-found qs ps (λ q c. found-own ps q (AreApart-permutation qs ps moved apart) (Contains-permutation qs ps q moved c))
-
--- ---- histories
-
--- what corrections took away, one entry more
-pub HaveTaken-push : (original : List ℕ) (entries : List KeptEntry) (entry : KeptEntry) → HaveTaken original entries → TookFrom (corrected_print original (entries_kept entries)) entry → HaveTaken original (entries ++ entry ∷ [])
-HaveTaken-push original entries entry taken last = each-push (λ t e. TookFrom (corrected_print original (entries_kept t)) e) entries entry taken last
 
 -- ---- books
 

@@ -1,11 +1,11 @@
 -- What is so of an effect on a book, of what the book keeps.
 use Rattle.std.proofs.Common.{◌≡◌, ℕ, List, None, subst, sym}
 use Rattle.desk_book.specs.declared.change.Effect.{Effect}
-use Rattle.desk_book.specs.declared.marks.KeptMark.{KeptMark}
+use Rattle.desk_memory.specs.declared.marks.KeptMark.{KeptMark}
 use Rattle.desk_command.specs.declared.command.Command.{Command}
 use Rattle.desk_model.specs.Book.{Book}
 use Rattle.desk_book.specs.Changes.{IsEffect}
-use Rattle.desk_book.specs.Kept.{IsKept, KeptParagraphs, KeptTables, book_kept}
+use Rattle.desk_memory.specs.Kept.{IsKept, KeptParagraphs, KeptTables, book_kept}
 use Rattle.desk_model.specs.Refusals.{IsAccepted}
 use Rattle.desk_model.specs.Step.{Makes}
 

@@ -6,13 +6,13 @@ use Rattle.desk_book.specs.declared.change.Effect.{Effect}
 use Rattle.desk_book.specs.declared.corrections.NewEntry.{NewEntry}
 use Rattle.desk_command.specs.declared.command.Command.{Command}
 use Rattle.desk_command.specs.declared.command.Command.TheVariants.{Correct}
-use Rattle.desk_book.specs.declared.paragraphs.Paragraph.{Paragraph as KeptParagraph}
+use Rattle.desk_memory.specs.declared.paragraphs.Paragraph.{Paragraph as KeptParagraph}
 use Rattle.desk_command.specs.declared.refusal.Refusal.{Refusal}
 use Rattle.desk_command.specs.declared.refusal.Refusal.TheVariants.{BadReader, BadSpan, NoMemory, TooLong}
 use Rattle.desk_model.specs.Book.{Book, Corrects, Paragraph, Replacement}
 use Rattle.desk_book.specs.Changes.{Does}
 use Rattle.desk_book.specs.Corrections.{HaltsEntry, HaltsPrint, IsEntered, IsUnfit, TakesEntry}
-use Rattle.desk_book.specs.Histories.{TookFrom, entry_kept}
+use Rattle.desk_memory.specs.Histories.{TookFrom, entry_kept}
 use Rattle.desk_model.specs.Judging.{Passes}
 use Rattle.desk_model.specs.Limits.{most_print}
 use Rattle.desk_model.specs.Marks.{mark_moved, mark_moved_by}
@@ -20,7 +20,7 @@ use Rattle.desk_model.specs.Name.{IsProofreaderName}
 use Rattle.desk_book.specs.Plans.{IsPlanned, IsTurnedDown}
 use Rattle.desk_model.specs.Print.{print_of, with_entry, with_replacement}
 use Rattle.desk_model.specs.Refusals.{HasLongNote}
-use Rattle.desk_book.specs.Display.{IsShown}
+use Rattle.desk_memory.specs.Display.{IsShown}
 use Rattle.desk_model.specs.Step.{next_with_entry, replacement_by}
 use Rattle.desk_model.specs.NormalForm.{IsUnbarred, normal_form}
 use Rattle.desk_command.specs.Characters.{AreCharacters}

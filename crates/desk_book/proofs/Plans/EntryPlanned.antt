@@ -1,21 +1,20 @@
 -- What an entry that is planned changes in a book.
-use Rattle.std.proofs.Common.{◌≡◌, ℕ, ◌+◌, ◌<◌, ◌≤◌, List, length, take, drop, sym, ap, subst, ◌∙◌, arith}
-use Rattle.std.proofs.lemmas.List.{length-drop, length-map, length-take}
+use Rattle.std.proofs.Common.{◌≡◌, ℕ, ◌+◌, ◌<◌, ◌≤◌, List, length, sym, ap, subst, ◌∙◌, arith}
+use Rattle.std.proofs.lemmas.List.{length-map}
 use Rattle.louis_table.specs.Meaning.{Meaning}
 use Rattle.desk_book.specs.declared.change.Effect.{Effect}
 use Rattle.desk_book.specs.declared.corrections.NewEntry.{NewEntry}
-use Rattle.desk_book.specs.declared.history.Correction.{Correction}
-use Rattle.desk_book.specs.declared.history.KeptEntry.TheVariants.{Corrects as KeptCorrects}
-use Rattle.desk_book.specs.declared.paragraphs.Paragraph.{Paragraph as KeptParagraph}
-use Rattle.desk_model.specs.Book.{Book, Corrects, Entry, Paragraph}
-use Rattle.desk_book.specs.Changes.{AreCellsOf, ChangesPrint}
-use Rattle.desk_book.specs.Corrections.{IsCorrection, IsEntered}
-use Rattle.desk_book.specs.Histories.{TookFrom, entry_kept}
+use Rattle.desk_memory.specs.declared.paragraphs.Paragraph.{Paragraph as KeptParagraph}
+use Rattle.desk_model.specs.Book.{Book, Entry, Paragraph}
+use Rattle.desk_book.specs.Changes.{ChangesPrint}
+use Rattle.desk_memory.specs.Braille.{AreCellsOf}
+use Rattle.desk_book.specs.Corrections.{IsEntered}
+use Rattle.desk_memory.specs.Histories.{TookFrom, entry_kept}
 use Rattle.desk_model.specs.Limits.{most_entries, most_print}
 use Rattle.desk_model.specs.Marks.{mark_moved_by}
 use Rattle.desk_model.specs.Print.{print_of, with_entry}
-use Rattle.desk_book.specs.Room.{Suffices}
-use Rattle.desk_book.specs.Display.{IsShown}
+use Rattle.desk_memory.specs.Room.{Suffices}
+use Rattle.desk_memory.specs.Display.{IsShown}
 use Rattle.desk_model.specs.Step.{next_with_entry}
 
 pub ChangesPrint-entered : (book : Book) (id : ℕ) (kept : KeptParagraph) (meaning : Meaning) (new : NewEntry) (effect : Effect) (shown : IsShown book id kept meaning) (is : IsEntered book id kept meaning new effect) (e : Entry)
@@ -44,18 +43,3 @@ ChangesPrint-entered book id kept meaning new effect shown is e entry_is print_i
       within = omega arith;
       short = omega arith;
     }
-
--- a kept correction stands for the correction that was asked for, and has what that takes away
-module _ (print : List ℕ) (start count : ℕ) (text who : List ℕ) (c : Correction) (is : IsCorrection print start count text who c) (span : start + count ≤ length print) where
-  long : length c.taken ≡ count
-  long =
-      let one = ap length is.taken_is in
-      let two = length-take count (drop start print) in
-      let three = length-drop start print in
-      omega arith
-
-  pub entry-correction : entry_kept (KeptCorrects c) ≡ Corrects (record { start = start; count = count; text = text }) who
-  entry-correction = λ i. Corrects (record { start = is.start_is i; count = long i; text = is.text_is i }) (is.who_is i)
-
-  pub TookFrom-correction : TookFrom print (KeptCorrects c)
-  TookFrom-correction = is.taken_is ∙ (ap (λ (n : ℕ). take n (drop start print)) (sym long) ∙ ap (λ (k : ℕ). take (length c.taken) (drop k print)) (sym is.start_is))

@@ -6,17 +6,17 @@ use Rattle.louis_table.specs.Meaning.{Meaning}
 use Rattle.louis_table.specs.Table.{Means}
 use Rattle.louis_translate.specs.Position.{AreDefined}
 use Rattle.desk_command.specs.declared.command.Command.{Command}
-use Rattle.desk_book.specs.declared.paragraphs.Paragraph.{Paragraph as KeptParagraph}
-use Rattle.desk_book.specs.declared.tables.BookTable.{BookTable}
+use Rattle.desk_memory.specs.declared.paragraphs.Paragraph.{Paragraph as KeptParagraph}
+use Rattle.desk_memory.specs.declared.tables.BookTable.{BookTable}
 use Rattle.desk_command.specs.declared.refusal.Limit.TheVariants.{Entries}
 use Rattle.desk_command.specs.declared.refusal.Refusal.{Refusal}
 use Rattle.desk_command.specs.declared.refusal.Refusal.TheVariants.{Full, NoMemory, Struck, Undefined}
 use Rattle.desk_model.specs.Book.{Book, Paragraph, paragraph_of, text_of}
 use Rattle.desk_book.specs.Corrections.{HaltsEntry, HaltsPrint, IsUnfit, TakesEntry}
-use Rattle.desk_book.specs.Display.{IsShown}
-use Rattle.desk_book.specs.Histories.{entry_kept}
+use Rattle.desk_memory.specs.Display.{IsShown}
+use Rattle.desk_memory.specs.Histories.{entry_kept}
 use Rattle.desk_model.specs.Judging.{Passes, first_turn_after_asking}
-use Rattle.desk_book.specs.Kept.{paragraph_kept}
+use Rattle.desk_memory.specs.Kept.{paragraph_kept}
 use Rattle.desk_model.specs.Limits.{most_entries, most_print, most_version}
 use Rattle.desk_book.specs.Plans.{AreNotAllThere, IsTurnedDown}
 use Rattle.desk_model.specs.Named.{Changed, history_grown, live_paragraph, paragraph_translated, paragraphs_named}

@@ -7,21 +7,21 @@ use Rattle.louis_translate.specs.Tiling.{Tiles}
 use Rattle.louis_translate.proofs.Tilings.{one_cover}
 use Rattle.desk_command.specs.declared.command.Command.{Command}
 use Rattle.desk_command.specs.declared.command.Command.TheVariants.{Mark, Resolve}
-use Rattle.desk_book.specs.declared.marks.KeptMark.{KeptMark}
-use Rattle.desk_book.specs.declared.paragraphs.Paragraph.{Paragraph as KeptParagraph}
+use Rattle.desk_memory.specs.declared.marks.KeptMark.{KeptMark}
+use Rattle.desk_memory.specs.declared.paragraphs.Paragraph.{Paragraph as KeptParagraph}
 use Rattle.desk_command.specs.declared.refusal.Limit.TheVariants.{Marks, Version}
 use Rattle.desk_command.specs.declared.refusal.Refusal.{Refusal}
 use Rattle.desk_command.specs.declared.refusal.Refusal.TheVariants.{BadSpan, Full, NoMark, NoMemory, Resolved, TooLong}
 use Rattle.desk_model.specs.Book.{Book, Mark as BookMark, Paragraph, mark_of}
 use Rattle.desk_book.specs.Corrections.{IsUnfit}
 use Rattle.desk_model.specs.Judging.{Passes}
-use Rattle.desk_book.specs.Kept.{mark_kept}
+use Rattle.desk_memory.specs.Kept.{mark_kept}
 use Rattle.desk_model.specs.Limits.{most_marks, most_note, most_version}
 use Rattle.desk_book.specs.Marking.{AreMarkedIn, AreNotMarkedIn, HasCells, IsKeptMarkFor}
 use Rattle.desk_book.specs.Plans.{IsTurnedDown}
 use Rattle.desk_model.specs.Print.{print_of}
 use Rattle.desk_model.specs.Refusals.{IsAccepted}
-use Rattle.desk_book.specs.Display.{IsShown}
+use Rattle.desk_memory.specs.Display.{IsShown}
 use Rattle.desk_model.specs.NormalForm.{IsUnbarred}
 use Rattle.desk_model.specs.Translation.{AreMarked, LacksCells}
 use Rattle.desk_model.proofs.Commands.Turns.{accepted_after, passes_to, past_lengths, past_text, past_version, same_some, to_turn}

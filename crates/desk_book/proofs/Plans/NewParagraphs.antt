@@ -1,10 +1,11 @@
 -- A paragraph that was just typed, kept and as the book has it.
 use Rattle.std.proofs.Common.{ℕ, List, refl, sym, ap, subst, ◌∙◌}
-use Rattle.desk_book.specs.declared.paragraphs.Paragraph.{Paragraph as KeptParagraph}
-use Rattle.desk_book.specs.declared.tables.BookTable.{BookTable}
+use Rattle.desk_memory.specs.declared.paragraphs.Paragraph.{Paragraph as KeptParagraph}
+use Rattle.desk_memory.specs.declared.tables.BookTable.{BookTable}
 use Rattle.desk_model.specs.Book.{Book, text_of}
-use Rattle.desk_book.specs.Changes.{AreCellsOf, IsKeptTyped}
-use Rattle.desk_book.specs.Histories.{HaveTaken}
+use Rattle.desk_book.specs.Changes.{IsKeptTyped}
+use Rattle.desk_memory.specs.Braille.{AreCellsOf}
+use Rattle.desk_memory.specs.Histories.{HaveTaken}
 use Rattle.desk_book.specs.Plans.{IsNewParagraph, IsTableFor}
 use Rattle.desk_model.specs.NormalForm.{normal_form}
 

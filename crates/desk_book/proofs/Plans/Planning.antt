@@ -6,14 +6,14 @@ use Rattle.louis_table.specs.Table.{Means}
 use Rattle.louis_table.proofs.OneMeaning.{one_meaning}
 use Rattle.louis_translate.specs.Position.{AreDefined, IsFirstUndefined}
 use Rattle.desk_command.specs.declared.command.Command.{Command}
-use Rattle.desk_book.specs.declared.paragraphs.Paragraph.{Paragraph as KeptParagraph}
-use Rattle.desk_book.specs.declared.tables.BookTable.{BookTable}
+use Rattle.desk_memory.specs.declared.paragraphs.Paragraph.{Paragraph as KeptParagraph}
+use Rattle.desk_memory.specs.declared.tables.BookTable.{BookTable}
 use Rattle.desk_command.specs.declared.refusal.Limit.TheVariants.{Paragraphs, Version}
 use Rattle.desk_command.specs.declared.refusal.Refusal.{Refusal}
 use Rattle.desk_command.specs.declared.refusal.Refusal.TheVariants.{BadText, Full, NoMemory, NoParagraph, NoTable, NotStruck, Struck, TooLong, Undefined}
 use Rattle.desk_model.specs.Book.{Book, Paragraph, paragraph_of, text_of}
 use Rattle.desk_model.specs.Judging.{Passes, first_turn_after_asking}
-use Rattle.desk_book.specs.Kept.{paragraph_kept}
+use Rattle.desk_memory.specs.Kept.{paragraph_kept}
 use Rattle.desk_model.specs.Limits.{most_paragraphs, most_print, most_version}
 use Rattle.desk_book.specs.Plans.{AreNotAllThere, AreThere, IsKeptFor, IsTableFor, IsTurnedDown}
 use Rattle.desk_model.specs.Named.{adds_paragraph, live_paragraph, paragraphs_named, struck_paragraph, table_named, text_given}

@@ -7,22 +7,23 @@ use Rattle.desk_book.specs.declared.change.Effect.{Effect}
 use Rattle.desk_book.specs.declared.corrections.NewEntry.{NewEntry}
 use Rattle.desk_command.specs.declared.command.Command.{Command}
 use Rattle.desk_command.specs.declared.command.Command.TheVariants.{Undo}
-use Rattle.desk_book.specs.declared.history.Correction.{Correction}
-use Rattle.desk_book.specs.declared.history.KeptEntry.TheVariants.{Undoes as KeptUndoes}
-use Rattle.desk_book.specs.declared.paragraphs.Paragraph.{Paragraph as KeptParagraph}
+use Rattle.desk_memory.specs.declared.history.Correction.{Correction}
+use Rattle.desk_memory.specs.declared.history.KeptEntry.TheVariants.{Undoes as KeptUndoes}
+use Rattle.desk_memory.specs.declared.paragraphs.Paragraph.{Paragraph as KeptParagraph}
 use Rattle.desk_command.specs.declared.refusal.Refusal.{Refusal}
 use Rattle.desk_command.specs.declared.refusal.Refusal.TheVariants.{NoMemory, NothingToUndo}
 use Rattle.desk_model.specs.Book.{Book, Undoes, Paragraph, Replacement}
 use Rattle.desk_book.specs.Changes.{Does}
-use Rattle.desk_book.specs.Corrections.{HaltsEntry, HaltsPrint, IsEntered, IsUnfit, TakesEntry, replaced_by}
-use Rattle.desk_book.specs.Histories.{IsNewestInForce, LeavePrint, TookFrom, entries_kept, entry_kept, replacement_kept}
+use Rattle.desk_book.specs.Corrections.{HaltsEntry, HaltsPrint, IsEntered, IsUnfit, TakesEntry}
+use Rattle.desk_memory.specs.Histories.{replaced_by}
+use Rattle.desk_memory.specs.Histories.{IsNewestInForce, LeavePrint, TookFrom, entries_kept, entry_kept, replacement_kept}
 use Rattle.desk_model.specs.Judging.{Passes}
 use Rattle.desk_model.specs.Limits.{most_print}
 use Rattle.desk_model.specs.Marks.{mark_moved_back, mark_moved_by}
 use Rattle.desk_book.specs.Plans.{IsPlanned, IsTurnedDown}
 use Rattle.desk_model.specs.Print.{corrected_print, newest, print_of, print_undone, with_entry}
 use Rattle.desk_model.specs.Refusals.{HasLongNote, HasLongText}
-use Rattle.desk_book.specs.Display.{IsShown}
+use Rattle.desk_memory.specs.Display.{IsShown}
 use Rattle.desk_model.specs.Sound.{AreSoundEntries}
 use Rattle.desk_model.specs.Step.{next_with_entry}
 use Rattle.desk_book.proofs.Plans.EntryPlanned.{ChangesPrint-entered}
@@ -31,7 +32,7 @@ use Rattle.desk_book.proofs.Plans.EntryPlanning.{accepts_entry, halted, lacking,
 use Rattle.desk_model.proofs.Commands.Turns.{passes_to, to_turn}
 use Rattle.desk_model.proofs.Commands.Judging.{Passes-past}
 use Rattle.desk_book.proofs.Plans.Planning.{turned_down}
-use Rattle.desk_book.proofs.Kept.UndonePrints.{taken-span, text-span, undone-length, undone-print}
+use Rattle.desk_memory.proofs.Callers.{taken-span, text-span, undone-length, undone-print}
 
 module _ (book : Book) (id : ℕ) where
   abbrev command : Command

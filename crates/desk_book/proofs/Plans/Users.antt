@@ -7,10 +7,11 @@ use Rattle.std.proofs.lemmas.List.Elements.{All-contains, All-nil, Contains-get_
 use Rattle.std.proofs.lemmas.Option.{slice_get-get_or}
 use Rattle.louis_table.specs.Meaning.{Meaning}
 use Rattle.louis_translate.specs.Position.{AreDefined, IsFirstUndefined}
-use Rattle.desk_book.specs.declared.paragraphs.Paragraph.{Paragraph as KeptParagraph}
+use Rattle.desk_memory.specs.declared.paragraphs.Paragraph.{Paragraph as KeptParagraph}
 use Rattle.desk_model.specs.Book.{Book, Paragraph, paragraph_of}
-use Rattle.desk_book.specs.Changes.{AreCellsOf, AreRenewed}
-use Rattle.desk_book.specs.Kept.{paragraph_kept}
+use Rattle.desk_book.specs.Changes.{AreRenewed}
+use Rattle.desk_memory.specs.Braille.{AreCellsOf}
+use Rattle.desk_memory.specs.Kept.{paragraph_kept}
 use Rattle.desk_model.specs.Refusals.{DefinesUser, IsFirstUser}
 use Rattle.desk_book.specs.Plans.{IsKeptFor}
 use Rattle.desk_model.specs.Print.{print_of}

@@ -11,23 +11,23 @@ use Rattle.louis_translate.specs.Braille.{braille}
 use Rattle.louis_translate.specs.Tiling.{Tiles}
 use Rattle.desk_model.specs.declared.new_tables.NewTables.{NewTables}
 use Rattle.desk_model.specs.declared.new_tables.NewTables.TheVariants.{Braille, Entries, EntriesAndBraille}
-use Rattle.desk_book.specs.declared.history.KeptEntry.{KeptEntry}
-use Rattle.desk_book.specs.declared.marks.KeptMark.{KeptMark}
-use Rattle.desk_book.specs.declared.paragraphs.Paragraph.{Paragraph as KeptParagraph}
+use Rattle.desk_memory.specs.declared.history.KeptEntry.{KeptEntry}
+use Rattle.desk_memory.specs.declared.marks.KeptMark.{KeptMark}
+use Rattle.desk_memory.specs.declared.paragraphs.Paragraph.{Paragraph as KeptParagraph}
 use Rattle.desk_model.specs.Book.{Book, Entry, Paragraph}
 use Rattle.desk_book.specs.ChangePuts.{entry_row}
 use Rattle.desk_model.specs.Loans.{row_number}
 use Rattle.desk_parts.specs.FileRows.{HasEntryTexts, spelled_entry}
 use Rattle.desk_model.specs.FilledRows.{AreEntriesOf, Fills}
 use Rattle.desk_book.specs.Filling.{HaveHistories, braille_from, braille_put, histories_from, history_puts}
-use Rattle.desk_book.specs.Histories.{entries_kept, entry_kept}
-use Rattle.desk_book.specs.Kept.{IsKept, IsKeptParagraph, KeptParagraphs, KeptTables, book_kept, paragraph_kept}
+use Rattle.desk_memory.specs.Histories.{entries_kept, entry_kept}
+use Rattle.desk_memory.specs.Kept.{IsKept, IsKeptParagraph, KeptParagraphs, KeptTables, book_kept, paragraph_kept}
 use Rattle.desk_parts.specs.Puts.{PutBook, PutCache, PutEntry, RowPut, RowPuts}
 use Rattle.desk_parts.specs.Rows.{ParaCells, NamedCorr}
 use Rattle.desk_model.specs.Shows.{AreCached, IsCached, entry_row_of, entry_rows_of}
 use Rattle.desk_model.specs.Sound.{IsSoundParagraph}
 use Rattle.desk_model.proofs.Lists.Items.{All-from_map, drop-past, drop-there}
-use Rattle.desk_book.proofs.Kept.KeptBooks.{means-kept, text_of-kept}
+use Rattle.desk_memory.proofs.Callers.{means-kept, text_of-kept}
 use Rattle.desk_model.proofs.Lists.Members.{Contains-map}
 use Rattle.desk_model.proofs.Lists.Permutations.{IsPermutation-same}
 use Rattle.desk_book.proofs.RowPuts.PutPlaces.{map-agree}

@@ -8,15 +8,15 @@ use Rattle.louis_table.specs.Meaning.{Meaning}
 use Rattle.louis_table.specs.Table.{Means}
 use Rattle.desk_book.specs.declared.change.Effect.{Effect}
 use Rattle.desk_book.specs.declared.change.Effect.TheVariants as effect
-use Rattle.desk_book.specs.declared.history.KeptEntry.{KeptEntry}
-use Rattle.desk_book.specs.declared.history.KeptEntry.TheVariants.{Corrects, Undoes}
+use Rattle.desk_memory.specs.declared.history.KeptEntry.{KeptEntry}
+use Rattle.desk_memory.specs.declared.history.KeptEntry.TheVariants.{Corrects, Undoes}
 use Rattle.desk_command.specs.declared.command.Command.{Command}
 use Rattle.desk_parts.specs.Puts.{RowPut, SetPlace, SetPrint, SetVersion}
 use Rattle.desk_model.specs.Book.{Book, Mark}
 use Rattle.desk_book.specs.ChangePuts.{cache_put, cells_from, cells_put, effect_puts, elsewhere_from, elsewhere_put, entry_row, further_from, further_put, span_put, stays_in, tab_put}
 use Rattle.desk_model.specs.Loans.{AreLent, Comes, GetsEntry, IsLent, Reorders, next_entry_number, row_number}
 use Rattle.desk_book.specs.Changes.{Carries, Change, Does, change_puts, puts-change_by, has-effect}
-use Rattle.desk_book.specs.Histories.{entry_kept}
+use Rattle.desk_memory.specs.Histories.{entry_kept}
 use Rattle.desk_model.specs.Marks.{mark_moved_by}
 use Rattle.desk_model.specs.ParagraphMarks.{marks_on}
 use Rattle.desk_model.specs.Named.{adds_paragraph, place_given, table_given}

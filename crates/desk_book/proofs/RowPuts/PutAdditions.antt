@@ -8,19 +8,19 @@ use Rattle.std.proofs.lemmas.Bool.{cases_Bool, cond-true, cond-false, ne_eqb}
 use Rattle.std.proofs.lemmas.List.{length-append, map-append}
 use Rattle.std.proofs.lemmas.List.Elements.{All-cons, All-contains, All-filter, All-head, All-map, All-tail, All-weaker, Contains-push}
 use Rattle.std.proofs.lemmas.List.Sorted.{IsPermutation-cons, IsPermutation-refl, IsPermutation-sym, IsPermutation-to_front, IsPermutation-trans}
-use Rattle.desk_book.specs.declared.marks.KeptMark.{KeptMark}
+use Rattle.desk_memory.specs.declared.marks.KeptMark.{KeptMark}
 use Rattle.desk_model.specs.Book.{Book, Mark}
 use Rattle.desk_model.specs.Loans.{LeadTo, row_number}
 use Rattle.desk_book.specs.ChangePuts.{kept_mark_row}
 use Rattle.desk_parts.specs.FileRows.{HasMarkText, format_of, spelled_mark}
-use Rattle.desk_book.specs.Kept.{mark_kept}
+use Rattle.desk_memory.specs.Kept.{mark_kept}
 use Rattle.desk_parts.specs.Puts.{PutMark, SetVersion, put_by_key}
 use Rattle.desk_parts.specs.Rows.{Mark as MarkRow}
 use Rattle.desk_model.specs.Shows.{flag_number, mark_row_of}
 use Rattle.desk_model.specs.Sound.{IsSound, IsSoundMark}
 use Rattle.desk_model.specs.Step.{next_mark, next_with_marks}
 use Rattle.desk_model.proofs.Rows.BookRows.{encoded-text, spelled-encoded}
-use Rattle.desk_book.proofs.Kept.MarkSettled.{IsWithin-sound}
+use Rattle.desk_memory.proofs.Callers.{IsWithin-sound}
 use Rattle.desk_model.proofs.Lists.Permutations.{IsPermutation-filter}
 use Rattle.desk_book.proofs.RowPuts.PutChanges.{IsCached-marks, same_key, small_mark}
 use Rattle.desk_model.proofs.Rows.PutRows.{AreCached-same, filter-all, id_number, number-small, versioned}

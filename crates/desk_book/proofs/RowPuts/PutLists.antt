@@ -5,7 +5,7 @@ use Rattle.std.specs.Prelude.{IsUtf8, option_map, slice_get}
 use Rattle.std.specs.Str.{chars}
 use Rattle.std.proofs.lemmas.Str.{encodes-chars}
 use Rattle.desk_model.proofs.Lists.Items.{drop-there, drop-past}
-use Rattle.desk_book.proofs.Kept.ToldEntries.{slice_get-enumerate}
+use Rattle.desk_memory.proofs.Callers.{slice_get-enumerate}
 
 module _ {X : Type 0} (xs : List X) (i : ℕ) where
   -- the item at the index, with its number from 1, and those after it

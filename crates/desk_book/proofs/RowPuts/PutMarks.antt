@@ -9,7 +9,7 @@ use Rattle.desk_book.specs.ChangePuts.{AreSpans}
 use Rattle.desk_model.specs.Limits.{most_print}
 use Rattle.desk_model.specs.ParagraphMarks.{marks_on}
 use Rattle.desk_model.specs.Sound.{IsSound, IsSoundMark}
-use Rattle.desk_book.proofs.Kept.MarkSettled.{IsWithin-sound}
+use Rattle.desk_memory.proofs.Callers.{IsWithin-sound}
 
 module _ (book : Book) (id : ℕ) (sound : IsSound book) where
   -- they stand within a print

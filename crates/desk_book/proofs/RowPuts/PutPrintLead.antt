@@ -14,14 +14,14 @@ use Rattle.std.proofs.lemmas.List.Sorted.{IsPermutation-cons, IsPermutation-tran
 use Rattle.std.proofs.lemmas.Simd.{map-map}
 use Rattle.louis_translate.specs.Braille.{braille}
 use Rattle.louis_translate.specs.Tiling.{Tiles}
-use Rattle.desk_book.specs.declared.change.PrintChange.{PrintChange}
+use Rattle.desk_memory.specs.declared.paragraphs.PrintChange.{PrintChange}
 use Rattle.desk_parts.specs.declared.file_table.FileTable.TheVariants.{NamedCorr as NamedCorrTable}
 use Rattle.desk_model.specs.Book.{Book, Entry, Mark, Paragraph, paragraph_of}
 use Rattle.desk_model.specs.Loans.{LeadTo, row_number}
 use Rattle.desk_book.specs.ChangePuts.{cache_put, entry_row, span_put}
 use Rattle.desk_book.specs.Changes.{ChangesPrint}
 use Rattle.desk_parts.specs.FileRows.{EntryRows, FileRows, HasEntryTexts, HasMarkText, HasParaTexts, Named, Unnamed, entries_in, format_of, spelled_entry, spelled_mark, spelled_para, table_of}
-use Rattle.desk_book.specs.Histories.{entry_kept}
+use Rattle.desk_memory.specs.Histories.{entry_kept}
 use Rattle.desk_model.specs.Marks.{mark_moved_by}
 use Rattle.desk_model.specs.ParagraphMarks.{marks_on}
 use Rattle.desk_model.specs.Print.{corrected_print, print_of, with_entry}
@@ -32,7 +32,7 @@ use Rattle.desk_model.specs.Sound.{IsSound, IsSoundEntry, IsSoundMark, IsSoundPa
 use Rattle.desk_model.specs.Step.{moved_on, next_with_entry}
 use Rattle.desk_command.specs.Characters.{AreCharacters}
 use Rattle.desk_model.proofs.Rows.BookRows.{HasCharacters, encoded-text, entry-text, history-characters, spelled-encoded}
-use Rattle.desk_book.proofs.Kept.MarkSettled.{IsWithin-sound}
+use Rattle.desk_memory.proofs.Callers.{IsWithin-sound}
 use Rattle.desk_model.proofs.Lists.Members.{Contains-behind, Contains-cases, Contains-here, Contains-map, Contains-none}
 use Rattle.desk_model.proofs.Books.ParagraphLists.{found-changed, id-found}
 use Rattle.desk_model.proofs.Books.PrintCharacters.{HasText, print-all}

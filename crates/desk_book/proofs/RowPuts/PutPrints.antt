@@ -10,13 +10,13 @@ use Rattle.std.proofs.lemmas.List.Elements.{All-cons, All-head, All-nil, All-tai
 use Rattle.std.proofs.lemmas.List.Sorted.{IsPermutation-cons, IsPermutation-map, IsPermutation-middle, IsPermutation-sym, IsPermutation-trans}
 use Rattle.std.proofs.lemmas.Simd.{map-map}
 use Rattle.std.proofs.lemmas.Str.{chars-nil}
-use Rattle.desk_book.specs.declared.history.KeptEntry.{KeptEntry}
-use Rattle.desk_book.specs.declared.history.KeptEntry.TheVariants.{Corrects as KeptCorrects, Undoes as KeptUndoes}
+use Rattle.desk_memory.specs.declared.history.KeptEntry.{KeptEntry}
+use Rattle.desk_memory.specs.declared.history.KeptEntry.TheVariants.{Corrects as KeptCorrects, Undoes as KeptUndoes}
 use Rattle.desk_model.specs.Book.{Entry, Mark, Paragraph, Replacement}
 use Rattle.desk_book.specs.ChangePuts.{entry_row, span_put}
 use Rattle.desk_model.specs.Loans.{row_number}
 use Rattle.desk_parts.specs.FileRows.{FileRows, HasEntryTexts, HasMarkText, spelled_entry, spelled_mark}
-use Rattle.desk_book.specs.Histories.{entry_kept}
+use Rattle.desk_memory.specs.Histories.{entry_kept}
 use Rattle.desk_model.specs.Marks.{mark_moved_by}
 use Rattle.desk_model.specs.Print.{corrected_print, newest, with_entry}
 use Rattle.desk_parts.specs.Puts.{with_puts}

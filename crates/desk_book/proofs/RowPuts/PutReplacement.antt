@@ -13,9 +13,10 @@ use Rattle.louis_table.specs.Table.{Means}
 use Rattle.desk_model.specs.Book.{Book, Paragraph, paragraph_of}
 use Rattle.desk_model.specs.Loans.{LeadTo, row_number}
 use Rattle.desk_book.specs.ChangePuts.{cells_from, cells_put}
-use Rattle.desk_book.specs.Changes.{AreCellsOf, AreRenewed}
+use Rattle.desk_book.specs.Changes.{AreRenewed}
+use Rattle.desk_memory.specs.Braille.{AreCellsOf}
 use Rattle.desk_parts.specs.FileRows.{FileRows}
-use Rattle.desk_book.specs.Kept.{new_cells}
+use Rattle.desk_memory.specs.Kept.{new_cells}
 use Rattle.desk_model.specs.Print.{print_of}
 use Rattle.desk_parts.specs.Puts.{PutTab, SetVersion, put_by_key, with_puts}
 use Rattle.desk_parts.specs.Rows.{ParaCells}

@@ -7,13 +7,13 @@ use Rattle.desk_book.specs.declared.change.Effect.{Effect}
 use Rattle.desk_book.specs.declared.change.Effect.TheVariants as effect
 use Rattle.desk_command.specs.declared.command.Command.{Command}
 use Rattle.desk_command.specs.declared.command.Command.TheVariants.{TypeIn}
-use Rattle.desk_book.specs.declared.history.KeptEntry.{KeptEntry}
+use Rattle.desk_memory.specs.declared.history.KeptEntry.{KeptEntry}
 use Rattle.desk_model.specs.Book.{Book, Paragraph, paragraph_of}
 use Rattle.desk_model.specs.Loans.{LeadTo, row_number}
 use Rattle.desk_book.specs.ChangePuts.{cache_put, effect_puts, entry_row, span_put}
 use Rattle.desk_book.specs.Changes.{Carries, Change, ChangesPrint, Does, IsEffect, change_puts, puts-change_by, has-effect}
-use Rattle.desk_book.specs.Histories.{entries_kept, entry_kept}
-use Rattle.desk_book.specs.Kept.{paragraph_kept}
+use Rattle.desk_memory.specs.Histories.{entries_kept, entry_kept}
+use Rattle.desk_memory.specs.Kept.{paragraph_kept}
 use Rattle.desk_model.specs.Marks.{mark_moved_by}
 use Rattle.desk_model.specs.ParagraphMarks.{marks_on}
 use Rattle.desk_parts.specs.Puts.{PutEntry, RowPut, SetPrint, SetVersion}

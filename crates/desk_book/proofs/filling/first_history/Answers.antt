@@ -1,9 +1,9 @@
 use Rattle.std.proofs.Common.{◌+◌, ◌++◌, sym, ap, ◌∙◌}
 use Rattle.desk_book.specs.Filling.{entry_puts_from, histories_from}
-use Rattle.desk_book.specs.Kept.{KeptParagraphs}
+use Rattle.desk_memory.specs.Kept.{KeptParagraphs}
 use Rattle.desk_parts.specs.Puts.{RowPuts}
 use Rattle.desk_book.proofs.RowPuts.FilledTables.{histories-there}
-use Rattle.desk_book.proofs.Kept.WalkedLists.{walk-at}
+use Rattle.desk_memory.proofs.Callers.{walk-at}
 use Rattle.desk_book.proofs.filling.first_history.Goals as goal
 
 pub returns-in-Some-next-clause-found : goal.returns-in-Some-next-clause-found

@@ -1,7 +1,7 @@
 use Rattle.std.proofs.Common.{◌+◌, sym, ap, subst, ◌∙◌, arith}
 use Rattle.std.specs.Prelude.{option_map}
 use Rattle.louis_translate.specs.Position.{AreDefined}
-use Rattle.desk_book.specs.Kept.{paragraph_kept}
+use Rattle.desk_memory.specs.Kept.{paragraph_kept}
 use Rattle.desk_book.proofs.Kept.KeptLookups.{IsKeptFor-lookup, count-paragraphs, paragraph_of-kept, sound}
 use Rattle.desk_book.proofs.Plans.Users.{AreRenewed-each, DefinesUser-found, Renews, Renews-found, Renews-missing, RenewsEach, RenewsEach-push}
 use Rattle.desk_book.proofs.book.Book.cells_by.Goals as goal

@@ -1,6 +1,6 @@
 use Rattle.std.proofs.Common.{length, ap, refl, arith}
 use Rattle.desk_model.specs.Book.{Book}
-use Rattle.desk_book.proofs.Kept.MarkSettled.{count-marks}
+use Rattle.desk_memory.proofs.Callers.{count-marks}
 use Rattle.desk_book.proofs.book.Book.check_marks.Goals as goal
 
 pub returns-then-len-ge-MOST_MARKS-clause-full : goal.returns-then-len-ge-MOST_MARKS-clause-full

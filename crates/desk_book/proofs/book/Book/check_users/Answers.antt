@@ -1,7 +1,7 @@
 use Rattle.std.proofs.Common.{ℕ, List, sym, subst, arith}
 use Rattle.std.proofs.lemmas.Result.{err_from_is_err_and}
 use Rattle.louis_translate.specs.Position.{IsFirstUndefined}
-use Rattle.desk_book.specs.Kept.{paragraph_kept}
+use Rattle.desk_memory.specs.Kept.{paragraph_kept}
 use Rattle.desk_book.proofs.Kept.KeptLookups.{count-paragraphs, kept-at, kept-past}
 use Rattle.desk_book.proofs.Plans.Users.{DefinesUser-kept, DefinesUsersBelow-all, DefinesUsersBelow-more, IsFirstUser-at}
 use Rattle.desk_book.proofs.book.Book.check_users.Goals as goal

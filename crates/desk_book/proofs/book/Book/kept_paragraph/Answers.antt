@@ -3,8 +3,8 @@ use Rattle.std.specs.Map.{lookup}
 use Rattle.std.specs.Option.{option_copied}
 use Rattle.std.specs.Prelude.{nat_eq}
 use Rattle.desk_model.specs.Book.{Book, paragraph_of}
-use Rattle.desk_book.specs.Display.{IsShown}
-use Rattle.desk_book.proofs.Kept.KeptBooks.{missing-kept, table-kept, IsShown-found}
+use Rattle.desk_memory.specs.Display.{IsShown}
+use Rattle.desk_memory.proofs.Callers.{IsShown-found, missing-kept, table-kept}
 use Rattle.desk_book.proofs.Kept.KeptLookups.{IfErr-ok_or, IfOk-ok_or}
 use Rattle.desk_book.proofs.book.Book.kept_paragraph.Goals as goal
 

@@ -2,9 +2,9 @@ use Rattle.std.proofs.Common.{◌≡◌, None, Some, refl, sym, ap, subst, ◌�
 use Rattle.std.specs.Option.{option_copied}
 use Rattle.std.specs.Prelude.{option_map}
 use Rattle.desk_model.specs.Book.{Book, mark_of}
-use Rattle.desk_book.specs.Kept.{mark_kept}
+use Rattle.desk_memory.specs.Kept.{mark_kept}
 use Rattle.desk_book.proofs.Kept.KeptLookups.{IfErr-ok_or, IfOk-ok_or}
-use Rattle.desk_book.proofs.Kept.MarkSettled.{found-mark}
+use Rattle.desk_memory.proofs.Callers.{found-mark}
 use Rattle.desk_book.proofs.book.Book.mark.Goals as goal
 
 pub returns-clause-found : goal.returns-clause-found

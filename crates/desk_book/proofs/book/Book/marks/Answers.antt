@@ -1,15 +1,14 @@
 use Rattle.std.proofs.Common.{◌≡◌, ℕ, List, Some, refl, sym, ap, subst, ◌∙◌}
-use Rattle.desk_book.specs.declared.marks.KeptMark.{KeptMark}
+use Rattle.desk_memory.specs.declared.marks.KeptMark.{KeptMark}
 use Rattle.std.specs.Map.{lookup}
 use Rattle.std.specs.Option.{option_copied}
 use Rattle.std.specs.Prelude.{nat_eq, option_map}
-use Rattle.desk_book.specs.declared.paragraphs.Paragraph.{Paragraph as KeptParagraph}
+use Rattle.desk_memory.specs.declared.paragraphs.Paragraph.{Paragraph as KeptParagraph}
 use Rattle.desk_model.specs.Book.{Book, paragraph_of}
-use Rattle.desk_book.specs.Kept.{HasMarks, paragraph_kept}
-use Rattle.desk_book.specs.ItemsLeft.{AreMarks, marks_at}
+use Rattle.desk_memory.specs.Kept.{HasMarks, paragraph_kept}
+use Rattle.desk_memory.specs.ItemsLeft.{AreMarks, marks_at}
 use Rattle.desk_model.specs.ParagraphMarks.{marks_on}
-use Rattle.desk_book.proofs.Kept.KeptBooks.{All-found, found-kept}
-use Rattle.desk_book.proofs.Kept.MarkIndexes.{AreMarks-on, marks-at_all}
+use Rattle.desk_memory.proofs.Callers.{All-found, AreMarks-on, found-kept, marks-at_all}
 use Rattle.desk_book.proofs.Kept.KeptLookups.{missing}
 use Rattle.desk_book.proofs.book.Book.marks.Goals as goal
 

@@ -1,7 +1,7 @@
 use Rattle.std.proofs.Common.{refl, sym, ap, ◌∙◌}
 use Rattle.std.specs.Option.{option_copied}
 use Rattle.std.specs.Prelude.{option_map}
-use Rattle.desk_book.specs.Kept.{paragraph_kept}
+use Rattle.desk_memory.specs.Kept.{paragraph_kept}
 use Rattle.desk_book.proofs.Kept.KeptLookups.{IfErr-ok_or, IfOk-ok_or, IsKeptFor-lookup, paragraph_of-kept}
 use Rattle.desk_book.proofs.book.Book.named.Goals as goal
 

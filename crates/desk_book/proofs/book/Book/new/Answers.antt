@@ -1,7 +1,7 @@
 use Rattle.std.proofs.Common.{List, [], sym, subst}
-use Rattle.desk_book.specs.declared.marks.KeptMark.{KeptMark}
-use Rattle.desk_book.specs.Kept.{KeptTables, KeptParagraphs, IsKept}
-use Rattle.desk_book.proofs.Kept.KeptBooks.{IsKept-empty}
+use Rattle.desk_memory.specs.declared.marks.KeptMark.{KeptMark}
+use Rattle.desk_memory.specs.Kept.{KeptTables, KeptParagraphs, IsKept}
+use Rattle.desk_memory.proofs.Callers.{IsKept-empty}
 use Rattle.desk_book.proofs.book.Book.new.Goals as goal
 
 pub invariant_of-result : goal.invariant_of-result

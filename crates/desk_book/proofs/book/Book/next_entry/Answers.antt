@@ -3,8 +3,8 @@ use Rattle.std.specs.Option.{option_copied}
 use Rattle.std.specs.Prelude.{option_map}
 use Rattle.std.proofs.lemmas.List.{length-map}
 use Rattle.desk_model.specs.Book.{Paragraph, paragraph_of}
-use Rattle.desk_book.specs.Histories.{entry_kept}
-use Rattle.desk_book.specs.Kept.{paragraph_kept}
+use Rattle.desk_memory.specs.Histories.{entry_kept}
+use Rattle.desk_memory.specs.Kept.{paragraph_kept}
 use Rattle.desk_book.proofs.Kept.KeptLookups.{paragraph_of-kept, sound}
 use Rattle.desk_model.proofs.Books.SoundBooks.{IsSoundParagraph-found}
 use Rattle.desk_book.proofs.book.Book.next_entry.Goals as goal

@@ -3,11 +3,11 @@ use Rattle.std.specs.Map.{lookup}
 use Rattle.std.specs.Option.{option_copied}
 use Rattle.std.specs.Prelude.{nat_eq}
 use Rattle.std.specs.Cmp.Lexicographic.{pointwise}
-use Rattle.desk_book.specs.declared.paragraphs.Paragraph.{Paragraph as KeptParagraph}
-use Rattle.desk_book.specs.declared.tables.BookTable.{BookTable}
+use Rattle.desk_memory.specs.declared.paragraphs.Paragraph.{Paragraph as KeptParagraph}
+use Rattle.desk_memory.specs.declared.tables.BookTable.{BookTable}
 use Rattle.desk_model.specs.Book.{Book}
-use Rattle.desk_book.specs.Display.{IsShown}
-use Rattle.desk_book.proofs.Kept.KeptBooks.{table-kept, IsShown-found}
+use Rattle.desk_memory.specs.Display.{IsShown}
+use Rattle.desk_memory.proofs.Callers.{IsShown-found, table-kept}
 use Rattle.desk_book.proofs.Kept.KeptLookups.{missing}
 use Rattle.desk_book.proofs.book.Book.paragraph_and_rules.Goals as goal
 

@@ -1,13 +1,14 @@
 use Rattle.std.proofs.Common.{◌≡◌, ◌+◌, ◌-◌, ◌≤◌, List, ℕ, length, sym, ap, subst, ◌∙◌, refl}
 use Rattle.std.proofs.lemmas.Result.{err_from_is_err_and}
-use Rattle.desk_book.specs.Corrections.{HaltsEntry, IsCorrection, TakesEntry, replaced_by}
+use Rattle.desk_book.specs.Corrections.{HaltsEntry, TakesEntry}
+use Rattle.desk_memory.specs.Histories.{IsCorrection, replaced_by}
 use Rattle.desk_model.specs.Limits.{most_print}
 use Rattle.desk_model.specs.Print.{print_of, with_replacement}
 use Rattle.desk_model.specs.Step.{replacement_by}
 use Rattle.desk_model.specs.NormalForm.{normal_form}
 use Rattle.desk_book.proofs.Plans.CorrectPlanning.{counted, halted_here, no_memory_here, planned_here, undefined_here}
-use Rattle.desk_book.proofs.Plans.EntryPlanned.{TookFrom-correction, entry-correction}
-use Rattle.desk_book.proofs.Kept.KeptLookups.{IfErr-weaker, IfOk-weaker}
+use Rattle.desk_memory.proofs.Callers.{TookFrom-correction, entry-correction}
+use Rattle.std.proofs.lemmas.Result.{IfErr-weaker, IfOk-weaker}
 use Rattle.desk_book.proofs.book.Book.plan_correct.Goals as goal
 use Rattle.desk_book.proofs.book.Book.plan_correct.Goals.{After-len, After-len-2, In_ok-check_span}
 

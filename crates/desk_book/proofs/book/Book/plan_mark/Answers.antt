@@ -1,11 +1,10 @@
 use Rattle.std.proofs.Common.{◌≡◌, ℕ, length, refl, sym, ap, subst, ◌∙◌, arith}
 use Rattle.std.proofs.lemmas.Result.{err_from_is_err_and}
 use Rattle.desk_model.specs.Book.{Book}
-use Rattle.desk_book.specs.Room.{Suffices}
+use Rattle.desk_memory.specs.Room.{Suffices}
 use Rattle.desk_command.specs.Characters.{AreCharacters}
-use Rattle.desk_book.proofs.Kept.MarkIndexes.{few-on}
+use Rattle.desk_memory.proofs.Callers.{count-marks, few-on}
 use Rattle.desk_book.proofs.Plans.MarkPlanning.{accepted_mark, full_marks, full_of_versions, has_cells, long_note, marked_here, no_memory_here}
-use Rattle.desk_book.proofs.Kept.MarkSettled.{count-marks}
 use Rattle.desk_book.proofs.book.Book.plan_mark.Goals as goal
 
 pub span_of_cells-requires-clause-cells : goal.span_of_cells-requires-clause-cells

@@ -2,15 +2,15 @@ use Rattle.std.proofs.Common.{◌≡◌, ℕ, None, refl, sym, ap, ◌∙◌}
 use Rattle.std.proofs.lemmas.Result.{err_from_is_err_and}
 use Rattle.desk_command.specs.declared.command.Anchor.{Anchor}
 use Rattle.desk_command.specs.declared.command.Command.TheVariants.{Move}
-use Rattle.desk_book.specs.declared.paragraphs.Paragraph.{Paragraph as KeptParagraph}
+use Rattle.desk_memory.specs.declared.paragraphs.Paragraph.{Paragraph as KeptParagraph}
 use Rattle.desk_model.specs.Book.{Book}
 use Rattle.desk_model.specs.Judging.{Passes}
-use Rattle.desk_book.specs.Kept.{with_id_moved}
+use Rattle.desk_memory.specs.Kept.{with_id_moved}
 use Rattle.desk_book.specs.Plans.{AreThere, IsKeptFor}
 use Rattle.desk_model.specs.Named.{paragraph_before}
 use Rattle.desk_model.specs.Step.{with_move}
 use Rattle.desk_book.proofs.Kept.KeptLookups.{ids_of-book, sound}
-use Rattle.desk_book.proofs.Kept.OrderLists.{ids_of-with_move}
+use Rattle.desk_memory.proofs.Callers.{ids_of-with_move}
 use Rattle.desk_model.proofs.Books.ParagraphLists.{ids_of}
 use Rattle.desk_model.proofs.Books.SoundSteps.{IsPermutation-moved}
 use Rattle.desk_book.proofs.Plans.Planning.{AreNotAllThere-cons, AreThere-cons, full_version, no_memory, no_paragraph, past_paragraphs, unnamed}

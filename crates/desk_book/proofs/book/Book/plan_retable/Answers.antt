@@ -3,13 +3,13 @@ use Rattle.std.specs.Prelude.{option_map}
 use Rattle.std.proofs.lemmas.Result.{err_from_is_err_and}
 use Rattle.louis_translate.specs.Position.{AreDefined, IsFirstUndefined}
 use Rattle.desk_command.specs.declared.command.Command.TheVariants.{Retable}
-use Rattle.desk_book.specs.declared.paragraphs.Paragraph.{Paragraph as KeptParagraph}
-use Rattle.desk_book.specs.declared.tables.BookTable.{BookTable}
+use Rattle.desk_memory.specs.declared.paragraphs.Paragraph.{Paragraph as KeptParagraph}
+use Rattle.desk_memory.specs.declared.tables.BookTable.{BookTable}
 use Rattle.desk_command.specs.declared.refusal.Refusal.TheVariants.{Struck}
 use Rattle.desk_model.specs.Book.{Book}
-use Rattle.desk_book.specs.Changes.{AreCellsOf}
+use Rattle.desk_memory.specs.Braille.{AreCellsOf}
 use Rattle.desk_model.specs.Judging.{Passes}
-use Rattle.desk_book.specs.Kept.{paragraph_kept}
+use Rattle.desk_memory.specs.Kept.{paragraph_kept}
 use Rattle.desk_model.specs.Limits.{most_version}
 use Rattle.desk_book.specs.Plans.{IsKeptFor, IsTableFor}
 use Rattle.desk_model.specs.Print.{print_of}

@@ -4,21 +4,21 @@ use Rattle.std.proofs.lemmas.Result.{err_from_is_err_and}
 use Rattle.louis_translate.specs.Position.{AreDefined, IsFirstUndefined}
 use Rattle.desk_command.specs.declared.command.Anchor.{Anchor}
 use Rattle.desk_command.specs.declared.command.Command.TheVariants.{TypeIn}
-use Rattle.desk_book.specs.declared.tables.BookTable.{BookTable}
+use Rattle.desk_memory.specs.declared.tables.BookTable.{BookTable}
 use Rattle.desk_command.specs.declared.refusal.Refusal.{Refusal}
 use Rattle.desk_command.specs.declared.refusal.Refusal.TheVariants.{NoMemory}
 use Rattle.desk_model.specs.Book.{Book}
 use Rattle.desk_model.specs.Judging.{Passes}
-use Rattle.desk_book.specs.Kept.{with_id}
+use Rattle.desk_memory.specs.Kept.{with_id}
 use Rattle.desk_model.specs.Limits.{most_paragraphs, most_print, most_version}
 use Rattle.desk_book.specs.Plans.{AreThere, IsNewParagraph, IsTableFor, IsTurnedDown}
 use Rattle.desk_model.specs.Named.{paragraph_before}
-use Rattle.desk_book.specs.Room.{Suffices}
+use Rattle.desk_memory.specs.Room.{Suffices}
 use Rattle.desk_model.specs.Step.{new_paragraph, next_id, with_paragraph}
 use Rattle.desk_model.specs.NormalForm.{IsUnbarred, normal_form}
 use Rattle.desk_book.proofs.Kept.KeptLookups.{Contains-there, count-paragraphs, ids_of-book}
 use Rattle.desk_book.proofs.Plans.NewParagraphs.{IsKeptTyped-new}
-use Rattle.desk_book.proofs.Kept.OrderLists.{ids_of-with_paragraph}
+use Rattle.desk_memory.proofs.Callers.{ids_of-with_paragraph}
 use Rattle.desk_model.proofs.Books.ParagraphLists.{ids_of}
 use Rattle.desk_model.proofs.Commands.Turns.{accepted_after, passes_to, past_length, past_room, past_table, past_text, past_version, to_turn}
 use Rattle.desk_book.proofs.Plans.Planning.{bad_text, full_paragraphs, full_version, no_memory, no_paragraph, no_table, past_paragraphs, past_print, too_long, undefined}

@@ -1,11 +1,12 @@
 use Rattle.std.proofs.Common.{◌≡◌, ℕ, ◌+◌, ◌-◌, ◌≤◌, List, length, sym, ap, subst, ◌∙◌, refl, arith}
 use Rattle.std.proofs.lemmas.Result.{err_from_is_err_and}
-use Rattle.desk_book.specs.Corrections.{HaltsEntry, TakesEntry, replaced_by}
-use Rattle.desk_book.specs.Histories.{IsNewestInForce, entries_kept}
+use Rattle.desk_book.specs.Corrections.{HaltsEntry, TakesEntry}
+use Rattle.desk_memory.specs.Histories.{replaced_by}
+use Rattle.desk_memory.specs.Histories.{IsNewestInForce, entries_kept}
 use Rattle.desk_model.specs.Book.{Undoes}
 use Rattle.desk_model.specs.Print.{print_of, with_entry}
 use Rattle.desk_model.specs.Sound.{AreSoundEntries}
-use Rattle.desk_book.proofs.Kept.KeptLookups.{IfErr-weaker, IfOk-weaker}
+use Rattle.std.proofs.lemmas.Result.{IfErr-weaker, IfOk-weaker}
 use Rattle.desk_book.proofs.Plans.UndoPlanning.{back, counted, halted_here, no_memory_here, planned_here, sound_kept, span_here, undefined_here}
 use Rattle.desk_book.proofs.book.Book.plan_undo.Goals as goal
 use Rattle.desk_book.proofs.book.Book.plan_undo.Goals.{After-as_slice-old, In_ok-undone}

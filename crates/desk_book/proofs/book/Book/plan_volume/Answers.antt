@@ -1,7 +1,7 @@
 use Rattle.std.proofs.Common.{[], refl, ap}
 use Rattle.std.proofs.lemmas.Result.{err_from_is_err_and}
 use Rattle.desk_command.specs.declared.command.Command.TheVariants.{Volume}
-use Rattle.desk_book.specs.Kept.{paragraph_kept}
+use Rattle.desk_memory.specs.Kept.{paragraph_kept}
 use Rattle.desk_model.specs.Step.{next_with_paragraphs}
 use Rattle.desk_model.proofs.Commands.Turns.{accepted_after, past_version}
 use Rattle.desk_book.proofs.Plans.Planning.{full_version, past_named, unnamed}

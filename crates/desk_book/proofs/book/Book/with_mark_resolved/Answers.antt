@@ -1,9 +1,8 @@
 use Rattle.std.proofs.Common.{List, sym, ap, subst, ◌∙◌}
-use Rattle.desk_book.specs.declared.marks.KeptMark.{KeptMark}
-use Rattle.desk_book.specs.Kept.{IsKept, book_kept}
-use Rattle.desk_book.specs.KeptMarks.{with_kept_resolved}
-use Rattle.desk_book.proofs.Kept.MarkIndexes.{indexes-resolved}
-use Rattle.desk_book.proofs.Kept.MarkSettled.{marks-resolved}
+use Rattle.desk_memory.specs.declared.marks.KeptMark.{KeptMark}
+use Rattle.desk_memory.specs.Kept.{IsKept, book_kept}
+use Rattle.desk_memory.specs.KeptMarks.{with_kept_resolved}
+use Rattle.desk_memory.proofs.Callers.{indexes-resolved, marks-resolved}
 use Rattle.desk_book.proofs.Kept.Settled.{IsKept-marked, next-marked, sound-next}
 use Rattle.desk_book.proofs.Kept.ShownEffects.{as_kept}
 use Rattle.desk_book.proofs.book.Book.with_mark_resolved.Goals as goal

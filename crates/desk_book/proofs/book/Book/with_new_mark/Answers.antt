@@ -1,9 +1,9 @@
 use Rattle.std.proofs.Common.{ℕ, List, [], ◌∷◌, ◌++◌, sym, ap, subst, ◌∙◌, arith}
-use Rattle.desk_book.specs.declared.marks.KeptMark.{KeptMark}
-use Rattle.desk_book.specs.Kept.{KeptParagraphs, IsKept, book_kept, with_kept_change}
-use Rattle.desk_book.specs.KeptPrints.{with_mark}
-use Rattle.desk_book.specs.Room.{Suffices}
-use Rattle.desk_book.proofs.Kept.MarkSettled.{count-marks}
+use Rattle.desk_memory.specs.declared.marks.KeptMark.{KeptMark}
+use Rattle.desk_memory.specs.Kept.{KeptParagraphs, IsKept, book_kept, with_kept_change}
+use Rattle.desk_memory.specs.KeptPrints.{with_mark}
+use Rattle.desk_memory.specs.Room.{Suffices}
+use Rattle.desk_memory.proofs.Callers.{count-marks}
 use Rattle.desk_book.proofs.Kept.Settled.{HasRoomForMark-noted, IsKept-noted, next-noted, sound-next}
 use Rattle.desk_book.proofs.Kept.ShownEffects.{as_kept}
 use Rattle.desk_book.proofs.book.Book.with_new_mark.Goals as goal

@@ -1,6 +1,6 @@
 use Rattle.std.proofs.Common.{◌+◌, length, sym, ap, subst, ◌∙◌}
 use Rattle.std.specs.List.{insert}
-use Rattle.desk_book.specs.Kept.{KeptParagraphs, IsKept, book_kept, ids}
+use Rattle.desk_memory.specs.Kept.{KeptParagraphs, IsKept, book_kept, ids}
 use Rattle.desk_book.proofs.Kept.Settled.{few-placed, order-placed, room-placed, sound-next, order-typed, next-typed, within-placed, IsKept-typed}
 use Rattle.desk_book.proofs.Kept.ShownEffects.{accepted-by, as_kept, makes-by}
 use Rattle.desk_book.proofs.book.Book.with_new_paragraph.Goals as goal

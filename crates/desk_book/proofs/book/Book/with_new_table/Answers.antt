@@ -1,5 +1,5 @@
 use Rattle.std.proofs.Common.{sym, ap, subst, ◌∙◌}
-use Rattle.desk_book.specs.Kept.{KeptTables, IsKept, book_kept}
+use Rattle.desk_memory.specs.Kept.{KeptTables, IsKept, book_kept}
 use Rattle.desk_book.proofs.Kept.Settled.{room-added, new-added, next-added, IsKept-added}
 use Rattle.desk_book.proofs.Kept.ShownEffects.{as_kept}
 use Rattle.desk_book.proofs.book.Book.with_new_table.Goals as goal

@@ -1,7 +1,7 @@
 use Rattle.std.proofs.Common.{List, sym, ap, subst, ◌∙◌}
-use Rattle.desk_book.specs.declared.marks.KeptMark.{KeptMark}
-use Rattle.desk_book.specs.Kept.{KeptParagraphs, IsKept, book_kept, with_kept_change}
-use Rattle.desk_book.specs.KeptPrints.{with_print_changed}
+use Rattle.desk_memory.specs.declared.marks.KeptMark.{KeptMark}
+use Rattle.desk_memory.specs.Kept.{KeptParagraphs, IsKept, book_kept, with_kept_change}
+use Rattle.desk_memory.specs.KeptPrints.{with_print_changed}
 use Rattle.desk_book.proofs.Kept.Settled.{AreWithin-marks, HasRoomFor-print_changed, indexes-print_changed, IsKept-print_changed, next-print_changed, sound-next}
 use Rattle.desk_book.proofs.Kept.ShownEffects.{as_kept}
 use Rattle.desk_book.proofs.book.Book.with_print_changed.Goals as goal

@@ -1,5 +1,5 @@
 use Rattle.std.proofs.Common.{sym, ap, subst, ◌∙◌}
-use Rattle.desk_book.specs.Kept.{KeptParagraphs, IsKept, book_kept}
+use Rattle.desk_memory.specs.Kept.{KeptParagraphs, IsKept, book_kept}
 use Rattle.desk_book.proofs.Kept.Settled.{sound-next, next-retabled, IsKept-retabled}
 use Rattle.desk_book.proofs.Kept.ShownEffects.{as_kept}
 use Rattle.desk_book.proofs.book.Book.with_table_changed.Goals as goal

@@ -2,7 +2,7 @@ use Rattle.std.proofs.Common.{◌≡◌, ℕ, List, map, sym, ap, subst, ◌∙�
 use Rattle.std.specs.Cmp.Lexicographic.{pointwise}
 use Rattle.std.specs.Map.{lookup}
 use Rattle.std.specs.Prelude.{IsSome, nat_eq}
-use Rattle.desk_book.specs.Kept.{KeptTables, KeptParagraphs, IsKept, book_kept, with_new_cells, with_table}
+use Rattle.desk_memory.specs.Kept.{KeptTables, KeptParagraphs, IsKept, book_kept, with_new_cells, with_table}
 use Rattle.desk_book.proofs.Kept.Settled.{sound-next, there-replaced, next-replaced, IsKept-replaced}
 use Rattle.desk_book.proofs.Kept.ShownEffects.{as_kept}
 use Rattle.desk_book.proofs.book.Book.with_table_replaced.Goals as goal

@@ -1,7 +1,7 @@
 use Rattle.std.proofs.Common.{◌≡◌, ◌+◌, [], ◌∷◌, map, sym, ap, ◌∙◌, arith}
 use Rattle.desk_book.specs.Filling.{braille_from, braille_put}
 use Rattle.desk_parts.specs.Puts.{RowPut}
-use Rattle.desk_book.proofs.Kept.WalkedLists.{walk-past, walk-there}
+use Rattle.desk_memory.proofs.Callers.{walk-past, walk-there}
 use Rattle.desk_book.proofs.filling.BraillePuts.next.Goals as goal
 
 pub returns-in_default : goal.returns-in_default

@@ -1,7 +1,7 @@
 use Rattle.std.proofs.Common.{◌≡◌, ◌+◌, [], ◌∷◌, map, sym, ap, ◌∙◌}
 use Rattle.desk_book.specs.Filling.{entry_put, entry_puts_from}
 use Rattle.desk_parts.specs.Puts.{RowPut}
-use Rattle.desk_book.proofs.Kept.WalkedLists.{lent-past, lent-there}
+use Rattle.desk_memory.proofs.Callers.{lent-past, lent-there}
 use Rattle.desk_book.proofs.RowPuts.PutLists.{numbered-past, numbered-there}
 use Rattle.desk_book.proofs.filling.HistoryPuts.next.Goals as goal
 

@@ -1,5 +1,0 @@
-use Rattle.std.proofs.Common.{rules}
-use Rattle.desk_book.proofs.history_items.History.new.Goals as goal
-
-pub returns : goal.returns
-returns c = search rules

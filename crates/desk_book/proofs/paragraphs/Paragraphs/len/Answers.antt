@@ -1,8 +1,0 @@
-use Rattle.std.proofs.Common.{length, sym, ap, ◌∙◌}
-use Rattle.desk_book.proofs.Kept.Arranging.{length-in_order}
-use Rattle.desk_book.proofs.paragraphs.Paragraphs.len.Goals as goal
-
-pub returns : goal.returns
-returns c =
-    let permutes = c.self.invariant in
-    c.len.ensures ∙ (sym (length-in_order c.self.inside.items c.self.inside.order permutes) ∙ ap length c.self.view_is)

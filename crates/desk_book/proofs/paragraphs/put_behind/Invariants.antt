@@ -1,7 +1,0 @@
-use Rattle.std.proofs.Common.{◌≡◌, ◌++◌, take}
-use Rattle.desk_command.specs.declared.command.Anchor.TheVariants.{Para}
-use Rattle.desk_book.specs.Kept.{with_id}
-use Rattle.desk_book.proofs.paragraphs.put_behind.Given as goal
-
-abbrev pub invariant-loop-other : goal.invariant-loop-other
-invariant-loop-other l = l.all.items ≡ l.fn.all.items ++ with_id (Para l.id) l.new (take l.other-index l.ids)

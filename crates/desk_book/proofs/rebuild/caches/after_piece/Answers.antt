@@ -1,6 +1,0 @@
-use Rattle.desk_book.proofs.Rebuilding.CellRows.{not_both}
-use Rattle.desk_book.proofs.rebuild.caches.after_piece.Goals as goal
-
-pub returns-clause-none : goal.returns-clause-none
-returns-clause-none c =
-    not_both c.args.masks.now c.args.piece.sign.now c.args.piece.own.now c.in_ok-after.field-0.now c.after-2.result c.in_ok-after.ensures.some c.after-2.ensures.none

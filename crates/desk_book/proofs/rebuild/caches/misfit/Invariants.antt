@@ -1,6 +1,0 @@
-use Rattle.desk_book.specs.Rebuilding.Caches.{AreRight}
-use Rattle.desk_book.proofs.rebuild.caches.misfit.Given as goal
-
--- the rows so far are right
-abbrev pub invariant-loop-index : goal.invariant-loop-index
-invariant-loop-index l = AreRight l.tables l.paragraphs l.rows l.index

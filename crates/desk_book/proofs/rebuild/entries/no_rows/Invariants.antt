@@ -1,7 +1,0 @@
-use Rattle.std.proofs.Common.{[]}
-use Rattle.std.specs.Prelude.{map}
-use Rattle.desk_book.specs.Rebuilding.Entries.{AreGrouped}
-use Rattle.desk_book.proofs.rebuild.entries.no_rows.Given as goal
-
-abbrev pub invariant-loop : goal.invariant-loop
-invariant-loop l = AreGrouped l.counter [] (map (λ group. group.items) l.groups.items)

@@ -1,7 +1,0 @@
-use Rattle.std.proofs.Common.{length}
-use Rattle.std.specs.Prelude.{map}
-use Rattle.desk_book.proofs.Rebuilding.ReadGroups.{HaveReadTo}
-use Rattle.desk_book.proofs.rebuild.entries.read_histories.Given as goal
-
-abbrev pub invariant-loop-index : goal.invariant-loop-index
-invariant-loop-index l = HaveReadTo (map (λ group. group.items) l.fn.groups.items) l.initial.items.items l.items.items (length l.yielded)

@@ -1,7 +1,0 @@
-use Rattle.std.proofs.Common.{rules}
-use Rattle.std.proofs.lemmas.List.Sorted.{answers_always}
-use Rattle.desk_parts.specs.Rows.{Mark}
-use Rattle.desk_book.proofs.rebuild.marks.sort.Goals as goal
-
-pub returns-clause-sorted : goal.returns-clause-sorted
-returns-clause-sorted c = c.sort_unstable_by_key.ensures.sorted (λ (row : Mark). row.id) (answers_always _ _ _ (λ a r q k. search rules))

@@ -1,7 +1,0 @@
-use Rattle.std.proofs.Common.{[], ◌∷◌, ◌++◌, List, ℕ, ap, ◌∙◌}
-use Rattle.std.proofs.lemmas.List.{replicate-append-replicate}
-use Rattle.desk_book.proofs.rebuild.paras.free_places.Goals as goal
-
-pub loop-preserved : goal.loop-preserved
-loop-preserved c =
-    c.in_ok-push.ensures.items ∙ (ap (λ (places : List ℕ). places ++ 0 ∷ []) c.loop.invariant ∙ replicate-append-replicate c.loop.counter 1 0)

@@ -1,0 +1,16 @@
+pub mod Arranging
+pub mod ByName
+pub mod Callers
+pub mod KeptBooks
+pub mod KeptHistories
+pub mod MarkIndexes
+pub mod MarkSettled
+pub mod OrderLists
+pub mod OrderPlaces
+pub mod ReadParagraphs
+pub mod Renewing
+pub mod Replacing
+pub mod RoomLists
+pub mod ToldEntries
+pub mod UndonePrints
+pub mod WalkedLists

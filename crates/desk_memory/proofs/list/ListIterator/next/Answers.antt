@@ -1,0 +1,46 @@
+use Rattle.std.proofs.Common.{◌≡◌, ℕ, ◌+◌, [], ◌∷◌, length, map, refl, sym, ap, ◌∙◌, arith, rules}
+use Rattle.std.proofs.lemmas.List.Elements.{All-contains}
+use Rattle.desk_memory.specs.declared.paragraphs.Paragraph.{Paragraph as KeptParagraph}
+use Rattle.desk_memory.specs.Kept.{KeptParagraphs, paragraph_kept, paragraphs_from}
+use Rattle.desk_model.specs.Print.{print_of}
+use Rattle.desk_model.proofs.Lists.Items.{drop-there, Contains-there}
+use Rattle.desk_memory.proofs.WalkedLists.{walk-at, walk-past, walk-there}
+use Rattle.desk_memory.proofs.list.ListIterator.next.Goals as goal
+
+pub returns-in_default-clause-steps : goal.returns-in_default-clause-steps
+returns-in_default-clause-steps c =
+    let left : c.args.self.now ≡ [] = sym c.self.view_is ∙ ap (map paragraph_kept) (walk-past c.self.inside.paragraphs.now c.self.inside.at c.at.result c.at.ensures c.in_default.is) in
+    (left, left)
+
+pub overflow_add-self : goal.overflow_add-self
+overflow_add-self c =
+    let within = (walk-there c.self.inside.paragraphs.now c.self.inside.at c.at.result c.at.ensures c.in-Some.id c.in-Some.paragraph c.in-Some.is).1 in
+    let few = c.self.invariant.0 in
+    omega arith
+
+pub returns-clause-steps : goal.returns-clause-steps
+returns-clause-steps c =
+    let kept : KeptParagraphs = c.self.inside.paragraphs.now in
+    let entry : ℕ × KeptParagraph = (c.in-Some.id, c.in-Some.paragraph.now) in
+    let there = walk-at c.self.inside.paragraphs.now c.self.inside.at c.at.result c.at.ensures c.in-Some.id c.in-Some.paragraph c.in-Some.is in
+    let print : entry.1.print ≡ print_of (paragraph_kept entry) =
+    All-contains (λ (e : ℕ × KeptParagraph). e.1.print ≡ print_of (paragraph_kept e)) kept entry c.self.invariant.1 (Contains-there kept c.self.inside.at entry there) in (
+      paragraph_kept entry,
+      sym c.self.view_is ∙ ap (map paragraph_kept) (drop-there kept c.self.inside.at entry there).0,
+      record {
+        id = refl;
+        table = c.as_str.ensures;
+        style = refl;
+        begins_volume = refl;
+        struck = refl;
+        length_is = ap length (c.as_slice.ensures ∙ print);
+      },
+    )
+
+pub returns-clause-goes : goal.returns-clause-goes
+returns-clause-goes c =
+    let kept : KeptParagraphs = c.self.inside.paragraphs.now in
+    let entry : ℕ × KeptParagraph = (c.in-Some.id, c.in-Some.paragraph.now) in
+    let left : c.args.self.now ≡ paragraph_kept entry ∷ paragraphs_from (c.self.inside.at + 1) kept =
+    sym c.self.view_is ∙ ap (map paragraph_kept) (walk-there c.self.inside.paragraphs.now c.self.inside.at c.at.result c.at.ensures c.in-Some.id c.in-Some.paragraph c.in-Some.is).0 in
+    rw left (search rules)

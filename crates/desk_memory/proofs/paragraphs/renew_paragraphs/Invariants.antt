@@ -1,0 +1,10 @@
+use Rattle.std.proofs.Common.{◌≡◌, drop}
+use Rattle.std.specs.Vec.Iter.{into_iter_items}
+use Rattle.desk_memory.specs.Kept.{renewed_items}
+use Rattle.desk_memory.proofs.Renewing.{reached}
+use Rattle.desk_memory.proofs.paragraphs.renew_paragraphs.Given as goal
+
+abbrev pub invariant-loop-paragraph : goal.invariant-loop-paragraph
+invariant-loop-paragraph l =
+    (into_iter_items l.cells ≡ drop l.paragraph-index l.fn.cells.items)
+    × (l.paragraphs ≡ reached l.paragraph-index (renewed_items l.fn.cells.items l.initial.paragraphs) l.initial.paragraphs)

@@ -1,0 +1,56 @@
+-- Histories as they are kept.
+use Rattle.std.specs.Prelude.{◌≡◌, ℕ, ◌-◌, ◌<◌, List, length, map, take, drop, slice_get, Some}
+use Rattle.desk_memory.specs.declared.history.Correction.{Correction}
+use Rattle.desk_memory.specs.declared.history.KeptEntry.{KeptEntry}
+use Rattle.desk_memory.specs.declared.history.KeptEntry.TheVariants.{Corrects as KeptCorrects, Undoes as KeptUndoes}
+use Rattle.desk_model.specs.Book.{Replacement, Entry, Corrects, Undoes}
+use Rattle.desk_model.specs.Print.{corrected_print, newest, with_replacement}
+use Rattle.desk_model.specs.Sound.{AreSoundEntries}
+use Rattle.desk_command.specs.Characters.{AreCharacters}
+
+-- what a kept correction does: it took as many characters as it has of them
+abbrev pub replacement_kept : Correction → Replacement
+replacement_kept c = record { start = c.start; count = length c.taken; text = c.text }
+
+-- what a kept entry stands for
+abbrev pub entry_kept : KeptEntry → Entry
+entry_kept (KeptCorrects c) = Corrects (replacement_kept c) c.who
+entry_kept (KeptUndoes n) = Undoes n
+
+abbrev pub entries_kept : List KeptEntry → List Entry
+entries_kept entries = map entry_kept entries
+
+-- a correction has the characters that gave way to its text in this print
+abbrev pub TookFrom : List ℕ → KeptEntry → Type 0
+TookFrom print (KeptCorrects c) = c.taken ≡ take (length c.taken) (drop c.start print)
+TookFrom print (KeptUndoes n) = Unit {0}
+
+-- each correction has the characters that gave way in the print before it
+abbrev pub HaveTaken : List ℕ → List KeptEntry → Type 0
+HaveTaken original entries =
+    (i : ℕ) (entry : KeptEntry) → slice_get entries i ≡ Some entry → TookFrom (corrected_print original (entries_kept (take i entries))) entry
+
+-- the kept entries are sound, each correction has what it took away, and this is the print that they leave
+pub record LeavePrint (original : List ℕ) (entries : List KeptEntry) (print : List ℕ) : Type 0 where
+  pub sound : AreSoundEntries original (entries_kept entries)
+  pub taken : HaveTaken original entries
+  pub print_is : print ≡ corrected_print original (entries_kept entries)
+
+-- of the corrections in force this is the newest, with its number
+pub record IsNewestInForce (entries : List KeptEntry) (number : ℕ) (correction : Correction) : Type 0 where
+  pub newest_is : newest (entries_kept entries) ≡ Some (number, replacement_kept correction)
+  pub positive : 0 < number
+  pub at : slice_get entries (number - 1) ≡ Some (KeptCorrects correction)
+
+-- the print with a text in place of so many characters from a place on
+abbrev pub replaced_by : (start count : ℕ) (text print : List ℕ) → List ℕ
+replaced_by start count text print = with_replacement print (record { start = start; count = count; text = text })
+
+-- the correction puts this text in place of so many characters of the print from a place on, and keeps those
+pub record IsCorrection (print : List ℕ) (start count : ℕ) (text who : List ℕ) (c : Correction) : Type 0 where
+  pub start_is : c.start ≡ start
+  pub text_is : c.text ≡ text
+  pub who_is : c.who ≡ who
+  pub taken_is : c.taken ≡ take count (drop start print)
+  pub characters : AreCharacters text
+  pub who_characters : AreCharacters who

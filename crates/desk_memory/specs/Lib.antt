@@ -1,0 +1,9 @@
+pub mod Braille
+pub mod Display
+pub mod Histories
+pub mod ItemsLeft
+pub mod Kept
+pub mod KeptMarks
+pub mod KeptPrints
+pub mod Lending
+pub mod Room

@@ -1,0 +1,185 @@
+//! The marks of proofreaders.
+ghost use Rattle.desk_memory.specs.KeptMarks.{AreWithin, IsWithin, indexes_on, moved_kept, kept_mark, span_kept, with_kept_moved, with_kept_resolved};
+ghost use Rattle.desk_model.specs.Limits.{most_print};
+ghost use Rattle.desk_memory.specs.Room.{Suffices};
+ghost use Rattle.std.specs.Option.{option_copied};
+ghost use Rattle.std.specs.Prelude.{◌≡◌, ◌+◌, ◌-◌, ◌<◌, ◌≤◌, ◌^◌, [], ◌∷◌, ◌++◌, ℕ, IfOk, None, length};
+
+use super::items::{Items, Room};
+use desk_command::Text;
+use desk_model::Span;
+use std::alloc::{AllocError, Global};
+use std::marker::Model;
+
+/// A mark, as it is kept.
+pub struct KeptMark {
+    /// The paragraph that it is put on.
+    pub paragraph: u64,
+    /// The first place of the print that it covers, from 0.
+    pub start: usize,
+    /// The place after the last that it covers.
+    pub end: usize,
+    /// The proofreader's note.
+    pub note: Text,
+    /// Whether a correction has touched what it covers.
+    pub touched: bool,
+    /// Whether it is dealt with.
+    pub resolved: bool,
+}
+
+// Written out, as the drop of a paragraph is.
+impl Drop for KeptMark {
+    fn drop(self) {
+        let KeptMark {
+            paragraph: _,
+            start: _,
+            end: _,
+            note: _,
+            touched: _,
+            resolved: _,
+        } = self;
+    }
+}
+
+impl KeptMark {
+    /// The places that it covers.
+    fn span(&self) -> Span
+        ensures { result ≡ span_kept self.now }
+    {
+        Span {
+            start: self.start,
+            end: self.end,
+            touched: self.touched,
+        }
+    }
+
+    /// Moves the mark as so many characters of the print, from a place on, give way to others.
+    fn give_way(&mut self, start: usize, removed: usize, added: usize)
+        requires mark { IsWithin self.old }
+        requires within { start + removed ≤ most_print }
+        requires short { added ≤ most_print }
+        ensures { self.new ≡ moved_kept start removed added self.old }
+    {
+        let span = self.span().after_edit(start, removed, added);
+        self.start = span.start;
+        self.end = span.end;
+        self.touched = span.touched;
+    }
+}
+
+/// Moves the marks of a paragraph, which have these indexes, as so many characters of its print, from a place on, give way
+/// to others.
+fn give_way(marks: &mut [KeptMark], indexes: &[usize], start: usize, removed: usize, added: usize)
+    requires indexes { (id : ℕ) × (indexes.now ≡ indexes_on id marks.old) }
+    requires marks { AreWithin marks.old }
+    requires within { start + removed ≤ most_print }
+    requires short { added ≤ most_print }
+    ensures { (id : ℕ) → indexes.now ≡ indexes_on id marks.old
+        → marks.new ≡ with_kept_moved id start removed added marks.old }
+{
+    for index in indexes {
+        marks[*index].give_way(start, removed, added);
+    }
+}
+
+/// Marks with the ids 1, 2, .. in the order of their coming.
+#[derive(Drop)]
+pub struct Marks {
+    // the mark with id n has index n - 1
+    items: Items<KeptMark>,
+}
+
+impl Model for Marks {
+    ghost use Rattle.desk_memory.specs.declared.marks.KeptMark.{KeptMark};
+    ghost use Rattle.std.specs.Prelude.{List};
+
+    ghost Value = { List KeptMark };
+
+    ghost view = { λ m. m.items };
+}
+
+impl Marks {
+    /// No marks.
+    pub fn new(alloc: Global) -> Self
+        ensures { result ≡ [] }
+    {
+        Marks {
+            items: Items::new(alloc),
+        }
+    }
+
+    /// The marks of a list in the order of their ids.
+    pub fn from_vec(items: Vec<KeptMark>) -> Result<Self, AllocError>
+        ensures { IfOk result (λ marks. marks ≡ items.items) }
+    {
+        Ok(Marks {
+            items: Items::from_vec(items)?,
+        })
+    }
+
+    /// The marks in the order of their ids.
+    pub fn as_slice(&self) -> &[KeptMark]
+        ensures { result.now ≡ self.now }
+    {
+        self.items.as_slice()
+    }
+
+    /// How many there are.
+    pub fn len(&self) -> usize
+        ensures { result ≡ length self.now }
+    {
+        self.items.len()
+    }
+
+    /// The mark with an id, if there is one.
+    pub fn get(&self, id: u64) -> Option<&KeptMark>
+        ensures { option_copied result ≡ kept_mark id self.now }
+    {
+        if id == 0 {
+            return None;
+        }
+        self.items.as_slice().get((id - 1) as usize)
+    }
+
+    /// What one more mark needs.
+    pub fn room(&self, alloc: Global) -> Result<Room<KeptMark>, AllocError>
+        requires { length self.now + 1 < 2 ^ 32 }
+        ensures { IfOk result (Suffices (length self.now)) }
+    {
+        self.items.room(alloc)
+    }
+
+    /// Puts a mark after the others. It allocates nothing.
+    pub fn push(&mut self, room: Room<KeptMark>, mark: KeptMark)
+        requires few { length self.old + 1 < 2 ^ 32 }
+        requires room { Suffices (length self.old) room }
+        ensures { self.new ≡ self.old ++ mark ∷ [] }
+    {
+        self.items.push(room, mark);
+    }
+
+    /// Resolves the mark with an id, if there is one.
+    pub fn resolve(&mut self, id: u64)
+        ensures { self.new ≡ with_kept_resolved id self.old }
+    {
+        if id == 0 {
+            return;
+        }
+        if let Some(mark) = self.items.items.get_mut((id - 1) as usize) {
+            mark.resolved = true;
+        }
+    }
+
+    /// Moves the marks of a paragraph, which have these indexes, as so many characters of its print, from a place on, give
+    /// way to others.
+    pub fn give_way(&mut self, indexes: &[usize], start: usize, removed: usize, added: usize)
+        requires indexes { (id : ℕ) × (indexes.now ≡ indexes_on id self.old) }
+        requires marks { AreWithin self.old }
+        requires within { start + removed ≤ most_print }
+        requires short { added ≤ most_print }
+        ensures { (id : ℕ) → indexes.now ≡ indexes_on id self.old
+            → self.new ≡ with_kept_moved id start removed added self.old }
+    {
+        give_way(&mut self.items.items, indexes, start, removed, added);
+    }
+}

@@ -1,0 +1,185 @@
+-- The damage of a table is the first, where the tables before it have none.
+use Rattle.std.proofs.Common.{◌≡◌, ◌≤◌, ℤ, List, Result, Ok, Err, Some, None, refl, sym, subst, arith}
+use Rattle.std.specs.Prelude.{IfErr, IfOk, IsErrAnd, MatchResult, OnOk}
+use Rattle.std.proofs.lemmas.Result.{IfErr-weaker, IfOk-weaker}
+use Rattle.desk_parts.specs.declared.file_table.FileTable.{FileTable}
+use Rattle.desk_parts.specs.declared.file_table.FileTable.TheVariants.{Book, Tab, Para, Corr, Mark, Cache, NamedCorr}
+use Rattle.desk_model.specs.declared.fault.PartsFault.{PartsFault}
+use Rattle.desk_model.specs.declared.fault.PartsFault.TheVariants.{Damaged, NoMemory}
+use Rattle.desk_rebuild.specs.declared.damage.RowsFault.{RowsFault}
+use Rattle.desk_rebuild.specs.declared.damage.RowsFault.TheVariants as rows_fault
+use Rattle.desk_model.specs.Damage.{IsDamaged, IsDamagedCache, IsDamagedEntries, IsFirstDamage, table_turn}
+use Rattle.desk_parts.specs.FileRows.{EntryRows, FileRows, Named, Unnamed, entries_in, table_of}
+use Rattle.desk_rebuild.specs.Faults.{IsDamagedBraille, TellsDamageOf, fault_in}
+use Rattle.desk_rebuild.specs.Rows.{IsFirstId, IsWhole, TellsDamage}
+use Rattle.desk_rebuild.specs.OrderedRows.{IsFirstUnsound, RowRule, TellsUnsound}
+use Rattle.desk_model.specs.Rebuilding.{IsFaultOf}
+use Rattle.desk_parts.specs.Rows.{Para as ParaRow, ParaCells, Tab as TabRow}
+use Rattle.desk_model.proofs.Commands.Turns.{same_some}
+
+-- the fault of a table's rows is reported of it
+pub told-of : (table : FileTable) (damaged : ℤ → Type 0) (fault : RowsFault) → TellsDamage damaged fault → TellsDamageOf table damaged (fault_in table fault)
+told-of table damaged (rows_fault.Damaged id) first = (refl, first)
+told-of table damaged rows_fault.NoMemory first = tt
+
+-- what holds in any case
+pub on-any : {T E : Type 0} (result : Result T E) (P : Type 0) → P → OnOk result P
+on-any (Ok x) P holds = holds
+on-any (Err e) P holds = tt
+
+-- what is read of a table, and the fault reported of it
+module _ {T : Type 0} (table : FileTable) (given : Result T RowsFault) (result : Result T PartsFault)
+    (is : MatchResult given (λ rows. result ≡ Ok rows) (λ fault. result ≡ Err (fault_in table fault))) where
+  pub of-table-fault : (damaged : ℤ → Type 0) → IfErr given (TellsDamage damaged) → IfErr result (TellsDamageOf table damaged)
+  of-table-fault damaged told = by given is told
+    where
+      by : (given : Result T RowsFault) → MatchResult given (λ rows. result ≡ Ok rows) (λ fault. result ≡ Err (fault_in table fault))
+          → IfErr given (TellsDamage damaged) → IfErr result (TellsDamageOf table damaged)
+      by (Ok rows) same told = subst (λ r. IfErr r (TellsDamageOf table damaged)) (sym same) tt
+      by (Err fault) same told = subst (λ r. IfErr r (TellsDamageOf table damaged)) (sym same) (told-of table damaged fault told)
+
+  pub of-table-rows : (P : T → Type 0) → IfOk given P → IfOk result P
+  of-table-rows P holds = by given is holds
+    where
+      by : (given : Result T RowsFault) → MatchResult given (λ rows. result ≡ Ok rows) (λ fault. result ≡ Err (fault_in table fault)) → IfOk given P → IfOk result P
+      by (Ok rows) same holds = subst (λ r. IfOk r P) (sym same) holds
+      by (Err fault) same holds = subst (λ r. IfOk r P) (sym same) tt
+
+  -- what follows from either
+  pub read-of-table : (P Q : T → Type 0) → ((rows : T) → P rows → Q rows) → IfOk given P → IfOk result Q
+  read-of-table P Q follows holds = of-table-rows Q (IfOk-weaker given P Q follows holds)
+
+  pub told-of-table : (P : RowsFault → Type 0) (damaged : ℤ → Type 0) → ((fault : RowsFault) → P fault → TellsDamage damaged fault)
+      → IfErr given P → IfErr result (TellsDamageOf table damaged)
+  told-of-table P damaged follows told = of-table-fault damaged (IfErr-weaker given P (TellsDamage damaged) follows told)
+
+  -- of rows in the order of their ids the first that isn't sound is reported
+  pub first-of-table : {X : Type 0} (rule : RowRule X) (sorted : List X) (damaged : ℤ → Type 0) → ((id : ℤ) → IsFirstUnsound rule sorted id → IsFirstId damaged id)
+      → IfErr given (TellsUnsound rule sorted) → IfErr result (TellsDamageOf table damaged)
+  first-of-table rule sorted damaged tells = told-of-table (TellsUnsound rule sorted) damaged told
+    where
+      told : (fault : RowsFault) → TellsUnsound rule sorted fault → TellsDamage damaged fault
+      told (rows_fault.Damaged id) first = tells id first
+      told rows_fault.NoMemory first = tt
+
+-- where rows of braille are there, their damage is that of the table
+braille-own : (tabs : List TabRow) (paras : List ParaRow) (caches : List ParaCells) (id : ℤ)
+    → IsDamagedBraille tabs paras (Some caches) id → IsDamagedCache tabs paras caches id
+braille-own tabs paras caches id (others, same, damaged) = subst (λ cs. IsDamagedCache tabs paras cs id) (sym (same_some caches others same)) damaged
+
+pub braille-whole : (tabs : List TabRow) (paras : List ParaRow) (caches : List ParaCells)
+    → IsWhole (IsDamagedCache tabs paras caches) → IsWhole (IsDamagedBraille tabs paras (Some caches))
+braille-whole tabs paras caches whole id damaged = whole id (braille-own tabs paras caches id damaged)
+
+pub braille-told : (tabs : List TabRow) (paras : List ParaRow) (caches : List ParaCells) (fault : RowsFault)
+    → TellsDamage (IsDamagedCache tabs paras caches) fault → TellsDamage (IsDamagedBraille tabs paras (Some caches)) fault
+braille-told tabs paras caches (rows_fault.Damaged id) told = ((caches, refl, told.0), λ other damaged. told.1 other (braille-own tabs paras caches other damaged))
+braille-told tabs paras caches rows_fault.NoMemory told = tt
+
+pub no-braille : (tabs : List TabRow) (paras : List ParaRow) → IsWhole (IsDamagedBraille tabs paras None)
+no-braille tabs paras id (others, same, damaged) = absurd (cc)
+
+pub no-braille-told : (tabs : List TabRow) (paras : List ParaRow) (fault : RowsFault) → fault ≡ rows_fault.NoMemory → TellsDamage (IsDamagedBraille tabs paras None) fault
+no-braille-told tabs paras fault is = subst (TellsDamage (IsDamagedBraille tabs paras None)) (sym is) tt
+
+module _ (rows : FileRows) where
+  -- no table that is checked before this one is damaged
+  abbrev pub IsWholeBefore : FileTable → Type 0
+  IsWholeBefore table = (other : FileTable) (id : ℤ) → IsDamaged rows other id → table_turn table ≤ table_turn other
+
+  pub first-fault : (table : FileTable) → IsWholeBefore table → (fault : PartsFault) → TellsDamageOf table (IsDamaged rows table) fault → IsFaultOf rows fault
+  first-fault table before (Damaged other id) told =
+      subst (λ t. IsFirstDamage rows t id) (sym told.0) (record { damaged = told.1.0; tables = before; ids = told.1.1 })
+  first-fault table before NoMemory told = tt
+
+  pub before-book : IsWholeBefore Book
+  before-book Book id damaged = omega arith
+  before-book Tab id damaged = omega arith
+  before-book Para id damaged = omega arith
+  before-book Corr id damaged = omega arith
+  before-book Mark id damaged = omega arith
+  before-book Cache id damaged = omega arith
+  before-book NamedCorr id damaged = omega arith
+
+  pub before-tab : IsWhole (IsDamaged rows Book) → IsWholeBefore Tab
+  before-tab whole Book id damaged = absurd (whole id damaged)
+  before-tab whole Tab id damaged = omega arith
+  before-tab whole Para id damaged = omega arith
+  before-tab whole Corr id damaged = omega arith
+  before-tab whole Mark id damaged = omega arith
+  before-tab whole Cache id damaged = omega arith
+  before-tab whole NamedCorr id damaged = omega arith
+
+  pub before-para : IsWholeBefore Tab → IsWhole (IsDamaged rows Tab) → IsWholeBefore Para
+  before-para before whole Book id damaged = let late = before Book id damaged in absurd (omega (arith, late))
+  before-para before whole Tab id damaged = absurd (whole id damaged)
+  before-para before whole Para id damaged = omega arith
+  before-para before whole Corr id damaged = omega arith
+  before-para before whole Mark id damaged = omega arith
+  before-para before whole Cache id damaged = omega arith
+  before-para before whole NamedCorr id damaged = omega arith
+
+  -- before either table of entries
+  before_entries : IsWholeBefore Para → IsWhole (IsDamaged rows Para) → IsWholeBefore Corr
+  before_entries before whole Book id damaged = let late = before Book id damaged in absurd (omega (arith, late))
+  before_entries before whole Tab id damaged = let late = before Tab id damaged in absurd (omega (arith, late))
+  before_entries before whole Para id damaged = absurd (whole id damaged)
+  before_entries before whole Corr id damaged = omega arith
+  before_entries before whole Mark id damaged = omega arith
+  before_entries before whole Cache id damaged = omega arith
+  before_entries before whole NamedCorr id damaged = omega arith
+
+  pub before-entries : IsWholeBefore Para → IsWhole (IsDamaged rows Para) → IsWholeBefore (table_of rows.entries)
+  before-entries before whole = by rows.entries
+    where
+      by : (entries : EntryRows) → IsWholeBefore (table_of entries)
+      by (Unnamed corrs) = before_entries before whole
+      by (Named corrs) = before_entries before whole
+
+  pub before-mark : IsWholeBefore Para → IsWhole (IsDamaged rows Para) → IsWhole (IsDamagedEntries rows.paras (entries_in rows.entries)) → IsWholeBefore Mark
+  before-mark before whole entries Book id damaged = let late = before Book id damaged in absurd (omega (arith, late))
+  before-mark before whole entries Tab id damaged = let late = before Tab id damaged in absurd (omega (arith, late))
+  before-mark before whole entries Para id damaged = absurd (whole id damaged)
+  before-mark before whole entries Corr id damaged = absurd (entries id damaged.1)
+  before-mark before whole entries Mark id damaged = omega arith
+  before-mark before whole entries Cache id damaged = omega arith
+  before-mark before whole entries NamedCorr id damaged = absurd (entries id damaged.1)
+
+  pub before-cache : IsWholeBefore Mark → IsWhole (IsDamaged rows Mark) → IsWholeBefore Cache
+  before-cache before whole Book id damaged = let late = before Book id damaged in absurd (omega (arith, late))
+  before-cache before whole Tab id damaged = let late = before Tab id damaged in absurd (omega (arith, late))
+  before-cache before whole Para id damaged = let late = before Para id damaged in absurd (omega (arith, late))
+  before-cache before whole Corr id damaged = let late = before Corr id damaged in absurd (omega (arith, late))
+  before-cache before whole Mark id damaged = absurd (whole id damaged)
+  before-cache before whole Cache id damaged = omega arith
+  before-cache before whole NamedCorr id damaged = let late = before NamedCorr id damaged in absurd (omega (arith, late))
+
+  -- and nothing is damaged at last
+  pub no-damage : IsWholeBefore Cache → IsWhole (IsDamaged rows Cache) → (table : FileTable) (id : ℤ) → ¬ IsDamaged rows table id
+  no-damage before whole Book id damaged = let late = before Book id damaged in omega (arith, late)
+  no-damage before whole Tab id damaged = let late = before Tab id damaged in omega (arith, late)
+  no-damage before whole Para id damaged = let late = before Para id damaged in omega (arith, late)
+  no-damage before whole Corr id damaged = let late = before Corr id damaged in omega (arith, late)
+  no-damage before whole Mark id damaged = let late = before Mark id damaged in omega (arith, late)
+  no-damage before whole Cache id damaged = whole id damaged
+  no-damage before whole NamedCorr id damaged = let late = before NamedCorr id damaged in omega (arith, late)
+
+  -- the damage of the table of entries, where it is the one that they are the rows of
+  to_table : (entries : EntryRows) → table_of rows.entries ≡ table_of entries → (id : ℤ)
+      → IsDamagedEntries rows.paras (entries_in rows.entries) id → IsDamaged rows (table_of entries) id
+  to_table (Unnamed corrs) same id damaged = (same, damaged)
+  to_table (Named corrs) same id damaged = (same, damaged)
+
+  from_table : (entries : EntryRows) (id : ℤ) → IsDamaged rows (table_of entries) id → IsDamagedEntries rows.paras (entries_in rows.entries) id
+  from_table (Unnamed corrs) id damaged = damaged.1
+  from_table (Named corrs) id damaged = damaged.1
+
+  pub entries-damaged : (fault : PartsFault) → TellsDamageOf (table_of rows.entries) (IsDamagedEntries rows.paras (entries_in rows.entries)) fault
+      → TellsDamageOf (table_of rows.entries) (IsDamaged rows (table_of rows.entries)) fault
+  entries-damaged (Damaged table id) told = (told.0, (to_table rows.entries refl id told.1.0, λ other damaged. told.1.1 other (from_table rows.entries other damaged)))
+  entries-damaged NoMemory told = tt
+
+module _ {X E : Type 0} where
+  pub IfErr-exit : (r : Result X E) (e : E) (P : E → Type 0) → IsErrAnd r (λ told. told ≡ e) → P e → IfErr r P
+  IfErr-exit (Ok x) e P exit h = tt
+  IfErr-exit (Err told) e P exit h = subst P (sym exit) h

@@ -1,0 +1,223 @@
+-- What is read of the tables of a book's file is, joined, the book that its rows show.
+use Rattle.std.proofs.Common.{◌≡◌, ℕ, ◌+◌, ◌-◌, ℤ, pos, nat_abs, List, [], ◌∷◌, map, length, Option, Some, None, Contains, refl, sym, ap, subst, ◌∙◌, arith}
+use Rattle.std.specs.Cmp.Lexicographic.{pointwise, slice_cmp}
+use Rattle.std.specs.List.{All, enumerate_from, flat_map, range_with_len}
+use Rattle.std.specs.List.Sorted.{IsPermutation, IsStrictlySortedBy}
+use Rattle.std.specs.Map.{lookup}
+use Rattle.std.specs.Ordering.{nat_cmp}
+use Rattle.std.specs.Prelude.{nat_eq, option_map, slice_get}
+use Rattle.std.specs.Str.{chars}
+use Rattle.std.proofs.lemmas.List.Elements.{All-cons, All-contains, All-head, All-nil, All-tail}
+use Rattle.std.proofs.lemmas.List.Sorted.{length_permutation}
+use Rattle.std.proofs.lemmas.Map.Views.{Contains-from_lookup}
+use Rattle.std.proofs.lemmas.Simd.{map-map}
+use Rattle.louis_table.specs.Meaning.{Meaning}
+use Rattle.louis_table.specs.Table.{Means}
+use Rattle.louis_table.proofs.OneMeaning.{one_meaning}
+use Rattle.desk_memory.specs.declared.marks.KeptMark.{KeptMark}
+use Rattle.desk_memory.specs.declared.paragraphs.Paragraph.{Paragraph as KeptParagraph}
+use Rattle.desk_parts.specs.declared.file_table.FileTable.{FileTable}
+use Rattle.desk_parts.specs.declared.file_table.FileTable.TheVariants as file
+use Rattle.desk_parts.specs.declared.rows.BookRow.{BookRow}
+use Rattle.desk_memory.specs.declared.tables.BookTable.{BookTable}
+use Rattle.desk_memory.specs.Braille.{AreCellsOf}
+use Rattle.desk_model.specs.Damage.{HasItsTables, HasSoundEntries, IsDamaged, history_of}
+use Rattle.desk_parts.specs.FileRows.{AreTexts, FileRows, entries_in, spelled_mark, spelled_tab}
+use Rattle.desk_memory.specs.Histories.{HaveTaken, entries_kept}
+use Rattle.desk_rebuild.specs.Rows.{AreInPlaces, AreMarksOf, AreOf, AreTables, HasCells, HasHistory, HasKept, HaveMarks}
+use Rattle.desk_memory.specs.Kept.{HasMarks, IsKept, IsKeptParagraph, KeptParagraphs, KeptTables, book_kept, mark_kept, marks_kept, paragraph_kept, paragraph_with_id}
+use Rattle.desk_memory.specs.KeptMarks.{indexes_on}
+use Rattle.desk_model.specs.Print.{corrected_print}
+use Rattle.desk_parts.specs.Rows.{Para}
+use Rattle.desk_model.specs.Shows.{Shows, tab_of}
+use Rattle.desk_memory.proofs.Callers.{paragraph_with_id-cons}
+use Rattle.desk_model.proofs.Lists.Items.{lookup-map}
+use Rattle.desk_model.proofs.Rows.OneBook.{flag_back, marks_same, number, style_back, tables_same, to_flag, to_style}
+use Rattle.desk_model.proofs.Commands.Turns.{same_some}
+use Rattle.desk_model.proofs.Lists.RowNumbers.{numbers, same_number}
+use Rattle.desk_model.proofs.Lists.TableEntries.{Decides-name}
+use Rattle.desk_model.proofs.Damage.UndamagedBook as whole
+use Rattle.desk_model.proofs.Damage.UndamagedRows.{sound-book}
+
+-- the ids of kept marks
+marks-numbered : (n : ℕ) (marks : List KeptMark) → map (λ mark. mark.id) (map mark_kept (enumerate_from n marks)) ≡ range_with_len n (length (map mark_kept (enumerate_from n marks)))
+marks-numbered n [] = refl
+marks-numbered n (mark ∷ marks) = ap (λ ids. n ∷ ids) (marks-numbered (n + 1) marks)
+
+module _ (rows : FileRows) (texts : AreTexts rows) (its : HasItsTables rows) (none : (table : FileTable) (id : ℤ) → ¬ IsDamaged rows table id)
+    (version : ℕ) (is_version : (row : BookRow) → rows.books ≡ row ∷ [] → row.version ≡ pos version)
+    (tables : KeptTables) (are_tables : AreTables rows.tabs tables)
+    (items : List KeptParagraph) (order : List ℕ) (of : AreOf rows.paras items) (places : AreInPlaces rows.paras order)
+    (histories : All (HasHistory (entries_in rows.entries) items) rows.paras) (cells : All (HasCells rows.tabs items) rows.paras)
+    (marks : List KeptMark) (are_marks : AreMarksOf rows.marks marks) (have_marks : HaveMarks marks items) where
+  -- ---- the rows of each paragraph
+
+  abbrev kept_of : (row : Para) → Contains rows.paras row → HasKept items row
+  kept_of row c = All-contains (HasKept items) rows.paras row of.each c
+
+  abbrev history_at : (row : Para) → Contains rows.paras row → HasHistory (entries_in rows.entries) items row
+  history_at row c = All-contains (HasHistory (entries_in rows.entries) items) rows.paras row histories c
+
+  abbrev cells_at : (row : Para) → Contains rows.paras row → HasCells rows.tabs items row
+  cells_at row c = All-contains (HasCells rows.tabs items) rows.paras row cells c
+
+  history-of_it : (row : Para) (c : Contains rows.paras row) → (history_at row c).kept ≡ (kept_of row c).kept
+  history-of_it row c = same_some (history_at row c).kept (kept_of row c).kept (sym (history_at row c).at ∙ (kept_of row c).at)
+
+  cells-of_it : (row : Para) (c : Contains rows.paras row) → (cells_at row c).kept ≡ (kept_of row c).kept
+  cells-of_it row c = same_some (cells_at row c).kept (kept_of row c).kept (sym (cells_at row c).at ∙ (kept_of row c).at)
+
+  print-of_it : (row : Para) (c : Contains rows.paras row) → corrected_print (chars row.original) (history_of (history_at row c).sorted) ≡ chars row.print
+  print-of_it row c =
+      let k = kept_of row c in
+      let h = history_at row c in
+      let same = history-of_it row c in
+      let original : h.kept.original ≡ chars row.original = ap (λ (x : KeptParagraph). x.original) same ∙ k.of.original in
+      let print : h.kept.print ≡ chars row.print = ap (λ (x : KeptParagraph). x.print) same ∙ k.of.print in
+      ap (λ o. corrected_print o (history_of h.sorted)) (sym original) ∙ (h.print ∙ print)
+
+  abbrev history_for : (row : Para) → Contains rows.paras row → HasSoundEntries (entries_in rows.entries) row
+  history_for row c =
+      let h = history_at row c in
+      record { sorted = h.sorted; its_own = h.its_own; each = h.each; print = print-of_it row c }
+
+  abbrev by_place : (sorted : List Para) × IsPermutation rows.paras sorted × (numbers 1 (length rows.paras) ≡ map (λ row. row.place) sorted)
+  by_place = (places.placed, places.same, ap (numbers 1) (sym (length_permutation rows.paras places.placed places.same)) ∙ sym places.places)
+
+  -- ---- the parts of the book
+
+  paragraph-is : (row : Para) (c : Contains rows.paras row) (id : ℕ) → row.id ≡ pos id
+      → paragraph_kept (id, (kept_of row c).kept) ≡ whole.paragraph_for rows texts its none by_place history_for row c
+  paragraph-is row c id is =
+      let k = kept_of row c in
+      let h = history_at row c in
+      let history : entries_kept k.kept.history ≡ history_of h.sorted = ap (λ (x : KeptParagraph). entries_kept x.history) (sym (history-of_it row c)) ∙ h.history in
+      let style = sym (style_back k.kept.style) ∙ ap to_style k.of.style in
+      let volume = sym (flag_back k.kept.begins_volume) ∙ ap to_flag k.of.volume in
+      let struck = sym (flag_back k.kept.struck) ∙ ap to_flag k.of.struck in
+      let key = ap number (sym is) in
+      λ i. record {
+        id = key i;
+        table = k.of.table i;
+        original = k.of.original i;
+        history = history i;
+        style = style i;
+        begins_volume = volume i;
+        struck = struck i;
+      }
+
+  at-id : (row : Para) (c : Contains rows.paras row) (id : ℕ) → row.id ≡ pos id → slice_get items (id - 1) ≡ Some (kept_of row c).kept
+  at-id row c id is = ap (λ (z : ℤ). slice_get items (nat_abs z - 1)) (sym is) ∙ (kept_of row c).at
+
+  paragraphs-are : (ps : List Para) (all : All (Contains rows.paras) ps) (ids : List ℕ) → map (λ row. row.id) ps ≡ map pos ids
+      → map paragraph_kept (flat_map (paragraph_with_id items) ids) ≡ whole.made rows texts its none by_place history_for ps all
+  paragraphs-are [] all [] is = refl
+  paragraphs-are [] all (id ∷ ids) is = absurd (cc)
+  paragraphs-are (p ∷ ps) all [] is = absurd (cc)
+  paragraphs-are (p ∷ ps) all (id ∷ ids) is =
+      let first : p.id ≡ pos id = cc in
+      let rest : map (λ (row : Para). row.id) ps ≡ map pos ids = cc in
+      let c = All-head (Contains rows.paras) p ps all in
+      ap (map paragraph_kept) (paragraph_with_id-cons items id ids (kept_of p c).kept (at-id p c id first))
+      ∙ (λ i. paragraph-is p c id first i ∷ paragraphs-are ps (All-tail (Contains rows.paras) p ps all) ids rest i)
+
+  abbrev texts_kept : List (List ℕ × List ℕ)
+  texts_kept = map (λ entry. (entry.0, entry.1.text)) tables
+
+  tables-are : whole.tables rows texts its none ≡ texts_kept
+  tables-are =
+      let text_of : List ℕ × BookTable → List ℕ × List ℕ = λ entry. (entry.0, entry.1.text) in
+      tables_same (whole.tables rows texts its none) texts_kept (map spelled_tab rows.tabs) (whole.names-sorted rows texts its none)
+      (subst (IsStrictlySortedBy (slice_cmp nat_cmp)) (sym (map-map (λ (entry : List ℕ × List ℕ). entry.0) text_of tables)) are_tables.sorted)
+      (whole.shown-tables rows texts its none)
+      (subst (IsPermutation (map spelled_tab rows.tabs)) (sym (map-map tab_of text_of tables)) are_tables.rows)
+
+  marks-are : whole.marks rows texts its none by_place history_for ≡ marks_kept marks
+  marks-are =
+      marks_same (whole.marks rows texts its none by_place history_for) (marks_kept marks) (map spelled_mark rows.marks)
+      (whole.mark-numbers rows texts its none by_place history_for) (marks-numbered 1 marks) (whole.shown-marks rows texts its none by_place history_for) are_marks
+
+  version-is : whole.version rows texts its none ≡ version
+  version-is = let head = sound-book rows.books (λ id. none file.Book id) in ap number (is_version head.0 head.1)
+
+  abbrev paragraphs : KeptParagraphs
+  paragraphs = flat_map (paragraph_with_id items) order
+
+  book-is : whole.book rows texts its none by_place history_for ≡ book_kept version tables paragraphs marks
+  book-is =
+      let same = sym (paragraphs-are places.placed (whole.all-in rows texts its none by_place history_for) order places.ids) in
+      λ i. record { version = version-is i; tables = tables-are i; paragraphs = same i; marks = marks-are i }
+
+  pub shown : Shows rows (book_kept version tables paragraphs marks)
+  shown = subst (Shows rows) book-is (whole.shows rows texts its none by_place history_for)
+
+  -- ---- what is kept beside the book
+
+  -- the table with a text that means this
+  table-kept : (name body : List ℕ) (meaning : Meaning) → lookup (pointwise nat_eq name) texts_kept ≡ Some body → Means body meaning
+      → (table : BookTable) × (lookup (pointwise nat_eq name) tables ≡ Some table) × (meaning ≡ table.rules)
+  table-kept name body meaning found means = by (lookup (pointwise nat_eq name) tables) refl
+    where
+      by : (there : Option BookTable) → lookup (pointwise nat_eq name) tables ≡ there
+          → (table : BookTable) × (lookup (pointwise nat_eq name) tables ≡ Some table) × (meaning ≡ table.rules)
+      by None is =
+          let apart = sym found ∙ (lookup-map (pointwise nat_eq name) (λ (t : BookTable). t.text) tables ∙ ap (option_map (λ (t : BookTable). t.text)) is) in
+          absurd (cc)
+      by (Some table) is =
+          let same : body ≡ table.text = same_some body table.text
+          (sym found ∙ (lookup-map (pointwise nat_eq name) (λ (t : BookTable). t.text) tables ∙ ap (option_map (λ (t : BookTable). t.text)) is)) in
+          let there = Contains-from_lookup (λ x y. (Decides-name x y).0) name table tables is in
+          let rules = All-contains (λ (entry : List ℕ × BookTable). Means entry.1.text entry.1.rules) tables (name, table) are_tables.means there in
+          (table, is, one_meaning body meaning table.rules means (subst (λ text. Means text table.rules) (sym same) rules))
+
+  is-kept : (row : Para) (c : Contains rows.paras row) (id : ℕ) → row.id ≡ pos id → IsKeptParagraph tables (id, (kept_of row c).kept)
+  is-kept row c id is =
+      let k = kept_of row c in
+      let h = history_at row c in
+      let s = cells_at row c in
+      let found = ap (lookup (pointwise nat_eq (chars row.tab))) (sym tables-are) ∙ whole.text-found rows texts its none row s.meaning s.table in
+      let table = table-kept (chars row.tab) s.table.table.body s.meaning found s.table.means in
+      let own = subst (λ (x : KeptParagraph). AreCellsOf s.meaning x.print x.cells) (cells-of_it row c) s.cells in
+      let braille = subst (λ (m : Meaning). AreCellsOf m k.kept.print k.kept.cells) table.2 own in
+      record {
+        print = subst (λ (x : KeptParagraph). x.print ≡ corrected_print x.original (entries_kept x.history)) (history-of_it row c)
+            (sym h.print ∙ ap (corrected_print h.kept.original) (sym h.history));
+        table = table.0;
+        found = ap (λ name. lookup (pointwise nat_eq name) tables) k.of.table ∙ table.1;
+        choices = braille.0;
+        tiles = braille.1;
+        cells = braille.2;
+        taken = subst (λ (x : KeptParagraph). HaveTaken x.original x.history) (history-of_it row c) h.taken;
+      }
+
+  has-marks : (row : Para) (c : Contains rows.paras row) (id : ℕ) → row.id ≡ pos id → HasMarks marks (id, (kept_of row c).kept)
+  has-marks row c id is =
+      let key = whole.key-of rows texts its none row c in
+      let same = same_number id key.0 (sym is ∙ key.1) in
+      let low = key.2 in
+      let next : id - 1 + 1 ≡ id = omega (arith, same, low) in
+      have_marks (id - 1) (kept_of row c).kept (at-id row c id is) ∙ ap (λ n. indexes_on n marks) next
+
+  -- what is so of the kept paragraph of each row
+  each-kept : (P : ℕ × KeptParagraph → Type 0) → ((row : Para) (c : Contains rows.paras row) (id : ℕ) → row.id ≡ pos id → P (id, (kept_of row c).kept))
+      → (ps : List Para) (all : All (Contains rows.paras) ps) (ids : List ℕ) → map (λ row. row.id) ps ≡ map pos ids → All P (flat_map (paragraph_with_id items) ids)
+  each-kept P each [] all [] is = All-nil P
+  each-kept P each [] all (id ∷ ids) is = absurd (cc)
+  each-kept P each (p ∷ ps) all [] is = absurd (cc)
+  each-kept P each (p ∷ ps) all (id ∷ ids) is =
+      let first : p.id ≡ pos id = cc in
+      let rest : map (λ (row : Para). row.id) ps ≡ map pos ids = cc in
+      let c = All-head (Contains rows.paras) p ps all in
+      subst (All P) (sym (paragraph_with_id-cons items id ids (kept_of p c).kept (at-id p c id first)))
+      (All-cons P (id, (kept_of p c).kept) (flat_map (paragraph_with_id items) ids) (each p c id first)
+      (each-kept P each ps (All-tail (Contains rows.paras) p ps all) ids rest))
+
+  pub is_kept : IsKept version tables paragraphs marks
+  is_kept =
+      let all = whole.all-in rows texts its none by_place history_for in
+      record {
+        sound = shown.sound;
+        means = are_tables.means;
+        translated = each-kept (IsKeptParagraph tables) is-kept places.placed all order places.ids;
+        marked = each-kept (HasMarks marks) has-marks places.placed all order places.ids;
+      }

@@ -1,0 +1,17 @@
+pub mod CacheRows
+pub mod CellRows
+pub mod EntryRows
+pub mod FirstTables
+pub mod GroupedEntries
+pub mod JoinedBook
+pub mod KeptRows
+pub mod MarkRows
+pub mod OrderedRows
+pub mod ParaOrder
+pub mod ParaRows
+pub mod ReadEntries
+pub mod ReadGroups
+pub mod ReadRows
+pub mod ReadTabs
+pub mod RebuiltBook
+pub mod RowOrder

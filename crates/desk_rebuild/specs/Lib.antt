@@ -1,0 +1,9 @@
+pub mod Caches
+pub mod Entries
+pub mod Faults
+pub mod History
+pub mod Marks
+pub mod OrderedRows
+pub mod Paras
+pub mod Rows
+pub mod Tabs

@@ -1,0 +1,64 @@
+-- Rows of marks, checked against the paragraphs that are kept.
+use Rattle.std.specs.Prelude.{◌≡◌, ℕ, ℤ, pos, ◌+◌, ◌<◌, ◌≤◌, ◌≤ℤ◌, List, length, slice_get, Some}
+use Rattle.std.specs.Str.{chars}
+use Rattle.desk_memory.specs.declared.marks.KeptMark.{KeptMark}
+use Rattle.desk_memory.specs.declared.paragraphs.Paragraph.{Paragraph as KeptParagraph}
+use Rattle.desk_model.specs.Damage.{IsFlag}
+use Rattle.desk_rebuild.specs.OrderedRows.{AreKeptUpTo, RowRule}
+use Rattle.desk_model.specs.Limits.{most_marks, most_note}
+use Rattle.desk_parts.specs.FileRows.{HasMarkText}
+use Rattle.desk_parts.specs.Rows.{Mark as MarkRow}
+use Rattle.desk_model.specs.Shows.{flag_number}
+use Rattle.desk_model.specs.NormalForm.{IsUnbarred}
+
+-- ---- a row, but for its id
+
+-- the kept paragraph has this id
+pub record HasId (items : List KeptParagraph) (id : ℤ) (kept : KeptParagraph) : Type 0 where
+  pub index : ℕ
+  pub is : id ≡ pos (index + 1)
+  pub at : slice_get items index ≡ Some kept
+
+-- a print of so many characters has the places from the start up to the stop
+pub record IsSpan (count : ℕ) (start stop : ℤ) : Type 0 where
+  pub low : pos 0 ≤ℤ start
+  pub ordered : start ≤ℤ stop
+  pub high : stop ≤ℤ pos count
+
+pub record IsNoteText (text : List ℕ) : Type 0 where
+  pub short : length text ≤ most_note
+  pub unbarred : IsUnbarred text
+
+-- the row is sound, whatever its id
+pub record IsMarkOn (items : List KeptParagraph) (row : MarkRow) : Type 0 where
+  pub kept : KeptParagraph
+  pub named : HasId items row.para kept
+  pub span : IsSpan (length kept.print) row.start row.stop
+  pub note : IsNoteText (chars row.note)
+  pub touched : IsFlag row.touched
+  pub resolved : IsFlag row.resolved
+
+-- the kept mark has what its row says
+pub record IsKeptOf (row : MarkRow) (mark : KeptMark) : Type 0 where
+  pub paragraph : pos mark.paragraph ≡ row.para
+  pub start : pos mark.start ≡ row.start
+  pub end : pos mark.end ≡ row.stop
+  pub note : mark.note ≡ chars row.note
+  pub touched : flag_number mark.touched ≡ row.touched
+  pub resolved : flag_number mark.resolved ≡ row.resolved
+
+-- ---- rows in the order of their ids
+
+-- what is asked of the rows beside these paragraphs
+abbrev pub mark_rule : List KeptParagraph → RowRule MarkRow
+mark_rule items = record { id = λ row. row.id; most = most_marks; IsSound = λ index row. IsMarkOn items row; HasTexts = HasMarkText }
+
+-- each row is sound, and has its mark
+abbrev pub AreKeptOf : List KeptParagraph → List MarkRow → List KeptMark → Type 0
+AreKeptOf items rows marks = AreKeptUpTo (mark_rule items) IsKeptOf (length rows) rows marks
+
+-- ---- the indexes of a paragraph's marks
+
+-- the mark is on one of so many paragraphs
+abbrev pub IsOnOne : ℕ → KeptMark → Type 0
+IsOnOne count mark = (0 < mark.paragraph) × (mark.paragraph ≤ count)

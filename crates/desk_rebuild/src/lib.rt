@@ -1,0 +1,28 @@
+//! How a book is made of the rows of its file: each row is validated and converted, and the first damage is reported.
+//!
+//! The rows of one table are read after those of another, in this order: tables, paragraphs, entries of histories, marks and
+//! braille. A row is judged by itself and by the rows before it in the order of their ids, so that each table is sorted once and
+//! walked once.
+//!
+//! ```rust
+//! use desk_rebuild::rebuild;
+//!
+//! let kept = rebuild(alloc, parts)?;
+//! assert_eq!(rt; kept.version, 1);
+//! ```
+//!
+//! `desk_model` says which rows show a book, and what is damaged. `desk_rows` reads the rows from a file, and `desk_memory`
+//! keeps what is made of them.
+#![tactic(auto)]
+
+mod book;
+mod caches;
+mod damage;
+mod entries;
+mod history;
+mod marks;
+mod ordered_rows;
+mod paras;
+mod tabs;
+
+pub use book::{KeptBook, rebuild};
