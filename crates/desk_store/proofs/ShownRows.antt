@@ -99,10 +99,9 @@ module _ (l : Layout) (c : Contents) (s : State) (is_open : IsTrue s.is_open) (s
         (all-permutation (λ v. (y : RowOf w) × (v ≡ columns_of w y)) _ _ (shows.is.holds.tables w there) (all_written (columns_of w) (c.rows w)))
 
     answer : (rows : List Row) × Shown (description_of w).read [] s s rows × IsPermutation (map (columns_at (description_of w).shown) tree) rows
-    unfolding is_read
     answer =
-        answered (description_of w).name (description_of w).columns (description_of w).key (description_of w).primary (description_of w).uniques (description_of w).orders (description_of w).read (is_read w)
-        s.now.schema (l.tree w) has.declared s refl has.sound (columns_at (description_of w).shown) (columns_are (description_of w).shown) is_open
+        answered (table_of w (l.tree w)) (description_of w).read _ _ _ _ (is_read w (l.tree w)) s.now.schema has.declared s refl has.sound
+        (columns_at (description_of w).shown) (columns_are (description_of w).shown) is_open
 
     -- there are rows that its statement gives
     gives : (xs : List (ShownOf w)) × Gives (query_of w) (shown_columns w) s s xs
@@ -134,8 +133,8 @@ module _ (l : Layout) (c : Contents) (s : State) (is_open : IsTrue s.is_open) (s
   can : (w : FileTable) → l.has w ≡ true → AllByRecursion (IsUtf8Row w) (c.rows w) → CanAnswer s w
   can w there utf8 = record {
     has =
-        can_answer (description_of w).name (description_of w).columns (description_of w).key (description_of w).primary (description_of w).uniques (description_of w).orders (description_of w).read (is_read w)
-        s.now.schema (l.tree w) (has w there).declared s refl (has w there).sound;
+        can_answer (table_of w (l.tree w)) (description_of w).read _ _ _ _ (is_read w (l.tree w))
+        s.now.schema (has w there).declared s refl (has w there).sound;
     kinds = λ rows seen.
         table_kinds w s.now.schema (l.tree w) (has w there).declared s s refl (has w there).sound rows seen (readable_table l c s.now.trees shows.is w there utf8);
     apart = apart w there;

@@ -1,15 +1,19 @@
 -- A query that has an answer fails only where the store does.
 use Rattle.std.proofs.Common.{◌≡◌, ◌≤◌, inl, inr, ℕ, true, List, [], None, Option, length, sym, ap, subst, ◌∙◌}
+use Rattle.sqlite_trees.specs.declared.error.StoreError.{StoreError}
 use Rattle.sqlite_resolve.specs.Compile.{first}
 use Rattle.sqlite_resolve.specs.declared.compiled.Compiled.{Compiled}
 use Rattle.sqlite_value.specs.Order.{Row}
 use Rattle.sqlite.specs.declared.error.Error.{Error}
 use Rattle.sqlite.specs.Clock.{timed}
 use Rattle.sqlite.specs.Effect.{Database, RefusesToRead}
-use Rattle.sqlite.specs.State.{State, IsNoStatement, IsNotRun, FailsToShow, FailsToQuery}
+use Rattle.sqlite.specs.State.{State, IsNoStatement, IsNotRun, FailsToShow, FailsToQuery, store_error}
 use Rattle.sql_tables.specs.States.{HasAnswer}
-use Rattle.sql_tables.proofs.Faults.{IsStoreFailure}
 use Rattle.sql_tables.proofs.Quiet.{never_returns, reads, same_compiled}
+
+-- a failure of the store
+abbrev pub IsStoreFailure : Error → Type 0
+IsStoreFailure e = (cause : StoreError) × (e ≡ store_error cause)
 
 same_refusal : (limit : Option ℕ) (c d : Compiled) (db : Database) (params : Row) (e : Error) → limit ≡ None → c ≡ d → params ≡ [] → RefusesToRead limit c.command db params e → RefusesToRead None d.command db [] e
 same_refusal limit c d db params e unlimited same bare refused = rw (unlimited, same, bare) at refused

@@ -1,5 +1,5 @@
 -- What an upsert by the rowid does to a table.
-use Rattle.std.proofs.Common.{◌≡◌, ℕ, suc, ℤ, ◌+◌, ◌/◌, ◌++◌, ap, ◌∙◌, ◌==◌, ◌&&◌, Bool, true, false, List, [], ◌∷◌, drop, filter, map, not, length, Some, Ok, refl, sym, true≢false, replicate}
+use Rattle.std.proofs.Common.{◌≡◌, ℕ, suc, ℤ, ◌+◌, ◌/◌, ◌++◌, ap, ◌∙◌, ◌==◌, ◌&&◌, Bool, true, false, List, [], ◌∷◌, drop, filter, map, not, length, Some, Ok, refl, sym, true≢false, replicate, ◌<◌, cond}
 use Rattle.std.specs.Ordering.{int_eq}
 use Rattle.std.proofs.lemmas.Bool.{and_parts}
 use Rattle.sqlite_value.specs.declared.keys.Collation.TheVariants.{Binary}
@@ -22,22 +22,39 @@ use Rattle.sqlite_resolve.specs.Compile.{small, new_rows}
 use Rattle.sqlite_resolve.specs.Given.{do_update, key_meant}
 use Rattle.sqlite_resolve.specs.Terms.{equal}
 use Rattle.sqlite_rules.specs.Cast.{cast, cast_all, cast_row}
-use Rattle.sqlite_rules.specs.Edit.{id_in}
+use Rattle.sqlite_rules.specs.Edit.{id_in, with_rowid}
 use Rattle.sqlite_catalog.specs.Listing.{IsSound}
 use Rattle.sqlite.specs.Effect.{value_rows}
 use Rattle.sqlite.specs.Rows.{shown, stamped}
 use Rattle.sqlite.specs.State.{State, Executes}
 use Rattle.sql_tables.specs.Rows.{HaveRowids, Lists, columns_at, numbers_from}
-use Rattle.sql_tables.specs.Tables.{IsDeclared}
-use Rattle.sql_tables.specs.Tables.{numbered_table}
+use Rattle.sql_tables.specs.Tables.{IsDeclared, numbered_table}
 use Rattle.sql_tables.proofs.PutLists.{lists_put}
-use Rattle.sql_tables.proofs.Meaning.{IsText, parse_of, rows_in, clause_in}
-use Rattle.sql_tables.proofs.OneTable.{Parts, draft_of, is_typed}
+use Rattle.sql_tables.proofs.Meaning.{IsText, parse_of, rows_in, clause_in, upsert_is, one_upsert}
+use Rattle.sql_tables.proofs.OneTable.{Parts, draft_of, is_typed, program_on, program_is}
 use Rattle.sql_tables.proofs.RowLists.{rowids_stay}
-use Rattle.sql_tables.proofs.Running.{Wrote}
-use Rattle.sql_tables.proofs.Casts.{cast_null, cast_int}
-use Rattle.sql_tables.proofs.Upserts.{IsUpsert, PutsRow, puts_row}
+use Rattle.sql_tables.proofs.Running.{Wrote, Means, upsert_ran}
 use Rattle.sql_tables.proofs.Writing.{IsPut}
+use Rattle.sqlite_schema.specs.declared.command.Command.TheVariants.{InsertOr}
+use Rattle.sqlite_schema.specs.declared.command.Conflict.TheVariants.{Abort}
+use Rattle.sqlite_rules.specs.declared.error.Rowids.TheVariants.{Chosen}
+use Rattle.sql_tables.proofs.Declaring.{low_tree, classes_are}
+use Rattle.sql_tables.proofs.Numbered.{upserts}
+use Rattle.sqlite_sql.specs.Ops.{unary}
+
+-- ---- what STRICT leaves as it is
+
+either : (b : Bool) (x : Value) → cond b x x ≡ x
+either true x = refl
+either false x = refl
+
+pub cast_null : cast kind.Integer value.Null ≡ value.Null
+unfolding unary
+cast_null = either _ value.Null
+
+pub cast_int : (n : ℤ) → cast kind.Integer (value.Int n) ≡ value.Int n
+unfolding unary
+cast_int n = either _ (value.Int n)
 
 -- the columns take these values as they are
 abbrev pub fits_kind : Kind → Value → Bool
@@ -72,6 +89,9 @@ stored id r = value.Int id ∷ value.Null ∷ drop 1 r
 -- it stands as it is
 pub cast_stored : (name : List ℕ) (columns : List Column) (tree : ℕ) (r : Row) (id : ℤ) → fits columns (drop 1 (stored id r)) ≡ true → cast_row (numbered_table name columns tree) (stored id r) ≡ stored id r
 cast_stored name columns tree r id suits = rw (cast_int id, cast_fits columns (drop 1 (stored id r)) suits)
+
+keeps_number : (there : List Row) (row : Row) (id : ℤ) → rowid row ≡ value.Int id → with_rowid Chosen there row ≡ row
+keeps_number there row id is = rw is
 
 -- the parameters from the second on
 abbrev pub later : ℕ → List Term
@@ -116,42 +136,32 @@ module _ (name : List ℕ) (columns : List Column) (own : List ℕ) (text : List
     pub asked : (x : X) (rest : Row) → column (row x ++ value.Int (key x) ∷ rest) width ≡ value.Int (key x)
     pub made : (x : X) (rest r : Row) → eval_all project ((row x ++ rest) ∷ r ∷ []) ≡ rowid r ∷ rowid r ∷ drop 1 (stored (key x) (row x))
 
-  module _ (u : PutsByRowid) where
-    upsert : IsUpsert name columns text
-    upsert = record {
-      rows = given_rows;
-      clause = on_clash;
-      base = width;
-      terms = terms;
-      width = suc width;
-      project = project;
-      is_text = u.is_text;
-      many = u.many;
-      source_is = u.source;
-      aims = u.aims.0;
-      sets = u.aims.1;
-      key_is = u.target;
-      draft_is = u.draft;
-      typed = u.typed;
-    }
+  module _ (u : PutsByRowid) (schema : Schema) (tree : ℕ) (d : IsDeclared schema (table tree)) where
+    means : tree < 65536 → Means schema text (InsertOr d.at Abort (Values terms (suc width)) (record { target = Some (0 ∷ []); update = Some (program_on tree parts) } ∷ []))
+    means low =
+        upsert_is schema d.at (table tree) d.named d.there refl text given_rows (on_clash ∷ []) width _ _ u.is_text u.many refl (u.source schema tree width)
+        (one_upsert schema d.at (table tree) width on_clash (Some (0 ∷ [])) (draft_of tree parts) (program_on tree parts) u.aims.0 u.aims.1 (u.target schema tree) (u.draft schema d.at tree)
+        (program_is schema (table tree) (classes_are schema (table tree) d low) parts (u.typed tree)))
 
-    makes : (x : X) (tree : ℕ) (given r : Row) → given ≡ row x ++ value.Int (key x) ∷ shown (table tree) (stored (key x) (row x)) → rowid r ≡ value.Int (key x)
+    makes : (x : X) (given r : Row) → given ≡ row x ++ value.Int (key x) ∷ shown (table tree) (stored (key x) (row x)) → rowid r ≡ value.Int (key x)
         → (cast_row (table tree) (drop 1 (eval_all project (given ∷ r ∷ []))) ≡ stored (key x) (row x)) × (id_in (rowid (eval_all project (given ∷ r ∷ []))) ≡ key x)
-    makes x tree given r is number =
+    makes x given r is number =
         let it : eval_all project (given ∷ r ∷ []) ≡ value.Int (key x) ∷ stored (key x) (row x) =
         ap (λ (g : Row). eval_all project (g ∷ r ∷ [])) is ∙ u.made x (value.Int (key x) ∷ shown (table tree) (stored (key x) (row x))) r ∙ ap (λ v. v ∷ v ∷ drop 1 (stored (key x) (row x))) number in
         (ap (λ (r : Row). cast_row (table tree) (drop 1 r)) it ∙ cast_stored name columns tree (row x) (key x) (u.suits x), ap (λ (r : Row). id_in (rowid r)) it)
 
-    each : (x : X) → PutsRow name columns text upsert (row x) (stored (key x) (row x)) (key x)
-    unfolding upsert
-    each x = record { source_is = u.values x; cast = λ tree. cast_stored name columns tree (row x) (key x) (u.suits x); is = refl; asked = λ tree. u.asked x (shown (table tree) (stored (key x) (row x))); made = makes x }
-
-    pub numbered_puts : (schema : Schema) (tree : ℕ) (d : IsDeclared schema (table tree)) (old new : State) (count : ℕ) (x : X) (xs : List X) → old.now.schema ≡ schema → IsSound schema old.now.trees
+    pub numbered_puts : (old new : State) (count : ℕ) (x : X) (xs : List X) → old.now.schema ≡ schema → IsSound schema old.now.trees
         → HaveRowids (old.now.trees tree) → Lists row (columns_at own) xs (old.now.trees tree) → Executes text (row x) old new (Ok count)
         → Wrote old new × ((id : ℤ) × (it : Row) × IsPut schema (table tree) it id old.now.trees new.now.trees × Lists row (columns_at own) (x ∷ filter (λ y. not (int_eq (key y) (key x))) xs) (new.now.trees tree) × HaveRowids (new.now.trees tree))
-    numbered_puts schema tree d old new count x xs has sound ids lists h =
-        let it = stored (key x) (row x) in
-        let did = puts_row name columns text upsert (row x) it (key x) (each x) schema tree d old new count has sound ids h in (
-          did.0,
-          (key x, it, did.1, rw did.1.rows (lists_put row (columns_at own) key u.first u.first_shown x xs it (old.now.trees tree) lists (u.back x) refl), rw did.1.rows (rowids_stay (key x) it refl (old.now.trees tree) ids)),
+    numbered_puts old new count x xs has sound ids lists h =
+        let low = low_tree schema (table tree) d old.now.trees sound in
+        let db = old.now.trees in
+        let id = key x in
+        let it = stored id (row x) in
+        let cast = cast_stored name columns tree (row x) id (u.suits x) in
+        let chosen = ap (with_rowid Chosen (db tree)) cast ∙ keeps_number (db tree) it id refl in
+        let ran = upsert_ran schema d.at (table tree) d.there text (row x) old new count has (Some (0 ∷ [])) (program_on tree parts) terms (suc width) (means low) it it refl (u.values x tree) chosen h in
+        let put = upserts schema (table tree) d refl low old.step_limit (row x) width project it cast id refl (u.asked x (shown (table tree) it)) (makes x) db new.now.trees ids ran.1 in (
+          ran.0,
+          (id, it, put, rw put.rows (lists_put row (columns_at own) key u.first u.first_shown x xs it (db tree) lists (u.back x) refl), rw put.rows (rowids_stay id it refl (db tree) ids)),
         )

@@ -1,17 +1,19 @@
--- How the columns of the one table of a query are read.
-use Rattle.std.proofs.Common.{◌≡◌, ℕ, suc, ◌+◌, ◌-◌, ◌<◌, ◌^◌, Bool, true, false, nat_lt, List, [], ◌∷◌, ◌++◌, length, codes, slice_get, Some, None, Ok, refl, sym, ap, ◌∙◌, arith, append-nil, append_assoc, map, cond, unwrap_or}
-use Rattle.std.specs.List.{AllZip}
+-- How the columns of the one table of a query are read, where each is written by its name alone.
+use Rattle.std.proofs.Common.{◌≡◌, ℕ, suc, ◌+◌, ◌-◌, ◌<◌, ◌^◌, Bool, true, false, ◌&&◌, nat_lt, List, [], ◌∷◌, ◌++◌, length, codes, slice_get, Option, Some, None, Ok, is_some, is_none, option_map, refl, sym, ap, subst, ◌∙◌, arith, append-nil, append_assoc, map, cond, unwrap_or, bytes_eq, true≢false}
+use Rattle.std.specs.List.{list_all}
+use Rattle.std.proofs.lemmas.Bool.{and_parts}
 use Rattle.std.proofs.lemmas.Bool.Decides.{nat_tests}
+use Rattle.std.proofs.lemmas.Slice.Eq.{bytes_eq-Decides}
 use Rattle.sqlite_value.specs.declared.keys.Key.{Key}
+use Rattle.sqlite_value.specs.declared.keys.Collation.{Collation}
 use Rattle.sqlite_value.specs.declared.keys.Collation.TheVariants.{Binary}
 use Rattle.sqlite_value.specs.Keys.{ascending}
-use Rattle.sqlite_sql.specs.Term.{Term, col, reads_below}
+use Rattle.sqlite_sql.specs.Term.{Term, col}
 use Rattle.sqlite_ast.specs.declared.Expr.{Expr, out-Expr}
-use Rattle.sqlite_ast.specs.declared.Expr.TheVariants as e
 use Rattle.sqlite_ast.specs.declared.Expr.TheOpen.{Expr-F, Shown-F}
-use Rattle.sqlite_ast.specs.declared.Shown.{Shown, out-Shown}
-use Rattle.sqlite_ast.specs.declared.Sort.{Sort, out-Sort}
-use Rattle.sqlite_ast.specs.Layer.{ShownLayer}
+use Rattle.sqlite_ast.specs.declared.Expr.TheViews.{out-roll-Expr, out-roll-Shown, roll-Expr, roll-Shown}
+use Rattle.sqlite_ast.specs.declared.Shown.{Shown}
+use Rattle.sqlite_ast.specs.declared.Sort.{Sort, roll-Sort}
 use Rattle.sqlite_schema.specs.declared.schema.Schema.{Schema}
 use Rattle.sqlite_schema.specs.declared.schema.Table.{Table}
 use Rattle.sqlite_schema.specs.declared.schema.Column.{Column}
@@ -27,29 +29,22 @@ use Rattle.sqlite_resolve.specs.Body as body
 use Rattle.sqlite_resolve.specs.Order as order
 use Rattle.sqlite_resolve.specs.Expr.{lower, lower_to, node, opened, passes}
 
-abbrev pub nothing_written : Expr
-nothing_written = e.Null
+-- ---- what is written
 
--- nothing was met but columns
-abbrev pub clear : ℕ → Carried → State
-clear budget last = record { next = 2; steps = []; aggregates = []; budget = budget; written = None; last = last }
+abbrev pub column_expr : Name → Expr
+column_expr name = roll-Expr (Expr-F.Column None name)
 
-abbrev pub expr_at : ShownLayer → Expr
-expr_at Shown-F.All = nothing_written
-expr_at (Shown-F.AllOf table) = nothing_written
-expr_at (Shown-F.One e alias text) = e
+abbrev pub shown_column : Name → Shown
+shown_column name = roll-Shown (Shown-F.One (column_expr name) None name)
 
-abbrev pub text_at : ShownLayer → Name
-text_at Shown-F.All = []
-text_at (Shown-F.AllOf table) = []
-text_at (Shown-F.One e alias text) = text
+-- the order by it, ascending
+abbrev pub sort_column : Name → Sort
+sort_column name = roll-Sort (record { key = column_expr name; descending = false; nulls_first = None })
 
--- what a result writes
-abbrev pub shown_expr : Shown → Expr
-shown_expr s = expr_at (out-Shown s)
+column_out : (name : Name) → out-Expr (column_expr name) ≡ Expr-F.Column None name
+column_out name = out-roll-Expr (Expr-F.Column None name)
 
-abbrev pub shown_text : Shown → Name
-shown_text s = text_at (out-Shown s)
+-- ---- what it stands for
 
 -- a column of the table as a result, and its hidden rowid
 abbrev pub column_output : Table → ℕ → Column → Output
@@ -57,6 +52,84 @@ column_output table k c = record { name = c.name; is_alias = false; is_column = 
 
 abbrev pub rowid_output : Output
 rowid_output = record { name = codes "rowid"; is_alias = false; is_column = true; term = col 1 0; carried = nothing }
+
+abbrev pub rowid_if : Bool → Option Output
+rowid_if true = Some rowid_output
+rowid_if false = None
+
+abbrev pub output_at : Table → Name → Option ℕ → Option Output
+output_at t name (Some k) = option_map (column_output t k) (slice_get t.columns k)
+output_at t name None = rowid_if (bytes_eq name (codes "rowid") && is_none t.key)
+
+abbrev pub is_shown : Table → Name → Bool
+is_shown t name = is_some (output_at t name (column_named t name))
+
+abbrev pub output_for : Table → Name → Output
+output_for t name = unwrap_or (output_at t name (column_named t name)) rowid_output
+
+abbrev pub is_binary : Collation → Bool
+is_binary Binary = true
+is_binary _ = false
+
+abbrev pub is_key_column : Option Column → Bool
+is_key_column None = false
+is_key_column (Some c) = is_binary c.collation
+
+abbrev pub sorts_at : Table → Option ℕ → Bool
+sorts_at t None = false
+sorts_at t (Some k) = is_key_column (slice_get t.columns k)
+
+abbrev pub term_at : Table → Option ℕ → Term
+term_at t None = col 1 0
+term_at t (Some k) = col 1 (place_of t k)
+
+abbrev pub term_for : Table → Name → Term
+term_for t name = term_at t (column_named t name)
+
+-- the table has the column, which goes by bytes, and no result has the name as its alias
+abbrev pub sorts_well : Table → List Output → Name → Bool
+sorts_well t outs name = is_none (order.alias_in outs (column_expr name)) && sorts_at t (column_named t name)
+
+none_is : {X : Type 0} (o : Option X) → is_none o ≡ true → o ≡ None
+none_is None h = refl
+none_is (Some x) h = absurd (true≢false (sym h))
+
+binary_is : (c : Collation) → is_binary c ≡ true → c ≡ Binary
+binary_is Binary h = refl
+binary_is c h = absurd (true≢false (sym h))
+
+can_spend : (budget : ℕ) → 1 < budget → nat_lt 1 budget ≡ true
+can_spend budget rich = grind (arith, nat_tests)
+
+-- ---- how it is read
+
+-- nothing was met but columns
+abbrev pub clear : ℕ → Carried → State
+clear budget last = record { next = 2; steps = []; aggregates = []; budget = budget; written = None; last = last }
+
+is_column : (name : Name) → body.is_column (column_expr name) ≡ true
+unfolding body.is_column
+is_column name = rw (column_out name)
+
+bare : (name : Name) → order.peeled (column_expr name) ≡ column_expr name
+unfolding order.peeled
+bare name = rw (column_out name)
+
+uncollated : (name : Name) → order.written_on (column_expr name) ≡ None
+unfolding order.written_on
+uncollated name = rw (column_out name)
+
+no_number : (name : Name) → order.is_numeral (column_expr name) ≡ false
+unfolding order.is_numeral
+no_number name = rw (column_out name)
+
+by_bytes : (table : Table) (k : ℕ) (c : Column) → c.collation ≡ Binary → alone (declared table k c) ≡ Binary
+unfolding alone
+by_bytes table k c binary = go (is_key table.key k)
+  where
+    go : (b : Bool) → unwrap_or (cond b nothing (record { collation = Some c.collation; is_written = false })).collation Binary ≡ Binary
+    go true = refl
+    go false = binary
 
 module _ (schema : Schema) (at : ℕ) (table : Table) (there : slice_get schema.tables at ≡ Some table) (alias : Name) where
   abbrev pub bound : Bound
@@ -69,175 +142,119 @@ module _ (schema : Schema) (at : ℕ) (table : Table) (there : slice_get schema.
   unfolding find in_level only hit column_in is_among
   finds_column shown grouped name k named = rw (there, named)
 
-  -- the expression is this column of the table
-  pub record IsColumn (e : Expr) (name : Name) (k : ℕ) (c : Column) : Type 0 where
-    pub written : out-Expr e ≡ Expr-F.Column None name
-    pub named : column_named table name ≡ Some k
-    pub is : slice_get table.columns k ≡ Some c
-
-  pub lowers_to : (depth : ℕ) (e : Expr) (name : Name) (k : ℕ) (c : Column) → IsColumn e name k c → (shown : List Output) (grouped : Bool) (budget : ℕ) (last : Carried) → nat_lt 1 budget ≡ true
-      → lower_to (suc depth) (over shown grouped) e (clear budget last) ≡ Ok (col 1 (place_of table k), clear (budget - 1) (declared table k c))
+  pub lowers_to : (depth : ℕ) (name : Name) (k : ℕ) (c : Column) → column_named table name ≡ Some k → slice_get table.columns k ≡ Some c → (shown : List Output) (grouped : Bool) (budget : ℕ) (last : Carried) → nat_lt 1 budget ≡ true
+      → lower_to (suc depth) (over shown grouped) (column_expr name) (clear budget last) ≡ Ok (col 1 (place_of table k), clear (budget - 1) (declared table k c))
   unfolding lower_to node opened spend begin finish column term_of column_at passes
-  lowers_to depth e name k c it shown grouped budget last rich = rw (rich, it.written, finds_column shown grouped name k it.named, there, it.is)
+  lowers_to depth name k c named is shown grouped budget last rich = rw (rich, column_out name, finds_column shown grouped name k named, there, is)
 
-  lowers_column : (e : Expr) (name : Name) (k : ℕ) (c : Column) → IsColumn e name k c → (shown : List Output) (grouped : Bool) (budget : ℕ) (last : Carried) → nat_lt 1 budget ≡ true
-      → lower (over shown grouped) e (clear budget last) ≡ Ok (col 1 (place_of table k), clear (budget - 1) (declared table k c))
-  lowers_column = lowers_to 699
+  heads_column : (name : Name) (k : ℕ) (c : Column) → column_named table name ≡ Some k → slice_get table.columns k ≡ Some c → (shown : List Output) (grouped : Bool) → body.heading (over shown grouped) (column_expr name) name ≡ c.name
+  unfolding body.heading body.declared
+  heads_column name k c named is shown grouped = rw (column_out name, finds_column shown grouped name k named, there, is)
 
   finds_rowid : (shown : List Output) (grouped : Bool) → column_named table (codes "rowid") ≡ None → nat_lt table.tree (2 ^ 31) ≡ true → find (over shown grouped) None (codes "rowid") ≡ Ok (found.Rowid 1 at)
   unfolding find in_level only hit column_in rowid_in is_among is_rowid same_name
   finds_rowid shown grouped free low = rw (there, free, low)
 
-  lowers_rowid : (e : Expr) → out-Expr e ≡ Expr-F.Column None (codes "rowid") → column_named table (codes "rowid") ≡ None → nat_lt table.tree (2 ^ 31) ≡ true
-      → (shown : List Output) (grouped : Bool) (budget : ℕ) (last : Carried) → nat_lt 1 budget ≡ true → lower (over shown grouped) e (clear budget last) ≡ Ok (col 1 0, clear (budget - 1) nothing)
+  lowers_rowid : column_named table (codes "rowid") ≡ None → nat_lt table.tree (2 ^ 31) ≡ true → (shown : List Output) (grouped : Bool) (budget : ℕ) (last : Carried) → nat_lt 1 budget ≡ true
+      → lower (over shown grouped) (column_expr (codes "rowid")) (clear budget last) ≡ Ok (col 1 0, clear (budget - 1) nothing)
   unfolding lower_to node opened spend begin finish column term_of passes
-  lowers_rowid e written free low shown grouped budget last rich = rw (rich, written, finds_rowid shown grouped free low)
+  lowers_rowid free low shown grouped budget last rich = rw (rich, column_out (codes "rowid"), finds_rowid shown grouped free low)
 
-  -- the expression of a result is this one
-  pub record IsOutput (e : Expr) (text : Name) (o : Output) : Type 0 where
-    pub lowers : (shown : List Output) (grouped : Bool) (budget : ℕ) (last : Carried) → nat_lt 1 budget ≡ true → lower (over shown grouped) e (clear budget last) ≡ Ok (o.term, clear (budget - 1) o.carried)
-    pub heads : (shown : List Output) (grouped : Bool) → body.heading (over shown grouped) e text ≡ o.name
-    pub column : body.is_column e ≡ true
+  heads_rowid : column_named table (codes "rowid") ≡ None → nat_lt table.tree (2 ^ 31) ≡ true → table.key ≡ None → (shown : List Output) (grouped : Bool)
+      → body.heading (over shown grouped) (column_expr (codes "rowid")) (codes "rowid") ≡ codes "rowid"
+  unfolding body.heading body.declared
+  heads_rowid free low hidden shown grouped = rw (column_out (codes "rowid"), finds_rowid shown grouped free low, there, hidden)
+
+  -- the name is that of this result
+  record IsNamed (name : Name) (o : Output) : Type 0 where
+    pub lowers : (shown : List Output) (grouped : Bool) (budget : ℕ) (last : Carried) → nat_lt 1 budget ≡ true → lower (over shown grouped) (column_expr name) (clear budget last) ≡ Ok (o.term, clear (budget - 1) o.carried)
+    pub heads : (shown : List Output) (grouped : Bool) → body.heading (over shown grouped) (column_expr name) name ≡ o.name
     pub is : o ≡ record { name = o.name; is_alias = false; is_column = true; term = o.term; carried = o.carried }
 
-  heads_column : (e : Expr) (text name : Name) (k : ℕ) (c : Column) → IsColumn e name k c → (shown : List Output) (grouped : Bool) → body.heading (over shown grouped) e text ≡ c.name
-  unfolding body.heading body.declared
-  heads_column e text name k c it shown grouped = rw (it.written, finds_column shown grouped name k it.named, there, it.is)
+  rowid_named : column_named table (codes "rowid") ≡ None → nat_lt table.tree (2 ^ 31) ≡ true → table.key ≡ None → IsNamed (codes "rowid") rowid_output
+  rowid_named free low hidden = record { lowers = lowers_rowid free low; heads = heads_rowid free low hidden; is = refl }
 
-  is_column : (e : Expr) (name : Name) → out-Expr e ≡ Expr-F.Column None name → body.is_column e ≡ true
-  unfolding body.is_column
-  is_column e name written = rw written
+  name_is : nat_lt table.tree (2 ^ 31) ≡ true → (name : Name) → is_shown table name ≡ true → IsNamed name (output_for table name)
+  name_is low name shown = by_place (column_named table name) refl shown
+    where
+      by_column : (k : ℕ) → column_named table name ≡ Some k → (c : Option Column) → slice_get table.columns k ≡ c → is_some (option_map (column_output table k) c) ≡ true
+          → IsNamed name (unwrap_or (option_map (column_output table k) c) rowid_output)
+      by_column k named None is h = absurd (true≢false (sym h))
+      by_column k named (Some c) is h = record { lowers = lowers_to 699 name k c named is; heads = heads_column name k c named is; is = refl }
 
-  pub column_is_output : (e : Expr) (text name : Name) (k : ℕ) (c : Column) → IsColumn e name k c → IsOutput e text (column_output table k c)
-  column_is_output e text name k c it = record {
-    lowers = lowers_column e name k c it;
-    heads = heads_column e text name k c it;
-    column = is_column e name it.written;
-    is = refl;
-  }
+      by_rowid : column_named table name ≡ None → (b : Bool) → (bytes_eq name (codes "rowid") && is_none table.key) ≡ b → is_some (rowid_if b) ≡ true → IsNamed name (unwrap_or (rowid_if b) rowid_output)
+      by_rowid free false is h = absurd (true≢false (sym h))
+      by_rowid free true is h =
+          let both = and_parts _ _ is in
+          let same = (bytes_eq-Decides name (codes "rowid")).0 both.0 in
+          subst (λ n. IsNamed n rowid_output) (sym same) (rowid_named (ap (column_named table) (sym same) ∙ free) low (none_is table.key both.1))
 
-  heads_rowid : (e : Expr) (text : Name) → out-Expr e ≡ Expr-F.Column None (codes "rowid") → column_named table (codes "rowid") ≡ None → nat_lt table.tree (2 ^ 31) ≡ true → table.key ≡ None
-      → (shown : List Output) (grouped : Bool) → body.heading (over shown grouped) e text ≡ codes "rowid"
-  unfolding body.heading body.declared
-  heads_rowid e text written free low hidden shown grouped = rw (written, finds_rowid shown grouped free low, there, hidden)
+      by_place : (k : Option ℕ) → column_named table name ≡ k → is_some (output_at table name k) ≡ true → IsNamed name (unwrap_or (output_at table name k) rowid_output)
+      by_place None named h = by_rowid named _ refl h
+      by_place (Some k) named h = by_column k named _ refl h
 
-  pub rowid_is_output : (e : Expr) (text : Name) → out-Expr e ≡ Expr-F.Column None (codes "rowid") → column_named table (codes "rowid") ≡ None → nat_lt table.tree (2 ^ 31) ≡ true → table.key ≡ None
-      → IsOutput e text rowid_output
-  rowid_is_output e text written free low hidden = record {
-    lowers = lowers_rowid e written free low;
-    heads = heads_rowid e text written free low hidden;
-    column = is_column e (codes "rowid") written;
-    is = refl;
-  }
-
-  pub record IsShown (s : Shown) (o : Output) : Type 0 where
-    pub e : Expr
-    pub text : Name
-    pub one : out-Shown s ≡ Shown-F.One e None text
-    pub shows : IsOutput e text o
-
-  pub column_shown : (s : Shown) (name : Name) (k : ℕ) (c : Column) → (out-Shown s ≡ Shown-F.One (shown_expr s) None (shown_text s)) × (out-Expr (shown_expr s) ≡ Expr-F.Column None name)
-      → column_named table name ≡ Some k → slice_get table.columns k ≡ Some c → IsShown s (column_output table k c)
-  column_shown s name k c written named is = record {
-    e = shown_expr s;
-    text = shown_text s;
-    one = written.0;
-    shows = column_is_output (shown_expr s) (shown_text s) name k c (record { written = written.1; named = named; is = is });
-  }
-
-  pub rowid_shown : (s : Shown) → (out-Shown s ≡ Shown-F.One (shown_expr s) None (shown_text s)) × (out-Expr (shown_expr s) ≡ Expr-F.Column None (codes "rowid"))
-      → column_named table (codes "rowid") ≡ None → nat_lt table.tree (2 ^ 31) ≡ true → table.key ≡ None → IsShown s rowid_output
-  rowid_shown s written free low hidden = record {
-    e = shown_expr s;
-    text = shown_text s;
-    one = written.0;
-    shows = rowid_is_output (shown_expr s) (shown_text s) written.1 free low hidden;
-  }
-
-  one_shown : (s : Shown) (o : Output) → IsShown s o → (shown done : List Output) (grouped : Bool) (budget : ℕ) (last : Carried) → nat_lt 1 budget ≡ true
-      → body.shown lower (over shown grouped) (bound ∷ []) done s (clear budget last) ≡ Ok (done ++ o ∷ [], clear (budget - 1) o.carried)
+  one_shown : (name : Name) (o : Output) → IsNamed name o → (shown done : List Output) (grouped : Bool) (budget : ℕ) (last : Carried) → nat_lt 1 budget ≡ true
+      → body.shown lower (over shown grouped) (bound ∷ []) done (shown_column name) (clear budget last) ≡ Ok (done ++ o ∷ [], clear (budget - 1) o.carried)
   unfolding body.shown
-  one_shown s o it shown done grouped budget last rich =
-      rw (it.one, it.shows.lowers shown grouped budget last rich, it.shows.heads shown grouped, it.shows.column) (ap (λ x. Ok (done ++ x ∷ [], clear (budget - 1) o.carried)) (sym it.shows.is))
-
-  can_spend : (budget : ℕ) → 1 < budget → nat_lt 1 budget ≡ true
-  can_spend budget rich = grind (arith, nat_tests)
+  one_shown name o it shown done grouped budget last rich =
+      rw (out-roll-Shown (Shown-F.One (column_expr name) None name), it.lowers shown grouped budget last rich, it.heads shown grouped, is_column name) (ap (λ x. Ok (done ++ x ∷ [], clear (budget - 1) o.carried)) (sym it.is))
 
   -- the columns of the result, in turn
-  outputs_from : (items : List Shown) (outs : List Output) → AllZip IsShown items outs → (shown done : List Output) (grouped : Bool) (budget : ℕ) (last : Carried) → length items + 1 < budget
-      → (later : Carried) × (body.outputs_from lower (over shown grouped) (bound ∷ []) done items (clear budget last) ≡ Ok (done ++ outs, clear (budget - length items) later))
-  outputs_from [] [] all shown done grouped budget last rich = let same : budget - 0 ≡ budget = omega arith in (last, rw (append-nil, same))
-  outputs_from (s ∷ items) (o ∷ outs) all shown done grouped budget last rich =
-      let rest = outputs_from items outs all.1 shown (done ++ o ∷ []) grouped (budget - 1) o.carried (omega arith) in
-      let one = one_shown s o all.0 shown done grouped budget last (can_spend budget (omega arith)) in
-      let left : budget - 1 - length items ≡ budget - length (s ∷ items) = omega arith in
+  outputs_from : nat_lt table.tree (2 ^ 31) ≡ true → (names : List Name) → list_all (is_shown table) names ≡ true → (shown done : List Output) (grouped : Bool) (budget : ℕ) (last : Carried) → length names + 1 < budget
+      → (later : Carried) × (body.outputs_from lower (over shown grouped) (bound ∷ []) done (map shown_column names) (clear budget last) ≡ Ok (done ++ map (output_for table) names, clear (budget - length names) later))
+  outputs_from low [] all shown done grouped budget last rich = let same : budget - 0 ≡ budget = omega arith in (last, rw (append-nil, same))
+  outputs_from low (name ∷ names) all shown done grouped budget last rich =
+      let both : (is_shown table name ≡ true) × (list_all (is_shown table) names ≡ true) = and_parts _ _ all in
+      let o = output_for table name in
+      let outs = map (output_for table) names in
+      let rest = outputs_from low names both.1 shown (done ++ o ∷ []) grouped (budget - 1) o.carried (omega arith) in
+      let one = one_shown name o (name_is low name both.0) shown done grouped budget last (can_spend budget (omega arith)) in
+      let left : budget - 1 - length names ≡ budget - length (name ∷ names) = omega arith in
       let longer : (done ++ o ∷ []) ++ outs ≡ done ++ o ∷ outs = append_assoc done (o ∷ []) outs in
-      (rest.0, rw one (rest.1 ∙ ap (λ xs. Ok (xs, clear (budget - 1 - length items) rest.0)) longer ∙ ap (λ b. Ok (done ++ o ∷ outs, clear b rest.0)) left))
-  outputs_from [] (o ∷ outs) all shown done grouped budget last rich = absurd all
-  outputs_from (s ∷ items) [] all shown done grouped budget last rich = absurd all
+      (rest.0, rw one (rest.1 ∙ ap (λ xs. Ok (xs, clear (budget - 1 - length names) rest.0)) longer ∙ ap (λ b. Ok (done ++ o ∷ outs, clear b rest.0)) left))
 
-  pub outputs_are : (items : List Shown) (outs : List Output) → AllZip IsShown items outs → (shown : List Output) (grouped : Bool) (budget : ℕ) (last : Carried) → length items + 1 < budget
-      → (later : Carried) × (body.outputs lower (over shown grouped) (bound ∷ []) items (clear budget last) ≡ Ok (outs, clear (budget - length items) later))
+  pub outputs_are : nat_lt table.tree (2 ^ 31) ≡ true → (names : List Name) → list_all (is_shown table) names ≡ true → (shown : List Output) (grouped : Bool) (budget : ℕ) (last : Carried) → length names + 1 < budget
+      → (later : Carried) × (body.outputs lower (over shown grouped) (bound ∷ []) (map shown_column names) (clear budget last) ≡ Ok (map (output_for table) names, clear (budget - length names) later))
   unfolding body.outputs
-  outputs_are items outs all shown grouped budget last rich = outputs_from items outs all shown [] grouped budget last rich
+  outputs_are low names all shown grouped budget last rich = outputs_from low names all shown [] grouped budget last rich
 
-  -- the term of ORDER BY is this one, and ascends by bytes
-  pub record IsKey (outs : List Output) (s : Sort) (t : Term) : Type 0 where
-    pub o : Output
-    pub text : Name
-    pub shows : IsOutput (out-Sort s).key text o
-    pub term : o.term ≡ t
-    pub binary : alone o.carried ≡ Binary
-    pub ascends : (out-Sort s).descending ≡ false
-    pub unplaced : (out-Sort s).nulls_first ≡ None
-    pub bare : order.peeled (out-Sort s).key ≡ (out-Sort s).key
-    pub plain : order.written_on (out-Sort s).key ≡ None
-    pub no_number : order.is_numeral (out-Sort s).key ≡ false
-    pub no_alias : order.alias_in outs (out-Sort s).key ≡ None
-    pub reads : reads_below 1 t ≡ false
-
-  pub column_key : (outs : List Output) (s : Sort) (name : Name) (k : ℕ) (c : Column) → out-Expr (out-Sort s).key ≡ Expr-F.Column None name → column_named table name ≡ Some k → slice_get table.columns k ≡ Some c
-      → c.collation ≡ Binary → ((out-Sort s).descending ≡ false) × ((out-Sort s).nulls_first ≡ None) → order.alias_in outs (out-Sort s).key ≡ None → IsKey outs s (col 1 (place_of table k))
-  unfolding order.peeled order.written_on order.is_numeral alone
-  column_key outs s name k c written named is binary plain unaliased = record {
-    o = column_output table k c;
-    text = [];
-    shows = column_is_output (out-Sort s).key [] name k c (record { written = written; named = named; is = is });
-    term = refl;
-    binary = go (is_key table.key k);
-    ascends = plain.0;
-    unplaced = plain.1;
-    bare = rw written;
-    plain = rw written;
-    no_number = rw written;
-    no_alias = unaliased;
-    reads = refl;
-  }
-    where
-      go : (b : Bool) → unwrap_or (cond b nothing (record { collation = Some c.collation; is_written = false })).collation Binary ≡ Binary
-      go true = refl
-      go false = binary
-
-  one_key : (outs : List Output) (s : Sort) (t : Term) → IsKey outs s t → (done : List (Term × Key)) (grouped : Bool) (budget : ℕ) (last : Carried) → nat_lt 1 budget ≡ true
-      → (later : Carried) × (order.sort lower (over outs grouped) outs done s (clear budget last) ≡ Ok (done ++ (t, ascending Binary) ∷ [], clear (budget - 1) later))
+  -- a term of ORDER BY, which ascends by bytes
+  one_key : (outs : List Output) (name : Name) (k : ℕ) (c : Column) → column_named table name ≡ Some k → slice_get table.columns k ≡ Some c → c.collation ≡ Binary → order.alias_in outs (column_expr name) ≡ None
+      → (done : List (Term × Key)) (grouped : Bool) (budget : ℕ) (last : Carried) → nat_lt 1 budget ≡ true
+      → order.sort lower (over outs grouped) outs done (sort_column name) (clear budget last) ≡ Ok (done ++ (col 1 (place_of table k), ascending Binary) ∷ [], clear (budget - 1) (declared table k c))
   unfolding order.sort order.key order.collation_of order.placed
-  one_key outs s t it done grouped budget last rich =
-      let below : reads_below 1 it.o.term ≡ false = rw it.term it.reads in
-      (it.o.carried, rw (it.bare, it.no_alias, it.shows.lowers outs grouped budget last rich, it.no_number, below, it.plain, it.binary, it.ascends, it.unplaced, it.term))
+  one_key outs name k c named is binary unaliased done grouped budget last rich =
+      rw (bare name, unaliased, lowers_to 699 name k c named is outs grouped budget last rich, no_number name, uncollated name, by_bytes table k c binary)
 
-  sorts_from : (outs : List Output) (items : List Sort) (terms : List Term) → AllZip (IsKey outs) items terms → (done : List (Term × Key)) (grouped : Bool) (budget : ℕ) (last : Carried) → length items + 1 < budget
-      → (later : Carried) × (order.sorts_from lower (over outs grouped) outs done items (clear budget last) ≡ Ok (done ++ map (λ t. (t, ascending Binary)) terms, clear (budget - length items) later))
-  sorts_from outs [] [] all done grouped budget last rich = let same : budget - 0 ≡ budget = omega arith in (last, rw (append-nil, same))
-  sorts_from outs (s ∷ items) (t ∷ terms) all done grouped budget last rich =
-      let one = one_key outs s t all.0 done grouped budget last (can_spend budget (omega arith)) in
-      let rest = sorts_from outs items terms all.1 (done ++ (t, ascending Binary) ∷ []) grouped (budget - 1) one.0 (omega arith) in
-      let left : budget - 1 - length items ≡ budget - length (s ∷ items) = omega arith in
-      let longer : (done ++ (t, ascending Binary) ∷ []) ++ map (λ t. (t, ascending Binary)) terms ≡ done ++ (t, ascending Binary) ∷ map (λ t. (t, ascending Binary)) terms = append_assoc done ((t, ascending Binary) ∷ []) (map (λ t. (t, ascending Binary)) terms) in
-      (rest.0, rw one.1 (rest.1 ∙ ap (λ xs. Ok (xs, clear (budget - 1 - length items) rest.0)) longer ∙ ap (λ b. Ok (done ++ map (λ t. (t, ascending Binary)) (t ∷ terms), clear b rest.0)) left))
-  sorts_from outs [] (t ∷ terms) all done grouped budget last rich = absurd all
-  sorts_from outs (s ∷ items) [] all done grouped budget last rich = absurd all
+  abbrev Sorts : List Output → Name → List (Term × Key) → Bool → ℕ → Carried → Term → Type 0
+  Sorts outs name done grouped budget last t = (later : Carried) × (order.sort lower (over outs grouped) outs done (sort_column name) (clear budget last) ≡ Ok (done ++ (t, ascending Binary) ∷ [], clear (budget - 1) later))
 
-  pub sorts_are : (outs : List Output) (items : List Sort) (terms : List Term) → AllZip (IsKey outs) items terms → (grouped : Bool) (budget : ℕ) (last : Carried) → length items + 1 < budget
-      → (later : Carried) × (order.sorts lower (over outs grouped) outs items (clear budget last) ≡ Ok (map (λ t. (t, ascending Binary)) terms, clear (budget - length items) later))
+  one_sort : (outs : List Output) (name : Name) → sorts_well table outs name ≡ true → (done : List (Term × Key)) (grouped : Bool) (budget : ℕ) (last : Carried) → nat_lt 1 budget ≡ true
+      → Sorts outs name done grouped budget last (term_for table name)
+  one_sort outs name h done grouped budget last rich = by_place (column_named table name) refl (and_parts _ _ h).1
+    where
+      by_column : (k : ℕ) → column_named table name ≡ Some k → (c : Option Column) → slice_get table.columns k ≡ c → is_key_column c ≡ true → Sorts outs name done grouped budget last (col 1 (place_of table k))
+      by_column k named None is well = absurd (true≢false (sym well))
+      by_column k named (Some c) is well = (declared table k c, one_key outs name k c named is (binary_is c.collation well) (none_is _ (and_parts _ _ h).0) done grouped budget last rich)
+
+      by_place : (k : Option ℕ) → column_named table name ≡ k → sorts_at table k ≡ true → Sorts outs name done grouped budget last (term_at table k)
+      by_place None named well = absurd (true≢false (sym well))
+      by_place (Some k) named well = by_column k named _ refl well
+
+  sorts_from : (outs : List Output) (names : List Name) → list_all (sorts_well table outs) names ≡ true → (done : List (Term × Key)) (grouped : Bool) (budget : ℕ) (last : Carried) → length names + 1 < budget
+      → (later : Carried) × (order.sorts_from lower (over outs grouped) outs done (map sort_column names) (clear budget last) ≡ Ok (done ++ map (λ t. (t, ascending Binary)) (map (term_for table) names), clear (budget - length names) later))
+  sorts_from outs [] all done grouped budget last rich = let same : budget - 0 ≡ budget = omega arith in (last, rw (append-nil, same))
+  sorts_from outs (name ∷ names) all done grouped budget last rich =
+      let both : (sorts_well table outs name ≡ true) × (list_all (sorts_well table outs) names ≡ true) = and_parts _ _ all in
+      let key : Term × Key = (term_for table name, ascending Binary) in
+      let keys : List (Term × Key) = map (λ t. (t, ascending Binary)) (map (term_for table) names) in
+      let one = one_sort outs name both.0 done grouped budget last (can_spend budget (omega arith)) in
+      let rest = sorts_from outs names both.1 (done ++ key ∷ []) grouped (budget - 1) one.0 (omega arith) in
+      let left : budget - 1 - length names ≡ budget - length (name ∷ names) = omega arith in
+      let longer : (done ++ key ∷ []) ++ keys ≡ done ++ key ∷ keys = append_assoc done (key ∷ []) keys in
+      (rest.0, rw one.1 (rest.1 ∙ ap (λ xs. Ok (xs, clear (budget - 1 - length names) rest.0)) longer ∙ ap (λ b. Ok (done ++ key ∷ keys, clear b rest.0)) left))
+
+  pub sorts_are : (outs : List Output) (names : List Name) → list_all (sorts_well table outs) names ≡ true → (grouped : Bool) (budget : ℕ) (last : Carried) → length names + 1 < budget
+      → (later : Carried) × (order.sorts lower (over outs grouped) outs (map sort_column names) (clear budget last) ≡ Ok (map (λ t. (t, ascending Binary)) (map (term_for table) names), clear (budget - length names) later))
   unfolding order.sorts
-  sorts_are outs items terms all grouped budget last rich = sorts_from outs items terms all [] grouped budget last rich
+  sorts_are outs names all grouped budget last rich = sorts_from outs names all [] grouped budget last rich

@@ -1,13 +1,14 @@
 -- The database's counter of rowids, which a first table brings if it is missing.
-use Rattle.std.proofs.Common.{◌≡◌, ℕ, zero, suc, ◌+◌, ◌<◌, Bool, true, false, not, ◌&&◌, ◌||◌, cond, if◌then◌else◌, List, [], ◌∷◌, ◌++◌, slice_get, option_and_then, is_some, Option, Some, None, codes, refl, sym, ap, ap₂, subst, ◌∙◌, arith, inl}
+use Rattle.std.proofs.Common.{◌≡◌, ℕ, ◌+◌, ◌<◌, Bool, true, false, not, ◌&&◌, ◌||◌, if◌then◌else◌, List, [], ◌∷◌, ◌++◌, slice_get, option_and_then, is_some, Option, Some, None, codes, refl, sym, ap, ap₂, subst, ◌∙◌, arith, inl}
 use Rattle.std.specs.List.{list_any, position_from}
-use Rattle.std.proofs.lemmas.Bool.{and_right}
+use Rattle.std.proofs.lemmas.Option.{slice_get-get_or}
 use Rattle.sqlite_trees.specs.Tree.{Trees}
 use Rattle.sqlite_schema.specs.declared.schema.Schema.{Schema}
 use Rattle.sqlite_schema.specs.declared.schema.Table.{Table}
 use Rattle.sqlite_schema.specs.Names.{same_name, table_named}
 use Rattle.sqlite_rules.specs.Lists.{Has}
 use Rattle.sqlite_rules.proofs.ListLemmas.{has_left, has_right}
+use Rattle.sqlite_rules.proofs.RowLemmas.{position_within}
 use Rattle.sqlite_catalog.specs.Change.{automatics, created, is_used, next_tree}
 use Rattle.sqlite_catalog.proofs.StepLemmas.{table_below}
 use Rattle.sqlite.specs.Does.{lacks_sequence}
@@ -15,65 +16,34 @@ use Rattle.sqlite.specs.Rows.{sequence}
 use Rattle.sql_tables.specs.Tables.{IsDeclared}
 use Rattle.sql_tables.specs.Making.{IndexesLow, IsForeignTree, first_created}
 use Rattle.sql_tables.specs.Tables.{counter}
-use Rattle.sql_tables.proofs.Creating.{declared_stays, free_still, low_still}
+use Rattle.sql_tables.proofs.Creating.{declared_stays, free_still, is_in_both, low_still}
 use Rattle.sql_tables.proofs.Frozen.{foreign_still}
-
-module _ {X : Type 0} where
-  -- what stands where a search ended
-  placed_there : (p : X → Bool) (xs : List X) (from at : ℕ) → position_from p from xs ≡ Some at → (k : ℕ) × (x : X) × (at ≡ from + k) × (slice_get xs k ≡ Some x)
-  placed_there p [] from at e = absurd (cc)
-  placed_there p (x ∷ xs) from at e = go (p x) e (placed_there p xs (from + 1) at)
-    where
-      go : (b : Bool) → cond b (Some from) (position_from p (from + 1) xs) ≡ Some at
-          → (position_from p (from + 1) xs ≡ Some at → (k : ℕ) × (y : X) × (at ≡ from + 1 + k) × (slice_get xs k ≡ Some y))
-          → (k : ℕ) × (y : X) × (at ≡ from + k) × (slice_get (x ∷ xs) k ≡ Some y)
-      go true e more = let here : from ≡ at = cc in (zero, x, omega (arith, here), refl)
-      go false e more = let there = more e in let same = there.2 in (suc there.0, there.1, omega (arith, same), there.3)
-
-  found_where_placed : (p : X → Bool) (xs : List X) → is_some (option_and_then (slice_get xs) (position_from p 0 xs)) ≡ is_some (position_from p 0 xs)
-  found_where_placed p xs = go (position_from p 0 xs) refl
-    where
-      go : (o : Option ℕ) → position_from p 0 xs ≡ o → is_some (option_and_then (slice_get xs) o) ≡ is_some o
-      go None is = refl
-      go (Some at) is =
-          let there = placed_there p xs 0 at is in
-          let far = there.2 in
-          let same : at ≡ there.0 = omega (arith, far) in
-          ap (λ k. is_some (slice_get xs k)) same ∙ ap is_some there.3
-
-  placed_as_before : (p : X → Bool) (xs : List X) (x : X) (from : ℕ) → p x ≡ false → position_from p from (xs ++ x ∷ []) ≡ position_from p from xs
-  placed_as_before p [] x from other = rw other
-  placed_as_before p (y ∷ ys) x from other = ap (cond (p y) (Some from)) (placed_as_before p ys x (from + 1) other)
-
-  placed_at_last : (p : X → Bool) (xs : List X) (x : X) (from : ℕ) → p x ≡ true → is_some (position_from p from (xs ++ x ∷ [])) ≡ true
-  placed_at_last p [] x from passes = rw passes
-  placed_at_last p (y ∷ ys) x from passes = go (p y) (placed_at_last p ys x (from + 1) passes)
-    where
-      go : (b : Bool) → is_some (position_from p (from + 1) (ys ++ x ∷ [])) ≡ true → is_some (cond b (Some from) (position_from p (from + 1) (ys ++ x ∷ []))) ≡ true
-      go true later = refl
-      go false later = later
 
 -- the counter is there just where a table has its name
 named_counter : (s : Schema) → is_some (sequence s) ≡ is_some (table_named s (codes "sqlite_sequence"))
-named_counter s = found_where_placed (λ t. same_name t.name (codes "sqlite_sequence")) s.tables
+named_counter s = go (table_named s (codes "sqlite_sequence")) refl
+  where
+    go : (o : Option ℕ) → table_named s (codes "sqlite_sequence") ≡ o → is_some (option_and_then (slice_get s.tables) o) ≡ is_some o
+    go None is = refl
+    go (Some at) is =
+        let within = position_within (λ (t : Table). same_name t.name (codes "sqlite_sequence")) s.tables 0 at is in
+        ap is_some (slice_get-get_or s.tables at (counter 0) (omega (arith, within)))
 
 counted_as_before : (tables : List Table) (table : Table) → table.is_counted ≡ false → list_any (λ t. t.is_counted) (tables ++ table ∷ []) ≡ list_any (λ t. t.is_counted) tables
 counted_as_before [] table plain = rw plain
 counted_as_before (t ∷ ts) table plain = ap (λ b. t.is_counted || b) (counted_as_before ts table plain)
 
+or_none : (b : Bool) → (b || false) ≡ b
+or_none true = refl
+or_none false = refl
+
 -- a table that doesn't count and isn't the counter changes nothing of whether the counter is missing
 pub lacks_as_before : (s : Schema) (table : Table) → table.is_counted ≡ false → same_name table.name (codes "sqlite_sequence") ≡ false → lacks_sequence (created s table) ≡ lacks_sequence s
 lacks_as_before s table plain other =
     let new : Table = record table { tree = next_tree s } in
-    let named = ap is_some (placed_as_before (λ (t : Table). same_name t.name (codes "sqlite_sequence")) s.tables new 0 other) in
+    let named : is_some (table_named (created s table) (codes "sqlite_sequence")) ≡ is_some (table_named s (codes "sqlite_sequence")) =
+    is_in_both (λ (t : Table). same_name t.name (codes "sqlite_sequence")) s.tables (new ∷ []) 0 ∙ rw other (or_none _) in
     ap₂ (λ some here. some && not here) (counted_as_before s.tables new plain) (named_counter (created s table) ∙ named ∙ sym (named_counter s))
-
--- with the counter nothing lacks it
-lacks_no_more : (s : Schema) → lacks_sequence (created s (counter 0)) ≡ false
-unfolding same_name
-lacks_no_more s =
-    let here = named_counter (created s (counter 0)) ∙ placed_at_last (λ (t : Table). same_name t.name (codes "sqlite_sequence")) s.tables (counter (next_tree s)) 0 refl in
-    and_right _ _ (ap not here)
 
 module _ (s : Schema) (table : Table) where
   -- what holds with and without the counter
@@ -83,13 +53,6 @@ module _ (s : Schema) (table : Table) where
       go : (b : Bool) → P (if b then created (created s table) (counter 0) else created s table)
       go true = more
       go false = plain
-
-  pub counts_first : table.is_counted ≡ false → same_name table.name (codes "sqlite_sequence") ≡ false → lacks_sequence (first_created s table) ≡ false
-  counts_first plain other = go (lacks_sequence s) refl
-    where
-      go : (b : Bool) → lacks_sequence s ≡ b → lacks_sequence (if b then created (created s table) (counter 0) else created s table) ≡ false
-      go true is = lacks_no_more (created s table)
-      go false is = lacks_as_before s table plain other ∙ is
 
   pub free_first : (name : List ℕ) → is_used s name ≡ false → same_name table.name name ≡ false → same_name (codes "sqlite_sequence") name ≡ false
       → ((tree from : ℕ) → is_some (position_from (λ i. same_name i.name name) from (automatics (record table { tree = tree }) 0 (tree + 1) table.uniques)) ≡ false) → is_used (first_created s table) name ≡ false
@@ -112,10 +75,6 @@ module _ (s : Schema) (table : Table) where
 
   pub has_first : (t : Table) → Has s.tables t → Has (first_created s table).tables t
   has_first t has = let there = has_left s.tables _ t has in by_counter (λ after. Has after.tables t) there (has_left (created s table).tables _ t there)
-
-  -- a table that is made when the counter isn't missing comes alone
-  pub plain_first : lacks_sequence s ≡ false → first_created s table ≡ created s table
-  plain_first none = ap (λ b. if b then created (created s table) (counter 0) else created s table) none
 
   -- the counter that comes with the table
   pub has_counter : lacks_sequence s ≡ true → Has (first_created s table).tables (counter (next_tree (created s table)))

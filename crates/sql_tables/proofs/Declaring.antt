@@ -1,28 +1,16 @@
 -- What follows where a table is declared.
-use Rattle.std.proofs.Common.{◌≡◌, ◌⊎◌, inl, inr, ◌^◌, ◌<◌, Bool, true, false, nat_le, nat_lt, cond, ◌==◌, List, [], ◌∷◌, find, filter, Some, refl, sym, ap, ◌∙◌, true≢false, eqb-true, eq-eqb, arith}
-use Rattle.std.specs.List.{AllZip}
+use Rattle.std.proofs.Common.{◌≡◌, ◌⊎◌, inl, inr, ◌^◌, ◌<◌, Bool, true, false, nat_le, nat_lt, cond, ◌==◌, List, [], ◌∷◌, find, Some, refl, sym, ap, ◌∙◌, true≢false, eqb-true, eq-eqb, arith}
 use Rattle.std.proofs.lemmas.Bool.Decides.{nat_tests}
-use Rattle.sqlite_value.specs.Order.{Row}
 use Rattle.sqlite_trees.specs.Tree.{Trees}
 use Rattle.sqlite_schema.specs.declared.schema.Table.{Table}
 use Rattle.sqlite_schema.specs.declared.schema.Schema.{Schema}
 use Rattle.sqlite_rules.specs.Lists.{Has}
 use Rattle.sqlite_rules.proofs.ListLemmas.{has_got}
 use Rattle.sqlite_catalog.specs.Listing.{IsSound, IsTableRow}
+use Rattle.sqlite_catalog.proofs.LayoutLemmas.{zipped_left}
 use Rattle.sqlite_typing.specs.Types.{table_classes, row_classes}
 use Rattle.sqlite_sql.specs.Program.{overlay}
 use Rattle.sql_tables.specs.Tables.{IsDeclared}
-
--- what a filter keeps
-pub has_kept : {X : Type 0} (p : X → Bool) (xs : List X) (x : X) → Has xs x → p x ≡ true → Has (filter p xs) x
-has_kept p [] x has passes = has
-has_kept p (y ∷ ys) x has passes = go (p y) refl has (λ later. has_kept p ys x later passes)
-  where
-    go : (b : Bool) → p y ≡ b → (x ≡ y) ⊎ Has ys x → (Has ys x → Has (filter p ys) x) → Has (cond b (y ∷ filter p ys) (filter p ys)) x
-    go true e (inl same) more = inl same
-    go true e (inr later) more = inr (more later)
-    go false e (inl same) more = absurd (true≢false (sym passes ∙ ap p same ∙ e))
-    go false e (inr later) more = more later
 
 found_by_tree : (tables : List Table) (table : Table) → Has tables table → ((other : Table) → Has tables other → other.tree ≡ table.tree → other ≡ table) → find (λ t. t.tree == table.tree) tables ≡ Some table
 found_by_tree [] table has alone = absurd has
@@ -33,18 +21,12 @@ found_by_tree (t ∷ ts) table has alone = go (t.tree == table.tree) refl has (�
     go false e (inl same) more = absurd (true≢false (sym (eq-eqb t.tree table.tree (ap (λ (t : Table). t.tree) (sym same))) ∙ e))
     go false e (inr later) more = more later
 
-low_in : (rows : List Row) (tables : List Table) → AllZip IsTableRow rows tables → (t : Table) → Has tables t → t.tree < 65536
-low_in rows [] all t has = absurd has
-low_in [] (u ∷ us) all t has = absurd all
-low_in (r ∷ rows) (u ∷ us) all t (inl same) = let low = all.0.described.low in let is = ap (λ (t : Table). t.tree) same in omega (arith, low, is)
-low_in (r ∷ rows) (u ∷ us) all t (inr later) = low_in rows us all.1 t later
-
 module _ (schema : Schema) (table : Table) (d : IsDeclared schema table) where
   pub has_table : Has schema.tables table
   has_table = has_got schema.tables d.at table d.there
 
   pub low_tree : (db : Trees) → IsSound schema db → table.tree < 65536
-  low_tree db sound = low_in _ schema.tables sound.lists.listed.tables table has_table
+  low_tree db sound = (zipped_left IsTableRow _ schema.tables table sound.lists.listed.tables has_table).2.described.low
 
   below : table.tree < 65536 → nat_le (2 ^ 31) table.tree ≡ false
   below low = grind (arith, nat_tests)

@@ -1,13 +1,11 @@
 pub mod Answered
 pub mod Apart
 pub mod ByRowid
-pub mod Casts
 pub mod Columns
 pub mod Counting
 pub mod Creating
 pub mod Declaring
 pub mod Failures
-pub mod Faults
 pub mod Frozen
 pub mod InOrder
 pub mod Makes
@@ -23,7 +21,6 @@ pub mod PutLists
 pub mod Quiet
 pub mod Refusals
 pub mod ReadAnswers
-pub mod ReadTest
 pub mod Reading
 pub mod RowKinds
 pub mod RowLists
@@ -35,6 +32,5 @@ pub mod SetByRowid
 pub mod Setting
 pub mod Taking
 pub mod Updating
-pub mod Upserts
 pub mod WholeTables
 pub mod Writing

@@ -18,7 +18,7 @@ use Rattle.sqlite.specs.Effect.{Database, SparesFrozen}
 use Rattle.sqlite.specs.State.{State, ExecutesInside}
 use Rattle.sql_tables.specs.Making.{IsForeignTree, IsMaking, KeepsAside, first_created, first_rows}
 use Rattle.sql_tables.specs.Tables.{counter}
-use Rattle.sql_tables.proofs.Counting.{foreign_first, lacks_as_before, plain_first, rising, rising_first, views_first}
+use Rattle.sql_tables.proofs.Counting.{foreign_first, lacks_as_before, rising, rising_first, views_first}
 use Rattle.sql_tables.proofs.Frozen.{is_frozen, still_frozen}
 use Rattle.sql_tables.proofs.Meaning.{IsText, parse_of, create_is}
 use Rattle.sql_tables.proofs.Running.{Grows, create_ran}
@@ -72,7 +72,7 @@ kept_counting first before rows old mid new table true later was grows more =
 kept_counting first before rows old mid new table false later was grows same =
     subst (λ (db : Trees). AllByRecursion (λ t. db t.tree ≡ first_rows first rows t.tree) (created before table).tables) (sym same) (kept_with first before rows old mid table later was grows)
 
--- the first table that is made
+-- a table that is made
 pub makes_first : (text : List ℕ) (table : Table) (m : IsMake text table) (committed : Database) (first : Schema) (rows : Trees) (before : Schema) (old new : State) (count : ℕ) → IsMaking committed first rows before old
     → is_used before table.name ≡ false → ExecutesInside 0 text [] old new (Ok count) → IsMaking committed first rows (first_created before table) new
 makes_first text table m committed first rows before old new count was free h =
@@ -92,9 +92,3 @@ makes_first text table m committed first rows before old new count was free h =
       inside = made.shown.mode ∙ was.inside;
       over = (rw was.inside at made.shown.committed_is) ∙ was.over;
     }
-
--- one that is made after it
-pub makes : (text : List ℕ) (table : Table) (m : IsMake text table) (committed : Database) (first : Schema) (rows : Trees) (before : Schema) (old new : State) (count : ℕ) → IsMaking committed first rows before old
-    → is_used before table.name ≡ false → lacks_sequence before ≡ false → ExecutesInside 0 text [] old new (Ok count) → IsMaking committed first rows (created before table) new
-makes text table m committed first rows before old new count was free counts h =
-    subst (λ s. IsMaking committed first rows s new) (plain_first before table counts) (makes_first text table m committed first rows before old new count was free h)

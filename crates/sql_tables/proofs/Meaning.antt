@@ -1,13 +1,12 @@
 -- What a text means is what its parse means, whatever the schema.
-use Rattle.std.proofs.Common.{◌≡◌, ℕ, ◌+◌, List, [], ◌∷◌, Some, None, Ok, Err, Result, refl, sym, false, length, Bool, ◌==◌, ◌||◌, if◌then◌else◌}
+use Rattle.std.proofs.Common.{◌≡◌, ℕ, ◌+◌, List, [], ◌∷◌, Option, Some, None, Ok, Err, Result, refl, sym, false, true, length, slice_get, is_some, Bool, ◌==◌, ◌||◌, if◌then◌else◌, true≢false}
 use Rattle.sqlite_ast.specs.declared.Statement.{Statement}
 use Rattle.sqlite_ast.specs.declared.Statement.TheVariants.{Select, Insert, Update, CreateTable, Empty}
 use Rattle.sqlite_ast.specs.declared.CreateTable as create
 use Rattle.sqlite_resolve.specs.Define as define
 use Rattle.sqlite_catalog.specs.Change.{is_used}
 use Rattle.sqlite_schema.specs.Names.{index_named, view_named}
-use Rattle.std.proofs.lemmas.Bool.{or_parts}
-use Rattle.std.proofs.Common.{is_some, true, true≢false, Option}
+use Rattle.sqlite_catalog.proofs.StepLemmas.{no_index, no_table, no_view}
 use Rattle.std.specs.Option.{option_or}
 use Rattle.sqlite_ast.specs.declared.Expr.{Expr}
 use Rattle.sqlite_ast.specs.declared.Select as select
@@ -34,7 +33,6 @@ use Rattle.sqlite_resolve.specs.Program.{program}
 use Rattle.sqlite_draft.specs.declared.query.Draft.{Draft}
 use Rattle.sqlite_schema.specs.declared.program.Program.{Program}
 use Rattle.sqlite.specs.Listing.{misses_table, understood, reads_listing}
-use Rattle.std.proofs.Common.{slice_get}
 
 abbrev pub or_nothing : Result Parsed CompileError → Parsed
 or_nothing (Ok p) = p
@@ -47,10 +45,6 @@ parse_of text = or_nothing (first text)
 abbrev pub rows_in : Statement → Rows
 rows_in (Insert how name columns rows clauses shown) = rows
 rows_in _ = Defaults
-
-abbrev pub clauses_in : Statement → List Upsert
-clauses_in (Insert how name columns rows clauses shown) = clauses
-clauses_in _ = []
 
 abbrev pub no_clause : Upsert
 no_clause = record { target = []; sets = []; filter = None }
@@ -65,62 +59,36 @@ pub record IsText (text : List ℕ) (s : Statement) : Type 0 where
   pub statement : (parse_of text).statement ≡ s
   pub timeless : (parse_of text).formats ≡ []
 
-compiled_is : (schema : Schema) (sql : List ℕ) (p : Parsed) (k : Command) (s : Statement) → first sql ≡ Ok p → p.statement ≡ s → timed schema p.formats s ≡ []
-    → returning schema (small p.names + small []) s ≡ Ok None → command schema p.formats (small p.names + small []) s ≡ Ok k → compiled schema sql ≡ Ok (with_command p ([], (k, None)))
+-- where the parameters of a text end
+abbrev pub base_of : List ℕ → ℕ
+base_of text = small (parse_of text).names + small []
+
+compiled_as : (schema : Schema) (sql : List ℕ) (p : Parsed) (s : Statement) (r : Result Command CompileError) → first sql ≡ Ok p → p.statement ≡ s → p.formats ≡ [] → timed schema [] s ≡ []
+    → returning schema (small p.names + small []) s ≡ Ok None → command schema [] (small p.names + small []) s ≡ r → compiled schema sql ≡ and_then r (λ k. Ok (with_command p ([], (k, None))))
 unfolding compiled planned meaning
-compiled_is schema sql p k s parsed is untimed bare means = rw (parsed, is, untimed, bare, means)
+compiled_as schema sql p s (Ok k) parsed is timeless untimed bare means = rw (parsed, is, timeless, untimed, bare, means)
+compiled_as schema sql p s (Err e) parsed is timeless untimed bare means = rw (parsed, is, timeless, untimed, bare, means)
 
-understood_is : (schema : Schema) (sql : List ℕ) (c : Compiled) → compiled schema sql ≡ Ok c → understood schema sql ≡ Ok c
+understood_as : (schema : Schema) (sql : List ℕ) (r : Result Compiled CompileError) → compiled schema sql ≡ r → misses_table r ≡ false → (understood schema sql ≡ r) × (reads_listing schema sql ≡ false)
 unfolding understood
-understood_is schema sql c is = rw is
+understood_as schema sql r is other = (rw (is, other), rw (is, other))
 
-listing_is : (schema : Schema) (sql : List ℕ) (c : Compiled) → compiled schema sql ≡ Ok c → reads_listing schema sql ≡ false
-listing_is schema sql c is = rw is
-
-select_bare : (schema : Schema) (base : ℕ) (s : select.Select) → returning schema base (Select s) ≡ Ok None
-unfolding returning
-select_bare schema base s = refl
-
-select_untimed : (schema : Schema) (formats : List (List ℕ)) (s : select.Select) → formats ≡ [] → timed schema formats (Select s) ≡ []
-unfolding timed
-select_untimed schema formats s none = none
+-- a statement that shows no rows and doesn't read the time
+means_as : (schema : Schema) (text : List ℕ) (s : Statement) (k : Command) → IsText text s → timed schema [] s ≡ [] → returning schema (base_of text) s ≡ Ok None → command schema [] (base_of text) s ≡ Ok k
+    → (understood schema text ≡ Ok (with_command (parse_of text) ([], (k, None)))) × (reads_listing schema text ≡ false)
+means_as schema text s k t untimed bare means = understood_as schema text _ (compiled_as schema text (parse_of text) s (Ok k) t.parsed t.statement t.timeless untimed bare means) refl
 
 -- a SELECT
-pub select_is : (schema : Schema) (text : List ℕ) (s : select.Select) (k : Command) → IsText text (Select s) → ((formats : List (List ℕ)) (base : ℕ) → command schema formats base (Select s) ≡ Ok k)
+pub select_is : (schema : Schema) (text : List ℕ) (s : select.Select) (k : Command) → IsText text (Select s) → command schema [] (base_of text) (Select s) ≡ Ok k
     → (understood schema text ≡ Ok (with_command (parse_of text) ([], (k, None)))) × (reads_listing schema text ≡ false)
-select_is schema text s k t means =
-    let p = parse_of text in
-    let is = compiled_is schema text p k (Select s) t.parsed t.statement (select_untimed schema p.formats s t.timeless) (select_bare schema (small p.names + small []) s) (means p.formats (small p.names + small [])) in
-    (understood_is schema text _ is, listing_is schema text _ is)
-
-update_bare : (schema : Schema) (base : ℕ) (name : List ℕ) (sets : List (List ℕ × Expr)) (test : Option Expr) → returning schema base (Update name sets test []) ≡ Ok None
-unfolding returning shows
-update_bare schema base name sets test = refl
-
-update_untimed : (schema : Schema) (formats : List (List ℕ)) (name : List ℕ) (sets : List (List ℕ × Expr)) (test : Option Expr) → formats ≡ [] → timed schema formats (Update name sets test []) ≡ []
-unfolding timed
-update_untimed schema formats name sets test none = none
+unfolding returning timed
+select_is schema text s k t means = means_as schema text (Select s) k t refl refl means
 
 -- an UPDATE
 pub update_is : (schema : Schema) (text name : List ℕ) (sets : List (List ℕ × Expr)) (test : Option Expr) (k : Command) → IsText text (Update name sets test [])
-    → ((formats : List (List ℕ)) (base : ℕ) → command schema formats base (Update name sets test []) ≡ Ok k) → understood schema text ≡ Ok (with_command (parse_of text) ([], (k, None)))
-update_is schema text name sets test k t means =
-    let p = parse_of text in
-    understood_is schema text _
-    (compiled_is schema text p k (Update name sets test []) t.parsed t.statement (update_untimed schema p.formats name sets test t.timeless) (update_bare schema (small p.names + small []) name sets test)
-    (means p.formats (small p.names + small [])))
-
-create_bare : (schema : Schema) (base : ℕ) (def : create.CreateTable) → returning schema base (CreateTable def) ≡ Ok None
-unfolding returning
-create_bare schema base def = refl
-
-create_untimed : (schema : Schema) (formats : List (List ℕ)) (def : create.CreateTable) → timed schema formats (CreateTable def) ≡ []
-unfolding timed
-create_untimed schema formats def = refl
-
-none_if : {X : Type 0} (o : Option X) → is_some o ≡ false → o ≡ None
-none_if None e = refl
-none_if (Some x) e = absurd (true≢false e)
+    → command schema [] (base_of text) (Update name sets test []) ≡ Ok k → understood schema text ≡ Ok (with_command (parse_of text) ([], (k, None)))
+unfolding returning shows timed
+update_is schema text name sets test k t means = (means_as schema text (Update name sets test []) k t refl refl means).0
 
 is_unattached : (schema : Schema) (name : List ℕ) → view_named schema name ≡ None → is_attached schema name ≡ false
 unfolding is_attached
@@ -135,20 +103,15 @@ create_command : (schema : Schema) (base : ℕ) (def : create.CreateTable) (tabl
     → (length table.computed == length table.stamps.places) ≡ true → def.resolves ≡ false → command schema [] base (CreateTable def) ≡ Ok MakeTable
 unfolding command create_table
 create_command schema base def table free own defined plain unresolved =
-    let both = or_parts _ _ free in
-    let first = or_parts _ _ both.0 in
-    let unviewed = none_if (view_named schema def.name) both.1 in
-    let untabled = none_if (table_named schema def.name) first.0 in
-    let new = is_new def.if_missing def.name (option_or (table_named schema def.name) (view_named schema def.name)) (index_named schema def.name) own (rw (untabled, unviewed)) (none_if (index_named schema def.name) first.1) in
+    let unviewed = no_view schema def.name free in
+    let new = is_new def.if_missing def.name (option_or (table_named schema def.name) (view_named schema def.name)) (index_named schema def.name) own (rw (no_table schema def.name free, unviewed)) (no_index schema def.name free) in
     rw (is_unattached schema def.name unviewed, new, defined, plain, unresolved)
 
 pub create_is : (schema : Schema) (text : List ℕ) (def : create.CreateTable) (table : Table) → IsText text (CreateTable def) → is_used schema def.name ≡ false → is_reserved def.name ≡ false
     → define.table [] def ≡ Ok table → (length table.computed == length table.stamps.places) ≡ true → def.resolves ≡ false → understood schema text ≡ Ok (with_command (parse_of text) ([], (MakeTable, None)))
+unfolding returning timed
 create_is schema text def table t free own defined plain unresolved =
-    let p = parse_of text in
-    understood_is schema text _
-    (compiled_is schema text p MakeTable (CreateTable def) t.parsed t.statement (create_untimed schema p.formats def) (create_bare schema (small p.names + small []) def)
-    (rw t.timeless (create_command schema (small p.names + small []) def table free own defined plain unresolved)))
+    (means_as schema text (CreateTable def) MakeTable t refl refl (create_command schema (base_of text) def table free own defined plain unresolved)).0
 
 -- an error that isn't that of a missing table
 abbrev pub Stops : {X : Type 0} → Result X CompileError → Type 0
@@ -184,63 +147,39 @@ create_stops schema base formats def always used =
     go true r stop next = (Unsupported, refl, refl)
     go false r stop next = (stop.0, rw stop.1 refl, stop.2)
 
-stopped_is : (schema : Schema) (sql : List ℕ) (p : Parsed) (e : CompileError) (s : Statement) → first sql ≡ Ok p → p.statement ≡ s → timed schema p.formats s ≡ [] → returning schema (small p.names + small []) s ≡ Ok None
-    → command schema p.formats (small p.names + small []) s ≡ Err e → compiled schema sql ≡ Err e
-unfolding compiled planned meaning
-stopped_is schema sql p e s parsed is untimed bare stops = rw (parsed, is, untimed, bare, stops)
-
-not_understood : (schema : Schema) (sql : List ℕ) (e : CompileError) → compiled schema sql ≡ Err e → misses_table (Err e) ≡ false → understood schema sql ≡ Err e
-unfolding understood
-not_understood schema sql e is other = rw (is, other)
-
 pub create_fails : (schema : Schema) (text : List ℕ) (def : create.CreateTable) → IsText text (CreateTable def) → def.if_missing ≡ false → is_used schema def.name ≡ true → (e : CompileError) × (understood schema text ≡ Err e)
+unfolding returning timed
 create_fails schema text def t always used =
-    let p = parse_of text in
-    let stop = create_stops schema (small p.names + small []) p.formats def always used in (
-      stop.0,
-      not_understood schema text stop.0
-          (stopped_is schema text p stop.0 (CreateTable def) t.parsed t.statement (create_untimed schema p.formats def) (create_bare schema (small p.names + small []) def) stop.1) stop.2,
-    )
+    let stop = create_stops schema (base_of text) [] def always used in
+    (stop.0, (understood_as schema text (Err stop.0) (compiled_as schema text (parse_of text) (CreateTable def) (Err stop.0) t.parsed t.statement t.timeless refl refl stop.1) stop.2).0)
 
 module _ (schema : Schema) (at : ℕ) (table : Table) (named : table_named schema table.name ≡ Some at) (there : slice_get schema.tables at ≡ Some table) (untimed : table.stamps.formats ≡ []) where
-  insert_untimed : (formats : List (List ℕ)) (rows : Rows) (clauses : List Upsert) → formats ≡ [] → timed schema formats (Insert conflict.Abort table.name [] rows clauses []) ≡ []
-  unfolding timed
-  insert_untimed formats rows clauses lacks = rw (lacks, named, there, untimed)
-
-  insert_bare : (base : ℕ) (rows : Rows) (clauses : List Upsert) → returning schema base (Insert conflict.Abort table.name [] rows clauses []) ≡ Ok None
-  unfolding returning shows
-  insert_bare base rows clauses = refl
-
-  upsert_command : (formats : List (List ℕ)) (base : ℕ) (rows : Rows) (clauses : List Upsert) (source : Source) (found : List command_upsert.Upsert) → (length clauses == 0) ≡ false
+  upsert_command : (base : ℕ) (rows : Rows) (clauses : List Upsert) (source : Source) (found : List command_upsert.Upsert) → (length clauses == 0) ≡ false
       → new_rows schema table base [] rows ≡ Ok source → upserts schema at table base clauses ≡ Ok found
-      → command schema formats base (Insert conflict.Abort table.name [] rows clauses []) ≡ Ok (InsertOr at Abort source found)
+      → command schema [] base (Insert conflict.Abort table.name [] rows clauses []) ≡ Ok (InsertOr at Abort source found)
   unfolding command insert_or_abort insert_or
-  upsert_command formats base rows clauses source found some given met = rw (some, named, there, given, met)
+  upsert_command base rows clauses source found some given met = rw (some, named, there, given, met)
 
   -- an upsert into a table of the schema
   pub upsert_is : (text : List ℕ) (rows : Rows) (clauses : List Upsert) (base : ℕ) (source : Source) (found : List command_upsert.Upsert)
-      → IsText text (Insert conflict.Abort table.name [] rows clauses []) → small (parse_of text).names + small [] ≡ base → (length clauses == 0) ≡ false
+      → IsText text (Insert conflict.Abort table.name [] rows clauses []) → base_of text ≡ base → (length clauses == 0) ≡ false
       → new_rows schema table base [] rows ≡ Ok source → upserts schema at table base clauses ≡ Ok found
       → understood schema text ≡ Ok (with_command (parse_of text) ([], (InsertOr at Abort source found, None)))
+  unfolding returning shows timed
   upsert_is text rows clauses base source found t many some given met =
-      understood_is schema text _
-      (compiled_is schema text (parse_of text) (InsertOr at Abort source found) (Insert conflict.Abort table.name [] rows clauses []) t.parsed t.statement
-      (insert_untimed (parse_of text).formats rows clauses t.timeless) (insert_bare (small (parse_of text).names + small []) rows clauses)
-      (rw many (upsert_command (parse_of text).formats base rows clauses source found some given met)))
+      let means : command schema [] (base_of text) (Insert conflict.Abort table.name [] rows clauses []) ≡ Ok (InsertOr at Abort source found) = rw many (upsert_command base rows clauses source found some given met) in
+      (means_as schema text (Insert conflict.Abort table.name [] rows clauses []) (InsertOr at Abort source found) t (rw (named, there, untimed)) refl means).0
 
-  insert_command : (formats : List (List ℕ)) (base : ℕ) (rows : Rows) (source : Source) → new_rows schema table base [] rows ≡ Ok source
-      → command schema formats base (Insert conflict.Abort table.name [] rows [] []) ≡ Ok (Insert' at source)
+  insert_command : (base : ℕ) (rows : Rows) (source : Source) → new_rows schema table base [] rows ≡ Ok source → command schema [] base (Insert conflict.Abort table.name [] rows [] []) ≡ Ok (Insert' at source)
   unfolding command insert_or_abort insert
-  insert_command formats base rows source given = rw (named, there, given)
+  insert_command base rows source given = rw (named, there, given)
 
   -- an insert into a table of the schema
   pub insert_is : (text : List ℕ) (rows : Rows) (source : Source) → IsText text (Insert conflict.Abort table.name [] rows [] []) → ((base : ℕ) → new_rows schema table base [] rows ≡ Ok source)
       → understood schema text ≡ Ok (with_command (parse_of text) ([], (Insert' at source, None)))
+  unfolding returning shows timed
   insert_is text rows source t given =
-      understood_is schema text _
-      (compiled_is schema text (parse_of text) (Insert' at source) (Insert conflict.Abort table.name [] rows [] []) t.parsed t.statement
-      (insert_untimed (parse_of text).formats rows [] t.timeless) (insert_bare (small (parse_of text).names + small []) rows [])
-      (insert_command (parse_of text).formats (small (parse_of text).names + small []) rows source (given (small (parse_of text).names + small []))))
+      (means_as schema text (Insert conflict.Abort table.name [] rows [] []) (Insert' at source) t (rw (named, there, untimed)) refl (insert_command (base_of text) rows source (given (base_of text)))).0
 
 -- what one ON CONFLICT means
 pub one_upsert : (schema : Schema) (at : ℕ) (table : Table) (base : ℕ) (u : Upsert) (key : Option (List ℕ)) (draft : Draft) (p : Program) → (length u.target == 0) ≡ false → (length u.sets == 0) ≡ false

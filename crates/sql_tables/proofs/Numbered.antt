@@ -11,7 +11,7 @@ use Rattle.sqlite_value.specs.Order.{Row, column, value_cmp}
 use Rattle.sqlite_value.proofs.OrderLemmas.{value_cmp-Int}
 use Rattle.sqlite_trees.specs.Tree.{Trees, rowid, has_rowid}
 use Rattle.sqlite_trees.specs.View.{is_int}
-use Rattle.sqlite_trees.proofs.ListLemmas.{filter_same}
+use Rattle.sqlite_trees.proofs.ListLemmas.{all_weaker, filter_same}
 use Rattle.sqlite_sql.specs.Ops.{binary, is_true, from_truth}
 use Rattle.sqlite_sql.specs.Term.{Term, col, eval_all}
 use Rattle.sqlite_resolve.specs.Terms.{equal as equals}
@@ -23,12 +23,12 @@ use Rattle.sqlite_rules.specs.Cast.{cast_row}
 use Rattle.sqlite_rules.specs.Edit.{id_in}
 use Rattle.sqlite_rules.specs.Keys.{conflicts, shares}
 use Rattle.sqlite_rules.specs.Lists.{Has}
-use Rattle.sqlite_rules.proofs.ListLemmas.{all_has, some_has}
+use Rattle.sqlite_rules.proofs.ListLemmas.{all_has, has_kept, some_has}
 use Rattle.sqlite_rules.proofs.TableLemmas.{int_is}
 use Rattle.sqlite.specs.Rows.{Written, Updates, shown}
 use Rattle.sql_tables.specs.Rows.{HaveRowids}
 use Rattle.sql_tables.specs.Tables.{IsDeclared}
-use Rattle.sql_tables.proofs.Declaring.{has_kept, uncovered}
+use Rattle.sql_tables.proofs.Declaring.{uncovered}
 use Rattle.sql_tables.proofs.OneTable.{Parts, program_on}
 use Rattle.sql_tables.proofs.RowLists.{only_row}
 use Rattle.sql_tables.proofs.Writing.{IsPut, Ends, task, finds, puts, updates_one}
@@ -54,9 +54,11 @@ finds_key given r at id n asked is = rw (asked, is) (go (value_cmp (Int n) (Int 
     go Greater = refl
 
 pub all_find : (given : Row) (at : ℕ) (id : ℤ) → column given at ≡ Int id → (rows : List Row) → AllByRecursion (λ r. IsTrue (is_int (rowid r))) rows
-    → AllByRecursion (λ r. finds (equals Binary (col 1 0) (col 0 at) ∷ []) given r ≡ has_rowid id r) rows
-all_find given at id asked [] h = tt
-all_find given at id asked (r ∷ rows) h = (finds_key given r at id (id_in (rowid r)) asked (int_is (rowid r) h.0), all_find given at id asked rows h.1)
+    → filter (finds (equals Binary (col 1 0) (col 0 at) ∷ []) given) rows ≡ filter (has_rowid id) rows
+all_find given at id asked rows integers =
+    let tests = equals Binary (col 1 0) (col 0 at) ∷ [] in
+    filter_same (finds tests given) (has_rowid id) rows (all_weaker (λ r. IsTrue (is_int (rowid r))) (λ r. finds tests given r ≡ has_rowid id r)
+    (λ r integer. finds_key given r at id (id_in (rowid r)) asked (int_is (rowid r) integer)) rows integers)
 
 agrees : (r new : Row) → agree plain (0 ∷ []) r (0 ∷ []) new ≡ true → equal Binary (column r 0) (column new 0) ≡ true
 unfolding first_key
@@ -92,7 +94,7 @@ module _ (schema : Schema) (table : Table) (d : IsDeclared schema table) (unkeye
     updates_row given shows db keyed r has number w h =
         let there = only_row (db table.tree) keyed r id has number in
         let tests = (by_rowid base project).tests in
-        let only : filter (finds tests given) (db table.tree) ≡ r ∷ [] = filter_same _ _ (db table.tree) (all_find given base id (ap (λ g. column g base) shows ∙ asked) (db table.tree) keyed.integers) ∙ there in
+        let only : filter (finds tests given) (db table.tree) ≡ r ∷ [] = all_find given base id (ap (λ g. column g base) shows ∙ asked) (db table.tree) keyed.integers ∙ there in
         let next = made given r shows number in
         updates_one limit schema table params d.alone (by_rowid base project) given db r new id w (uncovered schema table d low db) only there next.0 next.1 (is ∙ sym number) (λ i has unique on. absurd (none_on i has unique on)) h
 

@@ -1,17 +1,14 @@
 -- No two rows of sqlite_schema have one name.
-use Rattle.std.proofs.Common.{◌≡◌, inl, inr, Bool, true, false, List, [], ◌∷◌, ◌++◌, map, refl, sym, ap, ◌∙◌, true≢false}
+use Rattle.std.proofs.Common.{◌≡◌, inl, inr, true, false, List, [], ◌∷◌, ◌++◌, map, refl, sym, ap, ◌∙◌, true≢false}
 use Rattle.std.specs.Char.{to_ascii_lowercase}
-use Rattle.std.specs.List.{list_any}
-use Rattle.std.proofs.lemmas.Bool.{and_parts, cases_Bool, not-true}
+use Rattle.std.proofs.lemmas.Bool.{and_parts, not-true}
 use Rattle.std.proofs.lemmas.Slice.Eq.{bytes_eq-Decides}
 use Rattle.sqlite_value.specs.Order.{Row, bytes, column}
 use Rattle.sqlite_trees.specs.Sound.{Head, are_in_order, head_at, is_sound_list, may_follow, same_name}
 use Rattle.sqlite_rules.specs.Lists.{Has}
-use Rattle.sqlite_rules.proofs.ListLemmas.{has_left, has_right, some_from}
+use Rattle.sqlite_rules.proofs.ListLemmas.{has_left, has_right}
 use Rattle.sqlite_catalog.proofs.SoundLemmas.{list_parts}
-
-none_has : {X : Type 0} (p : X → Bool) (xs : List X) (x : X) → list_any p xs ≡ false → Has xs x → p x ≡ false
-none_has p xs x none has = elim (cases_Bool (p x)) [ inl is ↦ absurd (true≢false (sym (some_from p xs x has is) ∙ none)) | inr not' ↦ not' ]
+use Rattle.sql_tables.proofs.RowLists.{none_has}
 
 -- no row has the name of an earlier one
 no_earlier : (earlier : List Head) (rows : List Row) → are_in_order earlier (map (head_at 1) rows) ≡ true → (e : Head) → Has earlier e → (row : Row) → Has rows row → same_name (bytes e.1) (bytes (column row 2)) ≡ false

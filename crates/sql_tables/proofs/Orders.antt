@@ -30,3 +30,8 @@ pub rises_map : {X Y : Type 0} (f : X → Y) (lt : X → X → Bool) (lt' : Y �
 rises_map f lt lt' same [] up = tt
 rises_map f lt lt' same (x ∷ []) up = tt
 rises_map f lt lt' same (x ∷ y ∷ ys) up = (sym (same y x) ∙ up.0, rises_map f lt lt' same (y ∷ ys) up.1)
+
+pub rises_back : {X Y : Type 0} (f : X → Y) (lt : X → X → Bool) (lt' : Y → Y → Bool) → ((a b : X) → lt a b ≡ lt' (f a) (f b)) → (xs : List X) → Rises lt' (map f xs) → Rises lt xs
+rises_back f lt lt' same [] up = tt
+rises_back f lt lt' same (x ∷ []) up = tt
+rises_back f lt lt' same (x ∷ y ∷ ys) up = (same y x ∙ up.0, rises_back f lt lt' same (y ∷ ys) up.1)

@@ -18,7 +18,7 @@ use Rattle.sqlite.specs.Listing.{understood, reads_listing, listing_schema, if_s
 use Rattle.sqlite.specs.State.{State, store_error, IsUnchanged, IsNotRun, FailsToShow, FailsToQuery, Shown, ShowsRows, Survives, CommitsShowing}
 use Rattle.sqlite.proofs.StateLemmas.{survives_weaker}
 
-abbrev selects : Statement → Bool
+abbrev pub selects : Statement → Bool
 selects (Select s) = true
 selects _ = false
 

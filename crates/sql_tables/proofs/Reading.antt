@@ -1,17 +1,16 @@
 -- What SELECT of a whole table in order shows.
 use Rattle.std.proofs.Common.{◌≡◌, ℕ, List, [], ◌∷◌, map, refl, sym, ap, subst, ◌∙◌, is_lt, IsPermutation}
-use Rattle.std.specs.List.{AllByRecursion, flat_map}
-use Rattle.std.proofs.lemmas.List.Sorted.{IsPermutation-map}
+use Rattle.std.specs.List.{flat_map}
 use Rattle.sqlite_value.specs.declared.keys.Key.{Key}
 use Rattle.sqlite_value.specs.declared.keys.Collation.TheVariants.{Binary}
 use Rattle.sqlite_value.specs.Keys.{ascending}
 use Rattle.sqlite_value.specs.Order.{Row}
 use Rattle.sqlite_trees.specs.Tree.{Trees}
-use Rattle.sqlite_trees.proofs.ListLemmas.{all-permutation}
+use Rattle.sqlite_trees.proofs.ListLemmas.{pull_back}
 use Rattle.sqlite_sql.specs.Term.{Term, eval_all}
 use Rattle.sqlite_sql.specs.Query.{Query, Output, IsAnswer, output, output_cmp}
 use Rattle.sql_tables.proofs.OneTable.{query_on}
-use Rattle.sql_tables.proofs.Orders.{Rises, rises}
+use Rattle.sql_tables.proofs.Orders.{Rises, rises, rises_back}
 
 module _ (tree : ℕ) (project terms : List Term) (show key : Row → Row) (shows : (r : Row) → eval_all project ([] ∷ r ∷ []) ≡ show r) (sorts : (r : Row) → eval_all terms ([] ∷ r ∷ []) ≡ key (show r)) where
   -- a row that is shown, with what it is sorted by
@@ -29,22 +28,9 @@ module _ (tree : ℕ) (project terms : List Term) (show key : Row → Row) (show
   outputs [] = refl
   outputs (r ∷ rows) = rw (terms_again terms, sorts r, shows r, outputs rows)
 
-  all_keyed : (rows : List Row) → AllByRecursion (λ (o : Output). o ≡ shown_by o.1) (map shown_by rows)
-  all_keyed [] = tt
-  all_keyed (r ∷ rows) = (refl, all_keyed rows)
-
-  again : (outs : List Output) → AllByRecursion (λ (o : Output). o ≡ shown_by o.1) outs → outs ≡ map shown_by (map (λ (o : Output). o.1) outs)
-  again [] all = refl
-  again (o ∷ outs) all = ap (λ x. x ∷ outs) all.0 ∙ ap (λ xs. shown_by o.1 ∷ xs) (again outs all.1)
-
   shown_again : (rows : List Row) → map (λ (o : Output). o.1) (map shown_by rows) ≡ rows
   shown_again [] = refl
   shown_again (r ∷ rows) = ap (λ xs. r ∷ xs) (shown_again rows)
-
-  drops : (rows : List Row) → Rises (λ a b. is_lt (output_cmp query a b)) (map shown_by rows) → Rises (λ a b. is_lt (output_cmp query (shown_by a) (shown_by b))) rows
-  drops [] up = tt
-  drops (r ∷ []) up = tt
-  drops (r ∷ s ∷ rows) up = (up.0, drops (s ∷ rows) up.1)
 
   -- the rows of the tree, each once, in the order
   pub answer_is : (db : Trees) (rows : List Row) → IsAnswer query db [] rows
@@ -52,9 +38,9 @@ module _ (tree : ℕ) (project terms : List Term) (show key : Row → Row) (show
   answer_is db rows a =
       let staged : map (output query) a.staged ≡ map shown_by (map show (db tree)) = ap (map (output query)) a.grouped ∙ outputs (db tree) in
       let kept : IsPermutation (map shown_by (map show (db tree))) a.ordered = subst (λ k. IsPermutation k a.ordered) (a.distinct ∙ staged) a.same in
-      let keyed = again a.ordered (all-permutation _ _ _ kept (all_keyed (map show (db tree)))) in
-      let same : rows ≡ map (λ (o : Output). o.1) a.ordered = a.shown in
-      let whole = IsPermutation-map (λ (o : Output). o.1) _ _ kept in (
-        subst (IsPermutation (map show (db tree))) (sym same) (subst (λ xs. IsPermutation xs (map (λ (o : Output). o.1) a.ordered)) (shown_again (map show (db tree))) whole),
-        subst (Rises (λ a b. is_lt (output_cmp query (shown_by a) (shown_by b)))) (sym same) (drops _ (subst (Rises (λ a b. is_lt (output_cmp query a b))) keyed (rises _ a.ordered a.sorted))),
+      let back = pull_back shown_by _ a.ordered kept (map show (db tree)) refl in
+      let same : rows ≡ back.0 = a.shown ∙ ap (map (λ (o : Output). o.1)) back.2 ∙ shown_again back.0 in
+      let up = subst (Rises (λ a b. is_lt (output_cmp query a b))) back.2 (rises _ a.ordered a.sorted) in (
+        subst (IsPermutation (map show (db tree))) (sym same) back.1,
+        subst (Rises (λ a b. is_lt (output_cmp query (shown_by a) (shown_by b)))) (sym same) (rises_back shown_by (λ a b. is_lt (output_cmp query (shown_by a) (shown_by b))) (λ a b. is_lt (output_cmp query a b)) (λ a b. refl) back.0 up),
       )

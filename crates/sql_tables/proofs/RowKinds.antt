@@ -8,7 +8,7 @@ use Rattle.sqlite_value.specs.declared.value.Value.TheVariants as value
 use Rattle.sqlite_value.specs.Order.{Row, column}
 use Rattle.sqlite_trees.specs.Tree.{Trees}
 use Rattle.sqlite_trees.specs.View.{is_int}
-use Rattle.sqlite_trees.proofs.ListLemmas.{all-permutation}
+use Rattle.sqlite_trees.proofs.ListLemmas.{all-map, all-permutation, all_both, all_of}
 use Rattle.sqlite_sql.specs.Ops.{is_null}
 use Rattle.sqlite_schema.specs.declared.schema.Kind.{Kind}
 use Rattle.sqlite_schema.specs.declared.schema.Kind.TheVariants.{Integer, Real, Text, Blob, Any}
@@ -19,7 +19,9 @@ use Rattle.sqlite_schema.specs.declared.schema.Schema.{Schema}
 use Rattle.sqlite_schema.specs.declared.schema.Table.{Table}
 use Rattle.sqlite_schema.specs.Names.{is_key}
 use Rattle.sqlite_schema.specs.Rules.{is_of, has_affinity, are_typed, are_present, passes}
-use Rattle.sqlite_rules.proofs.ListLemmas.{all_has}
+use Rattle.sqlite_rules.specs.Lists.{Has}
+use Rattle.sqlite_rules.proofs.ListLemmas.{all_from}
+use Rattle.sqlite_rules.proofs.RuleLemmas.{keeps_at}
 use Rattle.sqlite_catalog.specs.Listing.{IsSound}
 use Rattle.sqlite.specs.Values.{IsInt}
 use Rattle.sql_tables.specs.Kinds.{IsOfKind, HasKinds, IsUtf8Text}
@@ -126,29 +128,17 @@ numbered_kinds table row c cs kept first are needed utf8 =
 
 -- a fact of texts is asked of the columns of texts alone
 pub all_texts : (P : Type 0) (cs : List Column) → P → AllByRecursion (λ c. c.kind ≡ Text → P) cs
-all_texts P [] p = tt
-all_texts P (c ∷ cs) p = ((λ text. p), all_texts P cs p)
-
-pub all_both : (P Q : Row → Type 0) (rows : List Row) → AllByRecursion P rows → AllByRecursion Q rows → AllByRecursion (λ row. P row × Q row) rows
-all_both P Q [] ps qs = tt
-all_both P Q (row ∷ rows) ps qs = ((ps.0, qs.0), all_both P Q rows ps.1 qs.1)
+all_texts P cs p = all_of (λ (c : Column). c.kind ≡ Text → P) (λ c text. p) cs
 
 module _ (schema : Schema) (table : Table) (d : IsDeclared schema table) (db : Trees) (sound : IsSound schema db) where
-  kept_from : (rows : List Row) → AllByRecursion (λ row. passes Datatype schema db table row ≡ true) rows → AllByRecursion (λ row. passes NotNull schema db table row ≡ true) rows → AllByRecursion (IsKept table) rows
-  kept_from [] typed present = tt
-  kept_from (row ∷ rows) typed present = (record { typed = (and_parts _ _ typed.0).0; present = present.0 }, kept_from rows typed.1 present.1)
-
-  passing : (rule : Constraint) → AllByRecursion (λ row. passes rule schema db table row ≡ true) (db table.tree)
-  passing rule = all_has (λ t. AllByRecursion (λ row. passes rule schema db t row ≡ true) (db t.tree)) schema.tables table (sound.obeys.rules rule) (has_table schema table d)
+  passing : (rule : Constraint) (row : Row) → Has (db table.tree) row → passes rule schema db table row ≡ true
+  passing rule row = keeps_at rule schema db table row (sound.obeys.rules rule) (has_table schema table d)
 
   pub kept : AllByRecursion (IsKept table) (db table.tree)
-  kept = kept_from (db table.tree) (passing Datatype) (passing NotNull)
+  kept = all_from _ (db table.tree) (λ row has. record { typed = (and_parts _ _ (passing Datatype row has)).0; present = passing NotNull row has })
 
-  module _ (P : Row → Type 0) (show : Row → Row) (kinds : List Kind) (each : (row : Row) → IsKept table row → P row → HasKinds kinds (show row)) where
-    shown : (rows : List Row) → AllByRecursion (IsKept table) rows → AllByRecursion P rows → AllByRecursion (HasKinds kinds) (map show rows)
-    shown [] are all = tt
-    shown (row ∷ rows) are all = (each row are.0 all.0, shown rows are.1 all.1)
-
-    -- the rows of the tree, in any order
-    pub all_shown : (rows : List Row) → AllByRecursion P (db table.tree) → IsPermutation (map show (db table.tree)) rows → AllByRecursion (HasKinds kinds) rows
-    all_shown rows all same = all-permutation _ _ _ same (shown (db table.tree) kept all)
+  -- the rows of the tree, in any order
+  pub all_shown : (P : Row → Type 0) (show : Row → Row) (kinds : List Kind) → ((row : Row) → IsKept table row → P row → HasKinds kinds (show row)) → (rows : List Row)
+      → AllByRecursion P (db table.tree) → IsPermutation (map show (db table.tree)) rows → AllByRecursion (HasKinds kinds) rows
+  all_shown P show kinds each rows all same =
+      all-permutation _ _ _ same (all-map (HasKinds kinds) show (db table.tree) (all_both (IsKept table) P (λ row. HasKinds kinds (show row)) each (db table.tree) kept all))

@@ -1,12 +1,12 @@
 -- The texts in the rows of a table are those of its values.
-use Rattle.std.proofs.Common.{◌≡◌, ℕ, ◌+◌, Bool, true, false, cond, List, [], ◌∷◌, drop, map, Option, refl, sym, subst, true≢false, arith}
+use Rattle.std.proofs.Common.{◌≡◌, ℕ, ◌+◌, Bool, true, false, cond, List, [], ◌∷◌, drop, Option, refl, sym, subst, true≢false, arith}
 use Rattle.std.specs.Prelude.{⊤}
 use Rattle.std.specs.List.{AllByRecursion}
 use Rattle.std.proofs.lemmas.Bool.{and_parts}
 use Rattle.sqlite_value.specs.declared.value.Value.{Value}
 use Rattle.sqlite_value.specs.declared.value.Value.TheVariants as value
 use Rattle.sqlite_value.specs.Order.{Row, column}
-use Rattle.sqlite_trees.proofs.ListLemmas.{all-permutation}
+use Rattle.sqlite_trees.proofs.ListLemmas.{all-map, all-permutation, all_from_map, all_weaker}
 use Rattle.sqlite_sql.specs.Ops.{is_null}
 use Rattle.sqlite_schema.specs.declared.schema.Column.{Column}
 use Rattle.sqlite_schema.specs.declared.schema.Table.{Table}
@@ -43,19 +43,8 @@ module _ (key : Option ℕ) (row : Row) where
 pub behind : (table : Table) (row : Row) → IsKept table row → AreUtf8From table.key 0 table.columns row → AllByRecursion IsUtf8Text (drop 1 row)
 behind table row kept shown = texts_from table.key row 0 table.columns (drop 1 row) (goes_on row) shown kept.typed
 
-module _ {X : Type 0} (written : X → Row) (columns : Row → Row) where
-  unmapped : (rows : List Row) → AllByRecursion (AllByRecursion IsUtf8Text) (map columns rows) → AllByRecursion (λ row. AllByRecursion IsUtf8Text (columns row)) rows
-  unmapped [] all = tt
-  unmapped (row ∷ rows) all = (all.0, unmapped rows all.1)
-
-  shown : (P : X → Type 0) → ((x : X) → P x → AllByRecursion IsUtf8Text (written x)) → (xs : List X) → AllByRecursion P xs → AllByRecursion (AllByRecursion IsUtf8Text) (map written xs)
-  shown P each [] all = tt
-  shown P each (x ∷ xs) all = (each x all.0, shown P each xs all.1)
-
-  pub in_rows : (P : X → Type 0) → ((x : X) → P x → AllByRecursion IsUtf8Text (written x)) → (xs : List X) (rows : List Row) → AllByRecursion P xs → Lists written columns xs rows
-      → AllByRecursion (λ row. AllByRecursion IsUtf8Text (columns row)) rows
-  in_rows P each xs rows all lists = unmapped rows (all-permutation _ _ _ lists (shown P each xs all))
-
-pub each_of : (P Q : Row → Type 0) (rows : List Row) → ((row : Row) → P row → Q row) → AllByRecursion P rows → AllByRecursion Q rows
-each_of P Q [] each all = tt
-each_of P Q (row ∷ rows) each all = (each row all.0, each_of P Q rows each all.1)
+pub in_rows : {X : Type 0} (written : X → Row) (columns : Row → Row) (P : X → Type 0) → ((x : X) → P x → AllByRecursion IsUtf8Text (written x)) → (xs : List X) (rows : List Row) → AllByRecursion P xs → Lists written columns xs rows
+    → AllByRecursion (λ row. AllByRecursion IsUtf8Text (columns row)) rows
+in_rows written columns P each xs rows all lists =
+    let shown = all-map (AllByRecursion IsUtf8Text) written xs (all_weaker P (λ x. AllByRecursion IsUtf8Text (written x)) each xs all) in
+    all_from_map (AllByRecursion IsUtf8Text) columns rows (all-permutation _ _ _ lists shown)

@@ -10,17 +10,16 @@ use Rattle.sqlite_schema.specs.declared.command.Source.TheVariants.{Values}
 use Rattle.sqlite_schema.specs.declared.program.Program.{Program}
 use Rattle.sqlite_schema.specs.declared.schema.Schema.{Schema}
 use Rattle.sqlite_schema.specs.declared.schema.Table.{Table}
-use Rattle.sqlite_resolve.specs.Compile.{with_command}
 use Rattle.sqlite_rules.specs.declared.error.Rowids.TheVariants.{Chosen}
 use Rattle.sqlite_rules.specs.Cast.{cast_row}
 use Rattle.sqlite_rules.specs.Edit.{with_rowid}
-use Rattle.sqlite_resolve.specs.Compile.{table_defined_by}
+use Rattle.sqlite_resolve.specs.Compile.{table_defined_by, with_command}
 use Rattle.sqlite_catalog.specs.Change.{created, next_tree, KeepsRows}
-use Rattle.sqlite.specs.Does.{Tally, Does, MakesTable, lacks_sequence, sequence_text}
+use Rattle.sqlite.specs.Does.{Tally, Does, MakesTable, OnRows, OnTable, WritesRows, lacks_sequence, sequence_text}
 use Rattle.sqlite.specs.Effect.{Database, IsDatabase, SparesFrozen, value_rows}
 use Rattle.sqlite.specs.Listing.{understood}
-use Rattle.sqlite.specs.Rows.{Gives, Written, stamped, Updates}
-use Rattle.sqlite.specs.State.{State, mode_of, Writes, Executes, Shows}
+use Rattle.sqlite.specs.Rows.{Gives, Outcome, Written, stamped, Updates}
+use Rattle.sqlite.specs.State.{State, mode_of, Runs, Writes, Executes, Shows}
 use Rattle.sqlite.proofs.Callers.{IsPlain, command_of, statement_of, runs_as}
 use Rattle.sqlite_tied.specs.Compute.{everything}
 use Rattle.sql_tables.specs.Making.{first_created}
@@ -47,43 +46,40 @@ module _ (schema : Schema) (at : ℕ) (table : Table) (there : slice_get schema.
       → Does old.step_limit (mode_of old) params (record { schema = schema; trees = old.now.trees }) (statement_of text (understood schema text)) None command (Ok (w.tally, new.now))
   does command means w = subst (λ s. Does old.step_limit (mode_of old) params (record old.now { schema = s }) (statement_of text (understood schema text)) None command (Ok (w.tally, new.now))) has w.changed
 
+  -- what a command did that writes rows of the table
+  ran : (command : Command) → Means schema text command
+      → (Runs old new None command (statement_of text (understood schema text)) params count → Writes old new None command (statement_of text (understood schema text)) params count)
+      → ((out : Outcome (Tally × Database)) → Does old.step_limit (mode_of old) params (record { schema = schema; trees = old.now.trees }) (statement_of text (understood schema text)) None command out
+      → OnTable old.step_limit (mode_of old) params (record { schema = schema; trees = old.now.trees }) at (λ task. OnRows task (mode_of old) None command old.now.trees) out)
+      → Executes text params old new (Ok count)
+      → Wrote old new × ((w : Written) × WritesRows (task old.step_limit schema table params) old.now.trees command (Ok w) × (new.now.trees ≡ w.trees))
+  ran command means writes on h =
+      let w = writes (runs_as text params old new schema has command (ap command_of means) (plain_if schema text command means) count h) in
+      let done = went (rw there at (on _ (does command means w))) in
+      let now = ap (λ (it : Tally × Database). it.1) (same_value (went (went done.2).2).2) in (
+        record { schema = ap (λ (d : Database). d.schema) now ∙ sym has; sound = w.sound; shown = w.shown; marks = w.marks },
+        (done.0, done.1, ap (λ (d : Database). d.trees) now),
+      )
+
   pub upsert_ran : (target : Option (List ℕ)) (q : Program) (terms : List Term) (width : ℕ) → Means schema text (InsertOr at Abort (Values terms width) (record { target = target; update = Some q } ∷ []))
       → (source row : Row) → table.is_counted ≡ false → value_rows (stamped table params) width (length terms / width) terms ≡ source ∷ [] → with_rowid Chosen (old.now.trees table.tree) (cast_row table source) ≡ row
       → Executes text params old new (Ok count) → Wrote old new × Ends old.step_limit schema table params target q row old.now.trees new.now.trees
   upsert_ran target q terms width means source row uncounted source_is made h =
-      let command = InsertOr at Abort (Values terms width) (record { target = target; update = Some q } ∷ []) in
-      let w = runs_as text params old new schema has command (ap command_of means) (plain_if schema text command means) count h in
-      let done = went (rw there at (does command means w)) in
-      let now = ap (λ (it : Tally × Database). it.1) (same_value (went (went done.2).2).2) in
-      let ends = inserts old.step_limit schema table params target q (Values terms width) source row old.now.trees done.0 uncounted made (λ rows given. given.1 ∙ source_is) done.1 in (
-        record { schema = ap (λ (d : Database). d.schema) now ∙ sym has; sound = w.sound; shown = w.shown; marks = w.marks },
-        subst (Ends old.step_limit schema table params target q row old.now.trees) (sym (ap (λ (d : Database). d.trees) now)) ends,
-      )
+      let did = ran (InsertOr at Abort (Values terms width) (record { target = target; update = Some q } ∷ [])) means (λ w. w) (λ out d. d) h in
+      let ends = inserts old.step_limit schema table params target q (Values terms width) source row old.now.trees did.1.0 uncounted made (λ rows given. given.1 ∙ source_is) did.1.1 in
+      (did.0, subst (Ends old.step_limit schema table params target q row old.now.trees) (sym did.1.2) ends)
 
   pub insert_ran : (terms : List Term) (width : ℕ) → Means schema text (Insert at (Values terms width)) → (source row : Row) → table.is_counted ≡ false
       → value_rows (stamped table params) width (length terms / width) terms ≡ source ∷ [] → with_rowid Chosen (old.now.trees table.tree) (cast_row table source) ≡ row
       → Executes text params old new (Ok count) → Wrote old new × IsAdded schema table row old.now.trees new.now.trees
   insert_ran terms width means source row uncounted source_is made h =
-      let command = Insert at (Values terms width) in
-      let w = runs_as text params old new schema has command (ap command_of means) (plain_if schema text command means) count h in
-      let done = went (rw there at (does command means w)) in
-      let now = ap (λ (it : Tally × Database). it.1) (same_value (went (went done.2).2).2) in
-      let added = adds old.step_limit schema table params (Values terms width) source row old.now.trees done.0 uncounted made (λ rows given. given.1 ∙ source_is) done.1 in (
-        record { schema = ap (λ (d : Database). d.schema) now ∙ sym has; sound = w.sound; shown = w.shown; marks = w.marks },
-        subst (IsAdded schema table row old.now.trees) (sym (ap (λ (d : Database). d.trees) now)) added,
-      )
+      let did = ran (Insert at (Values terms width)) means (λ w. w) (λ out d. d) h in
+      let added = adds old.step_limit schema table params (Values terms width) source row old.now.trees did.1.0 uncounted made (λ rows given. given.1 ∙ source_is) did.1.1 in
+      (did.0, subst (IsAdded schema table row old.now.trees) (sym did.1.2) added)
 
-  -- an UPDATE with this query did this
   pub update_ran : (q : Program) → Means schema text (Update at q) → Executes text params old new (Ok count)
       → Wrote old new × ((w : Written) × Updates (task old.step_limit schema table params) q params old.now.trees (Ok w) × (new.now.trees ≡ w.trees))
-  update_ran q means h =
-      let command = Update at q in
-      let w = runs_as text params old new schema has command (ap command_of means) (plain_if schema text command means) count h in
-      let done = went (rw there at (does command means w)) in
-      let now = ap (λ (it : Tally × Database). it.1) (same_value (went (went done.2).2).2) in (
-        record { schema = ap (λ (d : Database). d.schema) now ∙ sym has; sound = w.sound; shown = w.shown; marks = w.marks },
-        (done.0, done.1, ap (λ (d : Database). d.trees) now),
-      )
+  update_ran q means = ran (Update at q) means (λ w. w) (λ out d. d)
 
 counter_defined : table_defined_by sequence_text ≡ Ok (tables.counter 0)
 unfolding everything

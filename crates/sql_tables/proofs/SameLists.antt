@@ -1,6 +1,8 @@
 -- The rows of a tree are those of one list, up to their order.
-use Rattle.std.proofs.Common.{◌≡◌, ℤ, pos, List, [], ◌∷◌, map, refl, subst₂, IsPermutation}
+use Rattle.std.proofs.Common.{◌≡◌, ℤ, pos, List, map, subst₂, ◌∙◌, IsPermutation}
+use Rattle.std.proofs.lemmas.List.{map-id}
 use Rattle.std.proofs.lemmas.List.Sorted.{IsPermutation-sym, IsPermutation-trans, IsPermutation-map}
+use Rattle.sqlite_trees.proofs.ListLemmas.{map-map}
 use Rattle.sqlite_value.specs.declared.value.Value.{Value}
 use Rattle.sqlite_value.specs.declared.value.Value.TheVariants.{Int}
 use Rattle.sqlite_value.specs.Order.{Row}
@@ -12,8 +14,7 @@ integer _ = pos 0
 
 module _ {X : Type 0} (written : X → Row) (back : Row → X) (undone : (x : X) → back (written x) ≡ x) (columns : Row → Row) where
   all_undone : (xs : List X) → map back (map written xs) ≡ xs
-  all_undone [] = refl
-  all_undone (x ∷ xs) = λ i. undone x i ∷ all_undone xs i
+  all_undone xs = map-map back written xs ∙ (λ i. map (λ x. undone x i) xs) ∙ map-id xs
 
   pub one_list : (xs ys : List X) (rows : List Row) → Lists written columns xs rows → Lists written columns ys rows → IsPermutation xs ys
   one_list xs ys rows p q =

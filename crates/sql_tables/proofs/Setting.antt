@@ -1,5 +1,5 @@
 -- What a list of rows is once a column of the row with a number is set.
-use Rattle.std.proofs.Common.{◌≡◌, ℤ, Bool, true, false, not, cond, List, [], ◌∷◌, ◌++◌, map, filter, refl, sym, subst, ◌∙◌, is_eq, IsPermutation}
+use Rattle.std.proofs.Common.{◌≡◌, ℤ, Bool, true, false, not, cond, List, [], ◌∷◌, ◌++◌, map, filter, refl, sym, subst, subst₂, ◌∙◌, is_eq, IsPermutation}
 use Rattle.std.specs.List.{AllByRecursion}
 use Rattle.std.specs.Ordering.{int_eq}
 use Rattle.std.proofs.lemmas.List.Sorted.{IsPermutation-sym, IsPermutation-trans, IsPermutation-map, IsPermutation-filter_both}
@@ -7,29 +7,13 @@ use Rattle.sqlite_value.specs.declared.value.Value.TheVariants.{Int}
 use Rattle.sqlite_value.specs.Order.{Row, column, value_cmp}
 use Rattle.sqlite_value.proofs.OrderLemmas.{value_cmp-Int}
 use Rattle.sqlite_trees.specs.Tree.{rowid, has_rowid, put_row, without_rowid}
-use Rattle.sqlite_trees.proofs.ListLemmas.{map-map}
+use Rattle.sqlite_trees.proofs.ListLemmas.{all_weaker, map-map}
 use Rattle.sql_tables.specs.Rows.{Lists}
-use Rattle.sql_tables.proofs.RowLists.{replaced}
+use Rattle.sql_tables.proofs.RowLists.{none_left, none_pass, replaced}
 
 map_same : {A B : Type 0} (f g : A → B) (xs : List A) → AllByRecursion (λ x. f x ≡ g x) xs → map f xs ≡ map g xs
 map_same f g [] all = refl
 map_same f g (x ∷ xs) all = rw (all.0, map_same f g xs all.1)
-
-none_pass : {A : Type 0} (p : A → Bool) (xs : List A) → filter p xs ≡ [] → AllByRecursion (λ x. p x ≡ false) xs
-none_pass p [] h = tt
-none_pass p (x ∷ xs) h = go (p x) refl h (none_pass p xs)
-  where
-    go : (b : Bool) → p x ≡ b → cond b (x ∷ filter p xs) (filter p xs) ≡ [] → (filter p xs ≡ [] → AllByRecursion (λ x. p x ≡ false) xs) → (p x ≡ false) × AllByRecursion (λ x. p x ≡ false) xs
-    go true is h more = absurd (cc)
-    go false is h more = (is, more h)
-
-rest_fail : {A : Type 0} (p : A → Bool) (xs : List A) → AllByRecursion (λ x. p x ≡ false) (filter (λ x. not (p x)) xs)
-rest_fail p [] = tt
-rest_fail p (x ∷ xs) = go (p x) refl (rest_fail p xs)
-  where
-    go : (b : Bool) → p x ≡ b → AllByRecursion (λ x. p x ≡ false) (filter (λ x. not (p x)) xs) → AllByRecursion (λ x. p x ≡ false) (cond (not b) (x ∷ filter (λ x. not (p x)) xs) (filter (λ x. not (p x)) xs))
-    go true is more = more
-    go false is more = (is, more)
 
 module _ {X : Type 0} (written : X → Row) (columns : Row → Row) (key : X → ℤ) (written_key : (x : X) → column (written x) 0 ≡ Int (key x)) (shown_key : (r : Row) → column (columns r) 0 ≡ rowid r)
     (id : ℤ) (set : X → X) (change : Row → Row) (changes : (x : X) → written (set x) ≡ change (written x)) where
@@ -47,16 +31,13 @@ module _ {X : Type 0} (written : X → Row) (columns : Row → Row) (key : X →
       go true = changes x
       go false = refl
 
-  all_become : (xs : List X) → map written (map set_if xs) ≡ map becomes (map written xs)
-  all_become [] = refl
-  all_become (x ∷ xs) = rw (one_becomes x, all_become xs)
-
   unchanged : (rows : List Row) → AllByRecursion (λ r. has_rowid id r ≡ false) rows → AllByRecursion (λ r. becomes (columns r) ≡ columns r) rows
-  unchanged [] all = tt
-  unchanged (r ∷ rows) all = (rw (shown_key r, all.0), unchanged rows all.1)
+  unchanged = all_weaker (λ r. has_rowid id r ≡ false) (λ r. becomes (columns r) ≡ columns r) (λ r other. rw (shown_key r, other))
 
   moved : (xs : List X) (rows : List Row) → Lists written columns xs rows → IsPermutation (map written (map set_if xs)) (map (λ r. becomes (columns r)) rows)
-  moved xs rows lists = subst (λ l. IsPermutation (map written (map set_if xs)) l) (map-map becomes columns rows) (subst (λ l. IsPermutation l (map becomes (map columns rows))) (sym (all_become xs)) (IsPermutation-map becomes _ _ lists))
+  moved xs rows lists =
+      let same : map becomes (map written xs) ≡ map written (map set_if xs) = map-map becomes written xs ∙ (λ i. map (λ x. sym (one_becomes x) i) xs) ∙ sym (map-map written set_if xs) in
+      subst₂ IsPermutation same (map-map becomes columns rows) (IsPermutation-map becomes _ _ lists)
 
   -- if no row has the number
   pub sets_none : (xs : List X) (rows : List Row) → Lists written columns xs rows → filter (has_rowid id) rows ≡ [] → Lists written columns (map set_if xs) rows
@@ -69,7 +50,7 @@ module _ {X : Type 0} (written : X → Row) (columns : Row → Row) (key : X →
       let split : IsPermutation rows (r ∷ without_rowid id rows) = subst (λ front. IsPermutation rows (front ++ without_rowid id rows)) only (IsPermutation-filter_both (has_rowid id) (λ x. not (has_rowid id x)) (λ x. refl) rows) in
       let parted = IsPermutation-map (λ x. becomes (columns x)) _ _ split in
       let first : becomes (columns r) ≡ columns new = (rw (shown_key r, has)) ∙ sym is in
-      let others : map (λ x. becomes (columns x)) (without_rowid id rows) ≡ map columns (without_rowid id rows) = map_same _ columns _ (unchanged _ (rest_fail (has_rowid id) rows)) in
+      let others : map (λ x. becomes (columns x)) (without_rowid id rows) ≡ map columns (without_rowid id rows) = map_same _ columns _ (unchanged _ (none_left (has_rowid id) rows)) in
       let now : map (λ x. becomes (columns x)) (r ∷ without_rowid id rows) ≡ map columns (new ∷ without_rowid id rows) = rw (first, others) in
       let there = IsPermutation-map columns _ _ (replaced id new keyed rows) in
       let front = IsPermutation-trans _ _ _ (moved xs rows lists) (subst (λ l. IsPermutation (map (λ x. becomes (columns x)) rows) l) now parted) in

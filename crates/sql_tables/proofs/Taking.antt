@@ -1,6 +1,5 @@
 -- A statement that made a table found its name free, and freed none.
-use Rattle.std.proofs.Common.{◌≡◌, ℕ, ◌+◌, Bool, true, false, cond, List, [], ◌∷◌, ◌++◌, is_some, Some, Ok, Err, Result, refl, sym, ap, subst, ◌∙◌, inl, inr, MatchBool}
-use Rattle.std.specs.List.{position_from}
+use Rattle.std.proofs.Common.{◌≡◌, ℕ, Bool, true, false, List, [], ◌∷◌, Ok, Err, Result, refl, sym, ap, subst, ◌∙◌, inl, inr, MatchBool}
 use Rattle.std.proofs.lemmas.Bool.{or_parts, cases_Bool}
 use Rattle.sqlite_schema.specs.declared.schema.Schema.{Schema}
 use Rattle.sqlite_schema.specs.declared.schema.Table.{Table}
@@ -12,25 +11,17 @@ use Rattle.sqlite.specs.Rows.{Gives}
 use Rattle.sqlite.specs.State.{State, ExecutesIn, Executes, ExecutesInside}
 use Rattle.sqlite.proofs.Callers.{command_of, runs_as}
 use Rattle.sql_tables.specs.Making.{AreFree, FreesNone}
+use Rattle.sql_tables.proofs.Creating.{absent_before}
 use Rattle.sql_tables.proofs.Makes.{IsMake}
 use Rattle.sql_tables.proofs.Meaning.{create_is, create_fails}
 use Rattle.sql_tables.proofs.Running.{plain_if}
 use Rattle.sql_tables.proofs.Writing.{went, same_value}
 
-absent_before : {X : Type 0} (p : X → Bool) (xs ys : List X) (from : ℕ) → is_some (position_from p from (xs ++ ys)) ≡ false → is_some (position_from p from xs) ≡ false
-absent_before p [] ys from e = refl
-absent_before p (x ∷ xs) ys from e = go (p x) e (absent_before p xs ys (from + 1))
-  where
-    go : (b : Bool) → is_some (cond b (Some from) (position_from p (from + 1) (xs ++ ys))) ≡ false → (is_some (position_from p (from + 1) (xs ++ ys)) ≡ false → is_some (position_from p (from + 1) xs) ≡ false)
-        → is_some (cond b (Some from) (position_from p (from + 1) xs)) ≡ false
-    go true e more = e
-    go false e more = more e
-
 free_before : (s : Schema) (table : Table) (name : List ℕ) → is_used (created s table) name ≡ false → is_used s name ≡ false
 free_before s table name free =
     let both = or_parts _ _ free in
     let first = or_parts _ _ both.0 in
-    rw (absent_before _ s.tables _ 0 first.0, absent_before _ s.indexes _ 0 first.1, both.1)
+    rw (absent_before _ s.tables _ first.0, absent_before _ s.indexes _ first.1, both.1)
 
 statement_free : (text : List ℕ) (table : Table) (m : IsMake text table) (old new : State) (count : ℕ) → Executes text [] old new (Ok count) → is_used old.now.schema table.name ≡ false
 unfolding ExecutesIn

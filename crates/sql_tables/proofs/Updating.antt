@@ -1,10 +1,11 @@
 -- What UPDATE of one row by its key means, whatever else the schema has.
-use Rattle.std.proofs.Common.{◌≡◌, ◌-◌, ◌==◌, if◌then◌else◌, nat_lt, ◌⊎◌, inl, inr, ℕ, ℤ, suc, ◌<◌, ◌≤◌, sym, ap, subst, ◌∙◌, cond, filter, map, length, drop, replicate, is_eq, IsTrue, arith, Bool, true, false, List, [], ◌∷◌, slice_get, Option, Some, None, Ok, refl}
+use Rattle.std.proofs.Common.{◌≡◌, ◌-◌, ◌==◌, if◌then◌else◌, nat_lt, ◌⊎◌, inl, inr, ℕ, ℤ, suc, ◌<◌, ◌≤◌, sym, ap, subst, ◌∙◌, filter, map, length, drop, replicate, is_eq, IsTrue, arith, true, false, List, [], ◌∷◌, slice_get, Some, None, Ok, refl}
 use Rattle.sqlite_value.specs.declared.keys.Collation.TheVariants.{Binary}
 use Rattle.sqlite_sql.specs.Term.{Term, col, lit}
 use Rattle.sqlite_ast.specs.declared.Binary.TheVariants as binary
-use Rattle.sqlite_ast.specs.declared.Expr.{Expr, out-Expr}
+use Rattle.sqlite_ast.specs.declared.Expr.{Expr}
 use Rattle.sqlite_ast.specs.declared.Expr.TheOpen.{Expr-F}
+use Rattle.sqlite_ast.specs.declared.Expr.TheViews.{out-roll-Expr, roll-Expr}
 use Rattle.sqlite_schema.specs.declared.schema.Column.{Column}
 use Rattle.sqlite_schema.specs.declared.schema.Schema.{Schema}
 use Rattle.sqlite_schema.specs.declared.schema.Table.{Table}
@@ -22,11 +23,10 @@ use Rattle.sqlite_resolve.specs.Compile.{command, update}
 use Rattle.sqlite_resolve.specs.Write.{assigned, row, picked, updated, updated_in}
 use Rattle.sql_tables.specs.Tables.{IsDeclared, numbered_table, untyped_column}
 use Rattle.sql_tables.proofs.Declaring.{classes_are, low_tree, uncovered}
-use Rattle.sql_tables.proofs.Meaning.{IsText, parse_of, update_is}
+use Rattle.sql_tables.proofs.Meaning.{IsText, base_of, parse_of, update_is}
 use Rattle.sql_tables.proofs.OneTable.{Parts, draft_of, program_on, is_typed, program_is}
 use Rattle.sql_tables.proofs.Running.{Means}
 use Rattle.sqlite_ast.specs.declared.Statement.{Statement}
-use Rattle.sqlite_ast.specs.Layer.{Layer}
 use Rattle.std.specs.Ordering.{int_eq}
 use Rattle.std.proofs.lemmas.Bool.Decides.{Decides-int_eq}
 use Rattle.sqlite_value.specs.declared.value.Value.TheVariants.{Int, Null}
@@ -34,13 +34,12 @@ use Rattle.sqlite_value.specs.Order.{Row, column, value_cmp}
 use Rattle.sqlite_value.proofs.OrderLemmas.{value_cmp-Int}
 use Rattle.sqlite_trees.specs.Tree.{Trees, rowid, has_rowid}
 use Rattle.sqlite_trees.specs.View.{is_int}
-use Rattle.sqlite_trees.proofs.ListLemmas.{filter_same}
 use Rattle.sqlite_sql.specs.Term.{eval_all}
 use Rattle.sqlite_rules.specs.Cast.{cast_row}
 use Rattle.sqlite_rules.specs.Edit.{id_in}
 use Rattle.sqlite_rules.specs.Lists.{Has}
 use Rattle.sqlite_rules.proofs.ListLemmas.{all_has}
-use Rattle.sqlite_rules.proofs.TableLemmas.{int_is}
+use Rattle.sqlite_rules.proofs.TableLemmas.{int_is, some_found}
 use Rattle.sqlite_catalog.specs.Listing.{IsSound}
 use Rattle.sqlite.specs.Rows.{Written, Updates}
 use Rattle.sqlite.specs.State.{State, Executes}
@@ -50,54 +49,30 @@ use Rattle.sql_tables.proofs.Setting.{set_if, sets_none, sets_one}
 use Rattle.sql_tables.proofs.Numbered.{all_find, none_on}
 use Rattle.sql_tables.proofs.Running.{Wrote, update_ran}
 use Rattle.sql_tables.proofs.Writing.{IsPut, Spares, task, finds, updates_one, updates_none}
-use Rattle.sql_tables.proofs.Columns.{nothing_written, clear, over, IsColumn, lowers_to}
+use Rattle.sql_tables.proofs.Columns.{clear, column_expr, over, lowers_to}
 
 abbrev pub sets_in : Statement → List (Name × Expr)
 sets_in (written.Update name sets test shown) = sets
 sets_in _ = []
 
-abbrev pub test_or : Option Expr → Expr
-test_or (Some e) = e
-test_or None = nothing_written
-
-abbrev pub test_in : Statement → Expr
-test_in (written.Update name sets test shown) = test_or test
-test_in _ = nothing_written
-
-abbrev left_at : Layer → Expr
-left_at (Expr-F.Binary op a b) = a
-left_at _ = nothing_written
-
-abbrev right_at : Layer → Expr
-right_at (Expr-F.Binary op a b) = b
-right_at _ = nothing_written
-
--- the sides of a comparison
-abbrev pub left_of : Expr → Expr
-left_of e = left_at (out-Expr e)
-
-abbrev pub right_of : Expr → Expr
-right_of e = right_at (out-Expr e)
-
--- WHERE compares the first column with the first parameter
-pub record IsKeyTest (e : Expr) (name : Name) : Type 0 where
-  pub equals : out-Expr e ≡ Expr-F.Binary binary.Eq (left_of e) (right_of e)
-  pub key : out-Expr (left_of e) ≡ Expr-F.Column None name
-  pub asked : out-Expr (right_of e) ≡ Expr-F.Parameter 1
+-- WHERE compares the column with the first parameter
+abbrev pub key_test : Name → Expr
+key_test name = roll-Expr (Expr-F.Binary binary.Eq (column_expr name) (roll-Expr (Expr-F.Parameter 1)))
 
 -- room for three more steps of resolving
 abbrev pub AreRich : ℕ → Type 0
 AreRich budget = (nat_lt 1 budget ≡ true) × (nat_lt 1 (budget - 1) ≡ true) × (nat_lt 1 (budget - 1 - 1) ≡ true)
 
 module _ (schema : Schema) (at : ℕ) (table : Table) (there : slice_get schema.tables at ≡ Some table) (by_rowid : table.key ≡ Some 0) where
-  lowers_parameter : (depth : ℕ) (e : Expr) (budget : ℕ) → nat_lt 1 budget ≡ true → out-Expr e ≡ Expr-F.Parameter 1 → lower_to (suc depth) (over schema at table there table.name [] false) e (clear budget nothing) ≡ Ok (col 0 0, clear (budget - 1) nothing)
+  lowers_parameter : (depth : ℕ) (budget : ℕ) → nat_lt 1 budget ≡ true → lower_to (suc depth) (over schema at table there table.name [] false) (roll-Expr (Expr-F.Parameter 1)) (clear budget nothing) ≡ Ok (col 0 0, clear (budget - 1) nothing)
   unfolding lower_to node opened spend begin finish passes
-  lowers_parameter depth e budget rich is = rw (rich, is)
+  lowers_parameter depth budget rich = rw (rich, out-roll-Expr)
 
-  lowers_test : (e : Expr) (name : Name) (c : Column) (budget : ℕ) → AreRich budget → (t : IsKeyTest e name) → IsColumn schema at table there table.name (left_of e) name 0 c
-      → lower (over schema at table there table.name [] false) e (clear budget nothing) ≡ Ok (equal Binary (col 1 0) (col 0 0), clear (budget - 1 - 1 - 1) nothing)
+  lowers_test : (name : Name) (c : Column) (budget : ℕ) → AreRich budget → column_named table name ≡ Some 0 → slice_get table.columns 0 ≡ Some c
+      → lower (over schema at table there table.name [] false) (key_test name) (clear budget nothing) ≡ Ok (equal Binary (col 1 0) (col 0 0), clear (budget - 1 - 1 - 1) nothing)
   unfolding lower_to node opened spend begin finish passes operation both combine wanted_truth tests_truth tests_alias compared affinity_of of_column converted may_be_text chosen first_found
-  lowers_test e name c budget rich t it = rw (rich.0, t.equals, lowers_to schema at table there table.name 698 (left_of e) name 0 c it [] false (budget - 1) nothing rich.1, by_rowid, lowers_parameter 698 (right_of e) (budget - 1 - 1) rich.2 t.asked)
+  lowers_test name c budget rich named is =
+      rw (rich.0, out-roll-Expr (Expr-F.Binary binary.Eq (column_expr name) (roll-Expr (Expr-F.Parameter 1))), lowers_to schema at table there table.name 698 name 0 c named is [] false (budget - 1) nothing rich.1, by_rowid, lowers_parameter 698 (budget - 1 - 1) rich.2)
 
 -- the first column of a table
 abbrev first_of_columns : List Column → Column
@@ -116,11 +91,11 @@ module _ (name : Name) (columns : List Column) (text : List ℕ) (places : List 
   abbrev pub sets : List (Name × Expr)
   sets = sets_in (parse_of text).statement
 
-  abbrev pub test : Expr
-  test = test_in (parse_of text).statement
-
   abbrev pub key_column : Column
   key_column = first_of_columns columns
+
+  abbrev pub test : Expr
+  test = key_test key_column.name
 
   abbrev pub terms : List Term
   terms = map (col 0) (numbers_from 1 places)
@@ -141,7 +116,6 @@ module _ (name : Name) (columns : List Column) (text : List ℕ) (places : List 
     pub assigned_is : (schema : Schema) (at tree : ℕ) (there : slice_get schema.tables at ≡ Some (numbered_table name columns tree))
         → assigned (over schema at (numbered_table name columns tree) there name [] false) (numbered_table name columns tree) sets (fresh 2 max_budget) ≡ Ok ((places, terms), clear budget nothing)
     pub row_is : (tree : ℕ) → row (numbered_table name columns tree) None places (col 1 0 ∷ []) terms ≡ Ok project
-    pub tests : IsKeyTest test key_column.name
     pub named : (tree : ℕ) → column_named (numbered_table name columns tree) key_column.name ≡ Some 0
     pub first : slice_get columns 0 ≡ Some key_column
     pub typed : (tree : ℕ) → is_typed (numbered_table name columns tree) (parts_of project) [] ≡ true
@@ -152,33 +126,20 @@ module _ (name : Name) (columns : List Column) (text : List ℕ) (places : List 
 
     draft_is : updated schema d.at table sets (Some test) ≡ Ok (draft_of tree (parts_of project))
     unfolding updated updated_in picked tests
-    draft_is = rw (u.assigned_is schema d.at tree d.there, u.row_is tree, lowers_test schema d.at table d.there refl test key_column.name key_column budget u.rich u.tests (record { written = u.tests.key; named = u.named tree; is = u.first }))
+    draft_is = rw (u.assigned_is schema d.at tree d.there, u.row_is tree, lowers_test schema d.at table d.there refl key_column.name key_column budget u.rich (u.named tree) u.first)
 
-    update_command : (formats : List (List ℕ)) (base : ℕ) → tree < 65536 → command schema formats base (written.Update name sets (Some test) []) ≡ Ok (Update d.at (program_on tree (parts_of project)))
+    update_command : (base : ℕ) → tree < 65536 → command schema [] base (written.Update name sets (Some test) []) ≡ Ok (Update d.at (program_on tree (parts_of project)))
     unfolding command update
-    update_command formats base low = rw (d.named, d.there, draft_is, program_is schema table (classes_are schema table d low) (parts_of project) (u.typed tree))
+    update_command base low = rw (d.named, d.there, draft_is, program_is schema table (classes_are schema table d low) (parts_of project) (u.typed tree))
 
     pub update_means : tree < 65536 → Means schema text (Update d.at (program_on tree (parts_of project)))
-    update_means low = update_is schema text name sets (Some test) (Update d.at (program_on tree (parts_of project))) u.is_text (λ formats base. update_command formats base low)
+    update_means low = update_is schema text name sets (Some test) (Update d.at (program_on tree (parts_of project))) u.is_text (update_command (base_of text) low)
 
     -- the row with the number is replaced, if it is there
     abbrev pub IsSet : ℤ → (Row → Row → Type 0) → Trees → Trees → Type 0
     IsSet id Becomes old new =
         ((filter (has_rowid id) (old tree) ≡ []) × (new tree ≡ old tree) × Spares schema tree old new)
         ⊎ ((r : Row) × (row : Row) × Has (old tree) r × (filter (has_rowid id) (old tree) ≡ r ∷ []) × Becomes r row × IsPut schema table row id old new)
-
-    first_in : (xs : List Row) (id : ℤ) (r : Row) (more : List Row) → filter (has_rowid id) xs ≡ r ∷ more → Has xs r × (has_rowid id r ≡ true)
-    first_in [] id r more e = absurd (cc)
-    first_in (x ∷ xs) id r more e = go (has_rowid id x) refl e (first_in xs id r more)
-      where
-        go : (b : Bool) → has_rowid id x ≡ b → cond b (x ∷ filter (has_rowid id) xs) (filter (has_rowid id) xs) ≡ r ∷ more → (filter (has_rowid id) xs ≡ r ∷ more → Has xs r × (has_rowid id r ≡ true)) → Has (x ∷ xs) r × (has_rowid id r ≡ true)
-        go true is e more = let same : x ≡ r = cc in (inl (sym same), ap (has_rowid id) (sym same) ∙ is)
-        go false is e more = let it = more e in (inr it.0, it.1)
-
-    alone_of : (xs : List Row) → length xs ≤ 1 → (xs ≡ []) ⊎ ((r : Row) × (xs ≡ r ∷ []))
-    alone_of [] few = inl refl
-    alone_of (r ∷ []) few = inr (r, refl)
-    alone_of (r ∷ s ∷ more) few = absurd (omega (arith, few))
 
     number_of : (r : Row) (id : ℤ) → IsTrue (is_int (rowid r)) → has_rowid id r ≡ true → rowid r ≡ Int id
     number_of r id integer has =
@@ -196,17 +157,18 @@ module _ (name : Name) (columns : List Column) (text : List ℕ) (places : List 
         let low = low_tree schema table d old.now.trees sound in
         let ran = update_ran schema d.at table d.there text params old new count has (program_on tree (parts_of project)) (update_means low) h in
         let db = old.now.trees in
-        let same = filter_same _ _ (db tree) (all_find params 0 id asked (db tree) keyed.integers) in
-        (ran.0, go low (alone_of (filter (has_rowid id) (db tree)) (keyed.once id)) same ran.1)
+        let same = all_find params 0 id asked (db tree) keyed.integers in
+        (ran.0, go low (filter (has_rowid id) (db tree)) refl (keyed.once id) same ran.1)
       where
-        go : tree < 65536 → (filter (has_rowid id) (old.now.trees tree) ≡ []) ⊎ ((r : Row) × (filter (has_rowid id) (old.now.trees tree) ≡ r ∷ []))
+        go : tree < 65536 → (found : List Row) → filter (has_rowid id) (old.now.trees tree) ≡ found → length found ≤ 1
             → filter (finds (parts_of project).tests params) (old.now.trees tree) ≡ filter (has_rowid id) (old.now.trees tree)
             → (w : Written) × Updates (task old.step_limit schema table params) (program_on tree (parts_of project)) params old.now.trees (Ok w) × (new.now.trees ≡ w.trees) → IsSet id Becomes old.now.trees new.now.trees
-        go low (inl none) same (w, did, trees) =
+        go low (r ∷ s ∷ more) two few same done = absurd (omega (arith, few))
+        go low [] none few same (w, did, trees) =
             let done = updates_none old.step_limit schema table params (parts_of project) params old.now.trees w (uncovered schema table d low old.now.trees) (same ∙ none) did in
             inl (none, ap (λ (t : Trees). t tree) trees ∙ done.0, subst (Spares schema tree old.now.trees) (sym trees) done.1)
-        go low (inr (r, only)) same (w, did, trees) =
-            let it = first_in (old.now.trees tree) id r [] only in
+        go low (r ∷ []) only few same (w, did, trees) =
+            let it = some_found id (old.now.trees tree) r only in
             let number = number_of r id (all_has _ (old.now.trees tree) r keyed.integers it.0) it.1 in
             let next = made r it.0 number in
             let put = updates_one old.step_limit schema table params d.alone (parts_of project) params old.now.trees r next.0 id w (uncovered schema table d low old.now.trees) (same ∙ only) only next.1
@@ -221,5 +183,5 @@ module _ (name : Name) (columns : List Column) (text : List ℕ) (places : List 
     lists_set written columns key wk sk id set change changes xs old new lists ids (inl (none, same, others)) =
         (rw same (sets_none written columns key wk sk id set change changes xs (old tree) lists none), rw same ids, others)
     lists_set written columns key wk sk id set change changes xs old new lists ids (inr (r, now, has, only, becomes, put)) =
-        let it = first_in (old tree) id r [] only in
+        let it = some_found id (old tree) r only in
         (rw put.rows (sets_one written columns key wk sk id set change changes xs (old tree) r now lists only it.1 becomes.0 becomes.1), rw put.rows (rowids_stay id now becomes.1 (old tree) ids), put.others)

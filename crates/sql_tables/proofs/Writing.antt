@@ -1,8 +1,9 @@
 -- What INSERT .. ON CONFLICT DO UPDATE does to a table, in any schema in which the table has no rule but its key.
-use Rattle.std.proofs.Common.{◌≡◌, ◌≢◌, ◌⊎◌, inl, inr, ℕ, zero, suc, ℤ, Bool, true, false, cond, List, [], ◌∷◌, ◌++◌, map, filter, find, drop, length, length-append, Some, None, Option, Ok, Err, Result, refl, sym, ap, subst, subst₂, ◌∙◌, IsTrue, IsPermutation, unwrap_or, arith}
+use Rattle.std.proofs.Common.{◌≡◌, ◌≢◌, ◌⊎◌, inl, inr, ℕ, zero, suc, ℤ, Bool, true, false, cond, List, [], ◌∷◌, ◌++◌, map, filter, drop, length, length-append, Some, None, Option, Ok, Err, Result, refl, sym, ap, subst, subst₂, ◌∙◌, IsTrue, IsPermutation, arith}
 use Rattle.std.specs.List.{AllByRecursion, flat_map, list_any, list_all}
 use Rattle.std.proofs.lemmas.Bool.{and_parts, not-true}
-use Rattle.std.proofs.lemmas.List.Sorted.{length_permutation}
+use Rattle.std.proofs.lemmas.List.{nil_from_length}
+use Rattle.std.proofs.lemmas.List.Sorted.{IsPermutation-map, length_permutation}
 use Rattle.sqlite_value.specs.declared.value.Value.TheVariants.{Null, Int}
 use Rattle.sqlite_value.specs.Order.{Row, column}
 use Rattle.sqlite_trees.specs.Tree.{Trees, rowid, has_rowid, put_row, without_rowid}
@@ -24,13 +25,16 @@ use Rattle.sqlite_rules.specs.Cast.{cast_row}
 use Rattle.sqlite_rules.specs.Edit.{Edit, edit_of, id_in, is_taken, are_fresh, row_at, taken_by, with_rowid, Applies, IsNoIndex}
 use Rattle.sqlite_rules.specs.Keys.{AreConflicts, conflicts}
 use Rattle.sqlite_rules.specs.Lists.{Has}
+use Rattle.sqlite_rules.proofs.ActionLemmas.{no_works}
+use Rattle.sqlite_rules.proofs.PlaceLemmas.{found_at}
 use Rattle.sqlite_rules.proofs.TableLemmas.{none_to_drop, int_is, taken_is}
 use Rattle.sqlite.specs.Rows.{Written, Task, Then, Gives, Edited, Counts, count_of, rowids_for, stamped, nothing, shown, Sourced, Puts, Updates, Clears, Upserts, Meets, Resolves, Tries, TriesEach, InsertsOr, Inserts}
 use Rattle.sqlite.proofs.Callers.{one_permutation}
 use Rattle.sqlite_trees.specs.View.{is_int}
+use Rattle.sqlite_trees.proofs.ListLemmas.{map-map}
 use Rattle.sql_tables.proofs.RowLists.{put_adds}
 use Rattle.sql_tables.proofs.OneTable.{Parts, program_on, query_on}
-use Rattle.sql_tables.proofs.Parents.{AreKept, adds_quietly, updates_quietly}
+use Rattle.sql_tables.proofs.Parents.{AreKept, updates_quietly}
 
 pub same_value : {B E : Type 0} {a b : B} → ◌≡◌ {A = Result B E} (Ok a) (Ok b) → a ≡ b
 same_value e = cc
@@ -83,39 +87,18 @@ matched p f (r ∷ rows) = go (p r) refl (matched p f rows)
 abbrev pub finds : List Term → Row → Row → Bool
 finds tests given r = list_all (holds (given ∷ r ∷ [])) tests
 
--- the answer of a query whose tests one row passes
-one_answer : (tree : ℕ) (p : Parts) (db : Trees) (given : Row) (rows : List Row) (r : Row) → filter (finds p.tests given) (db tree) ≡ r ∷ [] → IsAnswer (query_on tree p) db given rows
-    → rows ≡ eval_all p.project (given ∷ r ∷ []) ∷ []
-one_answer tree p db given rows r only a =
+-- the answer of a query: what it makes of each row that passes, in some order
+all_answer : (tree : ℕ) (p : Parts) (db : Trees) (given : Row) (rows : List Row) → IsAnswer (query_on tree p) db given rows
+    → IsPermutation (map (λ r. eval_all p.project (given ∷ r ∷ [])) (filter (finds p.tests given) (db tree))) rows
+all_answer tree p db given rows a =
     let f = λ (x : Row). given ∷ x ∷ [] in
-    let o : Output = output (query_on tree p) (f r) in
-    let staged : a.staged ≡ f r ∷ [] = a.grouped ∙ matched (finds p.tests given) f (db tree) ∙ ap (map f) only in
-    let kept : a.kept ≡ o ∷ [] = a.distinct ∙ ap (map (output (query_on tree p))) staged in
-    let ordered = one_permutation o a.ordered (subst (λ k. IsPermutation k a.ordered) kept a.same) in
-    a.shown ∙ ap (map (λ (p : Output). p.1)) ordered
-
--- the answer of a query whose tests no row passes
-no_answer : (tree : ℕ) (p : Parts) (db : Trees) (given : Row) (rows : List Row) → filter (finds p.tests given) (db tree) ≡ [] → IsAnswer (query_on tree p) db given rows → rows ≡ []
-no_answer tree p db given rows none a =
-    let f = λ (x : Row). given ∷ x ∷ [] in
-    let staged : a.staged ≡ [] = a.grouped ∙ matched (finds p.tests given) f (db tree) ∙ ap (map f) none in
-    let kept : a.kept ≡ [] = a.distinct ∙ ap (map (output (query_on tree p))) staged in
-    let len = length_permutation a.kept a.ordered a.same in
-    let left = ap length kept in
-    let ordered : a.ordered ≡ [] = no_length a.ordered (omega (arith, len, left)) in
-    a.shown ∙ ap (map (λ (p : Output). p.1)) ordered
-  where
-    no_length : {X : Type 0} (xs : List X) → length xs ≡ 0 → xs ≡ []
-    no_length [] h = refl
-    no_length (x ∷ xs) h = absurd (omega (arith, h))
-
-found_alone : {X : Type 0} (p : X → Bool) (xs : List X) (x : X) → filter p xs ≡ x ∷ [] → find p xs ≡ Some x
-found_alone p [] x e = absurd (cc)
-found_alone p (y ∷ ys) x e = go (p y) refl e (found_alone p ys x)
-  where
-    go : (b : Bool) → p y ≡ b → cond b (y ∷ filter p ys) (filter p ys) ≡ x ∷ [] → (filter p ys ≡ x ∷ [] → find p ys ≡ Some x) → cond b (Some y) (find p ys) ≡ Some x
-    go true is e more = let same : y ≡ x = cc in ap Some same
-    go false is e more = more e
+    let passing = filter (finds p.tests given) (db tree) in
+    let staged : a.staged ≡ map f passing = a.grouped ∙ matched (finds p.tests given) f (db tree) in
+    let kept : a.kept ≡ map (output (query_on tree p)) (map f passing) = a.distinct ∙ ap (map (output (query_on tree p))) staged in
+    let first = λ (o : Output). o.1 in
+    let made : map first a.kept ≡ map (λ r. eval_all p.project (given ∷ r ∷ [])) passing =
+    ap (map first) kept ∙ map-map first (output (query_on tree p)) (map f passing) ∙ map-map (λ env. first (output (query_on tree p) env)) f passing in
+    subst₂ IsPermutation made (sym a.shown) (IsPermutation-map first _ _ a.same)
 
 module _ (limit : Option ℕ) (schema : Schema) (table : Table) (params : Row) where
   abbrev pub task : Task
@@ -126,7 +109,7 @@ module _ (limit : Option ℕ) (schema : Schema) (table : Table) (params : Row) w
   puts new cast id is db w h =
       let gave = went h in
       let edit = edit_of db table [] Given 0 (new ∷ []) in
-      let step = settles schema db gave.0 edit (λ mid did. adds_quietly schema table.tree edit.news) gave.1 in
+      let step = settles schema db gave.0 edit (λ mid did. no_works schema Enforced 0 table.tree edit.news) gave.1 in
       let trees : w.trees ≡ gave.0 = ap (λ (x : Written). x.trees) (same_value gave.2) in
       let put : gave.0 table.tree ≡ put_row new (db table.tree) = step.rows ∙ ap (λ r. put_row r (db table.tree)) cast in
       let free : is_taken (db table.tree) new ≡ false = not-true _ (and_parts _ _ (subst (λ r. are_fresh (db table.tree) (r ∷ []) ≡ true) cast step.fresh)).0 in
@@ -141,14 +124,16 @@ module _ (limit : Option ℕ) (schema : Schema) (table : Table) (params : Row) w
       → Updates task (program_on table.tree p) given db (Ok w) → IsPut schema table new id db w.trees
   updates_one alone p given db r new id w plain only there made is same kept h =
       let asked = went h in
-      let one : asked.0 ≡ eval_all p.project (given ∷ r ∷ []) ∷ [] = one_answer table.tree p (overlay db []) given asked.0 r (rw plain only) (asked.1.answer Null) in
+      let found : filter (finds p.tests given) (overlay db [] table.tree) ≡ r ∷ [] = rw plain only in
+      let all = all_answer table.tree p (overlay db []) given asked.0 (asked.1.answer Null) in
+      let one = one_permutation (eval_all p.project (given ∷ r ∷ [])) asked.0 (subst (λ rows. IsPermutation (map (λ r. eval_all p.project (given ∷ r ∷ [])) rows) asked.0) found all) in
       let row = eval_all p.project (given ∷ r ∷ []) in
       replaced row made is (subst (λ rows. Then (Edited schema Enforced db (edit_of db table (ids_of rows) Given 1 rows)) (λ next. Gives (record { trees = next; rows = (edit_of db table (ids_of rows) Given 1 rows).news; last = None })) (Ok w)) one asked.2)
     where
       quiet : (row : Row) → cast_row table (drop 1 row) ≡ new → id_in (rowid row) ≡ id → (mid : Trees) → Applies schema Enforced db (edit_of db table (ids_of (row ∷ [])) Given 1 (row ∷ [])) mid
           → works schema Enforced 0 table.tree (taken_by db (edit_of db table (ids_of (row ∷ [])) Given 1 (row ∷ []))) (cast_row table (drop 1 row) ∷ []) ≡ []
       quiet row made is mid did =
-          let old : row_at (db table.tree) (id_in (rowid row)) ≡ r = ap (λ n. row_at (db table.tree) n) is ∙ ap (λ x. unwrap_or x []) (found_alone (has_rowid id) (db table.tree) r there) in
+          let old : row_at (db table.tree) (id_in (rowid row)) ≡ r = ap (λ n. row_at (db table.tree) n) is ∙ sym (found_at (db table.tree) id r there) in
           subst₂ (λ o n. works schema Enforced 0 table.tree (o ∷ []) (n ∷ []) ≡ []) (sym old) (sym made) (updates_quietly schema table alone r new same kept did.referred)
 
       replaced : (row : Row) → cast_row table (drop 1 row) ≡ new → id_in (rowid row) ≡ id
@@ -166,10 +151,13 @@ module _ (limit : Option ℕ) (schema : Schema) (table : Table) (params : Row) w
       → (w.trees table.tree ≡ db table.tree) × Spares schema table.tree db w.trees
   updates_none p given db w plain none h =
       let asked = went h in
-      let empty : asked.0 ≡ [] = no_answer table.tree p (overlay db []) given asked.0 (rw plain none) (asked.1.answer Null) in
+      let found : filter (finds p.tests given) (overlay db [] table.tree) ≡ [] = rw plain none in
+      let all = all_answer table.tree p (overlay db []) given asked.0 (asked.1.answer Null) in
+      let len = length_permutation _ _ (subst (λ rows. IsPermutation (map (λ r. eval_all p.project (given ∷ r ∷ [])) rows) asked.0) found all) in
+      let empty : asked.0 ≡ [] = nil_from_length asked.0 (omega (arith, len)) in
       let did = subst (λ rows. Then (Edited schema Enforced db (edit_of db table (ids_of rows) Given 1 rows)) (λ next. Gives (record { trees = next; rows = (edit_of db table (ids_of rows) Given 1 rows).news; last = None })) (Ok w)) empty asked.2 in
       let gave = went did in
-      let step = settles schema db gave.0 (edit_of db table [] Given 1 []) (λ mid did. adds_quietly schema table.tree []) gave.1 in
+      let step = settles schema db gave.0 (edit_of db table [] Given 1 []) (λ mid did. no_works schema Enforced 0 table.tree []) gave.1 in
       let trees : w.trees ≡ gave.0 = ap (λ (x : Written). x.trees) (same_value gave.2) in
       subst (λ (now : Trees). (now table.tree ≡ db table.tree) × Spares schema table.tree db now) (sym trees) (step.rows, record { tables = step.tables; aside = step.others })
 
@@ -228,7 +216,7 @@ module _ (limit : Option ℕ) (schema : Schema) (table : Table) (params : Row) w
       let top = count_of counter.0 in
       let edit = edit_of db table [] Chosen 0 (source ∷ []) in
       let did = subst₂ (λ how rows. Edited schema Enforced db (edit_of db table [] how 0 rows) (Ok written.0)) (chosen_rowids table top uncounted) (only given.0 given.1) written.1 in
-      let step = settles schema db written.0 edit (λ mid did. adds_quietly schema table.tree edit.news) did in
+      let step = settles schema db written.0 edit (λ mid did. no_works schema Enforced 0 table.tree edit.news) did in
       let next : counted.0 ≡ written.0 = counts_nothing task written.0 counted.0 counter.0 _ uncounted counted.1 in
       let trees : w.trees ≡ written.0 = ap (λ (x : Written). x.trees) (same_value counted.2) ∙ next in
       let put : written.0 table.tree ≡ put_row row (db table.tree) = step.rows ∙ ap (λ r. put_row r (db table.tree)) made in

@@ -4,7 +4,6 @@ use Rattle.sqlite_value.specs.declared.keys.Collation.TheVariants.{Binary}
 use Rattle.sqlite_value.specs.declared.value.Value.TheVariants.{Null, Int, Text, Blob}
 use Rattle.sqlite_value.specs.Order.{Row, column}
 use Rattle.sqlite_trees.specs.Tree.{Trees, rowid, without_rowid}
-use Rattle.sqlite_trees.proofs.ListLemmas.{filter_same}
 use Rattle.sqlite_ast.specs.declared.Rows.{Rows}
 use Rattle.sqlite_ast.specs.declared.Statement.TheVariants.{Insert}
 use Rattle.sqlite_ast.specs.declared.Upsert.{Upsert}
@@ -43,7 +42,7 @@ use Rattle.sql_tables.proofs.OneTable.{Parts, draft_of, program_on, program_is}
 use Rattle.sql_tables.proofs.Parents.{AreKept}
 use Rattle.sql_tables.proofs.RowLists.{only_row, rowids_stay}
 use Rattle.sql_tables.proofs.Running.{Means, Wrote, upsert_ran}
-use Rattle.sql_tables.proofs.Casts.{cast_null, cast_int}
+use Rattle.sql_tables.proofs.ByRowid.{cast_null, cast_int}
 use Rattle.desk_rows.proofs.RowPuts.TabNames.{names_once}
 use Rattle.sql_tables.proofs.Writing.{IsPut, Ends, task, finds, puts, updates_one}
 
@@ -127,7 +126,7 @@ module _ (schema : Schema) (tree : ℕ) (d : IsDeclared schema (tab tree)) (low 
       → Updates (task limit schema (tab tree) (tab_row t)) (program_on tree parts) given db (Ok w) → after ≡ w.trees → IsTabPut
   updated r id has number name w given is h trees =
       let there = only_row (db tree) keyed r id has number in
-      let only : filter (finds parts.tests given) (db tree) ≡ r ∷ [] = filter_same _ _ (db tree) (all_find given 2 id (ap (λ g. column g 2) is) (db tree) keyed.integers) ∙ there in
+      let only : filter (finds parts.tests given) (db tree) ≡ r ∷ [] = all_find given 2 id (ap (λ g. column g 2) is) (db tree) keyed.integers ∙ there in
       let made : cast_row (tab tree) (drop 1 (eval_all project (given ∷ r ∷ []))) ≡ stored id t = rw (is, number, name) (cast id t tree) in
       let next : id_in (rowid (eval_all project (given ∷ r ∷ []))) ≡ id = rw number in
       let put = updates_one limit schema (tab tree) (tab_row t) d.alone parts given db r (stored id t) id w (uncovered schema (tab tree) d low db) only there made next (sym number)

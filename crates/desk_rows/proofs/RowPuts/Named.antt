@@ -1,10 +1,11 @@
 -- What an upsert by the name does to `tab`, whose rowid is hidden, in any schema that declares it so.
-use Rattle.std.proofs.Common.{◌≡◌, inl, inr, ℕ, ℤ, ◌≤◌, Bool, true, false, not, ◌&&◌, ◌||◌, ◌==◌, List, [], ◌∷◌, map, filter, find, length, Some, refl, sym, ap, subst, ◌∙◌, is_eq, IsPermutation, eq-eqb, eqb-true, bytes_eq, Ordering, Less, Equal, Greater, arith}
+use Rattle.std.proofs.Common.{◌≡◌, inl, inr, ℕ, ℤ, ◌≤◌, Bool, true, false, not, ◌&&◌, ◌==◌, List, [], ◌∷◌, map, filter, find, length, Some, refl, sym, ap, subst, ◌∙◌, is_eq, eq-eqb, eqb-true, bytes_eq, Ordering, Less, Equal, Greater, arith}
 use Rattle.std.proofs.lemmas.List.{length-map}
-use Rattle.std.specs.List.{AllByRecursion, list_any}
+use Rattle.std.specs.List.{list_any}
 use Rattle.std.specs.Cmp.{both_ways}
 use Rattle.std.proofs.lemmas.Bool.{and_from, and_parts, cases_Bool}
-use Rattle.std.proofs.lemmas.List.Sorted.{IsPermutation-sym, IsPermutation-trans, IsPermutation-cons, IsPermutation-map, length_permutation}
+use Rattle.std.proofs.lemmas.List.Elements.{filter_agree}
+use Rattle.std.proofs.lemmas.List.Sorted.{length_permutation}
 use Rattle.std.proofs.lemmas.Map.Text.{is_eq-slice_cmp}
 use Rattle.std.proofs.lemmas.Slice.Eq.{bytes_eq-Decides}
 use Rattle.sqlite_value.specs.declared.keys.Collation.TheVariants.{Binary}
@@ -22,7 +23,7 @@ use Rattle.sqlite_resolve.specs.Given.{is_key_at}
 use Rattle.sqlite_rules.specs.Keys.{conflicts, shares}
 use Rattle.sqlite_rules.specs.Lists.{Has}
 use Rattle.sqlite_rules.proofs.TableLemmas.{none_to_drop}
-use Rattle.sqlite_rules.proofs.ListLemmas.{some_has, has_found}
+use Rattle.sqlite_rules.proofs.ListLemmas.{all_from, has_found, has_kept, some_from, some_has}
 use Rattle.sqlite_catalog.specs.Listing.{automatic}
 use Rattle.sqlite_catalog.proofs.ListFacts.{find_within}
 use Rattle.desk_parts.specs.declared.file_table.FileTable.TheVariants as tables
@@ -30,8 +31,8 @@ use Rattle.desk_parts.specs.Puts.{put_by_key}
 use Rattle.desk_parts.specs.Rows.{Tab}
 use Rattle.sql_tables.specs.Rows.{HaveRowids, Lists}
 use Rattle.sql_tables.specs.Tables.{IsDeclared}
-use Rattle.sql_tables.proofs.Declaring.{has_kept}
-use Rattle.sql_tables.proofs.RowLists.{only_row, has_own, lone, replaced, shows_one}
+use Rattle.sql_tables.proofs.PutLists.{lists_put_by}
+use Rattle.sql_tables.proofs.RowLists.{only_row, has_own, lone, shows_one}
 use Rattle.sqlite_schema.specs.declared.schema.Table.{Table}
 use Rattle.sql_tables.specs.Rows.{columns_at}
 use Rattle.desk_rows.specs.Descriptions.{description_of, table_of}
@@ -69,15 +70,6 @@ agrees_by_name r new a b is is' = rw (is, is', equal_texts a b) (go (bytes_eq a 
     go true = refl
     go false = refl
 
-any_passes : {X : Type 0} (p : X → Bool) (xs : List X) (x : X) → Has xs x → p x ≡ true → list_any p xs ≡ true
-any_passes p [] x has passes = absurd has
-any_passes p (y ∷ ys) x (inl same) passes = let first : p y ≡ true = ap p (sym same) ∙ passes in rw first
-any_passes p (y ∷ ys) x (inr later) passes = go (p y) (any_passes p ys x later passes)
-  where
-    go : (b : Bool) → list_any p ys ≡ true → (b || list_any p ys) ≡ true
-    go true more = refl
-    go false more = more
-
 module _ (schema : Schema) (tree : ℕ) (d : IsDeclared schema (tab tree)) where
   -- the index of the key
   abbrev pub its_index : Index
@@ -111,7 +103,7 @@ module _ (schema : Schema) (tree : ℕ) (d : IsDeclared schema (tab tree)) where
   clashes r new a is is' =
       let it = has_found (is_key_at (tab tree) (1 ∷ [])) schema.indexes its_index key_index in
       let agreed : agree plain (1 ∷ []) r (1 ∷ []) new ≡ true = agrees_by_name r new a a is is' ∙ (bytes_eq-Decides a a).1 refl in
-      any_passes (shares (Some (1 ∷ [])) (tab tree) new r) schema.indexes its_index it.0 (rw (own, agreed))
+      some_from (shares (Some (1 ∷ [])) (tab tree) new r) schema.indexes its_index it.0 (rw (own, agreed))
 
 -- ---- the rows of tab as its tree keeps them
 
@@ -128,18 +120,10 @@ name_of t r is = ap (λ (s : Row). column s 0) is
 abbrev pub named : List ℕ → Row → Bool
 named name s = is_eq (value_cmp (column s 0) (Text name))
 
-each_named : (name : List ℕ) (tabs : List Tab) → AllByRecursion (λ t. named name (tab_row t) ≡ bytes_eq t.name name) tabs
-each_named name [] = tt
-each_named name (t ∷ ts) = (same_text t.name name, each_named name ts)
-
-each_unnamed : (name : List ℕ) (tabs : List Tab) → AllByRecursion (λ t. not (named name (tab_row t)) ≡ not (bytes_eq t.name name)) tabs
-each_unnamed name [] = tt
-each_unnamed name (t ∷ ts) = (ap not (same_text t.name name), each_unnamed name ts)
-
 -- as many rows of the tree have the name as are shown with it
 pub as_many_named : (name : List ℕ) (tabs : List Tab) (rows : List Row) → Lists tab_row tab_columns tabs rows → length (filter (λ t. bytes_eq t.name name) tabs) ≡ length (filter (λ r. named name (tab_columns r)) rows)
 as_many_named name tabs rows lists =
-    let left : filter (named name) (map tab_row tabs) ≡ map tab_row (filter (λ t. bytes_eq t.name name) tabs) = filter-map (named name) tab_row tabs ∙ ap (map tab_row) (filter_same _ _ tabs (each_named name tabs)) in
+    let left : filter (named name) (map tab_row tabs) ≡ map tab_row (filter (λ t. bytes_eq t.name name) tabs) = filter-map (named name) tab_row tabs ∙ ap (map tab_row) (filter_agree (λ t. named name (tab_row t)) (λ t. bytes_eq t.name name) (λ t. same_text t.name name) tabs) in
     let right : filter (named name) (map tab_columns rows) ≡ map tab_columns (filter (λ r. named name (tab_columns r)) rows) = filter-map (named name) tab_columns rows in
     let same = length_permutation _ _ (IsPermutation-filter (named name) _ _ lists) in
     let a = ap length left in
@@ -152,31 +136,16 @@ as_many_named name tabs rows lists =
 few_named : (name : List ℕ) (tabs : List Tab) (rows : List Row) → Lists tab_row tab_columns tabs rows → length (filter (λ t. bytes_eq t.name name) tabs) ≤ 1 → length (filter (λ r. named name (tab_columns r)) rows) ≤ 1
 few_named name tabs rows lists few = let same = as_many_named name tabs rows lists in omega (arith, few, same)
 
-all_from_has : {X : Type 0} (P : X → Type 0) (xs : List X) → ((x : X) → Has xs x → P x) → AllByRecursion P xs
-all_from_has P [] each = tt
-all_from_has P (x ∷ xs) each = (each x (inl refl), all_from_has P xs (λ y has. each y (inr has)))
-
 -- the rows without that name
 module _ (t : Tab) (tabs : List Tab) (rows : List Row) (lists : Lists tab_row tab_columns tabs rows) (few : length (filter (λ s. bytes_eq s.name t.name) tabs) ≤ 1) where
-  rest : IsPermutation (map tab_row (filter (λ s. not (bytes_eq s.name t.name)) tabs)) (map tab_columns (filter (λ r. not (named t.name (tab_columns r))) rows))
-  rest =
-      let spares = λ (s : Row). not (named t.name s) in
-      let left : filter spares (map tab_row tabs) ≡ map tab_row (filter (λ s. not (bytes_eq s.name t.name)) tabs) = filter-map spares tab_row tabs ∙ ap (map tab_row) (filter_same _ _ tabs (each_unnamed t.name tabs)) in
-      let right : filter spares (map tab_columns rows) ≡ map tab_columns (filter (λ r. spares (tab_columns r)) rows) = filter-map spares tab_columns rows in
-      rw (← left, ← right) (IsPermutation-filter spares _ _ lists)
-
   -- a row that has the name, put in place of the rows with its number, leaves the rows with the other names
   pub lists_put : (new : Row) (id : ℤ) → rowid new ≡ Int id → IsRowOf t new → without_rowid id rows ≡ filter (λ r. not (named t.name (tab_columns r))) rows
       → Lists tab_row tab_columns (put_by_key (λ s. bytes_eq s.name t.name) t tabs) (put_row new (without_rowid id rows))
-  lists_put new id keyed is same =
-      let first : IsPermutation (tab_columns new ∷ map tab_row (filter (λ s. not (bytes_eq s.name t.name)) tabs)) (map tab_columns (new ∷ without_rowid id rows)) = rw same (IsPermutation-cons (tab_columns new) _ _ rest) in
-      let there = IsPermutation-map tab_columns _ _ (replaced id new keyed rows) in
-      subst (λ r. IsPermutation (r ∷ map tab_row (filter (λ s. not (bytes_eq s.name t.name)) tabs)) (map tab_columns (put_row new (without_rowid id rows)))) is
-      (IsPermutation-trans _ _ _ first (IsPermutation-sym _ _ there))
+  lists_put new id keyed = lists_put_by tab_row tab_columns (named t.name) (λ s. bytes_eq s.name t.name) (λ s. same_text s.name t.name) t tabs new id rows keyed lists
 
   -- if no row has the name, and none the number
   pub unnamed_rows : (id : ℤ) → list_any (has_rowid id) rows ≡ false → ((r : Row) → Has rows r → column r 1 ≡ Text t.name → ⊥) → without_rowid id rows ≡ filter (λ r. not (named t.name (tab_columns r))) rows
-  unnamed_rows id none free = none_to_drop id rows none ∙ sym (filter_all _ rows (all_from_has _ rows other))
+  unnamed_rows id none free = none_to_drop id rows none ∙ sym (filter_all _ rows (all_from _ rows other))
     where
       other : (r : Row) → Has rows r → not (named t.name (tab_columns r)) ≡ true
       other r has = elim (cases_Bool (named t.name (tab_columns r))) [
@@ -189,7 +158,7 @@ module _ (t : Tab) (tabs : List Tab) (rows : List Row) (lists : Lists tab_row ta
 
   -- if a row has both
   pub named_rows : HaveRowids rows → (r : Row) (id : ℤ) → Has rows r → rowid r ≡ Int id → column r 1 ≡ Text t.name → without_rowid id rows ≡ filter (λ r. not (named t.name (tab_columns r))) rows
-  named_rows keyed r id has is name = filter_same _ _ rows (all_from_has _ rows alike)
+  named_rows keyed r id has is name = filter_same _ _ rows (all_from _ rows alike)
     where
       has_name : named t.name (tab_columns r) ≡ true
       has_name = rw name (same_text t.name t.name ∙ (bytes_eq-Decides t.name t.name).1 refl)

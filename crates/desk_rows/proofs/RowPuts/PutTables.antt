@@ -23,7 +23,7 @@ use Rattle.desk_parts.specs.Rows.{NamedCorr, RowOf, Tab}
 use Rattle.sql_tables.specs.Rows.{HaveRowids, Lists, columns_at}
 use Rattle.sql_tables.specs.Tables.{IsDeclared, numbered_table}
 use Rattle.sql_tables.proofs.ByRowid.{PutsByRowid, numbered_puts}
-use Rattle.sql_tables.proofs.Casts.{cast_int, cast_null}
+use Rattle.sql_tables.proofs.ByRowid.{cast_int, cast_null}
 use Rattle.sql_tables.proofs.Meaning.{IsText, insert_is, parse_of, rows_in}
 use Rattle.sql_tables.proofs.Running.{Wrote, insert_ran}
 use Rattle.sql_tables.proofs.SetByRowid.{SetsByRowid, sets_by_rowid}

@@ -1,8 +1,7 @@
 -- No two rows of `tab` have one name, since the key of `tab` has an index.
-use Rattle.std.proofs.Common.{◌≡◌, inl, inr, ℕ, ℤ, ◌≤◌, Bool, true, false, not, ◌&&◌, cond, List, [], ◌∷◌, filter, length, Some, refl, sym, ap, subst, ◌∙◌, true≢false, eq-eqb, bytes_eq, Ordering, Less, Equal, Greater, int_cmp, ◌<ℤ◌, arith}
-use Rattle.std.specs.List.{list_any, list_all}
+use Rattle.std.proofs.Common.{◌≡◌, inl, inr, ℕ, ℤ, ◌≤◌, true, false, not, ◌&&◌, List, [], ◌∷◌, filter, length, Some, refl, sym, ap, subst, ◌∙◌, true≢false, eq-eqb, bytes_eq, Ordering, Less, Equal, Greater, int_cmp, ◌<ℤ◌, arith}
 use Rattle.std.specs.Ordering.{MatchOrdering, is_ne}
-use Rattle.std.proofs.lemmas.Bool.{and_parts, or_parts}
+use Rattle.std.proofs.lemmas.Bool.{not-true}
 use Rattle.std.proofs.lemmas.Cmp.{int_ranked}
 use Rattle.std.proofs.lemmas.Slice.Eq.{bytes_eq-Decides}
 use Rattle.sqlite_value.specs.declared.value.Value.TheVariants.{Int, Text}
@@ -17,7 +16,8 @@ use Rattle.sqlite_schema.specs.Rules.{agree, clashes, differ, guards}
 use Rattle.sqlite_resolve.specs.Given.{is_key_at}
 use Rattle.sqlite_rules.specs.Edit.{id_in}
 use Rattle.sqlite_rules.specs.Lists.{Has}
-use Rattle.sqlite_rules.proofs.ListLemmas.{all_has, has_found}
+use Rattle.sqlite_rules.proofs.ListLemmas.{all_has, has_filtered, has_found, test_has}
+use Rattle.sqlite_rules.proofs.RuleLemmas.{keeps_at}
 use Rattle.sqlite_rules.proofs.TableLemmas.{int_is}
 use Rattle.sqlite_catalog.specs.Listing.{IsSound}
 use Rattle.desk_parts.specs.Rows.{Tab}
@@ -25,7 +25,7 @@ use Rattle.sql_tables.specs.Rows.{HaveRowids, Lists}
 use Rattle.sql_tables.specs.Tables.{IsDeclared}
 use Rattle.sql_tables.proofs.Declaring.{has_table}
 use Rattle.desk_rows.proofs.RowPuts.Named.{tab, tab_row, tab_columns, agrees_by_name, its_index, key_index, as_many_named, name_of, named, row_of, same_text}
-use Rattle.sql_tables.proofs.RowLists.{filter_fewer, has_own}
+use Rattle.sql_tables.proofs.RowLists.{filter_fewer, has_own, none_has}
 
 differ_numbers : (a b : ℤ) → differ (Int a) (Int b) ≡ false → a ≡ b
 unfolding binary
@@ -36,38 +36,14 @@ differ_numbers a b h = go (int_cmp a b) (rw value_cmp-Int at h) (int_ranked a b 
     go Equal h m = m
     go Greater h m = absurd (true≢false h)
 
-each_passes : {X : Type 0} (p : X → Bool) (xs : List X) (x : X) → list_all p xs ≡ true → Has xs x → p x ≡ true
-each_passes p [] x all has = absurd has
-each_passes p (y ∷ ys) x all (inl same) = ap p same ∙ (and_parts _ _ all).0
-each_passes p (y ∷ ys) x all (inr later) = each_passes p ys x ((and_parts _ _ all).1) later
-
-none_passes : {X : Type 0} (p : X → Bool) (xs : List X) (x : X) → list_any p xs ≡ false → Has xs x → p x ≡ false
-none_passes p [] x none has = absurd has
-none_passes p (y ∷ ys) x none (inl same) = ap p same ∙ (or_parts _ _ none).0
-none_passes p (y ∷ ys) x none (inr later) = none_passes p ys x ((or_parts _ _ none).1) later
-
-kept_is : {X : Type 0} (p : X → Bool) (xs : List X) (x : X) → Has (filter p xs) x → Has xs x × (p x ≡ true)
-kept_is p [] x has = absurd has
-kept_is p (y ∷ ys) x has = go (p y) refl has (kept_is p ys x)
-  where
-    go : (b : Bool) → p y ≡ b → Has (cond b (y ∷ filter p ys) (filter p ys)) x → (Has (filter p ys) x → Has ys x × (p x ≡ true)) → Has (y ∷ ys) x × (p x ≡ true)
-    go true is (inl same) more = (inl same, ap p same ∙ is)
-    go true is (inr later) more = let it = more later in (inr it.0, it.1)
-    go false is later more = let it = more later in (inr it.0, it.1)
-
-is_false : (b : Bool) → not b ≡ true → b ≡ false
-is_false true h = absurd (true≢false (sym h))
-is_false false h = refl
-
 module _ (schema : Schema) (tree : ℕ) (d : IsDeclared schema (tab tree)) (db : Trees) (sound : IsSound schema db) (keyed : HaveRowids (db tree)) (tabs : List Tab) (lists : Lists tab_row tab_columns tabs (db tree)) where
   -- no other row has the key of a row
   alone : (r : Row) → Has (db tree) r → clashes plain (1 ∷ []) (db tree) r ≡ false
   alone r has =
-      let each = all_has _ schema.tables (tab tree) (sound.obeys.rules Unique) (has_table schema (tab tree) d) in
-      let passes = all_has _ (db tree) r each has in
+      let passes = keeps_at Unique schema db (tab tree) r (sound.obeys.rules Unique) (has_table schema (tab tree) d) has in
       let it = has_found (is_key_at (tab tree) (1 ∷ [])) schema.indexes (its_index schema tree d) (key_index schema tree d) in
-      let one = each_passes (λ i. not (guards i (tab tree) && clashes i.order i.columns (db tree) r)) schema.indexes (its_index schema tree d) passes it.0 in
-      is_false (clashes plain (1 ∷ []) (db tree) r) (rw (eq-eqb tree tree refl) at one)
+      let one = test_has (λ i. not (guards i (tab tree) && clashes i.order i.columns (db tree) r)) schema.indexes (its_index schema tree d) passes it.0 in
+      not-true (clashes plain (1 ∷ []) (db tree) r) (rw (eq-eqb tree tree refl) at one)
 
   named_is : (name : List ℕ) (r : Row) → Has (db tree) r → named name (tab_columns r) ≡ true → column r 1 ≡ Text name
   named_is name r has is =
@@ -78,7 +54,7 @@ module _ (schema : Schema) (tree : ℕ) (d : IsDeclared schema (tab tree)) (db :
   -- two rows with one name have one rowid
   one_rowid : (r s : Row) (n m : ℤ) (name : List ℕ) → Has (db tree) r → Has (db tree) s → rowid r ≡ Int n → rowid s ≡ Int m → column r 1 ≡ Text name → column s 1 ≡ Text name → m ≡ n
   one_rowid r s n m name in_r in_s rn sm rt st =
-      let clash = none_passes (λ other. agree plain (1 ∷ []) other (1 ∷ []) r && differ (rowid other) (rowid r)) (db tree) s (alone r in_r) in_s in
+      let clash = none_has (λ other. agree plain (1 ∷ []) other (1 ∷ []) r && differ (rowid other) (rowid r)) (db tree) s (alone r in_r) in_s in
       let same : agree plain (1 ∷ []) s (1 ∷ []) r ≡ true = agrees_by_name s r name name st rt ∙ (bytes_eq-Decides name name).1 refl in
       differ_numbers m n (rw (same, rn, sm) at clash)
 
@@ -89,8 +65,8 @@ module _ (schema : Schema) (tree : ℕ) (d : IsDeclared schema (tab tree)) (db :
       go [] e = omega arith
       go (r ∷ []) e = omega arith
       go (r ∷ s ∷ more) e =
-          let of_r = kept_is _ (db tree) r (subst (λ (ys : List Row). Has ys r) (sym e) (inl refl)) in
-          let of_s = kept_is _ (db tree) s (subst (λ (ys : List Row). Has ys s) (sym e) (inr (inl refl))) in
+          let of_r = has_filtered _ (db tree) r (subst (λ (ys : List Row). Has ys r) (sym e) (inl refl)) in
+          let of_s = has_filtered _ (db tree) s (subst (λ (ys : List Row). Has ys s) (sym e) (inr (inl refl))) in
           let n = id_in (rowid r) in
           let rn : rowid r ≡ Int n = int_is (rowid r) (all_has _ (db tree) r keyed.integers of_r.0) in
           let sm = int_is (rowid s) (all_has _ (db tree) s keyed.integers of_s.0) in

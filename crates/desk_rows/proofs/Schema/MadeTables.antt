@@ -1,11 +1,12 @@
 -- The file once tables are made.
-use Rattle.std.proofs.Common.{length, get_or, take, drop, zero, suc, ap, ◌≡◌, ◌≢◌, ℕ, ◌&&◌, ◌+◌, ◌<◌, ◌≤◌, true, false, ◌==◌, List, [], ◌∷◌, ◌++◌, map, filter, codes, is_some, refl, sym, subst, ◌∙◌, arith, nat_lt, eq-eqb, inl, inr, bytes_eq, IsTrue}
+use Rattle.std.proofs.Common.{length, get_or, take, drop, zero, suc, ap, ◌≡◌, ◌≢◌, ℕ, ◌&&◌, ◌+◌, ◌<◌, ◌≤◌, true, false, ◌==◌, List, [], ◌∷◌, ◌++◌, map, filter, codes, is_some, refl, sym, subst, ◌∙◌, arith, nat_lt, eq-eqb, inl, inr, bytes_eq, IsTrue, ◌||◌, true≢false}
 use Rattle.std.specs.List.{AllByRecursion, position_from}
 use Rattle.std.specs.Fmt.{digits}
 use Rattle.std.proofs.lemmas.Bool.Decides.{nat_tests}
 use Rattle.std.proofs.lemmas.List.Sorted.{IsPermutation-refl}
 use Rattle.std.proofs.lemmas.Slice.Eq.{bytes_eq-Decides}
 use Rattle.sqlite_trees.specs.Tree.{Trees}
+use Rattle.sqlite_trees.proofs.ListLemmas.{all_both, all_of}
 use Rattle.sqlite_schema.specs.declared.schema.Schema.{Schema}
 use Rattle.sqlite_schema.specs.declared.schema.Table.{Table}
 use Rattle.sqlite_schema.specs.Names.{same_name}
@@ -30,6 +31,7 @@ use Rattle.desk_rows.specs.Descriptions.{description_of, table_of}
 use Rattle.desk_rows.specs.Making.{AreAbsent, CountsNone, IsNew, Differ, MakesTables, after, first_row, is_among, new_tables, new_layout, no_contents, tree_in}
 use Rattle.desk_rows.specs.Puts.{PutsRow}
 use Rattle.desk_rows.specs.States.{IsUnder, ShowsContents}
+use Rattle.desk_rows.proofs.RowPuts.Changing.{same}
 
 pub is_below : (m n : ℕ) → m < n → nat_lt m n ≡ true
 is_below m n low = grind (arith, nat_tests)
@@ -44,16 +46,6 @@ abbrev made_in : FileTable → ℕ → Table
 made_in w tree = record (table_of w 0) { tree = tree }
 
 -- ---- each table
-
-itself : (w : FileTable) → same_name (name w) (name w) ≡ true
-unfolding same_name
-itself tables.Book = refl
-itself tables.Tab = refl
-itself tables.Para = refl
-itself tables.Corr = refl
-itself tables.Mark = refl
-itself tables.Cache = refl
-itself tables.NamedCorr = refl
 
 -- the automatic index of a table is on it
 keys_of : (w : FileTable) (tree : ℕ) → filter (λ i. i.is_unique && (i.table == tree)) (automatics (made_in w tree) 0 (tree + 1) (table_of w 0).uniques) ≡ automatics (made_in w tree) 0 (tree + 1) (table_of w 0).uniques
@@ -103,21 +95,15 @@ leaves tables.Cache tables.Cache other = absurd (cc)
 leaves tables.NamedCorr tables.NamedCorr other = absurd (cc)
 leaves v w other = (refl, λ tree from. refl)
 
-listed : (w : FileTable) → is_among new_tables w ≡ true → Has new_tables w
-listed tables.Book is = inl refl
-listed tables.Tab is = inr (inl refl)
-listed tables.Para is = inr (inr (inl refl))
-listed tables.Corr is = absurd (cc)
-listed tables.Mark is = inr (inr (inr (inl refl)))
-listed tables.Cache is = inr (inr (inr (inr (inl refl))))
-listed tables.NamedCorr is = inr (inr (inr (inr (inr (inl refl)))))
+-- a table among these is one of them
+pub among_has : (ws : List FileTable) (v : FileTable) → is_among ws v ≡ true → Has ws v
+among_has [] v is = absurd (true≢false (sym is))
+among_has (w ∷ ws) v is = elim (same w v) [
+  | inl one ↦ inl (sym one)
+  | inr other ↦ inr (among_has ws v (ap (λ b. b || is_among ws v) (sym other) ∙ is))
+]
 
 -- ---- a list, up to a place and from there
-
-pub all_at : {X : Type 0} (P : X → Type 0) (xs : List X) (i : ℕ) (d : X) → i < length xs → AllByRecursion P xs → P (get_or xs i d)
-all_at P [] i d lt all = absurd (omega (arith, lt))
-all_at P (x ∷ xs) zero d lt all = all.0
-all_at P (x ∷ xs) (suc i) d lt all = all_at P xs i d (omega (arith, lt)) all.1
 
 pub map_split : {X Y : Type 0} (f : X → Y) (xs : List X) (i : ℕ) (d : X) → i < length xs → map f xs ≡ map f (take i xs) ++ f (get_or xs i d) ∷ map f (drop (suc i) xs)
 map_split f [] i d lt = absurd (omega (arith, lt))
@@ -136,8 +122,7 @@ free_after w (v ∷ ws) s apart free =
     let it = leaves v w apart.0 in free_after w ws (first_created s (table_of v 0)) apart.1 (free_first s (table_of v 0) (name w) free it.0 (no_counter w) it.1)
 
 all_free_after : (us vs : List FileTable) (s : Schema) → Apart us vs → AllByRecursion (λ w. is_used s (name w) ≡ false) vs → AllByRecursion (λ w. is_used (after us s) (name w) ≡ false) vs
-all_free_after us [] s apart free = tt
-all_free_after us (w ∷ vs) s apart free = (free_after w us s apart.0 free.0, all_free_after us vs s apart.1 free.1)
+all_free_after us vs s = all_both (λ w. AllByRecursion (λ v. AreApart v w) us) (λ w. is_used s (name w) ≡ false) (λ w. is_used (after us s) (name w) ≡ false) (λ w. free_after w us s) vs
 
 after_both : (us vs : List FileTable) (s : Schema) → after (us ++ vs) s ≡ after vs (after us s)
 after_both [] vs s = refl
@@ -153,12 +138,10 @@ names_of_both P Q [] (v ∷ vs) each first later = (each (name v) later.0, names
 names_of_both P Q (u ∷ us) vs each first later = (first.0, names_of_both P Q us vs each first.1 later)
 
 none_apart : (vs : List FileTable) → Apart [] vs
-none_apart [] = tt
-none_apart (v ∷ vs) = (tt, none_apart vs)
+none_apart vs = all_of (λ w. AllByRecursion (λ v. AreApart v w) []) (λ w. tt) vs
 
 one_more_apart : (u : FileTable) (us vs : List FileTable) → AllByRecursion (AreApart u) vs → Apart us vs → Apart (u ∷ us) vs
-one_more_apart u us [] first others = tt
-one_more_apart u us (v ∷ vs) first others = ((first.0, others.0), one_more_apart u us vs first.1 others.1)
+one_more_apart u us vs = all_both (AreApart u) (λ w. AllByRecursion (λ v. AreApart v w) us) (λ w. AllByRecursion (λ v. AreApart v w) (u ∷ us)) (λ w first others. (first, others)) vs
 
 -- where all differ, so do those of each part, and those of one part from those of the other
 parts_differ : (us vs : List FileTable) → Differ (us ++ vs) → Differ us × Differ vs × Apart us vs
@@ -204,21 +187,17 @@ pub declared_after : (ws : List FileTable) (s : Schema) → Differ ws → Indexe
 declared_after [] s apart low free w has = absurd has
 declared_after (v ∷ ws) s apart low free w (inl is) =
     let next = first_created s (table_of v 0) in
-    let here = declares s (table_of v 0) low free.0 (itself v) (keys_of v) in
+    let here = declares s (table_of v 0) low free.0 (keys_of v) in
     let there : IsDeclared (after ws next) (table_of v (next_tree s)) = through ws next (table_of v (next_tree s)) (declared_first s (table_of v 0) (table_of v (next_tree s)) here) in
     let at_v : IsDeclared (after ws next) (table_of v (tree_in (v ∷ ws) s v)) × (next_tree s ≤ tree_in (v ∷ ws) s v) = rw (tree_first v ws s) (there, omega arith) in
     subst (λ (w : FileTable). IsDeclared (after ws next) (table_of w (tree_in (v ∷ ws) s w)) × (next_tree s ≤ tree_in (v ∷ ws) s w)) (sym is) at_v
 declared_after (v ∷ ws) s apart low free w (inr later) =
     let next = first_created s (table_of v 0) in
     let other : AreApart v w = all_has (AreApart v) ws w apart.0 later in
-    let more = declared_after ws next apart.1 (low_first s (table_of v 0) low) (all_free_after (v ∷ []) ws s (each_apart ws apart.0) free.1) w later in
+    let more = declared_after ws next apart.1 (low_first s (table_of v 0) low) (all_free_after (v ∷ []) ws s (one_more_apart v [] ws apart.0 (none_apart ws)) free.1) w later in
     let above = rising_first s (table_of v 0) in
     let high = more.1 in
     rw other (more.0, omega (arith, above, high))
-  where
-    each_apart : (xs : List FileTable) → AllByRecursion (AreApart v) xs → Apart (v ∷ []) xs
-    each_apart [] all = tt
-    each_apart (x ∷ xs) all = ((all.0, tt), each_apart xs all.1)
 
 -- ---- the tables of a new file
 
@@ -227,7 +206,7 @@ differ = ((refl, (refl, (refl, (refl, (refl, tt))))), ((refl, (refl, (refl, (ref
 
 module _ (s : Schema) (none : AreAbsent s) (low : IndexesLow s) where
   each_made : (w : FileTable) → is_among new_tables w ≡ true → IsDeclared (new_layout s).schema (table_of w ((new_layout s).tree w)) × (next_tree s ≤ (new_layout s).tree w)
-  each_made w is = declared_after new_tables s differ low none w (listed w is)
+  each_made w is = declared_after new_tables s differ low none w (among_has new_tables w is)
 
   module _ (committed : Database) (rows : Trees) (now : State) (m : IsMaking committed s rows (after new_tables s) now) where
     -- a tree from the next on has no row
@@ -275,8 +254,7 @@ module _ (s : Schema) (none : AreAbsent s) (low : IndexesLow s) where
         )
 
 pub rows_there : (s : Schema) (rows : Trees) (tables : List Table) → ((t : Table) → Has tables t → t.tree < next_tree s) → AllByRecursion (λ t. rows t.tree ≡ first_rows s rows t.tree) tables
-rows_there s rows [] low = tt
-rows_there s rows (t ∷ ts) low = (rw (is_below t.tree (next_tree s) (low t (inl refl))), rows_there s rows ts (λ u has. low u (inr has)))
+rows_there s rows tables low = all_from _ tables (λ t has. rw (is_below t.tree (next_tree s) (low t has)))
 
 -- a transaction begins with what is there
 pub begins_making : {S : Type 0} (g : Ghosts S) (old : Held S) → IsDatabase (state g old).now

@@ -1,6 +1,5 @@
 -- The file of a layout once more tables are made in it.
-use Rattle.std.proofs.Common.{◌≡◌, ◌≤◌, inl, inr, true, false, List, [], ◌∷◌, map, refl, sym, ap, subst, ◌∙◌, arith, true≢false, ◌||◌}
-use Rattle.std.specs.List.{AllByRecursion}
+use Rattle.std.proofs.Common.{◌≡◌, ◌≤◌, inl, inr, true, false, List, [], refl, subst, ◌∙◌, arith}
 use Rattle.std.proofs.lemmas.Bool.{cases_Bool}
 use Rattle.std.proofs.lemmas.List.Sorted.{IsPermutation-refl}
 use Rattle.sqlite_schema.specs.declared.schema.Schema.{Schema}
@@ -27,28 +26,16 @@ use Rattle.desk_rows.specs.Layout.{Layout}
 use Rattle.desk_rows.specs.Making.{AreFreeIn, Differ, IsFileWithTables, MakesTables, WritesWithTables, after, is_among, tree_in, with_none, with_tables}
 use Rattle.desk_rows.specs.Puts.{PutsAll, puts_into}
 use Rattle.desk_rows.specs.States.{IsUnder}
-use Rattle.desk_rows.proofs.RowPuts.Changing.{same}
+use Rattle.sqlite_trees.proofs.ListLemmas.{all_from_map}
 use Rattle.desk_rows.proofs.Transactions.Committing.{begins, shows_on}
-use Rattle.desk_rows.proofs.Schema.MadeTables.{declared_after, has_after, is_below, rows_there, through}
-
--- a table among these is one of them
-among_has : (ws : List FileTable) (v : FileTable) → is_among ws v ≡ true → Has ws v
-among_has [] v is = absurd (true≢false (sym is))
-among_has (w ∷ ws) v is = elim (same w v) [
-  | inl one ↦ inl (sym one)
-  | inr other ↦ inr (among_has ws v (ap (λ b. b || is_among ws v) (sym other) ∙ is))
-]
-
-unmapped : (s : Schema) (ws : List FileTable) → AllByRecursion (λ n. is_used s n ≡ false) (map (λ w. (description_of w).name) ws) → AreFreeIn s ws
-unmapped s [] free = tt
-unmapped s (w ∷ ws) free = (free.0, unmapped s ws free.1)
+use Rattle.desk_rows.proofs.Schema.MadeTables.{among_has, declared_after, has_after, is_below, rows_there, through}
 
 module _ (l : Layout) (c : Contents) (ws : List FileTable) (differ : Differ ws) (committed : Database) (old new : State) (was : IsUnder committed l c old) (makes : MakesTables ws old new) where
   abbrev s : Schema
   s = l.schema
 
   free : AreFreeIn s ws
-  free = subst (λ s. AreFreeIn s ws) was.shows.schema (unmapped old.now.schema ws makes.taken.0)
+  free = subst (λ s. AreFreeIn s ws) was.shows.schema (all_from_map (λ n. is_used old.now.schema n ≡ false) (λ w. (description_of w).name) ws makes.taken.0)
 
   start : IsMaking committed s old.now.trees s old
   start = record {

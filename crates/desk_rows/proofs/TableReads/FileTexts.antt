@@ -5,8 +5,9 @@ use Rattle.sqlite_value.specs.Order.{Row}
 use Rattle.sqlite_trees.specs.Tree.{Trees}
 use Rattle.sql_tables.specs.Kinds.{HaveIntegerRowids, IsUtf8Text}
 use Rattle.sql_tables.specs.Rows.{columns_at}
-use Rattle.sql_tables.proofs.RowKinds.{IsKept, all_both, kept}
-use Rattle.sql_tables.proofs.RowTexts.{behind, each_of, in_rows}
+use Rattle.sqlite_trees.proofs.ListLemmas.{all_both}
+use Rattle.sql_tables.proofs.RowKinds.{IsKept, kept}
+use Rattle.sql_tables.proofs.RowTexts.{behind, in_rows}
 use Rattle.desk_rows.specs.TableQuery.{AreReadable}
 use Rattle.desk_rows.specs.Contents.{Contents}
 use Rattle.desk_rows.specs.Descriptions.{description_of, shows_rowid, table_of}
@@ -68,7 +69,8 @@ module _ (l : Layout) (c : Contents) (db : Trees) (is : IsFile l c db) where
   pub readable_table : (w : FileTable) → l.has w ≡ true → AllByRecursion (IsUtf8Row w) (c.rows w) → AreReadable w (db (l.tree w))
   readable_table w there utf8 =
       let texts = in_rows (columns_of w) (columns_at (description_of w).own) (IsUtf8Row w) (columns_utf8 w) (c.rows w) (db (l.tree w)) utf8 (is.holds.tables w there) in
-      let all = each_of _ _ (db (l.tree w)) (λ row both. row_utf8 w (l.tree w) row both.0 both.1) (all_both _ _ (db (l.tree w)) (kept l.schema (table_of w (l.tree w)) (is.declared w there) db is.sound) texts) in
+      let own = kept l.schema (table_of w (l.tree w)) (is.declared w there) db is.sound in
+      let all = all_both (IsKept (table_of w (l.tree w))) (λ row. AllByRecursion IsUtf8Text (columns_at (description_of w).own row)) (λ row. AllByRecursion IsUtf8Text (drop 1 row)) (row_utf8 w (l.tree w)) (db (l.tree w)) own texts in
       record { ids = rowids w there; texts = λ has. all }
 
   pub readable : AreUtf8 c → (w : FileTable) → l.has w ≡ true → AreReadable w (db (l.tree w))

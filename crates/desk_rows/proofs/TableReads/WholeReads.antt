@@ -5,12 +5,11 @@ use Rattle.std.specs.List.Sorted.{IsSortedBy}
 use Rattle.std.specs.Ordering.{ordering_then}
 use Rattle.std.specs.declared.cmp.Ordering.{Ordering}
 use Rattle.std.specs.declared.cmp.Ordering.TheVariants.{Equal}
-use Rattle.sqlite_value.specs.declared.keys.Collation.TheVariants.{Binary}
-use Rattle.sqlite_value.specs.Keys.{ascending}
 use Rattle.sqlite_value.specs.Order.{Row, column, value_cmp}
 use Rattle.sqlite_schema.specs.declared.schema.Schema.{Schema}
 use Rattle.sqlite_trees.specs.Tree.{rowid}
 use Rattle.sqlite_trees.specs.View.{is_int}
+use Rattle.sqlite_trees.proofs.ListLemmas.{all_both}
 use Rattle.sqlite_sql.specs.Term.{col, eval_all}
 use Rattle.sqlite_sql.specs.Query.{output_cmp}
 use Rattle.sqlite_resolve.specs.Compile.{first}
@@ -22,21 +21,22 @@ use Rattle.desk_parts.specs.declared.file_table.FileTable.TheVariants as tables
 use Rattle.sql_tables.specs.Rows.{Lists}
 use Rattle.sql_tables.specs.Kinds.{IsUtf8Text, HasKinds}
 use Rattle.sql_tables.specs.Tables.{IsDeclared}
-use Rattle.sql_tables.proofs.Faults.{IsStoreFailure}
+use Rattle.sql_tables.proofs.Answered.{IsStoreFailure}
 use Rattle.sql_tables.proofs.OneTable.{query_on}
 use Rattle.sql_tables.proofs.Orders.{Rises}
 use Rattle.sql_tables.proofs.Parsing.{parsed}
 use Rattle.sql_tables.proofs.Quiet.{reads}
-use Rattle.sql_tables.proofs.RowKinds.{IsKept, integer_of, numbered_kinds, hidden_kinds, all_texts, all_both, all_shown}
-use Rattle.sql_tables.proofs.WholeTables.{rows_are, fails_by_store}
+use Rattle.sql_tables.proofs.RowKinds.{IsKept, integer_of, numbered_kinds, hidden_kinds, all_texts, all_shown}
+use Rattle.sql_tables.proofs.ReadAnswers.{fails_by_store}
+use Rattle.sql_tables.proofs.WholeTables.{parts, reads_only as only_reads, rows_are}
 use Rattle.sql_tables.specs.Rows.{columns_at}
 use Rattle.desk_rows.specs.TableQuery.{AreReadable, given, query_of}
 use Rattle.desk_rows.specs.Descriptions.{description_of, table_of, shows_rowid, has_texts}
-use Rattle.desk_rows.proofs.TableReads.PlainReads.{is_read, stored_at}
+use Rattle.desk_rows.proofs.TableReads.PlainReads.{is_read, sort_terms}
 
 -- ---- each table
 
-keys_are : (w : FileTable) (r : Row) → eval_all (map (λ k. col 1 (stored_at w k)) (description_of w).sorted) ([] ∷ r ∷ []) ≡ columns_at (description_of w).sorted (columns_at (description_of w).shown r)
+keys_are : (w : FileTable) (r : Row) → eval_all (sort_terms w) ([] ∷ r ∷ []) ≡ columns_at (description_of w).sorted (columns_at (description_of w).shown r)
 keys_are tables.Book r = refl
 keys_are tables.Tab r = refl
 keys_are tables.Para r = refl
@@ -79,8 +79,7 @@ rows_cmp w = places_cmp (description_of w).sorted
 -- how the query compares two rows
 abbrev cmp : FileTable → ℕ → Row → Row → Ordering
 cmp w tree a b =
-    output_cmp (query_on tree (record { tests = []; project = map (col 1) (description_of w).shown; order = map (λ t. (t, ascending Binary)) (map (λ k. col 1 (stored_at w k)) (description_of w).sorted) }))
-    (columns_at (description_of w).sorted a, a) (columns_at (description_of w).sorted b, b)
+    output_cmp (query_on tree (parts (map (col 1) (description_of w).shown) (sort_terms w))) (columns_at (description_of w).sorted a, a) (columns_at (description_of w).sorted b, b)
 
 cmp_is : (w : FileTable) (tree : ℕ) (a b : Row) → cmp w tree a b ≡ rows_cmp w a b
 cmp_is tables.Book tree a b = refl
@@ -111,18 +110,16 @@ shows_are [] r = refl
 shows_are (p ∷ ps) r = ap (λ vs. column r p ∷ vs) (shows_are ps r)
 
 pub reads_only : (w : FileTable) → reads (first (description_of w).read) ≡ true
-reads_only w = (is_read w).reads_only
+reads_only w = only_reads (table_of w 0) (description_of w).read _ _ _ _ (is_read w 0)
 
 module _ (w : FileTable) (schema : Schema) (tree : ℕ) (d : IsDeclared schema (table_of w tree)) (old new : State) (has : old.now.schema ≡ schema) (sound : IsSound schema old.now.trees) where
   found : (rows : List Row) → Shown (description_of w).read [] old new rows → IsPermutation (map (columns_at (description_of w).shown) (old.now.trees tree)) rows × Rises (λ a b. is_lt (cmp w tree a b)) rows
-  unfolding is_read
-  found rows h = rows_are (description_of w).name (description_of w).columns (description_of w).key (description_of w).primary (description_of w).uniques (description_of w).orders (description_of w).read (is_read w) schema tree d old new has sound
+  found rows h = rows_are (table_of w tree) (description_of w).read _ _ _ _ (is_read w tree) schema d old new has sound
       (columns_at (description_of w).shown) (columns_at (description_of w).sorted) (shows_are (description_of w).shown) (keys_are w) rows h
 
   -- what is read are the rows of the tree, in order
   pub table_read : {X : Type 0} (written : X → Row) (order : X → X → Ordering) → ((a b : X) → rows_cmp w (written a) (written b) ≡ order a b)
       → (rows : List Row) (xs : List X) → Shown (description_of w).read [] old new rows → map (given w) rows ≡ map written xs → Lists written (columns_at (description_of w).shown) xs (old.now.trees tree) × IsSortedBy (λ a b. is_lt (order a b)) xs
-  unfolding is_read
   table_read written order ordered rows xs h is =
       let all = found rows h in
       parsed (columns_at (description_of w).shown) (given w) written (given_again w) (λ a b. is_lt (cmp w tree a b)) (cmp_given w tree) (λ a b. is_lt (order a b)) (λ a b. ap is_lt (cmp_is w tree (written a) (written b) ∙ ordered a b)) (old.now.trees tree) rows xs all.0 all.1 is
@@ -131,8 +128,9 @@ module _ (w : FileTable) (schema : Schema) (tree : ℕ) (d : IsDeclared schema (
   pub table_kinds : (rows : List Row) → Shown (description_of w).read [] old new rows → AreReadable w (old.now.trees tree) → AllByRecursion (HasKinds (query_of w).kinds) rows
   table_kinds rows h readable =
       all_shown schema (table_of w tree) d old.now.trees sound (IsReadable w) (columns_at (description_of w).shown) (query_of w).kinds (row_kinds w tree) rows
-      (all_both _ _ _ (all_if (shows_rowid w) _ _ readable.ids) (all_if (has_texts w) _ _ readable.texts)) (found rows h).0
+      (all_both (λ r. shows_rowid w ≡ true → IsTrue (is_int (rowid r))) (λ r. has_texts w ≡ true → AllByRecursion IsUtf8Text (drop 1 r)) (IsReadable w) (λ r ids texts. (ids, texts)) (old.now.trees tree)
+      (all_if (shows_rowid w) _ _ readable.ids) (all_if (has_texts w) _ _ readable.texts)) (found rows h).0
 
   -- only the store makes the reading fail
   pub table_fails : old.step_limit ≡ None → (e : Error) → FailsToQuery (description_of w).read [] old new e → IsStoreFailure e
-  table_fails = fails_by_store (description_of w).name (description_of w).columns (description_of w).key (description_of w).primary (description_of w).uniques (description_of w).orders (description_of w).read (is_read w) schema tree d old new has sound
+  table_fails = fails_by_store (table_of w tree) (description_of w).read _ _ _ _ (is_read w tree) schema d old has sound new

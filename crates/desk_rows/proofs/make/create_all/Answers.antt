@@ -1,3 +1,4 @@
+use Rattle.sqlite_trees.proofs.ListLemmas.{all-get_or}
 use Rattle.std.proofs.Common.{◌≡◌, ◌+◌, ◌++◌, List, arith, sym, subst, take, drop, map, true, ap, ◌∙◌, take_all, get_or, ◌∷◌, []}
 use Rattle.std.proofs.lemmas.List.{drop_more, take-append-drop, take_more}
 use Rattle.std.proofs.lemmas.Result.{err_from_is_err_and}
@@ -10,12 +11,12 @@ use Rattle.sql_tables.specs.States.{seen}
 use Rattle.desk_rows.specs.Descriptions.{description_of}
 use Rattle.desk_rows.specs.Making.{AreMade, MakesTables, creation}
 use Rattle.desk_rows.specs.Turns.{RunInTurn}
-use Rattle.desk_rows.proofs.Schema.MadeTables.{all_at, makes_then}
+use Rattle.desk_rows.proofs.Schema.MadeTables.{makes_then}
 use Rattle.desk_rows.proofs.Transactions.Turns.{one_more_ran}
 use Rattle.desk_rows.proofs.make.create_all.Goals as goal
 
 pub create-requires : goal.create-requires
-create-requires g c = all_at (λ t. (description_of t).is_written ≡ true) c.args.tables.now c.loop-table.table-index tables.Book c.loop-table-test.true c.requires
+create-requires g c = all-get_or (λ t. (description_of t).is_written ≡ true) c.args.tables.now c.loop-table.table-index tables.Book c.requires c.loop-table-test.true
 
 pub loop-table-preserved : goal.loop-table-preserved
 loop-table-preserved g c =
