@@ -1,5 +1,5 @@
--- The text that makes a table.
-use Rattle.std.proofs.Common.{◌≡◌, ℕ, ◌≤◌, Bool, true, false, nat_lt, if◌then◌else◌, ◌==◌, List, [], ◌∷◌, ◌++◌, length, codes, slice_range, Ok, sym, ap, subst, ◌∙◌, arith, MatchBool}
+-- The text that makes a table, which finds its name free and frees none.
+use Rattle.std.proofs.Common.{◌≡◌, ℕ, ◌≤◌, Bool, true, false, nat_lt, if◌then◌else◌, ◌==◌, List, [], ◌∷◌, ◌++◌, length, codes, slice_range, Ok, sym, ap, subst, ◌∙◌, arith, MatchBool, Err, Result, refl, inl, inr}
 use Rattle.std.specs.List.{AllByRecursion}
 use Rattle.std.proofs.lemmas.Bool.Decides.{nat_tests}
 use Rattle.sqlite_trees.specs.Tree.{Trees}
@@ -12,16 +12,20 @@ use Rattle.sqlite_resolve.specs.Compile.{is_reserved, table_defined_by}
 use Rattle.sqlite_resolve.specs.Define as define
 use Rattle.sqlite_catalog.specs.Change.{created, is_used, next_tree, KeepsRows}
 use Rattle.sqlite_catalog.specs.Listing.{IsSound}
-use Rattle.sqlite.proofs.Callers.{statement_of}
-use Rattle.sqlite.specs.Does.{lacks_sequence}
+use Rattle.sqlite.proofs.Callers.{statement_of, command_of, runs_as}
+use Rattle.sqlite.specs.Does.{lacks_sequence, Tally, MakesTable, sequence_text}
 use Rattle.sqlite.specs.Effect.{Database, SparesFrozen}
-use Rattle.sqlite.specs.State.{State, ExecutesInside}
-use Rattle.sql_tables.specs.Making.{IsForeignTree, IsMaking, KeepsAside, first_created, first_rows}
+use Rattle.sqlite.specs.State.{State, ExecutesInside, ExecutesIn, Executes}
+use Rattle.sql_tables.specs.Making.{IsForeignTree, IsMaking, KeepsAside, first_created, first_rows, AreFree, FreesNone}
 use Rattle.sql_tables.specs.Tables.{counter}
-use Rattle.sql_tables.proofs.Counting.{foreign_first, lacks_as_before, rising, rising_first, views_first}
+use Rattle.sql_tables.proofs.Creating.{foreign_first, lacks_as_before, rising, rising_first, views_first, absent_before}
 use Rattle.sql_tables.proofs.Frozen.{is_frozen, still_frozen}
-use Rattle.sql_tables.proofs.Meaning.{IsText, parse_of, create_is}
-use Rattle.sql_tables.proofs.Running.{Grows, create_ran}
+use Rattle.sql_tables.proofs.Meaning.{IsText, parse_of, create_is, create_fails}
+use Rattle.sql_tables.proofs.Running.{Grows, create_ran, plain_if}
+use Rattle.std.proofs.lemmas.Bool.{or_parts, cases_Bool}
+use Rattle.sqlite_schema.specs.declared.command.Command.TheVariants.{CreateTable as MakeTable}
+use Rattle.sqlite.specs.Rows.{Gives}
+use Rattle.sql_tables.proofs.Writing.{went, same_value}
 
 -- the text makes this table
 pub record IsMake (text : List ℕ) (table : Table) : Type 0 where
@@ -92,3 +96,47 @@ makes_first text table m committed first rows before old new count was free h =
       inside = made.shown.mode ∙ was.inside;
       over = (rw was.inside at made.shown.committed_is) ∙ was.over;
     }
+
+-- ---- the name was free, and none is freed
+
+free_before : (s : Schema) (table : Table) (name : List ℕ) → is_used (created s table) name ≡ false → is_used s name ≡ false
+free_before s table name free =
+    let both = or_parts _ _ free in
+    let first = or_parts _ _ both.0 in
+    rw (absent_before _ s.tables _ first.0, absent_before _ s.indexes _ first.1, both.1)
+
+statement_free : (text : List ℕ) (table : Table) (m : IsMake text table) (old new : State) (count : ℕ) → Executes text [] old new (Ok count) → is_used old.now.schema table.name ≡ false
+unfolding ExecutesIn
+statement_free text table m old new count h = elim (cases_Bool (is_used old.now.schema table.name)) [
+  | inl used ↦ (
+      let fails = create_fails old.now.schema text m.def m.is_text m.always (ap (is_used old.now.schema) m.name ∙ used) in
+      let both : ◌≡◌ {A = _} (Ok h.0) (Err fails.0) = sym h.1.is ∙ fails.1 in
+      absurd (cc)
+      )
+  | inr free ↦ free
+]
+
+sequence_frees_none : (b : Bool) (mid after : Database) → MatchBool b (MakesTable sequence_text mid (Ok after)) (Gives mid (Ok after)) → (name : List ℕ) → is_used after.schema name ≡ false → is_used mid.schema name ≡ false
+sequence_frees_none true mid after h name free = free_before mid.schema h.table name (subst (λ s. is_used s name ≡ false) h.is free)
+sequence_frees_none false mid after h name free = subst (λ (d : Database). is_used d.schema name ≡ false) (same_value h) free
+
+pub takes : (text : List ℕ) (table : Table) (m : IsMake text table) (old new : State) (count : ℕ) → ExecutesInside 0 text [] old new (Ok count) → AreFree (table.name ∷ []) old × FreesNone old new
+takes text table m old new count h =
+    let schema = old.now.schema in
+    let free = statement_free text table m old new count h.0 in
+    let means = create_is schema text m.def table m.is_text (ap (is_used schema) m.name ∙ free) m.own m.defined m.plain m.unresolved in
+    let w = runs_as text [] old new schema refl MakeTable (ap command_of means) (plain_if schema text MakeTable means) count h.0 in
+    let all = went w.changed in
+    let first = went all.1 in
+    let now : new.now ≡ all.0 = ap (λ (p : Tally × Database). p.1) (same_value all.2) in (
+      (free, tt),
+      λ name unused.
+          let late = subst (λ (d : Database). is_used d.schema name ≡ false) now unused in
+          let mid = sequence_frees_none (lacks_sequence first.0.schema) first.0 all.0 first.2 name late in
+          free_before schema first.1.table name (subst (λ s. is_used s name ≡ false) first.1.is mid),
+    )
+
+-- a statement that ran did so within its transaction
+pub within : {X E R : Type 0} {x : X} {e : E} (inside : Bool) → (inside ≡ false → (◌≡◌ {A = Result X E} (Ok x) (Err e)) × R) → inside ≡ true
+within true ended = refl
+within false ended = absurd (let none = (ended refl).0 in cc)

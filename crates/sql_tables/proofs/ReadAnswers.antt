@@ -30,14 +30,13 @@ use Rattle.sqlite.specs.State.{FailsToQuery, IsStatement, Shown, State}
 use Rattle.sqlite.proofs.StateLemmas.{unchanged}
 use Rattle.sql_tables.specs.States.{HasAnswer}
 use Rattle.sql_tables.specs.Tables.{IsDeclared}
-use Rattle.sql_tables.proofs.Answered.{IsStoreFailure, answered_fails}
+use Rattle.sql_tables.proofs.Quiet.{IsStoreFailure, answered_fails}
 use Rattle.sql_tables.proofs.Declaring.{classes_are, low_tree, uncovered}
 use Rattle.sql_tables.proofs.Meaning.{parse_of}
 use Rattle.sql_tables.proofs.OneTable.{Parts, program_on, query_on, typed_as}
-use Rattle.sql_tables.proofs.Orders.{sorted}
+use Rattle.sql_tables.proofs.Orders.{sorted, in_order, rises_so, same_list}
 use Rattle.sql_tables.proofs.Running.{Means}
 use Rattle.sql_tables.proofs.WholeTables.{IsRead, heads, parts as parts_of, reads_only, text_means}
-use Rattle.sql_tables.proofs.InOrder.{in_order, rises_so, same_list}
 
 -- ---- the order of a query
 

@@ -1,16 +1,19 @@
--- What SELECT of a whole table in order shows.
-use Rattle.std.proofs.Common.{◌≡◌, ℕ, List, [], ◌∷◌, map, refl, sym, ap, subst, ◌∙◌, is_lt, IsPermutation}
+-- What SELECT of a whole table in order shows, and what is read from its rows.
+use Rattle.std.proofs.Common.{◌≡◌, ℕ, List, [], ◌∷◌, map, refl, sym, ap, subst, ◌∙◌, is_lt, IsPermutation, Bool}
 use Rattle.std.specs.List.{flat_map}
 use Rattle.sqlite_value.specs.declared.keys.Key.{Key}
 use Rattle.sqlite_value.specs.declared.keys.Collation.TheVariants.{Binary}
 use Rattle.sqlite_value.specs.Keys.{ascending}
 use Rattle.sqlite_value.specs.Order.{Row}
 use Rattle.sqlite_trees.specs.Tree.{Trees}
-use Rattle.sqlite_trees.proofs.ListLemmas.{pull_back}
+use Rattle.sqlite_trees.proofs.ListLemmas.{pull_back, map-map}
 use Rattle.sqlite_sql.specs.Term.{Term, eval_all}
 use Rattle.sqlite_sql.specs.Query.{Query, Output, IsAnswer, output, output_cmp}
 use Rattle.sql_tables.proofs.OneTable.{query_on}
-use Rattle.sql_tables.proofs.Orders.{Rises, rises, rises_back}
+use Rattle.sql_tables.proofs.Orders.{Rises, rises, rises_back, rises_map, sorted}
+use Rattle.std.specs.List.Sorted.{IsSortedBy}
+use Rattle.std.proofs.lemmas.List.Sorted.{IsPermutation-map, IsPermutation-sym}
+use Rattle.sql_tables.specs.Rows.{Lists}
 
 module _ (tree : ℕ) (project terms : List Term) (show key : Row → Row) (shows : (r : Row) → eval_all project ([] ∷ r ∷ []) ≡ show r) (sorts : (r : Row) → eval_all terms ([] ∷ r ∷ []) ≡ key (show r)) where
   -- a row that is shown, with what it is sorted by
@@ -44,3 +47,16 @@ module _ (tree : ℕ) (project terms : List Term) (show key : Row → Row) (show
         subst (IsPermutation (map show (db tree))) (sym same) back.1,
         subst (Rises (λ a b. is_lt (output_cmp query (shown_by a) (shown_by b)))) (sym same) (rises_back shown_by (λ a b. is_lt (output_cmp query (shown_by a) (shown_by b))) (λ a b. is_lt (output_cmp query a b)) (λ a b. refl) back.0 up),
       )
+
+-- ---- from the rows that it shows to the values that are read from them
+
+module _ {X : Type 0} (show given : Row → Row) (written : X → Row) (same : (r : Row) → given (show r) ≡ show r) (lt : Row → Row → Bool) (kept : (a b : Row) → lt a b ≡ lt (given a) (given b))
+    (below : X → X → Bool) (means : (x y : X) → lt (written x) (written y) ≡ below x y) where
+  given_again : (rows : List Row) → map given (map show rows) ≡ map show rows
+  given_again rows = map-map given show rows ∙ (λ i. map (λ r. same r i) rows)
+
+  -- what is read is what the tree has, in order
+  pub parsed : (there rows : List Row) (xs : List X) → IsPermutation (map show there) rows → Rises lt rows → map given rows ≡ map written xs → Lists written show xs there × IsSortedBy below xs
+  parsed there rows xs all up is =
+      let moved : IsPermutation (map show there) (map written xs) = subst (IsPermutation (map show there)) is (subst (λ front. IsPermutation front (map given rows)) (given_again there) (IsPermutation-map given _ _ all)) in
+      (IsPermutation-sym _ _ moved, sorted below xs (rises_back written below lt (λ x y. sym (means x y)) xs (subst (Rises lt) is (rises_map given lt lt kept rows up))))

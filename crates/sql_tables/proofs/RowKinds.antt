@@ -1,4 +1,4 @@
--- The kinds of the values in a tree's rows, by what a sound database asks of them.
+-- The kinds of the values in a tree's rows, and their texts, by what a sound database asks of them.
 use Rattle.std.proofs.Common.{◌≡◌, ℕ, zero, suc, ◌+◌, ◌≤◌, Bool, true, false, not, cond, ◌&&◌, ◌||◌, ◌==◌, List, [], ◌∷◌, drop, map, Option, Some, None, refl, sym, ap, subst, ◌∙◌, true≢false, IsTrue, IsPermutation, arith}
 use Rattle.std.specs.List.{AllByRecursion, list_all}
 use Rattle.std.proofs.lemmas.Bool.{and_parts}
@@ -8,7 +8,7 @@ use Rattle.sqlite_value.specs.declared.value.Value.TheVariants as value
 use Rattle.sqlite_value.specs.Order.{Row, column}
 use Rattle.sqlite_trees.specs.Tree.{Trees}
 use Rattle.sqlite_trees.specs.View.{is_int}
-use Rattle.sqlite_trees.proofs.ListLemmas.{all-map, all-permutation, all_both, all_of}
+use Rattle.sqlite_trees.proofs.ListLemmas.{all-map, all-permutation, all_both, all_of, all_from_map, all_weaker}
 use Rattle.sqlite_sql.specs.Ops.{is_null}
 use Rattle.sqlite_schema.specs.declared.schema.Kind.{Kind}
 use Rattle.sqlite_schema.specs.declared.schema.Kind.TheVariants.{Integer, Real, Text, Blob, Any}
@@ -18,7 +18,7 @@ use Rattle.sqlite_schema.specs.declared.schema.Constraint.TheVariants.{Datatype,
 use Rattle.sqlite_schema.specs.declared.schema.Schema.{Schema}
 use Rattle.sqlite_schema.specs.declared.schema.Table.{Table}
 use Rattle.sqlite_schema.specs.Names.{is_key}
-use Rattle.sqlite_schema.specs.Rules.{is_of, has_affinity, are_typed, are_present, passes}
+use Rattle.sqlite_schema.specs.Rules.{is_of, has_affinity, are_typed, are_present, passes, suits}
 use Rattle.sqlite_rules.specs.Lists.{Has}
 use Rattle.sqlite_rules.proofs.ListLemmas.{all_from}
 use Rattle.sqlite_rules.proofs.RuleLemmas.{keeps_at}
@@ -27,6 +27,8 @@ use Rattle.sqlite.specs.Values.{IsInt}
 use Rattle.sql_tables.specs.Kinds.{IsOfKind, HasKinds, IsUtf8Text}
 use Rattle.sql_tables.specs.Tables.{IsDeclared}
 use Rattle.sql_tables.proofs.Declaring.{has_table}
+use Rattle.std.specs.Prelude.{⊤}
+use Rattle.sql_tables.specs.Rows.{Lists}
 
 -- a value that STRICT accepts, and that isn't NULL
 of_kind : (k : Kind) (v : Value) → is_of k v ≡ true → is_null v ≡ false → (k ≡ Text → IsUtf8Text v) → IsOfKind k v
@@ -142,3 +144,38 @@ module _ (schema : Schema) (table : Table) (d : IsDeclared schema table) (db : T
       → AllByRecursion P (db table.tree) → IsPermutation (map show (db table.tree)) rows → AllByRecursion (HasKinds kinds) rows
   all_shown P show kinds each rows all same =
       all-permutation _ _ _ same (all-map (HasKinds kinds) show (db table.tree) (all_both (IsKept table) P (λ row. HasKinds kinds (show row)) each (db table.tree) kept all))
+
+-- ---- the texts in the rows are those of their values
+
+of_null : (v : Value) → is_null v ≡ true → IsUtf8Text v
+of_null value.Null is = tt
+of_null (value.Int n) is = tt
+of_null (value.Real x) is = tt
+of_null (value.Text t) is = absurd (true≢false (sym is))
+of_null (value.Blob b) is = tt
+
+-- the values for these columns are so, but for the one that the rowid stands for
+abbrev AreUtf8From : Option ℕ → ℕ → List Column → Row → Type 0
+AreUtf8From key at [] row = ⊤
+AreUtf8From key at (c ∷ cs) row = (is_key key at ≡ false → IsUtf8Text (column row (at + 1))) × AreUtf8From key (at + 1) cs row
+
+module _ (key : Option ℕ) (row : Row) where
+  texts_from : (at : ℕ) (cs : List Column) (vs : Row) → GoesOn at vs row → AreUtf8From key at cs row → are_typed key at cs vs ≡ true → AllByRecursion IsUtf8Text vs
+  texts_from at [] [] on shown typed = tt
+  texts_from at [] (v ∷ vs) on shown typed = absurd (true≢false (sym typed))
+  texts_from at (c ∷ cs) [] on shown typed = tt
+  texts_from at (c ∷ cs) (v ∷ vs) on shown typed = (here (is_key key at) refl (and_parts _ _ typed).0, texts_from (at + 1) cs vs (later at (v ∷ vs) row on) shown.1 (and_parts _ _ typed).1)
+    where
+      here : (b : Bool) → is_key key at ≡ b → cond b (is_null v) (suits c v) ≡ true → IsUtf8Text v
+      here true is fits = of_null v fits
+      here false is fits = subst IsUtf8Text (sym (on 0 (at + 1) (omega arith))) (shown.0 is)
+
+-- a row has no more than its rowid and a value for each column
+pub behind : (table : Table) (row : Row) → IsKept table row → AreUtf8From table.key 0 table.columns row → AllByRecursion IsUtf8Text (drop 1 row)
+behind table row kept shown = texts_from table.key row 0 table.columns (drop 1 row) (goes_on row) shown kept.typed
+
+pub in_rows : {X : Type 0} (written : X → Row) (columns : Row → Row) (P : X → Type 0) → ((x : X) → P x → AllByRecursion IsUtf8Text (written x)) → (xs : List X) (rows : List Row) → AllByRecursion P xs → Lists written columns xs rows
+    → AllByRecursion (λ row. AllByRecursion IsUtf8Text (columns row)) rows
+in_rows written columns P each xs rows all lists =
+    let shown = all-map (AllByRecursion IsUtf8Text) written xs (all_weaker P (λ x. AllByRecursion IsUtf8Text (written x)) each xs all) in
+    all_from_map (AllByRecursion IsUtf8Text) columns rows (all-permutation _ _ _ lists shown)

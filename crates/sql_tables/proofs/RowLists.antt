@@ -1,19 +1,21 @@
--- Rows in a tree.
-use Rattle.std.proofs.Common.{◌≡◌, inl, inr, ℤ, ◌≤◌, Bool, true, false, not, cond, List, [], ◌∷◌, filter, length, refl, sym, ap, subst, ◌∙◌, Ordering, Less, Equal, Greater, is_eq, int_cmp, true≢false, IsPermutation, arith, ◌<ℤ◌}
+-- Rows in a tree, and the lists of what they show.
+use Rattle.std.proofs.Common.{◌≡◌, inl, inr, ℤ, ◌≤◌, Bool, true, false, not, cond, List, [], ◌∷◌, filter, length, refl, sym, ap, subst, ◌∙◌, Ordering, Less, Equal, Greater, is_eq, int_cmp, true≢false, IsPermutation, arith, ◌<ℤ◌, pos, map, subst₂}
 use Rattle.std.specs.List.{AllByRecursion, list_any}
 use Rattle.std.specs.Ordering.{match_ordering, MatchOrdering}
 use Rattle.std.proofs.lemmas.Bool.{false_from_ne_true, not-true, or_parts}
 use Rattle.std.proofs.lemmas.Cmp.{int_ranked, tied_itself}
-use Rattle.std.proofs.lemmas.List.Sorted.{IsPermutation-refl, IsPermutation-sym, IsPermutation-trans, IsPermutation-cons, IsPermutation-middle, length_permutation}
+use Rattle.std.proofs.lemmas.List.Sorted.{IsPermutation-refl, IsPermutation-sym, IsPermutation-trans, IsPermutation-cons, IsPermutation-middle, length_permutation, IsPermutation-map}
 use Rattle.sqlite_value.specs.declared.value.Value.TheVariants.{Int}
 use Rattle.sqlite_value.specs.Order.{Row, value_cmp}
 use Rattle.sqlite_value.proofs.OrderLemmas.{value_cmp-Int, value_cmp_total}
 use Rattle.sqlite_trees.specs.Tree.{rowid, has_rowid, put_row, without_rowid}
-use Rattle.sqlite_trees.proofs.ListLemmas.{all-filter, all-map, all-permutation, all_from_map, all_of, filter_none, IsPermutation-filter}
+use Rattle.sqlite_trees.proofs.ListLemmas.{all-filter, all-map, all-permutation, all_from_map, all_of, filter_none, IsPermutation-filter, map-map}
 use Rattle.sqlite_rules.specs.Lists.{Has}
 use Rattle.sqlite_rules.proofs.ListLemmas.{all_from, all_has, has_filtered, has_kept, some_from}
 use Rattle.sqlite_rules.proofs.TableLemmas.{none_found}
 use Rattle.sql_tables.specs.Rows.{HaveRowids, Lists}
+use Rattle.std.proofs.lemmas.List.{map-id}
+use Rattle.sqlite_value.specs.declared.value.Value.{Value}
 
 -- what a list has fails a test that nothing of it passes
 pub none_has : {X : Type 0} (p : X → Bool) (xs : List X) (x : X) → list_any p xs ≡ false → Has xs x → p x ≡ false
@@ -98,3 +100,21 @@ module _ {X : Type 0} (written : X → Row) (columns : Row → Row) where
   shows_one xs rows lists r has =
       let all = all-map (λ s. (x : X) × (s ≡ written x)) written xs (all_of _ (λ x. (x, refl)) xs) in
       all_has _ rows r (all_from_map (λ s. (x : X) × (s ≡ written x)) columns rows (all-permutation _ _ _ lists all)) has
+
+-- ---- the rows of a tree are those of one list, up to their order
+
+abbrev pub integer : Value → ℤ
+integer (Int n) = n
+integer _ = pos 0
+
+module _ {X : Type 0} (written : X → Row) (back : Row → X) (undone : (x : X) → back (written x) ≡ x) (columns : Row → Row) where
+  all_undone : (xs : List X) → map back (map written xs) ≡ xs
+  all_undone xs = map-map back written xs ∙ (λ i. map (λ x. undone x i) xs) ∙ map-id xs
+
+  pub one_list : (xs ys : List X) (rows : List Row) → Lists written columns xs rows → Lists written columns ys rows → IsPermutation xs ys
+  one_list xs ys rows p q =
+      subst₂ IsPermutation (all_undone xs) (all_undone ys) (IsPermutation-map back _ _ (IsPermutation-trans _ _ _ p (IsPermutation-sym _ _ q)))
+
+-- the same rows in another order
+pub other_order : {X : Type 0} (written : X → Row) (columns : Row → Row) (xs ys : List X) (rows : List Row) → IsPermutation xs ys → Lists written columns xs rows → Lists written columns ys rows
+other_order written columns xs ys rows same lists = IsPermutation-trans _ _ _ (IsPermutation-map written _ _ (IsPermutation-sym _ _ same)) lists

@@ -1,24 +1,192 @@
--- What an UPDATE of one row by the rowid does to a table.
-use Rattle.std.proofs.Common.{◌≡◌, ℕ, suc, ℤ, ◌==◌, ◌∙◌, if◌then◌else◌, true, List, [], ◌∷◌, drop, length, map, replicate, Ok, refl, sym, ap}
+-- What an UPDATE of one row by the rowid means, and what it does to a table, whatever else the schema has.
+use Rattle.std.proofs.Common.{◌≡◌, ◌-◌, ◌==◌, if◌then◌else◌, nat_lt, ◌⊎◌, inl, inr, ℕ, ℤ, suc, ◌<◌, ◌≤◌, sym, ap, subst, ◌∙◌, filter, map, length, drop, replicate, is_eq, IsTrue, arith, true, false, List, [], ◌∷◌, slice_get, Some, None, Ok, refl}
+use Rattle.sqlite_value.specs.declared.keys.Collation.TheVariants.{Binary}
+use Rattle.sqlite_sql.specs.Term.{Term, col, lit, eval_all}
+use Rattle.sqlite_ast.specs.declared.Binary.TheVariants as binary
+use Rattle.sqlite_ast.specs.declared.Expr.{Expr}
+use Rattle.sqlite_ast.specs.declared.Expr.TheOpen.{Expr-F}
+use Rattle.sqlite_ast.specs.declared.Expr.TheViews.{out-roll-Expr, roll-Expr}
+use Rattle.sqlite_schema.specs.declared.schema.Column.{Column}
+use Rattle.sqlite_schema.specs.declared.schema.Schema.{Schema}
+use Rattle.sqlite_schema.specs.declared.schema.Table.{Table}
+use Rattle.sqlite_resolve.specs.Lowering.{begin, finish, spend, nothing, chosen, first_found, fresh, max_budget}
+use Rattle.sqlite_resolve.specs.Compare.{affinity_of, of_column, converted, compared, may_be_text}
+use Rattle.sqlite_resolve.specs.Expr.{lower, lower_to, node, opened, passes, operation, both, combine, wanted_truth, tests_truth, tests_alias}
+use Rattle.sqlite_resolve.specs.Scope.{Name}
+use Rattle.sqlite_resolve.specs.Terms.{equal}
+use Rattle.sqlite_ast.specs.declared.Statement.TheVariants as written
+use Rattle.sqlite_schema.specs.Names.{column_named}
+use Rattle.sqlite_schema.specs.declared.command.Command.TheVariants.{Update}
+use Rattle.sqlite_resolve.specs.Body.{tests}
+use Rattle.sqlite_resolve.specs.Compile.{command, update}
+use Rattle.sqlite_resolve.specs.Write.{assigned, row, picked, updated, updated_in}
+use Rattle.sql_tables.specs.Tables.{IsDeclared, numbered_table, untyped_column}
+use Rattle.sql_tables.proofs.Declaring.{classes_are, low_tree, uncovered}
+use Rattle.sql_tables.proofs.Meaning.{IsText, base_of, parse_of, update_is}
+use Rattle.sql_tables.proofs.OneTable.{Parts, draft_of, program_on, is_typed, program_is}
+use Rattle.sql_tables.proofs.Running.{Means, Wrote, update_ran}
+use Rattle.sqlite_ast.specs.declared.Statement.{Statement}
 use Rattle.std.specs.Ordering.{int_eq}
+use Rattle.std.proofs.lemmas.Bool.Decides.{Decides-int_eq}
+use Rattle.sqlite_value.specs.declared.value.Value.TheVariants.{Int, Null}
+use Rattle.sqlite_value.specs.Order.{Row, column, value_cmp}
+use Rattle.sqlite_value.proofs.OrderLemmas.{value_cmp-Int}
+use Rattle.sqlite_trees.specs.Tree.{Trees, rowid, has_rowid}
+use Rattle.sqlite_trees.specs.View.{is_int}
+use Rattle.sqlite_rules.specs.Cast.{cast_row}
+use Rattle.sqlite_rules.specs.Edit.{id_in}
+use Rattle.sqlite_rules.specs.Lists.{Has}
+use Rattle.sqlite_rules.proofs.ListLemmas.{all_has}
+use Rattle.sqlite_rules.proofs.TableLemmas.{int_is, some_found}
+use Rattle.sqlite_catalog.specs.Listing.{IsSound}
+use Rattle.sqlite.specs.Rows.{Written, Updates}
+use Rattle.sqlite.specs.State.{State, Executes}
+use Rattle.sql_tables.specs.Rows.{HaveRowids, Lists, numbers_from, columns_at}
+use Rattle.sql_tables.proofs.RowLists.{rowids_stay, shows_one}
+use Rattle.sql_tables.proofs.PutLists.{set_if, sets_none, sets_one}
+use Rattle.sql_tables.proofs.Numbered.{all_find, none_on}
+use Rattle.sql_tables.proofs.Writing.{IsPut, Spares, task, finds, updates_one, updates_none}
+use Rattle.sql_tables.proofs.Columns.{clear, column_expr, over, lowers_to}
 use Rattle.sqlite_value.specs.declared.value.Value.{Value}
 use Rattle.sqlite_value.specs.declared.value.Value.TheVariants as value
-use Rattle.sqlite_value.specs.Order.{Row, column}
-use Rattle.sqlite_trees.specs.Tree.{rowid}
-use Rattle.sqlite_sql.specs.Term.{eval_all}
-use Rattle.sqlite_schema.specs.declared.schema.Column.{Column}
-use Rattle.sqlite_schema.specs.declared.schema.Table.{Table}
-use Rattle.sqlite_schema.specs.declared.schema.Schema.{Schema}
-use Rattle.sqlite_rules.specs.Cast.{cast_row}
-use Rattle.sqlite_catalog.specs.Listing.{IsSound}
-use Rattle.sqlite.specs.State.{State, Executes}
-use Rattle.sql_tables.specs.Rows.{HaveRowids, Lists, columns_at, numbers_from}
-use Rattle.sql_tables.specs.Tables.{IsDeclared, numbered_table}
 use Rattle.sql_tables.proofs.ByRowid.{cast_stored, fits, stored}
-use Rattle.sql_tables.proofs.RowLists.{shows_one}
-use Rattle.sql_tables.proofs.Running.{Wrote}
-use Rattle.sql_tables.proofs.Updating.{IsUpdate, lists_set, project, sets_row}
-use Rattle.sql_tables.proofs.Writing.{Spares}
+
+abbrev pub sets_in : Statement → List (Name × Expr)
+sets_in (written.Update name sets test shown) = sets
+sets_in _ = []
+
+-- WHERE compares the column with the first parameter
+abbrev pub key_test : Name → Expr
+key_test name = roll-Expr (Expr-F.Binary binary.Eq (column_expr name) (roll-Expr (Expr-F.Parameter 1)))
+
+-- room for three more steps of resolving
+abbrev pub AreRich : ℕ → Type 0
+AreRich budget = (nat_lt 1 budget ≡ true) × (nat_lt 1 (budget - 1) ≡ true) × (nat_lt 1 (budget - 1 - 1) ≡ true)
+
+module _ (schema : Schema) (at : ℕ) (table : Table) (there : slice_get schema.tables at ≡ Some table) (by_rowid : table.key ≡ Some 0) where
+  lowers_parameter : (depth : ℕ) (budget : ℕ) → nat_lt 1 budget ≡ true → lower_to (suc depth) (over schema at table there table.name [] false) (roll-Expr (Expr-F.Parameter 1)) (clear budget nothing) ≡ Ok (col 0 0, clear (budget - 1) nothing)
+  unfolding lower_to node opened spend begin finish passes
+  lowers_parameter depth budget rich = rw (rich, out-roll-Expr)
+
+  lowers_test : (name : Name) (c : Column) (budget : ℕ) → AreRich budget → column_named table name ≡ Some 0 → slice_get table.columns 0 ≡ Some c
+      → lower (over schema at table there table.name [] false) (key_test name) (clear budget nothing) ≡ Ok (equal Binary (col 1 0) (col 0 0), clear (budget - 1 - 1 - 1) nothing)
+  unfolding lower_to node opened spend begin finish passes operation both combine wanted_truth tests_truth tests_alias compared affinity_of of_column converted may_be_text chosen first_found
+  lowers_test name c budget rich named is =
+      rw (rich.0, out-roll-Expr (Expr-F.Binary binary.Eq (column_expr name) (roll-Expr (Expr-F.Parameter 1))), lowers_to schema at table there table.name 698 name 0 c named is [] false (budget - 1) nothing rich.1, by_rowid, lowers_parameter 698 (budget - 1 - 1) rich.2)
+
+-- the first column of a table
+abbrev first_of_columns : List Column → Column
+first_of_columns [] = untyped_column []
+first_of_columns (c ∷ columns) = c
+
+-- a column of the row that is made: the parameter for its place, counted from the first, or what it was
+abbrev term_at : ℕ → List ℕ → ℕ → Term
+term_at n [] at = col 1 at
+term_at n (place ∷ places) at = if place == at then col 0 n else term_at (suc n) places at
+
+module _ (name : Name) (columns : List Column) (text : List ℕ) (places : List ℕ) where
+  abbrev pub parts_of : List Term → Parts
+  parts_of project = record { tests = equal Binary (col 1 0) (col 0 0) ∷ []; project = project; order = [] }
+
+  abbrev pub sets : List (Name × Expr)
+  sets = sets_in (parse_of text).statement
+
+  abbrev pub key_column : Column
+  key_column = first_of_columns columns
+
+  abbrev pub test : Expr
+  test = key_test key_column.name
+
+  abbrev pub terms : List Term
+  terms = map (col 0) (numbers_from 1 places)
+
+  -- the row that is made, behind the rowid: its own rowid, nothing in place of the key, and the other columns
+  abbrev pub project : List Term
+  project = col 1 0 ∷ col 1 0 ∷ lit Null ∷ map (term_at 1 places) (drop 2 (numbers_from 0 (replicate (suc (length columns)) 0)))
+
+  -- what is left for resolving once each parameter is
+  abbrev pub budget : ℕ
+  budget = max_budget - length places
+
+  -- The text sets the columns at these places of the row whose first column is the first parameter, to the further parameters in turn. Each
+  -- field computes.
+  pub record IsUpdate : Type 0 where
+    pub rich : AreRich budget
+    pub is_text : IsText text (written.Update name sets (Some test) [])
+    pub assigned_is : (schema : Schema) (at tree : ℕ) (there : slice_get schema.tables at ≡ Some (numbered_table name columns tree))
+        → assigned (over schema at (numbered_table name columns tree) there name [] false) (numbered_table name columns tree) sets (fresh 2 max_budget) ≡ Ok ((places, terms), clear budget nothing)
+    pub row_is : (tree : ℕ) → row (numbered_table name columns tree) None places (col 1 0 ∷ []) terms ≡ Ok project
+    pub named : (tree : ℕ) → column_named (numbered_table name columns tree) key_column.name ≡ Some 0
+    pub first : slice_get columns 0 ≡ Some key_column
+    pub typed : (tree : ℕ) → is_typed (numbered_table name columns tree) (parts_of project) [] ≡ true
+
+  module _ (u : IsUpdate) (schema : Schema) (tree : ℕ) (d : IsDeclared schema (numbered_table name columns tree)) where
+    abbrev table : Table
+    table = numbered_table name columns tree
+
+    draft_is : updated schema d.at table sets (Some test) ≡ Ok (draft_of tree (parts_of project))
+    unfolding updated updated_in picked tests
+    draft_is = rw (u.assigned_is schema d.at tree d.there, u.row_is tree, lowers_test schema d.at table d.there refl key_column.name key_column budget u.rich (u.named tree) u.first)
+
+    update_command : (base : ℕ) → tree < 65536 → command schema [] base (written.Update name sets (Some test) []) ≡ Ok (Update d.at (program_on tree (parts_of project)))
+    unfolding command update
+    update_command base low = rw (d.named, d.there, draft_is, program_is schema table (classes_are schema table d low) (parts_of project) (u.typed tree))
+
+    pub update_means : tree < 65536 → Means schema text (Update d.at (program_on tree (parts_of project)))
+    update_means low = update_is schema text name sets (Some test) (Update d.at (program_on tree (parts_of project))) u.is_text (update_command (base_of text) low)
+
+    -- the row with the number is replaced, if it is there
+    abbrev pub IsSet : ℤ → (Row → Row → Type 0) → Trees → Trees → Type 0
+    IsSet id Becomes old new =
+        ((filter (has_rowid id) (old tree) ≡ []) × (new tree ≡ old tree) × Spares schema tree old new)
+        ⊎ ((r : Row) × (row : Row) × Has (old tree) r × (filter (has_rowid id) (old tree) ≡ r ∷ []) × Becomes r row × IsPut schema table row id old new)
+
+    number_of : (r : Row) (id : ℤ) → IsTrue (is_int (rowid r)) → has_rowid id r ≡ true → rowid r ≡ Int id
+    number_of r id integer has =
+        let n = id_in (rowid r) in
+        let is : rowid r ≡ Int n = int_is (rowid r) integer in
+        let same : int_eq n id ≡ true = sym (ap is_eq (value_cmp-Int n id)) ∙ sym (ap (λ v. is_eq (value_cmp v (Int id))) is) ∙ has in
+        is ∙ ap Int ((Decides-int_eq n id).0 same)
+
+    pub sets_row : (params : Row) (id : ℤ) (Becomes : Row → Row → Type 0) → column params 0 ≡ Int id
+        → ((r : Row) → rowid (eval_all project (params ∷ r ∷ [])) ≡ rowid r)
+        → (old new : State) (count : ℕ) → old.now.schema ≡ schema → IsSound schema old.now.trees → HaveRowids (old.now.trees tree)
+        → ((r : Row) → Has (old.now.trees tree) r → rowid r ≡ Int id → (row : Row) × (cast_row table (drop 1 (eval_all project (params ∷ r ∷ []))) ≡ row) × (rowid row ≡ Int id) × Becomes r row)
+        → Executes text params old new (Ok count) → Wrote old new × IsSet id Becomes old.now.trees new.now.trees
+    sets_row params id Becomes asked heads old new count has sound keyed made h =
+        let low = low_tree schema table d old.now.trees sound in
+        let ran = update_ran schema d.at table d.there text params old new count has (program_on tree (parts_of project)) (update_means low) h in
+        let db = old.now.trees in
+        let same = all_find params 0 id asked (db tree) keyed.integers in
+        (ran.0, go low (filter (has_rowid id) (db tree)) refl (keyed.once id) same ran.1)
+      where
+        go : tree < 65536 → (found : List Row) → filter (has_rowid id) (old.now.trees tree) ≡ found → length found ≤ 1
+            → filter (finds (parts_of project).tests params) (old.now.trees tree) ≡ filter (has_rowid id) (old.now.trees tree)
+            → (w : Written) × Updates (task old.step_limit schema table params) (program_on tree (parts_of project)) params old.now.trees (Ok w) × (new.now.trees ≡ w.trees) → IsSet id Becomes old.now.trees new.now.trees
+        go low (r ∷ s ∷ more) two few same done = absurd (omega (arith, few))
+        go low [] none few same (w, did, trees) =
+            let done = updates_none old.step_limit schema table params (parts_of project) params old.now.trees w (uncovered schema table d low old.now.trees) (same ∙ none) did in
+            inl (none, ap (λ (t : Trees). t tree) trees ∙ done.0, subst (Spares schema tree old.now.trees) (sym trees) done.1)
+        go low (r ∷ []) only few same (w, did, trees) =
+            let it = some_found id (old.now.trees tree) r only in
+            let number = number_of r id (all_has _ (old.now.trees tree) r keyed.integers it.0) it.1 in
+            let next = made r it.0 number in
+            let put = updates_one old.step_limit schema table params d.alone (parts_of project) params old.now.trees r next.0 id w (uncovered schema table d low old.now.trees) (same ∙ only) only next.1
+            (ap id_in (heads r ∙ number)) (next.2 ∙ sym number) (λ i has unique on. absurd (none_on schema table d refl i has unique on)) did in
+            inr (r, next.0, it.0, only, next.3, subst (IsPut schema table next.0 id old.now.trees) (sym trees) put)
+
+    -- what the table lists then
+    pub lists_set : {X : Type 0} (written : X → Row) (columns : Row → Row) (key : X → ℤ) (wk : (x : X) → column (written x) 0 ≡ Int (key x)) (sk : (r : Row) → column (columns r) 0 ≡ rowid r)
+        (id : ℤ) (set : X → X) (change : Row → Row) (changes : (x : X) → written (set x) ≡ change (written x)) (xs : List X) (old new : Trees) → Lists written columns xs (old tree) → HaveRowids (old tree)
+        → IsSet id (λ r it. (columns it ≡ change (columns r)) × (rowid it ≡ Int id)) old new
+        → Lists written columns (map (set_if written columns key wk sk id set change changes) xs) (new tree) × HaveRowids (new tree) × Spares schema tree old new
+    lists_set written columns key wk sk id set change changes xs old new lists ids (inl (none, same, others)) =
+        (rw same (sets_none written columns key wk sk id set change changes xs (old tree) lists none), rw same ids, others)
+    lists_set written columns key wk sk id set change changes xs old new lists ids (inr (r, now, has, only, becomes, put)) =
+        let it = some_found id (old tree) r only in
+        (rw put.rows (sets_one written columns key wk sk id set change changes xs (old tree) r now lists only it.1 becomes.0 becomes.1), rw put.rows (rowids_stay id now becomes.1 (old tree) ids), put.others)
+
+-- ---- what it does to the rows of a table
 
 -- a row as its tree keeps it, of its columns
 abbrev pub kept : Row → Row
@@ -53,12 +221,12 @@ module _ (name : List ℕ) (columns : List Column) (own : List ℕ) (text : List
     pub suits : (x : X) → fits columns (drop 1 (stored (key x) (row x))) ≡ true
 
   module _ (u : SetsByRowid) (schema : Schema) (tree : ℕ) (d : IsDeclared schema (numbered_table name columns tree)) where
-    abbrev table : Table
-    table = numbered_table name columns tree
+    abbrev its_table : Table
+    its_table = numbered_table name columns tree
 
     -- what becomes of a row of the tree
     becomes : (x : X) (r : Row) → columns_at own r ≡ row x → rowid r ≡ value.Int id
-        → (it : Row) × (cast_row table (drop 1 (made_row r)) ≡ it) × (rowid it ≡ value.Int id) × ((columns_at own it ≡ change (columns_at own r)) × (rowid it ≡ value.Int id))
+        → (it : Row) × (cast_row its_table (drop 1 (made_row r)) ≡ it) × (rowid it ≡ value.Int id) × ((columns_at own it ≡ change (columns_at own r)) × (rowid it ≡ value.Int id))
     becomes x r is number =
         let y = set x in
         let it = stored (key y) (row y) in
@@ -66,7 +234,7 @@ module _ (name : List ℕ) (columns : List Column) (own : List ℕ) (text : List
         let head : value.Int (key x) ≡ value.Int id = sym (u.first x) ∙ sym (ap (λ (s : Row). column s 0) is) ∙ u.first_shown r ∙ number in
         let keyed : rowid it ≡ value.Int id = ap value.Int (u.same_key x) ∙ head in
         let same : kept (change (columns_at own r)) ≡ it = ap kept changed ∙ ap (λ v. v ∷ value.Null ∷ drop 1 (row y)) (u.first y) in
-        (it, ap (λ (s : Row). cast_row table (drop 1 s)) (u.made r) ∙ ap (cast_row table) same ∙ cast_stored name columns tree (row y) (key y) (u.suits y), keyed, (u.back y ∙ sym changed, keyed))
+        (it, ap (λ (s : Row). cast_row its_table (drop 1 s)) (u.made r) ∙ ap (cast_row its_table) same ∙ cast_stored name columns tree (row y) (key y) (u.suits y), keyed, (u.back y ∙ sym changed, keyed))
 
     pub sets_by_rowid : (old new : State) (count : ℕ) (xs : List X) → old.now.schema ≡ schema → IsSound schema old.now.trees → HaveRowids (old.now.trees tree) → Lists row (columns_at own) xs (old.now.trees tree)
         → Executes text params old new (Ok count)

@@ -10,9 +10,8 @@ use Rattle.sqlite.proofs.InsideLemmas.{inside_keeps}
 use Rattle.sqlite_tied.specs.Compute.{everything}
 use Rattle.desk_parts.specs.declared.file_table.FileTable.{FileTable}
 use Rattle.desk_parts.specs.declared.file_table.FileTable.TheVariants as tables
-use Rattle.sql_tables.proofs.Makes.{IsMake, makes_first}
+use Rattle.sql_tables.proofs.Makes.{IsMake, makes_first, takes}
 use Rattle.sql_tables.proofs.Meaning.{parse_of}
-use Rattle.sql_tables.proofs.Taking.{takes}
 use Rattle.desk_rows.specs.Descriptions.{description_of, table_of}
 use Rattle.desk_rows.specs.Making.{MakesTables}
 use Rattle.desk_rows.specs.Puts.{RunsTo}

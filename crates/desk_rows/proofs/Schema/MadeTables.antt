@@ -23,8 +23,7 @@ use Rattle.desk_parts.specs.declared.file_table.FileTable.TheVariants as tables
 use Rattle.sql_tables.specs.Making.{IndexesLow, IsForeignTree, IsMaking, KeepsAside, first_created, first_rows}
 use Rattle.sql_tables.specs.Rows.{HaveRowids}
 use Rattle.sql_tables.specs.Tables.{IsDeclared, counter}
-use Rattle.sql_tables.proofs.Counting.{declared_first, foreign_first, free_first, has_counter, has_first, low_first, rising, rising_first}
-use Rattle.sql_tables.proofs.Creating.{declares, declared_stays, sound_is_low}
+use Rattle.sql_tables.proofs.Creating.{declared_first, foreign_first, free_first, has_counter, has_first, low_first, rising, rising_first, declares, declared_stays, sound_is_low}
 use Rattle.sql_tables.proofs.Declaring.{has_table}
 use Rattle.sql_tables.proofs.Makes.{none_below}
 use Rattle.desk_rows.specs.Descriptions.{description_of, table_of}

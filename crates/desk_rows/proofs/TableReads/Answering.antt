@@ -22,8 +22,7 @@ use Rattle.desk_rows.specs.declared.fault.DatabaseFault.{DatabaseFault}
 use Rattle.desk_rows.specs.declared.fault.DatabaseFault.TheVariants.{NoMemory, Lost, Refused}
 use Rattle.desk_rows.proofs.TableReads.OneList.{one_list}
 use Rattle.desk_rows.proofs.TableReads.Asking.{fails_to_read, fails_to_ask, refused_as_it_was, never_refused, not_refused}
-use Rattle.sql_tables.proofs.Answered.{answered_fails}
-use Rattle.sql_tables.proofs.Quiet.{on_ok, on_err, shown_quietly}
+use Rattle.sql_tables.proofs.Quiet.{answered_fails, on_ok, on_err, shown_quietly}
 use Rattle.desk_rows.specs.TableQuery.{AnswersRows, AnyRows, BeginWith, FailsAs, failed, given, no_memory, query_of, together, unreadable}
 use Rattle.desk_rows.specs.Whole.{IsUtf8Row}
 use Rattle.desk_rows.specs.Descriptions.{description_of, table_of}

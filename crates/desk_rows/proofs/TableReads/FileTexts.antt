@@ -6,8 +6,7 @@ use Rattle.sqlite_trees.specs.Tree.{Trees}
 use Rattle.sql_tables.specs.Kinds.{HaveIntegerRowids, IsUtf8Text}
 use Rattle.sql_tables.specs.Rows.{columns_at}
 use Rattle.sqlite_trees.proofs.ListLemmas.{all_both}
-use Rattle.sql_tables.proofs.RowKinds.{IsKept, kept}
-use Rattle.sql_tables.proofs.RowTexts.{behind, in_rows}
+use Rattle.sql_tables.proofs.RowKinds.{IsKept, kept, behind, in_rows}
 use Rattle.desk_rows.specs.TableQuery.{AreReadable}
 use Rattle.desk_rows.specs.Contents.{Contents}
 use Rattle.desk_rows.specs.Descriptions.{description_of, shows_rowid, table_of}

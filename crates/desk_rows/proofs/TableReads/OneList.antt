@@ -2,7 +2,7 @@
 use Rattle.std.proofs.Common.{◌≡◌, List, refl, IsPermutation}
 use Rattle.sqlite_value.specs.Order.{Row, column, bytes}
 use Rattle.sql_tables.specs.Rows.{Lists}
-use Rattle.sql_tables.proofs.SameLists.{integer, one_list as same_list}
+use Rattle.sql_tables.proofs.RowLists.{integer, one_list as same_list}
 use Rattle.desk_rows.specs.Rows.{columns_of}
 use Rattle.desk_parts.specs.declared.file_table.FileTable.{FileTable}
 use Rattle.desk_parts.specs.declared.file_table.FileTable.TheVariants as tables

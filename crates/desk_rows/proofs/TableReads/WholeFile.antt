@@ -13,7 +13,7 @@ use Rattle.desk_parts.specs.declared.file_table.FileTable.TheVariants as tables
 use Rattle.desk_parts.specs.Rows.{StoredTab}
 use Rattle.sql_tables.specs.Rows.{HaveRowids, Lists, columns_at}
 use Rattle.sql_tables.proofs.Apart.{apart, as_many, have_rowids}
-use Rattle.sql_tables.proofs.SameLists.{other_order}
+use Rattle.sql_tables.proofs.RowLists.{other_order}
 use Rattle.desk_rows.specs.Contents.{Contents, Holds}
 use Rattle.desk_rows.specs.Descriptions.{description_of}
 use Rattle.desk_rows.specs.Layout.{Layout, AreDeclared, IsOther}

@@ -21,11 +21,10 @@ use Rattle.desk_parts.specs.declared.file_table.FileTable.TheVariants as tables
 use Rattle.sql_tables.specs.Rows.{Lists}
 use Rattle.sql_tables.specs.Kinds.{IsUtf8Text, HasKinds}
 use Rattle.sql_tables.specs.Tables.{IsDeclared}
-use Rattle.sql_tables.proofs.Answered.{IsStoreFailure}
+use Rattle.sql_tables.proofs.Quiet.{IsStoreFailure, reads}
 use Rattle.sql_tables.proofs.OneTable.{query_on}
 use Rattle.sql_tables.proofs.Orders.{Rises}
-use Rattle.sql_tables.proofs.Parsing.{parsed}
-use Rattle.sql_tables.proofs.Quiet.{reads}
+use Rattle.sql_tables.proofs.Reading.{parsed}
 use Rattle.sql_tables.proofs.RowKinds.{IsKept, integer_of, numbered_kinds, hidden_kinds, all_texts, all_shown}
 use Rattle.sql_tables.proofs.ReadAnswers.{fails_by_store}
 use Rattle.sql_tables.proofs.WholeTables.{parts, reads_only as only_reads, rows_are}

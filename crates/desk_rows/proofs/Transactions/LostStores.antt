@@ -13,8 +13,7 @@ use Rattle.desk_parts.specs.declared.file_table.FileTable.{FileTable}
 use Rattle.desk_parts.specs.declared.file_table.FileTable.TheVariants as tables
 use Rattle.desk_parts.specs.declared.put.Put.{Put}
 use Rattle.desk_parts.specs.Puts.{RowPut, put_of}
-use Rattle.sql_tables.proofs.Failures.{IsCaused, answered, fails_so}
-use Rattle.sql_tables.proofs.Refusals.{not_of_store}
+use Rattle.sql_tables.proofs.Refusals.{IsCaused, answered, fails_so, not_of_store}
 use Rattle.desk_rows.specs.Failing.{FailsToPut, Putting, after_tables, at_commit, at_put, of_first_row, of_items}
 use Rattle.desk_rows.specs.Fault.{CountsLoss}
 use Rattle.desk_rows.specs.Making.{creation, first_row}

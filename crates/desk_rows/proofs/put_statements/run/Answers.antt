@@ -2,7 +2,7 @@ use Rattle.std.proofs.Common.{ap, refl}
 use Rattle.std.proofs.lemmas.Result.{err_from_is_err_and}
 use Rattle.sqlite.specs.Held.{state}
 use Rattle.sql_tables.specs.States.{seen}
-use Rattle.sql_tables.proofs.Taking.{within}
+use Rattle.sql_tables.proofs.Makes.{within}
 use Rattle.sqlite.specs.Values.{bound}
 use Rattle.desk_rows.proofs.Schema.Creates.{err_runs}
 use Rattle.desk_rows.proofs.put_statements.run.Goals as goal
