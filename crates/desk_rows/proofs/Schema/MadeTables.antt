@@ -11,16 +11,17 @@ use Rattle.sqlite_schema.specs.declared.schema.Schema.{Schema}
 use Rattle.sqlite_schema.specs.declared.schema.Table.{Table}
 use Rattle.sqlite_schema.specs.Names.{same_name}
 use Rattle.sqlite_catalog.specs.Change.{automatics, created, is_used, next_tree, KeepsRows}
+use Rattle.sqlite_catalog.specs.Listing.{IsSound}
 use Rattle.sqlite_catalog.proofs.StepLemmas.{table_below}
 use Rattle.sqlite_rules.specs.Lists.{Has}
 use Rattle.sqlite_rules.proofs.ListLemmas.{all_from, all_has}
 use Rattle.sqlite_trees.specs.declared.store.Store.{Ghosts}
 use Rattle.sqlite.specs.Held.{Held, state}
-use Rattle.sqlite.specs.Effect.{Database, IsDatabase}
+use Rattle.sqlite.specs.Effect.{Database}
 use Rattle.sqlite.specs.State.{State, IsLive}
 use Rattle.desk_parts.specs.declared.file_table.FileTable.{FileTable}
 use Rattle.desk_parts.specs.declared.file_table.FileTable.TheVariants as tables
-use Rattle.sql_tables.specs.Making.{IndexesLow, IsForeignTree, IsMaking, KeepsAside, first_created, first_rows}
+use Rattle.sql_tables.specs.Making.{IndexesLow, IsForeignTree, IsMaking, KeepsAside, first_created}
 use Rattle.sql_tables.specs.Rows.{HaveRowids}
 use Rattle.sql_tables.specs.Tables.{IsDeclared, counter}
 use Rattle.sql_tables.proofs.Creating.{declared_first, foreign_first, free_first, has_counter, has_first, low_first, rising, rising_first, declares, declared_stays, sound_is_low}
@@ -150,10 +151,6 @@ parts_differ (u ∷ us) vs all =
     let more = parts_differ us vs all.1 in
     ((here.0, more.0), more.1, one_more_apart u us vs here.1 more.2)
 
--- no tables
-pub makes_none : (s : State) → MakesTables [] s s
-makes_none s = record { taken = (tt, λ n free. free); made = λ committed start rows before differ was free. was }
-
 -- some tables, and then others
 pub makes_then : (us vs : List FileTable) (old mid new : State) → MakesTables us old mid → MakesTables vs mid new → MakesTables (us ++ vs) old new
 makes_then us vs old mid new first later = record {
@@ -198,6 +195,33 @@ declared_after (v ∷ ws) s apart low free w (inr later) =
     let high = more.1 in
     rw other (more.0, omega (arith, above, high))
 
+-- ---- what a making begins with, and what it leaves
+
+pub no_rowids : HaveRowids []
+no_rowids = record { integers = tt; once = λ id. omega arith }
+
+-- no table is made yet
+pub making_begins : (committed : Database) (s : Schema) (now : State) → now.now.schema ≡ s → IsSound s now.now.trees → now.in_transaction ≡ true → now.committed ≡ committed → IsMaking committed s now.now.trees s now
+making_begins committed s now schema sound inside over = record {
+  schema = schema;
+  sound = sound;
+  kept = all_from _ s.tables (λ t has. rw (is_below t.tree (next_tree s) (table_below s t has)));
+  foreign = λ tree is. is;
+  aside = record { rows = λ tree is. refl; texts = λ row has foreign. has; version = refl };
+  later = omega arith;
+  inside = inside;
+  over = over;
+}
+
+module _ (ws : List FileTable) (committed : Database) (s : Schema) (rows : Trees) (now : State) (m : IsMaking committed s rows (after ws s) now) where
+  -- a tree from the next on has no row
+  pub has_none : (a : Table) → IsDeclared (after ws s) a → next_tree s ≤ a.tree → now.now.trees a.tree ≡ []
+  has_none a d high = all_has _ (after ws s).tables a m.kept (has_table (after ws s) a d) ∙ rw (none_below a.tree (next_tree s) high)
+
+  -- a table that was there has its rows
+  pub keeps_row : (t : Table) → Has s.tables t → now.now.trees t.tree ≡ rows t.tree
+  keeps_row t has = all_has _ (after ws s).tables t m.kept (has_after ws s t has) ∙ rw (is_below t.tree (next_tree s) (table_below s t has)) refl
+
 -- ---- the tables of a new file
 
 differ : Differ new_tables
@@ -208,18 +232,7 @@ module _ (s : Schema) (none : AreAbsent s) (low : IndexesLow s) where
   each_made w is = declared_after new_tables s differ low none w (among_has new_tables w is)
 
   module _ (committed : Database) (rows : Trees) (now : State) (m : IsMaking committed s rows (after new_tables s) now) where
-    -- a tree from the next on has no row
-    empty : (a : Table) → IsDeclared (after new_tables s) a → next_tree s ≤ a.tree → now.now.trees a.tree ≡ []
-    empty a d high = all_has _ (after new_tables s).tables a m.kept (has_table (after new_tables s) a d) ∙ rw (none_below a.tree (next_tree s) high)
-
-    no_rowids : HaveRowids []
-    no_rowids = record { integers = tt; once = λ id. omega arith }
-
-    -- a table that was there has its rows
-    keeps_row : (t : Table) → Has s.tables t → now.now.trees t.tree ≡ rows t.tree
-    keeps_row t has = all_has _ (after new_tables s).tables t m.kept (has_after new_tables s t has) ∙ rw (is_below t.tree (next_tree s) (table_below s t has)) refl
-
-    -- and the counter has none
+    -- the database's counter has no row
     counts_none : CountsNone s now.now.trees
     counts_none lacks =
         let at = next_tree (created s (table_of tables.Book 0)) in
@@ -229,7 +242,7 @@ module _ (s : Schema) (none : AreAbsent s) (low : IndexesLow s) where
 
     pub finished : IsUnder committed (new_layout s) (no_contents now.now.trees) now × KeepsRows s.tables rows now.now.trees × CountsNone s now.now.trees × KeepsAside s rows now.now.trees
     finished =
-        let none_in = λ (w : FileTable) (is : is_among new_tables w ≡ true). empty (table_of w ((new_layout s).tree w)) (each_made w is).0 (each_made w is).1 in (
+        let none_in = λ (w : FileTable) (is : is_among new_tables w ≡ true). has_none new_tables committed s rows now m (table_of w ((new_layout s).tree w)) (each_made w is).0 (each_made w is).1 in (
           record {
             shows = record {
               schema = m.schema;
@@ -247,27 +260,10 @@ module _ (s : Schema) (none : AreAbsent s) (low : IndexesLow s) where
             inside = m.inside;
             over = m.over;
           },
-          all_from _ s.tables keeps_row,
+          all_from _ s.tables (keeps_row new_tables committed s rows now m),
           counts_none,
           m.aside,
         )
-
-pub rows_there : (s : Schema) (rows : Trees) (tables : List Table) → ((t : Table) → Has tables t → t.tree < next_tree s) → AllByRecursion (λ t. rows t.tree ≡ first_rows s rows t.tree) tables
-rows_there s rows tables low = all_from _ tables (λ t has. rw (is_below t.tree (next_tree s) (low t has)))
-
--- a transaction begins with what is there
-pub begins_making : {S : Type 0} (g : Ghosts S) (old : Held S) → IsDatabase (state g old).now
-    → IsMaking (state g old).committed (state g old).now.schema (state g old).now.trees (state g old).now.schema (state g (record old { in_transaction = true }))
-begins_making g old sound = record {
-  schema = refl;
-  sound = sound;
-  kept = rows_there (state g old).now.schema (state g old).now.trees (state g old).now.schema.tables (table_below (state g old).now.schema);
-  foreign = λ tree is. is;
-  aside = record { rows = λ tree is. refl; texts = λ row has foreign. has; version = refl };
-  later = omega arith;
-  inside = refl;
-  over = refl;
-}
 
 module _ {S : Type 0} (g : Ghosts S) (old mid last : Held S) where
   -- what making tables within a transaction, and putting the row of a new book, did to what was there
@@ -280,7 +276,7 @@ module _ {S : Type 0} (g : Ghosts S) (old mid last : Held S) where
         let rows = (state g old).now.trees in
         let low = sound_is_low old.schema rows sound in
         let committed = (state g old).committed in
-        let making = makes.made committed old.schema rows old.schema differ (begins_making g old sound) makes.taken.0 in
+        let making = makes.made committed old.schema rows old.schema differ (making_begins committed old.schema (state g (record old { in_transaction = true })) refl sound refl refl) makes.taken.0 in
         let done = finished old.schema makes.taken.0 low committed rows (state g mid) making in
         let others = (state g mid).now.trees in
         (others, done.1, done.2, done.3, (puts committed (new_layout old.schema) (no_contents others) refl done.0).shows),

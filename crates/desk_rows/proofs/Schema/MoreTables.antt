@@ -1,13 +1,10 @@
 -- The file of a layout once more tables are made in it.
-use Rattle.std.proofs.Common.{◌≡◌, ◌≤◌, inl, inr, true, false, List, [], refl, subst, ◌∙◌, arith}
+use Rattle.std.proofs.Common.{◌≡◌, ◌≤◌, inl, inr, true, false, List, [], refl, subst}
 use Rattle.std.proofs.lemmas.Bool.{cases_Bool}
 use Rattle.std.proofs.lemmas.List.Sorted.{IsPermutation-refl}
 use Rattle.sqlite_schema.specs.declared.schema.Schema.{Schema}
-use Rattle.sqlite_schema.specs.declared.schema.Table.{Table}
 use Rattle.sqlite_catalog.specs.Change.{KeepsRows, is_used, next_tree}
-use Rattle.sqlite_catalog.proofs.StepLemmas.{table_below}
-use Rattle.sqlite_rules.specs.Lists.{Has}
-use Rattle.sqlite_rules.proofs.ListLemmas.{all_from, all_has}
+use Rattle.sqlite_rules.proofs.ListLemmas.{all_from}
 use Rattle.sqlite_trees.specs.declared.store.Store.{Ghosts}
 use Rattle.sqlite.specs.Effect.{Database}
 use Rattle.sqlite.specs.Held.{Held, state}
@@ -15,11 +12,9 @@ use Rattle.sqlite.specs.State.{State}
 use Rattle.desk_parts.specs.declared.file_table.FileTable.{FileTable}
 use Rattle.desk_parts.specs.Puts.{RowPut}
 use Rattle.sql_tables.specs.Making.{IsMaking, KeepsAside}
-use Rattle.sql_tables.specs.Rows.{HaveRowids}
 use Rattle.sql_tables.specs.Tables.{IsDeclared}
 use Rattle.sql_tables.proofs.Creating.{sound_is_low}
 use Rattle.sql_tables.proofs.Declaring.{has_table}
-use Rattle.sql_tables.proofs.Makes.{none_below}
 use Rattle.desk_rows.specs.Contents.{Contents}
 use Rattle.desk_rows.specs.Descriptions.{description_of, table_of}
 use Rattle.desk_rows.specs.Layout.{Layout}
@@ -28,7 +23,7 @@ use Rattle.desk_rows.specs.Puts.{PutsAll, puts_into}
 use Rattle.desk_rows.specs.States.{IsUnder}
 use Rattle.sqlite_trees.proofs.ListLemmas.{all_from_map}
 use Rattle.desk_rows.proofs.Transactions.Committing.{begins, shows_on}
-use Rattle.desk_rows.proofs.Schema.MadeTables.{among_has, declared_after, has_after, is_below, rows_there, through}
+use Rattle.desk_rows.proofs.Schema.MadeTables.{among_has, declared_after, has_none, keeps_row, making_begins, no_rowids, through}
 
 module _ (l : Layout) (c : Contents) (ws : List FileTable) (differ : Differ ws) (committed : Database) (old new : State) (was : IsUnder committed l c old) (makes : MakesTables ws old new) where
   abbrev s : Schema
@@ -38,16 +33,7 @@ module _ (l : Layout) (c : Contents) (ws : List FileTable) (differ : Differ ws) 
   free = subst (λ s. AreFreeIn s ws) was.shows.schema (all_from_map (λ n. is_used old.now.schema n ≡ false) (λ w. (description_of w).name) ws makes.taken.0)
 
   start : IsMaking committed s old.now.trees s old
-  start = record {
-    schema = was.shows.schema;
-    sound = was.shows.is.sound;
-    kept = rows_there s old.now.trees s.tables (table_below s);
-    foreign = λ tree is. is;
-    aside = record { rows = λ tree is. refl; texts = λ row has foreign. has; version = refl };
-    later = omega arith;
-    inside = was.inside;
-    over = was.over;
-  }
+  start = making_begins committed s old was.shows.schema was.shows.is.sound was.inside was.over
 
   making : IsMaking committed s old.now.trees (after ws s) new
   making = makes.made committed s old.now.trees s differ start free
@@ -55,21 +41,11 @@ module _ (l : Layout) (c : Contents) (ws : List FileTable) (differ : Differ ws) 
   new_one : (v : FileTable) → is_among ws v ≡ true → IsDeclared (after ws s) (table_of v (tree_in ws s v)) × (next_tree s ≤ tree_in ws s v)
   new_one v is = declared_after ws s differ (sound_is_low s old.now.trees was.shows.is.sound) free v (among_has ws v is)
 
-  -- a tree from the next on has no row
   empty : (v : FileTable) → is_among ws v ≡ true → new.now.trees (tree_in ws s v) ≡ []
-  empty v is =
-      let it = new_one v is in
-      all_has _ (after ws s).tables (table_of v (tree_in ws s v)) making.kept (has_table (after ws s) (table_of v (tree_in ws s v)) it.0) ∙ rw (none_below (tree_in ws s v) (next_tree s) it.1) refl
-
-  -- a table that was there has its rows
-  keeps_row : (t : Table) → Has s.tables t → new.now.trees t.tree ≡ old.now.trees t.tree
-  keeps_row t has = all_has _ (after ws s).tables t making.kept (has_after ws s t has) ∙ rw (is_below t.tree (next_tree s) (table_below s t has)) refl
+  empty v is = let it = new_one v is in has_none ws committed s old.now.trees new making (table_of v (tree_in ws s v)) it.0 it.1
 
   old_row : (v : FileTable) → l.has v ≡ true → new.now.trees (l.tree v) ≡ old.now.trees (l.tree v)
-  old_row v there = keeps_row (table_of v (l.tree v)) (has_table s (table_of v (l.tree v)) (was.shows.is.declared v there))
-
-  no_rowids : HaveRowids []
-  no_rowids = record { integers = tt; once = λ id. omega arith }
+  old_row v there = keeps_row ws committed s old.now.trees new making (table_of v (l.tree v)) (has_table s (table_of v (l.tree v)) (was.shows.is.declared v there))
 
   pub more_made : IsUnder committed (with_tables ws l) (with_none ws new.now.trees c) new × KeepsRows s.tables old.now.trees new.now.trees × KeepsAside s old.now.trees new.now.trees
   more_made = (
@@ -99,7 +75,7 @@ module _ (l : Layout) (c : Contents) (ws : List FileTable) (differ : Differ ws) 
       inside = making.inside;
       over = making.over;
     },
-    all_from _ s.tables keeps_row,
+    all_from _ s.tables (keeps_row ws committed s old.now.trees new making),
     making.aside,
   )
 
