@@ -1,5 +1,5 @@
 -- What an UPDATE of one row by the rowid means, and what it does to a table, whatever else the schema has.
-use Rattle.std.proofs.Common.{◌≡◌, ◌-◌, ◌==◌, if◌then◌else◌, nat_lt, ◌⊎◌, inl, inr, ℕ, ℤ, suc, ◌<◌, ◌≤◌, sym, ap, subst, ◌∙◌, filter, map, length, drop, replicate, is_eq, IsTrue, arith, true, false, List, [], ◌∷◌, slice_get, Some, None, Ok, refl}
+use Rattle.std.proofs.Common.{◌≡◌, ◌-◌, ◌==◌, if◌then◌else◌, nat_lt, ℕ, ℤ, suc, ◌<◌, ◌≤◌, sym, ap, subst, ◌∙◌, filter, map, length, drop, replicate, is_eq, IsTrue, arith, true, false, List, [], ◌∷◌, slice_get, Some, None, Ok, refl}
 use Rattle.sqlite_value.specs.declared.keys.Collation.TheVariants.{Binary}
 use Rattle.sqlite_sql.specs.Term.{Term, col, lit, eval_all}
 use Rattle.sqlite_ast.specs.declared.Binary.TheVariants as binary
@@ -35,7 +35,6 @@ use Rattle.sqlite_trees.specs.Tree.{Trees, rowid, has_rowid}
 use Rattle.sqlite_trees.specs.View.{is_int}
 use Rattle.sqlite_rules.specs.Cast.{cast_row}
 use Rattle.sqlite_rules.specs.Edit.{id_in}
-use Rattle.sqlite_rules.specs.Lists.{Has}
 use Rattle.sqlite_rules.proofs.ListLemmas.{all_has}
 use Rattle.sqlite_rules.proofs.TableLemmas.{int_is, some_found}
 use Rattle.sqlite_catalog.specs.Listing.{IsSound}
@@ -43,9 +42,9 @@ use Rattle.sqlite.specs.Rows.{Written, Updates}
 use Rattle.sqlite.specs.State.{State, Executes}
 use Rattle.sql_tables.specs.Rows.{HaveRowids, Lists, numbers_from, columns_at}
 use Rattle.sql_tables.proofs.RowLists.{rowids_stay, shows_one}
-use Rattle.sql_tables.proofs.PutLists.{set_if, sets_none, sets_one}
+use Rattle.sql_tables.proofs.PutLists.{sets_none, sets_one}
 use Rattle.sql_tables.proofs.Numbered.{all_find, none_on}
-use Rattle.sql_tables.proofs.Writing.{IsPut, Spares, task, finds, updates_one, updates_none}
+use Rattle.sql_tables.proofs.Writing.{Spares, task, finds, updates_one, updates_none}
 use Rattle.sql_tables.proofs.Columns.{clear, column_expr, over, lowers_to}
 use Rattle.sqlite_value.specs.declared.value.Value.{Value}
 use Rattle.sqlite_value.specs.declared.value.Value.TheVariants as value
@@ -135,58 +134,14 @@ module _ (name : Name) (columns : List Column) (text : List ℕ) (places : List 
     pub update_means : tree < 65536 → Means schema text (Update d.at (program_on tree (parts_of project)))
     update_means low = update_is schema text name sets (Some test) (Update d.at (program_on tree (parts_of project))) u.is_text (update_command (base_of text) low)
 
-    -- the row with the number is replaced, if it is there
-    abbrev pub IsSet : ℤ → (Row → Row → Type 0) → Trees → Trees → Type 0
-    IsSet id Becomes old new =
-        ((filter (has_rowid id) (old tree) ≡ []) × (new tree ≡ old tree) × Spares schema tree old new)
-        ⊎ ((r : Row) × (row : Row) × Has (old tree) r × (filter (has_rowid id) (old tree) ≡ r ∷ []) × Becomes r row × IsPut schema table row id old new)
-
-    number_of : (r : Row) (id : ℤ) → IsTrue (is_int (rowid r)) → has_rowid id r ≡ true → rowid r ≡ Int id
-    number_of r id integer has =
-        let n = id_in (rowid r) in
-        let is : rowid r ≡ Int n = int_is (rowid r) integer in
-        let same : int_eq n id ≡ true = sym (ap is_eq (value_cmp-Int n id)) ∙ sym (ap (λ v. is_eq (value_cmp v (Int id))) is) ∙ has in
-        is ∙ ap Int ((Decides-int_eq n id).0 same)
-
-    pub sets_row : (params : Row) (id : ℤ) (Becomes : Row → Row → Type 0) → column params 0 ≡ Int id
-        → ((r : Row) → rowid (eval_all project (params ∷ r ∷ [])) ≡ rowid r)
-        → (old new : State) (count : ℕ) → old.now.schema ≡ schema → IsSound schema old.now.trees → HaveRowids (old.now.trees tree)
-        → ((r : Row) → Has (old.now.trees tree) r → rowid r ≡ Int id → (row : Row) × (cast_row table (drop 1 (eval_all project (params ∷ r ∷ []))) ≡ row) × (rowid row ≡ Int id) × Becomes r row)
-        → Executes text params old new (Ok count) → Wrote old new × IsSet id Becomes old.now.trees new.now.trees
-    sets_row params id Becomes asked heads old new count has sound keyed made h =
-        let low = low_tree schema table d old.now.trees sound in
-        let ran = update_ran schema d.at table d.there text params old new count has (program_on tree (parts_of project)) (update_means low) h in
-        let db = old.now.trees in
-        let same = all_find params 0 id asked (db tree) keyed.integers in
-        (ran.0, go low (filter (has_rowid id) (db tree)) refl (keyed.once id) same ran.1)
-      where
-        go : tree < 65536 → (found : List Row) → filter (has_rowid id) (old.now.trees tree) ≡ found → length found ≤ 1
-            → filter (finds (parts_of project).tests params) (old.now.trees tree) ≡ filter (has_rowid id) (old.now.trees tree)
-            → (w : Written) × Updates (task old.step_limit schema table params) (program_on tree (parts_of project)) params old.now.trees (Ok w) × (new.now.trees ≡ w.trees) → IsSet id Becomes old.now.trees new.now.trees
-        go low (r ∷ s ∷ more) two few same done = absurd (omega (arith, few))
-        go low [] none few same (w, did, trees) =
-            let done = updates_none old.step_limit schema table params (parts_of project) params old.now.trees w (uncovered schema table d low old.now.trees) (same ∙ none) did in
-            inl (none, ap (λ (t : Trees). t tree) trees ∙ done.0, subst (Spares schema tree old.now.trees) (sym trees) done.1)
-        go low (r ∷ []) only few same (w, did, trees) =
-            let it = some_found id (old.now.trees tree) r only in
-            let number = number_of r id (all_has _ (old.now.trees tree) r keyed.integers it.0) it.1 in
-            let next = made r it.0 number in
-            let put = updates_one old.step_limit schema table params d.alone (parts_of project) params old.now.trees r next.0 id w (uncovered schema table d low old.now.trees) (same ∙ only) only next.1
-            (ap id_in (heads r ∙ number)) (next.2 ∙ sym number) (λ i has unique on. absurd (none_on schema table d refl i has unique on)) did in
-            inr (r, next.0, it.0, only, next.3, subst (IsPut schema table next.0 id old.now.trees) (sym trees) put)
-
-    -- what the table lists then
-    pub lists_set : {X : Type 0} (written : X → Row) (columns : Row → Row) (key : X → ℤ) (wk : (x : X) → column (written x) 0 ≡ Int (key x)) (sk : (r : Row) → column (columns r) 0 ≡ rowid r)
-        (id : ℤ) (set : X → X) (change : Row → Row) (changes : (x : X) → written (set x) ≡ change (written x)) (xs : List X) (old new : Trees) → Lists written columns xs (old tree) → HaveRowids (old tree)
-        → IsSet id (λ r it. (columns it ≡ change (columns r)) × (rowid it ≡ Int id)) old new
-        → Lists written columns (map (set_if written columns key wk sk id set change changes) xs) (new tree) × HaveRowids (new tree) × Spares schema tree old new
-    lists_set written columns key wk sk id set change changes xs old new lists ids (inl (none, same, others)) =
-        (rw same (sets_none written columns key wk sk id set change changes xs (old tree) lists none), rw same ids, others)
-    lists_set written columns key wk sk id set change changes xs old new lists ids (inr (r, now, has, only, becomes, put)) =
-        let it = some_found id (old tree) r only in
-        (rw put.rows (sets_one written columns key wk sk id set change changes xs (old tree) r now lists only it.1 becomes.0 becomes.1), rw put.rows (rowids_stay id now becomes.1 (old tree) ids), put.others)
-
 -- ---- what it does to the rows of a table
+
+number_of : (r : Row) (id : ℤ) → IsTrue (is_int (rowid r)) → has_rowid id r ≡ true → rowid r ≡ Int id
+number_of r id integer has =
+    let n = id_in (rowid r) in
+    let is : rowid r ≡ Int n = int_is (rowid r) integer in
+    let same : int_eq n id ≡ true = sym (ap is_eq (value_cmp-Int n id)) ∙ sym (ap (λ v. is_eq (value_cmp v (Int id))) is) ∙ has in
+    is ∙ ap Int ((Decides-int_eq n id).0 same)
 
 -- a row as its tree keeps it, of its columns
 abbrev pub kept : Row → Row
@@ -226,7 +181,7 @@ module _ (name : List ℕ) (columns : List Column) (own : List ℕ) (text : List
 
     -- what becomes of a row of the tree
     becomes : (x : X) (r : Row) → columns_at own r ≡ row x → rowid r ≡ value.Int id
-        → (it : Row) × (cast_row its_table (drop 1 (made_row r)) ≡ it) × (rowid it ≡ value.Int id) × ((columns_at own it ≡ change (columns_at own r)) × (rowid it ≡ value.Int id))
+        → (it : Row) × (cast_row its_table (drop 1 (made_row r)) ≡ it) × (rowid it ≡ value.Int id) × (columns_at own it ≡ change (columns_at own r))
     becomes x r is number =
         let y = set x in
         let it = stored (key y) (row y) in
@@ -234,13 +189,41 @@ module _ (name : List ℕ) (columns : List Column) (own : List ℕ) (text : List
         let head : value.Int (key x) ≡ value.Int id = sym (u.first x) ∙ sym (ap (λ (s : Row). column s 0) is) ∙ u.first_shown r ∙ number in
         let keyed : rowid it ≡ value.Int id = ap value.Int (u.same_key x) ∙ head in
         let same : kept (change (columns_at own r)) ≡ it = ap kept changed ∙ ap (λ v. v ∷ value.Null ∷ drop 1 (row y)) (u.first y) in
-        (it, ap (λ (s : Row). cast_row its_table (drop 1 s)) (u.made r) ∙ ap (cast_row its_table) same ∙ cast_stored name columns tree (row y) (key y) (u.suits y), keyed, (u.back y ∙ sym changed, keyed))
+        (it, ap (λ (s : Row). cast_row its_table (drop 1 s)) (u.made r) ∙ ap (cast_row its_table) same ∙ cast_stored name columns tree (row y) (key y) (u.suits y), keyed, u.back y ∙ sym changed)
+
+    abbrev parts : Parts
+    parts = parts_of name columns text places (project name columns text places)
+
+    -- the list with what is set, whether the row with the number is there or not
+    abbrev IsListed : List X → Trees → Trees → Type 0
+    IsListed xs old new = Lists row (columns_at own) (map (λ x. if int_eq (key x) id then set x else x) xs) (new tree) × HaveRowids (new tree) × Spares schema tree old new
 
     pub sets_by_rowid : (old new : State) (count : ℕ) (xs : List X) → old.now.schema ≡ schema → IsSound schema old.now.trees → HaveRowids (old.now.trees tree) → Lists row (columns_at own) xs (old.now.trees tree)
-        → Executes text params old new (Ok count)
-        → Wrote old new × (Lists row (columns_at own) (map (λ x. if int_eq (key x) id then set x else x) xs) (new.now.trees tree) × HaveRowids (new.now.trees tree) × Spares schema tree old.now.trees new.now.trees)
+        → Executes text params old new (Ok count) → Wrote old new × IsListed xs old.now.trees new.now.trees
     sets_by_rowid old new count xs has sound ids lists h =
-        let db = old.now.trees in
-        let did = sets_row name columns text places u.update schema tree d params id (λ r it. (columns_at own it ≡ change (columns_at own r)) × (rowid it ≡ value.Int id)) refl (λ r. ap rowid (u.made r)) old new count has sound ids
-        (λ r within number. let x = shows_one row (columns_at own) xs (db tree) lists r within in becomes x.0 r x.1 number) h in
-        (did.0, lists_set name columns text places u.update schema tree d row (columns_at own) key u.first u.first_shown id set change u.changes xs db new.now.trees lists ids did.1)
+        let low = low_tree schema its_table d old.now.trees sound in
+        let ran = update_ran schema d.at its_table d.there text params old new count has (program_on tree parts) (update_means name columns text places u.update schema tree d low) h in
+        let same = all_find params 0 id refl (old.now.trees tree) ids.integers in
+        (ran.0, go low (filter (has_rowid id) (old.now.trees tree)) refl (ids.once id) same ran.1)
+      where
+        go : tree < 65536 → (found : List Row) → filter (has_rowid id) (old.now.trees tree) ≡ found → length found ≤ 1 → filter (finds parts.tests params) (old.now.trees tree) ≡ filter (has_rowid id) (old.now.trees tree)
+            → (w : Written) × Updates (task old.step_limit schema its_table params) (program_on tree parts) params old.now.trees (Ok w) × (new.now.trees ≡ w.trees) → IsListed xs old.now.trees new.now.trees
+        go low (r ∷ s ∷ more) two few same done = absurd (omega (arith, few))
+        go low [] none few same (w, did, trees) =
+            let db = old.now.trees in
+            let done = updates_none old.step_limit schema its_table params parts params db w (uncovered schema its_table d low db) (same ∙ none) did in
+            let rows : new.now.trees tree ≡ db tree = ap (λ (t : Trees). t tree) trees ∙ done.0 in
+            (rw rows (sets_none row (columns_at own) key u.first u.first_shown id set change u.changes xs (db tree) lists none), rw rows ids, subst (Spares schema tree db) (sym trees) done.1)
+        go low (r ∷ []) only few same (w, did, trees) =
+            let db = old.now.trees in
+            let it = some_found id (db tree) r only in
+            let number = number_of r id (all_has _ (db tree) r ids.integers it.0) it.1 in
+            let x = shows_one row (columns_at own) xs (db tree) lists r it.0 in
+            let next = becomes x.0 r x.1 number in
+            let put = updates_one old.step_limit schema its_table params d.alone parts params db r next.0 id w (uncovered schema its_table d low db) (same ∙ only) only next.1
+            (ap id_in (ap rowid (u.made r) ∙ number)) (next.2 ∙ sym number) (λ i has unique on. absurd (none_on schema its_table d refl i has unique on)) did in
+            let rows = ap (λ (t : Trees). t tree) trees ∙ put.rows in (
+              rw rows (sets_one row (columns_at own) key u.first u.first_shown id set change u.changes xs (db tree) r next.0 lists only it.1 next.3 next.2),
+              rw rows (rowids_stay id next.0 next.2 (db tree) ids),
+              subst (Spares schema tree db) (sym trees) put.others,
+            )
