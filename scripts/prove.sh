@@ -1,7 +1,8 @@
 #!/bin/bash
 # Proves the crates of crates.txt side by side, each once those that it stands on are proved, and builds the program. A crate that begins
 # has all processors, or one fewer for each two that are proved beside it: these end sooner or later, and the longest has the processors
-# then. If a crate isn't proved, the others are stopped, and what `rt` wrote of it is shown.
+# then. Those on which the longest chain of crates stands come first, since the program has to wait for it; the others take what these
+# leave. If a crate isn't proved, the others are stopped, and what `rt` wrote of it is shown.
 #   scripts/prove.sh     JOBS (1): how many crates at a time; RT (rt): the toolchain's command
 # Only one `rt` at a time works in the folder of a crate and in those of the crates below it. So each crate is proved in a room of its
 # own under build/: copies of its texts and of those below it, and links to the libraries that were built of these. The folder out/,
@@ -23,6 +24,16 @@ for crate in "${crates[@]}"; do
     for word in ${uses[$crate]}; do [ -z "${uses[$word]+is}" ] || own+=("$word"); done
     uses[$crate]=${own[*]}
 done
+
+# How many crates stand on each one, one on the other, at most.
+declare -A above=()
+rise() { # CRATE HEIGHT
+    local crate
+    [ "${above[$1]:-0}" -lt "$2" ] && [ "$2" -le ${#crates[@]} ] || return 0
+    above[$1]=$2
+    for crate in ${uses[$1]}; do rise "$crate" $(($2 + 1)); done
+}
+for crate in "${crates[@]}"; do rise "$crate" 1; done
 
 # The crates below each one that can start.
 declare -A below=()
@@ -61,12 +72,13 @@ leave_rooms() {
     rm -rf "$rooms"
 }
 
-prove() { # CRATE CHECKS
+prove() { # CRATE CHECKS NICENESS
+    local rt=(nice -n "$3" "$rt")
     exec 9< "crates/$1"
     flock 9
     enter_room "$1"
     cd "$rooms/$1/crates/$1"
-    if [ -e src/main.rt ]; then "$rt" run --jobs "$2" -- --help; else "$rt" lib --jobs "$2"; fi
+    if [ -e src/main.rt ]; then "${rt[@]}" run --jobs "$2" -- --help; else "${rt[@]}" lib --jobs "$2"; fi
 }
 
 # One run of this script at a time works in build/. It begins with what one that was killed left in its rooms.
@@ -75,6 +87,15 @@ exec 8< build
 flock -n 8 || { echo 'Waiting until another run in this folder has ended.' >&2; flock 8; }
 leave_rooms
 mkdir "$rooms"
+
+# 0 if no crate that isn't proved has a longer chain above it, and else 10.
+niceness() { # CRATE
+    local crate
+    for crate in "${waiting[@]}" "${running[@]}"; do
+        [ "${above[$crate]}" -le "${above[$1]}" ] || { echo 10; return; }
+    done
+    echo 0
+}
 
 stop() {
     trap '' INT TERM HUP
@@ -90,7 +111,8 @@ trap 'exit 143' TERM HUP
 
 # What runs, by its process, and what is proved.
 declare -A running=() proved=()
-waiting=("${crates[@]}") count=0
+mapfile -t waiting < <(for crate in "${crates[@]}"; do echo "${above[$crate]} $crate"; done | sort -srnk1,1 | cut -d' ' -f2)
+count=0
 while [ $((${#waiting[@]} + ${#running[@]})) -gt 0 ]; do
     for i in "${!waiting[@]}"; do
         crate=${waiting[$i]}
@@ -98,7 +120,7 @@ while [ $((${#waiting[@]} + ${#running[@]})) -gt 0 ]; do
             unset "waiting[$i]"
             count=$((count + 1))
             echo "[$count of ${#crates[@]}] $crate" >&2
-            prove "$crate" $((jobs - ${#running[@]} / 2)) > "$rooms/$crate.log" 2>&1 < /dev/null &
+            prove "$crate" $((jobs - ${#running[@]} / 2)) "$(niceness "$crate")" > "$rooms/$crate.log" 2>&1 < /dev/null &
             running[$!]=$crate
         fi
     done
