@@ -26,7 +26,7 @@ abbrev pub IsPlanned : Book → Command → Effect → Type 0
 IsPlanned book command effect =
     IsAccepted book None command × ((next : Book) × Makes book command next × Does book command next effect) × HasCharacters command
 
--- the command is refused with the first refusal that holds, or memory was
+-- the command is refused with the first refusal that holds, or an allocation failed
 abbrev pub IsTurnedDown : Book → Command → Refusal → Type 0
 IsTurnedDown book command refusal = IsRefused book None command refusal ⊎ ((refusal ≡ NoMemory) × MayLackMemory book None command)
 

@@ -1,4 +1,4 @@
--- How a book is kept: its tables with their rules, its paragraphs with their prints and cells.
+-- How a book is kept: its tables with their rules, its paragraphs with their prints and cells, and its marks.
 use Rattle.std.specs.Prelude.{◌≡◌, ℕ, ◌-◌, ◌≤◌, length, drop, nat_eq, not, ◌==◌, if◌then◌else◌, List, [], ◌∷◌, ◌++◌, map, slice_get, Option, Some, option_to_list, option_map}
 use Rattle.std.specs.List.{All, enumerate_from, filter, find, flat_map, fold}
 use Rattle.std.specs.Str.{chars}

@@ -14,7 +14,7 @@ IsWithin mark = (mark.start ≤ mark.end) × (mark.end ≤ most_print)
 abbrev pub AreWithin : List KeptMark → Type 0
 AreWithin marks = All IsWithin marks
 
--- the places that it covers, and whether a correction has touched what it covered
+-- the places that it covers, and whether a correction or an undo has touched what it covered
 abbrev pub span_kept : KeptMark → Span
 span_kept mark = record { start = mark.start; end = mark.end; touched = mark.touched }
 

@@ -1,4 +1,4 @@
--- Kept paragraphs whose prints change.
+-- Kept paragraphs that get another print or a mark.
 use Rattle.std.specs.Prelude.{◌≡◌, ℕ, ◌+◌, ◌<◌, ◌^◌, [], ◌∷◌, ◌++◌, length, nat_eq, Option, Some}
 use Rattle.std.specs.Map.{lookup}
 use Rattle.desk_memory.specs.declared.paragraphs.PrintChange.{PrintChange}

@@ -48,7 +48,7 @@ impl Correction {
         count_of(self.text.as_str())
     }
 
-    /// The print, where the text stands at its place, with what gave way to it there again.
+    /// The print with what gave way to the text in its place again. The text stands at its place in the print that is given.
     pub fn undone(&self, alloc: Global, print: &[char]) -> Result<Vec<char>, AllocError>
         requires { self.now.start + length self.now.text ≤ length print.now }
         ensures { IfOk result (λ new.

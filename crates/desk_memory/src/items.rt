@@ -1,4 +1,5 @@
-//! Lists that a planned change makes longer without memory, at a constant cost for each item, taken over all.
+//! Lists that a planned change makes longer without allocating. An item at the end has a constant cost, taken over all; one
+//! at a place moves those behind it.
 ghost use Rattle.desk_memory.specs.Room.{Suffices, grown as grown_lem, room_of};
 ghost use Rattle.std.specs.List.{insert};
 ghost use Rattle.std.specs.Prelude.{◌≡◌, ◌+◌, ◌<◌, ◌≤◌, ◌^◌, [], ◌∷◌, ◌++◌, IfOk, IfSome, length};

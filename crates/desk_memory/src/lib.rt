@@ -1,7 +1,7 @@
 //! How a book is kept in memory: its tables, its paragraphs with their histories and their order, its marks, and the room that
 //! they have to grow.
 //!
-//! A list is made longer in two steps. What it needs is asked for first ([`Items::room`], [`Tables`] with [`TablesRoom`]), and
+//! When a command makes a list longer, this takes two steps. What it needs is asked for first ([`Items::room`], [`Tables`] with [`TablesRoom`]), and
 //! this can fail; the item is put in then, and this allocates nothing. So a change of a book can be planned, written to a file
 //! and applied, and nothing that fails is left for the last step.
 //!

@@ -21,7 +21,7 @@ pub struct KeptMark {
     pub end: usize,
     /// The proofreader's note.
     pub note: Text,
-    /// Whether a correction has touched what it covers.
+    /// Whether a correction or an undo has touched what it covers.
     pub touched: bool,
     /// Whether it is dealt with.
     pub resolved: bool,

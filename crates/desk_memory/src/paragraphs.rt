@@ -307,7 +307,7 @@ impl Paragraphs {
         self.items.room(alloc)
     }
 
-    /// What the order of one more needs: mostly nothing.
+    /// What the order needs for one more id: mostly nothing.
     pub fn order_room(&self, alloc: Global) -> Result<Room<u64>, AllocError>
         requires { length self.now + 1 < 2 ^ 32 }
         ensures { IfOk result (Suffices (length self.now)) }
@@ -315,7 +315,8 @@ impl Paragraphs {
         self.order.room(alloc)
     }
 
-    /// The place in the order at which a paragraph stands that is put where a command says, after one that is there.
+    /// The place in the order at which a paragraph comes to stand that is put where a command says. If that is after a
+    /// paragraph, this one has to be there.
     pub fn place_for(&self, after: Anchor) -> usize
         requires { (id : ℕ) → Contains (paragraph_before after) id → Contains (ids self.now) id }
         ensures within { result ≤ length self.now }
@@ -439,7 +440,7 @@ impl Paragraphs {
         }
     }
 
-    /// Gives paragraphs new cells: those with id n the item n - 1, if that has any.
+    /// Gives paragraphs new cells: the one with id n gets those of item n - 1, if that has any.
     pub fn renew(&mut self, cells: Vec<Option<Cells>>)
         ensures { self.new ≡ map (with_new_cells cells.items) self.old }
     {

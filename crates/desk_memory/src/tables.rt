@@ -192,7 +192,7 @@ impl Tables {
         Ok(())
     }
 
-    /// Puts a table in the place of the one with the name, if there is one.
+    /// Puts a table in the place of the one with the name, which is there.
     pub fn replace(&mut self, name: &str, table: BoxedTable)
         requires { IsSome (lookup (pointwise nat_eq (chars name.now)) self.old) }
         ensures { self.new ≡ with_table (chars name.now) table self.old }

@@ -1,4 +1,4 @@
--- What the crates above cite of these proofs.
+-- What the crates above desk_book cite of these proofs.
 
 -- A sound book has its paragraphs by their ids, each sound and with a short print, and its tables by their names.
 pub use Rattle.desk_model.proofs.Books.SoundBooks.{IsSoundParagraph-found, IsSoundTable-found, paragraph_of-own, short-sound}

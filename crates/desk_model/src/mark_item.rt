@@ -11,7 +11,7 @@ pub struct MarkItem<'a> {
     pub end: usize,
     /// Whether it is dealt with.
     pub resolved: bool,
-    /// Whether a correction has touched what it covers.
+    /// Whether a correction or an undo has touched what it covers.
     pub touched: bool,
     /// The proofreader's note.
     pub note: &'a str,

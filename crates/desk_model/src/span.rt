@@ -3,14 +3,14 @@ ghost use Rattle.desk_model.specs.Limits.{most_print};
 ghost use Rattle.desk_model.specs.Marks.{moved_span};
 ghost use Rattle.std.specs.Prelude.{◌≡◌, ◌+◌, ◌≤◌};
 
-/// The places that a mark covers, and whether a correction has touched what it covered.
+/// The places that a mark covers, and whether a correction or an undo has touched what it covered.
 #[derive(Clone, Copy)]
 pub struct Span {
     /// The first place of the print that it covers, from 0.
     pub start: usize,
     /// The place after the last that it covers.
     pub end: usize,
-    /// Whether a correction has touched what it covers.
+    /// Whether a correction or an undo has touched what it covers.
     pub touched: bool,
 }
 

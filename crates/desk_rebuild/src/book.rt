@@ -148,7 +148,8 @@ fn kept_book(
     })
 }
 
-/// The book that the parts show, with the braille that they have, once it is that of their prints, or else made anew.
+/// What is kept of the book that the parts show. Its braille is that of the rows of `cache`, which has to be that of the
+/// prints; without these rows it is made.
 ///
 /// # Errors
 ///

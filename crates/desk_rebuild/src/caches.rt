@@ -79,7 +79,8 @@ fn is_its_braille(tables: &Tables, paragraph: &Paragraph, masks: &[u8]) -> bool
     }
 }
 
-/// The smallest id, of rows in order, that has no paragraph, two rows, none, or one without the paragraph's braille.
+/// The smallest id at which rows, in the order of their ids, are wrong: no paragraph has it, or its paragraph has two rows, no
+/// row, or a row without its braille.
 fn misfit(tables: &Tables, paragraphs: &[Paragraph], rows: &[CacheRow]) -> Option<i64>
     requires translatable { All (IsTranslatable tables.now) paragraphs.now }
     requires few { length paragraphs.now ≤ most_paragraphs }

@@ -44,7 +44,8 @@ struct Next {
     print: Vec<char>,
 }
 
-/// The correction of a print that the row stands for, if the print has what it takes away.
+/// The correction of a print that the row stands for, if it is a sound one: the print has what it takes away, its text has no
+/// barred character, and its proofreader's name is one.
 fn correction(alloc: Global, print: &[char], row: NamedCorrRow) -> Result<Option<Next>, AllocError>
     requires { row.entry.kind ≡ pos 0 }
     ensures sound { IfOk result (λ next. IfSome next (IsCorrecting print.now row)) }

@@ -1,8 +1,8 @@
 //! How a book is made of the rows of its file: each row is validated and converted, and the first damage is reported.
 //!
 //! The rows of one table are read after those of another, in this order: tables, paragraphs, entries of histories, marks and
-//! braille. A row is judged by itself and by the rows before it in the order of their ids, so that each table is sorted once and
-//! walked once.
+//! braille. A row is judged by itself, by the rows before it in the order of their keys, and by what was made of the tables
+//! before. Entries are grouped by paragraphs first, and rows of `cache` are compared before they are converted.
 //!
 //! ```rust
 //! use desk_rebuild::rebuild;

@@ -50,7 +50,7 @@ fn style_of(number: i64) -> Option<Style>
     }
 }
 
-/// Whether the table with this name, if there is one, defines a print.
+/// Whether there is a table with this name, and it defines a print.
 fn are_defined_by(tables: &Tables, name: &str, print: &[char]) -> bool
     ensures { IsTrue result ↔ AreDefinedBy tables.now (chars name.now) print.now }
 {
