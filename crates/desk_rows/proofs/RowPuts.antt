@@ -1,6 +1,5 @@
 pub mod ByName
 pub mod Changing
-pub mod Distinct
 pub mod LentPuts
 pub mod Named
 pub mod PutTables

@@ -1,5 +1,4 @@
 pub mod Answering
-pub mod Asking
 pub mod Beginnings
 pub mod FileTexts
 pub mod OneList

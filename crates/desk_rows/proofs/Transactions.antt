@@ -2,5 +2,4 @@ pub mod Both
 pub mod Committing
 pub mod Ending
 pub mod LostStores
-pub mod Reopening
 pub mod Turns

@@ -36,14 +36,14 @@ putting_items g gives it = record {
 
 -- these tables are made before that
 abbrev pub making_tables : {S I : Type 0} → Ghosts S → List FileTable → (I → Option Put → I → Type 0) → I → Work S
-making_tables g ws gives it = record {
-  putting = after_tables g ws (of_items g gives it);
+making_tables g tables gives it = record {
+  putting = after_tables g tables (of_items g gives it);
   Shown = λ old new. OfItems gives it (λ xs.
-      WritesWithTables ws xs (state g old) new
-      × AreRun g (map creation ws ++ map statement xs) old new);
+      WritesWithTables tables xs (state g old) new
+      × AreRun g (map creation tables ++ map statement xs) old new);
   Left = λ old db. OfItems gives it (λ xs.
-      IsFileWithTables ws xs (state g old) db
-      × IsLeftBy g (map creation ws ++ map statement xs) old db);
+      IsFileWithTables tables xs (state g old) db
+      × IsLeftBy g (map creation tables ++ map statement xs) old db);
 }
 
 -- The tables of a new file are made, with the row of a new book, where none of their names is taken.

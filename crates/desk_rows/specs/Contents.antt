@@ -13,23 +13,23 @@ use Rattle.desk_rows.specs.Rows.{columns_of, set_at}
 
 -- the rows of the tables, each list in any order, and those of the other trees
 pub record Contents : Type 0 where
-  pub rows : (w : FileTable) → List (RowOf w)
+  pub rows : (t : FileTable) → List (RowOf t)
   pub others : Trees
 
 -- the tables hold just this
 pub record Holds (l : Layout) (c : Contents) (db : Trees) : Type 0 where
-  pub tables : (w : FileTable) → l.has w ≡ true
-      → Lists (columns_of w) (columns_at (description_of w).own) (c.rows w) (db (l.tree w))
+  pub tables : (t : FileTable) → l.has t ≡ true
+      → Lists (columns_of t) (columns_at (description_of t).own) (c.rows t) (db (l.tree t))
   -- the rows that may be changed are distinguished, those of `tab` by their hidden rowids too
-  pub ids : (w : FileTable) → l.has w ≡ true → (description_of w).is_changed ≡ true → HaveRowids (db (l.tree w))
+  pub ids : (t : FileTable) → l.has t ≡ true → (description_of t).is_changed ≡ true → HaveRowids (db (l.tree t))
   pub others : AllByRecursion (λ t. IsOther l t.tree → db t.tree ≡ c.others t.tree) l.schema.tables
   -- and each tree that is no index, among them those that the database keeps as they are, the list of its schema and its user version
   pub aside : (tree : ℕ) → IsOther l tree → IsNoIndex l.schema tree → db tree ≡ c.others tree
 
 -- with other rows in one table
-abbrev pub with_rows : (w : FileTable) → (List (RowOf w) → List (RowOf w)) → Contents → Contents
-with_rows w f c = record c { rows = set_at w f c.rows }
+abbrev pub with_rows : (t : FileTable) → (List (RowOf t) → List (RowOf t)) → Contents → Contents
+with_rows t f c = record c { rows = set_at t f c.rows }
 
 -- with this row put
-abbrev pub with_row : (w : FileTable) → RowOf w → Contents → Contents
-with_row w x = with_rows w (put_to w x)
+abbrev pub with_row : (t : FileTable) → RowOf t → Contents → Contents
+with_row t x = with_rows t (put_to t x)

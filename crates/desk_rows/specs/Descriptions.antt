@@ -143,9 +143,9 @@ description_of tables.NamedCorr =
 
 -- the table in this tree
 abbrev pub table_of : FileTable → ℕ → Table
-table_of w =
-    plain_table (description_of w).name (description_of w).columns (description_of w).key (description_of w).primary
-    (description_of w).uniques (description_of w).orders
+table_of t =
+    plain_table (description_of t).name (description_of t).columns (description_of t).key (description_of t).primary
+    (description_of t).uniques (description_of t).orders
 
 -- what stands at a place of a row as its tree keeps it
 abbrev pub kind_at : List Column → ℕ → Kind
@@ -160,7 +160,7 @@ is_text _ = false
 
 -- whether the query shows the rowid, and whether the table has texts
 abbrev pub shows_rowid : FileTable → Bool
-shows_rowid w = list_any (λ at. at == 0) (description_of w).shown
+shows_rowid t = list_any (λ at. at == 0) (description_of t).shown
 
 abbrev pub has_texts : FileTable → Bool
-has_texts w = list_any (λ c. is_text c.kind) (description_of w).columns
+has_texts t = list_any (λ c. is_text c.kind) (description_of t).columns

@@ -13,12 +13,12 @@ use Rattle.desk_parts.specs.declared.file_table.FileTable.TheVariants as tables
 use Rattle.desk_parts.specs.declared.put.Put.{Put}
 
 -- Of these tables those so far were made, and this is what the database answered to the statement that makes the next.
-pub record StopsMaking {S : Type 0} (g : Ghosts S) (ws : List FileTable) (old : Held S) (new : State) (e : Error)
+pub record StopsMaking {S : Type 0} (g : Ghosts S) (tables : List FileTable) (old : Held S) (new : State) (e : Error)
     : Type 0 where
   pub done : List FileTable
   pub next : FileTable
   pub later : List FileTable
-  pub all : ws ≡ done ++ next ∷ later
+  pub all : tables ≡ done ++ next ∷ later
   pub stops : Stops g (map creation done) (FailsWith (creation next)) old new e
   pub made : MakesTables done (state g old) (state g stops.before)
 
@@ -44,11 +44,11 @@ of_first_row g = record {
 
 -- These tables are made first: some of them aren't, or what is put then isn't.
 abbrev pub after_tables : {S : Type 0} → Ghosts S → List FileTable → Putting S → Putting S
-after_tables {S} g ws putting = record {
-  stops = λ old new e. StopsMaking g ws old new e
-      ⊎ ((made : Held S) × Survives (state g old) (state g made) (λ _. ⊥) × AreMade g ws old made
+after_tables {S} g tables putting = record {
+  stops = λ old new e. StopsMaking g tables old new e
+      ⊎ ((made : Held S) × Survives (state g old) (state g made) (λ _. ⊥) × AreMade g tables old made
       × Survives (state g made) new (λ _. ⊥) × putting.stops made new e);
-  puts = λ old new. (made : Held S) × Survives (state g old) (state g made) (λ _. ⊥) × AreMade g ws old made
+  puts = λ old new. (made : Held S) × Survives (state g old) (state g made) (λ _. ⊥) × AreMade g tables old made
       × Survives (state g made) (state g new) (λ _. ⊥) × putting.puts made new;
 }
 
@@ -64,4 +64,4 @@ module _ {S : Type 0} (g : Ghosts S) where
         → Fails (state g last) new ⊥ e → FailsToPut putting old new e
 
   abbrev pub FailsToChange : List FileTable → Putting S → Held S → State → Error → Type 0
-  FailsToChange ws putting = FailsToPut (after_tables g ws putting)
+  FailsToChange tables putting = FailsToPut (after_tables g tables putting)

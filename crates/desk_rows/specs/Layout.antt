@@ -14,8 +14,8 @@ pub record Layout : Type 0 where
 
 -- the schema declares these tables in their trees, as a new file has them
 abbrev pub AreDeclared : Layout → Type 0
-AreDeclared l = (w : FileTable) → l.has w ≡ true → IsDeclared l.schema (table_of w (l.tree w))
+AreDeclared l = (t : FileTable) → l.has t ≡ true → IsDeclared l.schema (table_of t (l.tree t))
 
 -- the tree of none of them
 abbrev pub IsOther : Layout → ℕ → Type 0
-IsOther l tree = (w : FileTable) → l.has w ≡ true → tree ≢ l.tree w
+IsOther l tree = (t : FileTable) → l.has t ≡ true → tree ≢ l.tree t

@@ -1,5 +1,5 @@
 -- What making tables does to a file, and what making all of them does to one that has none.
-use Rattle.std.specs.Prelude.{◌≡◌, ℕ, Bool, pos, true, false, if◌then◌else◌, List, [], ◌∷◌, ◌++◌, map, bytes_eq, ⊤}
+use Rattle.std.specs.Prelude.{◌≡◌, ℕ, Bool, pos, true, false, if◌then◌else◌, List, [], ◌∷◌, ◌++◌, map, bytes_eq, Result, IfErr, OnOk, ⊤}
 use Rattle.std.specs.List.{AllByRecursion, list_any}
 use Rattle.sqlite_trees.specs.declared.store.Store.{Ghosts}
 use Rattle.sqlite_trees.specs.Tree.{Trees}
@@ -8,7 +8,8 @@ use Rattle.sqlite_catalog.specs.Change.{KeepsRows, created, next_tree, is_used}
 use Rattle.sqlite.specs.Does.{lacks_sequence}
 use Rattle.sqlite.specs.Effect.{Database}
 use Rattle.sqlite.specs.Held.{Held, state}
-use Rattle.sqlite.specs.State.{State}
+use Rattle.sqlite.specs.declared.error.Error.{Error}
+use Rattle.sqlite.specs.State.{State, KeepsCommit}
 use Rattle.desk_parts.specs.declared.file_table.FileTable.{FileTable}
 use Rattle.desk_parts.specs.declared.file_table.FileTable.TheVariants as tables
 use Rattle.desk_parts.specs.declared.rows.BookRow.{BookRow}
@@ -19,7 +20,7 @@ use Rattle.desk_rows.specs.Descriptions.{description_of, table_of}
 use Rattle.desk_rows.specs.Layout.{Layout}
 use Rattle.desk_rows.specs.Puts.{HasThem, puts_into, row_put}
 use Rattle.desk_rows.specs.States.{IsFile, ShowsContents}
-use Rattle.desk_rows.specs.Turns.{RunInTurn, Statement}
+use Rattle.desk_rows.specs.Turns.{FailsWith, Ran, RunInTurn, Statement}
 
 -- the tables of a new file, in the order in which they are made
 abbrev pub new_tables : List FileTable
@@ -27,7 +28,7 @@ new_tables = tables.Book ∷ tables.Tab ∷ tables.Para ∷ tables.Mark ∷ tabl
 
 -- No table, index or view has the name of one of these in either case of its letters, nor has what the database keeps as it is.
 abbrev pub AreFreeIn : Schema → List FileTable → Type 0
-AreFreeIn s = AllByRecursion (λ w. is_used s (description_of w).name ≡ false)
+AreFreeIn s = AllByRecursion (λ t. is_used s (description_of t).name ≡ false)
 
 abbrev pub AreAbsent : Schema → Type 0
 AreAbsent s = AreFreeIn s new_tables
@@ -36,26 +37,26 @@ AreAbsent s = AreFreeIn s new_tables
 -- counter isn't there.
 abbrev pub after : List FileTable → Schema → Schema
 after [] s = s
-after (w ∷ ws) s = after ws (first_created s (table_of w 0))
+after (t ∷ tables) s = after tables (first_created s (table_of t 0))
 
 -- the tree that a table takes when these are made
 abbrev pub tree_in : List FileTable → Schema → FileTable → ℕ
-tree_in [] s w = 0
-tree_in (v ∷ vs) s w =
-    if bytes_eq (description_of v).name (description_of w).name
+tree_in [] s t = 0
+tree_in (v ∷ vs) s t =
+    if bytes_eq (description_of v).name (description_of t).name
     then next_tree s
-    else tree_in vs (first_created s (table_of v 0)) w
+    else tree_in vs (first_created s (table_of v 0)) t
 
 -- whether a table is one of these
 abbrev pub is_among : List FileTable → FileTable → Bool
-is_among ws w = list_any (λ v. bytes_eq (description_of v).name (description_of w).name) ws
+is_among tables t = list_any (λ v. bytes_eq (description_of v).name (description_of t).name) tables
 
 abbrev pub new_layout : Schema → Layout
 new_layout s = record { schema = after new_tables s; has = is_among new_tables; tree = tree_in new_tables s }
 
 -- no rows in the tables, beside those of the other trees
 abbrev pub no_contents : Trees → Contents
-no_contents others = record { rows = λ w. []; others = others }
+no_contents others = record { rows = λ t. []; others = others }
 
 -- the row of a new book, in format 2 and at version 0
 abbrev pub first_row : BookRow
@@ -79,22 +80,31 @@ IsNew s rows P =
 -- each differs from those after it
 abbrev pub Differ : List FileTable → Type 0
 Differ [] = ⊤
-Differ (w ∷ ws) = AllByRecursion (λ v. bytes_eq (description_of w).name (description_of v).name ≡ false) ws × Differ ws
+Differ (t ∷ tables) = AllByRecursion (λ v. bytes_eq (description_of t).name (description_of v).name ≡ false) tables × Differ tables
 
 -- Statements within a transaction made these tables, whose names were free.
-pub record MakesTables (ws : List FileTable) (old new : State) : Type 0 where
-  pub taken : AreFree (map (λ w. (description_of w).name) ws) old × FreesNone old new
+pub record MakesTables (tables : List FileTable) (old new : State) : Type 0 where
+  pub taken : AreFree (map (λ t. (description_of t).name) tables) old × FreesNone old new
   pub made : (committed : Database) (first : Schema) (rows : Trees) (before : Schema)
-      → Differ ws → IsMaking committed first rows before old → AreFreeIn before ws
-      → IsMaking committed first rows (after ws before) new
+      → Differ tables → IsMaking committed first rows before old → AreFreeIn before tables
+      → IsMaking committed first rows (after tables before) new
 
 -- the statement that makes a table
 abbrev pub creation : FileTable → Statement
-creation w = record { text = (description_of w).create; params = [] }
+creation t = record { text = (description_of t).create; params = [] }
+
+-- A table is made by its statement, and the transaction goes on; or the database answered an error to this.
+-- Nothing is committed.
+pub record IsCreated {V : Type 0} (result : Result V Error) (t : FileTable) (old new : State) : Type 0 where
+  pub made : OnOk result (MakesTables (t ∷ []) old new)
+  pub ran : OnOk result (Ran (creation t) old new)
+  pub inside : OnOk result (new.in_transaction ≡ true)
+  pub kept : KeepsCommit old new
+  pub told : old.in_transaction ≡ true → IfErr result (FailsWith (creation t) old new)
 
 -- All of these were made so by their statements.
 abbrev pub AreMade : {S : Type 0} → Ghosts S → List FileTable → Held S → Held S → Type 0
-AreMade g ws old new = MakesTables ws (state g old) (state g new) × RunInTurn g (map creation ws) old new
+AreMade g tables old new = MakesTables tables (state g old) (state g new) × RunInTurn g (map creation tables) old new
 
 -- the statements that make a new file
 abbrev pub making : List Statement
@@ -108,14 +118,14 @@ IsMade s db = AreAbsent s.now.schema × IsNew s.now.schema s.now.trees (λ c. Is
 
 -- the layout with these tables too, and the contents with no rows in them
 abbrev pub with_tables : List FileTable → Layout → Layout
-with_tables ws l = record {
-  schema = after ws l.schema;
-  has = λ v. if is_among ws v then true else l.has v;
-  tree = λ v. if is_among ws v then tree_in ws l.schema v else l.tree v;
+with_tables tables l = record {
+  schema = after tables l.schema;
+  has = λ v. if is_among tables v then true else l.has v;
+  tree = λ v. if is_among tables v then tree_in tables l.schema v else l.tree v;
 }
 
 abbrev pub with_none : List FileTable → Trees → Contents → Contents
-with_none ws others c = record { rows = λ v. if is_among ws v then [] else c.rows v; others = others }
+with_none tables others c = record { rows = λ v. if is_among tables v then [] else c.rows v; others = others }
 
 -- ---- tables that are made, and rows that are put then
 
@@ -123,18 +133,18 @@ with_none ws others c = record { rows = λ v. if is_among ws v then [] else c.ro
 -- database keeps aside, are as they were.
 abbrev pub IsGrown : List FileTable → List RowPut → Layout → Contents → Trees → (Layout → Contents → Type 0)
     → Type 0
-IsGrown ws puts l c rows P =
+IsGrown tables puts l c rows P =
     (others : Trees) × KeepsRows l.schema.tables rows others × KeepsAside l.schema rows others
-    × P (with_tables ws l) (puts_into puts (with_none ws others c))
+    × P (with_tables tables l) (puts_into puts (with_none tables others c))
 
 -- The tables were made in whatever file the connection showed, and the rows put, which have their tables then.
 abbrev pub WritesWithTables : List FileTable → List RowPut → State → State → Type 0
-WritesWithTables ws puts old new =
-    (l : Layout) (c : Contents) → Differ ws → HasThem (with_tables ws l) puts → ShowsContents l c old
-    → IsGrown ws puts l c old.now.trees (λ after d. ShowsContents after d new)
+WritesWithTables tables puts old new =
+    (l : Layout) (c : Contents) → Differ tables → HasThem (with_tables tables l) puts → ShowsContents l c old
+    → IsGrown tables puts l c old.now.trees (λ after d. ShowsContents after d new)
 
 -- The trees are such a file.
 abbrev pub IsFileWithTables : List FileTable → List RowPut → State → Trees → Type 0
-IsFileWithTables ws puts s db =
-    (l : Layout) (c : Contents) → Differ ws → HasThem (with_tables ws l) puts → ShowsContents l c s
-    → IsGrown ws puts l c s.now.trees (λ after d. IsFile after d db)
+IsFileWithTables tables puts s db =
+    (l : Layout) (c : Contents) → Differ tables → HasThem (with_tables tables l) puts → ShowsContents l c s
+    → IsGrown tables puts l c s.now.trees (λ after d. IsFile after d db)

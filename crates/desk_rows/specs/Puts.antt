@@ -48,8 +48,8 @@ Writes puts old new =
 -- ---- the statement of a put
 
 -- a row of a table
-abbrev pub row_put : (w : FileTable) → RowOf w → Statement
-row_put w x = record { text = (description_of w).put; params = columns_of w x }
+abbrev pub row_put : (t : FileTable) → RowOf t → Statement
+row_put t x = record { text = (description_of t).put; params = columns_of t x }
 
 abbrev pub statement : RowPut → Statement
 statement (PutBook row) = row_put tables.Book row
@@ -79,10 +79,10 @@ RunsTo (Err e) text params old new =
     KeepsCommit old new × (old.in_transaction ≡ true → ExecutesInside 0 text params old new (Err e))
 
 -- a row is put, over the same commit
-abbrev pub PutsRow : (w : FileTable) → RowOf w → State → State → Type 0
-PutsRow w x old new =
-    (committed : Database) (l : Layout) (c : Contents) → l.has w ≡ true
-    → IsUnder committed l c old → IsUnder committed l (with_row w x c) new
+abbrev pub PutsRow : (t : FileTable) → RowOf t → State → State → Type 0
+PutsRow t x old new =
+    (committed : Database) (l : Layout) (c : Contents) → l.has t ≡ true
+    → IsUnder committed l c old → IsUnder committed l (with_row t x c) new
 
 -- A put that allocates before its statement runs: a print is encoded, and cells are written as bytes.
 abbrev pub TakesMemory : RowPut → Type 0

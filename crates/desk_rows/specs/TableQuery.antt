@@ -30,19 +30,24 @@ pub record TableQuery : Type 0 where
 
 -- the first columns of a row that the query shows
 abbrev pub given : FileTable → Row → Row
-given w = columns_at (numbers_from 0 (description_of w).shown)
+given t = columns_at (numbers_from 0 (description_of t).shown)
 
 abbrev pub query_of : FileTable → TableQuery
-query_of w = record {
-  text = (description_of w).read;
-  columns = given w;
-  kinds = map (kind_at (description_of w).columns) (description_of w).shown;
+query_of t = record {
+  text = (description_of t).read;
+  columns = given t;
+  kinds = map (kind_at (description_of t).columns) (description_of t).shown;
 }
 
 -- what is read are the rows that the statement showed, in turn
 abbrev pub Gives : {X : Type 0} → TableQuery → (X → Row) → State → State → List X → Type 0
 Gives query written before after xs =
     (rows : List Row) × Shown query.text [] before after rows × (map query.columns rows ≡ map written xs)
+
+-- From this place on the values are of these kinds.
+abbrev pub AreOfKinds : ℕ → List Kind → Row → Type 0
+AreOfKinds at [] row = ⊤
+AreOfKinds at (kind ∷ kinds) row = IsOfKind kind (column row at) × AreOfKinds (suc at) kinds row
 
 -- From this place on the values are of these kinds as far as the first text or bytes, the first thing that is allocated.
 abbrev pub Begins : ℕ → List Kind → Row → Type 0
@@ -74,39 +79,39 @@ pub data FailsAs {X : Type 0} (query : TableQuery) (written : X → Row) (Apart 
       → FailsAs query written Apart before after fault
 
 -- The rows of a tree can be read: their rowids are integers where these are shown, and the texts are UTF-8 where there are any.
-pub record AreReadable (w : FileTable) (rows : List Row) : Type 0 where
-  pub ids : shows_rowid w ≡ true → HaveIntegerRowids rows
-  pub texts : has_texts w ≡ true → HaveUtf8Texts rows
+pub record AreReadable (t : FileTable) (rows : List Row) : Type 0 where
+  pub ids : shows_rowid t ≡ true → HaveIntegerRowids rows
+  pub texts : has_texts t ≡ true → HaveUtf8Texts rows
 
 -- any rows do
 abbrev pub AnyRows : {X : Type 0} → List X → Type 0
 AnyRows xs = ⊤
 
 -- A read of a whole table answers so, in rows that are viewed as those of the table and have to be apart so.
-pub record AnswersRows {V X : Type 0} (result : Result V DatabaseFault) (items : V → List X) (w : FileTable)
-    (view : X → ShownOf w) (Apart : List X → Type 0) (old new : State) : Type 0 where
+pub record AnswersRows {V X : Type 0} (result : Result V DatabaseFault) (items : V → List X) (t : FileTable)
+    (view : X → ShownOf t) (Apart : List X → Type 0) (old new : State) : Type 0 where
   -- what the statement shows in any file
-  pub gives : IfOk result (λ xs. Gives (query_of w) (λ x. shown_columns w (view x)) old new (items xs))
+  pub gives : IfOk result (λ xs. Gives (query_of t) (λ x. shown_columns t (view x)) old new (items xs))
   pub apart : IfOk result (λ xs. Apart (items xs))
-  pub utf8 : IfOk result (λ xs. AllByRecursion (λ x. IsUtf8Row w (own w (view x))) (items xs))
+  pub utf8 : IfOk result (λ xs. AllByRecursion (λ x. IsUtf8Row t (own t (view x))) (items xs))
   -- where the table is declared as in a new file, its rows as they stand, in order
-  pub rows : (tree : ℕ) → HasTable (table_of w tree) old → IfOk result (λ xs.
-      Lists (λ x. shown_columns w (view x)) (columns_at (description_of w).shown) (items xs) (old.now.trees tree)
-      × IsSortedBy (λ a b. is_lt (order w (view a) (view b))) (items xs))
-  pub shows : (l : Layout) (c : Contents) → l.has w ≡ true → ShowsContents l c old
-      → IfOk result (λ xs. IsPermutation (c.rows w) (map (λ x. own w (view x)) (items xs)))
+  pub rows : (tree : ℕ) → HasTable (table_of t tree) old → IfOk result (λ xs.
+      Lists (λ x. shown_columns t (view x)) (columns_at (description_of t).shown) (items xs) (old.now.trees tree)
+      × IsSortedBy (λ a b. is_lt (order t (view a) (view b))) (items xs))
+  pub shows : (l : Layout) (c : Contents) → l.has t ≡ true → ShowsContents l c old
+      → IfOk result (λ xs. IsPermutation (c.rows t) (map (λ x. own t (view x)) (items xs)))
   pub unchanged : OnOk result (IsUnchanged old new)
-  pub told : IfErr result (FailsAs (query_of w) (λ x. shown_columns w (view x)) Apart old new)
+  pub told : IfErr result (FailsAs (query_of t) (λ x. shown_columns t (view x)) Apart old new)
   pub refused : IfErr result (λ fault. fault ≡ Refused → IsUnchanged old new)
   -- where its rows can be read and are apart, and the steps have no limit, it isn't refused
-  pub cause : (tree : ℕ) → HasTable (table_of w tree) old → old.step_limit ≡ None
-      → AreReadable w (old.now.trees tree)
-      → ((xs : List X) → Lists (λ x. shown_columns w (view x)) (columns_at (description_of w).shown) xs (old.now.trees tree)
+  pub cause : (tree : ℕ) → HasTable (table_of t tree) old → old.step_limit ≡ None
+      → AreReadable t (old.now.trees tree)
+      → ((xs : List X) → Lists (λ x. shown_columns t (view x)) (columns_at (description_of t).shown) xs (old.now.trees tree)
       → Apart xs)
       → IfErr result (λ fault. fault ≢ Refused)
   -- in any file, where the statement has an answer whose values can be read and are apart, and the steps have no limit, it isn't refused
-  pub answered : HasAnswer (query_of w).text old → old.step_limit ≡ None
-      → ((rows : List Row) → Shown (query_of w).text [] old new rows
-      → AllByRecursion (HasKinds (query_of w).kinds) rows)
-      → ((xs : List X) → Gives (query_of w) (λ x. shown_columns w (view x)) old new xs → Apart xs)
+  pub answered : HasAnswer (query_of t).text old → old.step_limit ≡ None
+      → ((rows : List Row) → Shown (query_of t).text [] old new rows
+      → AllByRecursion (HasKinds (query_of t).kinds) rows)
+      → ((xs : List X) → Gives (query_of t) (λ x. shown_columns t (view x)) old new xs → Apart xs)
       → IfErr result (λ fault. fault ≢ Refused)

@@ -14,8 +14,8 @@ is_table_or_view v = unwrap_or (option_map (λ owner. not v.binds && same_name o
 
 -- a table or a view has its name, in whichever case of the letters
 abbrev pub is_there : Schema → FileTable → Bool
-is_there s w =
-    let name = (description_of w).name in
+is_there s t =
+    let name = (description_of t).name in
     is_some (table_named s name) || list_any (λ v. same_name v.name name && is_table_or_view v) s.views
 
 -- none of these is `corr`

@@ -17,18 +17,18 @@ use Rattle.desk_rows.specs.Rows.{ShownOf, own, shown_columns}
 
 -- the same rows in each of the tables, in any order, and in each other tree
 pub record HaveSameRows (l : Layout) (c d : Contents) : Type 0 where
-  pub tables : (w : FileTable) → l.has w ≡ true → IsPermutation (c.rows w) (d.rows w)
+  pub tables : (t : FileTable) → l.has t ≡ true → IsPermutation (c.rows t) (d.rows t)
   pub others : AllByRecursion (λ t. IsOther l t.tree → c.others t.tree ≡ d.others t.tree) l.schema.tables
   pub aside : (tree : ℕ) → IsOther l tree → IsNoIndex l.schema tree → c.others tree ≡ d.others tree
 
 -- the rows of the tables as they are read, those of `tab` with their rowids
 abbrev pub Rows : Type 0
-Rows = (w : FileTable) → List (ShownOf w)
+Rows = (t : FileTable) → List (ShownOf t)
 
 -- these are the rows of the tables, in any order
 abbrev pub AreRows : Layout → Rows → Trees → Type 0
 AreRows l rows db =
-    (w : FileTable) → l.has w ≡ true → Lists (shown_columns w) (columns_at (description_of w).shown) (rows w) (db (l.tree w))
+    (t : FileTable) → l.has t ≡ true → Lists (shown_columns t) (columns_at (description_of t).shown) (rows t) (db (l.tree t))
 
 -- no two have the same number
 abbrev pub DifferBy : {X : Type 0} → (X → ℤ) → List X → Type 0
@@ -39,7 +39,7 @@ abbrev pub HaveOwnRowids : List StoredTab → Type 0
 HaveOwnRowids = DifferBy (λ t. t.rowid)
 
 -- The rows that may be changed differ by their keys, those of `tab` by their rowids.
-abbrev pub DifferIn : (w : FileTable) → List (ShownOf w) → Type 0
+abbrev pub DifferIn : (t : FileTable) → List (ShownOf t) → Type 0
 DifferIn tables.Book = DifferBy (λ b. b.id)
 DifferIn tables.Tab = HaveOwnRowids
 DifferIn tables.Para = DifferBy (λ p. p.id)
@@ -49,14 +49,14 @@ DifferIn tables.Cache = DifferBy (λ k. k.para)
 DifferIn tables.NamedCorr = λ es. ⊤
 
 abbrev pub AreApart : Rows → Type 0
-AreApart rows = (w : FileTable) → DifferIn w (rows w)
+AreApart rows = (t : FileTable) → DifferIn t (rows t)
 
 -- these rows, beside those of the other tables
 abbrev pub contents_of : Rows → Trees → Contents
-contents_of rows db = record { rows = λ w. map (own w) (rows w); others = db }
+contents_of rows db = record { rows = λ t. map (own t) (rows t); others = db }
 
 -- the texts of a row are UTF-8
-abbrev pub IsUtf8Row : (w : FileTable) → RowOf w → Type 0
+abbrev pub IsUtf8Row : (t : FileTable) → RowOf t → Type 0
 IsUtf8Row tables.Book b = ⊤
 IsUtf8Row tables.Tab t = HasTabText t
 IsUtf8Row tables.Para p = HasParaTexts p
@@ -67,7 +67,7 @@ IsUtf8Row tables.NamedCorr e = HasEntryTexts e
 
 -- each text is UTF-8
 abbrev pub AreUtf8 : Contents → Type 0
-AreUtf8 c = (w : FileTable) → AllByRecursion (IsUtf8Row w) (c.rows w)
+AreUtf8 c = (t : FileTable) → AllByRecursion (IsUtf8Row t) (c.rows t)
 
 -- the texts of what is put are UTF-8
 abbrev pub IsUtf8Put : RowPut → Type 0

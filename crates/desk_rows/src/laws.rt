@@ -70,9 +70,9 @@ pub fn read_whole()
 /// the braille tables differ.
 pub fn texts_as_written()
     ensures readable { (l : Layout) (c : Contents) (db : Trees) → IsFile l c db → AreUtf8 c
-        → (w : FileTable) → l.has w ≡ true → AreReadable w (db (l.tree w)) }
-    ensures rowids { (l : Layout) (c : Contents) (db : Trees) → IsFile l c db → (w : FileTable)
-        → l.has w ≡ true → shows_rowid w ≡ true → HaveIntegerRowids (db (l.tree w)) }
+        → (t : FileTable) → l.has t ≡ true → AreReadable t (db (l.tree t)) }
+    ensures rowids { (l : Layout) (c : Contents) (db : Trees) → IsFile l c db → (t : FileTable)
+        → l.has t ≡ true → shows_rowid t ≡ true → HaveIntegerRowids (db (l.tree t)) }
     ensures apart { (l : Layout) (c : Contents) (db : Trees) → IsFile l c db → l.has FileTable.Tab ≡ true
         → (xs : List StoredTab)
         → Lists (shown_columns FileTable.Tab) (columns_at (description_of FileTable.Tab).shown) xs (db (l.tree FileTable.Tab))
@@ -88,10 +88,10 @@ pub fn made_keeps()
 /// A connection in a transaction that shows a file, and that made tables there which the file lacks, shows the file with these, which have
 /// no rows; all other tables keep theirs, and so does what the database keeps aside.
 pub fn more_tables<S: Alter>(old: &Connection<S>, new: &Connection<S>)
-    ensures { (l : Layout) (c : Contents) (ws : List FileTable) (committed : Database) → Differ ws
+    ensures { (l : Layout) (c : Contents) (tables : List FileTable) (committed : Database) → Differ tables
         → IsUnder committed l c (state S.Store old.now)
-        → MakesTables ws (state S.Store old.now) (state S.Store new.now)
-        → IsUnder committed (with_tables ws l) (with_none ws (state S.Store new.now).now.trees c)
+        → MakesTables tables (state S.Store old.now) (state S.Store new.now)
+        → IsUnder committed (with_tables tables l) (with_none tables (state S.Store new.now).now.trees c)
         (state S.Store new.now)
         × KeepsRows l.schema.tables (state S.Store old.now).now.trees
         (state S.Store new.now).now.trees
@@ -111,8 +111,8 @@ pub fn texts_stay()
 
 /// A table that a file has is there for its schema, and one whose name is free isn't.
 pub fn tables_there()
-    ensures has { (l : Layout) (c : Contents) (db : Trees) → IsFile l c db → (w : FileTable)
-        → l.has w ≡ true → is_there l.schema w ≡ true }
-    ensures free { (s : Schema) (w : FileTable) → is_used s (description_of w).name ≡ false
-        → is_there s w ≡ false }
+    ensures has { (l : Layout) (c : Contents) (db : Trees) → IsFile l c db → (t : FileTable)
+        → l.has t ≡ true → is_there l.schema t ≡ true }
+    ensures free { (s : Schema) (t : FileTable) → is_used s (description_of t).name ≡ false
+        → is_there s t ≡ false }
 {}

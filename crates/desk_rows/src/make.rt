@@ -1,15 +1,14 @@
 //! The making of tables.
 
-ghost use Rattle.std.specs.Prelude.{◌≡◌, false, true, [], ◌∷◌, IfErr, IsTrue, OnOk};
+ghost use Rattle.std.specs.Prelude.{◌≡◌, false, true, IfErr, OnOk};
 ghost use Rattle.sqlite.specs.Held.{state};
 ghost use Rattle.sqlite.specs.State.{HasCleanDisk, KeepsCommit, Survives};
 ghost use Rattle.sql_tables.specs.States.{seen};
 ghost use Rattle.desk_rows.specs.Commits.{Commits, making_file};
 ghost use Rattle.desk_rows.specs.Descriptions.{description_of};
 ghost use Rattle.desk_rows.specs.Failing.{StopsMaking, after_tables, of_first_row};
-ghost use Rattle.desk_rows.specs.Making.{AreMade, MakesTables, creation, new_tables};
+ghost use Rattle.desk_rows.specs.Making.{AreMade, IsCreated, new_tables};
 ghost use Rattle.desk_rows.specs.Tables.{AreWritten};
-ghost use Rattle.desk_rows.specs.Turns.{FailsWith, Ran};
 
 use crate::put_statements::{put_book, run};
 use crate::table::create_text;
@@ -32,16 +31,7 @@ fn create<S: Alter>(tx: &mut Transaction<'_, S>, table: FileTable) -> Result<(),
     requires { (description_of table).is_written ≡ true }
     ensures same_reference { tx.new.conn.ghost_name ≡ tx.old.conn.ghost_name }
     ensures makes { HasCleanDisk (seen S.Store tx.new)
-        → OnOk result (MakesTables (table ∷ []) (seen S.Store tx.old) (seen S.Store tx.new)) }
-    ensures ran { HasCleanDisk (seen S.Store tx.new)
-        → OnOk result (Ran (creation table) (seen S.Store tx.old) (seen S.Store tx.new)) }
-    ensures inside { HasCleanDisk (seen S.Store tx.new)
-        → OnOk result ((seen S.Store tx.new).in_transaction ≡ true) }
-    ensures told { HasCleanDisk (seen S.Store tx.new) → (seen S.Store tx.old).in_transaction ≡ true
-        → IfErr result (FailsWith (creation table) (seen S.Store tx.old)
-        (seen S.Store tx.new)) }
-    ensures kept { HasCleanDisk (seen S.Store tx.new)
-        → KeepsCommit (seen S.Store tx.old) (seen S.Store tx.new) }
+        → IsCreated result table (seen S.Store tx.old) (seen S.Store tx.new) }
     ensures survives { Survives (seen S.Store tx.old) (seen S.Store tx.new) (λ _. ⊥) }
 {
     run(tx, create_text(table), &[])
@@ -77,8 +67,6 @@ fn put_first_row<S: Alter>(tx: &mut Transaction<'_, S>) -> Result<(), Error>
     ensures same_reference { tx.new.conn.ghost_name ≡ tx.old.conn.ghost_name }
     ensures put { HasCleanDisk (seen S.Store tx.new)
         → OnOk result ((of_first_row S.Store).puts tx.old.conn.now tx.new.conn.now) }
-    ensures is_open { HasCleanDisk (seen S.Store tx.new)
-        → OnOk result (IsTrue (seen S.Store tx.old).is_open) }
     ensures inside { HasCleanDisk (seen S.Store tx.new)
         → OnOk result ((seen S.Store tx.new).in_transaction ≡ true) }
     ensures told { HasCleanDisk (seen S.Store tx.new) → (seen S.Store tx.old).in_transaction ≡ true
@@ -101,8 +89,6 @@ fn make_all<S: Alter>(tx: &mut Transaction<'_, S>) -> Result<(), Error>
     ensures put { HasCleanDisk (seen S.Store tx.new)
         → OnOk result ((after_tables S.Store new_tables (of_first_row S.Store)).puts tx.old.conn.now
         tx.new.conn.now) }
-    ensures was_open { HasCleanDisk (seen S.Store tx.new)
-        → OnOk result (IsTrue (seen S.Store tx.old).is_open) }
     ensures inside { HasCleanDisk (seen S.Store tx.new)
         → (seen S.Store tx.old).in_transaction ≡ true
         → OnOk result ((seen S.Store tx.new).in_transaction ≡ true) }

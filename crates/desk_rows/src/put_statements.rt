@@ -14,7 +14,7 @@ ghost use Rattle.sql_tables.specs.States.{seen};
 ghost use Rattle.desk_parts.specs.Puts.{PutBook, PutPara, lent_entry, lent_mark, lent_para, put_of};
 ghost use Rattle.desk_parts.specs.declared.file_table.FileTable.{FileTable};
 ghost use Rattle.desk_rows.specs.Failing.{of_items};
-ghost use Rattle.desk_rows.specs.Puts.{ArePut, IsPut, OfItems, RunsTo};
+ghost use Rattle.desk_rows.specs.Puts.{ArePut, IsPut, OfItems, RunsTo, statement};
 ghost use Rattle.desk_rows.specs.Rows.{columns_of};
 
 use crate::texts::{
@@ -42,6 +42,23 @@ pub(crate) fn run<S: Alter>(
     Ok(())
 }
 
+/// Runs the statement of a put within a transaction.
+fn run_put<S: Alter>(
+    tx: &mut Transaction<'_, S>,
+    put: &Put<'_>,
+    text: &str,
+    params: &[ValueRef<'_>],
+) -> Result<(), Error>
+    requires said { text.now ≡ (statement (put_of put.now)).text }
+    requires given { bound params.now ≡ (statement (put_of put.now)).params }
+    ensures same_reference { tx.new.conn.ghost_name ≡ tx.old.conn.ghost_name }
+    ensures put { HasCleanDisk (seen S.Store tx.new)
+        → IsPut result (put_of put.now) (seen S.Store tx.old) (seen S.Store tx.new) }
+    ensures survives { Survives (seen S.Store tx.old) (seen S.Store tx.new) (λ _. ⊥) }
+{
+    run(tx, text, params)
+}
+
 /// A print as a text.
 fn encoded(alloc: Global, print: &[char]) -> Result<String, AllocError>
     ensures { IfOk result (λ text. string_bytes text ≡ encode_utf8_all print.now) }
@@ -64,7 +81,7 @@ pub(crate) fn put_book<S: Alter>(tx: &mut Transaction<'_, S>, row: &BookRow) -> 
     ensures survives { Survives (seen S.Store tx.old) (seen S.Store tx.new) (λ _. ⊥) }
 {
     let columns = [row.id.to_sql(), row.format.to_sql(), row.version.to_sql()];
-    run(tx, PUT_BOOK, &columns)
+    run_put(tx, &Put::Book(*row), PUT_BOOK, &columns)
 }
 
 /// Puts the row of a paragraph by its key, with its print as a text.
@@ -89,7 +106,7 @@ fn put_para<S: Alter>(
         row.volume.to_sql(),
         row.struck.to_sql(),
     ];
-    run(tx, PUT_PARA, &columns)
+    run_put(tx, &Put::Para(*row), PUT_PARA, &columns)
 }
 
 /// The columns of a mark.
@@ -132,15 +149,15 @@ fn put<S: Alter>(alloc: Global, tx: &mut Transaction<'_, S>, put: Put<'_>) -> Re
 {
     match put {
         Put::Book(row) => put_book(tx, &row),
-        Put::Tab(row) => run(tx, PUT_TAB, &[row.name.to_sql(), row.body.to_sql()]),
+        Put::Tab(row) => run_put(tx, &put, PUT_TAB, &[row.name.to_sql(), row.body.to_sql()]),
         Put::Para(row) => put_para(alloc, tx, &row),
-        Put::Mark(row) => run(tx, PUT_MARK, &mark_columns(&row)),
+        Put::Mark(row) => run_put(tx, &put, PUT_MARK, &mark_columns(&row)),
         Put::Cache(row) => {
             let cells = masks(alloc, row.cells)?;
-            run(tx, PUT_CACHE, &[row.para.to_sql(), cells.to_sql()])
+            run_put(tx, &put, PUT_CACHE, &[row.para.to_sql(), cells.to_sql()])
         }
-        Put::NamedCorr(row) => run(tx, PUT_NAMED_CORR, &entry_columns(&row)),
-        Put::Place { id, place } => run(tx, SET_PLACE, &[id.to_sql(), place.to_sql()]),
+        Put::NamedCorr(row) => run_put(tx, &put, PUT_NAMED_CORR, &entry_columns(&row)),
+        Put::Place { id, place } => { run_put(tx, &put, SET_PLACE, &[id.to_sql(), place.to_sql()]) }
         Put::Flags {
             id,
             style,
@@ -153,12 +170,12 @@ fn put<S: Alter>(alloc: Global, tx: &mut Transaction<'_, S>, put: Put<'_>) -> Re
                 volume.to_sql(),
                 struck.to_sql(),
             ];
-            run(tx, SET_FLAGS, &columns)
+            run_put(tx, &put, SET_FLAGS, &columns)
         }
-        Put::Table { id, tab } => run(tx, SET_TABLE, &[id.to_sql(), tab.to_sql()]),
+        Put::Table { id, tab } => run_put(tx, &put, SET_TABLE, &[id.to_sql(), tab.to_sql()]),
         Put::Print { id, print } => {
             let print = encoded(alloc, print)?;
-            run(tx, SET_PRINT, &[id.to_sql(), print.as_str().to_sql()])
+            run_put(tx, &put, SET_PRINT, &[id.to_sql(), print.as_str().to_sql()])
         }
         Put::Span {
             id,
@@ -167,10 +184,12 @@ fn put<S: Alter>(alloc: Global, tx: &mut Transaction<'_, S>, put: Put<'_>) -> Re
             touched,
         } => {
             let columns = [id.to_sql(), start.to_sql(), stop.to_sql(), touched.to_sql()];
-            run(tx, SET_SPAN, &columns)
+            run_put(tx, &put, SET_SPAN, &columns)
         }
-        Put::Resolved { id, resolved } => run(tx, SET_RESOLVED, &[id.to_sql(), resolved.to_sql()]),
-        Put::Version(version) => run(tx, SET_VERSION, &[1i64.to_sql(), version.to_sql()]),
+        Put::Resolved { id, resolved } => {
+            run_put(tx, &put, SET_RESOLVED, &[id.to_sql(), resolved.to_sql()])
+        }
+        Put::Version(version) => run_put(tx, &put, SET_VERSION, &[1i64.to_sql(), version.to_sql()]),
     }
 }
 

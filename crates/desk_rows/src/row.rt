@@ -1,12 +1,12 @@
 //! The types of the rows: how each is read.
 
-ghost use Rattle.std.specs.Prelude.{◌≡◌, ◌≢◌, true, IfErr, IfOk, string_bytes};
+ghost use Rattle.std.specs.Prelude.{◌≡◌, ◌≢◌, true, IfErr, IfOk, IsUtf8, string_bytes};
 ghost use Rattle.sqlite_value.specs.Order.{column};
 ghost use Rattle.sqlite_value.specs.declared.value.Value.TheVariants.{Blob, Int, Text};
 ghost use Rattle.sqlite_schema.specs.declared.schema.Kind.{Kind};
 ghost use Rattle.sqlite.specs.Values.{IsInt};
-ghost use Rattle.sql_tables.specs.Kinds.{HasKinds, IsOfKind};
-ghost use Rattle.desk_rows.specs.TableQuery.{Begins, given, query_of};
+ghost use Rattle.sql_tables.specs.Kinds.{IsOfKind};
+ghost use Rattle.desk_rows.specs.TableQuery.{AreOfKinds, Begins, given, query_of};
 ghost use Rattle.desk_rows.specs.Fault.{IsValueFault};
 ghost use Rattle.desk_parts.specs.declared.file_table.FileTable.{FileTable};
 ghost use Rattle.desk_rows.specs.Descriptions.{description_of};
@@ -37,6 +37,7 @@ fn integer(row: &Row, at: usize) -> Result<i64, DatabaseFault>
 fn text(alloc: Global, row: &Row, at: usize) -> Result<String, DatabaseFault>
     ensures reads { IfOk result (λ text. column row.now at ≡ Text (string_bytes text)) }
     ensures kind { IfOk result (λ _. IsOfKind Kind.Text (column row.now at)) }
+    ensures utf8 { IfOk result (λ text. IsUtf8 (string_bytes text)) }
     ensures told { IfErr result (IsValueFault (IsOfKind Kind.Text (column row.now at))) }
 {
     let Ok(ValueRef::Text(bytes)) = row.get_ref(at) else {
@@ -74,7 +75,7 @@ pub trait TableRow: Drop {
     /// A row from what the query shows.
     fn from_row(alloc: Global, row: &Row) -> Result<Self, DatabaseFault>
         ensures reads { IfOk result (λ x. given table row.now ≡ shown_columns table (view x)) }
-        ensures kinds { HasKinds (query_of table).kinds row.now
+        ensures kinds { AreOfKinds 0 (query_of table).kinds row.now
             → IfErr result (λ fault. fault ≡ DatabaseFault.NoMemory) }
         ensures not_lost { IfErr result (λ fault. fault ≢ DatabaseFault.Lost) }
         // Memory is asked for only at the first text or bytes, once all before are of their kinds.

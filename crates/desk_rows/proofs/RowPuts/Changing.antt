@@ -1,10 +1,9 @@
 -- What a statement that puts rows does to the contents.
-use Rattle.std.proofs.Common.{◌≡◌, ◌++◌, ◌≢◌, ◌⊎◌, inl, inr, ℕ, true, false, List, [], ◌∷◌, Ok, Err, IfErr, OnOk, refl, sym, subst, ◌∙◌, true≢false, bytes_eq, Result}
-use Rattle.std.specs.List.{AllByRecursion}
+use Rattle.std.proofs.Common.{◌≡◌, ◌++◌, inl, inr, ℕ, true, false, List, [], ◌∷◌, Ok, Err, IfErr, OnOk, refl, sym, subst, ◌∙◌, bytes_eq, Result}
 use Rattle.sqlite_trees.specs.Tree.{Trees}
+use Rattle.sqlite_trees.proofs.ListLemmas.{all_both}
 use Rattle.sqlite_value.specs.Order.{Row}
 use Rattle.sqlite_rules.proofs.ListLemmas.{all_has}
-use Rattle.sqlite_schema.specs.declared.schema.Table.{Table}
 use Rattle.sqlite_catalog.specs.Listing.{IsSound}
 use Rattle.sqlite.specs.declared.error.Error.{Error}
 use Rattle.sqlite.specs.Effect.{Database}
@@ -20,7 +19,7 @@ use Rattle.sql_tables.proofs.PutLists.{apart, differ}
 use Rattle.sql_tables.proofs.Running.{Wrote}
 use Rattle.sql_tables.proofs.Writing.{Spares}
 use Rattle.desk_rows.specs.Descriptions.{description_of, table_of}
-use Rattle.desk_rows.specs.Layout.{Layout, AreDeclared, IsOther}
+use Rattle.desk_rows.specs.Layout.{Layout, AreDeclared}
 use Rattle.desk_rows.specs.Contents.{Contents, Holds, with_rows}
 use Rattle.desk_rows.specs.Puts.{HasThem, IsPut, PutsAll, PutsRow, RunsTo, put_into, puts_into, row_put, statement}
 use Rattle.desk_rows.specs.Turns.{FailsWith, Ran}
@@ -31,62 +30,35 @@ use Rattle.desk_rows.proofs.RowPuts.PutTables.{does}
 
 -- ---- each table
 
-pub same : (v w : FileTable) → (v ≡ w) ⊎ (bytes_eq (description_of v).name (description_of w).name ≡ false)
-same tables.Book tables.Book = inl refl
-same tables.Tab tables.Tab = inl refl
-same tables.Para tables.Para = inl refl
-same tables.Corr tables.Corr = inl refl
-same tables.Mark tables.Mark = inl refl
-same tables.Cache tables.Cache = inl refl
-same tables.NamedCorr tables.NamedCorr = inl refl
-same v w = inr refl
-
-pub set_own : (w : FileTable) (f : List (RowOf w) → List (RowOf w)) (rows : (v : FileTable) → List (RowOf v)) → set_at w f rows w ≡ f (rows w)
-set_own tables.Book f rows = refl
-set_own tables.Tab f rows = refl
-set_own tables.Para f rows = refl
-set_own tables.Corr f rows = refl
-set_own tables.Mark f rows = refl
-set_own tables.Cache f rows = refl
-set_own tables.NamedCorr f rows = refl
-
-pub set_other : (w v : FileTable) (f : List (RowOf w) → List (RowOf w)) (rows : (v : FileTable) → List (RowOf v)) → bytes_eq (description_of v).name (description_of w).name ≡ false → set_at w f rows v ≡ rows v
-set_other tables.Book tables.Book f rows other = absurd (true≢false other)
-set_other tables.Tab tables.Tab f rows other = absurd (true≢false other)
-set_other tables.Para tables.Para f rows other = absurd (true≢false other)
-set_other tables.Corr tables.Corr f rows other = absurd (true≢false other)
-set_other tables.Mark tables.Mark f rows other = absurd (true≢false other)
-set_other tables.Cache tables.Cache f rows other = absurd (true≢false other)
-set_other tables.NamedCorr tables.NamedCorr f rows other = absurd (true≢false other)
-set_other w v f rows other = refl
+-- What holds of the rows of one table once they are changed, and of the rows of the others, holds of all.
+pub each_set : (P : (v : FileTable) → List (RowOf v) → Type 0) (t : FileTable) (f : List (RowOf t) → List (RowOf t))
+    (rows : (v : FileTable) → List (RowOf v)) → P t (f (rows t))
+    → (v : FileTable) → (bytes_eq (description_of v).name (description_of t).name ≡ false → P v (rows v)) → P v (set_at t f rows v)
+each_set P tables.Book f rows own tables.Book other = own
+each_set P tables.Tab f rows own tables.Tab other = own
+each_set P tables.Para f rows own tables.Para other = own
+each_set P tables.Corr f rows own tables.Corr other = own
+each_set P tables.Mark f rows own tables.Mark other = own
+each_set P tables.Cache f rows own tables.Cache other = own
+each_set P tables.NamedCorr f rows own tables.NamedCorr other = own
+each_set P t f rows own v other = other refl
 
 -- ---- all tables
 
--- the rows of other tables stay
-others_stay : (l : Layout) (w : FileTable) → l.has w ≡ true → (c : Contents) (old new : Trees) (tables : List Table)
-    → AllByRecursion (λ t. IsOther l t.tree → old t.tree ≡ c.others t.tree) tables → AllByRecursion (λ t. t.tree ≢ l.tree w → new t.tree ≡ old t.tree) tables
-    → AllByRecursion (λ t. IsOther l t.tree → new t.tree ≡ c.others t.tree) tables
-others_stay l w there c old new [] had spared = tt
-others_stay l w there c old new (t ∷ ts) had spared = (λ other. spared.0 (other w there) ∙ had.0 other, others_stay l w there c old new ts had.1 spared.1)
-
 module _ (l : Layout) (c : Contents) (d : AreDeclared l) (old new : Trees) (h : Holds l c old) where
   -- the rows of one table change, and others stay
-  pub holds : (w : FileTable) (f : List (RowOf w) → List (RowOf w)) → l.has w ≡ true → Spares l.schema (l.tree w) old new → Lists (columns_of w) (columns_at (description_of w).own) (f (c.rows w)) (new (l.tree w)) → ((description_of w).is_changed ≡ true → HaveRowids (new (l.tree w)))
-      → Holds l (with_rows w f c) new
-  holds w f there spares lists ids =
-      let stays = λ (v : FileTable) (is : l.has v ≡ true) (other : bytes_eq (description_of v).name (description_of w).name ≡ false).
+  pub holds : (table : FileTable) (f : List (RowOf table) → List (RowOf table)) → l.has table ≡ true → Spares l.schema (l.tree table) old new → Lists (columns_of table) (columns_at (description_of table).own) (f (c.rows table)) (new (l.tree table)) → ((description_of table).is_changed ≡ true → HaveRowids (new (l.tree table)))
+      → Holds l (with_rows table f c) new
+  holds table f there spares lists ids =
+      let stays = λ (v : FileTable) (is : l.has v ≡ true) (other : bytes_eq (description_of v).name (description_of table).name ≡ false).
       all_has _ l.schema.tables (table_of v (l.tree v)) spares.tables (has_table l.schema (table_of v (l.tree v)) (d v is))
-      (apart l.schema (table_of v (l.tree v)) (table_of w (l.tree w)) (d v is) (d w there) (differ (description_of v).name (description_of w).name other)) in record {
-        tables = λ v has. elim (same v w) [
-          | inl is ↦ subst (λ (v : FileTable). Lists (columns_of v) (columns_at (description_of v).own) (set_at w f c.rows v) (new (l.tree v))) (sym is) (rw (set_own w f c.rows) lists)
-          | inr other ↦ rw (set_other w v f c.rows other, stays v has other) (h.tables v has)
-        ];
-        ids = λ v has. elim (same v w) [
-          | inl is ↦ subst (λ (v : FileTable). (description_of v).is_changed ≡ true → HaveRowids (new (l.tree v))) (sym is) ids
-          | inr other ↦ rw (stays v has other) (h.ids v has)
-        ];
-        others = others_stay l w there c old new l.schema.tables h.others spares.tables;
-        aside = λ t other none. spares.aside t (other w there) none ∙ h.aside t other none;
+      (apart l.schema (table_of v (l.tree v)) (table_of table (l.tree table)) (d v is) (d table there) (differ (description_of v).name (description_of table).name other)) in record {
+        tables = λ v. each_set (λ v xs. l.has v ≡ true → Lists (columns_of v) (columns_at (description_of v).own) xs (new (l.tree v))) table f c.rows (λ _. lists) v
+            (λ other has. rw (stays v has other) (h.tables v has));
+        ids = λ v. each_set (λ v _. l.has v ≡ true → (description_of v).is_changed ≡ true → HaveRowids (new (l.tree v))) table f c.rows (λ _. ids) v
+            (λ other has. rw (stays v has other) (h.ids v has));
+        others = all_both _ _ _ (λ t had spared other. spared (other table there) ∙ had other) l.schema.tables h.others spares.tables;
+        aside = λ t other none. spares.aside t (other table there) none ∙ h.aside t other none;
       }
 
 goes_on : (old new : State) (l : Layout) (c next : Contents) (committed : _) → IsUnder committed l c old → Wrote old new → Holds l next new.now.trees → IsUnder committed l next new
@@ -103,10 +75,10 @@ module _ (it : RowPut) (old new : State) where
   put_ok : (v : Unit {0}) (count : ℕ) → ExecutesInside 0 (statement it).text (statement it).params old new (Ok count) → IsPut {V = Unit {0}} (Ok v) it old new
   put_ok v count h = record {
     put = λ committed l c there was.
-        let w = table_put it in
+        let t = table_put it in
         let file = was.shows.is in
-        let did = does it l.schema (l.tree w) (file.declared w there) old new count (c.rows w) was.shows.schema file.sound (file.holds.ids w there) (file.holds.tables w there) h.0 in
-        goes_on old new l c (put_into c it) committed was did.wrote (holds l c file.declared old.now.trees new.now.trees file.holds w (change_of it) there did.spares did.lists did.ids);
+        let did = does it l.schema (l.tree t) (file.declared t there) old new count (c.rows t) was.shows.schema file.sound (file.holds.ids t there) (file.holds.tables t there) h.0 in
+        goes_on old new l c (put_into c it) committed was did.wrote (holds l c file.declared old.now.trees new.now.trees file.holds t (change_of it) there did.spares did.lists did.ids);
     ran = (count, h);
     is_open = h.1.was_open;
     inside = h.1.mode;

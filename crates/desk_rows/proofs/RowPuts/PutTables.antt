@@ -22,8 +22,7 @@ use Rattle.desk_parts.specs.Puts.{RowPut, PutBook, PutTab, PutPara, PutMark, Put
 use Rattle.desk_parts.specs.Rows.{NamedCorr, RowOf, Tab}
 use Rattle.sql_tables.specs.Rows.{HaveRowids, Lists, columns_at}
 use Rattle.sql_tables.specs.Tables.{IsDeclared, numbered_table}
-use Rattle.sql_tables.proofs.ByRowid.{PutsByRowid, numbered_puts}
-use Rattle.sql_tables.proofs.ByRowid.{cast_int, cast_null}
+use Rattle.sql_tables.proofs.ByRowid.{PutsByRowid, cast_int, cast_null, numbered_puts}
 use Rattle.sql_tables.proofs.Meaning.{IsText, insert_is, parse_of, rows_in}
 use Rattle.sql_tables.proofs.Running.{Wrote, insert_ran}
 use Rattle.sql_tables.proofs.SetByRowid.{SetsByRowid, sets_by_rowid}
@@ -35,25 +34,25 @@ use Rattle.desk_rows.specs.declared.texts.TheConstants.{SET_FLAGS, SET_PLACE, SE
 use Rattle.desk_rows.proofs.RowPuts.ByName.{tab_puts}
 
 -- The table has these rows then, and others have theirs.
-pub record Did (w : FileTable) (schema : Schema) (tree : ℕ) (xs : List (RowOf w)) (old new : State) : Type 0 where
+pub record Did (t : FileTable) (schema : Schema) (tree : ℕ) (xs : List (RowOf t)) (old new : State) : Type 0 where
   pub wrote : Wrote old new
-  pub lists : Lists (columns_of w) (columns_at (description_of w).own) xs (new.now.trees tree)
-  pub ids : (description_of w).is_changed ≡ true → HaveRowids (new.now.trees tree)
+  pub lists : Lists (columns_of t) (columns_at (description_of t).own) xs (new.now.trees tree)
+  pub ids : (description_of t).is_changed ≡ true → HaveRowids (new.now.trees tree)
   pub spares : Spares schema tree old.now.trees new.now.trees
 
 -- The text, with these parameters, changes the rows of the table so, whatever else the schema has.
-abbrev pub Does : (w : FileTable) → (List (RowOf w) → List (RowOf w)) → List ℕ → Row → Type 1
-Does w f text params =
-    (schema : Schema) (tree : ℕ) (d : IsDeclared schema (table_of w tree)) (old new : State) (count : ℕ) (xs : List (RowOf w)) → old.now.schema ≡ schema → IsSound schema old.now.trees → ((description_of w).is_changed ≡ true → HaveRowids (old.now.trees tree))
-    → Lists (columns_of w) (columns_at (description_of w).own) xs (old.now.trees tree) → Executes text params old new (Ok count) → Did w schema tree (f xs) old new
+abbrev pub Does : (t : FileTable) → (List (RowOf t) → List (RowOf t)) → List ℕ → Row → Type 1
+Does t f text params =
+    (schema : Schema) (tree : ℕ) (d : IsDeclared schema (table_of t tree)) (old new : State) (count : ℕ) (xs : List (RowOf t)) → old.now.schema ≡ schema → IsSound schema old.now.trees → ((description_of t).is_changed ≡ true → HaveRowids (old.now.trees tree))
+    → Lists (columns_of t) (columns_at (description_of t).own) xs (old.now.trees tree) → Executes text params old new (Ok count) → Did t schema tree (f xs) old new
 
 -- ---- tables whose key is their rowid
 
 -- The first column of the table is its rowid, and its rows may be changed.
-record IsNumbered (w : FileTable) : Type 0 where
-  key : RowOf w → ℤ
-  table : (tree : ℕ) → table_of w tree ≡ numbered_table (description_of w).name (description_of w).columns tree
-  changed : (description_of w).is_changed ≡ true
+record IsNumbered (t : FileTable) : Type 0 where
+  key : RowOf t → ℤ
+  table : (tree : ℕ) → table_of t tree ≡ numbered_table (description_of t).name (description_of t).columns tree
+  changed : (description_of t).is_changed ≡ true
 
 abbrev books : IsNumbered tables.Book
 books = record { key = λ b. b.id; table = λ tree. refl; changed = refl }
@@ -67,44 +66,33 @@ marks = record { key = λ m. m.id; table = λ tree. refl; changed = refl }
 abbrev caches : IsNumbered tables.Cache
 caches = record { key = λ c. c.para; table = λ tree. refl; changed = refl }
 
-module _ {w : FileTable} (n : IsNumbered w) where
+module _ {t : FileTable} (n : IsNumbered t) where
   -- the table's statement puts a row by its number
   abbrev Puts : Type 0
-  Puts = PutsByRowid (description_of w).name (description_of w).columns (description_of w).own (description_of w).put (columns_of w) n.key
+  Puts = PutsByRowid (description_of t).name (description_of t).columns (description_of t).own (description_of t).put (columns_of t) n.key
 
-  put_does : Puts → (x : RowOf w) → Does w (put_by_key (λ y. int_eq (n.key y) (n.key x)) x) (description_of w).put (columns_of w x)
+  put_does : Puts → (x : RowOf t) → Does t (put_by_key (λ y. int_eq (n.key y) (n.key x)) x) (description_of t).put (columns_of t x)
   put_does p x schema tree d old new count xs has sound ids lists h =
-      let did = numbered_puts (description_of w).name (description_of w).columns (description_of w).own (description_of w).put (columns_of w) n.key p
+      let did = numbered_puts (description_of t).name (description_of t).columns (description_of t).own (description_of t).put (columns_of t) n.key p
       schema tree (subst (IsDeclared schema) (n.table tree) d) old new count x xs has sound (ids n.changed) lists h in
       record { wrote = did.0; lists = did.1.3; ids = λ changed. did.1.4; spares = did.1.2.others }
 
   -- a text sets the columns at these places, counted from 1, to these values
-  abbrev Sets : (text places : List ℕ) → Row → ℤ → (RowOf w → RowOf w) → Type 0
+  abbrev Sets : (text places : List ℕ) → Row → ℤ → (RowOf t → RowOf t) → Type 0
   Sets text places values id set =
-      SetsByRowid (description_of w).name (description_of w).columns (description_of w).own text places (columns_of w) n.key values id set
+      SetsByRowid (description_of t).name (description_of t).columns (description_of t).own text places (columns_of t) n.key values id set
 
-  set_does : (text places : List ℕ) (values : Row) (id : ℤ) (set : RowOf w → RowOf w) → Sets text places values id set
-      → Does w (set_by_key (λ x. int_eq (n.key x) id) set) text (Int id ∷ values)
+  set_does : (text places : List ℕ) (values : Row) (id : ℤ) (set : RowOf t → RowOf t) → Sets text places values id set
+      → Does t (set_by_key (λ x. int_eq (n.key x) id) set) text (Int id ∷ values)
   set_does text places values id set s schema tree d old new count xs has sound ids lists h =
-      let did = sets_by_rowid (description_of w).name (description_of w).columns (description_of w).own text places (columns_of w) n.key values id set s
+      let did = sets_by_rowid (description_of t).name (description_of t).columns (description_of t).own text places (columns_of t) n.key values id set s
       schema tree (subst (IsDeclared schema) (n.table tree) d) old new count xs has sound (ids n.changed) lists h in
       record { wrote = did.0; lists = did.1.0; ids = λ changed. did.1.1; spares = did.1.2 }
 
-book_puts : Puts books
+-- the statements that put a row by its number
+row_puts : Puts books × Puts paras × Puts marks × Puts caches
 unfolding everything
-book_puts = assumption
-
-para_puts : Puts paras
-unfolding everything
-para_puts = assumption
-
-mark_puts : Puts marks
-unfolding everything
-mark_puts = assumption
-
-cache_puts : Puts caches
-unfolding everything
-cache_puts = assumption
+row_puts = (assumption, assumption, assumption, assumption)
 
 place_sets : (id place : ℤ) → Sets paras SET_PLACE.now (2 ∷ []) (Int place ∷ []) id (with_place place)
 unfolding everything
@@ -171,11 +159,11 @@ tab_does t schema tree d old new count xs has sound ids lists h =
 
 -- what is put does to its table what it says, by its statement
 pub does : (it : RowPut) → Does (table_put it) (change_of it) (statement it).text (statement it).params
-does (PutBook row) = put_does books book_puts row
+does (PutBook row) = put_does books row_puts.0 row
 does (PutTab row) = tab_does row
-does (PutPara row) = put_does paras para_puts row
-does (PutMark row) = put_does marks mark_puts row
-does (PutCache row) = put_does caches cache_puts row
+does (PutPara row) = put_does paras row_puts.1 row
+does (PutMark row) = put_does marks row_puts.2 row
+does (PutCache row) = put_does caches row_puts.3 row
 does (PutEntry row) = entry_puts row
 does (SetPlace id place) = set_does paras _ _ _ _ _ (place_sets id place)
 does (SetFlags id style volume struck) = set_does paras _ _ _ _ _ (flags_sets id style volume struck)

@@ -1,58 +1,42 @@
 -- What is put in UTF-8 leaves the texts of the contents in UTF-8.
-use Rattle.std.proofs.Common.{Bool, true, false, List, [], ◌∷◌, filter, pos, cond, if◌then◌else◌, inl, inr, sym, subst}
+use Rattle.std.proofs.Common.{Bool, true, false, List, [], ◌∷◌, pos, if◌then◌else◌}
 use Rattle.std.specs.List.{AllByRecursion}
 use Rattle.std.specs.Ordering.{int_eq}
+use Rattle.sqlite_trees.proofs.ListLemmas.{all-filter, all-map, all_weaker}
 use Rattle.desk_parts.specs.declared.file_table.FileTable.{FileTable}
 use Rattle.desk_parts.specs.declared.file_table.FileTable.TheVariants as tables
 use Rattle.desk_parts.specs.Puts.{RowPut, PutBook, PutTab, PutPara, PutMark, PutCache, PutEntry, SetPlace, SetFlags, SetTable, SetPrint, SetSpan, SetResolved, SetVersion, put_to, set_by_key, with_flags, with_place, with_print, with_resolution, with_span, with_table, with_version}
 use Rattle.desk_rows.specs.Contents.{Contents, with_row, with_rows}
 use Rattle.desk_rows.specs.Puts.{put_into, puts_into}
-use Rattle.desk_rows.specs.Rows.{set_at}
 use Rattle.desk_parts.specs.Rows.{RowOf}
 use Rattle.desk_rows.specs.Whole.{AreUtf8, IsUtf8Put, IsUtf8Row}
-use Rattle.desk_rows.proofs.RowPuts.Changing.{same, set_other, set_own}
-
-kept_one : {X : Type 0} (P : X → Type 0) (b : Bool) (x : X) (xs : List X) → P x → AllByRecursion P xs → AllByRecursion P (cond b (x ∷ xs) xs)
-kept_one P true x xs is all = (is, all)
-kept_one P false x xs is all = all
-
-all_kept : {X : Type 0} (P : X → Type 0) (keeps : X → Bool) (xs : List X) → AllByRecursion P xs → AllByRecursion P (filter keeps xs)
-all_kept P keeps [] all = tt
-all_kept P keeps (x ∷ xs) all = kept_one P (keeps x) x (filter keeps xs) all.0 (all_kept P keeps xs all.1)
+use Rattle.desk_rows.proofs.RowPuts.Changing.{each_set}
 
 all_set : {X : Type 0} (P : X → Type 0) (has_key : X → Bool) (set : X → X) → ((x : X) → P x → P (set x)) → (xs : List X) → AllByRecursion P xs → AllByRecursion P (set_by_key has_key set xs)
-all_set P has_key set stays [] all = tt
-all_set P has_key set stays (x ∷ xs) all = (go (has_key x), all_set P has_key set stays xs all.1)
+all_set {X} P has_key set stays xs all = all-map P _ xs (all_weaker P _ (λ x is. go x is (has_key x)) xs all)
   where
-    go : (b : Bool) → P (if b then set x else x)
-    go true = stays x all.0
-    go false = all.0
+    go : (x : X) → P x → (b : Bool) → P (if b then set x else x)
+    go x is true = stays x is
+    go x is false = is
 
 -- ---- each table
 
-all_put : (w : FileTable) (x : RowOf w) (xs : List (RowOf w)) → IsUtf8Row w x → AllByRecursion (IsUtf8Row w) xs → AllByRecursion (IsUtf8Row w) (put_to w x xs)
-all_put tables.Book x xs is all = (is, all_kept (IsUtf8Row tables.Book) _ xs all)
-all_put tables.Tab x xs is all = (is, all_kept (IsUtf8Row tables.Tab) _ xs all)
-all_put tables.Para x xs is all = (is, all_kept (IsUtf8Row tables.Para) _ xs all)
+all_put : (t : FileTable) (x : RowOf t) (xs : List (RowOf t)) → IsUtf8Row t x → AllByRecursion (IsUtf8Row t) xs → AllByRecursion (IsUtf8Row t) (put_to t x xs)
 all_put tables.Corr x xs is all = (is, all)
-all_put tables.Mark x xs is all = (is, all_kept (IsUtf8Row tables.Mark) _ xs all)
-all_put tables.Cache x xs is all = (is, all_kept (IsUtf8Row tables.Cache) _ xs all)
 all_put tables.NamedCorr x xs is all = (is, all)
+all_put t x xs is all = (is, all-filter (IsUtf8Row t) _ xs all)
 
 -- ---- all tables
 
 -- the rows of one table change, and those of others stay
-changed : (w : FileTable) (f : List (RowOf w) → List (RowOf w)) (c : Contents) → (AllByRecursion (IsUtf8Row w) (c.rows w) → AllByRecursion (IsUtf8Row w) (f (c.rows w))) → AreUtf8 c → AreUtf8 (with_rows w f c)
-changed w f c stays all v = elim (same v w) [
-  | inl is ↦ subst (λ (v : FileTable). AllByRecursion (IsUtf8Row v) (set_at w f c.rows v)) (sym is) (rw (set_own w f c.rows) (stays (all w)))
-  | inr other ↦ rw (set_other w v f c.rows other) (all v)
-]
+changed : (t : FileTable) (f : List (RowOf t) → List (RowOf t)) (c : Contents) → (AllByRecursion (IsUtf8Row t) (c.rows t) → AllByRecursion (IsUtf8Row t) (f (c.rows t))) → AreUtf8 c → AreUtf8 (with_rows t f c)
+changed t f c stays all v = each_set (λ v. AllByRecursion (IsUtf8Row v)) t f c.rows (stays (all t)) v (λ other. all v)
 
-row_put : (w : FileTable) (x : RowOf w) (c : Contents) → IsUtf8Row w x → AreUtf8 c → AreUtf8 (with_row w x c)
-row_put w x c is all = changed w (put_to w x) c (all_put w x (c.rows w) is) all
+row_put : (t : FileTable) (x : RowOf t) (c : Contents) → IsUtf8Row t x → AreUtf8 c → AreUtf8 (with_row t x c)
+row_put t x c is all = changed t (put_to t x) c (all_put t x (c.rows t) is) all
 
-columns_set : (w : FileTable) (has_key : RowOf w → Bool) (set : RowOf w → RowOf w) (c : Contents) → ((x : RowOf w) → IsUtf8Row w x → IsUtf8Row w (set x)) → AreUtf8 c → AreUtf8 (with_rows w (set_by_key has_key set) c)
-columns_set w has_key set c stays all = changed w (set_by_key has_key set) c (all_set (IsUtf8Row w) has_key set stays (c.rows w)) all
+columns_set : (t : FileTable) (has_key : RowOf t → Bool) (set : RowOf t → RowOf t) (c : Contents) → ((x : RowOf t) → IsUtf8Row t x → IsUtf8Row t (set x)) → AreUtf8 c → AreUtf8 (with_rows t (set_by_key has_key set) c)
+columns_set t has_key set c stays all = changed t (set_by_key has_key set) c (all_set (IsUtf8Row t) has_key set stays (c.rows t)) all
 
 one_put : (it : RowPut) (c : Contents) → IsUtf8Put it → AreUtf8 c → AreUtf8 (put_into c it)
 one_put (PutBook row) c is all = row_put tables.Book row c is all

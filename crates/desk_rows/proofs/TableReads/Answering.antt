@@ -1,5 +1,5 @@
 -- What a read of a table answers, from what its query showed.
-use Rattle.std.proofs.Common.{◌≡◌, ◌≢◌, Bool, true, false, MatchBool, OnErr, ap, ap₂, ℕ, List, [], ◌∷◌, map, drop, Ok, Err, Result, IfOk, IfErr, refl, sym, subst, ◌∙◌, subst₂, IsPermutation}
+use Rattle.std.proofs.Common.{◌≡◌, ◌≢◌, Bool, true, false, MatchBool, OnErr, ap, ap₂, ℕ, List, [], ◌∷◌, map, drop, None, Ok, Err, Result, IfOk, IfErr, refl, sym, subst, ◌∙◌, subst₂, IsPermutation, inl, inr}
 use Rattle.std.specs.List.{AllByRecursion}
 use Rattle.sqlite_value.proofs.OrderLemmas.{value_cmp-Int, value_cmp-Text, then-Equal}
 use Rattle.std.proofs.lemmas.List.Sorted.{IsPermutation-map}
@@ -13,133 +13,153 @@ use Rattle.std.specs.declared.alloc.AllocError.{AllocError}
 use Rattle.sqlite_schema.specs.declared.schema.Schema.{Schema}
 use Rattle.sqlite_catalog.specs.Listing.{IsSound}
 use Rattle.sqlite.specs.declared.error.Error.{Error}
-use Rattle.sqlite.specs.State.{State, Shown, FailsToQuery}
+use Rattle.sqlite.specs.State.{State, Shown, FailsToQuery, IsUnchanged, store_error}
 use Rattle.desk_rows.specs.Fault.{IsToldAs}
 use Rattle.sql_tables.specs.Kinds.{HasKinds}
 use Rattle.sql_tables.specs.Tables.{IsDeclared}
-use Rattle.sql_tables.specs.States.{HasTable}
+use Rattle.sql_tables.specs.States.{HasAnswer, HasTable}
 use Rattle.desk_rows.specs.declared.fault.DatabaseFault.{DatabaseFault}
 use Rattle.desk_rows.specs.declared.fault.DatabaseFault.TheVariants.{NoMemory, Lost, Refused}
 use Rattle.desk_rows.proofs.TableReads.OneList.{one_list}
-use Rattle.desk_rows.proofs.TableReads.Asking.{fails_to_read, fails_to_ask, refused_as_it_was, never_refused, not_refused}
-use Rattle.sql_tables.proofs.Quiet.{answered_fails, on_ok, on_err, shown_quietly}
-use Rattle.desk_rows.specs.TableQuery.{AnswersRows, AnyRows, BeginWith, FailsAs, failed, given, no_memory, query_of, together, unreadable}
+use Rattle.sql_tables.proofs.Quiet.{answered_fails, on_ok, on_err, shown_quietly, reads, refused_quietly}
+use Rattle.desk_rows.specs.TableQuery.{AnswersRows, AnyRows, AreReadable, BeginWith, FailsAs, Gives, failed, given, no_memory, query_of, together, unreadable, TableQuery}
 use Rattle.desk_rows.specs.Whole.{IsUtf8Row}
 use Rattle.desk_rows.specs.Descriptions.{description_of, table_of}
-use Rattle.sql_tables.specs.Rows.{columns_at}
+use Rattle.sql_tables.specs.Rows.{Lists, columns_at}
 use Rattle.desk_rows.specs.Layout.{Layout}
 use Rattle.desk_rows.specs.Contents.{Contents}
 use Rattle.desk_rows.specs.States.{ShowsContents}
 use Rattle.desk_rows.specs.Rows.{ShownOf, shown_columns, own, order, columns_of}
 use Rattle.desk_rows.proofs.TableReads.WholeReads.{rows_cmp, reads_only, table_read, table_kinds, table_fails}
+use Rattle.sqlite_resolve.specs.Compile.{first}
+use Rattle.sqlite_trees.specs.declared.error.StoreError.{StoreError}
 
 head_or : {X : Type 0} → X → List X → X
 head_or d [] = d
 head_or d (x ∷ xs) = x
 
+-- ---- a read that fails
+
+module _ {X : Type 0} (query : TableQuery) (written : X → Row) (before after : State) where
+  fails_to_read : {A : Type 0} (rows : List Row) → Shown query.text [] before after rows → (r : Result A DatabaseFault) → IfErr r (λ fault. fault ≢ Lost)
+      → (AllByRecursion (HasKinds query.kinds) rows → IfErr r (λ fault. fault ≡ NoMemory))
+      → IfErr r (λ fault. fault ≡ NoMemory → BeginWith query.kinds rows) → IfErr r (FailsAs query written AnyRows before after)
+  fails_to_read rows shown (Ok a) not_lost kinds begins = tt
+  fails_to_read rows shown (Err NoMemory) not_lost kinds begins = no_memory rows shown (begins refl) refl
+  fails_to_read rows shown (Err Lost) not_lost kinds begins = absurd (not_lost refl)
+  fails_to_read rows shown (Err Refused) not_lost kinds begins = unreadable rows shown (λ all. absurd (let none = kinds all in cc)) refl
+
+-- if only the store makes a query fail, it is reported as that
+never_refused : (text : List ℕ) (params : Row) (old new : State) (fault : DatabaseFault) → ((e : Error) → FailsToQuery text params old new e → (cause : StoreError) × (e ≡ store_error cause))
+    → (e : Error) × FailsToQuery text params old new e × IsToldAs e fault → fault ≢ Refused
+never_refused text params old new fault fails (e, fails_so, told) refused = let store = fails e fails_so in subst (IsToldAs e) refused told store.0 store.1
+
+-- a failed allocation isn't a refusal
+not_refused : {A : Type 0} (r : Result A DatabaseFault) → IfErr r (λ fault. fault ≡ NoMemory) → IfErr r (λ fault. fault ≢ Refused)
+not_refused (Ok a) none = tt
+not_refused (Err fault) none = λ refused. absurd (let both = sym none ∙ refused in cc)
+
+-- a fault of another cause than the store's is reported of a file that is as it was
+refused_as_it_was : (text : List ℕ) (is : reads (first text) ≡ true) (params : Row) (old new : State) (fault : DatabaseFault) → (e : Error) × FailsToQuery text params old new e × IsToldAs e fault → fault ≡ Refused → IsUnchanged old new
+refused_as_it_was text is params old new fault (e, fails_so, told) refused = elim (refused_quietly text is params old new e fails_so) [
+  | inl store ↦ absurd (subst (IsToldAs e) refused told store.0 store.1)
+  | inr same ↦ same
+]
+
 -- ---- each table
 
 -- what of a row that the query shows is the row of the table
 abbrev pub own_of : FileTable → Row → Row
-own_of tables.Book r = r
 own_of tables.Tab r = drop 1 r
-own_of tables.Para r = r
-own_of tables.Corr r = r
-own_of tables.Mark r = r
-own_of tables.Cache r = r
-own_of tables.NamedCorr r = r
+own_of t r = r
 
-owned : (w : FileTable) (x : ShownOf w) → own_of w (shown_columns w x) ≡ columns_of w (own w x)
-owned tables.Book x = refl
+owned : (t : FileTable) (x : ShownOf t) → own_of t (shown_columns t x) ≡ columns_of t (own t x)
 owned tables.Tab x = refl
-owned tables.Para x = refl
-owned tables.Corr x = refl
-owned tables.Mark x = refl
-owned tables.Cache x = refl
-owned tables.NamedCorr x = refl
+owned t x = refl
 
-ordered : (w : FileTable) (a b : ShownOf w) → rows_cmp w (shown_columns w a) (shown_columns w b) ≡ order w a b
-ordered tables.Book a b = then-Equal _ ∙ value_cmp-Int a.id b.id
-ordered tables.Para a b = then-Equal _ ∙ value_cmp-Int a.id b.id
-ordered tables.Corr a b = ap₂ ordering_then (value_cmp-Int a.para b.para) (then-Equal _ ∙ value_cmp-Int a.seq b.seq)
-ordered tables.Mark a b = then-Equal _ ∙ value_cmp-Int a.id b.id
-ordered tables.Cache a b = then-Equal _ ∙ value_cmp-Int a.para b.para
-ordered tables.NamedCorr a b = ap₂ ordering_then (value_cmp-Int a.entry.para b.entry.para) (then-Equal _ ∙ value_cmp-Int a.entry.seq b.entry.seq)
-ordered tables.Tab a b = then-Equal _ ∙ value_cmp-Text a.row.name b.row.name
+ordered : (t : FileTable) (a b : ShownOf t) → rows_cmp t (shown_columns t a) (shown_columns t b) ≡ order t a b
+ordered tables.Tab a b = then-Equal _ ∙ value_cmp-Text _ _
+ordered tables.Corr a b = ap₂ ordering_then (value_cmp-Int _ _) (then-Equal _ ∙ value_cmp-Int _ _)
+ordered tables.NamedCorr a b = ap₂ ordering_then (value_cmp-Int _ _) (then-Equal _ ∙ value_cmp-Int _ _)
+ordered t a b = then-Equal _ ∙ value_cmp-Int _ _
 
-own_shown : (w : FileTable) (r : Row) → own_of w (columns_at (description_of w).shown r) ≡ columns_at (description_of w).own r
-own_shown tables.Book r = refl
+own_shown : (t : FileTable) (r : Row) → own_of t (columns_at (description_of t).shown r) ≡ columns_at (description_of t).own r
 own_shown tables.Tab r = refl
-own_shown tables.Para r = refl
-own_shown tables.Corr r = refl
-own_shown tables.Mark r = refl
-own_shown tables.Cache r = refl
-own_shown tables.NamedCorr r = refl
+own_shown t r = refl
 
 -- ---- all tables
 
-pub has_table : (w : FileTable) (l : Layout) (c : Contents) (s : State) → l.has w ≡ true → ShowsContents l c s → HasTable (table_of w (l.tree w)) s
-has_table w l c s there shows = record {
-  declared = subst (λ (schema : Schema). IsDeclared schema (table_of w (l.tree w))) (sym shows.schema) (shows.is.declared w there);
+pub has_table : (t : FileTable) (l : Layout) (c : Contents) (s : State) → l.has t ≡ true → ShowsContents l c s → HasTable (table_of t (l.tree t)) s
+has_table t l c s there shows = record {
+  declared = subst (λ (schema : Schema). IsDeclared schema (table_of t (l.tree t))) (sym shows.schema) (shows.is.declared t there);
   sound = subst (λ (schema : Schema). IsSound schema s.now.trees) (sym shows.schema) shows.is.sound;
 }
 
-pub maps_own : (w : FileTable) (rows : List Row) → map (own_of w) (map (columns_at (description_of w).shown) rows) ≡ map (columns_at (description_of w).own) rows
-maps_own w [] = refl
-maps_own w (r ∷ rows) = rw (own_shown w r, maps_own w rows)
+pub maps_own : (t : FileTable) (rows : List Row) → map (own_of t) (map (columns_at (description_of t).shown) rows) ≡ map (columns_at (description_of t).own) rows
+maps_own t [] = refl
+maps_own t (r ∷ rows) = rw (own_shown t r, maps_own t rows)
 
-pub maps_shown : {X : Type 0} (w : FileTable) (view : X → ShownOf w) (xs : List X) → map (own_of w) (map (λ x. shown_columns w (view x)) xs) ≡ map (columns_of w) (map (λ x. own w (view x)) xs)
-maps_shown w view [] = refl
-maps_shown w view (x ∷ xs) = rw (owned w (view x), maps_shown w view xs)
+pub maps_shown : {X : Type 0} (t : FileTable) (view : X → ShownOf t) (xs : List X) → map (own_of t) (map (λ x. shown_columns t (view x)) xs) ≡ map (columns_of t) (map (λ x. own t (view x)) xs)
+maps_shown t view [] = refl
+maps_shown t view (x ∷ xs) = rw (owned t (view x), maps_shown t view xs)
 
-any_rows : {V X : Type 0} (items : V → List X) (r : Result V DatabaseFault) → IfOk r (λ xs. AnyRows (items xs))
-any_rows items (Ok xs) = tt
-any_rows items (Err fault) = tt
-
-module _ {V X : Type 0} (items : V → List X) (w : FileTable) (view : X → ShownOf w) (old new : State) where
-  pub answers : (rows : List Row) → Shown (description_of w).read [] old new rows → (r : Result V DatabaseFault) → IfOk r (λ xs. map (given w) rows ≡ map (λ x. shown_columns w (view x)) (items xs))
-      → (AllByRecursion (HasKinds (query_of w).kinds) rows → IfErr r (λ fault. fault ≡ NoMemory)) → IfErr r (λ fault. fault ≢ Lost)
-      → IfErr r (λ fault. fault ≡ NoMemory → BeginWith (query_of w).kinds rows)
-      → IfOk r (λ xs. AllByRecursion (λ x. IsUtf8Row w (own w (view x))) (items xs)) → AnswersRows r items w view AnyRows old new
-  answers rows seen r reads kinds not_lost begins utf8 =
-      let read = λ (tree : ℕ) (has : HasTable (table_of w tree) old). IfOk-weaker r _ _ (λ xs made. table_read w old.now.schema tree has.declared old new refl has.sound (λ x. shown_columns w (view x)) (λ a b. order w (view a) (view b)) (λ a b. ordered w (view a) (view b)) rows (items xs) seen made) reads in record {
-        gives = IfOk-weaker r _ _ (λ xs made. (rows, seen, made)) reads;
-        apart = any_rows items r;
-        utf8 = utf8;
-        rows = read;
-        shows = λ l c there is. IfOk-weaker r _ _ (λ xs all. one_list w (columns_at (description_of w).own) (c.rows w) (map (λ x. own w (view x)) (items xs)) (old.now.trees (l.tree w)) (is.is.holds.tables w there)
-            (subst₂ IsPermutation (maps_shown w view (items xs)) (maps_own w (old.now.trees (l.tree w))) (IsPermutation-map (own_of w) _ _ all.0))) (read (l.tree w) (has_table w l c old there is));
-        unchanged = on_ok r _ (shown_quietly (description_of w).read (reads_only w) [] old new rows seen);
-        told = fails_to_read (query_of w) (λ x. shown_columns w (view x)) old new rows seen r not_lost kinds begins;
-        refused = on_err r _ (λ fault refused. shown_quietly (description_of w).read (reads_only w) [] old new rows seen);
-        answered = λ can unlimited readable apart. not_refused r (kinds (readable rows seen));
-        cause = λ tree has unlimited readable apart. not_refused r (kinds (table_kinds w old.now.schema tree has.declared old new refl has.sound rows seen readable));
-      }
-
-  pub fails : (fault : DatabaseFault) → (e : Error) × FailsToQuery (description_of w).read [] old new e × IsToldAs e fault → AnswersRows (Err fault) items w view AnyRows old new
-  fails fault why = record {
+-- nothing is read: why not, that all is as it was if it was refused, and that it isn't refused under these conditions
+module _ {V X : Type 0} (items : V → List X) (t : FileTable) (view : X → ShownOf t) (Apart : List X → Type 0) (old new : State) (fault : DatabaseFault) where
+  not_read : FailsAs (query_of t) (λ x. shown_columns t (view x)) Apart old new fault → (fault ≡ Refused → IsUnchanged old new)
+      → ((tree : ℕ) → HasTable (table_of t tree) old → old.step_limit ≡ None → AreReadable t (old.now.trees tree)
+      → ((xs : List X) → Lists (λ x. shown_columns t (view x)) (columns_at (description_of t).shown) xs (old.now.trees tree) → Apart xs) → fault ≢ Refused)
+      → (HasAnswer (query_of t).text old → old.step_limit ≡ None → ((rows : List Row) → Shown (query_of t).text [] old new rows → AllByRecursion (HasKinds (query_of t).kinds) rows)
+      → ((xs : List X) → Gives (query_of t) (λ x. shown_columns t (view x)) old new xs → Apart xs) → fault ≢ Refused)
+      → AnswersRows (Err fault) items t view Apart old new
+  not_read told refused cause answered = record {
     gives = tt;
     apart = tt;
     utf8 = tt;
     rows = λ tree has. tt;
     shows = λ l c there is. tt;
     unchanged = tt;
-    told = fails_to_ask (query_of w) (λ x. shown_columns w (view x)) old new fault why;
-    refused = refused_as_it_was (description_of w).read (reads_only w) [] old new fault why;
-    answered = λ can unlimited readable apart. never_refused (description_of w).read [] old new fault (answered_fails (description_of w).read (reads_only w) old new can unlimited) why;
-    cause = λ tree has unlimited readable apart. never_refused (description_of w).read [] old new fault (table_fails w old.now.schema tree has.declared old new refl has.sound unlimited) why;
+    told = told;
+    refused = refused;
+    cause = cause;
+    answered = answered;
   }
+
+module _ {V X : Type 0} (items : V → List X) (t : FileTable) (view : X → ShownOf t) (old new : State) where
+  pub answers : (rows : List Row) → Shown (description_of t).read [] old new rows → (r : Result V DatabaseFault) → IfOk r (λ xs. map (given t) rows ≡ map (λ x. shown_columns t (view x)) (items xs))
+      → (AllByRecursion (HasKinds (query_of t).kinds) rows → IfErr r (λ fault. fault ≡ NoMemory)) → IfErr r (λ fault. fault ≢ Lost)
+      → IfErr r (λ fault. fault ≡ NoMemory → BeginWith (query_of t).kinds rows)
+      → IfOk r (λ xs. AllByRecursion (λ x. IsUtf8Row t (own t (view x))) (items xs)) → AnswersRows r items t view AnyRows old new
+  answers rows seen r reads kinds not_lost begins utf8 =
+      let read = λ (tree : ℕ) (has : HasTable (table_of t tree) old). IfOk-weaker r _ _ (λ xs made. table_read t old.now.schema tree has.declared old new refl has.sound (λ x. shown_columns t (view x)) (λ a b. order t (view a) (view b)) (λ a b. ordered t (view a) (view b)) rows (items xs) seen made) reads in record {
+        gives = IfOk-weaker r _ _ (λ xs made. (rows, seen, made)) reads;
+        apart = on_ok r _ tt;
+        utf8 = utf8;
+        rows = read;
+        shows = λ l c there is. IfOk-weaker r _ _ (λ xs all. one_list t (columns_at (description_of t).own) (c.rows t) (map (λ x. own t (view x)) (items xs)) (old.now.trees (l.tree t)) (is.is.holds.tables t there)
+            (subst₂ IsPermutation (maps_shown t view (items xs)) (maps_own t (old.now.trees (l.tree t))) (IsPermutation-map (own_of t) _ _ all.0))) (read (l.tree t) (has_table t l c old there is));
+        unchanged = on_ok r _ (shown_quietly (description_of t).read (reads_only t) [] old new rows seen);
+        told = fails_to_read (query_of t) (λ x. shown_columns t (view x)) old new rows seen r not_lost kinds begins;
+        refused = on_err r _ (λ fault refused. shown_quietly (description_of t).read (reads_only t) [] old new rows seen);
+        answered = λ can unlimited readable apart. not_refused r (kinds (readable rows seen));
+        cause = λ tree has unlimited readable apart. not_refused r (kinds (table_kinds t old.now.schema tree has.declared old new refl has.sound rows seen readable));
+      }
+
+  pub fails : (fault : DatabaseFault) → (e : Error) × FailsToQuery (description_of t).read [] old new e × IsToldAs e fault → AnswersRows (Err fault) items t view AnyRows old new
+  fails fault why =
+      not_read items t view AnyRows old new fault (failed why.0 why.1 why.2) (refused_as_it_was (description_of t).read (reads_only t) [] old new fault why)
+      (λ tree has unlimited readable apart. never_refused (description_of t).read [] old new fault (table_fails t old.now.schema tree has.declared old new refl has.sound unlimited) why)
+      (λ can unlimited readable apart. never_refused (description_of t).read [] old new fault (answered_fails (description_of t).read (reads_only t) old new can unlimited) why)
 
 -- ---- rows that have to be apart
 
-module _ {V X : Type 0} (items : V → List X) (w : FileTable) (view : X → ShownOf w) (Apart : List X → Type 0) (old new : State) where
-  still_fails : (fault : DatabaseFault) → FailsAs (query_of w) (λ x. shown_columns w (view x)) AnyRows old new fault → FailsAs (query_of w) (λ x. shown_columns w (view x)) Apart old new fault
+module _ {V X : Type 0} (items : V → List X) (t : FileTable) (view : X → ShownOf t) (Apart : List X → Type 0) (old new : State) where
+  still_fails : (fault : DatabaseFault) → FailsAs (query_of t) (λ x. shown_columns t (view x)) AnyRows old new fault → FailsAs (query_of t) (λ x. shown_columns t (view x)) Apart old new fault
   still_fails fault (failed e fails told) = failed e fails told
   still_fails fault (unreadable rows seen not is) = unreadable rows seen not is
   still_fails fault (together xs gives not is) = absurd (not tt)
   still_fails fault (no_memory rows seen begins is) = no_memory rows seen begins is
 
-  pub are_apart : (xs : V) → AnswersRows (Ok xs) items w view AnyRows old new → Apart (items xs) → AnswersRows (Ok xs) items w view Apart old new
+  are_apart : (xs : V) → AnswersRows (Ok xs) items t view AnyRows old new → Apart (items xs) → AnswersRows (Ok xs) items t view Apart old new
   are_apart xs a is = record {
     gives = a.gives;
     apart = is;
@@ -153,56 +173,29 @@ module _ {V X : Type 0} (items : V → List X) (w : FileTable) (view : X → Sho
     answered = λ can unlimited readable apart. tt;
   }
 
-  pub not_read : (fault : DatabaseFault) → AnswersRows (Err fault) items w view AnyRows old new → AnswersRows (Err fault) items w view Apart old new
-  not_read fault a = record {
-    gives = tt;
-    apart = tt;
-    utf8 = tt;
-    rows = λ tree has. tt;
-    shows = λ l c there is. tt;
-    unchanged = tt;
-    told = still_fails fault a.told;
-    refused = a.refused;
-    cause = λ tree has unlimited readable apart. a.cause tree has unlimited readable (λ xs all. tt);
-    answered = λ can unlimited readable apart. a.answered can unlimited readable (λ xs all. tt);
-  }
+  pub still_not_read : (fault : DatabaseFault) → AnswersRows (Err fault) items t view AnyRows old new → AnswersRows (Err fault) items t view Apart old new
+  still_not_read fault a =
+      not_read items t view Apart old new fault (still_fails fault a.told) a.refused
+      (λ tree has unlimited readable apart. a.cause tree has unlimited readable (λ xs all. tt)) (λ can unlimited readable apart. a.answered can unlimited readable (λ xs all. tt))
 
-  pub are_together : (xs : V) → AnswersRows (Ok xs) items w view AnyRows old new → ¬ Apart (items xs) → AnswersRows (Err Refused) items w view Apart old new
-  are_together xs a not = record {
-    gives = tt;
-    apart = tt;
-    utf8 = tt;
-    rows = λ tree has. tt;
-    shows = λ l c there is. tt;
-    unchanged = tt;
-    told = together (items xs) a.gives not refl;
-    refused = λ is. a.unchanged;
-    cause = λ tree has unlimited readable apart. absurd (not (apart (items xs) (a.rows tree has).0));
-    answered = λ can unlimited readable apart. absurd (not (apart (items xs) a.gives));
-  }
+  are_together : (xs : V) → AnswersRows (Ok xs) items t view AnyRows old new → ¬ Apart (items xs) → AnswersRows (Err Refused) items t view Apart old new
+  are_together xs a not =
+      not_read items t view Apart old new Refused (together (items xs) a.gives not refl) (λ is. a.unchanged)
+      (λ tree has unlimited readable apart. absurd (not (apart (items xs) (a.rows tree has).0))) (λ can unlimited readable apart. absurd (not (apart (items xs) a.gives)))
 
-  pub not_judged : (xs : V) (a : AnswersRows (Ok xs) items w view AnyRows old new) → BeginWith (query_of w).kinds a.gives.0 → AnswersRows (Err NoMemory) items w view Apart old new
-  not_judged xs a begins = record {
-    gives = tt;
-    apart = tt;
-    utf8 = tt;
-    rows = λ tree has. tt;
-    shows = λ l c there is. tt;
-    unchanged = tt;
-    told = no_memory a.gives.0 a.gives.1 begins refl;
-    refused = λ is. a.unchanged;
-    cause = λ tree has unlimited readable apart is. absurd (cc);
-    answered = λ can unlimited readable apart is. absurd (cc);
-  }
+  not_judged : (xs : V) (a : AnswersRows (Ok xs) items t view AnyRows old new) → BeginWith (query_of t).kinds a.gives.0 → AnswersRows (Err NoMemory) items t view Apart old new
+  not_judged xs a begins =
+      not_read items t view Apart old new NoMemory (no_memory a.gives.0 a.gives.1 begins refl) (λ is. a.unchanged)
+      (λ tree has unlimited readable apart is. absurd (cc)) (λ can unlimited readable apart is. absurd (cc))
 
   -- by whether they were found to be apart, where memory for that is asked only once the first row begins with values of its kinds
-  pub judged : (xs : V) (apart : Result Bool AllocError) (r : Result V DatabaseFault) (a : AnswersRows (Ok xs) items w view AnyRows old new)
-      → IfOk apart (λ b. MatchBool b (Apart (items xs)) (¬ Apart (items xs))) → OnErr apart (BeginWith (query_of w).kinds a.gives.0)
+  pub judged : (xs : V) (apart : Result Bool AllocError) (r : Result V DatabaseFault) (a : AnswersRows (Ok xs) items t view AnyRows old new)
+      → IfOk apart (λ b. MatchBool b (Apart (items xs)) (¬ Apart (items xs))) → OnErr apart (BeginWith (query_of t).kinds a.gives.0)
       → (apart ≡ Ok true → r ≡ Ok xs) → (apart ≡ Ok false → r ≡ Err Refused) → OnErr apart (r ≡ Err NoMemory)
-      → AnswersRows r items w view Apart old new
-  judged xs (Ok true) r a is begins ok not none = subst (λ (s : Result V DatabaseFault). AnswersRows s items w view Apart old new) (sym (ok refl)) (are_apart xs a is)
-  judged xs (Ok false) r a is begins ok not none = subst (λ (s : Result V DatabaseFault). AnswersRows s items w view Apart old new) (sym (not refl)) (are_together xs a is)
-  judged xs (Err e) r a is begins ok not none = subst (λ (s : Result V DatabaseFault). AnswersRows s items w view Apart old new) (sym none) (not_judged xs a begins)
+      → AnswersRows r items t view Apart old new
+  judged xs (Ok true) r a is begins ok not none = subst (λ (s : Result V DatabaseFault). AnswersRows s items t view Apart old new) (sym (ok refl)) (are_apart xs a is)
+  judged xs (Ok false) r a is begins ok not none = subst (λ (s : Result V DatabaseFault). AnswersRows s items t view Apart old new) (sym (not refl)) (are_together xs a is)
+  judged xs (Err e) r a is begins ok not none = subst (λ (s : Result V DatabaseFault). AnswersRows s items t view Apart old new) (sym none) (not_judged xs a begins)
 
 -- ---- braille tables, for the first of which something is allocated
 

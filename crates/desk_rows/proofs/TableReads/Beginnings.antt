@@ -1,15 +1,13 @@
 -- The rows for which something is allocated begin with values of their kinds.
-use Rattle.std.proofs.Common.{◌≡◌, ◌<◌, ℕ, suc, zero, List, [], ◌∷◌, get_or, length, take, arith, refl, subst}
+use Rattle.std.proofs.Common.{◌≡◌, ◌<◌, ℕ, suc, zero, List, [], ◌∷◌, get_or, length, take, arith, subst}
 use Rattle.std.specs.Prelude.{⊤}
-use Rattle.sqlite_value.specs.Order.{Row, column}
-use Rattle.sqlite.specs.Values.{IsInt}
-use Rattle.sql_tables.specs.Kinds.{HasKinds, IsOfKind}
+use Rattle.std.specs.List.{AllByRecursion}
+use Rattle.sqlite_rules.proofs.ListLemmas.{all_has, has_at}
+use Rattle.sqlite_value.specs.declared.value.Value.{Value}
+use Rattle.sqlite_value.specs.Order.{Row}
+use Rattle.sql_tables.specs.Kinds.{HasKinds}
 use Rattle.sqlite_schema.specs.declared.schema.Kind.{Kind}
-use Rattle.sqlite_schema.specs.declared.schema.Kind.TheVariants.{Any, Integer}
-use Rattle.desk_rows.specs.TableQuery.{Begins, BeginWith}
-use Rattle.desk_rows.specs.Fault.{IsValueFault}
-use Rattle.desk_rows.specs.declared.fault.DatabaseFault.{DatabaseFault}
-use Rattle.desk_rows.specs.declared.fault.DatabaseFault.TheVariants.{NoMemory, Lost, Refused}
+use Rattle.desk_rows.specs.TableQuery.{AreOfKinds, Begins, BeginWith}
 
 -- of rows, if there are any, the first begins so
 abbrev pub MayBegin : List Kind → List Row → Type 0
@@ -29,18 +27,15 @@ begin_with kinds (first ∷ rows) zero row lt is so one = subst (Begins 0 kinds)
 begin_with kinds (first ∷ rows) (suc i) row lt is so one = so
 
 -- a row of these kinds has a value of the kind in each place
-pub kind_there : (kinds : List Kind) (row : Row) (i : ℕ) → i < length kinds → HasKinds kinds row → IsOfKind (get_or kinds i Any) (column row i)
-kind_there [] row i lt all = absurd (omega (arith, lt))
-kind_there (k ∷ kinds) [] i lt all = absurd all
-kind_there (k ∷ kinds) (v ∷ row) zero lt all = all.0
-kind_there (k ∷ kinds) (v ∷ row) (suc i) lt all = kind_there kinds row i (omega (arith, lt)) all.1
+shifted : (kinds : List Kind) (at : ℕ) (v : Value) (row : Row) → AreOfKinds at kinds row → AreOfKinds (suc at) kinds (v ∷ row)
+shifted [] at v row all = tt
+shifted (k ∷ kinds) at v row all = (all.0, shifted kinds (suc at) v row all.1)
 
--- and an integer where the kind is one
-pub int_there : (kinds : List Kind) (row : Row) (i : ℕ) → i < length kinds → get_or kinds i Any ≡ Integer → HasKinds kinds row → IsInt (column row i)
-int_there kinds row i lt is all = subst (λ (k : Kind). IsOfKind k (column row i)) is (kind_there kinds row i lt all)
+by_place : (kinds : List Kind) (row : Row) → HasKinds kinds row → AreOfKinds 0 kinds row
+by_place [] row all = tt
+by_place (k ∷ kinds) [] all = absurd all
+by_place (k ∷ kinds) (v ∷ row) all = (all.0, shifted kinds 0 v row (by_place kinds row all.1))
 
--- a value that is of its kind is reported as a failed allocation, if it isn't read
-pub value_told : (IsSo : Type 0) (fault : DatabaseFault) → IsValueFault IsSo fault → IsSo → fault ≡ NoMemory
-value_told IsSo NoMemory told so = refl
-value_told IsSo Lost told so = absurd told
-value_told IsSo Refused told so = absurd (told so)
+pub kinds_there : (kinds : List Kind) (rows : List Row) (i : ℕ) (row : Row) → i < length rows → row ≡ get_or rows i row
+    → AllByRecursion (HasKinds kinds) rows → AreOfKinds 0 kinds row
+kinds_there kinds rows i row lt is all = by_place kinds row (all_has (HasKinds kinds) rows row all (has_at rows i row lt is))

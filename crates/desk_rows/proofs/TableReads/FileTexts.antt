@@ -21,9 +21,9 @@ use Rattle.desk_rows.specs.Whole.{AreUtf8, IsUtf8Row}
 -- ---- each table
 
 -- the texts among a row's columns
-columns_utf8 : (w : FileTable) (x : RowOf w) → IsUtf8Row w x → AllByRecursion IsUtf8Text (columns_of w x)
+columns_utf8 : (t : FileTable) (x : RowOf t) → IsUtf8Row t x → AllByRecursion IsUtf8Text (columns_of t x)
 columns_utf8 tables.Book b is = (tt, (tt, (tt, tt)))
-columns_utf8 tables.Tab t is = (is, (tt, tt))
+columns_utf8 tables.Tab x is = (is, (tt, tt))
 columns_utf8 tables.Para p is = (tt, (tt, (is.0, (is.1, (is.2, (tt, (tt, (tt, tt))))))))
 columns_utf8 tables.Corr e is = (tt, (tt, (tt, (tt, (tt, (is, tt))))))
 columns_utf8 tables.Mark m is = (tt, (tt, (tt, (tt, (is, (tt, (tt, tt)))))))
@@ -31,7 +31,7 @@ columns_utf8 tables.Cache k is = (tt, (tt, tt))
 columns_utf8 tables.NamedCorr e is = (tt, (tt, (tt, (tt, (tt, (is.0, (is.1, tt)))))))
 
 -- those are all the texts of a row as its tree keeps it
-row_utf8 : (w : FileTable) (tree : _) (row : Row) → IsKept (table_of w tree) row → AllByRecursion IsUtf8Text (columns_at (description_of w).own row) → AllByRecursion IsUtf8Text (drop 1 row)
+row_utf8 : (t : FileTable) (tree : _) (row : Row) → IsKept (table_of t tree) row → AllByRecursion IsUtf8Text (columns_at (description_of t).own row) → AllByRecursion IsUtf8Text (drop 1 row)
 row_utf8 tables.Book tree row is t = behind (table_of tables.Book tree) row is ((λ no. absurd (true≢false no)), ((λ no. t.1.0), ((λ no. t.1.1.0), tt)))
 row_utf8 tables.Tab tree row is t = behind (table_of tables.Tab tree) row is ((λ no. t.0), ((λ no. t.1.0), tt))
 row_utf8 tables.Para tree row is t =
@@ -49,28 +49,24 @@ row_utf8 tables.Cache tree row is t = behind (table_of tables.Cache tree) row is
 row_utf8 tables.NamedCorr tree row is t = behind (table_of tables.NamedCorr tree) row is ((λ no. t.0), ((λ no. t.1.0), ((λ no. t.1.1.0), ((λ no. t.1.1.1.0), ((λ no. t.1.1.1.1.0), ((λ no. t.1.1.1.1.1.0), ((λ no. t.1.1.1.1.1.1.0), tt)))))))
 
 -- a query that shows the rowid is of a table whose rows may be changed
-is_changed : (w : FileTable) → shows_rowid w ≡ true → (description_of w).is_changed ≡ true
-is_changed tables.Book is = refl
-is_changed tables.Tab is = refl
-is_changed tables.Para is = refl
+is_changed : (t : FileTable) → shows_rowid t ≡ true → (description_of t).is_changed ≡ true
 is_changed tables.Corr is = absurd (cc)
-is_changed tables.Mark is = refl
-is_changed tables.Cache is = refl
 is_changed tables.NamedCorr is = absurd (cc)
+is_changed t is = refl
 
 -- ---- all tables
 
 module _ (l : Layout) (c : Contents) (db : Trees) (is : IsFile l c db) where
-  pub rowids : (w : FileTable) → l.has w ≡ true → shows_rowid w ≡ true → HaveIntegerRowids (db (l.tree w))
-  rowids w there shows = (is.holds.ids w there (is_changed w shows)).integers
+  pub rowids : (t : FileTable) → l.has t ≡ true → shows_rowid t ≡ true → HaveIntegerRowids (db (l.tree t))
+  rowids t there shows = (is.holds.ids t there (is_changed t shows)).integers
 
   -- those of one table, if its texts are UTF-8
-  pub readable_table : (w : FileTable) → l.has w ≡ true → AllByRecursion (IsUtf8Row w) (c.rows w) → AreReadable w (db (l.tree w))
-  readable_table w there utf8 =
-      let texts = in_rows (columns_of w) (columns_at (description_of w).own) (IsUtf8Row w) (columns_utf8 w) (c.rows w) (db (l.tree w)) utf8 (is.holds.tables w there) in
-      let own = kept l.schema (table_of w (l.tree w)) (is.declared w there) db is.sound in
-      let all = all_both (IsKept (table_of w (l.tree w))) (λ row. AllByRecursion IsUtf8Text (columns_at (description_of w).own row)) (λ row. AllByRecursion IsUtf8Text (drop 1 row)) (row_utf8 w (l.tree w)) (db (l.tree w)) own texts in
-      record { ids = rowids w there; texts = λ has. all }
+  pub readable_table : (t : FileTable) → l.has t ≡ true → AllByRecursion (IsUtf8Row t) (c.rows t) → AreReadable t (db (l.tree t))
+  readable_table t there utf8 =
+      let texts = in_rows (columns_of t) (columns_at (description_of t).own) (IsUtf8Row t) (columns_utf8 t) (c.rows t) (db (l.tree t)) utf8 (is.holds.tables t there) in
+      let own = kept l.schema (table_of t (l.tree t)) (is.declared t there) db is.sound in
+      let all = all_both (IsKept (table_of t (l.tree t))) (λ row. AllByRecursion IsUtf8Text (columns_at (description_of t).own row)) (λ row. AllByRecursion IsUtf8Text (drop 1 row)) (row_utf8 t (l.tree t)) (db (l.tree t)) own texts in
+      record { ids = rowids t there; texts = λ has. all }
 
-  pub readable : AreUtf8 c → (w : FileTable) → l.has w ≡ true → AreReadable w (db (l.tree w))
-  readable utf8 w there = readable_table w there (utf8 w)
+  pub readable : AreUtf8 c → (t : FileTable) → l.has t ≡ true → AreReadable t (db (l.tree t))
+  readable utf8 t there = readable_table t there (utf8 t)

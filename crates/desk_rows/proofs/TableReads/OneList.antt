@@ -9,7 +9,7 @@ use Rattle.desk_parts.specs.declared.file_table.FileTable.TheVariants as tables
 use Rattle.desk_parts.specs.Rows.{RowOf}
 
 -- a row as it was, from its columns
-abbrev back : (w : FileTable) → Row → RowOf w
+abbrev back : (t : FileTable) → Row → RowOf t
 back tables.Book r = record { id = integer (column r 0); format = integer (column r 1); version = integer (column r 2) }
 back tables.Tab r = record { name = bytes (column r 0); body = bytes (column r 1) }
 back tables.Para r = record {
@@ -38,14 +38,9 @@ back tables.NamedCorr r = record {
   who = bytes (column r 6);
 }
 
-undone : (w : FileTable) (x : RowOf w) → back w (columns_of w x) ≡ x
+undone : (t : FileTable) (x : RowOf t) → back t (columns_of t x) ≡ x
 undone tables.Book x = refl
-undone tables.Tab x = refl
-undone tables.Para x = refl
-undone tables.Corr x = refl
-undone tables.Mark x = refl
-undone tables.Cache x = refl
-undone tables.NamedCorr x = refl
+undone t x = refl
 
-pub one_list : (w : FileTable) (columns : Row → Row) (xs ys : List (RowOf w)) (rows : List Row) → Lists (columns_of w) columns xs rows → Lists (columns_of w) columns ys rows → IsPermutation xs ys
-one_list w = same_list (columns_of w) (back w) (undone w)
+pub one_list : (t : FileTable) (columns : Row → Row) (xs ys : List (RowOf t)) (rows : List Row) → Lists (columns_of t) columns xs rows → Lists (columns_of t) columns ys rows → IsPermutation xs ys
+one_list t = same_list (columns_of t) (back t) (undone t)

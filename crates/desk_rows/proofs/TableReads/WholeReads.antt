@@ -35,36 +35,25 @@ use Rattle.desk_rows.proofs.TableReads.PlainReads.{is_read, sort_terms}
 
 -- ---- each table
 
-keys_are : (w : FileTable) (r : Row) → eval_all (sort_terms w) ([] ∷ r ∷ []) ≡ columns_at (description_of w).sorted (columns_at (description_of w).shown r)
+keys_are : (t : FileTable) (r : Row) → eval_all (sort_terms t) ([] ∷ r ∷ []) ≡ columns_at (description_of t).sorted (columns_at (description_of t).shown r)
 keys_are tables.Book r = refl
-keys_are tables.Tab r = refl
-keys_are tables.Para r = refl
-keys_are tables.Corr r = refl
-keys_are tables.Mark r = refl
-keys_are tables.Cache r = refl
-keys_are tables.NamedCorr r = refl
+keys_are t r = refl
 
-given_again : (w : FileTable) (r : Row) → given w (columns_at (description_of w).shown r) ≡ columns_at (description_of w).shown r
+given_again : (t : FileTable) (r : Row) → given t (columns_at (description_of t).shown r) ≡ columns_at (description_of t).shown r
 given_again tables.Book r = refl
-given_again tables.Tab r = refl
-given_again tables.Para r = refl
-given_again tables.Corr r = refl
-given_again tables.Mark r = refl
-given_again tables.Cache r = refl
-given_again tables.NamedCorr r = refl
+given_again t r = refl
 
 -- what a row needs to be read
 abbrev IsReadable : FileTable → Row → Type 0
-IsReadable w row = (shows_rowid w ≡ true → IsTrue (is_int (rowid row))) × (has_texts w ≡ true → AllByRecursion IsUtf8Text (drop 1 row))
+IsReadable t row = (shows_rowid t ≡ true → IsTrue (is_int (rowid row))) × (has_texts t ≡ true → AllByRecursion IsUtf8Text (drop 1 row))
 
-row_kinds : (w : FileTable) (tree : ℕ) (row : Row) → IsKept (table_of w tree) row → IsReadable w row → HasKinds (query_of w).kinds (columns_at (description_of w).shown row)
+row_kinds : (t : FileTable) (tree : ℕ) (row : Row) → IsKept (table_of t tree) row → IsReadable t row → HasKinds (query_of t).kinds (columns_at (description_of t).shown row)
 row_kinds tables.Book tree row kept is = (integer_of (rowid row) (is.0 refl), numbered_kinds (table_of tables.Book tree) row _ _ kept refl refl refl ((λ text. absurd (cc)), ((λ text. absurd (cc)), tt)))
 row_kinds tables.Tab tree row kept is = (integer_of (rowid row) (is.0 refl), hidden_kinds (table_of tables.Tab tree) row kept refl refl (all_texts _ (description_of tables.Tab).columns (is.1 refl)))
 row_kinds tables.Para tree row kept is = (integer_of (rowid row) (is.0 refl), numbered_kinds (table_of tables.Para tree) row _ _ kept refl refl refl (all_texts _ (drop 1 (description_of tables.Para).columns) (is.1 refl)))
-row_kinds tables.Corr tree row kept is = hidden_kinds (table_of tables.Corr tree) row kept refl refl (all_texts _ (description_of tables.Corr).columns (is.1 refl))
 row_kinds tables.Mark tree row kept is = (integer_of (rowid row) (is.0 refl), numbered_kinds (table_of tables.Mark tree) row _ _ kept refl refl refl (all_texts _ (drop 1 (description_of tables.Mark).columns) (is.1 refl)))
 row_kinds tables.Cache tree row kept is = (integer_of (rowid row) (is.0 refl), numbered_kinds (table_of tables.Cache tree) row _ _ kept refl refl refl ((λ text. absurd (cc)), tt))
-row_kinds tables.NamedCorr tree row kept is = hidden_kinds (table_of tables.NamedCorr tree) row kept refl refl (all_texts _ (description_of tables.NamedCorr).columns (is.1 refl))
+row_kinds t tree row kept is = hidden_kinds (table_of t tree) row kept refl refl (all_texts _ (description_of t).columns (is.1 refl))
 
 -- by the columns at these places in turn
 abbrev places_cmp : List ℕ → Row → Row → Ordering
@@ -73,30 +62,20 @@ places_cmp (k ∷ ks) a b = ordering_then (value_cmp (column a k) (column b k)) 
 
 -- in the order of the query
 abbrev pub rows_cmp : FileTable → Row → Row → Ordering
-rows_cmp w = places_cmp (description_of w).sorted
+rows_cmp t = places_cmp (description_of t).sorted
 
 -- how the query compares two rows
 abbrev cmp : FileTable → ℕ → Row → Row → Ordering
-cmp w tree a b =
-    output_cmp (query_on tree (parts (map (col 1) (description_of w).shown) (sort_terms w))) (columns_at (description_of w).sorted a, a) (columns_at (description_of w).sorted b, b)
+cmp t tree a b =
+    output_cmp (query_on tree (parts (map (col 1) (description_of t).shown) (sort_terms t))) (columns_at (description_of t).sorted a, a) (columns_at (description_of t).sorted b, b)
 
-cmp_is : (w : FileTable) (tree : ℕ) (a b : Row) → cmp w tree a b ≡ rows_cmp w a b
+cmp_is : (t : FileTable) (tree : ℕ) (a b : Row) → cmp t tree a b ≡ rows_cmp t a b
 cmp_is tables.Book tree a b = refl
-cmp_is tables.Tab tree a b = refl
-cmp_is tables.Para tree a b = refl
-cmp_is tables.Corr tree a b = refl
-cmp_is tables.Mark tree a b = refl
-cmp_is tables.Cache tree a b = refl
-cmp_is tables.NamedCorr tree a b = refl
+cmp_is t tree a b = refl
 
-cmp_given : (w : FileTable) (tree : ℕ) (a b : Row) → is_lt (cmp w tree a b) ≡ is_lt (cmp w tree (given w a) (given w b))
+cmp_given : (t : FileTable) (tree : ℕ) (a b : Row) → is_lt (cmp t tree a b) ≡ is_lt (cmp t tree (given t a) (given t b))
 cmp_given tables.Book tree a b = refl
-cmp_given tables.Tab tree a b = refl
-cmp_given tables.Para tree a b = refl
-cmp_given tables.Corr tree a b = refl
-cmp_given tables.Mark tree a b = refl
-cmp_given tables.Cache tree a b = refl
-cmp_given tables.NamedCorr tree a b = refl
+cmp_given t tree a b = refl
 
 -- ---- all tables
 
@@ -108,28 +87,28 @@ shows_are : (ps : List ℕ) (r : Row) → eval_all (map (col 1) ps) ([] ∷ r �
 shows_are [] r = refl
 shows_are (p ∷ ps) r = ap (λ vs. column r p ∷ vs) (shows_are ps r)
 
-pub reads_only : (w : FileTable) → reads (first (description_of w).read) ≡ true
-reads_only w = only_reads (table_of w 0) (description_of w).read _ _ _ _ (is_read w 0)
+pub reads_only : (t : FileTable) → reads (first (description_of t).read) ≡ true
+reads_only t = only_reads (table_of t 0) (description_of t).read _ _ _ _ (is_read t 0)
 
-module _ (w : FileTable) (schema : Schema) (tree : ℕ) (d : IsDeclared schema (table_of w tree)) (old new : State) (has : old.now.schema ≡ schema) (sound : IsSound schema old.now.trees) where
-  found : (rows : List Row) → Shown (description_of w).read [] old new rows → IsPermutation (map (columns_at (description_of w).shown) (old.now.trees tree)) rows × Rises (λ a b. is_lt (cmp w tree a b)) rows
-  found rows h = rows_are (table_of w tree) (description_of w).read _ _ _ _ (is_read w tree) schema d old new has sound
-      (columns_at (description_of w).shown) (columns_at (description_of w).sorted) (shows_are (description_of w).shown) (keys_are w) rows h
+module _ (t : FileTable) (schema : Schema) (tree : ℕ) (d : IsDeclared schema (table_of t tree)) (old new : State) (has : old.now.schema ≡ schema) (sound : IsSound schema old.now.trees) where
+  found : (rows : List Row) → Shown (description_of t).read [] old new rows → IsPermutation (map (columns_at (description_of t).shown) (old.now.trees tree)) rows × Rises (λ a b. is_lt (cmp t tree a b)) rows
+  found rows h = rows_are (table_of t tree) (description_of t).read _ _ _ _ (is_read t tree) schema d old new has sound
+      (columns_at (description_of t).shown) (columns_at (description_of t).sorted) (shows_are (description_of t).shown) (keys_are t) rows h
 
   -- what is read are the rows of the tree, in order
-  pub table_read : {X : Type 0} (written : X → Row) (order : X → X → Ordering) → ((a b : X) → rows_cmp w (written a) (written b) ≡ order a b)
-      → (rows : List Row) (xs : List X) → Shown (description_of w).read [] old new rows → map (given w) rows ≡ map written xs → Lists written (columns_at (description_of w).shown) xs (old.now.trees tree) × IsSortedBy (λ a b. is_lt (order a b)) xs
+  pub table_read : {X : Type 0} (written : X → Row) (order : X → X → Ordering) → ((a b : X) → rows_cmp t (written a) (written b) ≡ order a b)
+      → (rows : List Row) (xs : List X) → Shown (description_of t).read [] old new rows → map (given t) rows ≡ map written xs → Lists written (columns_at (description_of t).shown) xs (old.now.trees tree) × IsSortedBy (λ a b. is_lt (order a b)) xs
   table_read written order ordered rows xs h is =
       let all = found rows h in
-      parsed (columns_at (description_of w).shown) (given w) written (given_again w) (λ a b. is_lt (cmp w tree a b)) (cmp_given w tree) (λ a b. is_lt (order a b)) (λ a b. ap is_lt (cmp_is w tree (written a) (written b) ∙ ordered a b)) (old.now.trees tree) rows xs all.0 all.1 is
+      parsed (columns_at (description_of t).shown) (given t) written (given_again t) (λ a b. is_lt (cmp t tree a b)) (cmp_given t tree) (λ a b. is_lt (order a b)) (λ a b. ap is_lt (cmp_is t tree (written a) (written b) ∙ ordered a b)) (old.now.trees tree) rows xs all.0 all.1 is
 
   -- the values that are read have the kinds of their columns
-  pub table_kinds : (rows : List Row) → Shown (description_of w).read [] old new rows → AreReadable w (old.now.trees tree) → AllByRecursion (HasKinds (query_of w).kinds) rows
+  pub table_kinds : (rows : List Row) → Shown (description_of t).read [] old new rows → AreReadable t (old.now.trees tree) → AllByRecursion (HasKinds (query_of t).kinds) rows
   table_kinds rows h readable =
-      all_shown schema (table_of w tree) d old.now.trees sound (IsReadable w) (columns_at (description_of w).shown) (query_of w).kinds (row_kinds w tree) rows
-      (all_both (λ r. shows_rowid w ≡ true → IsTrue (is_int (rowid r))) (λ r. has_texts w ≡ true → AllByRecursion IsUtf8Text (drop 1 r)) (IsReadable w) (λ r ids texts. (ids, texts)) (old.now.trees tree)
-      (all_if (shows_rowid w) _ _ readable.ids) (all_if (has_texts w) _ _ readable.texts)) (found rows h).0
+      all_shown schema (table_of t tree) d old.now.trees sound (IsReadable t) (columns_at (description_of t).shown) (query_of t).kinds (row_kinds t tree) rows
+      (all_both (λ r. shows_rowid t ≡ true → IsTrue (is_int (rowid r))) (λ r. has_texts t ≡ true → AllByRecursion IsUtf8Text (drop 1 r)) (IsReadable t) (λ r ids texts. (ids, texts)) (old.now.trees tree)
+      (all_if (shows_rowid t) _ _ readable.ids) (all_if (has_texts t) _ _ readable.texts)) (found rows h).0
 
   -- only the store makes the reading fail
-  pub table_fails : old.step_limit ≡ None → (e : Error) → FailsToQuery (description_of w).read [] old new e → IsStoreFailure e
-  table_fails = fails_by_store (table_of w tree) (description_of w).read _ _ _ _ (is_read w tree) schema d old has sound new
+  pub table_fails : old.step_limit ≡ None → (e : Error) → FailsToQuery (description_of t).read [] old new e → IsStoreFailure e
+  table_fails = fails_by_store (table_of t tree) (description_of t).read _ _ _ _ (is_read t tree) schema d old has sound new

@@ -24,11 +24,7 @@ use Rattle.desk_rows.specs.Turns.{FailsWith, RunInTurn, Statement, Stops}
 
 memory_alone : (cause : StoreError) → cause ≢ OutOfMemory → store_error cause ≢ store_error OutOfMemory
 memory_alone OutOfMemory other same = other refl
-memory_alone Io other same = absurd (cc)
-memory_alone Corrupt other same = absurd (cc)
-memory_alone Full other same = absurd (cc)
-memory_alone Broken other same = absurd (cc)
-memory_alone Unstorable other same = absurd (cc)
+memory_alone cause other same = absurd (cc)
 
 caused : (old new : State) (e : Error) → IsCaused old new e → CountsLoss old new e
 caused old new e why is_open told = go why.0 why.1 why.2
@@ -116,8 +112,8 @@ module _ {S : Type 0} (g : Ghosts S) where
   put_lost putting stops old new e (at_commit last ran put left why) =
       later_loss (state g old) (state g last) new e _ ran (goes _ _ _ left) (λ clean. caused (state g last) new e (fails_so (state g last) new ⊥ e why))
 
-  pub tables_lost : (ws : List FileTable) (putting : Putting S) → StopsLost putting → StopsLost (after_tables g ws putting)
-  tables_lost ws putting stops old new e (inl stopped) =
+  pub tables_lost : (tables : List FileTable) (putting : Putting S) → StopsLost putting → StopsLost (after_tables g tables putting)
+  tables_lost tables putting stops old new e (inl stopped) =
       stops_lost (map creation stopped.done) (FailsWith (creation stopped.next)) old new e (λ a b. failed (creation stopped.next) a b e) stopped.stops
-  tables_lost ws putting stops old new e (inr it) =
+  tables_lost tables putting stops old new e (inr it) =
       later_loss (state g old) (state g it.0) new e _ it.1 (goes (state g it.0) new _ it.3) (stops it.0 new e it.4)

@@ -1,10 +1,11 @@
 -- Statements that ran in turn within a transaction.
-use Rattle.std.proofs.Common.{List, [], ◌∷◌, ◌++◌, map, refl, sym, subst}
+use Rattle.std.proofs.Common.{List, [], ◌∷◌, ◌++◌, map, refl, sym, ap, subst}
 use Rattle.std.proofs.lemmas.List.{map_push}
 use Rattle.sqlite_trees.specs.declared.store.Store.{Ghosts}
 use Rattle.sqlite.specs.Held.{Held, state}
-use Rattle.sqlite.specs.State.{Survives}
-use Rattle.desk_rows.specs.Turns.{Ran, RunInTurn, Statement}
+use Rattle.sqlite.specs.Effect.{Database}
+use Rattle.sqlite.specs.State.{State, Survives}
+use Rattle.desk_rows.specs.Turns.{AreRun, IsLeftBy, Ran, RunInTurn, Statement}
 
 module _ {S : Type 0} (g : Ghosts S) where
   -- some ran, and then others
@@ -21,3 +22,7 @@ module _ {S : Type 0} (g : Ghosts S) where
       → Survives (state g mid) (state g new) (λ _. ⊥) → RunInTurn g (map said (xs ++ x ∷ [])) old new
   one_more_ran said xs x old mid new done ran kept =
       subst (λ its. RunInTurn g its old new) (sym (map_push said xs x)) (run_then (map said xs) (said x ∷ []) old mid new done (one_ran (said x) mid new ran kept))
+
+  -- what a connection shows by statements that ran is what a crash leaves by them
+  pub is_left : (its : List Statement) (old : Held S) (new : State) → AreRun g its old new → IsLeftBy g its old new.now.trees
+  is_left its old new run = (run.0, run.1, ap (λ (d : Database). d.trees) run.2)

@@ -1,5 +1,4 @@
-use Rattle.sqlite_trees.proofs.ListLemmas.{all-get_or}
-use Rattle.std.proofs.Common.{◌≡◌, ◌+◌, ◌++◌, List, arith, sym, subst, take, drop, map, true, ap, ◌∙◌, take_all, get_or, ◌∷◌, []}
+use Rattle.std.proofs.Common.{◌≡◌, ◌+◌, ◌++◌, List, arith, sym, subst, take, drop, map, true, ap, ◌∙◌, take_all, get_or}
 use Rattle.std.proofs.lemmas.List.{drop_more, take-append-drop, take_more}
 use Rattle.std.proofs.lemmas.Result.{err_from_is_err_and}
 use Rattle.sqlite.specs.State.{HasCleanDisk}
@@ -11,7 +10,8 @@ use Rattle.sql_tables.specs.States.{seen}
 use Rattle.desk_rows.specs.Descriptions.{description_of}
 use Rattle.desk_rows.specs.Making.{AreMade, MakesTables, creation}
 use Rattle.desk_rows.specs.Turns.{RunInTurn}
-use Rattle.desk_rows.proofs.Schema.MadeTables.{makes_then}
+use Rattle.sqlite_trees.proofs.ListLemmas.{all-get_or}
+use Rattle.desk_rows.proofs.Schema.MadeTables.{makes_more}
 use Rattle.desk_rows.proofs.Transactions.Turns.{one_more_ran}
 use Rattle.desk_rows.proofs.make.create_all.Goals as goal
 
@@ -30,16 +30,16 @@ loop-table-preserved g c =
     record {
       same = c.create.ensures.same_reference ∙ c.loop-table.invariant.same;
       survives = survives_then old now new _ _ _ (λ _ db none. none) (λ _ db none. none) c.loop-table.invariant.survives c.create.ensures.survives;
-      kept = λ clean. keeps_then old now new (c.loop-table.invariant.kept (omega (arith, c.create.ensures.survives.clean))) (c.create.ensures.kept clean);
-      inside = λ clean was. c.in_ok-create.ensures.inside clean;
+      kept = λ clean. keeps_then old now new (c.loop-table.invariant.kept (omega (arith, c.create.ensures.survives.clean))) (c.create.ensures.makes clean).kept;
+      inside = λ clean was. (c.in_ok-create.ensures.makes clean).inside;
       made = λ clean.
           let early : HasCleanDisk now = omega (arith, c.create.ensures.survives.clean) in
-          let both = makes_then (take at given) (next ∷ []) old now new (c.loop-table.invariant.made early) (c.in_ok-create.ensures.makes clean) in
-          subst (λ ws. MakesTables ws old new) more both;
+          let both = makes_more (take at given) next old now new (c.loop-table.invariant.made early) (c.in_ok-create.ensures.makes clean).made in
+          subst (λ tables. MakesTables tables old new) more both;
       ran = λ clean.
           let early : HasCleanDisk now = omega (arith, c.create.ensures.survives.clean) in
-          let both = one_more_ran g.S.Store creation (take at given) next c.args.tx.now.conn.now c.loop-table.tx.conn.now c.create.new.tx.conn.now (c.loop-table.invariant.ran early) (c.in_ok-create.ensures.ran clean) c.create.ensures.survives in
-          subst (λ ws. RunInTurn g.S.Store (map creation ws) c.args.tx.now.conn.now c.create.new.tx.conn.now) more both;
+          let both = one_more_ran g.S.Store creation (take at given) next c.args.tx.now.conn.now c.loop-table.tx.conn.now c.create.new.tx.conn.now (c.loop-table.invariant.ran early) (c.in_ok-create.ensures.makes clean).ran c.create.ensures.survives in
+          subst (λ tables. RunInTurn g.S.Store (map creation tables) c.args.tx.now.conn.now c.create.new.tx.conn.now) more both;
     }
 
 pub returns-clause-makes : goal.returns-clause-makes
@@ -62,7 +62,7 @@ returns-in_err-create-clause-told g c clean was =
       stops = record {
         before = c.loop-table.tx.conn.now;
         ran = c.loop-table.invariant.ran early;
-        failed = c.in_err-create.ensures.told clean (c.loop-table.invariant.inside early was);
+        failed = (c.in_err-create.ensures.makes clean).told (c.loop-table.invariant.inside early was);
         left = c.create.ensures.survives;
       };
       made = c.loop-table.invariant.made early;

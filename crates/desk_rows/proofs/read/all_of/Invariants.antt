@@ -9,9 +9,9 @@ use Rattle.desk_rows.proofs.read.all_of.Given as goal
 -- the rows so far are read
 abbrev pub invariant-loop-row : goal.invariant-loop-row
 invariant-loop-row g l =
-    let w = g.T.TableRow.table in
+    let t = g.T.TableRow.table in
     record {
-      rows : map (given w) (take l.row-index l.rows) ≡ map (λ x. shown_columns w (g.T.TableRow.view x)) l.all.items;
-      begins : MayBegin (query_of w).kinds (take l.row-index l.rows);
-      utf8 : AllByRecursion (λ x. IsUtf8Row w (own w (g.T.TableRow.view x))) l.all.items;
+      rows : map (given t) (take l.row-index l.rows) ≡ map (λ x. shown_columns t (g.T.TableRow.view x)) l.all.items;
+      begins : MayBegin (query_of t).kinds (take l.row-index l.rows);
+      utf8 : AllByRecursion (λ x. IsUtf8Row t (own t (g.T.TableRow.view x))) l.all.items;
     }
