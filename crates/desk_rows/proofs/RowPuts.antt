@@ -3,5 +3,4 @@ pub mod Changing
 pub mod LentPuts
 pub mod Named
 pub mod PutTables
-pub mod TabNames
 pub mod Utf8Puts

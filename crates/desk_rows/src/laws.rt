@@ -30,6 +30,7 @@ ghost use Rattle.sqlite_catalog.specs.Change.{is_used};
 use sqlite::{Alter, Connection};
 
 /// Trees are a database of at most one schema.
+#[tactic(auto, using(sql_tables::proofs::OneSchema::one_schema))]
 pub fn one_schema()
     ensures { (a b : Schema) (db : Trees) → IsSound a db → IsSound b db → a ≡ b }
 {}
@@ -99,11 +100,13 @@ pub fn more_tables<S: Alter>(old: &Connection<S>, new: &Connection<S>)
 {}
 
 /// Of an iterator that lends the first of what is left, all is lent until it ends.
+#[tactic(auto, using(crate::proofs::RowPuts::LentPuts::all_lent))]
 pub fn all_is_lent()
     ensures { (puts xs : List RowPut) → Lends LendsFirst puts xs → xs ≡ puts }
 {}
 
 /// Texts in UTF-8 that are put leave the texts of a file in UTF-8.
+#[tactic(auto, using(crate::proofs::RowPuts::Utf8Puts::texts_stay))]
 pub fn texts_stay()
     ensures { (puts : List RowPut) (c : Contents) → AllByRecursion IsUtf8Put puts → AreUtf8 c
         → AreUtf8 (puts_into puts c) }

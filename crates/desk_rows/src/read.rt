@@ -46,7 +46,7 @@ fn ask<S: Alter>(conn: &mut Connection<S>, sql: &str) -> Result<Vec<Row>, Databa
 }
 
 /// Each of the rows, in turn.
-#[tactic(auto, using(crate::proofs::TableReads::Beginnings::begin_more, crate::proofs::TableReads::Beginnings::begin_with, crate::proofs::TableReads::Beginnings::kinds_there))]
+#[tactic(auto, using(crate::proofs::TableReads::Beginnings::begin_more, crate::proofs::TableReads::Beginnings::begin_with))]
 fn all_of<T: TableRow>(alloc: Global, rows: &[Row]) -> Result<Vec<T>, DatabaseFault>
     ensures reads { IfOk result (λ xs. map (given T.table) rows.now ≡ map (λ x. shown_columns T.table
         (T.view x)) xs.items) }

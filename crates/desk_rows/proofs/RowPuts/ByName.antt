@@ -36,14 +36,13 @@ use Rattle.sql_tables.specs.Tables.{IsDeclared}
 use Rattle.desk_rows.specs.Descriptions.{description_of}
 use Rattle.sql_tables.proofs.Declaring.{low_tree, classes_are, uncovered}
 use Rattle.sql_tables.proofs.Meaning.{IsText, parse_of, rows_in, clause_in, upsert_is, one_upsert}
-use Rattle.desk_rows.proofs.RowPuts.Named.{tab, tab_row, tab_columns, is_its_index, key_index, in_the_way, clashes, row_of, name_of, named, lists_put, unnamed_rows, named_rows}
+use Rattle.desk_rows.proofs.RowPuts.Named.{names_once, tab, tab_row, tab_columns, is_its_index, key_index, gets_in_the_way, in_the_way, row_of, name_of, named, lists_put, unnamed_rows, named_rows}
 use Rattle.sql_tables.proofs.Numbered.{all_find}
 use Rattle.sql_tables.proofs.OneTable.{Parts, draft_of, program_on, program_is}
 use Rattle.sql_tables.proofs.Parents.{AreKept}
 use Rattle.sql_tables.proofs.RowLists.{only_row, rowids_stay}
 use Rattle.sql_tables.proofs.Running.{Means, Wrote, upsert_ran}
 use Rattle.sql_tables.proofs.ByRowid.{cast_null, cast_int}
-use Rattle.desk_rows.proofs.RowPuts.TabNames.{names_once}
 use Rattle.sql_tables.proofs.Writing.{IsPut, Ends, task, finds, puts, updates_one}
 
 abbrev text : List ℕ
@@ -138,7 +137,7 @@ module _ (schema : Schema) (tree : ℕ) (d : IsDeclared schema (tab tree)) (low 
       let id = next_rowid (db tree) in
       let put = puts limit schema (tab tree) (tab_row t) (stored id t) (cast id t tree) id refl db w h in
       concluded id (subst (IsPut schema (tab tree) (stored id t) id db) (sym trees) put.0)
-      (unnamed_rows t tabs (db tree) lists few id put.1 (λ r has name. free r has (clashes schema tree d r (stored id t) t.name name refl)))
+      (unnamed_rows t tabs (db tree) lists few id put.1 (λ r has name. free r has (gets_in_the_way schema tree d r (stored id t) t.name name refl)))
   puts_tab (inr (r, has, meets, w, h, trees)) =
       let new = stored (next_rowid (db tree)) t in
       let u = row_of tabs (db tree) lists r has in

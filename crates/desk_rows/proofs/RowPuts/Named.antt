@@ -1,9 +1,9 @@
 -- What an upsert by the name does to `tab`, whose rowid is hidden, in any schema that declares it so.
-use Rattle.std.proofs.Common.{◌≡◌, inl, inr, ℕ, ℤ, ◌≤◌, Bool, true, false, not, ◌&&◌, ◌==◌, List, [], ◌∷◌, map, filter, find, length, Some, refl, sym, ap, subst, ◌∙◌, is_eq, eq-eqb, eqb-true, bytes_eq, Ordering, Less, Equal, Greater, arith}
+use Rattle.std.proofs.Common.{◌≡◌, inl, inr, ℕ, ℤ, ◌≤◌, Bool, true, false, not, ◌&&◌, ◌==◌, List, [], ◌∷◌, map, filter, find, length, Some, refl, sym, ap, subst, ◌∙◌, is_eq, eq-eqb, eqb-true, bytes_eq, Ordering, Less, Equal, Greater, arith, true≢false, int_cmp, ◌<ℤ◌}
 use Rattle.std.proofs.lemmas.List.{length-map}
 use Rattle.std.specs.List.{list_any}
 use Rattle.std.specs.Cmp.{both_ways}
-use Rattle.std.proofs.lemmas.Bool.{and_from, and_parts, cases_Bool}
+use Rattle.std.proofs.lemmas.Bool.{and_from, and_parts, cases_Bool, not-true}
 use Rattle.std.proofs.lemmas.List.Elements.{filter_agree}
 use Rattle.std.proofs.lemmas.List.Sorted.{length_permutation}
 use Rattle.std.proofs.lemmas.Map.Text.{is_eq-slice_cmp}
@@ -12,31 +12,36 @@ use Rattle.sqlite_value.specs.declared.keys.Collation.TheVariants.{Binary}
 use Rattle.sqlite_value.specs.declared.value.Value.TheVariants.{Int, Text}
 use Rattle.sqlite_value.specs.Keys.{first_key, plain}
 use Rattle.sqlite_value.specs.Order.{Row, column, value_cmp}
-use Rattle.sqlite_value.proofs.OrderLemmas.{value_cmp-Text}
-use Rattle.sqlite_trees.specs.Tree.{rowid, has_rowid, put_row, without_rowid}
+use Rattle.sqlite_value.proofs.OrderLemmas.{value_cmp-Text, value_cmp-Int}
+use Rattle.sqlite_trees.specs.Tree.{rowid, has_rowid, put_row, without_rowid, Trees}
 use Rattle.sqlite_trees.proofs.ListLemmas.{filter_all, filter_same, filter-map, IsPermutation-filter}
 use Rattle.sqlite_sql.specs.Ops.{binary, is_true, from_truth}
 use Rattle.sqlite_schema.specs.declared.schema.Index.{Index}
 use Rattle.sqlite_schema.specs.declared.schema.Schema.{Schema}
-use Rattle.sqlite_schema.specs.Rules.{agree, equal, guards}
+use Rattle.sqlite_schema.specs.Rules.{agree, equal, guards, clashes, differ}
 use Rattle.sqlite_resolve.specs.Given.{is_key_at}
 use Rattle.sqlite_rules.specs.Keys.{conflicts, shares}
 use Rattle.sqlite_rules.specs.Lists.{Has}
-use Rattle.sqlite_rules.proofs.TableLemmas.{none_to_drop}
-use Rattle.sqlite_rules.proofs.ListLemmas.{all_from, has_found, has_kept, some_from, some_has}
-use Rattle.sqlite_catalog.specs.Listing.{automatic}
+use Rattle.sqlite_rules.proofs.TableLemmas.{none_to_drop, int_is}
+use Rattle.sqlite_rules.proofs.ListLemmas.{all_from, has_found, has_kept, some_from, some_has, all_has, has_filtered, test_has}
+use Rattle.sqlite_catalog.specs.Listing.{automatic, IsSound}
 use Rattle.sqlite_catalog.proofs.ListFacts.{find_within}
 use Rattle.desk_parts.specs.declared.file_table.FileTable.TheVariants as tables
 use Rattle.desk_parts.specs.Puts.{put_by_key}
 use Rattle.desk_parts.specs.Rows.{Tab}
-use Rattle.sql_tables.specs.Rows.{HaveRowids, Lists}
+use Rattle.sql_tables.specs.Rows.{HaveRowids, Lists, columns_at}
 use Rattle.sql_tables.specs.Tables.{IsDeclared}
 use Rattle.sql_tables.proofs.PutLists.{lists_put_by}
-use Rattle.sql_tables.proofs.RowLists.{only_row, has_own, lone, shows_one}
+use Rattle.sql_tables.proofs.RowLists.{only_row, has_own, lone, shows_one, filter_fewer, none_has}
 use Rattle.sqlite_schema.specs.declared.schema.Table.{Table}
-use Rattle.sql_tables.specs.Rows.{columns_at}
 use Rattle.desk_rows.specs.Descriptions.{description_of, table_of}
 use Rattle.desk_rows.specs.Rows.{columns_of}
+use Rattle.std.specs.Ordering.{MatchOrdering, is_ne}
+use Rattle.std.proofs.lemmas.Cmp.{int_ranked}
+use Rattle.sqlite_schema.specs.declared.schema.Constraint.TheVariants.{Unique}
+use Rattle.sqlite_rules.specs.Edit.{id_in}
+use Rattle.sqlite_rules.proofs.RuleLemmas.{keeps_at}
+use Rattle.sql_tables.proofs.Declaring.{has_table}
 
 -- ---- the table, and a row of it as its columns and as its tree keeps it
 
@@ -99,8 +104,8 @@ module _ (schema : Schema) (tree : ℕ) (d : IsDeclared schema (tab tree)) where
       let agreed : agree plain (1 ∷ []) r (1 ∷ []) new ≡ true = subst (λ (i : Index). agree i.order i.columns r i.columns new ≡ true) same parts.1 in
       (bytes_eq-Decides a b).0 (sym (agrees_by_name r new a b is is') ∙ agreed)
 
-  pub clashes : (r new : Row) (a : List ℕ) → column r 1 ≡ Text a → column new 1 ≡ Text a → conflicts (Some (1 ∷ [])) schema.indexes (tab tree) new r ≡ true
-  clashes r new a is is' =
+  pub gets_in_the_way : (r new : Row) (a : List ℕ) → column r 1 ≡ Text a → column new 1 ≡ Text a → conflicts (Some (1 ∷ [])) schema.indexes (tab tree) new r ≡ true
+  gets_in_the_way r new a is is' =
       let it = has_found (is_key_at (tab tree) (1 ∷ [])) schema.indexes its_index key_index in
       let agreed : agree plain (1 ∷ []) r (1 ∷ []) new ≡ true = agrees_by_name r new a a is is' ∙ (bytes_eq-Decides a a).1 refl in
       some_from (shares (Some (1 ∷ [])) (tab tree) new r) schema.indexes its_index it.0 (rw (own, agreed))
@@ -121,7 +126,7 @@ abbrev pub named : List ℕ → Row → Bool
 named name s = is_eq (value_cmp (column s 0) (Text name))
 
 -- as many rows of the tree have the name as are shown with it
-pub as_many_named : (name : List ℕ) (tabs : List Tab) (rows : List Row) → Lists tab_row tab_columns tabs rows → length (filter (λ t. bytes_eq t.name name) tabs) ≡ length (filter (λ r. named name (tab_columns r)) rows)
+as_many_named : (name : List ℕ) (tabs : List Tab) (rows : List Row) → Lists tab_row tab_columns tabs rows → length (filter (λ t. bytes_eq t.name name) tabs) ≡ length (filter (λ r. named name (tab_columns r)) rows)
 as_many_named name tabs rows lists =
     let left : filter (named name) (map tab_row tabs) ≡ map tab_row (filter (λ t. bytes_eq t.name name) tabs) = filter-map (named name) tab_row tabs ∙ ap (map tab_row) (filter_agree (λ t. named name (tab_row t)) (λ t. bytes_eq t.name name) (λ t. same_text t.name name) tabs) in
     let right : filter (named name) (map tab_columns rows) ≡ map tab_columns (filter (λ r. named name (tab_columns r)) rows) = filter-map (named name) tab_columns rows in
@@ -175,3 +180,58 @@ module _ (t : Tab) (tabs : List Tab) (rows : List Row) (lists : Lists tab_row ta
           ap not (both_ways (has_rowid id x) (named t.name (tab_columns x))
           (λ so. ap (λ y. named t.name (tab_columns y)) (is_it x (subst (λ xs. Has xs x) (only_row rows keyed r id has is) (has_kept (has_rowid id) rows x within so))) ∙ has_name)
           (λ so. ap (has_rowid id) (is_it x (subst (λ xs. Has xs x) one (has_kept (λ y. named t.name (tab_columns y)) rows x within so))) ∙ has_own r id is))
+
+-- ---- no two rows have one name, since the key has an index
+
+differ_numbers : (a b : ℤ) → differ (Int a) (Int b) ≡ false → a ≡ b
+unfolding binary
+differ_numbers a b h = go (int_cmp a b) (rw value_cmp-Int at h) (int_ranked a b _ refl)
+  where
+    go : (o : Ordering) → is_true (from_truth (Some (is_ne o))) ≡ false → MatchOrdering o (a <ℤ b) (a ≡ b) (b <ℤ a) → a ≡ b
+    go Less h m = absurd (true≢false h)
+    go Equal h m = m
+    go Greater h m = absurd (true≢false h)
+
+module _ (schema : Schema) (tree : ℕ) (d : IsDeclared schema (tab tree)) (db : Trees) (sound : IsSound schema db) (keyed : HaveRowids (db tree)) (tabs : List Tab) (lists : Lists tab_row tab_columns tabs (db tree)) where
+  -- no other row has the key of a row
+  alone : (r : Row) → Has (db tree) r → clashes plain (1 ∷ []) (db tree) r ≡ false
+  alone r has =
+      let passes = keeps_at Unique schema db (tab tree) r (sound.obeys.rules Unique) (has_table schema (tab tree) d) has in
+      let it = has_found (is_key_at (tab tree) (1 ∷ [])) schema.indexes (its_index schema tree d) (key_index schema tree d) in
+      let one = test_has (λ i. not (guards i (tab tree) && clashes i.order i.columns (db tree) r)) schema.indexes (its_index schema tree d) passes it.0 in
+      not-true (clashes plain (1 ∷ []) (db tree) r) (rw (eq-eqb tree tree refl) at one)
+
+  named_is : (name : List ℕ) (r : Row) → Has (db tree) r → named name (tab_columns r) ≡ true → column r 1 ≡ Text name
+  named_is name r has is =
+      let u = row_of tabs (db tree) lists r has in
+      let same : bytes_eq u.0.name name ≡ true = sym (same_text u.0.name name) ∙ sym (ap (λ v. named name (v ∷ [])) (name_of u.0 r u.1)) ∙ is in
+      name_of u.0 r u.1 ∙ ap Text ((bytes_eq-Decides u.0.name name).0 same)
+
+  -- two rows with one name have one rowid
+  one_rowid : (r s : Row) (n m : ℤ) (name : List ℕ) → Has (db tree) r → Has (db tree) s → rowid r ≡ Int n → rowid s ≡ Int m → column r 1 ≡ Text name → column s 1 ≡ Text name → m ≡ n
+  one_rowid r s n m name in_r in_s rn sm rt st =
+      let clash = none_has (λ other. agree plain (1 ∷ []) other (1 ∷ []) r && differ (rowid other) (rowid r)) (db tree) s (alone r in_r) in_s in
+      let same : agree plain (1 ∷ []) s (1 ∷ []) r ≡ true = agrees_by_name s r name name st rt ∙ (bytes_eq-Decides name name).1 refl in
+      differ_numbers m n (rw (same, rn, sm) at clash)
+
+  rows_once : (name : List ℕ) → length (filter (λ r. named name (tab_columns r)) (db tree)) ≤ 1
+  rows_once name = go (filter (λ r. named name (tab_columns r)) (db tree)) refl
+    where
+      go : (xs : List Row) → filter (λ r. named name (tab_columns r)) (db tree) ≡ xs → length xs ≤ 1
+      go [] e = omega arith
+      go (r ∷ []) e = omega arith
+      go (r ∷ s ∷ more) e =
+          let of_r = has_filtered _ (db tree) r (subst (λ (ys : List Row). Has ys r) (sym e) (inl refl)) in
+          let of_s = has_filtered _ (db tree) s (subst (λ (ys : List Row). Has ys s) (sym e) (inr (inl refl))) in
+          let n = id_in (rowid r) in
+          let rn : rowid r ≡ Int n = int_is (rowid r) (all_has _ (db tree) r keyed.integers of_r.0) in
+          let sm = int_is (rowid s) (all_has _ (db tree) s keyed.integers of_s.0) in
+          let same = one_rowid r s n (id_in (rowid s)) name of_r.0 of_s.0 rn sm (named_is name r of_r.0 of_r.1) (named_is name s of_s.0 of_s.1) in
+          let fewer = filter_fewer (has_rowid n) (λ r. named name (tab_columns r)) (db tree) in
+          let few = keyed.once n in
+          let both : length (filter (has_rowid n) (r ∷ s ∷ more)) ≤ length (filter (has_rowid n) (db tree)) = rw e at fewer in
+          let two = rw (has_own r n rn, has_own s n (sm ∙ ap Int same)) at both in
+          absurd (omega (arith, few, two))
+
+  pub names_once : (name : List ℕ) → length (filter (λ t. bytes_eq t.name name) tabs) ≤ 1
+  names_once name = let few = rows_once name in let same = as_many_named name tabs (db tree) lists in omega (arith, few, same)

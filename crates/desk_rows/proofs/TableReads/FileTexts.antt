@@ -1,5 +1,5 @@
 -- The rows of a file can be read if the texts of its contents are UTF-8.
-use Rattle.std.proofs.Common.{◌≡◌, true, drop, refl, true≢false}
+use Rattle.std.proofs.Common.{◌≡◌, true, drop, refl, rules}
 use Rattle.std.specs.List.{AllByRecursion}
 use Rattle.sqlite_value.specs.Order.{Row}
 use Rattle.sqlite_trees.specs.Tree.{Trees}
@@ -22,31 +22,13 @@ use Rattle.desk_rows.specs.Whole.{AreUtf8, IsUtf8Row}
 
 -- the texts among a row's columns
 columns_utf8 : (t : FileTable) (x : RowOf t) → IsUtf8Row t x → AllByRecursion IsUtf8Text (columns_of t x)
-columns_utf8 tables.Book b is = (tt, (tt, (tt, tt)))
-columns_utf8 tables.Tab x is = (is, (tt, tt))
-columns_utf8 tables.Para p is = (tt, (tt, (is.0, (is.1, (is.2, (tt, (tt, (tt, tt))))))))
-columns_utf8 tables.Corr e is = (tt, (tt, (tt, (tt, (tt, (is, tt))))))
-columns_utf8 tables.Mark m is = (tt, (tt, (tt, (tt, (is, (tt, (tt, tt)))))))
-columns_utf8 tables.Cache k is = (tt, (tt, tt))
-columns_utf8 tables.NamedCorr e is = (tt, (tt, (tt, (tt, (tt, (is.0, (is.1, tt)))))))
+columns_utf8 tables.Book x is = search rules
+columns_utf8 t x is = search rules
 
 -- those are all the texts of a row as its tree keeps it
 row_utf8 : (t : FileTable) (tree : _) (row : Row) → IsKept (table_of t tree) row → AllByRecursion IsUtf8Text (columns_at (description_of t).own row) → AllByRecursion IsUtf8Text (drop 1 row)
-row_utf8 tables.Book tree row is t = behind (table_of tables.Book tree) row is ((λ no. absurd (true≢false no)), ((λ no. t.1.0), ((λ no. t.1.1.0), tt)))
-row_utf8 tables.Tab tree row is t = behind (table_of tables.Tab tree) row is ((λ no. t.0), ((λ no. t.1.0), tt))
-row_utf8 tables.Para tree row is t =
-    behind (table_of tables.Para tree) row is (
-      (λ no. absurd (true≢false no)),
-      ((λ no. t.1.0), ((λ no. t.1.1.0), ((λ no. t.1.1.1.0), ((λ no. t.1.1.1.1.0), ((λ no. t.1.1.1.1.1.0), ((λ no. t.1.1.1.1.1.1.0), ((λ no. t.1.1.1.1.1.1.1.0), tt))))))),
-    )
-row_utf8 tables.Corr tree row is t = behind (table_of tables.Corr tree) row is ((λ no. t.0), ((λ no. t.1.0), ((λ no. t.1.1.0), ((λ no. t.1.1.1.0), ((λ no. t.1.1.1.1.0), ((λ no. t.1.1.1.1.1.0), tt))))))
-row_utf8 tables.Mark tree row is t =
-    behind (table_of tables.Mark tree) row is (
-      (λ no. absurd (true≢false no)),
-      ((λ no. t.1.0), ((λ no. t.1.1.0), ((λ no. t.1.1.1.0), ((λ no. t.1.1.1.1.0), ((λ no. t.1.1.1.1.1.0), ((λ no. t.1.1.1.1.1.1.0), tt)))))),
-    )
-row_utf8 tables.Cache tree row is t = behind (table_of tables.Cache tree) row is ((λ no. absurd (true≢false no)), ((λ no. t.1.0), tt))
-row_utf8 tables.NamedCorr tree row is t = behind (table_of tables.NamedCorr tree) row is ((λ no. t.0), ((λ no. t.1.0), ((λ no. t.1.1.0), ((λ no. t.1.1.1.0), ((λ no. t.1.1.1.1.0), ((λ no. t.1.1.1.1.1.0), ((λ no. t.1.1.1.1.1.1.0), tt)))))))
+row_utf8 tables.Book tree row is all = behind (table_of tables.Book tree) row is (search rules)
+row_utf8 t tree row is all = behind (table_of t tree) row is (search rules)
 
 -- a query that shows the rowid is of a table whose rows may be changed
 is_changed : (t : FileTable) → shows_rowid t ≡ true → (description_of t).is_changed ≡ true
