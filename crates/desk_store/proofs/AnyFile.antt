@@ -62,8 +62,8 @@ module _ (text : List ℕ) (is_read : reads (first text) ≡ true) (s a : State)
 -- ---- a table
 
 module _ (s a : State) (same : Stays s a) where
-  pub gives_before : (w : FileTable) (b : State) (rows : List (ShownOf w)) → Gives (query_of w) (shown_columns w) a b rows → Gives (query_of w) (shown_columns w) s s rows
-  gives_before w b rows h = (h.0, shown_before (query_of w).text (reads_only w) s a same b h.0 h.1, h.2)
+  pub gives_before : (t : FileTable) (b : State) (rows : List (ShownOf t)) → Gives (query_of t) (shown_columns t) a b rows → Gives (query_of t) (shown_columns t) s s rows
+  gives_before t b rows h = (h.0, shown_before (query_of t).text (reads_only t) s a same b h.0 h.1, h.2)
 
   pub entries_before : (entries : EntryRows) → AreEntriesIn a entries → AreEntriesIn s entries
   entries_before (Unnamed rows) are = (gives_before tables.Corr a rows are.0, are.1)
@@ -77,41 +77,41 @@ module _ (s a : State) (same : Stays s a) where
   pub readable_still : (f : Format) → a.step_limit ≡ s.step_limit → ShowsReadable f s → ShowsReadable f a
   readable_still f limit r = (r.0, r.1, r.2, shows_still s a same r.0 r.1 r.3, r.4, limit ∙ r.5)
 
-  can_still : (w : FileTable) → CanAnswer s w → CanAnswer a w
-  can_still w can = record {
-    has = answer_still (query_of w).text (reads_only w) s a same can.has;
-    kinds = λ rows seen. can.kinds rows (shown_before (query_of w).text (reads_only w) s a same a rows seen);
-    apart = λ rows gives. can.apart rows (gives_before w a rows gives);
+  can_still : (t : FileTable) → CanAnswer s t → CanAnswer a t
+  can_still t can = record {
+    has = answer_still (query_of t).text (reads_only t) s a same can.has;
+    kinds = λ rows seen. can.kinds rows (shown_before (query_of t).text (reads_only t) s a same a rows seen);
+    apart = λ rows gives. can.apart rows (gives_before t a rows gives);
   }
 
   pub can_all_still : (f : Format) → CanAllAnswer f s → CanAllAnswer f a
-  can_all_still f can w is_read = can_still w (can w (subst (λ (d : Database). IsReadAs (presence f w) (is_there d.schema w)) same.now is_read))
+  can_all_still f can t is_read = can_still t (can t (subst (λ (d : Database). IsReadAs (presence f t) (is_there d.schema t)) same.now is_read))
 
-module _ {V : Type 0} (w : FileTable) (items : V → List (ShownOf w)) (Apart : List (ShownOf w) → Type 0) (s old new : State) (same : Stays s old) where
+module _ {V : Type 0} (t : FileTable) (items : V → List (ShownOf t)) (Apart : List (ShownOf t) → Type 0) (s old new : State) (same : Stays s old) where
   -- what a read gave after others
-  pub rows_before : (v : V) → (Apart (items v) → AreToldApart w (items v)) → AnswersRows (Ok v) items w (λ x. x) Apart old new → AreRowsIn s w (items v)
-  rows_before v apart answers = (gives_before s old same w new (items v) answers.gives, apart answers.apart)
+  pub rows_before : (v : V) → (Apart (items v) → AreToldApart t (items v)) → AnswersRows (Ok v) items t (λ x. x) Apart old new → AreRowsIn s t (items v)
+  rows_before v apart answers = (gives_before s old same t new (items v) answers.gives, apart answers.apart)
 
   -- it isn't refused if the statement has an answer that can be read
-  pub never_refused_any : (fault : DatabaseFault) → ((xs : List (ShownOf w)) → AreToldApart w xs → Apart xs) → AnswersRows (Err fault) items w (λ x. x) Apart old new
-      → old.step_limit ≡ None → CanAnswer s w → fault ≢ Refused
+  pub never_refused_any : (fault : DatabaseFault) → ((xs : List (ShownOf t)) → AreToldApart t xs → Apart xs) → AnswersRows (Err fault) items t (λ x. x) Apart old new
+      → old.step_limit ≡ None → CanAnswer s t → fault ≢ Refused
   never_refused_any fault apart answers unlimited can =
-      answers.answered (answer_still (query_of w).text (reads_only w) s old same can.has) unlimited
-      (λ rows seen. can.kinds rows (shown_before (query_of w).text (reads_only w) s old same new rows seen))
-      (λ xs gives. apart xs (can.apart xs (gives_before s old same w new xs gives)))
+      answers.answered (answer_still (query_of t).text (reads_only t) s old same can.has) unlimited
+      (λ rows seen. can.kinds rows (shown_before (query_of t).text (reads_only t) s old same new rows seen))
+      (λ xs gives. apart xs (can.apart xs (gives_before s old same t new xs gives)))
 
-  pub never_refused_needed : (f : Format) (fault : DatabaseFault) → presence f w ≡ needed → ((xs : List (ShownOf w)) → AreToldApart w xs → Apart xs)
-      → AnswersRows (Err fault) items w (λ x. x) Apart old new → old.step_limit ≡ None → fault ≡ Refused → ¬ CanAllAnswer f s
+  pub never_refused_needed : (f : Format) (fault : DatabaseFault) → presence f t ≡ needed → ((xs : List (ShownOf t)) → AreToldApart t xs → Apart xs)
+      → AnswersRows (Err fault) items t (λ x. x) Apart old new → old.step_limit ≡ None → fault ≡ Refused → ¬ CanAllAnswer f s
   never_refused_needed f fault has_to apart answers unlimited is can =
-      never_refused_any fault apart answers unlimited (can w (subst (λ (p : Presence). IsReadAs p (is_there s.now.schema w)) (sym has_to) tt)) is
+      never_refused_any fault apart answers unlimited (can t (subst (λ (p : Presence). IsReadAs p (is_there s.now.schema t)) (sym has_to) tt)) is
 
 -- ---- texts
 
 -- the rows of a table are readable if those are that were read of it
-pub texts_of : {V : Type 0} (w : FileTable) (items : V → List (ShownOf w)) (Apart : List (ShownOf w) → Type 0) (old new : State) (v : V) → AnswersRows (Ok v) items w (λ x. x) Apart old new
-    → (l : Layout) (c : Contents) → l.has w ≡ true → ShowsContents l c old → AllByRecursion (IsUtf8Row w) (c.rows w)
-texts_of w items Apart old new v answers l c there shows =
-    all-permutation (IsUtf8Row w) (map (own w) (items v)) (c.rows w) (IsPermutation-sym _ _ (answers.shows l c there shows)) (all-map (IsUtf8Row w) (own w) (items v) answers.utf8)
+pub texts_of : {V : Type 0} (t : FileTable) (items : V → List (ShownOf t)) (Apart : List (ShownOf t) → Type 0) (old new : State) (v : V) → AnswersRows (Ok v) items t (λ x. x) Apart old new
+    → (l : Layout) (c : Contents) → l.has t ≡ true → ShowsContents l c old → AllByRecursion (IsUtf8Row t) (c.rows t)
+texts_of t items Apart old new v answers l c there shows =
+    all-permutation (IsUtf8Row t) (map (own t) (items v)) (c.rows t) (IsPermutation-sym _ _ (answers.shows l c there shows)) (all-map (IsUtf8Row t) (own t) (items v) answers.utf8)
 
 no_book_texts : (rows : List (RowOf tables.Book)) → AllByRecursion (IsUtf8Row tables.Book) rows
 no_book_texts [] = tt

@@ -32,7 +32,7 @@ found_with p (y ∷ ys) x i = beside (p y) (p x) i (found_with p ys x (i + 1))
     beside false c i more = more
 
 -- our names are the same only where they are equal, and none is that of the counter
-same_as_equal : (w v : FileTable) → same_name (description_of w).name (description_of v).name ≡ bytes_eq (description_of w).name (description_of v).name
+same_as_equal : (t other : FileTable) → same_name (description_of t).name (description_of other).name ≡ bytes_eq (description_of t).name (description_of other).name
 unfolding same_name
 same_as_equal tables.Book tables.Book = refl
 same_as_equal tables.Tab tables.Book = refl
@@ -41,32 +41,32 @@ same_as_equal tables.Corr tables.Book = refl
 same_as_equal tables.Mark tables.Book = refl
 same_as_equal tables.Cache tables.Book = refl
 same_as_equal tables.NamedCorr tables.Book = refl
-same_as_equal w v = refl
+same_as_equal t other = refl
 
-no_counter : (v : FileTable) → same_name (counter 0).name (description_of v).name ≡ false
+no_counter : (other : FileTable) → same_name (counter 0).name (description_of other).name ≡ false
 unfolding same_name
 no_counter tables.Book = refl
-no_counter v = refl
+no_counter other = refl
 
 lasts : (a b c d : Bool) → a ≡ (b || c) → (a || d) ≡ (b || (c || d))
 lasts a true c d is = ap (λ x. x || d) is
 lasts a false c d is = ap (λ x. x || d) is
 
-there_created : (s : Schema) (table : Table) (v : FileTable) → is_there (created s table) v ≡ (same_name table.name (description_of v).name || is_there s v)
-there_created s table v = lasts _ _ _ _ (found_with (λ (t : Table). same_name t.name (description_of v).name) s.tables _ 0)
+there_created : (s : Schema) (table : Table) (other : FileTable) → is_there (created s table) other ≡ (same_name table.name (description_of other).name || is_there s other)
+there_created s table other = lasts _ _ _ _ (found_with (λ (t : Table). same_name t.name (description_of other).name) s.tables _ 0)
 
-there_made : (s : Schema) (w v : FileTable) → is_there (created s (table_of w 0)) v ≡ (bytes_eq (description_of w).name (description_of v).name || is_there s v)
-there_made s w v = there_created s (table_of w 0) v ∙ ap (λ b. b || is_there s v) (same_as_equal w v)
+there_made : (s : Schema) (t other : FileTable) → is_there (created s (table_of t 0)) other ≡ (bytes_eq (description_of t).name (description_of other).name || is_there s other)
+there_made s t other = there_created s (table_of t 0) other ∙ ap (λ b. b || is_there s other) (same_as_equal t other)
 
-there_counted : (s : Schema) (v : FileTable) → is_there (created s (counter 0)) v ≡ is_there s v
-there_counted s v = there_created s (counter 0) v ∙ ap (λ b. b || is_there s v) (no_counter v)
+there_counted : (s : Schema) (other : FileTable) → is_there (created s (counter 0)) other ≡ is_there s other
+there_counted s other = there_created s (counter 0) other ∙ ap (λ b. b || is_there s other) (no_counter other)
 
-there_first : (s : Schema) (w v : FileTable) → is_there (first_created s (table_of w 0)) v ≡ (bytes_eq (description_of w).name (description_of v).name || is_there s v)
-there_first s w v = go (lacks_sequence s)
+there_first : (s : Schema) (t other : FileTable) → is_there (first_created s (table_of t 0)) other ≡ (bytes_eq (description_of t).name (description_of other).name || is_there s other)
+there_first s t other = go (lacks_sequence s)
   where
-    go : (b : Bool) → is_there (if b then created (created s (table_of w 0)) (counter 0) else created s (table_of w 0)) v ≡ (bytes_eq (description_of w).name (description_of v).name || is_there s v)
-    go false = there_made s w v
-    go true = there_counted (created s (table_of w 0)) v ∙ there_made s w v
+    go : (b : Bool) → is_there (if b then created (created s (table_of t 0)) (counter 0) else created s (table_of t 0)) other ≡ (bytes_eq (description_of t).name (description_of other).name || is_there s other)
+    go false = there_made s t other
+    go true = there_counted (created s (table_of t 0)) other ∙ there_made s t other
 
 turned : (a b c : Bool) → (a || (b || c)) ≡ ((b || a) || c)
 turned true true c = refl
@@ -74,15 +74,15 @@ turned true false c = refl
 turned false true c = refl
 turned false false c = refl
 
-pub there_after : (ws : List FileTable) (s : Schema) (v : FileTable) → is_there (after ws s) v ≡ (is_among ws v || is_there s v)
-there_after [] s v = refl
-there_after (w ∷ ws) s v =
-    there_after ws (first_created s (table_of w 0)) v ∙ ap (λ b. is_among ws v || b) (there_first s w v) ∙ turned (is_among ws v) (bytes_eq (description_of w).name (description_of v).name) (is_there s v)
+pub there_after : (tables : List FileTable) (s : Schema) (other : FileTable) → is_there (after tables s) other ≡ (is_among tables other || is_there s other)
+there_after [] s other = refl
+there_after (t ∷ tables) s other =
+    there_after tables (first_created s (table_of t 0)) other ∙ ap (λ b. is_among tables other || b) (there_first s t other) ∙ turned (is_among tables other) (bytes_eq (description_of t).name (description_of other).name) (is_there s other)
 
 either : (a b c : Bool) → b ≡ c → (if a then true else b) ≡ (a || c)
 either true b c is = refl
 either false b c is = is
 
 -- an exact layout is exact with tables that are made
-pub exact_with : (ws : List FileTable) (l : Layout) → IsExact l → IsExact (with_tables ws l)
-exact_with ws l is v = either (is_among ws v) (l.has v) (is_there l.schema v) (is v) ∙ sym (there_after ws l.schema v)
+pub exact_with : (tables : List FileTable) (l : Layout) → IsExact l → IsExact (with_tables tables l)
+exact_with tables l is other = either (is_among tables other) (l.has other) (is_there l.schema other) (is other) ∙ sym (there_after tables l.schema other)

@@ -58,8 +58,8 @@ unrefused l c fault ((f, of), (book, shows)) = never_refused l c book shows f of
 -- ---- and one without damage shows a book
 
 module _ (l : Layout) (c : Contents) where
-  texts_in : (f : Format) (w : FileTable) → presence f w ≡ needed → CanAllBeRead f l c → AllByRecursion (IsUtf8Row w) (c.rows w)
-  texts_in f w has_to can = (subst (λ (p : Presence). CanBeRead p (l.has w) (AllByRecursion (IsUtf8Row w) (c.rows w))) has_to (can w)).1
+  texts_in : (f : Format) (t : FileTable) → presence f t ≡ needed → CanAllBeRead f l c → AllByRecursion (IsUtf8Row t) (c.rows t)
+  texts_in f t has_to can = (subst (λ (p : Presence). CanBeRead p (l.has t) (AllByRecursion (IsUtf8Row t) (c.rows t))) has_to (can t)).1
 
   unnamed_texts : (rows : List Corr) → AllByRecursion (IsUtf8Row tables.Corr) rows → AllByRecursion HasEntryTexts (map without_name rows)
   unnamed_texts [] all = tt

@@ -14,8 +14,8 @@ joined true has there same = refl
 joined false has there same = same
 
 -- a table that the layout has as it is there, it has so once others are made
-told : (ws : List FileTable) (l : Layout) (v : FileTable) → l.has v ≡ is_there l.schema v → (with_tables ws l).has v ≡ is_there (after ws l.schema) v
-told ws l v same = joined (is_among ws v) (l.has v) (is_there l.schema v) same ∙ sym (there_after ws l.schema v)
+told : (made : List FileTable) (l : Layout) (t : FileTable) → l.has t ≡ is_there l.schema t → (with_tables made l).has t ≡ is_there (after made l.schema) t
+told made l t same = joined (is_among made t) (l.has t) (is_there l.schema t) same ∙ sym (there_after made l.schema t)
 
 keeps : (b has : Bool) → has ≡ true → (if b then true else has) ≡ true
 keeps true has is = refl
@@ -36,14 +36,14 @@ new_format s tables.Mark = (sym (there_after new_tables s tables.Mark), refl)
 new_format s tables.Cache = sym (there_after new_tables s tables.Cache)
 new_format s tables.NamedCorr = (sym (there_after new_tables s tables.NamedCorr), refl)
 
-pub with_names : (l : Layout) (ws : List FileTable) → IsOfFormat unnamed l → is_among ws tables.NamedCorr ≡ true → IsOfFormat named (with_tables ws l)
-with_names l ws is among tables.Book = (told ws l tables.Book (is tables.Book).0, keeps (is_among ws tables.Book) (l.has tables.Book) (is tables.Book).1)
-with_names l ws is among tables.Tab = (told ws l tables.Tab (is tables.Tab).0, keeps (is_among ws tables.Tab) (l.has tables.Tab) (is tables.Tab).1)
-with_names l ws is among tables.Para = (told ws l tables.Para (is tables.Para).0, keeps (is_among ws tables.Para) (l.has tables.Para) (is tables.Para).1)
-with_names l ws is among tables.Corr = tt
-with_names l ws is among tables.Mark = (told ws l tables.Mark (is tables.Mark).0, keeps (is_among ws tables.Mark) (l.has tables.Mark) (is tables.Mark).1)
-with_names l ws is among tables.Cache = told ws l tables.Cache (is tables.Cache)
-with_names l ws is among tables.NamedCorr = (told ws l tables.NamedCorr (is tables.NamedCorr).0, makes (is_among ws tables.NamedCorr) (l.has tables.NamedCorr) among)
+pub with_names : (l : Layout) (made : List FileTable) → IsOfFormat unnamed l → is_among made tables.NamedCorr ≡ true → IsOfFormat named (with_tables made l)
+with_names l made is among tables.Book = (told made l tables.Book (is tables.Book).0, keeps (is_among made tables.Book) (l.has tables.Book) (is tables.Book).1)
+with_names l made is among tables.Tab = (told made l tables.Tab (is tables.Tab).0, keeps (is_among made tables.Tab) (l.has tables.Tab) (is tables.Tab).1)
+with_names l made is among tables.Para = (told made l tables.Para (is tables.Para).0, keeps (is_among made tables.Para) (l.has tables.Para) (is tables.Para).1)
+with_names l made is among tables.Corr = tt
+with_names l made is among tables.Mark = (told made l tables.Mark (is tables.Mark).0, keeps (is_among made tables.Mark) (l.has tables.Mark) (is tables.Mark).1)
+with_names l made is among tables.Cache = told made l tables.Cache (is tables.Cache)
+with_names l made is among tables.NamedCorr = (told made l tables.NamedCorr (is tables.NamedCorr).0, makes (is_among made tables.NamedCorr) (l.has tables.NamedCorr) among)
 
 pub with_cells : (format : Format) (l : Layout) → IsOfFormat format l → IsOfFormat format (with_tables (tables.Cache ∷ []) l)
 with_cells unnamed l is tables.Book = (told (tables.Cache ∷ []) l tables.Book (is tables.Book).0, (is tables.Book).1)

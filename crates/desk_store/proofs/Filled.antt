@@ -135,12 +135,12 @@ module _ (t : NewTables) (book : Book) (puts : List RowPut) (fills : Fills t boo
   pub shows_gained : (new : State) → WritesWithTables ts puts old new
       → (l : Layout) (stands : Stands l book old) → HasGained (which_new t) l stands.1.0 book old.now.trees (λ after d. ShowsContents after d new)
   shows_gained new writes l stands =
-      let writes_new = subst (λ (ws : List FileTable). WritesWithTables ws puts old new) are writes in
+      let writes_new = subst (λ (tables : List FileTable). WritesWithTables tables puts old new) are writes in
       gained t l book puts fills old stands (λ after d. ShowsContents after d new)
       (writes_new l stands.1.0 (new_differ t) (new_there t stands.0.0 l stands.0.1 book puts fills) stands.1.1)
 
   pub holds_gained : (db : Trees) → IsFileWithTables ts puts old db → HoldsWith (which_new t) book old db
   holds_gained db file l stands =
-      let file_new = subst (λ (ws : List FileTable). IsFileWithTables ws puts old db) are file in
+      let file_new = subst (λ (tables : List FileTable). IsFileWithTables tables puts old db) are file in
       gained t l book puts fills old stands (λ after d. IsFile after d db)
       (file_new l stands.1.0 (new_differ t) (new_there t stands.0.0 l stands.0.1 book puts fills) stands.1.1)

@@ -56,8 +56,8 @@ module _ (l : Layout) (c : Contents) (book : Book) (s : State) where
   pub gains_none : ShowsContents l c s → RowsShow (rows_of l c) book → HasGained [] l c book s.now.trees (λ after d. ShowsContents after d s)
   gains_none shows rows = (as_it_stands, (stays_shown shows, keeps_all), rows)
 
-  pub leaves_gained : (ws : List FileTable) (rows : Trees) → HasGained ws l c book rows (λ after d. ShowsContents after d s) → IsSettled s → LeavesBook (with_tables ws l) book s
-  leaves_gained ws rows gained settled db left = subst (HoldsBook (with_tables ws l) book) (sym (settled db left)) (gained.0, gained.1.0.is, gained.2)
+  pub leaves_gained : (tables : List FileTable) (rows : Trees) → HasGained tables l c book rows (λ after d. ShowsContents after d s) → IsSettled s → LeavesBook (with_tables tables l) book s
+  leaves_gained tables rows gained settled db left = subst (HoldsBook (with_tables tables l) book) (sym (settled db left)) (gained.0, gained.1.0.is, gained.2)
 
 -- one that lacks no table has exactly one form
 pub left_whole : (lacked : Option NewTables) (l : Layout) (book : Book) (s : State) → lacked ≡ None → Leaves (HoldsEitherWith (which_lacked lacked) l book) s

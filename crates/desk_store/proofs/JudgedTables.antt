@@ -106,7 +106,7 @@ present unread has there Utf8 same can = tt
 
 -- a file that can be read as one of a format is of it
 pub of_read : (f : Format) (l : Layout) (c : Contents) → HasThoseRead l → CanAllBeRead f l c → IsOfFormat f l
-of_read f l c (inl exact) can = λ w. present (presence f w) (l.has w) (is_there l.schema w) _ (exact w) (can w)
+of_read f l c (inl exact) can = λ t. present (presence f t) (l.has t) (is_there l.schema t) _ (exact t) (can t)
 of_read f l c (inr other) can = go f other.0 other.1 can
   where
     go : (f g : Format) → IsOfFormat g l → CanAllBeRead f l c → IsOfFormat f l

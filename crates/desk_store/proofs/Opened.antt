@@ -54,56 +54,56 @@ shows_still old new same l c was = record {
 -- ---- a read of a table
 
 -- in whatever file the connection shows, the rows of the table are so apart
-abbrev pub AreApartIn : {X : Type 0} (w : FileTable) (written : X → Row) → (List X → Type 0) → State → Type 0
-AreApartIn {X} w written Apart s = (l : Layout) (c : Contents) → l.has w ≡ true → ShowsContents l c s → (xs : List X) → Lists written (columns_at (description_of w).shown) xs (s.now.trees (l.tree w)) → Apart xs
+abbrev pub AreApartIn : {X : Type 0} (t : FileTable) (written : X → Row) → (List X → Type 0) → State → Type 0
+AreApartIn {X} t written Apart s = (l : Layout) (c : Contents) → l.has t ≡ true → ShowsContents l c s → (xs : List X) → Lists written (columns_at (description_of t).shown) xs (s.now.trees (l.tree t)) → Apart xs
 
-pub any_apart : {X : Type 0} (w : FileTable) (written : X → Row) (s : State) → AreApartIn w written AnyRows s
-any_apart w written s l c there shows xs lists = tt
+pub any_apart : {X : Type 0} (t : FileTable) (written : X → Row) (s : State) → AreApartIn t written AnyRows s
+any_apart t written s l c there shows xs lists = tt
 
 pub own_rowids : (s : State) → AreApartIn tables.Tab (shown_columns tables.Tab) HaveOwnRowids s
 own_rowids s l c there shows xs lists = tabs_apart l c s.now.trees shows.is there xs lists
 
-module _ {V X : Type 0} (items : V → List X) (w : FileTable) (view : X → ShownOf w) (Apart : List X → Type 0) (old new : State) where
+module _ {V X : Type 0} (items : V → List X) (t : FileTable) (view : X → ShownOf t) (Apart : List X → Type 0) (old new : State) where
   -- it isn't refused in a file that has the table with texts in UTF-8
-  pub never_refused_in : (fault : DatabaseFault) → AnswersRows (Err fault) items w view Apart old new → AreApartIn w (λ x. shown_columns w (view x)) Apart old
-      → fault ≡ Refused → (l : Layout) (c : Contents) → ShowsContents l c old → l.has w ≡ true → AllByRecursion (IsUtf8Row w) (c.rows w) → old.step_limit ≢ None
+  pub never_refused_in : (fault : DatabaseFault) → AnswersRows (Err fault) items t view Apart old new → AreApartIn t (λ x. shown_columns t (view x)) Apart old
+      → fault ≡ Refused → (l : Layout) (c : Contents) → ShowsContents l c old → l.has t ≡ true → AllByRecursion (IsUtf8Row t) (c.rows t) → old.step_limit ≢ None
   never_refused_in fault answers apart is l c shows there utf8 free =
-      answers.cause (l.tree w)
-      (record { declared = rw shows.schema (shows.is.declared w there); sound = rw shows.schema shows.is.sound })
-      free (readable_table l c old.now.trees shows.is w there utf8) (apart l c there shows) is
+      answers.cause (l.tree t)
+      (record { declared = rw shows.schema (shows.is.declared t there); sound = rw shows.schema shows.is.sound })
+      free (readable_table l c old.now.trees shows.is t there utf8) (apart l c there shows) is
 
-  pub stays_refused : (fault : DatabaseFault) → AnswersRows (Err fault) items w view Apart old new → fault ≡ Refused → Stays old new
+  pub stays_refused : (fault : DatabaseFault) → AnswersRows (Err fault) items t view Apart old new → fault ≡ Refused → Stays old new
   stays_refused fault answers is = as_it_was old new (answers.refused is)
 
-  pub stays_read : (v : V) → AnswersRows (Ok v) items w view Apart old new → Stays old new
+  pub stays_read : (v : V) → AnswersRows (Ok v) items t view Apart old new → Stays old new
   stays_read v answers = as_it_was old new answers.unchanged
 
 -- ---- a read of a table, after others
 
-module _ {V X : Type 0} (items : V → List X) (w : FileTable) (view : X → ShownOf w) (Apart : List X → Type 0)
+module _ {V X : Type 0} (items : V → List X) (t : FileTable) (view : X → ShownOf t) (Apart : List X → Type 0)
     (before old new : State) (so_far : Stays before old) (limit : old.step_limit ≡ before.step_limit) where
   -- in a file of this format that can be read
-  pub never_refused_of : (f : Format) (fault : DatabaseFault) → presence f w ≡ needed → AnswersRows (Err fault) items w view Apart old new → AreApartIn w (λ x. shown_columns w (view x)) Apart old
+  pub never_refused_of : (f : Format) (fault : DatabaseFault) → presence f t ≡ needed → AnswersRows (Err fault) items t view Apart old new → AreApartIn t (λ x. shown_columns t (view x)) Apart old
       → fault ≡ Refused → Stays before new × ¬ ShowsReadable f before
   never_refused_of f fault has_to answers apart is = (
-    stays_then before old new so_far (stays_refused items w view Apart old new fault answers is),
+    stays_then before old new so_far (stays_refused items t view Apart old new fault answers is),
     λ r.
-        let can = subst (λ (p : Presence). CanBeRead p (r.0.has w) (AllByRecursion (IsUtf8Row w) (r.1.rows w))) has_to (r.4 w) in
-        never_refused_in items w view Apart old new fault answers apart is r.0 r.1 (shows_still before old so_far r.0 r.1 r.3) can.0 can.1 (limit ∙ r.5),
+        let can = subst (λ (p : Presence). CanBeRead p (r.0.has t) (AllByRecursion (IsUtf8Row t) (r.1.rows t))) has_to (r.4 t) in
+        never_refused_in items t view Apart old new fault answers apart is r.0 r.1 (shows_still before old so_far r.0 r.1 r.3) can.0 can.1 (limit ∙ r.5),
   )
 
-  pub never_refused_optional : (f : Format) (fault : DatabaseFault) → presence f w ≡ optional → AnswersRows (Err fault) items w view Apart old new → AreApartIn w (λ x. shown_columns w (view x)) Apart old
-      → ((l : Layout) → IsOfFormat f l → l.schema ≡ before.now.schema → l.has w ≡ true) → fault ≡ Refused → Stays before new × ¬ ShowsReadable f before
+  pub never_refused_optional : (f : Format) (fault : DatabaseFault) → presence f t ≡ optional → AnswersRows (Err fault) items t view Apart old new → AreApartIn t (λ x. shown_columns t (view x)) Apart old
+      → ((l : Layout) → IsOfFormat f l → l.schema ≡ before.now.schema → l.has t ≡ true) → fault ≡ Refused → Stays before new × ¬ ShowsReadable f before
   never_refused_optional f fault may answers apart has is = (
-    stays_then before old new so_far (stays_refused items w view Apart old new fault answers is),
+    stays_then before old new so_far (stays_refused items t view Apart old new fault answers is),
     λ r.
         let there = has r.0 r.2 (sym r.3.schema) in
-        let can = subst (λ (p : Presence). CanBeRead p (r.0.has w) (AllByRecursion (IsUtf8Row w) (r.1.rows w))) may (r.4 w) in
-        never_refused_in items w view Apart old new fault answers apart is r.0 r.1 (shows_still before old so_far r.0 r.1 r.3) there (can there) (limit ∙ r.5),
+        let can = subst (λ (p : Presence). CanBeRead p (r.0.has t) (AllByRecursion (IsUtf8Row t) (r.1.rows t))) may (r.4 t) in
+        never_refused_in items t view Apart old new fault answers apart is r.0 r.1 (shows_still before old so_far r.0 r.1 r.3) there (can there) (limit ∙ r.5),
   )
 
   -- and what it gave are the table's rows
-  pub read_of : (v : V) → AnswersRows (Ok v) items w view Apart old new → (l : Layout) (c : Contents) → l.has w ≡ true → ShowsContents l c before → IsPermutation (c.rows w) (map (λ x. own w (view x)) (items v))
+  pub read_of : (v : V) → AnswersRows (Ok v) items t view Apart old new → (l : Layout) (c : Contents) → l.has t ≡ true → ShowsContents l c before → IsPermutation (c.rows t) (map (λ x. own t (view x)) (items v))
   read_of v answers l c there was = answers.shows l c there (shows_still before old so_far l c was)
 
 pub map_same : {X : Type 0} (xs : List X) → map (λ x. x) xs ≡ xs
@@ -131,8 +131,8 @@ pub needs_marks : (f : Format) → presence f tables.Mark ≡ needed
 needs_marks unnamed = refl
 needs_marks named = refl
 
-pub has_needed : (f : Format) (l : Layout) (w : FileTable) → IsOfFormat f l → presence f w ≡ needed → l.has w ≡ true
-has_needed f l w of is = (subst (λ (p : Presence). IsPresent p (l.has w) (is_there l.schema w)) is (of w)).1
+pub has_needed : (f : Format) (l : Layout) (t : FileTable) → IsOfFormat f l → presence f t ≡ needed → l.has t ≡ true
+has_needed f l t of is = (subst (λ (p : Presence). IsPresent p (l.has t) (is_there l.schema t)) is (of t)).1
 
 pub has_caches : (f : Format) (l : Layout) → IsOfFormat f l → l.has tables.Cache ≡ is_there l.schema tables.Cache
 has_caches f l of = subst (λ (p : Presence). IsPresent p (l.has tables.Cache) (is_there l.schema tables.Cache)) (optional_caches f) (of tables.Cache)

@@ -74,12 +74,12 @@ tells_no_refusal l c NewerFormat none = absurd (none tt)
 tells_no_refusal l c Lost none = tt
 tells_no_refusal l c NoMemory none = tt
 
-gained_same : (ws vs : List FileTable) (l : Layout) (c : Contents) (a b : Book) (x y : Database) (P : Layout → Contents → Type 0) → ws ≡ vs → a ≡ b → x ≡ y
-    → HasGained ws l c a x.trees P → HasGained vs l c b y.trees P
-gained_same ws vs l c a b x y P same_tables same_book same_rows gained =
-    subst (λ (d : Database). HasGained vs l c b d.trees P) same_rows
-    (subst (λ (book : Book). HasGained vs l c book x.trees P) same_book
-    (subst (λ (us : List FileTable). HasGained us l c a x.trees P) same_tables gained))
+gained_same : (tables others : List FileTable) (l : Layout) (c : Contents) (a b : Book) (x y : Database) (P : Layout → Contents → Type 0) → tables ≡ others → a ≡ b → x ≡ y
+    → HasGained tables l c a x.trees P → HasGained others l c b y.trees P
+gained_same tables others l c a b x y P same_tables same_book same_rows gained =
+    subst (λ (d : Database). HasGained others l c b d.trees P) same_rows
+    (subst (λ (book : Book). HasGained others l c book x.trees P) same_book
+    (subst (λ (these : List FileTable). HasGained these l c a x.trees P) same_tables gained))
 
 module _ {S : Type 0} (g : Ghosts S) (make : Bool) (old : Held S) (there : ¬ HasNone (state g old).now.schema) where
   abbrev s : State
@@ -152,8 +152,8 @@ module _ {S : Type 0} (g : Ghosts S) (make : Bool) (old : Held S) (there : ¬ Ha
                 shows = gained_same _ _ l c book book mid.now s.now (λ after d. ShowsContents after d new) same refl stays.now (filled l still);
                 leaves = λ was.
                     let here : Leaves (HoldsEither l book) mid = λ db here. was db (left db here) in
-                    let either = subst (λ (ws : List FileTable). Leaves (HoldsEitherWith ws l book) mid) (sym same) here in
-                    subst (λ (ws : List FileTable). LeavesBook (with_tables ws l) book new) same (leaves l still either);
+                    let either = subst (λ (tables : List FileTable). Leaves (HoldsEitherWith tables l book) mid) (sym same) here in
+                    subst (λ (tables : List FileTable). LeavesBook (with_tables tables l) book new) same (leaves l still either);
               };
           made = λ none. absurd (there none);
           refused = tt;

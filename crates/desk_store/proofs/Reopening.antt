@@ -33,8 +33,8 @@ use Rattle.desk_store.proofs.StandingBooks.{found_there}
 
 -- ---- a file with the tables of a new one is of the second format
 
-there_by : (l : Layout) (c : Contents) (db : Trees) → IsFile l c db → (w : FileTable) → l.has w ≡ true → is_there l.schema w ≡ true
-there_by l c db is w there = rw (is.declared w there).named refl
+there_by : (l : Layout) (c : Contents) (db : Trees) → IsFile l c db → (t : FileTable) → l.has t ≡ true → is_there l.schema t ≡ true
+there_by l c db is t there = rw (is.declared t there).named refl
 
 pub second_format : (l : Layout) (c : Contents) (db : Trees) → HasNewTables l → IsFile l c db → IsOfFormat named l
 second_format l c db new is tables.Book = (new.0 ∙ sym (there_by l c db is tables.Book new.0), new.0)

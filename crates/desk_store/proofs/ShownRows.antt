@@ -50,8 +50,8 @@ use Rattle.desk_store.proofs.StandingBooks.{can_be_read}
 -- ---- each table
 
 -- a row of the tree, whose columns are a row of the table, is shown as one
-shown_row : (w : FileTable) (r : Row) → (shows_rowid w ≡ true → IsInt (rowid r)) → (y : RowOf w) × (columns_at (description_of w).own r ≡ columns_of w y)
-    → (x : ShownOf w) × (given w (columns_at (description_of w).shown r) ≡ shown_columns w x)
+shown_row : (t : FileTable) (r : Row) → (shows_rowid t ≡ true → IsInt (rowid r)) → (y : RowOf t) × (columns_at (description_of t).own r ≡ columns_of t y)
+    → (x : ShownOf t) × (given t (columns_at (description_of t).shown r) ≡ shown_columns t x)
 shown_row tables.Book r id (y, is) = (y, is)
 shown_row tables.Tab r id (y, is) = let n = id refl in (record { rowid = n.0; row = y }, ap₂ (λ (v : Value) (vs : Row). v ∷ vs) n.1 is)
 shown_row tables.Para r id (y, is) = (y, is)
@@ -77,51 +77,51 @@ columns_are : (ps : List ℕ) (r : Row) → eval_all (map (col 1) ps) ([] ∷ r 
 columns_are [] r = refl
 columns_are (p ∷ ps) r = ap (λ (vs : Row). column r p ∷ vs) (columns_are ps r)
 
-all_shown_rows : (w : FileTable) (rows : List Row) → (shows_rowid w ≡ true → AllByRecursion (λ r. IsTrue (is_int (rowid r))) rows)
-    → AllByRecursion (λ r. (y : RowOf w) × (columns_at (description_of w).own r ≡ columns_of w y)) rows
-    → AllByRecursion (λ r. (x : ShownOf w) × (given w (columns_at (description_of w).shown r) ≡ shown_columns w x)) rows
-all_shown_rows w [] ids owns = tt
-all_shown_rows w (r ∷ rows) ids owns = (shown_row w r (λ is. integer_of (rowid r) (ids is).0) owns.0, all_shown_rows w rows (λ is. (ids is).1) owns.1)
+all_shown_rows : (t : FileTable) (rows : List Row) → (shows_rowid t ≡ true → AllByRecursion (λ r. IsTrue (is_int (rowid r))) rows)
+    → AllByRecursion (λ r. (y : RowOf t) × (columns_at (description_of t).own r ≡ columns_of t y)) rows
+    → AllByRecursion (λ r. (x : ShownOf t) × (given t (columns_at (description_of t).shown r) ≡ shown_columns t x)) rows
+all_shown_rows t [] ids owns = tt
+all_shown_rows t (r ∷ rows) ids owns = (shown_row t r (λ is. integer_of (rowid r) (ids is).0) owns.0, all_shown_rows t rows (λ is. (ids is).1) owns.1)
 
 -- ---- a table of a file
 
 module _ (l : Layout) (c : Contents) (s : State) (is_open : IsTrue s.is_open) (shows : ShowsContents l c s) where
-  module _ (w : FileTable) (there : l.has w ≡ true) where
+  module _ (t : FileTable) (there : l.has t ≡ true) where
     abbrev tree : List Row
-    tree = s.now.trees (l.tree w)
+    tree = s.now.trees (l.tree t)
 
-    has : HasTable (table_of w (l.tree w)) s
-    has = has_table w l c s there shows
+    has : HasTable (table_of t (l.tree t)) s
+    has = has_table t l c s there shows
 
-    owns : AllByRecursion (λ r. (y : RowOf w) × (columns_at (description_of w).own r ≡ columns_of w y)) tree
+    owns : AllByRecursion (λ r. (y : RowOf t) × (columns_at (description_of t).own r ≡ columns_of t y)) tree
     owns =
-        all_from_map (λ v. (y : RowOf w) × (v ≡ columns_of w y)) (columns_at (description_of w).own) tree
-        (all-permutation (λ v. (y : RowOf w) × (v ≡ columns_of w y)) _ _ (shows.is.holds.tables w there) (all_written (columns_of w) (c.rows w)))
+        all_from_map (λ v. (y : RowOf t) × (v ≡ columns_of t y)) (columns_at (description_of t).own) tree
+        (all-permutation (λ v. (y : RowOf t) × (v ≡ columns_of t y)) _ _ (shows.is.holds.tables t there) (all_written (columns_of t) (c.rows t)))
 
-    answer : (rows : List Row) × Shown (description_of w).read [] s s rows × IsPermutation (map (columns_at (description_of w).shown) tree) rows
+    answer : (rows : List Row) × Shown (description_of t).read [] s s rows × IsPermutation (map (columns_at (description_of t).shown) tree) rows
     answer =
-        answered (table_of w (l.tree w)) (description_of w).read _ _ _ _ (is_read w (l.tree w)) s.now.schema has.declared s refl has.sound
-        (columns_at (description_of w).shown) (columns_are (description_of w).shown) is_open
+        answered (table_of t (l.tree t)) (description_of t).read _ _ _ _ (is_read t (l.tree t)) s.now.schema has.declared s refl has.sound
+        (columns_at (description_of t).shown) (columns_are (description_of t).shown) is_open
 
     -- there are rows that its statement gives
-    gives : (xs : List (ShownOf w)) × Gives (query_of w) (shown_columns w) s s xs
+    gives : (xs : List (ShownOf t)) × Gives (query_of t) (shown_columns t) s s xs
     gives =
-        let all = all_shown_rows w tree (rowids l c s.now.trees shows.is w there) owns in
-        let shown_all = all-permutation (λ v. (x : ShownOf w) × (given w v ≡ shown_columns w x)) _ _ answer.2
-        (all-map (λ v. (x : ShownOf w) × (given w v ≡ shown_columns w x)) (columns_at (description_of w).shown) tree all) in
-        let xs = collected (given w) (shown_columns w) answer.0 shown_all in
+        let all = all_shown_rows t tree (rowids l c s.now.trees shows.is t there) owns in
+        let shown_all = all-permutation (λ v. (x : ShownOf t) × (given t v ≡ shown_columns t x)) _ _ answer.2
+        (all-map (λ v. (x : ShownOf t) × (given t v ≡ shown_columns t x)) (columns_at (description_of t).shown) tree all) in
+        let xs = collected (given t) (shown_columns t) answer.0 shown_all in
         (xs.0, (answer.0, answer.1, xs.1))
 
-    listed : (xs : List (ShownOf w)) → Gives (query_of w) (shown_columns w) s s xs → Lists (shown_columns w) (columns_at (description_of w).shown) xs tree
+    listed : (xs : List (ShownOf t)) → Gives (query_of t) (shown_columns t) s s xs → Lists (shown_columns t) (columns_at (description_of t).shown) xs tree
     listed xs (rows, seen, is) =
-        (table_read w s.now.schema (l.tree w) has.declared s s refl has.sound (shown_columns w) (λ a b. rows_cmp w (shown_columns w a) (shown_columns w b)) (λ a b. refl) rows xs seen is).0
+        (table_read t s.now.schema (l.tree t) has.declared s s refl has.sound (shown_columns t) (λ a b. rows_cmp t (shown_columns t a) (shown_columns t b)) (λ a b. refl) rows xs seen is).0
 
     -- what it gives are the table's rows
-    same_rows : (xs : List (ShownOf w)) → Gives (query_of w) (shown_columns w) s s xs → IsPermutation (c.rows w) (map (own w) xs)
+    same_rows : (xs : List (ShownOf t)) → Gives (query_of t) (shown_columns t) s s xs → IsPermutation (c.rows t) (map (own t) xs)
     same_rows xs gives_xs =
-        one_list w (columns_at (description_of w).own) (c.rows w) (map (own w) xs) tree (shows.is.holds.tables w there) (own_listed w xs tree (listed xs gives_xs))
+        one_list t (columns_at (description_of t).own) (c.rows t) (map (own t) xs) tree (shows.is.holds.tables t there) (own_listed t xs tree (listed xs gives_xs))
 
-  apart : (w : FileTable) → l.has w ≡ true → (xs : List (ShownOf w)) → Gives (query_of w) (shown_columns w) s s xs → AreToldApart w xs
+  apart : (t : FileTable) → l.has t ≡ true → (xs : List (ShownOf t)) → Gives (query_of t) (shown_columns t) s s xs → AreToldApart t xs
   apart tables.Book there xs gives_xs = tt
   apart tables.Tab there xs gives_xs = tabs_apart l c s.now.trees shows.is there xs (listed tables.Tab there xs gives_xs)
   apart tables.Para there xs gives_xs = tt
@@ -130,18 +130,18 @@ module _ (l : Layout) (c : Contents) (s : State) (is_open : IsTrue s.is_open) (s
   apart tables.Cache there xs gives_xs = tt
   apart tables.NamedCorr there xs gives_xs = tt
 
-  can : (w : FileTable) → l.has w ≡ true → AllByRecursion (IsUtf8Row w) (c.rows w) → CanAnswer s w
-  can w there utf8 = record {
+  can : (t : FileTable) → l.has t ≡ true → AllByRecursion (IsUtf8Row t) (c.rows t) → CanAnswer s t
+  can t there utf8 = record {
     has =
-        can_answer (table_of w (l.tree w)) (description_of w).read _ _ _ _ (is_read w (l.tree w))
-        s.now.schema (has w there).declared s refl (has w there).sound;
+        can_answer (table_of t (l.tree t)) (description_of t).read _ _ _ _ (is_read t (l.tree t))
+        s.now.schema (has t there).declared s refl (has t there).sound;
     kinds = λ rows seen.
-        table_kinds w s.now.schema (l.tree w) (has w there).declared s s refl (has w there).sound rows seen (readable_table l c s.now.trees shows.is w there utf8);
-    apart = apart w there;
+        table_kinds t s.now.schema (l.tree t) (has t there).declared s s refl (has t there).sound rows seen (readable_table l c s.now.trees shows.is t there utf8);
+    apart = apart t there;
   }
 
-  rows_in : (w : FileTable) → l.has w ≡ true → (xs : List (ShownOf w)) × AreRowsIn s w xs
-  rows_in w there = let got = gives w there in (got.0, (got.1, apart w there got.0 got.1))
+  rows_in : (t : FileTable) → l.has t ≡ true → (xs : List (ShownOf t)) × AreRowsIn s t xs
+  rows_in t there = let got = gives t there in (got.0, (got.1, apart t there got.0 got.1))
 
   -- ---- the tables of a format
 
@@ -158,10 +158,10 @@ module _ (l : Layout) (c : Contents) (s : State) (is_open : IsTrue s.is_open) (s
   utf8_if unread it is Utf8 read there can_be = absurd read
 
   can_all : (f : Format) → IsOfFormat f l → CanAllBeRead f l c → CanAllAnswer f s
-  can_all f of readable w read =
-      let here : IsReadAs (presence f w) (is_there l.schema w) = subst (λ (x : Schema). IsReadAs (presence f w) (is_there x w)) shows.schema read in
-      let there = has_if (presence f w) (l.has w) (is_there l.schema w) (of w) here in
-      can w there (utf8_if (presence f w) (l.has w) (is_there l.schema w) _ here there (readable w))
+  can_all f of readable t read =
+      let here : IsReadAs (presence f t) (is_there l.schema t) = subst (λ (x : Schema). IsReadAs (presence f t) (is_there x t)) shows.schema read in
+      let there = has_if (presence f t) (l.has t) (is_there l.schema t) (of t) here in
+      can t there (utf8_if (presence f t) (l.has t) (is_there l.schema t) _ here there (readable t))
 
   entries_in_file : (f : Format) → IsOfFormat f l → (entries : EntryRows) × (format_kept entries ≡ f) × AreEntriesIn s entries
   entries_in_file unnamed of = let got = rows_in tables.Corr (of tables.Corr).1 in (Unnamed got.0, refl, got.1)

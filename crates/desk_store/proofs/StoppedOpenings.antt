@@ -17,24 +17,24 @@ use Rattle.desk_store.specs.Opened.{StopsOpening, filling, reading, rebuilding}
 use Rattle.desk_store.specs.declared.fault.OpenFault.{OpenFault}
 
 -- a read that fails undoes at most what wasn't committed
-query_as_before : (w : FileTable) (old new : State) (e : Error) → old.now ≡ old.committed → FailsToQuery (description_of w).read [] old new e
+query_as_before : (t : FileTable) (old new : State) (e : Error) → old.now ≡ old.committed → FailsToQuery (description_of t).read [] old new e
     → ShowsAsBefore old new
 unfolding FailsToQuery IsNotRun
-query_as_before w old new e same (inl (inl h)) opened = h.1.0.now_is
-query_as_before w old new e same (inl (inr h)) opened = (h.3.undone opened).0 ∙ sym same
-query_as_before w old new e same (inr h) opened =
-    let text = (description_of w).read in
-    let none = never_returns text (reads_only w) old.now.schema h.0 h.1.is in
+query_as_before t old new e same (inl (inl h)) opened = h.1.0.now_is
+query_as_before t old new e same (inl (inr h)) opened = (h.3.undone opened).0 ∙ sym same
+query_as_before t old new e same (inr h) opened =
+    let text = (description_of t).read in
+    let none = never_returns text (reads_only t) old.now.schema h.0 h.1.is in
     let full = timed [] h.0.formats h.1.now in
     let shown : FailsToShow old new text h.0 full e None = subst (FailsToShow old new text h.0 full e) none h.2 in
     shown.3.0.now_is
 
-read_as_before : {X : Type 0} (w : FileTable) (written : X → Row) (Apart : List X → Type 0) (old new : State) (why : DatabaseFault) → old.now ≡ old.committed
-    → FailsAs (query_of w) written Apart old new why → ShowsAsBefore old new
-read_as_before w written Apart old new why same (failed e fails told) opened = query_as_before w old new e same fails opened
-read_as_before w written Apart old new why same (unreadable rows seen not is) opened = (shown_quietly (description_of w).read (reads_only w) [] old new rows seen).0.now_is
-read_as_before w written Apart old new why same (together xs gives not is) opened = (shown_quietly (description_of w).read (reads_only w) [] old new gives.0 gives.1).0.now_is
-read_as_before w written Apart old new why same (no_memory rows seen begins is) opened = (shown_quietly (description_of w).read (reads_only w) [] old new rows seen).0.now_is
+read_as_before : {X : Type 0} (t : FileTable) (written : X → Row) (Apart : List X → Type 0) (old new : State) (why : DatabaseFault) → old.now ≡ old.committed
+    → FailsAs (query_of t) written Apart old new why → ShowsAsBefore old new
+read_as_before t written Apart old new why same (failed e fails told) opened = query_as_before t old new e same fails opened
+read_as_before t written Apart old new why same (unreadable rows seen not is) opened = (shown_quietly (description_of t).read (reads_only t) [] old new rows seen).0.now_is
+read_as_before t written Apart old new why same (together xs gives not is) opened = (shown_quietly (description_of t).read (reads_only t) [] old new gives.0 gives.1).0.now_is
+read_as_before t written Apart old new why same (no_memory rows seen begins is) opened = (shown_quietly (description_of t).read (reads_only t) [] old new rows seen).0.now_is
 
 module _ {S : Type 0} (g : Ghosts S) (old : Held S) (new : State) (told : OpenFault) (same : (state g old).now ≡ (state g old).committed) where
   pub still_shown : StopsOpening g old new told → ShowsAsBefore (state g old) new

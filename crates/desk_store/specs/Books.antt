@@ -48,7 +48,7 @@ LeavesEither l book next = Leaves (λ db. HoldsBook l book db ⊎ HoldsBook l ne
 
 -- the layout has each table of a new file
 abbrev pub HasNewTables : Layout → Type 0
-HasNewTables l = AllByRecursion (λ w. l.has w ≡ true) new_tables
+HasNewTables l = AllByRecursion (λ t. l.has t ≡ true) new_tables
 
 -- the change carries out a command that makes the next of this book
 abbrev pub LeadsTo : Book → Change → Book → Type 0

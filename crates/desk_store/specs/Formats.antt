@@ -7,7 +7,7 @@ use Rattle.desk_rows.specs.Tables.{is_there}
 
 -- the layout has just those of our tables that the schema has by their names
 abbrev pub IsExact : Layout → Type 0
-IsExact l = (w : FileTable) → l.has w ≡ is_there l.schema w
+IsExact l = (t : FileTable) → l.has t ≡ is_there l.schema t
 
 -- Entries of histories without names, and with them.
 pub data Format : Type 0 where
@@ -46,7 +46,7 @@ IsPresent unread has there = ⊤
 
 -- it has the tables of a file of this format, and of those that are read exactly those that are there
 abbrev pub IsOfFormat : Format → Layout → Type 0
-IsOfFormat format l = (w : FileTable) → IsPresent (presence format w) (l.has w) (is_there l.schema w)
+IsOfFormat format l = (t : FileTable) → IsPresent (presence format t) (l.has t) (is_there l.schema t)
 
 -- it is of one of the two formats
 abbrev pub IsOfEither : Layout → Type 0

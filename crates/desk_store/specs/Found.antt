@@ -32,7 +32,7 @@ HasNone s = list_any (is_there s) known_tables ≡ false
 -- ---- the rows that statements give
 
 -- the rows of `tab` have different rowids, and nothing is required of the others
-abbrev pub AreToldApart : (w : FileTable) → List (ShownOf w) → Type 0
+abbrev pub AreToldApart : (t : FileTable) → List (ShownOf t) → Type 0
 AreToldApart tables.Book rows = ⊤
 AreToldApart tables.Tab rows = HaveOwnRowids rows
 AreToldApart tables.Para rows = ⊤
@@ -42,8 +42,8 @@ AreToldApart tables.Cache rows = ⊤
 AreToldApart tables.NamedCorr rows = ⊤
 
 -- in this state the statement that reads the table gives these rows
-abbrev pub AreRowsIn : State → (w : FileTable) → List (ShownOf w) → Type 0
-AreRowsIn s w rows = Gives (query_of w) (shown_columns w) s s rows × AreToldApart w rows
+abbrev pub AreRowsIn : State → (t : FileTable) → List (ShownOf t) → Type 0
+AreRowsIn s t rows = Gives (query_of t) (shown_columns t) s s rows × AreToldApart t rows
 
 -- the format that keeps entries so
 abbrev pub format_kept : EntryRows → Format
@@ -83,11 +83,11 @@ abbrev pub ShowsIn : State → Book → Type 0
 ShowsIn s book = (rows : FileRows) × AreFileRows s rows × RowsShow rows book
 
 -- The statement that reads the table has an answer, and whatever it answers can be read.
-pub record CanAnswer (s : State) (w : FileTable) : Type 0 where
-  pub has : HasAnswer (query_of w).text s
-  pub kinds : (rows : List Row) → Shown (query_of w).text [] s s rows
-      → AllByRecursion (HasKinds (query_of w).kinds) rows
-  pub apart : (rows : List (ShownOf w)) → Gives (query_of w) (shown_columns w) s s rows → AreToldApart w rows
+pub record CanAnswer (s : State) (t : FileTable) : Type 0 where
+  pub has : HasAnswer (query_of t).text s
+  pub kinds : (rows : List Row) → Shown (query_of t).text [] s s rows
+      → AllByRecursion (HasKinds (query_of t).kinds) rows
+  pub apart : (rows : List (ShownOf t)) → Gives (query_of t) (shown_columns t) s s rows → AreToldApart t rows
 
 -- whether a table is read, of which something is there by its name
 abbrev pub IsReadAs : Presence → (there : Bool) → Type 0
@@ -97,7 +97,7 @@ IsReadAs foreign there = ⊥
 IsReadAs unread there = ⊥
 
 abbrev pub CanAllAnswer : Format → State → Type 0
-CanAllAnswer format s = (w : FileTable) → IsReadAs (presence format w) (is_there s.now.schema w) → CanAnswer s w
+CanAllAnswer format s = (t : FileTable) → IsReadAs (presence format t) (is_there s.now.schema t) → CanAnswer s t
 
 -- The rows of the file show the book: the statements that read it give rows, and all that they may give show it.
 pub record RowsShowIn (s : State) (book : Book) : Type 0 where

@@ -151,14 +151,14 @@ pub record Keeps (l : Layout) (c : Contents) (rows : Trees) (d : Contents) : Typ
 -- The book in the file with these tables too, in which nothing else is lost.
 abbrev pub HasGained :
     List FileTable → Layout → Contents → Book → Trees → (Layout → Contents → Type 0) → Type 0
-HasGained ws l c book rows P =
-    WithBook (with_tables ws l) book (λ d. P (with_tables ws l) d × Keeps l c rows d)
+HasGained tables l c book rows P =
+    WithBook (with_tables tables l) book (λ d. P (with_tables tables l) d × Keeps l c rows d)
 
 -- the trees are such a file, of whatever file the book stood in
 abbrev pub HoldsWith : List FileTable → Book → State → Trees → Type 0
-HoldsWith ws book s db =
+HoldsWith tables book s db =
     (l : Layout) (stands : Stands l book s)
-    → HasGained ws l stands.1.0 book s.now.trees (λ after d. IsFile after d db)
+    → HasGained tables l stands.1.0 book s.now.trees (λ after d. IsFile after d db)
 
 -- the trees are those of a database without the tables of a book
 abbrev pub HoldsNone : Trees → Type 0
@@ -178,7 +178,7 @@ pub record MayBring (make : Bool) (s : State) (db : Trees) : Type 0 where
 
 -- the book in the file as it was, or with these tables
 abbrev pub HoldsEitherWith : List FileTable → Layout → Book → Trees → Type 0
-HoldsEitherWith ws l book db = HoldsBook l book db ⊎ HoldsBook (with_tables ws l) book db
+HoldsEitherWith tables l book db = HoldsBook l book db ⊎ HoldsBook (with_tables tables l) book db
 
 -- the book in the file as it was, or with the tables that it lacked
 abbrev pub HoldsEither : Layout → Book → Trees → Type 0

@@ -103,7 +103,7 @@ CanBeRead unread has are_utf8 = ⊤
 
 abbrev pub CanAllBeRead : Format → Layout → Contents → Type 0
 CanAllBeRead format l c =
-    (w : FileTable) → CanBeRead (presence format w) (l.has w) (AllByRecursion (IsUtf8Row w) (c.rows w))
+    (t : FileTable) → CanBeRead (presence format t) (l.has t) (AllByRecursion (IsUtf8Row t) (c.rows t))
 
 -- the table of the entries can be read
 abbrev pub AreEntriesReadable : Format → Layout → Contents → Type 0

@@ -84,17 +84,17 @@ pub fn opened_then_kept<S: Alter>(before: &Connection<S>, after: &Store<S>, chan
 
 /// Making tables adds just these to the tables that are there, and an exact layout stays exact.
 pub fn tables_made()
-    ensures there { (ws : List FileTable) (s : Schema) (v : FileTable)
-        → is_there (after ws s) v ≡ (is_among ws v || is_there s v) }
-    ensures exact { (ws : List FileTable) (l : Layout) → IsExact l → IsExact (with_tables ws l) }
+    ensures there { (tables : List FileTable) (s : Schema) (t : FileTable)
+        → is_there (after tables s) t ≡ (is_among tables t || is_there s t) }
+    ensures exact { (tables : List FileTable) (l : Layout) → IsExact l → IsExact (with_tables tables l) }
 {}
 
 /// A new file is of format 2. One of format 1 in which tables are made, `corr2` among them, is of format 2 then, and one of either format in
 /// which `cache` is made stays of it.
 pub fn formats()
     ensures new { (s : Schema) → IsOfFormat named (new_layout s) }
-    ensures names { (l : Layout) (ws : List FileTable) → IsOfFormat unnamed l
-        → is_among ws FileTable.NamedCorr ≡ true → IsOfFormat named (with_tables ws l) }
+    ensures names { (l : Layout) (tables : List FileTable) → IsOfFormat unnamed l
+        → is_among tables FileTable.NamedCorr ≡ true → IsOfFormat named (with_tables tables l) }
     ensures cells { (format : Format) (l : Layout) → IsOfFormat format l
         → IsOfFormat format (with_tables (FileTable.Cache ∷ []) l) }
 {}

@@ -52,7 +52,7 @@ returns-in-Err-clause-stops g c clean = record {
   puts = c.filling.result;
   fill = c.filling.ensures;
   error = c.in-Err.error;
-  fails = subst (λ (ws : List FileTable). FailsToChange g.S.Store ws (of_items g.S.Store LendsFirst c.filling.result) (with_transaction c.args.conn.now) (state g.S.Store c.write_with_tables.new.conn) c.in-Err.error)
+  fails = subst (λ (tables : List FileTable). FailsToChange g.S.Store tables (of_items g.S.Store LendsFirst c.filling.result) (with_transaction c.args.conn.now) (state g.S.Store c.write_with_tables.new.conn) c.in-Err.error)
       c.file_tables.ensures (c.in-Err.ensures.commits clean).fails;
   is_told = c.stopped_by.ensures.told;
   as_before = (c.in-Err.ensures.commits clean).as_before;
